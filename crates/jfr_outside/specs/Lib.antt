@@ -1,0 +1,11 @@
+pub mod Calls
+pub mod Counts
+pub mod Held
+pub mod MemoryPlace
+pub mod MemorySink
+pub mod Scripts
+pub mod Source
+pub mod SteadyPlace
+pub mod SteadySink
+pub mod Texts
+pub mod World

@@ -1,0 +1,14 @@
+-- What a sink in memory tells.
+use Rattle.std.specs.Prelude.{List}
+use Rattle.jfr_outside.specs.World.{SinkState}
+use Rattle.jfr_outside.specs.SteadySink as steady
+use Rattle.jfr_outside.specs.declared.memory_sink.MemorySink.{MemorySink}
+use Rattle.jfr_outside.specs.declared.script.Script.{Script}
+
+-- its writes that are to fail
+abbrev pub scripts_of : MemorySink → List Script
+scripts_of s = s.scripts
+
+-- it tells its bytes, and how often a write failed
+abbrev pub state_of : MemorySink → SinkState
+state_of s = record (steady.state_of s.sink) { faults = s.faults }

@@ -1,0 +1,28 @@
+//! What stands outside of the program: places with files, sinks for bytes, and texts.
+//!
+//! `Place` and `Sink` say what files and streams do. Read `specs/World.antt` first.
+#![tactic(auto)]
+
+mod fault;
+mod files;
+mod memory_place;
+mod memory_sink;
+mod place;
+mod script;
+mod sink;
+mod source;
+mod steady_place;
+mod steady_sink;
+#[cfg(test)]
+mod tests;
+mod text;
+
+pub use fault::{Fault, NoMemory};
+pub use memory_place::MemoryPlace;
+pub use memory_sink::MemorySink;
+pub use place::Place;
+pub use script::Call;
+pub use sink::Sink;
+pub use steady_place::SteadyPlace;
+pub use steady_sink::SteadySink;
+pub use text::{Text, Words};

@@ -1,0 +1,137 @@
+// Calls that are to fail.
+ghost use Rattle.std.specs.Prelude.{◌≡◌, [], ◌∷◌, ◌++◌, OnOk, OnErr};
+ghost use Rattle.jfr_outside.specs.Scripts.{kind_of, is_due, passed, kept, kept_with, after_call};
+
+use crate::NoMemory;
+use std::alloc::Global;
+use std::marker::Model;
+
+/// A kind of call on a place.
+#[derive(Clone, Copy, Debug, PartialEq, Eq)]
+pub enum Call {
+    /// An input is opened.
+    Open,
+    /// Bytes of the input are taken.
+    Read,
+    /// An output is created.
+    Create,
+    /// Bytes are added to the output.
+    Append,
+    /// The output is ended.
+    Finish,
+    /// The files of a folder are listed.
+    List,
+}
+
+impl Call {
+    // A number that tells the kinds apart.
+    fn kind(self) -> u8
+        ensures { result ≡ kind_of self }
+    {
+        match self {
+            Call::Open => 0,
+            Call::Read => 1,
+            Call::Create => 2,
+            Call::Append => 3,
+            Call::Finish => 4,
+            Call::List => 5,
+        }
+    }
+}
+
+/// A call that is to fail: the `left`-th of its kind from now on, from 1. At 0 it has failed, or never
+/// will. An append then keeps at most `keep` bytes.
+#[derive(Clone, Copy)]
+pub struct Script {
+    pub call: Call,
+    pub left: u64,
+    pub keep: usize,
+}
+
+impl Script {
+    // Whether the next call of this kind is the one to fail.
+    fn is_due(&self, call: Call) -> bool
+        ensures { result ≡ is_due call self.now }
+    {
+        if self.call.kind() != call.kind() {
+            return false;
+        }
+        self.left == 1
+    }
+
+    // What the next call of this kind keeps, by this script and those before it.
+    fn keep_with(&self, call: Call, so_far: Option<usize>) -> Option<usize>
+        ensures { result ≡ kept_with call so_far self.now }
+    {
+        if !self.is_due(call) {
+            return so_far;
+        }
+        match so_far {
+            Some(keep) => Some(self.keep.min(keep)),
+            None => Some(self.keep),
+        }
+    }
+
+    // A call of this kind is made.
+    fn pass(&mut self, call: Call)
+        ensures { self.new ≡ passed call self.old }
+    {
+        if self.call.kind() == call.kind() {
+            self.left = self.left.saturating_sub(1);
+        }
+    }
+}
+
+/// Calls that are to fail, in the order in which they were named.
+#[derive(Drop)]
+pub struct Scripts {
+    scripts: Vec<Script>,
+}
+
+impl Model for Scripts {
+    ghost use Rattle.std.specs.Prelude.{List};
+    ghost use Rattle.jfr_outside.specs.declared.script.Script.{Script};
+
+    ghost Value = { List Script };
+
+    ghost view = { λ s. s.scripts.items };
+}
+
+impl Scripts {
+    /// No call is to fail.
+    pub fn new(alloc: Global) -> Scripts
+        ensures { result ≡ [] }
+    {
+        Scripts {
+            scripts: Vec::new(alloc),
+        }
+    }
+
+    /// The nth call of this kind from now on is to fail, from 1, and to keep at most so many bytes.
+    pub fn add(&mut self, call: Call, nth: u64, keep: usize) -> Result<(), NoMemory>
+        ensures ok { OnOk result (self.new ≡ self.old ++ record { call = call; left = nth; keep = keep } ∷ []) }
+        ensures unchanged { OnErr result (self.new ≡ self.old) }
+    {
+        self.scripts.push(Script {
+            call,
+            left: nth,
+            keep,
+        })?;
+        Ok(())
+    }
+
+    /// A call of this kind is made. Where it is to fail: how many bytes it keeps at most.
+    pub fn pass(&mut self, call: Call) -> Option<usize>
+        ensures due { result ≡ kept call self.old }
+        ensures passed { self.new ≡ after_call call self.old }
+    {
+        let keep = self
+            .scripts
+            .iter()
+            .fold(None, |so_far, script| script.keep_with(call, so_far));
+        for script in self.scripts.iter_mut() {
+            script.pass(call);
+        }
+        keep
+    }
+}

@@ -1,0 +1,18 @@
+// Where bytes are written to.
+ghost use Rattle.jfr_outside.specs.World.{SinkState, LeavesPrefix, added};
+ghost use Rattle.jfr_outside.specs.Counts.{Counts};
+
+use crate::Fault;
+
+/// A stream of bytes.
+///
+/// Contracts see a sink as its `state`: the bytes written, where it tells them, and how often a write
+/// failed.
+pub trait Sink {
+    ghost state: { Self → SinkState };
+
+    /// Adds bytes at the end; where it fails, a prefix of them.
+    fn write(&mut self, bytes: &[u8]) -> Result<(), Fault>
+        ensures told { LeavesPrefix result (state self.old).written (state self.new).written bytes.now added }
+        ensures faults { Counts result (state self.old).faults (state self.new).faults };
+}

@@ -1,0 +1,39 @@
+// An open input in memory.
+ghost use Rattle.std.specs.Prelude.{◌≡◌, ◌<◌, ◌≤◌, ◌↔◌, [], length, take, drop, vec_len};
+
+/// Bytes of which some were taken.
+#[derive(Drop)]
+pub struct Source {
+    bytes: Vec<u8>,
+    at: usize,
+    ghost within: { at ≤ vec_len bytes },
+}
+
+impl Source {
+    ghost use Rattle.jfr_outside.specs.Source.{left_of};
+
+    /// All of the bytes are left.
+    pub fn new(bytes: Vec<u8>) -> Source
+        ensures { left_of result ≡ bytes.items }
+    {
+        Source { bytes, at: 0 }
+    }
+
+    /// Takes the next bytes, at most so many; 0 of them exactly at the end.
+    pub fn take_into(&mut self, most: usize, into: &mut [u8]) -> usize
+        requires room { 0 < length into.old }
+        requires most { 0 < most }
+        ensures bound { result ≤ length into.new }
+        ensures most { result ≤ most }
+        ensures left { left_of self.new ≡ drop result (left_of self.old) }
+        ensures within { result ≤ length (left_of self.old) }
+        ensures bytes { take result into.new ≡ take result (left_of self.old) }
+        ensures end { (result ≡ 0) ↔ (left_of self.old ≡ []) }
+    {
+        let left = self.bytes.len() - self.at;
+        let count = left.min(most).min(into.len());
+        into[..count].copy_from_slice(&self.bytes[self.at..self.at + count]);
+        self.at += count;
+        count
+    }
+}
