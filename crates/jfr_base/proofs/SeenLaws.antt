@@ -1,0 +1,74 @@
+-- Where formats end, one after another.
+use Rattle.std.specs.Prelude.{◌≡◌, ℕ, suc, ◌+◌, List, [], ◌∷◌, ◌++◌, Result, Ok, Err, Bool, true, false, Option, Some, None, if◌then◌else◌, slice_index, slice_range, nat_lt, nat_le}
+use Rattle.std.proofs.Common.{ap, refl, ◌∙◌}
+use Rattle.jfr_base.specs.declared.flaw.Flaw.{Flaw}
+use Rattle.jfr_base.specs.declared.integer.Var.{Var}
+use Rattle.jfr_base.specs.declared.reason.Reason.{Reason}
+use Rattle.jfr_base.specs.declared.reason.Reason.TheVariants.{Short, Trailing}
+use Rattle.jfr_base.specs.Formats.{Format, Done, Stop, Int, Byte, Run, Here, Refuse, ◌>>=◌, with_bytes, Answer, on, checked, refused, int_at, after_int, run, times, for_each, seen}
+use Rattle.jfr_base.proofs.FormatLaws.{run-bind}
+
+-- what comes after a place, if there is one
+abbrev pub then_at : Result ℕ Flaw → (ℕ → Result ℕ Flaw) → Result ℕ Flaw
+then_at (Ok p) f = f p
+then_at (Err e) f = Err e
+
+seen-on : {A B : Type 0} (r : Answer A) (f : A → ℕ → Answer B) (g : ℕ → Result ℕ Flaw) → ((a : A) (p : ℕ) → seen (f a p) ≡ g p) → seen (on r f) ≡ then_at (seen r) g
+seen-on (Ok r) f g h = h r.value r.place
+seen-on (Err e) f g h = refl
+
+pub seen-bind : {A B : Type 0} (f : Format A) (g : A → Format B) (h : ℕ → Result ℕ Flaw) (x : List ℕ) (end at : ℕ)
+    → ((a : A) (p : ℕ) → seen (run (g a) x end p) ≡ h p) → seen (run (f >>= g) x end at) ≡ then_at (seen (run f x end at)) h
+seen-bind f g h x end at e = ap seen (run-bind f g x end at) ∙ seen-on (run f x end at) (λ a p. run (g a) x end p) h e
+
+pub then_at_ok : (r : Result ℕ Flaw) → then_at r (λ p. Ok p) ≡ r
+then_at_ok (Ok p) = refl
+then_at_ok (Err e) = refl
+
+-- what is made of the value doesn't change where it ends
+pub seen-made : {A B : Type 0} (f : Format A) (g : A → B) (x : List ℕ) (end at : ℕ) → seen (run (f >>= λ a. Done (g a)) x end at) ≡ seen (run f x end at)
+unfolding run
+seen-made f g x end at = seen-bind f (λ a. Done (g a)) (λ p. Ok p) x end at (λ a p. refl) ∙ then_at_ok (seen (run f x end at))
+
+pub seen-times : {A : Type 0} (n : ℕ) (f : Format A) (x : List ℕ) (end at : ℕ) → seen (run (times (suc n) f) x end at) ≡ then_at (seen (run f x end at)) (λ p. seen (run (times n f) x end p))
+seen-times n f x end at = seen-bind f (λ a. times n f >>= λ rest. Done (a ∷ rest)) (λ p. seen (run (times n f) x end p)) x end at (λ a p. seen-made (times n f) (λ rest. a ∷ rest) x end p)
+
+pub seen-for_each : {X A : Type 0} (y : X) (ys : List X) (f : X → Format A) (x : List ℕ) (end at : ℕ) → seen (run (for_each (y ∷ ys) f) x end at) ≡ then_at (seen (run (f y) x end at)) (λ p. seen (run (for_each ys f) x end p))
+seen-for_each y ys f x end at = seen-bind (f y) (λ a. for_each ys f >>= λ rest. Done (a ∷ rest)) (λ p. seen (run (for_each ys f) x end p)) x end at (λ a p. seen-made (for_each ys f) (λ rest. a ∷ rest) x end p)
+
+seen-checked : {A B : Type 0} (at : ℕ) (o : Option Reason) (r : Answer A) (q : Answer B) → seen r ≡ seen q → seen (checked at o r) ≡ seen (checked at o q)
+seen-checked at None r q h = h
+seen-checked at (Some why) r q h = refl
+
+-- nor does what is made of the value and its bytes
+pub seen-with : {A B : Type 0} (b : List ℕ) (f : Format A) (g : A → List ℕ → B) (x : List ℕ) (end at : ℕ) → seen (run (with_bytes b f (λ a s. Done (g a s))) x end at) ≡ seen (run f x end at)
+unfolding run
+seen-with b (Done a) g x end at = refl
+seen-with b (Stop next) g x end at = by_test (nat_lt at end) (seen-with b next g x end at)
+  where
+    by_test : (t : Bool) → seen (run (with_bytes b next (λ a s. Done (g a s))) x end at) ≡ seen (run next x end at)
+        → seen (if t then refused at Trailing else run (with_bytes b next (λ a s. Done (g a s))) x end at) ≡ seen (if t then refused at Trailing else run next x end at)
+    by_test true h = refl
+    by_test false h = h
+seen-with b (Int check next) g x end at = by_int (int_at x at end) (λ v s p. seen-with (b ++ s) (next v s) g x end p)
+  where
+    by_int : (o : Option Var) → ((v : ℕ) (s : List ℕ) (p : ℕ) → seen (run (with_bytes (b ++ s) (next v s) (λ a s. Done (g a s))) x end p) ≡ seen (run (next v s) x end p))
+        → seen (after_int x at check (λ v s p. run (with_bytes (b ++ s) (next v s) (λ a s. Done (g a s))) x end p) o) ≡ seen (after_int x at check (λ v s p. run (next v s) x end p) o)
+    by_int None h = refl
+    by_int (Some v) h = seen-checked at (check v.value) (run (with_bytes (b ++ slice_range x at v.end) (next v.value (slice_range x at v.end)) (λ a s. Done (g a s))) x end v.end) (run (next v.value (slice_range x at v.end)) x end v.end) (h v.value (slice_range x at v.end) v.end)
+seen-with b (Byte check next) g x end at = by_test (nat_lt at end) (seen-with (b ++ (slice_index x at ∷ [])) (next (slice_index x at)) g x end (at + 1))
+  where
+    by_test : (t : Bool) → seen (run (with_bytes (b ++ (slice_index x at ∷ [])) (next (slice_index x at)) (λ a s. Done (g a s))) x end (at + 1)) ≡ seen (run (next (slice_index x at)) x end (at + 1))
+        → seen (if t then checked at (check (slice_index x at)) (run (with_bytes (b ++ (slice_index x at ∷ [])) (next (slice_index x at)) (λ a s. Done (g a s))) x end (at + 1)) else refused at Short) ≡ seen (if t then checked at (check (slice_index x at)) (run (next (slice_index x at)) x end (at + 1)) else refused at Short)
+    by_test true h = seen-checked at (check (slice_index x at)) (run (with_bytes (b ++ (slice_index x at ∷ [])) (next (slice_index x at)) (λ a s. Done (g a s))) x end (at + 1)) (run (next (slice_index x at)) x end (at + 1)) h
+    by_test false h = refl
+seen-with b (Run n next) g x end at = by_test (nat_le (at + n) end) (seen-with (b ++ slice_range x at (at + n)) (next (slice_range x at (at + n))) g x end (at + n))
+  where
+    by_test : (t : Bool) → seen (run (with_bytes (b ++ slice_range x at (at + n)) (next (slice_range x at (at + n))) (λ a s. Done (g a s))) x end (at + n)) ≡ seen (run (next (slice_range x at (at + n))) x end (at + n))
+        → seen (if t then run (with_bytes (b ++ slice_range x at (at + n)) (next (slice_range x at (at + n))) (λ a s. Done (g a s))) x end (at + n) else refused at Short) ≡ seen (if t then run (next (slice_range x at (at + n))) x end (at + n) else refused at Short)
+    by_test true h = h
+    by_test false h = refl
+seen-with b (Here next) g x end at = seen-with b (next at) g x end at
+seen-with b (Refuse why) g x end at = refl
+
+pub ruleset ends = (seen-made, seen-times, seen-for_each)

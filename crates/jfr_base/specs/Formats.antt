@@ -1,0 +1,154 @@
+-- A format is a tree of units: which unit comes next is decided by the values of those before it.
+use Rattle.std.specs.Prelude.{◌≡◌, ℕ, zero, suc, ◌+◌, ◌<◌, ◌≤◌, List, [], ◌∷◌, ◌++◌, length, Option, Some, None, ◌⊎◌, Result, Ok, Err, nat_lt, nat_le, slice_range, slice_index, if◌then◌else◌, ⊤}
+use Rattle.std.specs.Option.{option_map}
+use Rattle.jfr_base.specs.declared.reason.Reason.{Reason}
+use Rattle.jfr_base.specs.declared.reason.Reason.TheVariants.{Short, Trailing}
+use Rattle.jfr_base.specs.declared.flaw.Flaw.{Flaw}
+use Rattle.jfr_base.specs.declared.integer.Var.{Var}
+use Rattle.jfr_base.specs.Integer.{IntAt, Spells, worth_within}
+
+pub data Format (A : Type 0) : Type 0 where
+  -- the value is this, whatever follows
+  Done : (value : A) → Format A
+  -- no bytes are left
+  Stop : (next : Format A) → Format A
+  -- an integer; a check says for what reason it is faulty, or none
+  Int : (check : ℕ → Option Reason) → (next : ℕ → List ℕ → Format A) → Format A
+  -- a byte
+  Byte : (check : ℕ → Option Reason) → (next : ℕ → Format A) → Format A
+  -- a run of so many bytes
+  Run : (count : ℕ) → (next : List ℕ → Format A) → Format A
+  -- no bytes; the place
+  Here : (next : ℕ → Format A) → Format A
+  -- what would stand here is refused
+  Refuse : (why : Reason) → Format A
+
+infixl 10 ◌>>=◌
+abbrev pub ◌>>=◌ : {A B : Type 0} → Format A → (A → Format B) → Format B
+(Done a) >>= g = g a
+(Stop next) >>= g = Stop (next >>= g)
+(Int check next) >>= g = Int check (λ v s. next v s >>= g)
+(Byte check next) >>= g = Byte check (λ b. next b >>= g)
+(Run n next) >>= g = Run n (λ bs. next bs >>= g)
+(Here next) >>= g = Here (λ at. next at >>= g)
+(Refuse why) >>= g = Refuse why
+
+-- the same, where what follows takes the bytes too; some were read before
+abbrev pub with_bytes : {A B : Type 0} → List ℕ → Format A → (A → List ℕ → Format B) → Format B
+with_bytes b (Done a) g = g a b
+with_bytes b (Stop next) g = Stop (with_bytes b next g)
+with_bytes b (Int check next) g = Int check (λ v s. with_bytes (b ++ s) (next v s) g)
+with_bytes b (Byte check next) g = Byte check (λ c. with_bytes (b ++ (c ∷ [])) (next c) g)
+with_bytes b (Run n next) g = Run n (λ s. with_bytes (b ++ s) (next s) g)
+with_bytes b (Here next) g = Here (λ at. with_bytes b (next at) g)
+with_bytes b (Refuse why) g = Refuse why
+
+abbrev pub unchecked : ℕ → Option Reason
+unchecked v = None
+
+abbrev pub integer : Format ℕ
+integer = Int unchecked (λ v s. Done v)
+
+-- the values of so many, in order
+abbrev pub times : {A : Type 0} → ℕ → Format A → Format (List A)
+times zero f = Done []
+times (suc n) f = f >>= λ a. times n f >>= λ rest. Done (a ∷ rest)
+
+-- one for each of the list, in order
+abbrev pub for_each : {X A : Type 0} → List X → (X → Format A) → Format (List A)
+for_each [] f = Done []
+for_each (x ∷ xs) f = f x >>= λ a. for_each xs f >>= λ rest. Done (a ∷ rest)
+
+-- From a place of x the format gives the value, and ends at another place, before the end.
+abbrev pub Reads : {A : Type 0} → Format A → List ℕ → ℕ → ℕ → A → ℕ → Type 0
+Reads (Done a) x end at value to = (value ≡ a) × (to ≡ at)
+Reads (Stop next) x end at value to = (end ≤ at) × Reads next x end at value to
+Reads (Int check next) x end at value to = (q v : ℕ) × IntAt x at q v × (q ≤ end) × (check v ≡ None) × Reads (next v (slice_range x at q)) x end q value to
+Reads (Byte check next) x end at value to = (at < end) × (check (slice_index x at) ≡ None) × Reads (next (slice_index x at)) x end (at + 1) value to
+Reads (Run n next) x end at value to = (at + n ≤ end) × Reads (next (slice_range x at (at + n))) x end (at + n) value to
+Reads (Here next) x end at value to = Reads (next at) x end at value to
+Reads (Refuse why) x end at value to = ⊥
+
+-- The units before the place o stand, and the one there is faulty for this reason.
+abbrev pub Fails : {A : Type 0} → Format A → List ℕ → ℕ → ℕ → ℕ → Reason → Type 0
+Fails (Done a) x end at o why = ⊥
+Fails (Stop next) x end at o why = ((at < end) × (o ≡ at) × (why ≡ Trailing)) ⊎ ((end ≤ at) × Fails next x end at o why)
+Fails (Int check next) x end at o why =
+    (((q v : ℕ) → IntAt x at q v → q ≤ end → ⊥) × (o ≡ at) × (why ≡ Short))
+    ⊎ ((q v : ℕ) × IntAt x at q v × (q ≤ end) × (((check v ≡ Some why) × (o ≡ at)) ⊎ ((check v ≡ None) × Fails (next v (slice_range x at q)) x end q o why)))
+Fails (Byte check next) x end at o why =
+    ((end ≤ at) × (o ≡ at) × (why ≡ Short))
+    ⊎ ((at < end) × (((check (slice_index x at) ≡ Some why) × (o ≡ at)) ⊎ ((check (slice_index x at) ≡ None) × Fails (next (slice_index x at)) x end (at + 1) o why)))
+Fails (Run n next) x end at o why =
+    ((end < at + n) × (o ≡ at) × (why ≡ Short))
+    ⊎ ((at + n ≤ end) × Fails (next (slice_range x at (at + n))) x end (at + n) o why)
+Fails (Here next) x end at o why = Fails (next at) x end at o why
+Fails (Refuse r) x end at o why = (o ≡ at) × (why ≡ r)
+
+-- These bytes, and no others, are read as the value, at whatever place.
+abbrev pub Exactly : {A : Type 0} → Format A → List ℕ → A → Type 0
+Exactly (Done a) b value = (value ≡ a) × (b ≡ [])
+Exactly (Stop next) b value = ⊥
+Exactly (Int check next) b value = (h r : List ℕ) × (v : ℕ) × (b ≡ h ++ r) × Spells h v × (check v ≡ None) × Exactly (next v h) r value
+Exactly (Byte check next) b value = (c : ℕ) × (r : List ℕ) × (b ≡ c ∷ r) × (check c ≡ None) × Exactly (next c) r value
+Exactly (Run n next) b value = (h r : List ℕ) × (b ≡ h ++ r) × (length h ≡ n) × Exactly (next h) r value
+Exactly (Here next) b value = ⊥
+Exactly (Refuse why) b value = ⊥
+
+-- No unit asks for a place or for the end.
+abbrev pub PlaceFree : {A : Type 0} → Format A → Type 0
+PlaceFree (Done a) = ⊤
+PlaceFree (Stop next) = ⊥
+PlaceFree (Int check next) = (v : ℕ) (s : List ℕ) → PlaceFree (next v s)
+PlaceFree (Byte check next) = (c : ℕ) → PlaceFree (next c)
+PlaceFree (Run n next) = (s : List ℕ) → PlaceFree (next s)
+PlaceFree (Here next) = ⊥
+PlaceFree (Refuse why) = ⊤
+
+-- The same by computing, over the bytes of x before an end: the value and the place after it, or the place and the reason.
+pub record Got (A : Type 0) : Type 0 where
+  pub value : A
+  pub place : ℕ
+
+abbrev pub Answer : Type 0 → Type 0
+Answer A = Result (Got A) Flaw
+
+abbrev pub refused : {A : Type 0} → ℕ → Reason → Answer A
+refused at why = Err (record { offset = at; reason = why })
+
+abbrev pub checked : {A : Type 0} → ℕ → Option Reason → Answer A → Answer A
+checked at None r = r
+checked at (Some why) r = refused at why
+
+-- the length of the spelling at the front
+abbrev pub front_within : ℕ → List ℕ → Option ℕ
+front_within k [] = None
+front_within zero (b ∷ bs) = Some 1
+front_within (suc k) (b ∷ bs) = if nat_lt b 128 then Some 1 else option_map (λ n. suc n) (front_within k bs)
+
+-- the integer at a place, where one ends by the end
+unfoldable pub int_at : List ℕ → ℕ → ℕ → Option Var
+int_at x at end = option_map (λ n. record { value = worth_within 8 (slice_range x at (at + n)); end = at + n }) (front_within 8 (slice_range x at end))
+
+-- what comes after an answer
+abbrev pub on : {A B : Type 0} → Answer A → (A → ℕ → Answer B) → Answer B
+on (Ok g) f = f g.value g.place
+on (Err e) f = Err e
+
+abbrev pub after_int : {A : Type 0} → List ℕ → ℕ → (ℕ → Option Reason) → (ℕ → List ℕ → ℕ → Answer A) → Option Var → Answer A
+after_int x at check f None = refused at Short
+after_int x at check f (Some v) = checked at (check v.value) (f v.value (slice_range x at v.end) v.end)
+
+unfoldable pub run : {A : Type 0} → Format A → List ℕ → ℕ → ℕ → Answer A
+run (Done a) x end at = Ok (record { value = a; place = at })
+run (Stop next) x end at = if nat_lt at end then refused at Trailing else run next x end at
+run (Int check next) x end at = after_int x at check (λ v s p. run (next v s) x end p) (int_at x at end)
+run (Byte check next) x end at = if nat_lt at end then checked at (check (slice_index x at)) (run (next (slice_index x at)) x end (at + 1)) else refused at Short
+run (Run n next) x end at = if nat_le (at + n) end then run (next (slice_range x at (at + n))) x end (at + n) else refused at Short
+run (Here next) x end at = run (next at) x end at
+run (Refuse why) x end at = refused at why
+
+-- an answer without its value: the place after it, or the flaw
+abbrev pub seen : {A : Type 0} → Answer A → Result ℕ Flaw
+seen (Ok g) = Ok g.place
+seen (Err e) = Err e

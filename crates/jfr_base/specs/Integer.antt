@@ -1,0 +1,46 @@
+-- A compressed integer: little-endian groups of seven bits, a ninth byte with eight.
+use Rattle.std.specs.Prelude.{◌≡◌, ℕ, zero, suc, ◌+◌, ◌*◌, ◌%◌, ◌/◌, ◌^◌, ◌<◌, ◌≤◌, ◌⊎◌, List, [], ◌∷◌, length, slice_range, nat_lt, if◌then◌else◌}
+
+-- at most so many bytes of seven bits, and then one of eight, are left
+abbrev pub IsSpellingWithin : ℕ → List ℕ → Type 0
+IsSpellingWithin k [] = ⊥
+IsSpellingWithin zero (b ∷ bs) = bs ≡ []
+IsSpellingWithin (suc k) (b ∷ []) = b < 128
+IsSpellingWithin (suc k) (b ∷ c ∷ bs) = (128 ≤ b) × IsSpellingWithin k (c ∷ bs)
+
+-- the sum of the groups, each worth 128 times the one before
+abbrev pub worth_within : ℕ → List ℕ → ℕ
+worth_within k [] = 0
+worth_within zero (b ∷ bs) = b
+worth_within (suc k) (b ∷ bs) = b % 128 + 128 * worth_within k bs
+
+pub record Spells (bytes : List ℕ) (value : ℕ) : Type 0 where
+  pub form : IsSpellingWithin 8 bytes
+  pub worth : value ≡ worth_within 8 bytes
+
+-- the integer that is spelled from p up to q
+pub record IntAt (x : List ℕ) (p q value : ℕ) : Type 0 where
+  pub order : p ≤ q
+  pub within : q ≤ length x
+  pub spelled : Spells (slice_range x p q) value
+
+-- The shortest spelling, and the one in so many bytes.
+abbrev pub spell_within : ℕ → ℕ → List ℕ
+spell_within zero v = v ∷ []
+spell_within (suc k) v = if nat_lt v 128 then v ∷ [] else (v % 128 + 128) ∷ spell_within k (v / 128)
+
+unfoldable pub spell : ℕ → List ℕ
+spell v = spell_within 8 v
+
+-- in so many bytes, one or more
+abbrev pub spell_as : ℕ → ℕ → List ℕ
+spell_as zero v = []
+spell_as (suc zero) v = v ∷ []
+spell_as (suc (suc n)) v = (v % 128 + 128) ∷ spell_as (suc n) (v / 128)
+
+-- so many bytes have room for the value
+abbrev pub FitsIn : ℕ → ℕ → Type 0
+FitsIn value count = (value < 2 ^ (7 * count)) ⊎ (count ≡ 9)
+
+unfoldable pub spell_in : ℕ → ℕ → List ℕ
+spell_in n v = spell_as n v

@@ -1,0 +1,4 @@
+pub mod Formats
+pub mod Integer
+pub mod Laws
+pub mod Reasons

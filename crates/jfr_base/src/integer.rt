@@ -1,0 +1,144 @@
+// Compressed integers.
+ghost use Rattle.std.specs.Prelude.{◌≡◌, ℕ, ◌<◌, ◌≤◌, IfOk, length, MatchResult, None, OnErr, Some, take};
+ghost use Rattle.std.specs.Int.{cast_signed, w64};
+ghost use Rattle.jfr_base.specs.Formats.{int_at};
+ghost use Rattle.jfr_base.specs.Integer.{FitsIn, IntAt, spell, spell_in, Spells};
+ghost use Rattle.jfr_base.specs.Laws.{AreBytes};
+
+use crate::{Flaw, Reason};
+
+/// An integer that was read, and the place after its last byte.
+#[derive(Clone, Copy, Debug, PartialEq, Eq)]
+pub struct Var {
+    pub value: u64,
+    pub end: usize,
+}
+
+/// The bytes end before the integer does.
+#[derive(Clone, Copy, Debug, PartialEq, Eq)]
+pub struct Short;
+
+/// Where the ninth byte's eight bits stand in the value.
+const NINTH_SHIFT: u32 = 56;
+
+/// Reads the integer that is spelled at a place. A spelling has one to nine bytes, and needn't be the
+/// shortest.
+pub fn read_var(bytes: &[u8], at: usize) -> Result<Var, Short>
+    requires { at ≤ length bytes.now }
+    ensures ok { IfOk result (λ v. IntAt bytes.now at v.end v.value) }
+    ensures refused { OnErr result ((q v : ℕ) → IntAt bytes.now at q v → ⊥) }
+    ensures exact { MatchResult result (λ v. int_at bytes.now at (length bytes.now) ≡ Some v) (λ _. int_at bytes.now at (length bytes.now) ≡ None) }
+{
+    match read_within(bytes, at, bytes.len()) {
+        Ok(var) => Ok(var),
+        Err(_) => Err(Short),
+    }
+}
+
+/// Reads the integer that is spelled at a place and ends by `end`. Where none does, the flaw is
+/// `Short` at that place.
+pub fn read_within(bytes: &[u8], at: usize, end: usize) -> Result<Var, Flaw>
+    requires order { at ≤ end }
+    requires within { end ≤ length bytes.now }
+    ensures ok { IfOk result (λ v. IntAt bytes.now at v.end v.value) }
+    ensures refused { OnErr result ((q v : ℕ) → IntAt bytes.now at q v → q ≤ end → ⊥) }
+    ensures range { IfOk result (λ v. (at < v.end) × (v.end ≤ end)) }
+    ensures exact { MatchResult result (λ v. int_at bytes.now at end ≡ Some v) (λ e. (int_at bytes.now at end ≡ None) × (e ≡ record { offset = at; reason = Reason.Short })) }
+{
+    if at < end && bytes[at] < 128 {
+        return Ok(Var {
+            value: u64::from(bytes[at]),
+            end: at + 1,
+        });
+    }
+    read_groups(bytes, at, end)
+}
+
+/// The same, by a loop over the groups.
+fn read_groups(bytes: &[u8], at: usize, end: usize) -> Result<Var, Flaw>
+    requires order { at ≤ end }
+    requires within { end ≤ length bytes.now }
+    ensures range { IfOk result (λ v. (at < v.end) × (v.end ≤ end)) }
+    ensures exact { MatchResult result (λ v. int_at bytes.now at end ≡ Some v) (λ e. (int_at bytes.now at end ≡ None) × (e ≡ record { offset = at; reason = Reason.Short })) }
+{
+    let mut value: u64 = 0;
+    let mut shift: u32 = 0;
+    for place in at..end {
+        let byte = bytes[place];
+        if byte < 128 || shift == NINTH_SHIFT {
+            return Ok(Var {
+                value: value + (u64::from(byte) << shift),
+                end: place + 1,
+            });
+        }
+        value += u64::from(byte % 128) << shift;
+        shift += 7;
+    }
+    Err(Flaw {
+        offset: at as u64,
+        reason: Reason::Short,
+    })
+}
+
+/// Writes the shortest spelling of a value to the front of `into`, and gives its length. Nothing is
+/// promised of the bytes behind it.
+pub fn write_var(value: u64, into: &mut [u8; 9]) -> usize
+    ensures exact { take result into.new ≡ spell value }
+    ensures length { result ≡ length (spell value) }
+    ensures range { (1 ≤ result) × (result ≤ 9) }
+
+    ensures spells { Spells (take result into.new) value }
+    ensures bytes { AreBytes (take result into.new) }
+{
+    let mut rest = value;
+    for i in 0..8 {
+        if rest < 128 {
+            into[i] = rest as u8;
+            return i + 1;
+        }
+        into[i] = (rest % 128 + 128) as u8;
+        rest /= 128;
+    }
+    into[8] = rest as u8;
+    9
+}
+
+/// Writes the spelling of a value in `count` bytes to the front of `into`. Nothing is promised of
+/// the bytes behind it.
+pub fn write_in(value: u64, count: usize, into: &mut [u8; 9])
+    requires count { (1 ≤ count) × (count ≤ 9) }
+    requires fits { FitsIn value count }
+    ensures exact { take count into.new ≡ spell_in count value }
+
+    ensures spells { Spells (take count into.new) value }
+    ensures bytes { AreBytes (take count into.new) }
+{
+    let mut rest = value;
+    for i in 0..count - 1 {
+        into[i] = (rest % 128 + 128) as u8;
+        rest /= 128;
+    }
+    into[count - 1] = rest as u8;
+}
+
+/// The length of the shortest spelling of a value.
+pub fn var_len(value: u64) -> usize
+    ensures exact { result ≡ length (spell value) }
+    ensures range { (1 ≤ result) × (result ≤ 9) }
+{
+    let mut rest = value;
+    for len in 1..9 {
+        if rest < 128 {
+            return len;
+        }
+        rest /= 128;
+    }
+    9
+}
+
+/// The signed number whose two's complement in 64 bits is the value.
+pub fn signed(value: u64) -> i64
+    ensures { result ≡ cast_signed w64 value }
+{
+    value.cast_signed()
+}

@@ -1,0 +1,16 @@
+//! What every layer of the format speaks of: compressed integers, the language of formats, and the
+//! reasons for which a recording is refused.
+//!
+//! Read `specs/Integer.antt` first, and then `specs/Formats.antt`.
+#![tactic(auto)]
+
+mod flaw;
+mod integer;
+pub mod laws;
+mod reason;
+#[cfg(test)]
+mod tests;
+
+pub use flaw::{Flaw, ReadFault, Refusal};
+pub use integer::{Short, Var, read_var, read_within, signed, var_len, write_in, write_var};
+pub use reason::Reason;
