@@ -1,0 +1,5 @@
+pub mod FindLaws
+pub mod FramingLaws
+pub mod Reading
+pub mod RecordLaws
+pub mod Rows

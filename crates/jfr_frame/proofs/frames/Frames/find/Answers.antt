@@ -1,0 +1,14 @@
+use Rattle.std.proofs.Common.{sym, ◌∙◌}
+use Rattle.jfr_frame.proofs.FindLaws.{there_found, there_not_found, is_type, is_no_type}
+use Rattle.jfr_frame.proofs.frames.Frames.find.Goals as goal
+
+pub returns-then-record-type_id : goal.returns-then-record-type_id
+returns-then-record-type_id c =
+    rw (← c.self.view_is) (sym (there_found _ _ _ _ _ _ _ c.self.invariant c.deref.ensures.value c.in-Ok.ensures.position (sym c.index-record.ensures) ∙ is_type _ _ c.if-record-type_id.true))
+
+pub returns-else-record-type_id : goal.returns-else-record-type_id
+returns-else-record-type_id c =
+    rw (← c.self.view_is) (sym (there_found _ _ _ _ _ _ _ c.self.invariant c.deref.ensures.value c.in-Ok.ensures.position (sym c.index-record.ensures) ∙ is_no_type _ _ c.if-record-type_id.false))
+
+pub returns-in-Err : goal.returns-in-Err
+returns-in-Err c = rw (← c.self.view_is) (sym (there_not_found _ _ _ _ _ _ c.self.invariant c.deref.ensures.value c.in-Err.ensures.position))

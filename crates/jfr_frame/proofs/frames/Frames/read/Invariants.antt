@@ -1,0 +1,9 @@
+use Rattle.std.proofs.Common.{length, ◌-◌}
+use Rattle.jfr_frame.proofs.Reading.{Read}
+use Rattle.jfr_frame.proofs.frames.Frames.read.Given as goal
+
+abbrev pub invariant-records : goal.invariant-records
+invariant-records l = Read l.chunk l.records.items l.places.items l.at
+
+abbrev pub decreases-records : goal.decreases-records
+decreases-records l = length l.chunk - l.at

@@ -1,0 +1,11 @@
+-- How the records of a chunk are refused.
+use Rattle.std.specs.Prelude.{◌≡◌, ℕ, List, Err}
+use Rattle.jfr_base.specs.declared.flaw.ReadFault.{ReadFault}
+use Rattle.jfr_base.specs.declared.flaw.ReadFault.TheVariants.{Flawed, Memory}
+use Rattle.jfr_base.specs.declared.reason.Reason.TheVariants.{RecordSize}
+use Rattle.jfr_frame.specs.Records.{FrameFlaw, records_of}
+
+-- No record stands at the place of the flaw, those before it tile; want of memory says nothing.
+abbrev pub RefusedAt : List ℕ → ReadFault → Type 0
+RefusedAt c (Flawed flaw) = (flaw.reason ≡ RecordSize) × FrameFlaw c flaw.offset × (records_of c ≡ Err flaw)
+RefusedAt c Memory = Unit {0}

@@ -1,0 +1,11 @@
+//! The records of a chunk: how they are framed, and that they cover it.
+//!
+//! `next_record` reads one record, `Frames::read` all of a chunk. Read `specs/Records.antt` first.
+#![tactic(auto)]
+
+mod framed;
+mod frames;
+pub mod laws;
+
+pub use framed::{Framed, next_record};
+pub use frames::Frames;
