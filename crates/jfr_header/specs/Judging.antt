@@ -1,0 +1,19 @@
+-- What the first bytes of what is left say.
+use Rattle.std.specs.Prelude.{◌≡◌, ℕ, ◌<◌, ◌^◌, Bool, true, not, List, [], ◌++◌, length, None}
+use Rattle.jfr_header.specs.Fronts as fronts
+use Rattle.jfr_header.specs.Fronts.{front, header_flaw, size_of}
+use Rattle.jfr_header.specs.Nexts.{is_header}
+use Rattle.jfr_header.specs.declared.judge.Verdict.{Verdict}
+use Rattle.jfr_header.specs.declared.judge.Verdict.TheVariants.{End, Bad, Sized}
+
+-- these bytes are left behind the first ones, of which there are fewer than 68 only where no more are left
+abbrev pub Follows : List ℕ → List ℕ → Type 0
+Follows bytes left = length bytes < 68 → left ≡ []
+
+-- what a verdict says of the first bytes of what is left, which begin at this start of the recording
+abbrev pub IsJudged : List ℕ → ℕ → Bool → Verdict → Type 0
+IsJudged bytes start given End = (given ≡ true) × (bytes ≡ [])
+IsJudged bytes start given (Bad f) =
+    ((left : List ℕ) → Follows bytes left → front (bytes ++ left) start (not given) ≡ fronts.Bad f)
+    × (is_header f.reason ≡ true → length bytes ≡ 68)
+IsJudged bytes start given (Sized size) = (start < 2 ^ 40) × (length bytes ≡ 68) × (header_flaw bytes ≡ None) × (size ≡ size_of bytes)

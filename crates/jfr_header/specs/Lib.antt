@@ -1,0 +1,7 @@
+pub mod Cuts
+pub mod Cutters
+pub mod Fronts
+pub mod Headers
+pub mod Judging
+pub mod Nexts
+pub mod Taking
