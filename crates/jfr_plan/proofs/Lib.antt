@@ -1,0 +1,7 @@
+pub mod Walking
+pub mod Needs
+pub mod Going
+pub mod Staging
+pub mod Failing
+pub mod Clauses
+mod Rows

@@ -1,0 +1,39 @@
+use Rattle.std.proofs.Common.{◌∙◌, subst, Bool, Err}
+use Rattle.jfr_outside.specs.World.{Told}
+use Rattle.jfr_plan.specs.Ends.{way_of}
+use Rattle.jfr_plan.specs.Walks.{Goes}
+use Rattle.jfr_plan.specs.Parts.{PartTold}
+use Rattle.jfr_plan.specs.Outcomes.{OutcomeOf}
+use Rattle.jfr_plan.proofs.Staging.{opened_err, opened_ok}
+use Rattle.jfr_plan.proofs.stage.run_stage.Goals as goal
+
+pub returns-in-Err-clause-told : goal.returns-in-Err-clause-told
+returns-in-Err-clause-told g c = λ earlier s m.
+    let r = g.S.Stage.rule c.args.stage.now in
+    let o = (g.O.Sink.state c.args.out.now).written in
+    let q = (g.O.Sink.state c.opened.new.out).written in
+    let a = (g.P.Place.state c.open_input.new.self).told in
+    let d = (g.P.Place.state c.opened.new.place).told in
+    opened_err (g.P.Place.state c.args.place.now).steady r earlier c.args.input.now c.in-Err.ending o q (g.P.Place.state c.args.place.now).told a d c.in-Ok.ensures.told c.in-Ok.ensures.there
+    (subst (λ (k : Bool). Told a d (PartTold k (Goes r.opens) (Err c.in-Err.ending) o q)) c.in-Ok.ensures.same c.in-Err.ensures.told)
+
+pub returns-clause-told : goal.returns-clause-told
+returns-clause-told g c = λ earlier s m.
+    let r = g.S.Stage.rule c.args.stage.now in
+    let Seen = g.S.Stage.seen c.args.stage.now in
+    let o = (g.O.Sink.state c.args.out.now).written in
+    let b = (g.P.Place.state c.args.place.now).told in
+    let a = (g.P.Place.state c.open_input.new.self).told in
+    let d = (g.P.Place.state c.opened.new.place).told in
+    let st = (g.P.Place.state c.open_input.new.self).steady in
+    let begun = opened_ok st r earlier Seen c.args.input.now c.args.at.now.start c.args.at.now.number c.in-Ok-opened.field-0 o (g.O.Sink.state c.opened.new.out).written b a d s m c.in-Ok.ensures.told c.in-Ok.ensures.there c.in-Ok-opened.ensures.told in
+    subst (λ (k : Bool). Told b (g.P.Place.state c.run_chunks.new.place).told (OutcomeOf k r earlier c.args.input.now o (g.O.Sink.state c.run_chunks.new.out).written (way_of c.run_chunks.result))) (c.in-Ok-opened.ensures.counts.3 ∙ c.in-Ok.ensures.same)
+    (c.run_chunks.ensures.told earlier c.args.input.now b o begun)
+
+pub returns-clause-later : goal.returns-clause-later
+returns-clause-later g c = λ earlier s m e.
+    let r = g.S.Stage.rule c.args.stage.now in
+    let o = (g.O.Sink.state c.args.out.now).written in
+    let b = (g.P.Place.state c.args.place.now).told in
+    let begun = opened_ok (g.P.Place.state c.open_input.new.self).steady r earlier (g.S.Stage.seen c.args.stage.now) c.args.input.now c.args.at.now.start c.args.at.now.number c.in-Ok-opened.field-0 o (g.O.Sink.state c.opened.new.out).written b (g.P.Place.state c.open_input.new.self).told (g.P.Place.state c.opened.new.place).told s m c.in-Ok.ensures.told c.in-Ok.ensures.there c.in-Ok-opened.ensures.told in
+    c.run_chunks.ensures.later earlier c.args.input.now b o begun e

@@ -1,0 +1,97 @@
+-- What a command does outside, step by step.
+use Rattle.std.specs.Prelude.{◌≡◌, ℕ, Bool, true, false, nat_le, List, [], ◌∷◌, take, map, Option, None, Some, option_map, IsSome}
+use Rattle.jfr_outside.specs.World.{World, State, SinkState, Files, added, grown}
+use Rattle.jfr_plan.specs.Ends.{End}
+use Rattle.std.specs.FinMap as fin
+
+-- what is seen of a place and of the output sink
+pub record Outside : Type 0 where
+  pub place : State
+  pub sink : SinkState
+
+abbrev pub outside : State → SinkState → Outside
+outside place sink = record { place = place; sink = sink }
+
+-- a place alone
+abbrev pub alone : State → Outside
+alone place = outside place (record { written = None; faults = 0 })
+
+-- the files, the name of the open output, and the text on the output sink, where it tells it
+pub record Stand : Type 0 where
+  pub files : Files
+  pub output : Option (List ℕ)
+  pub text : Option (List ℕ)
+
+abbrev pub stand : World → Option (List ℕ) → Stand
+stand w text = record { files = w.files; output = w.output; text = text }
+
+-- one thing done outside: a file is created as the output, the output grows, it is finished, or text is written
+pub data Effect : Type 0 where
+  Create : List ℕ → Effect
+  Append : List ℕ → Effect
+  Finish : Effect
+  Write : List ℕ → Effect
+
+-- what stands after an effect
+abbrev pub apply : Effect → Stand → Stand
+apply (Create name) s = record s { files = fin.insert s.files name []; output = Some name }
+apply (Append bytes) s = record s { files = grown s.output bytes s.files }
+apply Finish s = record s { output = None }
+apply (Write bytes) s = record s { text = option_map (added bytes) s.text }
+
+-- what stands after effects, one after another
+abbrev pub done : List Effect → Stand → Stand
+done [] s = s
+done (e ∷ es) s = done es (apply e s)
+
+-- what stands after an effect that failed: no open output, or the first k of its bytes
+abbrev pub broken : ℕ → Effect → Stand → Stand
+broken k (Create name) s = record s { output = None }
+broken k (Append bytes) s = apply (Append (take k bytes)) s
+broken k Finish s = record s { output = None }
+broken k (Write bytes) s = apply (Write (take k bytes)) s
+
+-- when a steady place may refuse an effect
+abbrev pub Cannot : Effect → Stand → Type 0
+Cannot (Create name) s = (fin.get s.files name ≡ None) → IsSome s.output
+Cannot (Append bytes) s = s.output ≡ None
+Cannot Finish s = s.output ≡ None
+Cannot (Write bytes) s = Unit {0}
+
+-- what must have come before an effect: nothing, the opening of the input, its first n chunks, or its end
+pub data Need : Type 0 where
+  Nothing : Need
+  Opened : Need
+  Chunks : ℕ → Need
+  AtEnd : Need
+
+pub record Step : Type 0 where
+  pub need : Need
+  pub effect : Effect
+
+abbrev pub needing : Need → List Effect → List Step
+needing n es = map (λ e. record { need = n; effect = e }) es
+
+abbrev pub effects : List Step → List Effect
+effects ss = map (λ s. s.effect) ss
+
+-- whether a need is met where so many chunks were taken whole; `None` where no input is open
+abbrev pub is_met : Option ℕ → Need → Bool
+is_met o Nothing = true
+is_met (Some n) (Chunks k) = nat_le k n
+is_met (Some n) Opened = true
+is_met o _ = false
+
+-- the steps whose need is met
+abbrev pub keep_met : Option ℕ → List Step → List Step
+keep_met o [] = []
+keep_met o (s ∷ ss) = keep_one (is_met o s.need) s (keep_met o ss)
+  where
+    keep_one : Bool → Step → List Step → List Step
+    keep_one true s ss = s ∷ ss
+    keep_one false s ss = ss
+
+-- steps and an end; no end where a file that is to be opened isn't there
+pub record Plan : Type 0 where
+  pub steps : List Step
+  pub end : Option End

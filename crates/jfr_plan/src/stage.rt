@@ -1,0 +1,145 @@
+// The one loop over the chunks of an input.
+ghost use Rattle.std.specs.Prelude.{◌≡◌, ◌<◌, ◌+◌, ◌^◌, ℕ, List, [], ◌∷◌, ◌++◌, length, Option, OnOk, IfSome, false};
+ghost use Rattle.jfr_outside.specs.World.{World, Told};
+ghost use Rattle.jfr_header.specs.Fronts.{Whole};
+ghost use Rattle.jfr_plan.specs.Ends.{way_of};
+ghost use Rattle.jfr_plan.specs.Effects.{outside};
+ghost use Rattle.jfr_plan.specs.Walks.{Rule, Goes};
+ghost use Rattle.jfr_plan.specs.Outcomes.{After, OutcomeOf, Tallied};
+ghost use Rattle.jfr_plan.specs.Parts.{PartLeaves, PartTallied};
+ghost use Rattle.jfr_plan.specs.Goings.{Staged, IsAt, IsPast};
+
+use crate::Position;
+use jfr_header::{ChunkCutter, Cut, Ending};
+use jfr_outside::{Fault, Place, Sink};
+use std::alloc::Global;
+
+/// A command over an input: what it does when the input is open, with each chunk, and at the end.
+///
+/// A part that answers `Err` ends the command so. It reads nothing from the input.
+pub trait Stage {
+    // What it does.
+    ghost rule: { Self → Rule };
+
+    // Whether these are the chunks that it was given so far, as its state tells them.
+    ghost seen: { Self → List (List ℕ) → Type 0 };
+
+    /// Does what is to be done when the input is open.
+    fn opened<P: Place, O: Sink>(&self, place: &mut P, out: &mut O) -> Result<(), Ending>
+        ensures told { PartLeaves (Goes (rule self.now).opens) result
+            (outside (P.state place.old) (O.state out.old))
+            (outside (P.state place.new) (O.state out.new)) }
+        ensures counts { PartTallied (rule self.now).target result
+            (outside (P.state place.old) (O.state out.old))
+            (outside (P.state place.new) (O.state out.new)) };
+
+    /// Does what the next chunk asks for, whose number counts from 1.
+    fn chunk<P: Place, O: Sink>(
+        &mut self,
+        place: &mut P,
+        out: &mut O,
+        chunk: &[u8],
+        number: u64,
+    ) -> Result<(), Ending>
+        requires whole { Whole chunk.now }
+        requires number { number < 2 ^ 35 }
+        ensures rule { rule self.new ≡ rule self.old }
+        ensures seen { (before : List (List ℕ)) → seen self.old before → number ≡ length before + 1
+            → OnOk result (seen self.new (before ++ chunk.now ∷ [])) }
+        ensures told { (before : List (List ℕ)) → seen self.old before → number ≡ length before + 1
+            → PartLeaves ((rule self.old).asks before chunk.now) result
+            (outside (P.state place.old) (O.state out.old))
+            (outside (P.state place.new) (O.state out.new)) }
+        ensures counts { PartTallied (rule self.old).target result
+            (outside (P.state place.old) (O.state out.old))
+            (outside (P.state place.new) (O.state out.new)) };
+
+    /// Does what is to be done at the input's end.
+    fn end<P: Place, O: Sink>(&self, place: &mut P, out: &mut O) -> Result<(), Ending>
+        ensures told { (before : List (List ℕ)) → seen self.now before
+            → PartLeaves (Goes ((rule self.now).ends before)) result
+            (outside (P.state place.old) (O.state out.old))
+            (outside (P.state place.new) (O.state out.new)) }
+        ensures counts { PartTallied (rule self.now).target result
+            (outside (P.state place.old) (O.state out.old))
+            (outside (P.state place.new) (O.state out.new)) };
+}
+
+// Takes the open input to its end, and the position with it.
+fn run_chunks<P: Place, O: Sink, S: Stage>(
+    alloc: Global,
+    place: &mut P,
+    out: &mut O,
+    stage: &mut S,
+    at: &mut Position,
+) -> Ending
+    ensures told { (earlier : List (List ℕ)) (input : List ℕ) (b : Option World) (o : Option (List ℕ))
+        → Told b (P.state place.old).told
+        (Staged (S.rule stage.old) earlier (S.seen stage.old) input at.old.start at.old.number false o (O.state out.old).written)
+        → Told b (P.state place.new).told
+        (OutcomeOf (P.state place.old).steady (S.rule stage.old) earlier input o (O.state out.new).written (way_of result)) }
+    ensures later { (earlier : List (List ℕ)) (input : List ℕ) (b : Option World) (o : Option (List ℕ))
+        → Told b (P.state place.old).told
+        (Staged (S.rule stage.old) earlier (S.seen stage.old) input at.old.start at.old.number false o (O.state out.old).written)
+        → result ≡ Ending.Done
+        → IfSome b (IsPast (S.seen stage.new) earlier input at.new.start at.new.number) }
+    ensures rule { S.rule stage.new ≡ S.rule stage.old }
+    ensures counts { Tallied (S.rule stage.old).target (way_of result)
+        (outside (P.state place.old) (O.state out.old))
+        (outside (P.state place.new) (O.state out.new)) }
+{
+    let mut cutter = ChunkCutter::new(alloc, at.start, at.number);
+    'chunks: loop {
+        match cutter.next(place) {
+            Cut::Chunk => {}
+            Cut::End => match stage.end(place, out) {
+                Ok(()) => return Ending::Done,
+                Err(ending) => return ending,
+            },
+            Cut::Refused(refusal) => return Ending::Refused(refusal),
+            Cut::Failed => return Ending::ReadFault,
+            Cut::Memory => return Ending::Memory,
+        }
+        match stage.chunk(place, out, cutter.bytes(), at.number) {
+            Ok(()) => {}
+            Err(ending) => return ending,
+        }
+        at.start += cutter.bytes().len() as u64;
+        at.number += 1;
+    }
+}
+
+/// Takes one input through a stage, from a position of the recording: the first one, or what the
+/// files before left. After `Done` the position is that of the next chunk; after another answer
+/// nothing is promised of it.
+pub fn run_stage<P: Place, O: Sink, S: Stage>(
+    alloc: Global,
+    place: &mut P,
+    out: &mut O,
+    stage: &mut S,
+    input: &str,
+    at: &mut Position,
+) -> Ending
+    ensures told { (earlier : List (List ℕ)) → S.seen stage.old earlier → IsAt earlier at.old.start at.old.number
+        → After (S.rule stage.old) earlier input.now (way_of result)
+        (outside (P.state place.old) (O.state out.old))
+        (outside (P.state place.new) (O.state out.new)) }
+    ensures later { (earlier : List (List ℕ)) → S.seen stage.old earlier → IsAt earlier at.old.start at.old.number
+        → result ≡ Ending.Done
+        → IfSome (P.state place.old).told (IsPast (S.seen stage.new) earlier input.now at.new.start at.new.number) }
+    ensures rule { S.rule stage.new ≡ S.rule stage.old }
+    ensures counts { Tallied (S.rule stage.old).target (way_of result)
+        (outside (P.state place.old) (O.state out.old))
+        (outside (P.state place.new) (O.state out.new)) }
+{
+    match place.open_input(input) {
+        Ok(()) => {}
+        Err(Fault::Failed) => return Ending::ReadFault,
+        Err(Fault::Memory) => return Ending::Memory,
+    }
+    match stage.opened(place, out) {
+        Ok(()) => {}
+        Err(ending) => return ending,
+    }
+    run_chunks(alloc, place, out, stage, at)
+}

@@ -1,0 +1,155 @@
+// Streams over places in memory, with a command that copies each chunk.
+use crate::{Make, make_stream};
+use jfr_base::{Flaw, ReadFault, Reason, Refusal};
+use jfr_header::Ending;
+use jfr_outside::{Call, MemoryPlace, Place, SteadyPlace};
+use std::alloc::{AllocError, Global};
+use std::test::Fail;
+
+// A whole chunk: a header, a metadata record and a checkpoint.
+#[rattlefmt::skip]
+const PLAIN: [u8; 103] = [
+    0x46, 0x4C, 0x52, 0x00, 0x00, 0x02, 0x00, 0x01, 0, 0, 0, 0, 0, 0, 0, 103,
+    0, 0, 0, 0, 0, 0, 0, 96, 0, 0, 0, 0, 0, 0, 0, 68,
+    0, 0, 0, 0, 0, 0, 0x03, 0xE8, 0, 0, 0, 0, 0, 0, 0, 5,
+    0, 0, 0, 0, 0, 0, 0, 0, 0, 0, 0, 0, 0x3B, 0x9A, 0xCA, 0x00, 0, 0, 0, 1,
+    0x1C, 0x00, 0x00, 0x00, 0x01, 0x02, 0x03, 0x04, 0x72, 0x6F, 0x6F, 0x74,
+    0x03, 0x08, 0x6D, 0x65, 0x74, 0x61, 0x64, 0x61, 0x74, 0x61,
+    0x00, 0x00, 0x01, 0x01, 0x00, 0x00,
+    0x07, 0x01, 0x00, 0x00, 0x00, 0x00, 0x00,
+];
+
+// Makes of each chunk the chunk itself, and refuses every chunk where it is strict.
+#[derive(Drop)]
+struct Copying {
+    strict: bool,
+    bytes: Vec<u8>,
+}
+
+impl Make for Copying {
+    ghost use Rattle.std.specs.Prelude.{Some, None, if◌then◌else◌};
+    ghost use Rattle.jfr_base.specs.declared.reason.Reason.TheVariants.{ChainDelta};
+
+    ghost refusal = { λ m c. if m.strict then Some (record { offset = 100; reason = ChainDelta }) else None };
+
+    ghost becomes = { λ m c. c };
+
+    ghost last = { λ m. m.bytes.items };
+
+    fn make(&mut self, _alloc: Global, chunk: &[u8]) -> Result<(), ReadFault> {
+        if self.strict {
+            return Err(ReadFault::Flawed(Flaw {
+                offset: 100,
+                reason: Reason::ChainDelta,
+            }));
+        }
+        self.bytes.clear();
+        match self.bytes.extend_from_slice(chunk) {
+            Ok(()) => Ok(()),
+            Err(_) => Err(ReadFault::Memory),
+        }
+    }
+
+    fn made(&self) -> &[u8] {
+        self.bytes.as_slice()
+    }
+}
+
+// Copies the file a to a new file b.
+fn copy<P: Place>(alloc: Global, place: &mut P, strict: bool) -> Ending {
+    let make = Copying {
+        strict,
+        bytes: Vec::new(alloc),
+    };
+    make_stream(alloc, place, make, "a", "b")
+}
+
+// As many plain chunks, and the first bytes of another one.
+fn recording(alloc: Global, chunks: usize, more: usize) -> Result<Vec<u8>, AllocError> {
+    let mut bytes = Vec::new(alloc);
+    for _ in 0..chunks {
+        bytes.extend_from_slice(&PLAIN)?;
+    }
+    bytes.extend_from_slice(&PLAIN[..more.min(103)])?;
+    Ok(bytes)
+}
+
+// What is copied, the size of the reads, a script, the answer, and how many bytes the copy has.
+struct Row {
+    chunks: usize,
+    more: usize,
+    size: usize,
+    script: Option<(Call, u64, usize)>,
+    answer: Ending,
+    copied: Option<usize>,
+}
+
+#[rattlefmt::skip]
+static ROWS: [Row; 13] = [
+    Row { chunks: 0, more: 0, size: 999, script: None, answer: Ending::Refused(Refusal { chunk: 1, offset: 0, reason: Reason::NoChunk }), copied: Some(0) },
+    Row { chunks: 0, more: 67, size: 999, script: None, answer: Ending::Refused(Refusal { chunk: 1, offset: 67, reason: Reason::ShortHeader }), copied: Some(0) },
+    Row { chunks: 1, more: 0, size: 999, script: None, answer: Ending::Done, copied: Some(103) },
+    Row { chunks: 2, more: 0, size: 1, script: None, answer: Ending::Done, copied: Some(206) },
+    Row { chunks: 2, more: 0, size: 68, script: None, answer: Ending::Done, copied: Some(206) },
+    Row { chunks: 2, more: 0, size: 103, script: None, answer: Ending::Done, copied: Some(206) },
+    Row { chunks: 1, more: 100, size: 999, script: None, answer: Ending::Refused(Refusal { chunk: 2, offset: 100, reason: Reason::ShortChunk }), copied: Some(103) },
+    Row { chunks: 1, more: 0, size: 40, script: Some((Call::Read, 2, 0)), answer: Ending::ReadFault, copied: Some(0) },
+    Row { chunks: 2, more: 0, size: 40, script: Some((Call::Read, 6, 0)), answer: Ending::ReadFault, copied: Some(103) },
+    Row { chunks: 2, more: 0, size: 999, script: Some((Call::Open, 1, 0)), answer: Ending::ReadFault, copied: None },
+    Row { chunks: 2, more: 0, size: 999, script: Some((Call::Create, 1, 0)), answer: Ending::WriteFault, copied: None },
+    Row { chunks: 2, more: 0, size: 999, script: Some((Call::Append, 2, 10)), answer: Ending::WriteFault, copied: Some(113) },
+    Row { chunks: 2, more: 0, size: 999, script: Some((Call::Finish, 1, 0)), answer: Ending::WriteFault, copied: Some(206) },
+];
+
+#[test]
+fn copies_by_its_rows(rt: HostRuntime) -> Result<(), Fail> {
+    for row in ROWS.iter() {
+        let bytes = recording(rt.alloc(), row.chunks, row.more)?;
+        let mut place = MemoryPlace::new(rt.alloc());
+        place.put("a", &bytes)?;
+        if row.size > 0 {
+            place.cut(row.size);
+        }
+        if let Some((call, nth, keep)) = row.script {
+            place.fail(call, nth, keep)?;
+        }
+        assert_eq!(rt; copy(rt.alloc(), &mut place, false), row.answer);
+        match row.copied {
+            Some(count) => {
+                assert!(rt; count <= bytes.len());
+                assert_eq!(rt; place.file("b"), Some(&bytes[..count]));
+            }
+            None => assert_eq!(rt; place.file("b"), None),
+        }
+    }
+    Ok(())
+}
+
+#[test]
+fn copies_over_a_steady_place(rt: HostRuntime) -> Result<(), Fail> {
+    let alloc = rt.alloc();
+    let mut place = SteadyPlace::new(alloc);
+    assert_eq!(rt; copy(alloc, &mut place, false), Ending::ReadFault);
+    assert_eq!(rt; place.file("b"), None);
+
+    place.put("a", &PLAIN)?;
+    assert_eq!(rt; place.create_output("c"), Ok(()));
+    assert_eq!(rt; copy(alloc, &mut place, false), Ending::WriteFault);
+    assert_eq!(rt; place.file("b"), None);
+
+    assert_eq!(rt; copy(alloc, &mut place, false), Ending::Done);
+    assert_eq!(rt; place.file("b"), Some(PLAIN.as_slice()));
+    assert_eq!(rt; copy(alloc, &mut place, false), Ending::WriteFault);
+    assert_eq!(rt; place.file("b"), Some(PLAIN.as_slice()));
+
+    let refused = Ending::Refused(Refusal {
+        chunk: 1,
+        offset: 100,
+        reason: Reason::ChainDelta,
+    });
+    let mut place = SteadyPlace::new(alloc);
+    place.put("a", &PLAIN)?;
+    assert_eq!(rt; copy(alloc, &mut place, true), refused);
+    assert_eq!(rt; place.file("b"), Some(&PLAIN[..0]));
+    Ok(())
+}
