@@ -1,0 +1,10 @@
+pub mod AnswerLaws
+pub mod DecodingSteps
+pub mod EqualLists
+pub mod IntegerSteps
+pub mod KeylessLaws
+pub mod ListSteps
+pub mod ReadSteps
+pub mod Rows
+pub mod SpellLaws
+pub mod StringLaws

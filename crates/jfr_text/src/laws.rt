@@ -1,0 +1,22 @@
+// Laws of strings, each the whole contract of a function that does nothing.
+ghost use Rattle.std.specs.Prelude.{◌≡◌, ℕ, List, Bool, length};
+ghost use Rattle.jfr_base.specs.Formats.{Exactly};
+ghost use Rattle.jfr_text.specs.Spans.{first_integers};
+ghost use Rattle.jfr_text.specs.Strings.{Content, SpellAll, IsString, IsAllowed, string_format};
+
+/// The bytes of a string determine what it holds.
+pub fn one_content()
+    ensures { (bytes : List ℕ) (a b : Content) → IsString bytes a → IsString bytes b → a ≡ b }
+{}
+
+/// The format of strings reads exactly what the grammar spells, with keys and without.
+pub fn format_reads_strings()
+    ensures grammar { (keyed : Bool) (bytes : List ℕ) (content : Content) → Exactly (string_format keyed) bytes content → IsString bytes content × IsAllowed keyed content }
+    ensures format { (keyed : Bool) (bytes : List ℕ) (content : Content) → IsString bytes content → IsAllowed keyed content → Exactly (string_format keyed) bytes content }
+{}
+
+/// Where bytes are the spellings of integers, one after another, these are the integers read from the
+/// front. So the integers of a span are those that its payload spells.
+pub fn spelled_integers()
+    ensures { (bytes integers : List ℕ) → SpellAll bytes integers → first_integers (length integers) bytes ≡ integers }
+{}

@@ -1,0 +1,21 @@
+//! Strings of six kinds, and their texts.
+//!
+//! `read_string` reads a string where it stands, `text_of` makes its text, and `same_text` compares
+//! it with a text and makes none. Read `specs/Strings.antt` first: how a string is spelled, and which
+//! text it has; then `specs/Spans.antt`: what a span of the bytes holds.
+#![tactic(auto)]
+
+mod characters;
+mod laws;
+mod read;
+mod span;
+#[cfg(test)]
+mod tests;
+mod text;
+mod units;
+mod utf16;
+
+pub use laws::{format_reads_strings, one_content, spelled_integers};
+pub use read::read_string;
+pub use span::{StringKind, StringSpan};
+pub use text::{same_text, text_of};

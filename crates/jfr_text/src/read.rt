@@ -1,0 +1,164 @@
+// Reading a string where it stands.
+ghost use Rattle.std.specs.Prelude.{◌≡◌, ◌+◌, ◌-◌, ◌<◌, ◌≤◌, ◌^◌, [], length, IfOk, IfErr, MatchResult, Ok, Err, slice_range, true};
+ghost use Rattle.jfr_base.specs.Formats.{Reads, Fails, times, integer, checked, run, seen};
+ghost use Rattle.jfr_text.specs.Spans.{content_of, first_integers, answer_of, IsSpanAt};
+ghost use Rattle.jfr_text.specs.Strings.{SpellAll, IsString, kind_fault, counted_bytes, counted_integers, after_kind, string_format};
+
+use crate::{StringKind, StringSpan};
+use jfr_base::{Flaw, Reason, read_within};
+
+/// Reads the string that begins at a place and ends by `end`: a kind byte, and what follows it. The
+/// flaw is `Short` at the kind byte, the integer or the run of bytes that doesn't end by `end`, or
+/// `StringKind` at a kind byte above 5.
+pub fn read_string<'a>(bytes: &'a [u8], at: usize, end: usize) -> Result<StringSpan<'a>, Flaw>
+    requires order { at ≤ end }
+    requires within { end ≤ length bytes.now }
+
+    // The string by its grammar, and where its parts stand.
+    ensures ok { IfOk result (λ s. Reads (string_format true) bytes.now end at (content_of s) s.end) }
+    ensures spelled { IfOk result (λ s. IsString (slice_range bytes.now at s.end) (content_of s)) }
+    ensures span { IfOk result (IsSpanAt bytes.now at) }
+    ensures range { IfOk result (λ s. (at < s.end) × (s.end ≤ end)) }
+
+    ensures refused { IfErr result (λ e. Fails (string_format true) bytes.now end at e.offset e.reason) }
+
+    // The same as the format computes it.
+    ensures exact { answer_of result ≡ run (string_format true) bytes.now end at }
+{
+    if at == end {
+        return Err(Flaw {
+            offset: at as u64,
+            reason: Reason::Short,
+        });
+    }
+    read_kind(bytes[at], bytes, at, end)
+}
+
+/// Reads what follows the kind byte at a place.
+fn read_kind<'a>(kind: u8, bytes: &'a [u8], at: usize, end: usize) -> Result<StringSpan<'a>, Flaw>
+    requires order { at < end }
+    requires within { end ≤ length bytes.now }
+    ensures span { IfOk result (IsSpanAt bytes.now at) }
+    ensures exact { answer_of result ≡ checked at (kind_fault true kind) (run (after_kind kind) bytes.now end (at + 1)) }
+{
+    match kind {
+        0 => Ok(bare(StringKind::Null, at)),
+        1 => Ok(bare(StringKind::Empty, at)),
+        2 => {
+            let key = read_within(bytes, at + 1, end)?;
+            Ok(StringSpan {
+                kind: StringKind::Key,
+                at,
+                end: key.end,
+                payload: &[],
+                count: 0,
+                key: key.value,
+            })
+        }
+        3 => Ok(read_bytes(bytes, at + 1, end)?.spanned(StringKind::Utf8, at)),
+        4 => Ok(read_integers(bytes, at + 1, end)?.spanned(StringKind::Units, at)),
+        5 => Ok(read_bytes(bytes, at + 1, end)?.spanned(StringKind::Latin, at)),
+        _ => Err(Flaw {
+            offset: at as u64,
+            reason: Reason::StringKind,
+        }),
+    }
+}
+
+/// The string that is its kind byte alone.
+fn bare<'a>(kind: StringKind, at: usize) -> StringSpan<'a>
+    requires { at + 1 < 2 ^ 64 }
+    ensures place { (result.kind ≡ kind) × (result.at ≡ at) × (result.end ≡ at + 1) }
+    ensures empty { (result.payload.now ≡ []) × (result.count ≡ 0) × (result.key ≡ 0) }
+{
+    StringSpan {
+        kind,
+        at,
+        end: at + 1,
+        payload: &[],
+        count: 0,
+        key: 0,
+    }
+}
+
+/// A count, what it counts, and the place after that.
+#[derive(Clone, Copy)]
+struct Counted<'a> {
+    count: u64,
+    payload: &'a [u8],
+    end: usize,
+}
+
+impl<'a> Counted<'a> {
+    /// The string whose kind byte stands before the count.
+    fn spanned(self, kind: StringKind, at: usize) -> StringSpan<'a>
+        ensures place { (result.kind ≡ kind) × (result.at ≡ at) × (result.end ≡ self.entry.end) }
+        ensures counted { (result.payload.now ≡ self.entry.payload.now) × (result.count ≡ self.entry.count) × (result.key ≡ 0) }
+    {
+        StringSpan {
+            kind,
+            at,
+            end: self.end,
+            payload: self.payload,
+            count: self.count,
+            key: 0,
+        }
+    }
+}
+
+/// Reads a length, and so many bytes.
+fn read_bytes<'a>(bytes: &'a [u8], at: usize, end: usize) -> Result<Counted<'a>, Flaw>
+    requires order { at ≤ end }
+    requires within { end ≤ length bytes.now }
+    ensures counted { IfOk result (λ c. length c.payload.now ≡ c.count) }
+    ensures stands { IfOk result (λ c. c.payload.now ≡ slice_range bytes.now (c.end - length c.payload.now) c.end) }
+    ensures exact { MatchResult result (λ c. run counted_bytes bytes.now end at ≡ Ok (record { value = c.payload.now; place = c.end })) (λ e. run counted_bytes bytes.now end at ≡ Err e) }
+{
+    let count = read_within(bytes, at, end)?;
+    let from = count.end;
+    if count.value > (end - from) as u64 {
+        return Err(Flaw {
+            offset: from as u64,
+            reason: Reason::Short,
+        });
+    }
+    let to = from + count.value as usize;
+    Ok(Counted {
+        count: count.value,
+        payload: &bytes[from..to],
+        end: to,
+    })
+}
+
+/// Reads a count, and so many integers.
+fn read_integers<'a>(bytes: &'a [u8], at: usize, end: usize) -> Result<Counted<'a>, Flaw>
+    requires order { at ≤ end }
+    requires within { end ≤ length bytes.now }
+    ensures counted { IfOk result (λ c. SpellAll c.payload.now (first_integers c.count c.payload.now) × (length (first_integers c.count c.payload.now) ≡ c.count)) }
+    ensures stands { IfOk result (λ c. c.payload.now ≡ slice_range bytes.now (c.end - length c.payload.now) c.end) }
+    ensures exact { MatchResult result (λ c. run counted_integers bytes.now end at ≡ Ok (record { value = first_integers c.count c.payload.now; place = c.end })) (λ e. run counted_integers bytes.now end at ≡ Err e) }
+{
+    let count = read_within(bytes, at, end)?;
+    let from = count.end;
+    let to = skip_integers(count.value, bytes, from, end)?;
+    Ok(Counted {
+        count: count.value,
+        payload: &bytes[from..to],
+        end: to,
+    })
+}
+
+/// The place after so many integers.
+#[tactic(auto, using(jfr_base::proofs::SeenLaws::ends), unfolding(jfr_base::specs::Formats::run))]
+fn skip_integers(count: u64, bytes: &[u8], at: usize, end: usize) -> Result<usize, Flaw>
+    requires order { at ≤ end }
+    requires within { end ≤ length bytes.now }
+    ensures range { IfOk result (λ to. (at ≤ to) × (to ≤ end)) }
+    ensures exact { result ≡ seen (run (times count integer) bytes.now end at) }
+{
+    let mut place = at;
+    for _ in 0..count {
+        place = read_within(bytes, place, end)?.end;
+    }
+    Ok(place)
+}

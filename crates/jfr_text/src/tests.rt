@@ -1,0 +1,67 @@
+// Strings from outside: their bytes, and their texts or flaws.
+use crate::{read_string, same_text, text_of};
+use jfr_base::{Flaw, Reason};
+use std::alloc::Global;
+use std::process::Abort;
+use std::test::Fail;
+
+/// The string is the bytes, to the last one, and has this text.
+fn has_text(rt: &impl Abort, alloc: Global, bytes: &[u8], text: Option<&str>) -> Result<(), Fail> {
+    let span = read_string(bytes, 0, bytes.len())?;
+    assert_eq!(rt; span.end, bytes.len());
+    let made = text_of(alloc, &span)?;
+    match (made, text) {
+        (Some(made), Some(text)) => {
+            assert_eq!(rt; made.as_str(), text);
+            assert!(rt; same_text(&span, text));
+            assert!(rt; !same_text(&span, "another"));
+        }
+        (None, None) => assert!(rt; !same_text(&span, "")),
+        _ => assert!(rt; false, "a text, or none"),
+    }
+    Ok(())
+}
+
+#[test]
+fn texts(rt: HostRuntime) -> Result<(), Fail> {
+    let alloc = rt.alloc();
+    has_text(&rt, alloc, b"\x03\x03a\xC3\x28", Some("a\u{FFFD}("))?;
+    has_text(
+        &rt,
+        alloc,
+        b"\x04\x02\xBD\xB0\x03\x80\xBC\x03",
+        Some("\u{1F600}"),
+    )?;
+    has_text(&rt, alloc, b"\x04\x01\xBD\xB0\x03", Some("\u{FFFD}"))?;
+    has_text(&rt, alloc, b"\x05\x01\xE9", Some("\u{E9}"))?;
+    has_text(&rt, alloc, b"\x01", Some(""))?;
+    has_text(&rt, alloc, b"\x00", None)?;
+    has_text(&rt, alloc, b"\x02\x05", None)?;
+    // A count in two bytes, and a unit in three.
+    has_text(&rt, alloc, b"\x03\x82\x00hi", Some("hi"))?;
+    has_text(&rt, alloc, b"\x04\x81\x00\xC1\x80\x00", Some("A"))?;
+    // A high surrogate before a unit that isn't its partner.
+    has_text(&rt, alloc, b"\x04\x02\xBD\xB0\x03\x41", Some("\u{FFFD}A"))?;
+    Ok(())
+}
+
+/// The bytes are refused at this place.
+fn is_refused(rt: &impl Abort, bytes: &[u8], offset: u64, reason: Reason) {
+    let flaw = read_string(bytes, 0, bytes.len()).err();
+    assert_eq!(rt; flaw, Some(Flaw { offset, reason }));
+}
+
+#[test]
+fn refusals(rt: HostRuntime) {
+    is_refused(&rt, b"", 0, Reason::Short);
+    is_refused(&rt, b"\x06", 0, Reason::StringKind);
+    is_refused(&rt, b"\x02\x80", 1, Reason::Short);
+    is_refused(&rt, b"\x03\x04ab", 2, Reason::Short);
+    is_refused(&rt, b"\x04\x02A", 3, Reason::Short);
+    is_refused(
+        &rt,
+        b"\x05\xFF\xFF\xFF\xFF\xFF\xFF\xFF\xFF\xFF",
+        10,
+        Reason::Short,
+    );
+}

@@ -1,0 +1,50 @@
+// The text of a string: made, and compared.
+ghost use Rattle.std.specs.Prelude.{◌≡◌, ◌↔◌, ◌∷◌, [], ◌++◌, Some, IfOk, OnOk, IsTrue, string_bytes};
+ghost use Rattle.std.specs.Str.{chars};
+ghost use Rattle.jfr_text.specs.Spans.{content_of};
+ghost use Rattle.jfr_text.specs.Strings.{text_of};
+
+use crate::StringSpan;
+use crate::characters::Characters;
+use jfr_outside::{NoMemory, Text};
+use std::alloc::Global;
+
+/// The text of a string; none exactly for the null string and for a key. Bytes that are no UTF-8, and
+/// surrogates without their partner, read as U+FFFD.
+pub fn text_of(alloc: Global, span: &StringSpan<'_>) -> Result<Option<Text>, NoMemory>
+    ensures ok { IfOk result (λ text. text ≡ text_of (content_of span.now)) }
+{
+    match Characters::of(span) {
+        Some(characters) => Ok(Some(made_of(alloc, characters)?)),
+        None => Ok(None),
+    }
+}
+
+/// The text of the characters.
+fn made_of(alloc: Global, characters: Characters<'_>) -> Result<Text, NoMemory>
+    ensures ok { IfOk result (λ text. text ≡ characters.entry) }
+{
+    let mut text = String::new(alloc);
+    for character in characters {
+        add(&mut text, character)?;
+    }
+    Ok(Text::from(text))
+}
+
+/// Adds a character at the end.
+fn add(text: &mut String, character: char) -> Result<(), NoMemory>
+    ensures ok { OnOk result (chars (string_bytes text.new) ≡ chars (string_bytes text.old) ++ character ∷ []) }
+{
+    text.push(character)?;
+    Ok(())
+}
+
+/// Whether the string has this text. It makes no text, and takes no memory.
+pub fn same_text(span: &StringSpan<'_>, text: &str) -> bool
+    ensures exact { IsTrue result ↔ (text_of (content_of span.now) ≡ Some (chars text.now)) }
+{
+    match Characters::of(span) {
+        Some(characters) => characters.eq(text.chars()),
+        None => false,
+    }
+}

@@ -1,0 +1,57 @@
+// The units of UTF-16 that integers hold.
+ghost use Rattle.std.specs.Prelude.{◌≡◌};
+ghost use Rattle.std.specs.Iterator.{YieldsFirst, item_count};
+ghost use Rattle.jfr_text.specs.Spans.{first_integers};
+ghost use Rattle.jfr_text.specs.Strings.{low_units};
+
+use jfr_base::{Var, read_within};
+use std::marker::Model;
+
+/// The units that are left. Contracts see them as a list: the low 16 bits of each integer.
+#[derive(Drop)]
+pub(crate) struct Units<'a> {
+    rest: &'a [u8],
+    left: u64,
+}
+
+impl<'a> Model for Units<'a> {
+    ghost use Rattle.std.specs.Prelude.{ℕ, List};
+    ghost use Rattle.jfr_text.specs.Spans.{first_integers};
+    ghost use Rattle.jfr_text.specs.Strings.{low_units};
+
+    ghost Value = { List ℕ };
+
+    ghost view = { λ units. low_units (first_integers units.left units.rest.now) };
+}
+
+impl<'a> Units<'a> {
+    pub(crate) fn new(payload: &'a [u8], count: u64) -> Units<'a>
+        ensures { result ≡ low_units (first_integers count payload.now) }
+    {
+        Units {
+            rest: payload,
+            left: count,
+        }
+    }
+}
+
+impl<'a> Iterator for Units<'a> {
+    type Item = u16;
+
+    ghost next_gives = { YieldsFirst (λ units. units) };
+
+    ghost remaining = { item_count (λ units. units) };
+
+    fn next(&mut self) -> Option<u16> {
+        if self.left == 0 {
+            return None;
+        }
+        let Ok(Var { value, end }) = read_within(self.rest, 0, self.rest.len()) else {
+            return None;
+        };
+        let (_, rest) = self.rest.split_at(end);
+        self.rest = rest;
+        self.left -= 1;
+        Some((value & 0xffff) as u16)
+    }
+}
