@@ -1,0 +1,5 @@
+pub mod AnyLaws
+pub mod GlobLaws
+pub mod NameLaws
+pub mod Rows
+pub mod SplitLaws

@@ -1,0 +1,61 @@
+-- Which events a filter keeps.
+use Rattle.std.specs.Prelude.{ℕ, Bool, true, false, ◌&&◌, ◌||◌, not, List, Option, Some, None}
+use Rattle.std.specs.Option.{option_map_or}
+use Rattle.std.specs.List.{list_any}
+use Rattle.jfr_filter.specs.declared.side.Side.{Side}
+use Rattle.jfr_filter.specs.declared.side.Side.TheVariants.{IncludeEvents, ExcludeEvents, IncludeCategories, ExcludeCategories, IncludeThreads, ExcludeThreads}
+use Rattle.jfr_filter.specs.Patterns.{glob, simple_name}
+
+-- The patterns of each option, where it is given.
+pub record Given : Type 0 where
+  pub include_events : Option (List (List ℕ))
+  pub exclude_events : Option (List (List ℕ))
+  pub include_categories : Option (List (List ℕ))
+  pub exclude_categories : Option (List (List ℕ))
+  pub include_threads : Option (List (List ℕ))
+  pub exclude_threads : Option (List (List ℕ))
+
+-- No option is given.
+abbrev pub nothing_given : Given
+nothing_given = record { include_events = None; exclude_events = None; include_categories = None; exclude_categories = None; include_threads = None; exclude_threads = None }
+
+-- The patterns of an option.
+abbrev pub given_at : Side → Given → Option (List (List ℕ))
+given_at IncludeEvents g = g.include_events
+given_at ExcludeEvents g = g.exclude_events
+given_at IncludeCategories g = g.include_categories
+given_at ExcludeCategories g = g.exclude_categories
+given_at IncludeThreads g = g.include_threads
+given_at ExcludeThreads g = g.exclude_threads
+
+-- The same, and this option with these patterns.
+abbrev pub with_patterns : Side → List (List ℕ) → Given → Given
+with_patterns IncludeEvents patterns g = record g { include_events = Some patterns }
+with_patterns ExcludeEvents patterns g = record g { exclude_events = Some patterns }
+with_patterns IncludeCategories patterns g = record g { include_categories = Some patterns }
+with_patterns ExcludeCategories patterns g = record g { exclude_categories = Some patterns }
+with_patterns IncludeThreads patterns g = record g { include_threads = Some patterns }
+with_patterns ExcludeThreads patterns g = record g { exclude_threads = Some patterns }
+
+-- An event pattern matches the class name, or the simple name.
+abbrev pub event_matches : List ℕ → List ℕ → Bool
+event_matches name pattern = glob pattern name || glob pattern (simple_name name)
+
+-- A category pattern matches one of the categories.
+abbrev pub category_matches : List (List ℕ) → List ℕ → Bool
+category_matches categories pattern = list_any (glob pattern) categories
+
+-- A thread pattern matches the thread text, where there is one.
+abbrev pub thread_matches : Option (List ℕ) → List ℕ → Bool
+thread_matches thread pattern = option_map_or (glob pattern) thread false
+
+-- An include option allows an event where one of its patterns matches, an exclude option where none does.
+abbrev pub allows : (List ℕ → Bool) → Option (List (List ℕ)) → Option (List (List ℕ)) → Bool
+allows matches include exclude = option_map_or (list_any matches) include true && not (option_map_or (list_any matches) exclude false)
+
+-- An event is kept where every given option allows it.
+unfoldable pub keeps : Given → List ℕ → List (List ℕ) → Option (List ℕ) → Bool
+keeps g name categories thread =
+    allows (event_matches name) g.include_events g.exclude_events
+    && (allows (category_matches categories) g.include_categories g.exclude_categories
+    && allows (thread_matches thread) g.include_threads g.exclude_threads)

@@ -1,0 +1,21 @@
+-- How far a pattern goes with a text, up to its first star.
+use Rattle.std.specs.Prelude.{◌≡◌, ℕ, ◌<◌, ◌≤◌, List, length, true, false, ⊤}
+use Rattle.std.specs.Str.{chars}
+use Rattle.jfr_filter.specs.declared.pattern.Walk.{Walk}
+use Rattle.jfr_filter.specs.declared.pattern.Walk.TheVariants.{Whole, Fails, Star}
+use Rattle.jfr_filter.specs.Patterns.{glob, some_suffix}
+
+-- The pattern matches the text whole, or does not; or at a star it matches where what follows matches some part at the
+-- end, and then it is no matter where before that the pattern began.
+abbrev pub Goes : List ℕ → List ℕ → Walk → Type 0
+Goes pattern text Whole = glob pattern text ≡ true
+Goes pattern text Fails = glob pattern text ≡ false
+Goes pattern text (Star later rest) =
+    (glob pattern text ≡ some_suffix (glob (chars later.now)) (chars rest.now))
+    × (some_suffix (glob pattern) text ≡ some_suffix (glob (chars later.now)) (chars rest.now))
+
+-- At a star less of the pattern is left, and no more of the text.
+abbrev pub IsShorter : List ℕ → List ℕ → Walk → Type 0
+IsShorter pattern text Whole = ⊤
+IsShorter pattern text Fails = ⊤
+IsShorter pattern text (Star later rest) = (length later.now < length pattern) × (length rest.now ≤ length text)

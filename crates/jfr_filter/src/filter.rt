@@ -1,0 +1,161 @@
+// The patterns of the six options, and the rule over them.
+ghost use Rattle.std.specs.Prelude.{◌≡◌, ◌↔◌, IsTrue, OnOk, OnErr, IsSome, None, Err};
+ghost use Rattle.std.specs.Str.{chars};
+ghost use Rattle.jfr_outside.specs.Texts.{text_in};
+ghost use Rattle.jfr_filter.specs.declared.side.FilterFault.TheVariants.{EmptyPattern};
+ghost use Rattle.jfr_filter.specs.Filters.{nothing_given, given_at, with_patterns, event_matches, category_matches, thread_matches, allows, keeps};
+ghost use Rattle.jfr_filter.specs.Patterns.{patterns_in, has_empty_part};
+
+use crate::list::{has_empty_part, patterns_of};
+use crate::matching::{any_category, any_event, any_thread};
+use crate::{FilterFault, Side};
+use jfr_outside::Words;
+use std::alloc::Global;
+use std::marker::Model;
+
+/// What an event must match to be kept. Contracts see a filter as the patterns of each option, where
+/// it is given.
+#[derive(Drop)]
+pub struct Filter {
+    alloc: Global,
+    include_events: Option<Words>,
+    exclude_events: Option<Words>,
+    include_categories: Option<Words>,
+    exclude_categories: Option<Words>,
+    include_threads: Option<Words>,
+    exclude_threads: Option<Words>,
+}
+
+impl Model for Filter {
+    ghost use Rattle.jfr_filter.specs.Filters.{Given};
+
+    ghost Value = { Given };
+
+    ghost view = { λ f. record { include_events = f.include_events; exclude_events = f.exclude_events; include_categories = f.include_categories; exclude_categories = f.exclude_categories; include_threads = f.include_threads; exclude_threads = f.exclude_threads } };
+}
+
+impl Filter {
+    /// The filter without patterns, which keeps every event. It takes no memory.
+    pub fn new(alloc: Global) -> Filter
+        ensures { result ≡ nothing_given }
+    {
+        Filter {
+            alloc,
+            include_events: None,
+            exclude_events: None,
+            include_categories: None,
+            exclude_categories: None,
+            include_threads: None,
+            exclude_threads: None,
+        }
+    }
+
+    /// Whether the option is given.
+    pub fn has(&self, side: Side) -> bool
+        ensures { IsTrue result ↔ IsSome (given_at side self.now) }
+    {
+        self.patterns(side).is_some()
+    }
+
+    /// The patterns of an option.
+    fn patterns(&self, side: Side) -> &Option<Words>
+        ensures { result.now ≡ given_at side self.now }
+    {
+        match side {
+            Side::IncludeEvents => &self.include_events,
+            Side::ExcludeEvents => &self.exclude_events,
+            Side::IncludeCategories => &self.include_categories,
+            Side::ExcludeCategories => &self.exclude_categories,
+            Side::IncludeThreads => &self.include_threads,
+            Side::ExcludeThreads => &self.exclude_threads,
+        }
+    }
+
+    /// Gives an option its patterns: the list cut at each comma, with nothing trimmed.
+    pub fn add(&mut self, side: Side, list: &str) -> Result<(), FilterFault>
+        requires { given_at side self.old ≡ None }
+        ensures ok { OnOk result (self.new ≡ with_patterns side (patterns_in (chars list.now)) self.old) }
+        ensures refused { (result ≡ Err EmptyPattern) ↔ IsTrue (has_empty_part (chars list.now)) }
+        ensures unchanged { OnErr result (self.new ≡ self.old) }
+    {
+        if has_empty_part(list) {
+            return Err(FilterFault::EmptyPattern);
+        }
+        let patterns = Some(patterns_of(self.alloc, list)?);
+        match side {
+            Side::IncludeEvents => self.include_events = patterns,
+            Side::ExcludeEvents => self.exclude_events = patterns,
+            Side::IncludeCategories => self.include_categories = patterns,
+            Side::ExcludeCategories => self.exclude_categories = patterns,
+            Side::IncludeThreads => self.include_threads = patterns,
+            Side::ExcludeThreads => self.exclude_threads = patterns,
+        }
+        Ok(())
+    }
+
+    /// Whether the event is kept, by the name of its class, the categories of its class, and its thread
+    /// text where it has one: every given option allows it. It takes no memory.
+    #[tactic(auto, unfolding(crate::specs::Filters::keeps))]
+    pub fn keeps(&self, name: &str, categories: &Words, thread: Option<&str>) -> bool
+        ensures { result ≡ keeps self.now (chars name.now) categories.now (text_in thread.entry) }
+    {
+        if !self.allows_event(name) {
+            return false;
+        }
+        if !self.allows_categories(categories) {
+            return false;
+        }
+        self.allows_thread(thread)
+    }
+
+    /// Whether the options over events allow the class name.
+    fn allows_event(&self, name: &str) -> bool
+        ensures { result ≡ allows (event_matches (chars name.now)) self.now.include_events self.now.exclude_events }
+    {
+        if let Some(patterns) = &self.include_events
+            && !any_event(patterns, name)
+        {
+            return false;
+        }
+        if let Some(patterns) = &self.exclude_events
+            && any_event(patterns, name)
+        {
+            return false;
+        }
+        true
+    }
+
+    /// Whether the options over categories allow these.
+    fn allows_categories(&self, categories: &Words) -> bool
+        ensures { result ≡ allows (category_matches categories.now) self.now.include_categories self.now.exclude_categories }
+    {
+        if let Some(patterns) = &self.include_categories
+            && !any_category(patterns, categories)
+        {
+            return false;
+        }
+        if let Some(patterns) = &self.exclude_categories
+            && any_category(patterns, categories)
+        {
+            return false;
+        }
+        true
+    }
+
+    /// Whether the options over threads allow this text, or none.
+    fn allows_thread(&self, thread: Option<&str>) -> bool
+        ensures { result ≡ allows (thread_matches (text_in thread.entry)) self.now.include_threads self.now.exclude_threads }
+    {
+        if let Some(patterns) = &self.include_threads
+            && !any_thread(patterns, thread)
+        {
+            return false;
+        }
+        if let Some(patterns) = &self.exclude_threads
+            && any_thread(patterns, thread)
+        {
+            return false;
+        }
+        true
+    }
+}

@@ -1,0 +1,18 @@
+//! Patterns, and which events a filter keeps.
+//!
+//! A `Filter` holds the patterns of six options; `keeps` is its rule over an event's class name, its
+//! categories and its thread text. Read `specs/Patterns.antt` first: what a pattern matches; then
+//! `specs/Filters.antt`: which events are kept.
+#![tactic(auto)]
+
+mod filter;
+mod list;
+mod matching;
+mod pattern;
+mod side;
+#[cfg(test)]
+mod tests;
+
+pub use filter::Filter;
+pub use pattern::glob;
+pub use side::{FilterFault, Side};

@@ -1,0 +1,65 @@
+// Whether some pattern of a list matches.
+ghost use Rattle.std.specs.Prelude.{◌≡◌, ◌<◌, length, slice_get, Some};
+ghost use Rattle.std.specs.List.{list_any};
+ghost use Rattle.std.specs.Str.{chars};
+ghost use Rattle.jfr_outside.specs.Texts.{text_in};
+ghost use Rattle.jfr_filter.specs.Filters.{event_matches, category_matches, thread_matches};
+ghost use Rattle.jfr_filter.specs.Patterns.{glob};
+
+use crate::pattern::{glob, simple_name};
+use jfr_outside::Words;
+
+/// Whether some pattern matches the class name, or the simple name.
+pub(crate) fn any_event(patterns: &Words, name: &str) -> bool
+    ensures { result ≡ list_any (event_matches (chars name.now)) patterns.now }
+{
+    if any_text(patterns, name) {
+        return true;
+    }
+    any_text(patterns, simple_name(name))
+}
+
+/// Whether some pattern matches one of the categories.
+pub(crate) fn any_category(patterns: &Words, categories: &Words) -> bool
+    ensures { result ≡ list_any (category_matches categories.now) patterns.now }
+{
+    for at in 0..categories.len() {
+        if any_text(patterns, text_at(categories, at)) {
+            return true;
+        }
+    }
+    false
+}
+
+/// Whether there is a thread text, and some pattern matches it.
+pub(crate) fn any_thread(patterns: &Words, thread: Option<&str>) -> bool
+    ensures { result ≡ list_any (thread_matches (text_in thread.entry)) patterns.now }
+{
+    match thread {
+        Some(text) => any_text(patterns, text),
+        None => false,
+    }
+}
+
+/// Whether some pattern matches the text.
+fn any_text(patterns: &Words, text: &str) -> bool
+    ensures { result ≡ list_any (λ pattern. glob pattern (chars text.now)) patterns.now }
+{
+    for at in 0..patterns.len() {
+        if glob(text_at(patterns, at), text) {
+            return true;
+        }
+    }
+    false
+}
+
+/// The text at a place of the list.
+fn text_at(words: &Words, at: usize) -> &str
+    requires { at < length words.now }
+    ensures { slice_get words.now at ≡ Some (chars result.now) }
+{
+    match words.get(at) {
+        Some(text) => text,
+        None => unreachable!(),
+    }
+}

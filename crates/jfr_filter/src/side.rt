@@ -1,0 +1,42 @@
+// The options of a filter, and why a list of patterns is refused.
+ghost use Rattle.std.specs.Prelude.{◌≡◌};
+ghost use Rattle.jfr_filter.specs.declared.side.FilterFault.TheVariants.{Memory};
+
+use jfr_outside::NoMemory;
+use thiserror::Error;
+
+/// An option of a filter: what its patterns match, and whether they keep an event or drop it.
+#[derive(Clone, Copy, Debug, PartialEq, Eq)]
+pub enum Side {
+    /// Keeps the events whose class name or simple name matches.
+    IncludeEvents,
+    /// Drops them.
+    ExcludeEvents,
+    /// Keeps the events of which a category matches.
+    IncludeCategories,
+    /// Drops them.
+    ExcludeCategories,
+    /// Keeps the events whose thread text matches.
+    IncludeThreads,
+    /// Drops them.
+    ExcludeThreads,
+}
+
+/// Why a list of patterns was not added.
+#[derive(Clone, Copy, Debug, PartialEq, Eq, Error)]
+pub enum FilterFault {
+    /// A part of the list is empty.
+    #[error("EmptyPattern")]
+    EmptyPattern,
+    /// Memory was wanting.
+    #[error("Memory")]
+    Memory,
+}
+
+impl From<NoMemory> for FilterFault {
+    ghost from_gives = { λ _ fault. fault ≡ Memory };
+
+    fn from(_: NoMemory) -> Self {
+        FilterFault::Memory
+    }
+}
