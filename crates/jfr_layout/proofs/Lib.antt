@@ -1,0 +1,15 @@
+mod Lists
+mod Names
+mod Places
+mod Stages
+mod NamesSeen
+mod IdsSeen
+mod FieldsKnown
+mod FieldPlaces
+mod Steps
+mod Filled
+mod Depth
+mod Soundness
+mod Events
+pub mod SoundLaws
+mod Rows

@@ -1,0 +1,54 @@
+-- Lists by their members' places.
+use Rattle.std.proofs.Common.{◌≡◌, ℕ, zero, suc, ◌+◌, ◌<◌, List, [], ◌∷◌, ◌++◌, length, take, get_or, map, Option, Some, None, false, sym, ◌∙◌, ap, refl, arith}
+use Rattle.std.specs.Prelude.{is_some, IsSome, option_map}
+use Rattle.std.specs.List.{slice_get, flat_map, enumerate_from}
+use Rattle.std.specs.Option.{option_and_then}
+use Rattle.std.proofs.lemmas.List.{take_more, map_more, length-map}
+use Rattle.std.proofs.lemmas.Option.{slice_get_within, get_or_from_slice_get, slice_get-get_or, slice_get-map, same_Some}
+
+-- what a list has at a place within it
+pub present : {X : Type 0} (xs : List X) (i : ℕ) → i < length xs → (x : X) × (slice_get xs i ≡ Some x)
+present [] i l = absurd (omega arith)
+present (x ∷ xs) zero l = (x, refl)
+present (x ∷ xs) (suc i) l = let m : i < length xs = omega arith in present xs i m
+
+pub take_next : {X : Type 0} (xs : List X) (i : ℕ) (x : X) → slice_get xs i ≡ Some x → take (i + 1) xs ≡ take i xs ++ x ∷ []
+take_next xs i x e = take_more xs i x (slice_get_within xs i x e) ∙ ap (λ y. take i xs ++ y ∷ []) (get_or_from_slice_get xs i x x e)
+
+pub map_next : {X Y : Type 0} (f : X → Y) (xs : List X) (i : ℕ) (x : X) → slice_get xs i ≡ Some x → map f (take (i + 1) xs) ≡ map f (take i xs) ++ f x ∷ []
+map_next f xs i x e = map_more f xs i x (slice_get_within xs i x e) ∙ ap (λ y. map f (take i xs) ++ f y ∷ []) (get_or_from_slice_get xs i x x e)
+
+-- two lists that are seen alike are seen alike at each place
+pub mapped_at : {X Y Z : Type 0} (f : X → Z) (g : Y → Z) (xs : List X) (ys : List Y) (i : ℕ) (x : X) (y : Y) → map f xs ≡ map g ys → slice_get ys i ≡ Some y → x ≡ get_or xs i x → f x ≡ g y
+mapped_at f g xs ys i x y m e r =
+    let l : i < length xs = omega (arith, slice_get_within ys i y e, ap length m, length-map xs f, length-map ys g) in
+    let s : slice_get xs i ≡ Some x = slice_get-get_or xs i x l ∙ ap Some (sym r) in
+    same_Some (f x) (g y) (sym (ap (option_map f) s) ∙ (sym (slice_get-map f xs i) ∙ (ap (λ zs. slice_get zs i) m ∙ (slice_get-map g ys i ∙ ap (option_map g) e))))
+
+pub nil_parts : {X : Type 0} (a b : List X) → a ++ b ≡ [] → (a ≡ []) × (b ≡ [])
+nil_parts [] b e = (refl, e)
+nil_parts (x ∷ a) b e = cc
+
+none_from : {X Y : Type 0} (found : ℕ → X → List Y) (n : ℕ) (xs : List X) (i j : ℕ) (x : X) → flat_map (λ y. found y.0 y.1) (enumerate_from n xs) ≡ [] → slice_get xs i ≡ Some x → n + i ≡ j → found j x ≡ []
+none_from found n [] i j x e s q = cc
+none_from found n (y ∷ xs) zero j x e s q =
+    let m : n ≡ j = omega arith in
+    ap (found j) (sym (same_Some y x s)) ∙ (ap (λ a. found a y) (sym m) ∙ (nil_parts (found n y) (flat_map (λ z. found z.0 z.1) (enumerate_from (n + 1) xs)) e).0)
+none_from found n (y ∷ xs) (suc i) j x e s q =
+    none_from found (n + 1) xs i j x (nil_parts (found n y) (flat_map (λ z. found z.0 z.1) (enumerate_from (n + 1) xs)) e).1 s (omega arith)
+
+-- where nothing is found at all, nothing is found at a member
+pub none_at : {X Y : Type 0} (found : ℕ → X → List Y) (xs : List X) (i : ℕ) (x : X) → flat_map (λ y. found y.0 y.1) (enumerate_from 0 xs) ≡ [] → slice_get xs i ≡ Some x → found i x ≡ []
+none_at found xs i x e s = none_from found 0 xs i i x e s (omega arith)
+
+pub value_in : {X : Type 0} (o : Option X) → IsSome o → (x : X) × (o ≡ Some x)
+value_in None s = cc
+value_in (Some x) s = (x, refl)
+
+pub chained : {X Y : Type 0} (f : X → Option Y) (o : Option X) (y : Y) → option_and_then f o ≡ Some y → (x : X) × (o ≡ Some x) × (f x ≡ Some y)
+chained f None y e = cc
+chained f (Some x) y e = (x, refl, e)
+
+pub absent : {X : Type 0} (o : Option X) → is_some o ≡ false → o ≡ None
+absent None e = refl
+absent (Some x) e = cc

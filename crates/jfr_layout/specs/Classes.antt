@@ -1,0 +1,169 @@
+-- Classes, their kinds, and what makes a list of them sound.
+use Rattle.std.specs.Prelude.{◌≡◌, ℕ, zero, suc, Bool, true, false, not, ◌&&◌, ◌==◌, List, [], ◌∷◌, length, Option, Some, None, Result, Ok, Err, is_some, if◌then◌else◌, find, position, take, option_and_then, codes, slice_get, ◌++◌, ⊤, nat_lt}
+use Rattle.std.specs.List.{AllByRecursion, list_any, flat_map, enumerate_from}
+use Rattle.std.specs.Option.{option_map_or}
+use Rattle.std.specs.Str.{bytes_eq}
+use Rattle.jfr_base.specs.declared.reason.Reason.{Reason}
+use Rattle.jfr_base.specs.declared.reason.Reason.TheVariants.{ClassTwice, FieldTwice, UnknownType, EmptyInline, InlineDeep}
+use Rattle.jfr_layout.specs.declared.kind.Kind.{Kind}
+use Rattle.jfr_layout.specs.declared.kind.Kind.TheVariants.{Boolean, Byte, Char, Short, Int, Long, Float, Double, Text, Composite}
+use Rattle.jfr_layout.specs.declared.shape.Shape.{Shape}
+use Rattle.jfr_layout.specs.declared.fault.ClassFault.{ClassFault}
+use Rattle.jfr_layout.specs.declared.fault.ClassFault.TheVariants.{Flawed, Memory}
+use Rattle.jfr_layout.specs.declared.class.ClassInfo.{ClassInfo}
+use Rattle.jfr_layout.specs.declared.class.FieldInfo.{FieldInfo}
+
+-- a class and a field as the code declares them: a text is the list of its characters
+abbrev pub Class : Type 0
+Class = ClassInfo
+
+abbrev pub Field : Type 0
+Field = FieldInfo
+
+abbrev pub Classes : Type 0
+Classes = List Class
+
+-- the class of an id, and its place in the list
+abbrev pub find_class : Classes → ℕ → Option Class
+find_class k id = find (λ c. c.id == id) k
+
+abbrev pub class_place : Classes → ℕ → Option ℕ
+class_place k id = position (λ c. c.id == id) k
+
+-- the field by its number, of the class at a place
+abbrev pub field_at : Classes → ℕ → ℕ → Option Field
+field_at k place number = option_and_then (λ c. slice_get c.fields number) (slice_get k place)
+
+-- the number of the field of a name
+abbrev pub field_number : List Field → List ℕ → Option ℕ
+field_number fs name = position (λ f. bytes_eq f.name name) fs
+
+-- Nine names are base names; a class of any other name is composite.
+unfoldable pub kind_of : List ℕ → Kind
+kind_of name =
+    if bytes_eq name (codes "boolean") then Boolean
+    else if bytes_eq name (codes "byte") then Byte
+    else if bytes_eq name (codes "char") then Char
+    else if bytes_eq name (codes "short") then Short
+    else if bytes_eq name (codes "int") then Int
+    else if bytes_eq name (codes "long") then Long
+    else if bytes_eq name (codes "float") then Float
+    else if bytes_eq name (codes "double") then Double
+    else if bytes_eq name (codes "java.lang.String") then Text
+    else Composite
+
+-- the kind is not one of the nine base kinds
+abbrev pub is_composite : Kind → Bool
+is_composite Composite = true
+is_composite _ = false
+
+-- the class is composite and has the super type of events
+abbrev pub extends_event : Class → Bool
+extends_event c = is_composite (kind_of c.name) && option_map_or (λ n. bytes_eq n (codes "jdk.jfr.Event")) c.super_name false
+
+-- an event class is such a class with an id that is neither 0 nor 1
+unfoldable pub is_event_class : Classes → ℕ → Bool
+is_event_class k id = nat_lt 1 id && option_map_or extends_event (find_class k id) false
+
+-- an item's shape: the array's without the array mark
+abbrev pub item_of : Shape → Shape
+item_of s = record { class = s.class; constant = s.constant; array = false }
+
+-- the fields of an inline value: those of a composite class, and none for a base name
+abbrev pub inline_fields : Class → List Field
+inline_fields c = if is_composite (kind_of c.name) then c.fields else []
+
+-- An inline step goes to the composite class of a field without the constant mark, array or not.
+abbrev pub step_class : Classes → Field → Option Class
+step_class k f = if f.shape.constant then None
+    else option_and_then (λ d. if is_composite (kind_of d.name) then Some d else None) (find_class k f.shape.class)
+
+-- the class begins a chain of so many inline steps
+abbrev pub goes_inline : ℕ → Classes → Class → Bool
+goes_inline zero k c = true
+goes_inline (suc n) k c = list_any (λ f. option_map_or (λ d. goes_inline n k d) (step_class k f) false) (inline_fields c)
+
+-- so many inline steps follow the one by this field
+abbrev pub step_goes : ℕ → Classes → Field → Bool
+step_goes n k f = option_map_or (λ d. goes_inline n k d) (step_class k f) false
+
+-- A flaw of a list of classes: the place of the class, the number of the field that it is about, and the reason.
+pub record ClassFlaw : Type 0 where
+  pub class : ℕ
+  pub field : Option ℕ
+  pub reason : Reason
+
+-- one flaw or none
+abbrev pub flaw_if : Bool → ℕ → Option ℕ → Reason → List ClassFlaw
+flaw_if bad i j why = if bad then record { class = i; field = j; reason = why } ∷ [] else []
+
+-- what is found at each member with its place, in order
+abbrev pub each_at : {X : Type 0} → (ℕ → X → List ClassFlaw) → List X → List ClassFlaw
+each_at found xs = flat_map (λ x. found x.0 x.1) (enumerate_from 0 xs)
+
+-- some class has the id; some field has the name
+abbrev pub has_id : Classes → ℕ → Bool
+has_id k id = list_any (λ c. c.id == id) k
+
+abbrev pub has_name : List Field → List ℕ → Bool
+has_name fs name = list_any (λ f. bytes_eq f.name name) fs
+
+-- the fields whose names an earlier field of the class has
+abbrev pub name_repeats : ℕ → List Field → List ClassFlaw
+name_repeats i fs = each_at (λ j f. flaw_if (has_name (take j fs) f.name) i (Some j) FieldTwice) fs
+
+-- the classes whose ids an earlier class has, each before its own fields
+abbrev pub repeats : Classes → List ClassFlaw
+repeats k = each_at (λ i c. flaw_if (has_id (take i k) c.id) i None ClassTwice ++ name_repeats i c.fields) k
+
+-- the fields of a class that fail a test, and those of all classes
+abbrev pub flaws_in : Reason → (Field → Bool) → ℕ → List Field → List ClassFlaw
+flaws_in why bad i fs = each_at (λ j f. flaw_if (bad f) i (Some j) why) fs
+
+abbrev pub field_flaws : Reason → (Field → Bool) → Classes → List ClassFlaw
+field_flaws why bad k = each_at (λ i c. flaws_in why bad i c.fields) k
+
+-- the field's class isn't defined; the fields of which that holds
+abbrev pub is_unknown : Classes → Field → Bool
+is_unknown k f = not (is_some (find_class k f.shape.class))
+
+abbrev pub unknown : Classes → List ClassFlaw
+unknown k = field_flaws UnknownType (is_unknown k) k
+
+-- the field is an inline one of a composite class without fields; the fields of which that holds
+abbrev pub is_empty_inline : Classes → Field → Bool
+is_empty_inline k f = option_map_or (λ d. length d.fields == 0) (step_class k f) false
+
+abbrev pub empty_inline : Classes → List ClassFlaw
+empty_inline k = field_flaws EmptyInline (is_empty_inline k) k
+
+-- the classes that begin a chain of more than 32 inline steps
+abbrev pub deep : Classes → List ClassFlaw
+deep k = each_at (λ i c. flaw_if (goes_inline 33 k c) i None InlineDeep) k
+
+-- The flaws stage by stage, each stage in tree order. The first of them is the one that is told.
+unfoldable pub class_faults : Classes → List ClassFlaw
+class_faults k = repeats k ++ (unknown k ++ (empty_inline k ++ deep k))
+
+-- The fault tells the first flaw, where memory isn't wanting.
+abbrev pub TellsFirst : List ClassFlaw → ClassFault → Type 0
+TellsFirst flaws (Flawed i j why) = slice_get flaws 0 ≡ Some (record { class = i; field = j; reason = why })
+TellsFirst flaws Memory = ⊤
+
+-- There are no flaws, or the first is told.
+abbrev pub Judges : {T : Type 0} → List ClassFlaw → Result T ClassFault → Type 0
+Judges flaws (Ok x) = flaws ≡ []
+Judges flaws (Err e) = TellsFirst flaws e
+
+-- A list is sound where it has no flaws.
+pub record Sound (k : Classes) : Type 0 where
+  pub none : class_faults k ≡ []
+
+-- Two lists agree on the class of an id, and on each class that its fields name, so many steps deep.
+abbrev pub AgreeWithin : ℕ → Classes → Classes → ℕ → Type 0
+AgreeWithin zero k m id = ⊤
+AgreeWithin (suc n) k m id = (c d : Class) × (find_class k id ≡ Some c) × (find_class m id ≡ Some d) × (c.name ≡ d.name) × (c.super_name ≡ d.super_name) × (c.fields ≡ d.fields) × AllByRecursion (λ f. AgreeWithin n k m f.shape.class) c.fields
+
+-- at any depth
+abbrev pub Agree : Classes → Classes → ℕ → Type 0
+Agree k m id = (n : ℕ) → AgreeWithin n k m id

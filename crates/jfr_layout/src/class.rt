@@ -1,0 +1,153 @@
+// Classes and their fields, as a chunk's metadata lists them.
+ghost use Rattle.std.specs.Prelude.{◌≡◌, [], ◌∷◌, ◌++◌, ◌<◌, length, OnOk, OnErr, slice_get};
+ghost use Rattle.std.specs.Option.{option_copied};
+ghost use Rattle.std.specs.Str.{chars};
+
+use crate::{Shape, is_text};
+use jfr_outside::{NoMemory, Text, Words};
+use std::alloc::Global;
+use std::marker::Model;
+
+/// A field of a class.
+#[derive(Drop)]
+pub struct FieldInfo {
+    pub name: Text,
+    pub shape: Shape,
+}
+
+/// The fields of a class, in order.
+#[derive(Drop)]
+pub struct Fields {
+    items: Vec<FieldInfo>,
+}
+
+impl Model for Fields {
+    ghost use Rattle.std.specs.Prelude.{List};
+    ghost use Rattle.jfr_layout.specs.declared.class.FieldInfo.{FieldInfo};
+
+    ghost Value = { List FieldInfo };
+
+    ghost view = { λ fields. fields.items.items };
+}
+
+impl Fields {
+    ghost use Rattle.jfr_layout.specs.Classes.{field_number};
+
+    /// The list without fields. It takes no memory.
+    pub fn new(alloc: Global) -> Fields
+        ensures { result ≡ [] }
+    {
+        Fields {
+            items: Vec::new(alloc),
+        }
+    }
+
+    /// Adds the field at the end.
+    pub fn push(&mut self, field: FieldInfo) -> Result<(), NoMemory>
+        ensures ok { OnOk result (self.new ≡ self.old ++ field ∷ []) }
+        ensures unchanged { OnErr result (self.new ≡ self.old) }
+    {
+        self.items.push(field)?;
+        Ok(())
+    }
+
+    /// How many fields the list has.
+    pub fn len(&self) -> usize
+        ensures { result ≡ length self.now }
+    {
+        self.items.len()
+    }
+
+    /// The field by its number, from 0.
+    pub fn at(&self, at: usize) -> &FieldInfo
+        requires { at < length self.now }
+        ensures { slice_get self.now at ≡ Some result.now }
+    {
+        &self.items[at]
+    }
+
+    /// The field by its number, from 0; `None` exactly past the end.
+    pub fn get(&self, at: usize) -> Option<&FieldInfo>
+        ensures { option_copied result ≡ slice_get self.now at }
+    {
+        self.items.get(at)
+    }
+
+    /// The number of the field of a name; `None` exactly where no field has it.
+    pub fn number(&self, name: &str) -> Option<usize>
+        ensures { result ≡ field_number self.now (chars name.now) }
+    {
+        self.items
+            .iter()
+            .position(|field| is_text(&field.name, name))
+    }
+}
+
+/// A class.
+#[derive(Drop)]
+pub struct ClassInfo {
+    pub id: u64,
+    pub name: Text,
+    /// The name of its super type, where it has one.
+    pub super_name: Option<Text>,
+    pub fields: Fields,
+    /// The categories of its events.
+    pub categories: Words,
+}
+
+/// Classes, in order.
+#[derive(Drop)]
+pub struct ClassList {
+    items: Vec<ClassInfo>,
+}
+
+impl Model for ClassList {
+    ghost use Rattle.std.specs.Prelude.{List};
+    ghost use Rattle.jfr_layout.specs.declared.class.ClassInfo.{ClassInfo};
+
+    ghost Value = { List ClassInfo };
+
+    ghost view = { λ classes. classes.items.items };
+}
+
+impl ClassList {
+    /// The list without classes. It takes no memory.
+    pub fn new(alloc: Global) -> ClassList
+        ensures { result ≡ [] }
+    {
+        ClassList {
+            items: Vec::new(alloc),
+        }
+    }
+
+    /// Adds the class at the end.
+    pub fn push(&mut self, class: ClassInfo) -> Result<(), NoMemory>
+        ensures ok { OnOk result (self.new ≡ self.old ++ class ∷ []) }
+        ensures unchanged { OnErr result (self.new ≡ self.old) }
+    {
+        self.items.push(class)?;
+        Ok(())
+    }
+
+    /// How many classes the list has.
+    pub fn len(&self) -> usize
+        ensures { result ≡ length self.now }
+    {
+        self.items.len()
+    }
+
+    /// The class at a place, from 0.
+    pub fn at(&self, at: usize) -> &ClassInfo
+        requires { at < length self.now }
+        ensures { slice_get self.now at ≡ Some result.now }
+    {
+        &self.items[at]
+    }
+
+    /// The class at a place, from 0; `None` exactly past the end.
+    pub fn get(&self, at: usize) -> Option<&ClassInfo>
+        ensures { option_copied result ≡ slice_get self.now at }
+    {
+        self.items.get(at)
+    }
+}

@@ -1,0 +1,172 @@
+// Sound classes.
+ghost use Rattle.std.specs.Prelude.{◌≡◌, ◌<◌, length, OnOk, IfOk, IfErr, IfSome, IsSome, slice_get, option_map, option_and_then};
+ghost use Rattle.std.specs.Option.{option_copied};
+ghost use Rattle.std.specs.Str.{chars};
+ghost use Rattle.jfr_layout.specs.Classes.{class_faults, Sound, TellsFirst, find_class, class_place, kind_of, field_at, field_number, is_event_class, extends_event};
+
+use crate::inline::{check_depth, check_filled};
+use crate::resolved::Resolved;
+use crate::{ClassFault, ClassInfo, ClassList, Kind, Shape, is_text};
+use std::alloc::Global;
+use std::marker::Model;
+
+// Records of the types up to this one are metadata and checkpoints.
+const LAST_OWN_TYPE: u64 = 1;
+
+/// Classes that are sound: ids and names of fields are used once, each field's class is known, and no
+/// value stands within others without end.
+#[derive(Drop)]
+pub struct Classes {
+    resolved: Resolved,
+}
+
+impl Model for Classes {
+    ghost use Rattle.std.specs.Prelude.{List};
+    ghost use Rattle.jfr_layout.specs.declared.class.ClassInfo.{ClassInfo};
+    ghost use Rattle.jfr_layout.specs.Classes.{Sound};
+
+    ghost Value = { List ClassInfo };
+
+    ghost view = { λ c. c.resolved };
+
+    ghost invariant = { λ c. Sound c.resolved };
+}
+
+impl Classes {
+    /// The classes of a list, where they are sound.
+    pub fn make(alloc: Global, list: ClassList) -> Result<Classes, ClassFault>
+        ensures ok { OnOk result (Sound list) }
+        ensures exact { IfOk result (λ classes. classes ≡ list) }
+        ensures refused { IfErr result (TellsFirst (class_faults list)) }
+    {
+        let resolved = Resolved::make(alloc, list)?;
+        check_filled(&resolved)?;
+        check_depth(alloc, &resolved)?;
+        Ok(Classes { resolved })
+    }
+
+    /// How many classes there are.
+    pub fn len(&self) -> usize
+        ensures exact { result ≡ length self.now }
+        ensures sound { Sound self.now }
+    {
+        self.resolved.len()
+    }
+
+    /// The class at a place, from 0; `None` exactly past the end.
+    pub fn get(&self, at: usize) -> Option<&ClassInfo>
+        ensures { option_copied result ≡ slice_get self.now at }
+    {
+        self.resolved.get(at)
+    }
+
+    /// The class of an id.
+    pub fn find(&self, id: u64) -> Option<&ClassInfo>
+        ensures { option_copied result ≡ find_class self.now id }
+    {
+        match self.resolved.place(id) {
+            Some(place) => Some(self.resolved.class_at(place)),
+            None => None,
+        }
+    }
+
+    /// The kind of the class of an id.
+    pub fn kind(&self, id: u64) -> Option<Kind>
+        ensures { result ≡ option_map (λ c. kind_of c.name) (find_class self.now id) }
+    {
+        match self.resolved.place(id) {
+            Some(place) => Some(self.resolved.kind_at(place)),
+            None => None,
+        }
+    }
+
+    /// The number of the field of a name, in the class of an id.
+    pub fn field_named(&self, id: u64, name: &str) -> Option<usize>
+        ensures { result ≡ option_and_then (λ c. field_number c.fields (chars name.now)) (find_class self.now id) }
+    {
+        match self.find(id) {
+            Some(class) => class.fields.number(name),
+            None => None,
+        }
+    }
+
+    /// Whether the records of this type are events.
+    pub fn is_event(&self, id: u64) -> bool
+        ensures { result ≡ is_event_class self.now id }
+    {
+        if id <= LAST_OWN_TYPE {
+            return false;
+        }
+        match self.resolved.place(id) {
+            Some(place) => self.extends_event(place),
+            None => false,
+        }
+    }
+
+    // Whether the class is composite and has the super type of events.
+    fn extends_event(&self, place: usize) -> bool
+        requires { place < length self.now }
+        ensures { IfSome (slice_get self.now place) (λ c. result ≡ extends_event c) }
+    {
+        match self.resolved.kind_at(place) {
+            Kind::Composite => {}
+            _ => return false,
+        }
+        match &self.resolved.class_at(place).super_name {
+            Some(name) => is_text(name, "jdk.jfr.Event"),
+            None => false,
+        }
+    }
+
+    /// The place of the class of an id, for the calls that take a place.
+    pub fn place(&self, id: u64) -> Option<usize>
+        ensures exact { result ≡ class_place self.now id }
+        ensures class { option_and_then (slice_get self.now) result ≡ find_class self.now id }
+        ensures within { IfSome result (λ place. place < length self.now) }
+        ensures sound { Sound self.now }
+    {
+        self.resolved.place(id)
+    }
+
+    /// The class at a place.
+    pub fn class_at(&self, place: usize) -> &ClassInfo
+        requires { place < length self.now }
+        ensures { slice_get self.now place ≡ Some result.now }
+    {
+        self.resolved.class_at(place)
+    }
+
+    /// The kind of the class at a place.
+    pub fn kind_at(&self, place: usize) -> Kind
+        requires { place < length self.now }
+        ensures { IfSome (slice_get self.now place) (λ c. result ≡ kind_of c.name) }
+    {
+        self.resolved.kind_at(place)
+    }
+
+    /// How many fields the class at a place has.
+    pub fn field_count(&self, place: usize) -> usize
+        requires { place < length self.now }
+        ensures { IfSome (slice_get self.now place) (λ c. result ≡ length c.fields) }
+    {
+        self.resolved.class_at(place).fields.len()
+    }
+
+    /// The shape of a field, by the place of its class and its number.
+    pub fn field_shape(&self, place: usize, number: usize) -> Shape
+        requires { IsSome (field_at self.now place number) }
+        ensures { IfSome (field_at self.now place number) (λ f. result ≡ f.shape) }
+    {
+        self.resolved.class_at(place).fields.at(number).shape
+    }
+
+    /// The place of the class of a field's values.
+    pub fn field_place(&self, place: usize, number: usize) -> usize
+        requires { IsSome (field_at self.now place number) }
+        ensures exact { IfSome (field_at self.now place number) (λ f. class_place self.now f.shape.class ≡ Some result) }
+        ensures class { IfSome (field_at self.now place number) (λ f. slice_get self.now result ≡ find_class self.now f.shape.class) }
+        ensures within { result < length self.now }
+    {
+        self.resolved.field_place(place, number)
+    }
+}

@@ -1,0 +1,44 @@
+// Why a list of classes is refused.
+ghost use Rattle.std.specs.Prelude.{◌≡◌};
+ghost use Rattle.jfr_layout.specs.declared.fault.ClassFault.TheVariants.{Memory};
+
+use jfr_base::Reason;
+use jfr_outside::NoMemory;
+use std::alloc::{AllocError, AllocFailed};
+
+/// Why classes could not be made of a list: a class or a field is refused, or memory was wanting.
+#[derive(Clone, Copy, Debug, PartialEq, Eq)]
+pub enum ClassFault {
+    /// The place of the class in the list, and the number of its field where the field is refused.
+    Flawed {
+        class: usize,
+        field: Option<usize>,
+        reason: Reason,
+    },
+    /// Memory was wanting.
+    Memory,
+}
+
+impl From<NoMemory> for ClassFault {
+    ghost from_gives = { λ _ fault. fault ≡ Memory };
+
+    fn from(_: NoMemory) -> Self {
+        ClassFault::Memory
+    }
+}
+
+impl From<AllocError> for ClassFault {
+    ghost from_gives = { λ _ fault. fault ≡ Memory };
+
+    fn from(_: AllocError) -> Self {
+        ClassFault::Memory
+    }
+}
+
+impl<T: Drop> From<AllocFailed<T>> for ClassFault {
+    ghost from_gives = { λ _ fault. fault ≡ Memory };
+
+    fn from(_: AllocFailed<T>) -> Self {
+        ClassFault::Memory
+    }
+}

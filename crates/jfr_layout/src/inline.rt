@@ -1,0 +1,123 @@
+// Values within one another: which inline fields hold nothing, and which chains of inline steps are too long.
+ghost use Rattle.std.specs.Prelude.{◌≡◌, ℕ, suc, ◌<◌, length, map, IfOk, IfSome, IsSome, slice_get};
+ghost use Rattle.jfr_base.specs.declared.reason.Reason.TheVariants.{EmptyInline};
+ghost use Rattle.jfr_layout.specs.Classes.{Judges, flaws_in, empty_inline, is_empty_inline, deep, field_at, goes_inline, step_goes};
+
+use crate::resolved::Resolved;
+use crate::{ClassFault, Kind};
+use jfr_base::Reason;
+use jfr_outside::NoMemory;
+use std::alloc::Global;
+
+/// A chain of so many inline steps is too long.
+const TOO_MANY_STEPS: usize = 33;
+
+// Whether the field holds a value of a composite class without fields.
+fn is_empty(classes: &Resolved, class: usize, number: usize) -> bool
+    requires { IsSome (field_at classes.now class number) }
+    ensures { IfSome (field_at classes.now class number) (λ f. result ≡ is_empty_inline classes.now f) }
+{
+    match classes.step(class, number) {
+        Some(target) => classes.class_at(target).fields.len() == 0,
+        None => false,
+    }
+}
+
+// No field of the class holds a value of a composite class without fields.
+fn check_filled_class(classes: &Resolved, class: usize) -> Result<(), ClassFault>
+    requires { class < length classes.now }
+    ensures { IfSome (slice_get classes.now class) (λ c. Judges (flaws_in EmptyInline (is_empty_inline classes.now) class c.fields) result) }
+{
+    let fields = &classes.class_at(class).fields;
+    for number in 0..fields.len() {
+        if is_empty(classes, class, number) {
+            return Err(ClassFault::Flawed {
+                class,
+                field: Some(number),
+                reason: Reason::EmptyInline,
+            });
+        }
+    }
+    Ok(())
+}
+
+/// No field holds a value of a composite class without fields.
+pub fn check_filled(classes: &Resolved) -> Result<(), ClassFault>
+    ensures { Judges (empty_inline classes.now) result }
+{
+    for at in 0..classes.len() {
+        check_filled_class(classes, at)?;
+    }
+    Ok(())
+}
+
+// Whether the field's inline step goes to a class with a flag. The flags tell which classes begin a chain.
+fn goes_by(classes: &Resolved, class: usize, number: usize, goes: &[bool]) -> bool
+    requires field { IsSome (field_at classes.now class number) }
+    requires each { length goes.now ≡ length classes.now }
+    ensures { (n : ℕ) → goes.now ≡ map (goes_inline n classes.now) classes.now → IfSome (field_at classes.now class number) (λ f. result ≡ step_goes n classes.now f) }
+{
+    match classes.step(class, number) {
+        Some(target) => goes[target],
+        None => false,
+    }
+}
+
+// Whether the class begins a chain of one step more than those of the flags.
+fn goes_on(classes: &Resolved, class: usize, goes: &[bool]) -> bool
+    requires within { class < length classes.now }
+    requires each { length goes.now ≡ length classes.now }
+    ensures { (n : ℕ) → goes.now ≡ map (goes_inline n classes.now) classes.now → IfSome (slice_get classes.now class) (λ c. result ≡ goes_inline (suc n) classes.now c) }
+{
+    match classes.kind_at(class) {
+        Kind::Composite => {}
+        _ => return false,
+    }
+    let fields = &classes.class_at(class).fields;
+    for number in 0..fields.len() {
+        if goes_by(classes, class, number, goes) {
+            return true;
+        }
+    }
+    false
+}
+
+// The flags of chains of one step more.
+fn round(alloc: Global, classes: &Resolved, goes: &[bool]) -> Result<Vec<bool>, NoMemory>
+    requires { length goes.now ≡ length classes.now }
+    ensures exact { IfOk result (λ next. (n : ℕ) → goes.now ≡ map (goes_inline n classes.now) classes.now → next.items ≡ map (goes_inline (suc n) classes.now) classes.now) }
+{
+    let mut next = Vec::new(alloc);
+    for at in 0..classes.len() {
+        next.push(goes_on(classes, at, goes))?;
+    }
+    Ok(next)
+}
+
+// Which classes begin a chain that is too long. Each round walks over all fields once, so that no chain is followed.
+fn too_deep(alloc: Global, classes: &Resolved) -> Result<Vec<bool>, NoMemory>
+    ensures exact { IfOk result (λ goes. goes.items ≡ map (goes_inline 33 classes.now) classes.now) }
+{
+    let mut goes = vec![in alloc; true; classes.len()]?;
+    for step in 0..TOO_MANY_STEPS {
+        goes = round(alloc, classes, &goes)?;
+    }
+    Ok(goes)
+}
+
+/// No class begins a chain of more than 32 inline steps.
+pub fn check_depth(alloc: Global, classes: &Resolved) -> Result<(), ClassFault>
+    ensures { Judges (deep classes.now) result }
+{
+    let goes = too_deep(alloc, classes)?;
+    for at in 0..goes.len() {
+        if goes[at] {
+            return Err(ClassFault::Flawed {
+                class: at,
+                field: None,
+                reason: Reason::InlineDeep,
+            });
+        }
+    }
+    Ok(())
+}

@@ -1,0 +1,29 @@
+//! Classes and their layout: kinds, shapes, fields, and what makes a list of classes sound.
+//!
+//! `Classes::make` takes the classes that a chunk's metadata lists, and answers the sound classes or the
+//! first flaw. A `Classes` value is always sound. Look-ups go by id or, for walks over many values, by
+//! the place of a class.
+//!
+//! Read `specs/Classes.antt` first, and then `specs/Laws.antt`.
+#![tactic(auto)]
+
+mod class;
+mod classes;
+mod fault;
+mod inline;
+mod kind;
+mod laws;
+mod name;
+mod resolved;
+mod shape;
+
+pub use class::{ClassInfo, ClassList, FieldInfo, Fields};
+pub use classes::Classes;
+pub use fault::ClassFault;
+pub use kind::Kind;
+pub use laws::{classes_are_known, fields_agree, ids_stand_once, values_end};
+pub use name::is_text;
+pub use shape::Shape;
+
+#[cfg(test)]
+mod tests;
