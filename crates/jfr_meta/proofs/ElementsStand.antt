@@ -1,0 +1,109 @@
+-- What the format of an element reads stands there, by cases on the tree.
+use Rattle.std.specs.Prelude.{◌≡◌, ℕ, zero, suc, ◌-◌, ◌<◌, ◌≤◌, List, [], ◌∷◌, length, Option, Some, None, Bool, true, false, nat_lt, if◌then◌else◌}
+use Rattle.std.proofs.Common.{ap, arith, refl, sym, ◌∙◌, subst}
+use Rattle.std.proofs.lemmas.Bool.{ltb-true}
+use Rattle.jfr_base.specs.declared.reason.Reason.{Reason}
+use Rattle.jfr_base.specs.declared.reason.Reason.TheVariants.{StringIndex}
+use Rattle.jfr_base.specs.Integer.{IntAt}
+use Rattle.jfr_base.specs.Formats.{Format, Done, Stop, ◌>>=◌, Reads, integer, times}
+use Rattle.jfr_base.proofs.ReadLaws.{Parted, reads_parted}
+use Rattle.jfr_frame.specs.declared.framed.Framed.{Framed}
+use Rattle.jfr_frame.specs.Records.{record_end}
+use Rattle.jfr_layout.specs.Classes.{Classes}
+use Rattle.jfr_meta.specs.Trees.{Tree, Node, Trees, Nil, Cons, tree, trees_of}
+use Rattle.jfr_meta.specs.Body.{Body, table_string, index, index_check, pair, element_format, body_format, meta_format, ArePairs, IsElement, AreElements, how_many}
+use Rattle.jfr_meta.specs.Described.{IsMetadata}
+use Rattle.jfr_meta.specs.Heads.{head_format}
+use Rattle.jfr_meta.specs.Laws.{RootStands}
+use Rattle.jfr_meta.proofs.Bodies.{behind_head, behind_strings, body_of}
+use Rattle.jfr_meta.proofs.Parts.{behind_name, behind_count, behind_pairs, behind_number}
+
+module _ (x : List ℕ) (end : ℕ) where
+  integer_is : (at v p : ℕ) → Reads integer x end at v p → IntAt x at p v
+  integer_is at v p r = let P : ℕ → Type 0 = λ q. IntAt x at q v in subst P (sym r.5.1) (subst (λ w. IntAt x at r.0 w) (sym r.5.0) r.2)
+
+  below : (limit v : ℕ) → index_check limit v ≡ None → v < limit
+  below limit v e = by_test (nat_lt v limit) refl e
+    where
+      by_test : (t : Bool) → nat_lt v limit ≡ t → (if t then None else Some StringIndex) ≡ None → v < limit
+      by_test true f g = ltb-true v limit f
+      by_test false f g = cc
+
+  index_is : (limit at v p : ℕ) → Reads (index limit) x end at v p → IntAt x at p v × (v < limit)
+  index_is limit at v p r =
+      let P : ℕ → Type 0 = λ q. IntAt x at q v in
+      let n : index_check limit v ≡ None = ap (index_check limit) r.5.0 ∙ r.4 in
+      (subst P (sym r.5.1) (subst (λ w. IntAt x at r.0 w) (sym r.5.0) r.2), below limit v n)
+
+  -- so many attributes
+  pairs_are : (n limit at : ℕ) (ps : List (ℕ × ℕ)) (p : ℕ) → Reads (times n (pair limit)) x end at ps p → ArePairs x limit at p ps × (length ps ≡ n)
+  pairs_are zero limit at ps p r = subst (λ (z : List (ℕ × ℕ)). ArePairs x limit at p z × (length z ≡ 0)) (sym r.0) (r.1, refl)
+  pairs_are (suc n) limit at ps p r =
+      let a = reads_parted (pair limit) (λ a. times n (pair limit) >>= λ rest. Done (a ∷ rest)) x end at ps p r in
+      let k = reads_parted (index limit) (λ key. index limit >>= λ value. Done (key, value)) x end at a.value a.place a.first in
+      let v = reads_parted (index limit) (λ value. Done (k.value, value)) x end k.place a.value a.place k.second in
+      let b = reads_parted (times n (pair limit)) (λ rest. Done (a.value ∷ rest)) x end a.place ps p a.second in
+      let ik = index_is limit at k.value k.place k.first in
+      let iv = index_is limit k.place v.value v.place v.first in
+      let rest = pairs_are n limit a.place b.value b.place b.first in
+      let e : ps ≡ (k.value, v.value) ∷ b.value = b.second.0 ∙ ap (λ z. z ∷ b.value) v.second.0 in
+      let R : ArePairs x limit v.place p b.value = subst (λ z. ArePairs x limit z p b.value) v.second.1 (subst (λ z. ArePairs x limit a.place z b.value) (sym b.second.1) rest.0) in
+      subst (λ (z : List (ℕ × ℕ)). ArePairs x limit at p z × (length z ≡ suc n)) (sym e) ((k.place, v.place, ik.0, ik.1, iv.0, iv.1, R), ap (λ m. suc m) rest.1)
+
+  -- so many elements
+  trees_are : (n levels limit : ℕ) → ((at : ℕ) (t : Tree) (p : ℕ) → Reads (element_format levels limit) x end at t p → IsElement x limit levels at p t) → (at : ℕ) (ts : List Tree) (p : ℕ)
+      → Reads (times n (element_format levels limit)) x end at ts p → AreElements x limit levels at p (trees_of ts) × (how_many (trees_of ts) ≡ n)
+  trees_are zero levels limit one at ts p r = subst (λ (z : List Tree). AreElements x limit levels at p (trees_of z) × (how_many (trees_of z) ≡ 0)) (sym r.0) (r.1, refl)
+  trees_are (suc n) levels limit one at ts p r =
+      let f : Format Tree = element_format levels limit in
+      let a = reads_parted f (λ a. times n f >>= λ rest. Done (a ∷ rest)) x end at ts p r in
+      let b = reads_parted (times n f) (λ rest. Done (a.value ∷ rest)) x end a.place ts p a.second in
+      let rest = trees_are n levels limit one a.place b.value b.place b.first in
+      let R : AreElements x limit levels a.place p (trees_of b.value) = subst (λ z. AreElements x limit levels a.place z (trees_of b.value)) (sym b.second.1) rest.0 in
+      subst (λ (z : List Tree). AreElements x limit levels at p (trees_of z) × (how_many (trees_of z) ≡ suc n)) (sym b.second.0) ((a.place, one at a.value a.place a.first, R), ap (λ m. suc m) rest.1)
+
+  element_is : (levels limit at : ℕ) (t : Tree) (p : ℕ) → Reads (element_format levels limit) x end at t p → IsElement x limit levels at p t
+  unfolding element_format
+  element_is zero limit at t p r = absurd r
+  element_is (suc levels) limit at t p r =
+      let a = reads_parted (index limit) (behind_name levels limit at) x end at t p r in
+      let b = reads_parted integer (behind_count levels limit at a.value) x end a.place t p a.second in
+      let c = reads_parted (times b.value (pair limit)) (behind_pairs levels limit at a.value) x end b.place t p b.second in
+      let d = reads_parted integer (behind_number levels limit at a.value c.value) x end c.place t p c.second in
+      let e = reads_parted (times d.value (element_format levels limit)) (λ children. Done (tree at a.value c.value children)) x end d.place t p d.second in
+      let ia = index_is limit at a.value a.place a.first in
+      let ps = pairs_are b.value limit b.place c.value c.place c.first in
+      let ts = trees_are d.value levels limit (element_is levels limit) d.place e.value e.place e.first in
+      let ib : IntAt x a.place b.place (length c.value) = subst (λ z. IntAt x a.place b.place z) (sym ps.1) (integer_is a.place b.value b.place b.first) in
+      let id : IntAt x c.place d.place (how_many (trees_of e.value)) = subst (λ z. IntAt x c.place d.place z) (sym ts.1) (integer_is c.place d.value d.place d.first) in
+      let l : levels ≡ suc levels - 1 = omega arith in
+      let es : AreElements x limit (suc levels - 1) d.place p (trees_of e.value) =
+      subst (λ z. AreElements x limit z d.place p (trees_of e.value)) l (subst (λ z. AreElements x limit levels d.place z (trees_of e.value)) (sym e.second.1) ts.0) in
+      let positive : 0 < suc levels = omega arith in
+      subst (λ z. IsElement x limit (suc levels) at p z) (sym e.second.0) (refl, positive, a.place, b.place, c.place, d.place, ia.0, ia.1, ib, ps.0, id, es)
+
+  times_length : {A : Type 0} (n : ℕ) (f : Format A) (at : ℕ) (vs : List A) (p : ℕ) → Reads (times n f) x end at vs p → length vs ≡ n
+  times_length zero f at vs p r = ap length r.0
+  times_length (suc n) f at vs p r =
+      let a = reads_parted f (λ a. times n f >>= λ rest. Done (a ∷ rest)) x end at vs p r in
+      let b = reads_parted (times n f) (λ rest. Done (a.value ∷ rest)) x end a.place vs p a.second in
+      ap length b.second.0 ∙ ap (λ m. suc m) (times_length n f a.place b.value b.place b.first)
+
+  -- the root of a body
+  root_is : (at : ℕ) (b : Body) (to : ℕ) → Reads meta_format x end at b to → (p : ℕ) × IsElement x (length b.strings) 16 p to b.root
+  unfolding meta_format body_format
+  root_is at b to r =
+      let s = reads_parted body_format (λ b. Stop (Done b)) x end at b to r in
+      let h = reads_parted head_format behind_head x end at s.value s.place s.first in
+      let c = reads_parted (times h.value.3 table_string) (behind_strings h.value) x end h.place s.value s.place h.second in
+      let e = reads_parted (element_format 16 h.value.3) (λ root. Done (body_of h.value c.value root)) x end c.place s.value s.place c.second in
+      let same : b ≡ body_of h.value c.value e.value = s.second.1.0 ∙ e.second.0 in
+      let end_at : to ≡ e.place = s.second.1.1 ∙ e.second.1 in
+      let count : length b.strings ≡ h.value.3 = ap (λ z. length z.strings) same ∙ times_length h.value.3 table_string h.place c.value c.place c.first in
+      let stands : IsElement x h.value.3 16 c.place e.place e.value = element_is 16 h.value.3 c.place e.value e.place e.first in
+      let whole : IsElement x h.value.3 16 c.place to e.value = subst (λ z. IsElement x h.value.3 16 c.place z e.value) (sym end_at) stands in
+      let rooted : IsElement x h.value.3 16 c.place to b.root = subst (λ z. IsElement x h.value.3 16 c.place to z) (sym (ap (λ z. z.root) same)) whole in
+      (c.place, subst (λ z. IsElement x z 16 c.place to b.root) (sym count) rooted)
+
+pub root_stands : (x : List ℕ) (r : Framed) (b : Body) (k : Classes) → IsMetadata x r b k → RootStands x r b
+root_stands x r b k m = root_is x (record_end r) r.body b (record_end r) m.body

@@ -1,0 +1,59 @@
+-- Texts as lists of characters.
+use Rattle.std.proofs.Common.{◌≡◌, ℕ, List, [], sym, ◌∙◌, ap, arith, refl, eqb-true}
+use Rattle.std.specs.Prelude.{Option, Some, None, unwrap_or, suc, Bool, true, false, ◌&&◌, ◌==◌, ◌∷◌, length}
+use Rattle.jfr_meta.specs.Attributes.{not_empty}
+use Rattle.std.specs.Borrow.{Bor}
+use Rattle.jfr_outside.specs.Texts.{text_in}
+use Rattle.std.specs.Str.{chars, bytes_eq, IsUtf8, IsAscii, encode_utf8_all}
+use Rattle.std.proofs.lemmas.Bool.Decides.{same_from_decides, Decides-like}
+use Rattle.std.proofs.lemmas.Str.{encodes-chars, encodes_same, chars-nil, chars-IsAscii}
+use Rattle.std.proofs.lemmas.Str.Ascii.{IsAscii-cons, IsAscii-nil}
+use Rattle.std.proofs.lemmas.Bool.Decides.{nat_tests}
+use Rattle.std.specs.Char.{is_ascii}
+use Rattle.std.specs.List.{list_all}
+use Rattle.std.proofs.lemmas.Slice.Eq.{bytes_eq-Decides}
+
+-- two texts are equal exactly where their characters are
+pub bytes_eq-chars : (a b : List ℕ) → IsUtf8 a → IsUtf8 b → bytes_eq a b ≡ bytes_eq (chars a) (chars b)
+bytes_eq-chars a b u v = same_from_decides (bytes_eq a b) (bytes_eq (chars a) (chars b)) (bytes_eq-Decides a b)
+    (Decides-like (bytes_eq (chars a) (chars b)) (λ e. sym (encodes-chars a u) ∙ (ap encode_utf8_all e ∙ encodes-chars b v)) (ap chars) (bytes_eq-Decides (chars a) (chars b)))
+
+pub text_or : (o : Option (Bor (List ℕ))) (d : Bor (List ℕ)) → chars d.now ≡ [] → chars (unwrap_or o d).now ≡ unwrap_or (text_in o) []
+text_or None d e = e
+text_or (Some t) d e = refl
+
+pub no_length : {X : Type 0} (t : List X) → (length t == 0) ≡ true → t ≡ []
+no_length [] e = refl
+no_length (x ∷ t) e = let n : suc (length t) ≡ 0 = eqb-true (length (x ∷ t)) 0 e in absurd (omega arith)
+
+-- an empty text has no characters, and no other has none
+pub not_empty-none : (t : List ℕ) → (length t == 0) ≡ true → not_empty (chars t) ≡ None
+not_empty-none t e = ap (λ z. not_empty (chars z)) (no_length t e) ∙ ap not_empty chars-nil
+
+pub not_empty-some : (t : List ℕ) → IsUtf8 t → (length t == 0) ≡ false → not_empty (chars t) ≡ Some (chars t)
+not_empty-some t u e = by_chars (chars t) (encodes-chars t u)
+  where
+    by_chars : (cs : List ℕ) → encode_utf8_all cs ≡ t → not_empty cs ≡ Some cs
+    by_chars [] f = absurd (no_other (ap (λ z. length z == 0) f ∙ e))
+      where
+        no_other : true ≡ false → ⊥
+        no_other g = cc
+    by_chars (c ∷ cs) f = refl
+
+-- a word's bytes are its characters
+pub word_ascii : (ws : List ℕ) → list_all is_ascii ws ≡ true → IsAscii ws
+word_ascii [] e = IsAscii-nil
+word_ascii (c ∷ cs) e = by_test (is_ascii c) refl e (word_ascii cs)
+  where
+    by_test : (t : Bool) → is_ascii c ≡ t → (t && list_all is_ascii cs) ≡ true → (list_all is_ascii cs ≡ true → IsAscii cs) → IsAscii (c ∷ cs)
+    by_test true f g h = IsAscii-cons c cs (grind (arith, nat_tests)) (h g)
+    by_test false f g h = cc
+
+pub word_eq : (t ws : List ℕ) → IsUtf8 t → IsUtf8 ws → list_all is_ascii ws ≡ true → bytes_eq t ws ≡ bytes_eq (chars t) ws
+word_eq t ws u v e = bytes_eq-chars t ws u v ∙ ap (bytes_eq (chars t)) (chars-IsAscii ws (word_ascii ws e))
+
+-- the spellings of two lists of characters are equal exactly where the lists are
+pub bytes_eq-encodes : (a b : List ℕ) → bytes_eq (encode_utf8_all a) (encode_utf8_all b) ≡ bytes_eq a b
+bytes_eq-encodes a b = same_from_decides (bytes_eq (encode_utf8_all a) (encode_utf8_all b)) (bytes_eq a b)
+    (Decides-like (bytes_eq (encode_utf8_all a) (encode_utf8_all b)) (encodes_same a b) (ap encode_utf8_all) (bytes_eq-Decides (encode_utf8_all a) (encode_utf8_all b)))
+    (bytes_eq-Decides a b)

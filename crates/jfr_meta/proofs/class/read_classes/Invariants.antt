@@ -1,0 +1,8 @@
+use Rattle.std.proofs.Common.{map}
+use Rattle.jfr_meta.specs.Described.{class_of, class_flaws, heads}
+use Rattle.jfr_meta.proofs.Judging.{Judging}
+use Rattle.jfr_meta.proofs.class.read_classes.Given as goal
+
+abbrev pub invariant-loop-element : goal.invariant-loop-element
+invariant-loop-element l =
+    Judging (class_flaws l.strings) (class_of l.strings (heads l.strings (map (λ e. e.now) l.elements))) (map (λ e. e.now) l.elements) l.element-index l.classes

@@ -1,0 +1,9 @@
+pub mod Trees
+pub mod Answers
+pub mod Body
+pub mod Heads
+pub mod Attributes
+pub mod Values
+pub mod Described
+pub mod Written
+pub mod Laws

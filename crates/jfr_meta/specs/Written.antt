@@ -1,0 +1,92 @@
+-- A metadata record as it is written.
+use Rattle.std.specs.Prelude.{◌≡◌, ℕ, suc, ◌+◌, ◌<◌, max, min, List, [], ◌∷◌, ◌++◌, length, Ok}
+use Rattle.std.specs.List.{flat_map, AllByRecursion}
+use Rattle.std.specs.Str.{chars, encode_utf8_all, IsUtf8}
+use Rattle.jfr_base.specs.Integer.{spell, spell_in}
+use Rattle.jfr_base.specs.Formats.{Reads}
+use Rattle.jfr_frame.specs.declared.framed.Framed.{Framed}
+use Rattle.jfr_frame.specs.Records.{IsRecord}
+use Rattle.jfr_meta.specs.Trees.{Tree, Node, Trees, Nil, Cons}
+use Rattle.jfr_layout.specs.Classes.{Classes}
+use Rattle.jfr_meta.specs.Described.{described}
+use Rattle.jfr_meta.specs.Body.{meta_format, how_many}
+
+-- the characters of some text
+abbrev pub IsText : List ℕ → Type 0
+IsText cs = (bytes : List ℕ) × IsUtf8 bytes × (chars bytes ≡ cs)
+
+-- a text: kind 3, its length and its bytes, or kind 1 alone where it is empty
+abbrev pub text_bytes : List ℕ → List ℕ
+text_bytes [] = 1 ∷ []
+text_bytes (c ∷ cs) = 3 ∷ (spell (length (encode_utf8_all (c ∷ cs))) ++ encode_utf8_all (c ∷ cs))
+
+-- an attribute: the two indices
+abbrev pub pair_bytes : ℕ × ℕ → List ℕ
+pair_bytes p = spell p.0 ++ spell p.1
+
+-- an element: its name, its attributes behind their number, its children behind theirs
+abbrev mutual
+  pub tree_bytes : Tree → List ℕ
+  tree_bytes (Node place name pairs children) =
+      spell name ++ (spell (length pairs) ++ (flat_map pair_bytes pairs ++ (spell (how_many children) ++ trees_bytes children)))
+
+  pub trees_bytes : Trees → List ℕ
+  trees_bytes Nil = []
+  trees_bytes (Cons t ts) = tree_bytes t ++ trees_bytes ts
+
+-- the strings and the tree, without the number of strings
+abbrev pub table_bytes : List (List ℕ) → Tree → List ℕ
+table_bytes strings root = flat_map text_bytes strings ++ tree_bytes root
+
+-- a number of bytes, as far as it can be counted
+abbrev pub capped : ℕ → ℕ
+capped n = min n 18446744073709551615
+
+-- the body
+abbrev pub body_bytes : ℕ → ℕ → ℕ → List (List ℕ) → Tree → List ℕ
+body_bytes start duration id strings root = spell start ++ (spell duration ++ (spell id ++ (spell (length strings) ++ table_bytes strings root)))
+
+-- the record: its size in four bytes, its type, its body
+abbrev pub record_bytes : ℕ → ℕ → ℕ → List (List ℕ) → Tree → List ℕ
+record_bytes start duration id strings root = spell_in 4 (5 + length (body_bytes start duration id strings root)) ++ (0 ∷ body_bytes start duration id strings root)
+
+-- how many levels of elements a tree has
+abbrev mutual
+  pub depth : Tree → ℕ
+  depth (Node place name pairs children) = suc (depths children)
+
+  pub depths : Trees → ℕ
+  depths Nil = 0
+  depths (Cons t ts) = max (depth t) (depths ts)
+
+-- every index of the tree is below a limit
+abbrev mutual
+  pub HasIndices : ℕ → Tree → Type 0
+  HasIndices limit (Node place name pairs children) = (name < limit) × AllByRecursion (λ p. (p.0 < limit) × (p.1 < limit)) pairs × HaveIndices limit children
+
+  pub HaveIndices : ℕ → Trees → Type 0
+  HaveIndices limit Nil = Unit {0}
+  HaveIndices limit (Cons t ts) = HasIndices limit t × HaveIndices limit ts
+
+-- a tree without its places
+abbrev mutual
+  pub bare : Tree → Tree
+  bare (Node place name pairs children) = Node 0 name pairs (bares children)
+
+  pub bares : Trees → Trees
+  bares Nil = Nil
+  bares (Cons t ts) = Cons (bare t) (bares ts)
+
+-- The bytes are a metadata record that is read with the same values, strings and tree, places aside; and it describes
+-- the classes that these strings and this tree describe.
+pub record ReadsBack (x : List ℕ) (start duration id : ℕ) (strings : List (List ℕ)) (root : Tree) : Type 0 where
+  pub frame : Framed
+  pub first : frame.at ≡ 0
+  pub whole : frame.size ≡ length x
+  pub type_zero : frame.type_id ≡ 0
+  pub is_record : IsRecord x frame
+  pub tree : Tree
+  pub same : bare tree ≡ bare root
+  pub body : Reads meta_format x (length x) frame.body (record { start = start; duration = duration; id = id; strings = strings; root = tree }) (length x)
+  pub classes : (k : Classes) → described (record { start = start; duration = duration; id = id; strings = strings; root = root }) ≡ Ok k
+      → described (record { start = start; duration = duration; id = id; strings = strings; root = tree }) ≡ Ok k

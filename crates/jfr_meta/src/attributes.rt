@@ -1,0 +1,102 @@
+// The attributes of elements, as texts.
+ghost use Rattle.std.specs.Prelude.{◌≡◌};
+ghost use Rattle.std.specs.Char.{is_ascii_digit};
+ghost use Rattle.std.specs.List.{list_all};
+ghost use Rattle.std.specs.Str.{chars, bytes_eq};
+ghost use Rattle.jfr_outside.specs.Texts.{text_in};
+ghost use Rattle.jfr_meta.specs.Attributes.{IsWord, text_at, first_value, not_empty, attribute, id_of, flag_of};
+ghost use Rattle.jfr_meta.specs.Trees.{pairs_of};
+
+use crate::Element;
+use jfr_outside::Words;
+
+/// Whether the text is this word.
+pub(crate) fn is_word(text: &str, word: &str) -> bool
+    requires { IsWord word.now }
+    ensures { result ≡ bytes_eq (chars text.now) word.now }
+{
+    text == word
+}
+
+/// The text of an index into the table; the empty one where the table has no such string.
+pub(crate) fn text_at<'a>(strings: &'a Words, index: u64) -> &'a str
+    ensures { chars result.now ≡ text_at strings.now index }
+{
+    strings.get(index as usize).unwrap_or("")
+}
+
+/// The value of the element's first attribute with this key.
+pub(crate) fn first_value<'a>(strings: &'a Words, element: &Element, key: &str) -> Option<&'a str>
+    requires { IsWord key.now }
+    ensures { text_in result ≡ first_value strings.now key.now (pairs_of element.now) }
+{
+    let pairs = element.attributes().as_slice();
+    let pair = pairs
+        .iter()
+        .find(|pair| is_word(text_at(strings, pair.0), key))?;
+    Some(text_at(strings, pair.1))
+}
+
+/// The value of the element's attribute with this key; an empty value counts as absent.
+pub(crate) fn attribute<'a>(strings: &'a Words, element: &Element, key: &str) -> Option<&'a str>
+    requires { IsWord key.now }
+    ensures { text_in result ≡ attribute strings.now element.now key.now }
+{
+    not_empty(first_value(strings, element, key)?)
+}
+
+/// The text, where it isn't empty.
+pub(crate) fn not_empty(text: &str) -> Option<&str>
+    ensures { text_in result ≡ not_empty (chars text.now) }
+{
+    if text.is_empty() { None } else { Some(text) }
+}
+
+/// How many digits an id has at most.
+const ID_DIGITS: usize = 19;
+
+/// What ids are below.
+const ID_LIMIT: u64 = 1 << 63;
+
+/// Whether the text is of ASCII digits alone, as the empty one is.
+fn is_digits(text: &str) -> bool
+    ensures { result ≡ list_all is_ascii_digit text.now }
+{
+    text.as_bytes().iter().all(|byte| byte.is_ascii_digit())
+}
+
+/// The id that a text spells: one to nineteen digits with a value below 2^63.
+pub(crate) fn id_of(text: &str) -> Option<u64>
+    ensures { result ≡ id_of (chars text.now) }
+{
+    if text.len() > ID_DIGITS {
+        return None;
+    }
+    if !is_digits(text) {
+        return None;
+    }
+    match text.parse::<u64>() {
+        Ok(id) if id < ID_LIMIT => Some(id),
+        _ => None,
+    }
+}
+
+/// A mark: set or clear by its text, and clear where it is absent; `None` for every other text.
+pub(crate) fn flag_of(value: Option<&str>, set: &str, clear: &str) -> Option<bool>
+    requires set { IsWord set.now }
+    requires clear { IsWord clear.now }
+    ensures { result ≡ flag_of (text_in value.entry) set.now clear.now }
+{
+    match value {
+        None => Some(false),
+        Some(text) => {
+            if is_word(text, set) {
+                Some(true)
+            } else if is_word(text, clear) {
+                Some(false)
+            } else {
+                None
+            }
+        }
+    }
+}

@@ -1,0 +1,191 @@
+// The body of a metadata record, from left to right.
+ghost use Rattle.std.specs.Prelude.{◌≡◌, ◌<◌, ◌≤◌, length, Ok, IfOk, MatchResult};
+ghost use Rattle.jfr_base.specs.Formats.{run, times};
+ghost use Rattle.jfr_meta.specs.Answers.{var_answer, Tells, IsFault};
+ghost use Rattle.jfr_meta.specs.Body.{index, pair, element_format, meta_format};
+ghost use Rattle.jfr_meta.specs.Heads.{head_format, head_answer, seen_body};
+
+use crate::strings::read_strings;
+use crate::{Element, Elements, Pairs};
+use jfr_base::{Flaw, ReadFault, Reason, Var, read_within};
+use jfr_outside::Words;
+use std::alloc::Global;
+
+/// What a body holds: four integers, of which the last is the number of strings, the strings and the
+/// tree of elements.
+#[derive(Drop)]
+pub(crate) struct Body {
+    pub start: u64,
+    pub duration: u64,
+    pub id: u64,
+    pub strings: Words,
+    pub root: Element,
+}
+
+/// How many levels of elements a tree has at most.
+const LEVELS: u32 = 16;
+
+/// The integers before the strings, and the place after them.
+#[derive(Clone, Copy)]
+struct Head {
+    start: u64,
+    duration: u64,
+    id: u64,
+    count: u64,
+    end: usize,
+}
+
+/// The integers before the strings.
+fn read_head(bytes: &[u8], at: usize, end: usize) -> Result<Head, Flaw>
+    requires order { at ≤ end }
+    requires within { end ≤ length bytes.now }
+    ensures exact { head_answer result ≡ run head_format bytes.now end at }
+    ensures range { IfOk result (λ h. (at < h.end) × (h.end ≤ end)) }
+{
+    let start = read_within(bytes, at, end)?;
+    let duration = read_within(bytes, start.end, end)?;
+    let id = read_within(bytes, duration.end, end)?;
+    let count = read_within(bytes, id.end, end)?;
+    Ok(Head {
+        start: start.value,
+        duration: duration.value,
+        id: id.value,
+        count: count.value,
+        end: count.end,
+    })
+}
+
+/// The whole body, which ends where the record ends.
+pub(crate) fn read_body(
+    alloc: Global,
+    bytes: &[u8],
+    at: usize,
+    end: usize,
+) -> Result<Body, ReadFault>
+    requires order { at ≤ end }
+    requires within { end ≤ length bytes.now }
+    ensures exact { MatchResult result (λ b. run meta_format bytes.now end at ≡ Ok (record { value = seen_body b; place = end })) (IsFault (run meta_format bytes.now end at)) }
+{
+    let head = read_head(bytes, at, end)?;
+    let (strings, place) = read_strings(alloc, bytes, head.end, end, head.count)?;
+    let (root, place) = read_element(alloc, bytes, place, end, head.count, LEVELS)?;
+    if place < end {
+        return Err(ReadFault::Flawed(Flaw {
+            offset: place as u64,
+            reason: Reason::Trailing,
+        }));
+    }
+    Ok(Body {
+        start: head.start,
+        duration: head.duration,
+        id: head.id,
+        strings,
+        root,
+    })
+}
+
+/// An index into the table of strings, which has `limit` strings.
+fn read_index(bytes: &[u8], at: usize, end: usize, limit: u64) -> Result<Var, Flaw>
+    requires order { at ≤ end }
+    requires within { end ≤ length bytes.now }
+    ensures exact { var_answer result ≡ run (index limit) bytes.now end at }
+    ensures range { IfOk result (λ v. (at < v.end) × (v.end ≤ end)) }
+{
+    let index = read_within(bytes, at, end)?;
+    if index.value < limit {
+        Ok(index)
+    } else {
+        Err(Flaw {
+            offset: at as u64,
+            reason: Reason::StringIndex,
+        })
+    }
+}
+
+/// So many attributes.
+fn read_pairs(
+    alloc: Global,
+    bytes: &[u8],
+    at: usize,
+    end: usize,
+    limit: u64,
+    count: u64,
+) -> Result<(Pairs, usize), ReadFault>
+    requires order { at ≤ end }
+    requires within { end ≤ length bytes.now }
+    ensures exact { Tells (run (times count (pair limit)) bytes.now end at) result }
+    ensures range { IfOk result (λ r. (at ≤ r.1) × (r.1 ≤ end)) }
+{
+    let mut pairs = Pairs::new(alloc);
+    let mut place = at;
+    for _ in 0..count {
+        let key = read_index(bytes, place, end, limit)?;
+        let value = read_index(bytes, key.end, end, limit)?;
+        pairs.push(key.value, value.value)?;
+        place = value.end;
+    }
+    Ok((pairs, place))
+}
+
+/// The element at a place, with so many levels left.
+#[cycle(elements)]
+fn read_element(
+    alloc: Global,
+    bytes: &[u8],
+    at: usize,
+    end: usize,
+    limit: u64,
+    levels: u32,
+) -> Result<(Element, usize), ReadFault>
+    requires order { at ≤ end }
+    requires within { end ≤ length bytes.now }
+    ensures exact { Tells (run (element_format levels limit) bytes.now end at) result }
+    ensures range { IfOk result (λ r. (at ≤ r.1) × (r.1 ≤ end)) }
+{
+    if levels == 0 {
+        return Err(ReadFault::Flawed(Flaw {
+            offset: at as u64,
+            reason: Reason::TreeDeep,
+        }));
+    }
+    let name = read_index(bytes, at, end, limit)?;
+    let attributes = read_within(bytes, name.end, end)?;
+    let (pairs, place) = read_pairs(alloc, bytes, attributes.end, end, limit, attributes.value)?;
+    let count = read_within(bytes, place, end)?;
+    let (children, place) = read_elements(
+        alloc,
+        bytes,
+        count.end,
+        end,
+        limit,
+        count.value,
+        levels - 1,
+    )?;
+    Ok((Element::new(at, name.value, pairs, children), place))
+}
+
+/// So many elements, each with so many levels left.
+#[cycle(elements)]
+fn read_elements(
+    alloc: Global,
+    bytes: &[u8],
+    at: usize,
+    end: usize,
+    limit: u64,
+    count: u64,
+    levels: u32,
+) -> Result<(Elements, usize), ReadFault>
+    requires order { at ≤ end }
+    requires within { end ≤ length bytes.now }
+    ensures exact { Tells (run (times count (element_format levels limit)) bytes.now end at) result }
+    ensures range { IfOk result (λ r. (at ≤ r.1) × (r.1 ≤ end)) }
+{
+    let mut elements = Elements::new(alloc);
+    let mut place = at;
+    for _ in 0..count {
+        let (element, next) = read_element(alloc, bytes, place, end, limit, levels)?;
+        elements.push(element)?;
+        place = next;
+    }
+    Ok((elements, place))
+}

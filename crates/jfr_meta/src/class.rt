@@ -1,0 +1,209 @@
+// The classes that class elements describe.
+ghost use Rattle.std.specs.Prelude.{◌≡◌, ◌∷◌, [], ℕ, List, Some, map, option_map, IfOk, OnOk, ◌||◌};
+ghost use Rattle.std.specs.BTreeSet.{contains};
+ghost use Rattle.std.specs.List.{filter_map, flat_map};
+ghost use Rattle.std.specs.Option.{option_copied, option_to_list};
+ghost use Rattle.std.specs.Ordering.{nat_cmp};
+ghost use Rattle.std.specs.Str.{chars};
+ghost use Rattle.jfr_outside.specs.Texts.{text_in};
+ghost use Rattle.jfr_base.specs.declared.flaw.ReadFault.TheVariants.{Flawed};
+ghost use Rattle.jfr_meta.specs.Answers.{Judges};
+ghost use Rattle.jfr_meta.specs.Attributes.{values_of};
+ghost use Rattle.jfr_meta.specs.Described.{AreCategoryIds, heads, is_category, is_category_id, category_annotation, categories_of, class_head, class_of, classes_of, class_flaws, field_of, field_elements, field_flaws};
+ghost use Rattle.jfr_meta.specs.Trees.{place_of};
+
+use crate::Element;
+use crate::attributes::{attribute, is_word};
+use crate::field::{id_attribute, named, shape_of};
+use crate::values::values_of;
+use jfr_base::{Flaw, ReadFault, Reason};
+use jfr_layout::{ClassInfo, ClassList, FieldInfo, Fields};
+use jfr_outside::{NoMemory, Text, Words};
+use std::alloc::{AllocError, Global};
+use std::collections::BTreeSet;
+
+/// The name of the class of annotations with categories.
+const CATEGORY: &str = "jdk.jfr.Category";
+
+/// The element is refused for this reason.
+pub(crate) fn refused(element: &Element, reason: Reason) -> ReadFault
+    ensures { result ≡ Flawed (record { offset = place_of element.now; reason = reason }) }
+{
+    ReadFault::Flawed(Flaw {
+        offset: element.at() as u64,
+        reason,
+    })
+}
+
+/// The id and the name of a class element, where it has both.
+fn class_head<'a>(strings: &'a Words, element: &Element) -> Option<(u64, &'a str)>
+    ensures { option_map (λ h. (h.0, chars h.1.now)) result ≡ class_head strings.now element.now }
+{
+    let name = attribute(strings, element, "name")?;
+    let id = id_attribute(strings, element, "id")?;
+    Some((id, name))
+}
+
+/// A copy of the text, where there is one.
+fn copied(alloc: Global, text: Option<&str>) -> Result<Option<Text>, NoMemory>
+    ensures { IfOk result (λ copy. copy ≡ text_in text.entry) }
+{
+    match text {
+        Some(text) => Ok(Some(Text::make(alloc, text)?)),
+        None => Ok(None),
+    }
+}
+
+/// The field of a field element.
+#[tactic(auto, unfolding(crate::specs::Described::field_of))]
+fn read_field(alloc: Global, strings: &Words, element: &Element) -> Result<FieldInfo, ReadFault>
+    ensures ok { IfOk result (λ field. field_of strings.now element.now ≡ Some field) }
+    ensures judged { Judges (field_flaws strings.now element.now) result }
+{
+    let Some(name) = attribute(strings, element, "name") else {
+        return Err(refused(element, Reason::FieldBad));
+    };
+    let Some(shape) = shape_of(strings, element) else {
+        return Err(refused(element, Reason::FieldBad));
+    };
+    Ok(FieldInfo {
+        name: Text::make(alloc, name)?,
+        shape,
+    })
+}
+
+/// The fields of a class element, in order.
+fn read_fields(alloc: Global, strings: &Words, element: &Element) -> Result<Fields, ReadFault>
+    ensures ok { IfOk result (λ fields. fields ≡ filter_map (field_of strings.now) (field_elements strings.now element.now)) }
+    ensures judged { Judges (flat_map (field_flaws strings.now) (field_elements strings.now element.now)) result }
+{
+    let elements = named(alloc, strings, element, "field")?;
+    let mut fields = Fields::new(alloc);
+    for at in 0..elements.len() {
+        let field = read_field(alloc, strings, elements[at])?;
+        fields.push(field)?;
+    }
+    Ok(fields)
+}
+
+/// Adds the id of a class element that is named as the class of categories.
+fn add_category(
+    strings: &Words,
+    element: &Element,
+    ids: &mut BTreeSet<u64>,
+) -> Result<(), AllocError>
+    ensures ok { OnOk result ((q : ℕ) → contains nat_cmp ids.new q ≡ (contains nat_cmp ids.old q || is_category_id (option_to_list (class_head strings.now element.now)) q)) }
+{
+    let Some((id, name)) = class_head(strings, element) else {
+        return Ok(());
+    };
+    if is_word(name, CATEGORY) {
+        ids.insert(id)?;
+    }
+    Ok(())
+}
+
+/// The ids of the class elements that are named as the class of categories.
+fn category_ids(
+    alloc: Global,
+    strings: &Words,
+    elements: &[&Element],
+) -> Result<BTreeSet<u64>, AllocError>
+    ensures ok { IfOk result (AreCategoryIds (heads strings.now (map (λ e. e.now) elements.now))) }
+{
+    let mut ids = BTreeSet::new(alloc);
+    for element in elements {
+        add_category(strings, element, &mut ids)?;
+    }
+    Ok(ids)
+}
+
+/// Whether the annotation's class has one of these ids.
+fn is_category(strings: &Words, ids: &BTreeSet<u64>, annotation: &Element) -> bool
+    ensures { (hs : List (ℕ × List ℕ)) → AreCategoryIds hs ids.now → result ≡ is_category strings.now hs annotation.now }
+{
+    match id_attribute(strings, annotation, "class") {
+        Some(id) => ids.contains(&id),
+        None => false,
+    }
+}
+
+/// The class of a class element, where its attributes and those of its fields are good. The ids are
+/// those of the classes of categories.
+#[tactic(auto, unfolding(crate::specs::Described::class_of, crate::specs::Described::class_flaws))]
+fn read_class(
+    alloc: Global,
+    strings: &Words,
+    ids: &BTreeSet<u64>,
+    element: &Element,
+) -> Result<ClassInfo, ReadFault>
+    ensures ok { IfOk result (λ class. (hs : List (ℕ × List ℕ)) → AreCategoryIds hs ids.now → class_of strings.now hs element.now ≡ Some class) }
+    ensures judged { Judges (class_flaws strings.now element.now) result }
+{
+    let Some((id, name)) = class_head(strings, element) else {
+        return Err(refused(element, Reason::ClassBad));
+    };
+    let fields = read_fields(alloc, strings, element)?;
+    let name = Text::make(alloc, name)?;
+    let super_name = copied(alloc, attribute(strings, element, "superType"))?;
+    let categories = categories_of(alloc, strings, ids, element)?;
+    Ok(ClassInfo {
+        id,
+        name,
+        super_name,
+        fields,
+        categories,
+    })
+}
+
+/// The first annotation of a class element with a category.
+fn category_annotation<'a>(
+    alloc: Global,
+    strings: &Words,
+    ids: &BTreeSet<u64>,
+    element: &'a Element,
+) -> Result<Option<&'a Element>, AllocError>
+    ensures ok { IfOk result (λ found. (hs : List (ℕ × List ℕ)) → AreCategoryIds hs ids.now → option_copied found ≡ category_annotation strings.now hs element.now) }
+{
+    let annotations = named(alloc, strings, element, "annotation")?;
+    for at in 0..annotations.len() {
+        let annotation = annotations[at];
+        if is_category(strings, ids, annotation) {
+            return Ok(Some(annotation));
+        }
+    }
+    Ok(None)
+}
+
+/// The categories of a class element.
+fn categories_of(
+    alloc: Global,
+    strings: &Words,
+    ids: &BTreeSet<u64>,
+    element: &Element,
+) -> Result<Words, NoMemory>
+    ensures ok { IfOk result (λ words. (hs : List (ℕ × List ℕ)) → AreCategoryIds hs ids.now → words ≡ categories_of strings.now hs element.now) }
+{
+    match category_annotation(alloc, strings, ids, element)? {
+        Some(annotation) => values_of(alloc, strings, annotation),
+        None => Ok(Words::new(alloc)),
+    }
+}
+
+/// The classes of the class elements, in order.
+pub(crate) fn read_classes(
+    alloc: Global,
+    strings: &Words,
+    elements: &[&Element],
+) -> Result<ClassList, ReadFault>
+    ensures ok { IfOk result (λ classes. classes ≡ classes_of strings.now (map (λ e. e.now) elements.now)) }
+    ensures judged { Judges (flat_map (class_flaws strings.now) (map (λ e. e.now) elements.now)) result }
+{
+    let ids = category_ids(alloc, strings, elements)?;
+    let mut classes = ClassList::new(alloc);
+    for element in elements {
+        let class = read_class(alloc, strings, &ids, element)?;
+        classes.push(class)?;
+    }
+    Ok(classes)
+}

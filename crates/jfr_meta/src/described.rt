@@ -1,0 +1,126 @@
+// The classes that a tree of elements describes.
+ghost use Rattle.std.specs.Prelude.{◌≡◌, Ok, map, find, option_map, IfOk, MatchResult};
+ghost use Rattle.std.specs.Option.{option_copied};
+ghost use Rattle.std.specs.Str.{bytes_eq};
+ghost use Rattle.jfr_meta.specs.Answers.{IsFault, TellsFirst, Judges};
+ghost use Rattle.jfr_meta.specs.Attributes.{IsWord, text_at};
+ghost use Rattle.jfr_meta.specs.Described.{element_place, flaw_place, list_flaws, tree_flaws, told, class_elements, classes_of};
+ghost use Rattle.jfr_meta.specs.Trees.{place_of, name_of, children_of};
+ghost use Rattle.jfr_layout.specs.Classes as classes;
+
+use crate::Element;
+use crate::class::{read_classes, refused};
+use crate::field::{has_name, named};
+use jfr_base::{Flaw, ReadFault, Reason};
+use jfr_layout::{ClassFault, Classes};
+use jfr_outside::Words;
+use std::alloc::{AllocError, Global};
+
+/// The first child of the element that has this name.
+fn child_named<'a>(strings: &Words, element: &'a Element, name: &str) -> Option<&'a Element>
+    requires { IsWord name.now }
+    ensures { option_copied result ≡ find (λ t. bytes_eq (text_at strings.now (name_of t)) name.now) (children_of element.now) }
+{
+    let children = element.children().as_slice();
+    children.iter().find(|child| has_name(strings, child, name))
+}
+
+/// The place of a class element, or of the field element of this number.
+fn element_place(
+    alloc: Global,
+    strings: &Words,
+    element: &Element,
+    field: Option<usize>,
+) -> Result<usize, AllocError>
+    ensures { IfOk result (λ place. place ≡ element_place strings.now element.now field) }
+{
+    let Some(number) = field else {
+        return Ok(element.at());
+    };
+    let fields = named(alloc, strings, element, "field")?;
+    if number < fields.len() {
+        Ok(fields[number].at())
+    } else {
+        Ok(0)
+    }
+}
+
+/// The place of a class, or of its field of this number.
+fn flaw_place(
+    alloc: Global,
+    strings: &Words,
+    elements: &[&Element],
+    class: usize,
+    field: Option<usize>,
+) -> Result<usize, AllocError>
+    ensures { IfOk result (λ place. place ≡ flaw_place strings.now (map (λ e. e.now) elements.now) class field) }
+{
+    if class < elements.len() {
+        element_place(alloc, strings, elements[class], field)
+    } else {
+        Ok(0)
+    }
+}
+
+/// The fault of the list of classes, at the element that it is about.
+fn placed(alloc: Global, strings: &Words, elements: &[&Element], fault: ClassFault) -> ReadFault
+    requires { classes.TellsFirst (classes.class_faults (classes_of strings.now (map (λ e. e.now) elements.now))) fault }
+    ensures { TellsFirst (list_flaws strings.now (map (λ e. e.now) elements.now)) result }
+{
+    match fault {
+        ClassFault::Memory => ReadFault::Memory,
+        ClassFault::Flawed {
+            class,
+            field,
+            reason,
+        } => {
+            match flaw_place(alloc, strings, elements, class, field) {
+                Ok(place) => ReadFault::Flawed(Flaw {
+                    offset: place as u64,
+                    reason,
+                }),
+                Err(_) => ReadFault::Memory,
+            }
+        }
+    }
+}
+
+/// The classes of the class elements, where nothing about them is faulty.
+fn sound_classes(
+    alloc: Global,
+    strings: &Words,
+    elements: &[&Element],
+) -> Result<Classes, ReadFault>
+    ensures ok { IfOk result (λ classes. classes ≡ classes_of strings.now (map (λ e. e.now) elements.now)) }
+    ensures judged { Judges (tree_flaws strings.now (map (λ e. e.now) elements.now)) result }
+{
+    let list = read_classes(alloc, strings, elements)?;
+    match Classes::make(alloc, list) {
+        Ok(classes) => Ok(classes),
+        Err(fault) => Err(placed(alloc, strings, elements, fault)),
+    }
+}
+
+/// The class elements, where the root has a child for them.
+fn class_elements<'a>(
+    alloc: Global,
+    strings: &Words,
+    root: &'a Element,
+) -> Result<Option<Vec<&'a Element>>, AllocError>
+    ensures { IfOk result (λ found. option_map (λ v. map (λ e. e.now) v.items) found ≡ class_elements strings.now root.now) }
+{
+    match child_named(strings, root, "metadata") {
+        Some(metadata) => Ok(Some(named(alloc, strings, metadata, "class")?)),
+        None => Ok(None),
+    }
+}
+
+/// The classes that the tree describes, over the table of strings.
+pub(crate) fn describe(alloc: Global, strings: &Words, root: &Element) -> Result<Classes, ReadFault>
+    ensures { MatchResult result (λ classes. told strings.now (place_of root.now) (class_elements strings.now root.now) ≡ Ok classes) (IsFault (told strings.now (place_of root.now) (class_elements strings.now root.now))) }
+{
+    match class_elements(alloc, strings, root)? {
+        Some(elements) => sound_classes(alloc, strings, &elements),
+        None => Err(refused(root, Reason::NoClasses)),
+    }
+}

@@ -1,0 +1,142 @@
+// The tree of elements.
+ghost use Rattle.std.specs.Prelude.{◌≡◌, [], ◌∷◌, ◌++◌, length, OnOk, OnErr, slice_get};
+ghost use Rattle.std.specs.Option.{option_copied};
+ghost use Rattle.jfr_meta.specs.Trees.{tree, place_of, name_of, pairs_of, children_of};
+
+use crate::Pairs;
+use jfr_outside::NoMemory;
+use std::alloc::Global;
+use std::marker::Model;
+
+/// An element: where it stands, the index of its name in the table of strings, its attributes and its
+/// children.
+#[cycle(tree)]
+#[derive(Drop)]
+pub struct Element {
+    at: usize,
+    name: u64,
+    attributes: Pairs,
+    children: Elements,
+}
+
+impl Model for Element {
+    ghost use Rattle.std.specs.Prelude.{◌*◌, ◌+◌};
+    ghost use Rattle.std.proofs.Common.{arith};
+    ghost use Rattle.jfr_meta.specs.Trees.{Tree, tree, count, tree_code, counts-trees_of};
+
+    ghost Value = { Tree };
+
+    ghost coded = { tree_code };
+
+    ghost view = { λ e. tree e.at e.name e.attributes e.children };
+
+    ghost size = { λ t. 2 * count t };
+
+    ghost size_decreases = { λ e _. Prim.omega (arith, counts-trees_of e.children) };
+}
+
+/// A list of elements.
+#[cycle(tree)]
+#[derive(Drop)]
+pub struct Elements {
+    items: Vec<Element>,
+}
+
+impl Model for Elements {
+    ghost use Rattle.std.specs.Prelude.{List, ◌*◌, ◌+◌};
+    ghost use Rattle.std.proofs.Common.{arith};
+    ghost use Rattle.jfr_meta.specs.Trees.{Tree, counts_of, forest_code, most_le};
+
+    ghost Value = { List Tree };
+
+    ghost coded = { forest_code };
+
+    ghost view = { λ elements. elements.items.items };
+
+    ghost size = { λ ts. 2 * counts_of ts + 1 };
+
+    ghost size_decreases = { λ elements _. Prim.omega (arith, most_le elements.items.items) };
+}
+
+impl Element {
+    /// The element of these four parts. It takes no memory.
+    pub fn new(at: usize, name: u64, attributes: Pairs, children: Elements) -> Element
+        ensures { result ≡ tree at name attributes children }
+    {
+        Element {
+            at,
+            name,
+            attributes,
+            children,
+        }
+    }
+
+    /// The place of its first byte in the chunk.
+    pub fn at(&self) -> usize
+        ensures { result ≡ place_of self.now }
+    {
+        self.at
+    }
+
+    /// The index of its name.
+    pub fn name(&self) -> u64
+        ensures { result ≡ name_of self.now }
+    {
+        self.name
+    }
+
+    /// Its attributes, in order.
+    pub fn attributes(&self) -> &Pairs
+        ensures { result.now ≡ pairs_of self.now }
+    {
+        &self.attributes
+    }
+
+    /// Its children, in order.
+    pub fn children(&self) -> &Elements
+        ensures { result.now ≡ children_of self.now }
+    {
+        &self.children
+    }
+}
+
+impl Elements {
+    /// The list without elements. It takes no memory.
+    pub fn new(alloc: Global) -> Elements
+        ensures { result ≡ [] }
+    {
+        Elements {
+            items: Vec::new(alloc),
+        }
+    }
+
+    /// Adds an element at the end.
+    pub fn push(&mut self, item: Element) -> Result<(), NoMemory>
+        ensures ok { OnOk result (self.new ≡ self.old ++ item ∷ []) }
+        ensures unchanged { OnErr result (self.new ≡ self.old) }
+    {
+        self.items.push(item)?;
+        Ok(())
+    }
+
+    /// How many elements there are.
+    pub fn len(&self) -> usize
+        ensures { result ≡ length self.now }
+    {
+        self.items.len()
+    }
+
+    /// The element at a place, from 0; `None` exactly past the end.
+    pub fn get(&self, at: usize) -> Option<&Element>
+        ensures { option_copied result ≡ slice_get self.now at }
+    {
+        self.items.get(at)
+    }
+
+    /// The elements as a slice.
+    pub(crate) fn as_slice(&self) -> &[Element]
+        ensures { result.now ≡ self.now }
+    {
+        self.items.as_slice()
+    }
+}

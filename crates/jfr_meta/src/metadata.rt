@@ -1,0 +1,52 @@
+// Reading a metadata record.
+ghost use Rattle.std.specs.Prelude.{IfOk, IfErr};
+ghost use Rattle.jfr_frame.specs.Records.{IsRecord};
+ghost use Rattle.jfr_meta.specs.Answers.{IfFlawed};
+ghost use Rattle.jfr_meta.specs.Described.{IsMetadata, IsMetadataFlaw};
+
+use crate::Element;
+use crate::body::read_body;
+use crate::described::describe;
+use jfr_base::ReadFault;
+use jfr_frame::Framed;
+use jfr_layout::Classes;
+use jfr_outside::Words;
+use std::alloc::Global;
+
+/// What a metadata record says.
+#[derive(Drop)]
+pub struct Metadata {
+    /// When it was written, and for how long, in ticks.
+    pub start: u64,
+    pub duration: u64,
+    /// Its number among the metadata records of the recording.
+    pub id: u64,
+    /// The table of strings, as texts.
+    pub strings: Words,
+    /// The tree of elements. Names and attributes are indices into the table.
+    pub root: Element,
+    /// The classes that the tree describes.
+    pub classes: Classes,
+}
+
+/// Reads the metadata record of a chunk, and the classes that it describes.
+///
+/// First the body is read from left to right, to its end; then the tree has an element for the
+/// classes; then the attributes of classes and fields are good; at last the classes are sound. The
+/// flaw is the first one in this order, and in each of these steps the first from the left.
+pub fn read_metadata(alloc: Global, chunk: &[u8], frame: &Framed) -> Result<Metadata, ReadFault>
+    requires { IsRecord chunk.now frame.now }
+    ensures ok { IfOk result (λ m. IsMetadata chunk.now frame.now (record { start = m.start; duration = m.duration; id = m.id; strings = m.strings; root = m.root }) m.classes) }
+    ensures refused { IfErr result (IfFlawed (IsMetadataFlaw chunk.now frame.now)) }
+{
+    let body = read_body(alloc, chunk, frame.body, frame.at + frame.size)?;
+    let classes = describe(alloc, &body.strings, &body.root)?;
+    Ok(Metadata {
+        start: body.start,
+        duration: body.duration,
+        id: body.id,
+        strings: body.strings,
+        root: body.root,
+        classes,
+    })
+}

@@ -1,0 +1,61 @@
+// The attributes of an element.
+ghost use Rattle.std.specs.Prelude.{◌≡◌, [], ◌∷◌, ◌++◌, length, OnOk, OnErr, slice_get};
+
+use jfr_outside::NoMemory;
+use std::alloc::Global;
+use std::marker::Model;
+
+/// A list of attributes, each the index of its key and the index of its value in the table of strings.
+#[derive(Drop)]
+pub struct Pairs {
+    items: Vec<(u64, u64)>,
+}
+
+impl Model for Pairs {
+    ghost use Rattle.std.specs.Prelude.{List, ℕ};
+
+    ghost Value = { List (ℕ × ℕ) };
+
+    ghost view = { λ pairs. pairs.items.items };
+}
+
+impl Pairs {
+    /// The list without attributes. It takes no memory.
+    pub fn new(alloc: Global) -> Pairs
+        ensures { result ≡ [] }
+    {
+        Pairs {
+            items: Vec::new(alloc),
+        }
+    }
+
+    /// Adds an attribute at the end.
+    pub fn push(&mut self, key: u64, value: u64) -> Result<(), NoMemory>
+        ensures ok { OnOk result (self.new ≡ self.old ++ (key, value) ∷ []) }
+        ensures unchanged { OnErr result (self.new ≡ self.old) }
+    {
+        self.items.push((key, value))?;
+        Ok(())
+    }
+
+    /// How many attributes there are.
+    pub fn len(&self) -> usize
+        ensures { result ≡ length self.now }
+    {
+        self.items.len()
+    }
+
+    /// The attribute at a place, from 0; `None` exactly past the end.
+    pub fn get(&self, at: usize) -> Option<(u64, u64)>
+        ensures { result ≡ slice_get self.now at }
+    {
+        self.items.get(at).copied()
+    }
+
+    /// The attributes as a slice.
+    pub(crate) fn as_slice(&self) -> &[(u64, u64)]
+        ensures { result.now ≡ self.now }
+    {
+        self.items.as_slice()
+    }
+}

@@ -1,0 +1,206 @@
+// Writing a metadata record.
+ghost use Rattle.std.specs.Prelude.{◌≡◌, ◌+◌, ◌-◌, ◌^◌, ◌<◌, ◌≤◌, ◌++◌, length, min, IfOk, OnOk};
+ghost use Rattle.std.specs.List.{flat_map, AllByRecursion};
+ghost use Rattle.std.specs.Str.{chars};
+ghost use Rattle.jfr_base.specs.Integer.{spell, spell_in, FitsIn};
+ghost use Rattle.jfr_meta.specs.Written.{IsText, text_bytes, pair_bytes, tree_bytes, table_bytes, body_bytes, record_bytes, capped, depth, HasIndices, ReadsBack};
+
+use crate::attributes::text_at;
+use crate::{Element, Elements, Pairs};
+use jfr_base::{var_len, write_in, write_var};
+use jfr_outside::{NoMemory, Words};
+use std::alloc::{AllocError, Global};
+
+/// The kind bytes of the empty string, and of one that is written as UTF-8.
+const EMPTY: u8 = 1;
+
+const UTF8: u8 = 3;
+
+/// The type of a metadata record, which is its own spelling.
+const METADATA: u8 = 0;
+
+/// How many bytes the size of a record takes.
+const SIZE_LEN: usize = 4;
+
+fn push_integer(out: &mut Vec<u8>, value: u64) -> Result<(), AllocError>
+    ensures ok { OnOk result (out.new.items ≡ out.old.items ++ spell value) }
+{
+    let mut spelled = [0; 9];
+    let len = write_var(value, &mut spelled);
+    out.extend_from_slice(&spelled[..len])?;
+    Ok(())
+}
+
+fn push_size(out: &mut Vec<u8>, size: u64) -> Result<(), AllocError>
+    requires { FitsIn size 4 }
+    ensures ok { OnOk result (out.new.items ≡ out.old.items ++ spell_in 4 size) }
+{
+    let mut spelled = [0; 9];
+    write_in(size, SIZE_LEN, &mut spelled);
+    out.extend_from_slice(&spelled[..SIZE_LEN])?;
+    Ok(())
+}
+
+fn push_text(out: &mut Vec<u8>, text: &str) -> Result<(), AllocError>
+    ensures ok { OnOk result (out.new.items ≡ out.old.items ++ text_bytes (chars text.now)) }
+{
+    if text.is_empty() {
+        out.push(EMPTY)?;
+        return Ok(());
+    }
+    out.push(UTF8)?;
+    push_integer(out, text.len() as u64)?;
+    out.extend_from_slice(text.as_bytes())?;
+    Ok(())
+}
+
+fn push_texts(out: &mut Vec<u8>, strings: &Words) -> Result<(), AllocError>
+    ensures texts { OnOk result (AllByRecursion IsText strings.now) }
+    ensures ok { OnOk result (out.new.items ≡ out.old.items ++ flat_map text_bytes strings.now) }
+{
+    for at in 0..strings.len() {
+        push_text(out, text_at(strings, at as u64))?;
+    }
+    Ok(())
+}
+
+fn push_pairs(out: &mut Vec<u8>, pairs: &Pairs) -> Result<(), AllocError>
+    ensures ok { OnOk result (out.new.items ≡ out.old.items ++ flat_map pair_bytes pairs.now) }
+{
+    for (key, value) in pairs.as_slice() {
+        push_integer(out, *key)?;
+        push_integer(out, *value)?;
+    }
+    Ok(())
+}
+
+#[cycle(writing)]
+fn push_element(out: &mut Vec<u8>, element: &Element) -> Result<(), AllocError>
+    ensures ok { OnOk result (out.new.items ≡ out.old.items ++ tree_bytes element.now) }
+{
+    push_integer(out, element.name())?;
+    push_integer(out, element.attributes().len() as u64)?;
+    push_pairs(out, element.attributes())?;
+    push_integer(out, element.children().len() as u64)?;
+    push_elements(out, element.children())
+}
+
+#[cycle(writing)]
+fn push_elements(out: &mut Vec<u8>, elements: &Elements) -> Result<(), AllocError>
+    ensures ok { OnOk result (out.new.items ≡ out.old.items ++ flat_map tree_bytes elements.now) }
+{
+    for element in elements.as_slice() {
+        push_element(out, element)?;
+    }
+    Ok(())
+}
+
+fn text_len(text: &str) -> u64
+    ensures { result ≡ capped (length (text_bytes (chars text.now))) }
+{
+    if text.is_empty() {
+        return 1;
+    }
+    let len = text.len() as u64;
+    len.saturating_add(var_len(len) as u64 + 1)
+}
+
+fn texts_len(strings: &Words) -> u64
+    ensures { result ≡ capped (length (flat_map text_bytes strings.now)) }
+{
+    let mut len: u64 = 0;
+    for at in 0..strings.len() {
+        len = len.saturating_add(text_len(text_at(strings, at as u64)));
+    }
+    len
+}
+
+fn pairs_len(pairs: &Pairs) -> u64
+    ensures { result ≡ capped (length (flat_map pair_bytes pairs.now)) }
+{
+    let mut len: u64 = 0;
+    for (key, value) in pairs.as_slice() {
+        len = len.saturating_add((var_len(*key) + var_len(*value)) as u64);
+    }
+    len
+}
+
+#[cycle(measuring)]
+fn element_len(element: &Element) -> u64
+    ensures { result ≡ capped (length (tree_bytes element.now)) }
+{
+    let attributes = element.attributes();
+    let children = element.children();
+    let integers = var_len(element.name())
+        + var_len(attributes.len() as u64)
+        + var_len(children.len() as u64);
+    pairs_len(attributes)
+        .saturating_add(integers as u64)
+        .saturating_add(elements_len(children))
+}
+
+#[cycle(measuring)]
+fn elements_len(elements: &Elements) -> u64
+    ensures { result ≡ capped (length (flat_map tree_bytes elements.now)) }
+{
+    let mut len: u64 = 0;
+    for element in elements.as_slice() {
+        len = len.saturating_add(element_len(element));
+    }
+    len
+}
+
+/// How many bytes the strings and the tree take as `write_metadata` writes them, without the number
+/// of strings; the largest number where there are more.
+pub fn metadata_len(strings: &Words, root: &Element) -> u64
+    requires { depth root.now ≤ 16 }
+    ensures { result ≡ capped (length (table_bytes strings.now root.now)) }
+{
+    texts_len(strings).saturating_add(element_len(root))
+}
+
+fn push_body(
+    out: &mut Vec<u8>,
+    start: u64,
+    duration: u64,
+    id: u64,
+    strings: &Words,
+    root: &Element,
+) -> Result<(), AllocError>
+    ensures texts { OnOk result (AllByRecursion IsText strings.now) }
+    ensures ok { OnOk result (out.new.items ≡ out.old.items ++ body_bytes start duration id strings.now root.now) }
+{
+    push_integer(out, start)?;
+    push_integer(out, duration)?;
+    push_integer(out, id)?;
+    push_integer(out, strings.len() as u64)?;
+    push_texts(out, strings)?;
+    push_element(out, root)
+}
+
+/// The metadata record of these strings and this tree: its size in four bytes, every other integer as
+/// short as it can be, each string as UTF-8 and the empty one by its kind alone. What is written is
+/// read again with the same strings and tree, places aside.
+pub fn write_metadata(
+    alloc: Global,
+    start: u64,
+    duration: u64,
+    id: u64,
+    strings: &Words,
+    root: &Element,
+) -> Result<Vec<u8>, NoMemory>
+    requires size { length (table_bytes strings.now root.now) < 2 ^ 27 }
+    requires depth { depth root.now ≤ 16 }
+    requires indices { HasIndices (length strings.now) root.now }
+    ensures exact { IfOk result (λ bytes. bytes.items ≡ record_bytes start duration id strings.now root.now) }
+    ensures read_back { IfOk result (λ bytes. ReadsBack bytes.items start duration id strings.now root.now) }
+{
+    let count = strings.len() as u64;
+    let head = var_len(start) + var_len(duration) + var_len(id) + var_len(count);
+    let size = metadata_len(strings, root) + head as u64 + 5;
+    let mut out = Vec::new(alloc);
+    push_size(&mut out, size)?;
+    out.push(METADATA)?;
+    push_body(&mut out, start, duration, id, strings, root)?;
+    Ok(out)
+}
