@@ -1,0 +1,20 @@
+pub mod AgreeLaws
+pub mod AnswerLaws
+pub mod ByteLaws
+pub mod ChildLaws
+pub mod DepthLaws
+pub mod EndLaws
+pub mod FitLaws
+pub mod FlawLaws
+pub mod InsideLaws
+pub mod LeafLaws
+pub mod NodeLaws
+pub mod PartLaws
+pub mod PlaceLaws
+pub mod RowLaws
+mod Rows
+pub mod StackLaws
+pub mod StringLaws
+pub mod TargetLaws
+pub mod TreeLaws
+pub mod WalkLaws

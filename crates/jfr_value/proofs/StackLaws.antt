@@ -1,0 +1,164 @@
+-- The stack of a walk.
+use Rattle.std.specs.Prelude.{◌≡◌, ℕ, zero, suc, ◌+◌, ◌-◌, ◌*◌, ◌<◌, ◌≤◌, Bool, true, false, List, [], ◌∷◌, ◌++◌, drop, length, map, replicate, slice_get, Option, Some, None, IsSome, IfSome, ◌↔◌, if◌then◌else◌}
+use Rattle.std.specs.Option.{option_map_or, option_and_then}
+use Rattle.std.specs.List.{AllByRecursion}
+use Rattle.std.proofs.Common.{ap, arith, refl, sym, ◌∙◌, subst}
+use Rattle.std.proofs.lemmas.List.{append_assoc, append-nil, length-append}
+use Rattle.jfr_layout.specs.Classes.{Class, Classes, Field, field_at, find_class, kind_of, is_composite, inline_fields, step_class, goes_inline}
+use Rattle.jfr_layout.specs.declared.kind.Kind.TheVariants as kinds
+use Rattle.jfr_layout.specs.declared.shape.Shape.{Shape}
+use Rattle.jfr_value.specs.declared.stack.Frame.{Frame}
+use Rattle.jfr_value.specs.declared.stack.Frame.TheVariants.{Fields, Items}
+use Rattle.jfr_value.specs.Walks.{Room, IsFrame, AreFrames, frame_shapes, shapes_left}
+use Rattle.jfr_value.proofs.PlaceLaws.{get_within}
+use Rattle.jfr_value.proofs.DepthLaws.{any_none, steps_to}
+
+-- what a pushed frame has comes first
+pub shapes_push : (k : Classes) (fs : List Frame) (f : Frame) → shapes_left k (fs ++ f ∷ []) ≡ frame_shapes k f ++ shapes_left k fs
+shapes_push k [] f = sym (append-nil (frame_shapes k f))
+shapes_push k (g ∷ fs) f = ap (λ z. z ++ frame_shapes k g) (shapes_push k fs f) ∙ append_assoc (frame_shapes k f) (shapes_left k fs) (frame_shapes k g)
+
+pub frames_push : (k : Classes) (h n : ℕ) (fs : List Frame) (f : Frame) → n ≡ suc (h + length fs) → AreFrames k h fs → IsFrame k n f → AreFrames k h (fs ++ f ∷ [])
+frames_push k h n [] f e a i = (subst (λ z. IsFrame k z f) (let q : n ≡ suc h = omega arith in q) i, tt)
+frames_push k h n (g ∷ fs) f e a i = (a.0, frames_push k (suc h) n fs f (omega arith) a.1 i)
+
+pub frames_pop : (k : Classes) (h n : ℕ) (fs : List Frame) (f : Frame) → n ≡ suc (h + length fs) → AreFrames k h (fs ++ f ∷ []) → AreFrames k h fs × IsFrame k n f
+frames_pop k h n [] f e a = (tt, subst (λ z. IsFrame k z f) (let q : suc h ≡ n = omega arith in q) a.0)
+frames_pop k h n (g ∷ fs) f e a = let r = frames_pop k (suc h) n fs f (omega arith) a.1 in ((a.0, r.0), r.1)
+
+-- the fields from a number on
+drop_at_get : {X : Type 0} (xs : List X) (i : ℕ) (x : X) → slice_get xs i ≡ Some x → drop i xs ≡ x ∷ drop (i + 1) xs
+drop_at_get [] i x e = cc
+drop_at_get (y ∷ ys) zero x e = let h : y ≡ x = cc in ap (λ z. z ∷ ys) h
+drop_at_get (y ∷ ys) (suc i) x e = let h : suc i + 1 ≡ suc (i + 1) = omega arith in rw h (drop_at_get ys i x e)
+
+drop_past : {X : Type 0} (xs : List X) (i : ℕ) → length xs ≤ i → drop i xs ≡ []
+drop_past [] zero h = refl
+drop_past [] (suc i) h = refl
+drop_past (x ∷ xs) zero h = absurd (omega arith)
+drop_past (x ∷ xs) (suc i) h = drop_past xs i (omega arith)
+
+-- the field by its number, and its class
+pub field_there : (k : Classes) (place number : ℕ) (f : Field) → field_at k place number ≡ Some f → (c : Class) × (slice_get k place ≡ Some c) × (slice_get c.fields number ≡ Some f)
+field_there k place number f e = by_class (slice_get k place) refl e
+  where
+    by_class : (o : Option Class) → slice_get k place ≡ o → option_and_then (λ c. slice_get c.fields number) o ≡ Some f → (c : Class) × (slice_get k place ≡ Some c) × (slice_get c.fields number ≡ Some f)
+    by_class None q e = cc
+    by_class (Some c) q e = (c, q, e)
+
+pub next_field : (k : Classes) (place number levels : ℕ) (f : Field) → field_at k place number ≡ Some f → frame_shapes k (Fields place number levels) ≡ f.shape ∷ frame_shapes k (Fields place (number + 1) levels)
+next_field k place number levels f e =
+    let t = field_there k place number f e in
+    let here : Option Class → ℕ → List Shape = λ o n. option_map_or (λ c. map (λ f. f.shape) (drop n c.fields)) o [] in
+    ap (λ o. here o number) t.1 ∙ (ap (map (λ f. f.shape)) (drop_at_get t.0.fields number f t.2) ∙ ap (λ o. f.shape ∷ here o (number + 1)) (sym t.1))
+
+pub no_fields : (k : Classes) (place number levels : ℕ) → IfSome (slice_get k place) (λ c. length c.fields ≤ number) → frame_shapes k (Fields place number levels) ≡ []
+no_fields k place number levels h = by_class (slice_get k place) h
+  where
+    by_class : (o : Option Class) → IfSome o (λ c. length c.fields ≤ number) → option_map_or (λ c. map (λ f. f.shape) (drop number c.fields)) o [] ≡ []
+    by_class None h = refl
+    by_class (Some c) h = ap (map (λ f. f.shape)) (drop_past c.fields number h)
+
+pub next_item : (k : Classes) (s : Shape) (place left n levels : ℕ) → left ≡ suc n → frame_shapes k (Items s place left levels) ≡ s ∷ frame_shapes k (Items s place n levels)
+next_item k s place left n levels e = ap (λ z. replicate z s) e
+
+pub no_items : (k : Classes) (s : Shape) (place left levels : ℕ) → left ≡ 0 → frame_shapes k (Items s place left levels) ≡ []
+no_items k s place left levels e = ap (λ z. replicate z s) e
+
+-- the room for a field
+all_get : {X : Type 0} (P : X → Type 0) (xs : List X) (i : ℕ) (x : X) → AllByRecursion P xs → slice_get xs i ≡ Some x → P x
+all_get P [] i x a e = cc
+all_get P (y ∷ xs) zero x a e = let h : y ≡ x = cc in subst P h a.0
+all_get P (y ∷ xs) (suc i) x a e = all_get P xs i x a.1 e
+
+pub field_room : (k : Classes) (height place number levels : ℕ) (f : Field) → IsFrame k height (Fields place number levels) → field_at k place number ≡ Some f → Room k levels f.shape
+field_room k height place number levels f i e = let t = field_there k place number f e in all_get (λ f. Room k levels f.shape) t.0.fields number f (i.2 t.0 t.1) t.2
+
+-- Into a composite class there is an inline step less.
+rooms : (k : Classes) (n : ℕ) (fs : List Field) → AllByRecursion (λ f. option_map_or (λ d. goes_inline n k d) (step_class k f) false ≡ false) fs → AllByRecursion (λ f. Room k n f.shape) fs
+rooms k n [] a = tt
+rooms k n (f ∷ fs) a = (λ o d q c. ap (λ z. option_map_or (λ d. goes_inline n k d) z false) (sym (steps_to k f d o q c)) ∙ a.0, rooms k n fs a.1)
+
+pub inner_room : (k : Classes) (levels : ℕ) (s : Shape) (d : Class) → Room k levels s → s.constant ≡ false → find_class k s.class ≡ Some d → kind_of d.name ≡ kinds.Composite → (1 ≤ levels) × AllByRecursion (λ f. Room k (levels - 1) f.shape) d.fields
+inner_room k zero s d r o q m = let z : true ≡ false = r o d q (ap is_composite m) in cc
+inner_room k (suc n) s d r o q m =
+    let g = r o d q (ap is_composite m) in
+    let i : inline_fields d ≡ d.fields = ap (λ t. if is_composite t then d.fields else []) m in
+    let e : suc n - 1 ≡ n = omega arith in (
+      omega arith,
+      subst (λ z. AllByRecursion (λ f. Room k z f.shape) d.fields) (sym e)
+          (rooms k n d.fields (subst (AllByRecursion (λ f. option_map_or (λ d. goes_inline n k d) (step_class k f) false ≡ false)) i (any_none (λ f. option_map_or (λ d. goes_inline n k d) (step_class k f) false) (inline_fields d) g))),
+    )
+
+-- the frame of the fields of a composite value
+pub fields_frame : (k : Classes) (height levels place : ℕ) (s : Shape) (d : Class) → Room k levels s → s.constant ≡ false → find_class k s.class ≡ Some d → slice_get k place ≡ Some d → place < length k → kind_of d.name ≡ kinds.Composite → height + 2 * levels ≤ 68
+    → IsFrame k (suc height) (Fields place 0 (levels - 1))
+fields_frame k height levels place s d r o q p l m b =
+    let i = inner_room k levels s d r o q m in
+    let z : 1 ≤ levels = i.0 in
+    (omega arith, l, λ c e. (let h : d ≡ c = cc in subst (λ (y : Class). AllByRecursion (λ f. Room k (levels - 1) f.shape) y.fields) h i.1))
+
+pub either_height : (b : Bool) (n : ℕ) → n ≤ 67 → n ≤ (if b then 67 else 68)
+either_height true n h = h
+either_height false n h = omega arith
+
+pub most_height : (b : Bool) (n : ℕ) → n ≤ (if b then 67 else 68) → n ≤ 68
+most_height true n h = omega arith
+most_height false n h = h
+
+pub array_height : (b : Bool) (n : ℕ) → b ≡ true → n ≤ (if b then 67 else 68) → n ≤ 67
+array_height true n e h = h
+array_height false n e h = cc
+
+pub fields_from_start : (k : Classes) (place levels : ℕ) (d : Class) → slice_get k place ≡ Some d → frame_shapes k (Fields place 0 levels) ≡ map (λ f. f.shape) d.fields
+fields_from_start k place levels d q = ap (λ o. option_map_or (λ c. map (λ f. f.shape) (drop 0 c.fields)) o []) q
+
+-- a frame that goes on with its next value
+pub pushed_field : (k : Classes) (fs new : List Frame) (place number levels : ℕ) (f : Field) (s : Shape) → field_at k place number ≡ Some f → s ≡ f.shape → new ≡ fs ++ Fields place (number + 1) levels ∷ []
+    → frame_shapes k (Fields place number levels) ++ shapes_left k fs ≡ s ∷ shapes_left k new
+pushed_field k fs new place number levels f s e q n =
+    ap (λ z. z ++ shapes_left k fs) (next_field k place number levels f e)
+    ∙ (ap (λ z. z ∷ (frame_shapes k (Fields place (number + 1) levels) ++ shapes_left k fs)) (sym q)
+    ∙ ap (λ z. s ∷ z) (sym (ap (shapes_left k) n ∙ shapes_push k fs (Fields place (number + 1) levels))))
+
+pub pushed_item : (k : Classes) (fs new : List Frame) (s : Shape) (place left levels : ℕ) → 0 < left → new ≡ fs ++ Items s place (left - 1) levels ∷ [] → frame_shapes k (Items s place left levels) ++ shapes_left k fs ≡ s ∷ shapes_left k new
+pushed_item k fs new s place left levels l n =
+    ap (λ z. z ++ shapes_left k fs) (next_item k s place left (left - 1) levels (omega arith))
+    ∙ ap (λ z. s ∷ z) (sym (ap (shapes_left k) n ∙ shapes_push k fs (Items s place (left - 1) levels)))
+
+-- the field that a number below their count names
+pub field_given : (k : Classes) (place number count : ℕ) → place < length k → IfSome (slice_get k place) (λ c. count ≡ length c.fields) → number < count → (f : Field) × (field_at k place number ≡ Some f)
+field_given k place number count l h b =
+    let c = get_within k place l in
+    let n : count ≡ length c.0.fields = subst (λ o. IfSome o (λ c. count ≡ length c.fields)) c.1 h in
+    let f = get_within c.0.fields number (omega arith) in
+    (f.0, ap (λ o. option_and_then (λ c. slice_get c.fields number) o) c.1 ∙ f.1)
+
+pub of_field : (P : Field → Type 0) (k : Classes) (place number : ℕ) (f : Field) → field_at k place number ≡ Some f → IfSome (field_at k place number) P → P f
+of_field P k place number f e h = subst (λ o. IfSome o P) e h
+
+pub some_field : (k : Classes) (place number : ℕ) (f : Field) → field_at k place number ≡ Some f → IsSome (field_at k place number)
+some_field k place number f e = subst (λ o. IsSome o) (sym e) refl
+
+pub few_fields : (k : Classes) (place number count : ℕ) → place < length k → IfSome (slice_get k place) (λ c. count ≡ length c.fields) → count ≤ number → IfSome (slice_get k place) (λ c. length c.fields ≤ number)
+few_fields k place number count l h b =
+    let c = get_within k place l in
+    let n : count ≡ length c.0.fields = subst (λ o. IfSome o (λ c. count ≡ length c.fields)) c.1 h in
+    subst (λ o. IfSome o (λ c. length c.fields ≤ number)) (sym c.1) (omega arith)
+
+-- what a stack has before a frame is taken from it
+pub record Popped (k : Classes) (fs gs : List Frame) (f : Frame) : Type 0 where
+  pub frames : AreFrames k 0 gs
+  pub frame : IsFrame k (length gs + 1) f
+  pub shapes : shapes_left k fs ≡ frame_shapes k f ++ shapes_left k gs
+  pub height : length fs ≡ length gs + 1
+
+pub popped : (k : Classes) (fs gs : List Frame) (g f : Frame) → fs ≡ gs ++ g ∷ [] → g ≡ f → AreFrames k 0 fs → Popped k fs gs f
+popped k fs gs g f e q a =
+    let h : fs ≡ gs ++ f ∷ [] = e ∙ ap (λ (z : Frame). gs ++ z ∷ []) q in
+    let p = frames_pop k 0 (length gs + 1) gs f (omega arith) (subst (λ (z : List Frame). AreFrames k 0 z) h a) in
+    record { frames = p.0; frame = p.1; shapes = ap (shapes_left k) h ∙ shapes_push k gs f; height = ap length h ∙ length-append gs (f ∷ []) }
+
+pub nothing_left : (fs : List Frame) → IsSome {T = Frame} None ↔ (0 < length fs) → fs ≡ []
+nothing_left [] h = refl
+nothing_left (f ∷ fs) h = let z : IsSome {T = Frame} None = h.1 (omega arith) in cc

@@ -1,0 +1,17 @@
+use Rattle.std.proofs.Common.{sym, ◌∙◌}
+use Rattle.jfr_value.specs.Reading.{value_format}
+use Rattle.jfr_value.proofs.PartLaws.{end_seen}
+use Rattle.jfr_value.proofs.part.part_end.Goals as goal
+
+pub unreachable-requires : goal.unreachable-requires
+unfolding value_format
+unreachable-requires c =
+    let s = c.requires.stands in
+    let r = end_seen c.args.classes.now c.args.bytes.now c.args.shape c.args.at c.args.end s.0 c.requires.sound s.1 s.2 c.requires.within in
+    cc (sym c.in-Err.is ∙ (c.shape_end.ensures.exact ∙ r))
+
+pub returns : goal.returns
+unfolding value_format
+returns c = λ to e l.
+    (let r = end_seen c.args.classes.now c.args.bytes.now c.args.shape c.args.at c.args.end to c.requires.sound e l c.requires.within in
+    cc (sym c.in-Ok.is ∙ (c.shape_end.ensures.exact ∙ r)))

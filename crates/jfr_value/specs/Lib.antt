@@ -1,0 +1,7 @@
+pub mod Values
+pub mod Reading
+pub mod Nodes
+pub mod Leaves
+pub mod Stacks
+pub mod Walks
+pub mod Laws

@@ -1,0 +1,56 @@
+-- The format of a value, by cases on its shape and on the kind of its class.
+use Rattle.std.specs.Prelude.{ℕ, zero, suc, Bool, List, [], Option, Some, None, if◌then◌else◌}
+use Rattle.jfr_base.specs.Formats.{Format, Done, Int, Run, Refuse, ◌>>=◌, with_bytes, times, for_each, unchecked}
+use Rattle.jfr_base.specs.declared.reason.Reason.TheVariants.{InlineDeep, UnknownType}
+use Rattle.jfr_text.specs.Strings.{string_format}
+use Rattle.jfr_layout.specs.Classes.{Class, Classes, Field, find_class, kind_of, item_of}
+use Rattle.jfr_layout.specs.declared.kind.Kind.{Kind}
+use Rattle.jfr_layout.specs.declared.kind.Kind.TheVariants as kinds
+use Rattle.jfr_layout.specs.declared.shape.Shape.{Shape}
+use Rattle.jfr_value.specs.declared.leaf.LeafKind.TheVariants as leaf_kinds
+use Rattle.jfr_value.specs.Values.{Value, Single, Group, values_of, key_of}
+
+-- a value of a base name; what is handed on is the key of a string that is one
+abbrev pub base_format : Kind → Format (Option ℕ)
+base_format kinds.Boolean = Run 1 (λ bytes. Done None)
+base_format kinds.Byte = Run 1 (λ bytes. Done None)
+base_format kinds.Char = Int unchecked (λ v spelled. Done None)
+base_format kinds.Short = Int unchecked (λ v spelled. Done None)
+base_format kinds.Int = Int unchecked (λ v spelled. Done None)
+base_format kinds.Long = Int unchecked (λ v spelled. Done None)
+base_format kinds.Float = Run 4 (λ bytes. Done None)
+base_format kinds.Double = Run 8 (λ bytes. Done None)
+base_format kinds.Text = string_format Bool.true >>= λ s. Done (key_of s)
+base_format kinds.Composite = Done None
+
+-- a value that is no array: a reference, or inline by this format
+abbrev pub item_format : (Shape → Format Value) → Shape → Format Value
+item_format inline s = if s.constant then Int unchecked (λ key spelled. Done (Single s (leaf_kinds.Key key) spelled (Some key))) else inline s
+
+-- a count, and so many items
+abbrev pub array_format : Format Value → Shape → Format Value
+array_format item s = Int unchecked (λ n spelled. times n item >>= λ vs. Done (Group s spelled (values_of vs)))
+
+abbrev pub shape_format : (Shape → Format Value) → Shape → Format Value
+shape_format inline s = if s.array then array_format (item_format inline (item_of s)) s else item_format inline s
+
+abbrev pub fields_format : (Shape → Format Value) → List Field → Format (List Value)
+fields_format inline fields = for_each fields (λ f. shape_format inline f.shape)
+
+-- an inline value of a class of this kind, where its fields have that format
+abbrev pub kind_format : Kind → Shape → Format (List Value) → Format Value
+kind_format kinds.Composite s fields = fields >>= λ vs. Done (Group s [] (values_of vs))
+kind_format kind s fields = with_bytes [] (base_format kind) (λ key bytes. Done (Single s (leaf_kinds.Base kind) bytes key))
+
+abbrev pub inline_format : (Shape → Format Value) → Shape → Option Class → Format Value
+inline_format inline s None = Refuse UnknownType
+inline_format inline s (Some c) = kind_format (kind_of c.name) s (fields_format inline c.fields)
+
+-- an inline value of a class, at most so many classes within one another
+unfoldable pub class_format : ℕ → Classes → Shape → Format Value
+class_format zero k s = Refuse InlineDeep
+class_format (suc n) k s = inline_format (class_format n k) s (find_class k s.class)
+
+-- a value of a shape: 33 composite classes and one of a base name may stand within one another
+unfoldable pub value_format : Classes → Shape → Format Value
+value_format k s = shape_format (class_format 34 k) s

@@ -1,0 +1,81 @@
+-- A walk over a value from left to right: what it has left.
+use Rattle.std.specs.Prelude.{◌≡◌, ℕ, suc, ◌+◌, ◌*◌, ◌<◌, ◌≤◌, ⊤, false, true, List, [], ◌∷◌, ◌++◌, drop, length, map, replicate, slice_get, Some, IsSome, Ok, Err, if◌then◌else◌}
+use Rattle.std.specs.Option.{option_map_or}
+use Rattle.std.specs.List.{AllByRecursion}
+use Rattle.jfr_base.specs.Formats.{Answer, for_each, run}
+use Rattle.jfr_layout.specs.Classes.{Class, Classes, Sound, find_class, class_place, goes_inline, is_composite, kind_of}
+use Rattle.jfr_layout.specs.declared.shape.Shape.{Shape}
+use Rattle.jfr_value.specs.declared.stack.Frame.{Frame}
+use Rattle.jfr_value.specs.declared.stack.Frame.TheVariants.{Fields, Items}
+use Rattle.jfr_value.specs.declared.walk.Progress.{Progress}
+use Rattle.jfr_value.specs.declared.walk.Progress.TheVariants.{Ended, Onward, Found}
+use Rattle.jfr_value.specs.declared.walk.Walk.{Walk}
+use Rattle.jfr_value.specs.Values.{Value, Values, Single, Group, Nil, Cons, values_of}
+use Rattle.jfr_value.specs.Reading.{value_format}
+use Rattle.jfr_value.specs.Nodes.{IsRow}
+use Rattle.jfr_value.specs.Leaves.{LeafAt, leaf_of, leaves_from}
+
+-- from an inline value of the shape no chain of so many inline steps begins
+abbrev pub Room : Classes → ℕ → Shape → Type 0
+Room k n s = s.constant ≡ false → (c : Class) → find_class k s.class ≡ Some c → is_composite (kind_of c.name) ≡ true → goes_inline n k c ≡ false
+
+-- the shapes of the values that a frame still has
+abbrev pub frame_shapes : Classes → Frame → List Shape
+frame_shapes k (Fields place number levels) = option_map_or (λ c. map (λ f. f.shape) (drop number c.fields)) (slice_get k place) []
+frame_shapes k (Items shape place left levels) = replicate left shape
+
+-- those of a stack, whose last frame comes first
+abbrev pub shapes_left : Classes → List Frame → List Shape
+shapes_left k [] = []
+shapes_left k (f ∷ fs) = shapes_left k fs ++ frame_shapes k f
+
+-- where the class stands, if it is known
+abbrev pub IsPlacedIfKnown : Classes → Shape → ℕ → Type 0
+IsPlacedIfKnown k s place = s.constant ≡ false → IsSome (find_class k s.class) → class_place k s.class ≡ Some place
+
+-- a frame at a height of the stack: so many inline steps may follow, each with two frames at most
+abbrev pub IsFrame : Classes → ℕ → Frame → Type 0
+IsFrame k height (Fields place number levels) = (height + 2 * levels ≤ 67) × (place < length k) × ((c : Class) → slice_get k place ≡ Some c → AllByRecursion (λ f. Room k levels f.shape) c.fields)
+IsFrame k height (Items shape place left levels) = (height + 2 * levels ≤ (if shape.array then 67 else 68)) × IsPlacedIfKnown k shape place × Room k levels shape
+
+abbrev pub AreFrames : Classes → ℕ → List Frame → Type 0
+AreFrames k height [] = ⊤
+AreFrames k height (f ∷ fs) = IsFrame k (suc height) f × AreFrames k (suc height) fs
+
+-- these values are what is left, up to an end
+abbrev pub IsLeft : Classes → List ℕ → ℕ → Walk → Values → Type 0
+IsLeft k c end walk vs = IsRow k c walk.at end (shapes_left k walk.stack) vs
+
+abbrev pub got_values : Answer (List Value) → Values
+got_values (Ok g) = values_of g.value
+got_values (Err e) = Nil
+
+-- the same by computing
+unfoldable pub values_left : Classes → List ℕ → ℕ → Walk → Values
+values_left k c end walk = got_values (run (for_each (shapes_left k walk.stack) (value_format k)) c end walk.at)
+
+-- the leaves that are left
+abbrev pub leaves_left : Classes → List ℕ → ℕ → Walk → List LeafAt
+leaves_left k c end walk = leaves_from walk.at (values_left k c end walk)
+
+-- how many values there are, where one with parts counts twice
+abbrev mutual
+  pub size_of : Value → ℕ
+  size_of (Single s kind b key) = 1
+  size_of (Group s h vs) = 2 + size_of_all vs
+
+  pub size_of_all : Values → ℕ
+  size_of_all Nil = 0
+  size_of_all (Cons v vs) = size_of v + size_of_all vs
+
+-- what one step of a walk does: it ends, hands out the first leaf, or comes closer to it
+abbrev pub GoesOn : Classes → List ℕ → ℕ → ℕ → Values → ℕ → Walk → Progress → Type 0
+GoesOn k c end at vs size walk Ended = (ws : Values) × IsLeft k c end walk ws × (leaves_from at vs ≡ []) × (leaves_from walk.at ws ≡ [])
+GoesOn k c end at vs size walk (Found leaf) = (ws : Values) × IsLeft k c end walk ws × (leaves_from at vs ≡ leaf_of leaf ∷ leaves_from walk.at ws)
+GoesOn k c end at vs size walk Onward = (ws : Values) × IsLeft k c end walk ws × (leaves_from at vs ≡ leaves_from walk.at ws) × (size_of_all ws + length walk.stack < size)
+
+-- a walk over values that stand there
+pub record IsWalk (k : Classes) (c : List ℕ) (end : ℕ) (walk : Walk) : Type 0 where
+  pub sound : Sound k
+  pub frames : AreFrames k 0 walk.stack
+  pub left : IsLeft k c end walk (values_left k c end walk)

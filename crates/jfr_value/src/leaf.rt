@@ -1,0 +1,24 @@
+// The leaves of a value.
+
+use jfr_layout::Kind;
+
+/// What a leaf is.
+#[derive(Clone, Copy, Debug, PartialEq, Eq)]
+pub enum LeafKind {
+    /// A value of a class with a base name. A string is one too, whatever its kind.
+    Base(Kind),
+    /// How many items an array has.
+    Count(u64),
+    /// The key of a reference.
+    Key(u64),
+}
+
+/// A part of a value that has no parts of its own, where it stands.
+#[derive(Clone, Copy, Debug)]
+pub struct Leaf<'a> {
+    pub kind: LeafKind,
+    /// The class of the value, of an array's items, or of what a reference refers to.
+    pub class: u64,
+    pub at: usize,
+    pub spelled: &'a [u8],
+}

@@ -1,0 +1,66 @@
+// The leaves of a node, one after another.
+ghost use Rattle.std.specs.Prelude.{◌≡◌, ◌+◌, ◌∷◌, [], MatchOption, IfSome, OnSome, IsNone};
+ghost use Rattle.jfr_value.specs.Leaves.{leaf_of, leaves};
+ghost use Rattle.jfr_value.specs.Nodes.{IsValue, node_of};
+
+use crate::stack::{Frame, Stack};
+use crate::walk::{STEPS, Walk, next_in};
+use crate::{Leaf, Node, Steps};
+use jfr_layout::Classes;
+use std::marker::Model;
+use std::sync::ledger::Ledger;
+
+/// The leaves of a value that stands in the bytes of a chunk, from left to right. It takes no memory.
+#[derive(Drop)]
+pub struct Leaves<'c, 'a> {
+    classes: &'c Classes,
+    bytes: &'a [u8],
+    end: usize,
+    walk: Walk,
+}
+
+impl<'c, 'a> Model for Leaves<'c, 'a> {
+    ghost use Rattle.std.specs.Prelude.{List};
+    ghost use Rattle.jfr_value.specs.Leaves.{LeafAt};
+
+    ghost Value = { List LeafAt };
+
+    ghost use Rattle.jfr_value.specs.Walks.{IsWalk, leaves_left};
+
+    ghost view = { λ l. leaves_left l.classes.now l.bytes.now l.end l.walk };
+
+    ghost invariant = { λ l. IsWalk l.classes.now l.bytes.now l.end l.walk };
+}
+
+impl<'c, 'a> Leaves<'c, 'a> {
+    /// The leaves of a node. A value must stand there.
+    pub fn new(classes: &'c Classes, node: Node<'a>) -> Leaves<'c, 'a>
+        requires { IsValue classes.now node }
+        ensures { result ≡ leaves classes.now node.entry.bytes.now (node_of node.entry) }
+    {
+        let place = classes.place(node.shape.class).unwrap_or(0);
+        let mut stack = Stack::new();
+        stack.push(Frame::Items {
+            shape: node.shape,
+            place,
+            left: 1,
+            levels: STEPS,
+        });
+        Leaves {
+            classes,
+            bytes: node.bytes,
+            end: node.end,
+            walk: Walk { at: node.at, stack },
+        }
+    }
+
+    /// Hands out the next leaf, at the cost of a step. `None` exactly after the last.
+    pub fn next_leaf<L: Ledger>(&mut self, steps: &mut Steps<L>) -> Option<Leaf<'a>>
+        ensures exact { MatchOption result ((self.old ≡ []) × (self.new ≡ [])) (λ leaf. self.old ≡ leaf_of leaf ∷ self.new) }
+        ensures cost { MatchOption result (steps.new ≡ steps.old) (λ leaf. steps.new ≡ steps.old + 1) }
+    {
+        let leaf = next_in(&mut self.walk, self.classes, self.bytes, self.end)?;
+        steps.tick();
+        Some(leaf)
+    }
+}

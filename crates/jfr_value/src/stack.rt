@@ -1,0 +1,136 @@
+// What a walk still has to do, as a stack of frames.
+ghost use Rattle.std.specs.Prelude.{◌≡◌, ◌+◌, ◌<◌, ◌↔◌, [], ◌∷◌, ◌++◌, length, option_to_list, IsSome, IfSome};
+ghost use Rattle.jfr_value.specs.Stacks.{far_frames};
+
+use arrayvec::ArrayVec;
+use jfr_layout::Shape;
+use std::marker::Model;
+
+/// How many frames a walk may have: one for the value, two for each of 33 levels, an array and a
+/// composite value, and one for an array in the deepest of them.
+pub(crate) const FRAMES: usize = 68;
+
+/// How many of them lie at hand.
+const NEAR: usize = 6;
+
+/// How many lie in the part that is made where a value goes deeper.
+const FAR: usize = 62;
+
+/// What is left of one value with parts.
+#[derive(Clone, Copy, Drop)]
+pub(crate) enum Frame {
+    /// The fields of the class at a place, from a number on; so many inline steps may follow.
+    Fields {
+        place: usize,
+        number: usize,
+        levels: u32,
+    },
+    /// So many values of a shape, whose class is at a place.
+    Items {
+        shape: Shape,
+        place: usize,
+        left: u64,
+        levels: u32,
+    },
+}
+
+impl Default for Frame {
+    fn default() -> Frame {
+        Frame::Fields {
+            place: 0,
+            number: 0,
+            levels: 0,
+        }
+    }
+}
+
+/// The frames of a walk. An `ArrayVec` clears its places when it is made, and a walk is made for each
+/// node of a chunk, so the places that few nodes need are made only for those.
+#[derive(Drop)]
+pub(crate) struct Stack {
+    near: ArrayVec<Frame, NEAR>,
+    far: Option<ArrayVec<Frame, FAR>>,
+}
+
+impl Model for Stack {
+    ghost use Rattle.std.specs.Prelude.{◌≡◌, ◌<◌, List, [], ◌++◌, length, IfSome};
+    ghost use Rattle.jfr_value.specs.declared.stack.Frame.{Frame};
+
+    ghost Value = { List Frame };
+
+    ghost use Rattle.jfr_value.specs.Stacks.{far_frames};
+
+    ghost view = { λ s. s.near.items ++ far_frames s.far };
+
+    ghost invariant = { λ s. IfSome s.far (λ far. (length s.near.items ≡ 6) × (0 < length far.items)) };
+}
+
+impl Stack {
+    /// No frames.
+    pub(crate) fn new() -> Stack
+        ensures { result ≡ [] }
+    {
+        Stack {
+            near: ArrayVec::new(),
+            far: None,
+        }
+    }
+
+    /// Puts a frame on the stack.
+    #[inline]
+    pub(crate) fn push(&mut self, frame: Frame)
+        requires { length self.old < FRAMES }
+        ensures items { self.new ≡ self.old ++ frame ∷ [] }
+        ensures len { length self.new ≡ length self.old + 1 }
+    {
+        if self.far.is_none() && !self.near.is_full() {
+            self.near.push(frame);
+        } else {
+            push_far(&mut self.far, frame);
+        }
+    }
+
+    /// Takes the last frame.
+    #[inline]
+    pub(crate) fn pop(&mut self) -> Option<Frame>
+        ensures items { self.old ≡ self.new ++ option_to_list result }
+        ensures variant { IsSome result ↔ (0 < length self.old) }
+    {
+        if self.far.is_none() {
+            return self.near.pop();
+        }
+        pop_far(&mut self.far)
+    }
+}
+
+#[cold]
+fn push_far(far: &mut Option<ArrayVec<Frame, FAR>>, frame: Frame)
+    requires { length (far_frames far.old) < FAR }
+    ensures { IfSome far.new (λ v. v.items ≡ far_frames far.old ++ frame ∷ []) × IsSome far.new }
+{
+    let mut frames = match far.take() {
+        Some(frames) => frames,
+        None => ArrayVec::new(),
+    };
+    frames.push(frame);
+    *far = Some(frames);
+}
+
+#[cold]
+fn pop_far(far: &mut Option<ArrayVec<Frame, FAR>>) -> Option<Frame>
+    requires { 0 < length (far_frames far.old) }
+    ensures items { far_frames far.old ≡ far_frames far.new ++ option_to_list result }
+    ensures some { IsSome result }
+    ensures kept { IfSome far.new (λ v. 0 < length v.items) }
+{
+    match far.take() {
+        None => None,
+        Some(mut frames) => {
+            let last = frames.pop();
+            if !frames.is_empty() {
+                *far = Some(frames);
+            }
+            last
+        }
+    }
+}
