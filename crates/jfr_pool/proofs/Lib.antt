@@ -1,0 +1,8 @@
+pub mod Among
+pub mod ChainLaws
+mod ChainReading
+mod EntryLaws
+mod IndexLaws
+mod Listings
+mod OneLaws
+mod Rows

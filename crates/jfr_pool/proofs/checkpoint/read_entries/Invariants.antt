@@ -1,0 +1,13 @@
+use Rattle.std.proofs.Common.{◌≤◌, ◌-◌, map}
+use Rattle.jfr_base.specs.Formats.{run, times}
+use Rattle.jfr_pool.specs.Entries.{constant_format}
+use Rattle.jfr_pool.specs.Listing.{listed, entry_in}
+use Rattle.jfr_pool.proofs.Listings.{Adding}
+use Rattle.jfr_pool.proofs.checkpoint.read_entries.Given as goal
+
+abbrev pub invariant-loop : goal.invariant-loop
+invariant-loop l = record {
+  upto : l.to ≤ l.limit;
+  adding : Adding (listed (map (entry_in l.pool)) (run (times l.count (constant_format l.classes l.pool.class)) l.chunk l.limit l.at)) l.fn.entries.items l.entries.items
+      (listed (map (entry_in l.pool)) (run (times (l.count - l.counter) (constant_format l.classes l.pool.class)) l.chunk l.limit l.to));
+}

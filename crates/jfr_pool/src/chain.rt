@@ -1,0 +1,135 @@
+// The chain of checkpoints.
+ghost use Rattle.std.specs.Prelude.{◌≡◌, ◌+ℤ◌, ◌<◌, length, pos, reverse, slice_get, option_copied, IfOk, IfErr, IfSome, IsTrue, MatchResult, Some};
+ghost use Rattle.jfr_base.specs.Formats.{run};
+ghost use Rattle.jfr_frame.specs.Records.{AreRecords, IsRecord, record_end, starts_at};
+ghost use Rattle.jfr_pool.specs.Chains.{IsChain, IsReadFrom, IsRefusedChain, chain_of, checkpoint_at, earlier_checkpoint, earlier_place, head_format, linked, older_of};
+ghost use Rattle.jfr_pool.specs.Faults.{TellsFlaw};
+
+use crate::Link;
+use jfr_base::{Flaw, ReadFault, Reason, read_within, signed};
+use jfr_frame::{Framed, Frames};
+use std::alloc::Global;
+use std::marker::Model;
+
+// The type of checkpoints.
+const CHECKPOINT: u64 = 1;
+
+/// The chained checkpoints of a chunk, in the order of the file: the oldest first.
+#[derive(Drop)]
+pub struct Chain {
+    links: Vec<Link>,
+}
+
+impl Model for Chain {
+    ghost use Rattle.std.specs.Prelude.{List};
+    ghost use Rattle.jfr_pool.specs.declared.link.Link.{Link};
+
+    ghost Value = { List Link };
+
+    ghost view = { λ chain. chain.links.items };
+}
+
+impl Chain {
+    /// Reads the chain whose newest checkpoint starts at `last`. It is refused, from the newest
+    /// checkpoint on, as `Short` where a start, a duration or a delta doesn't end within its record,
+    /// and as `ChainDelta`, at the delta, where that is neither 0 nor a step to an earlier checkpoint.
+    pub fn read(alloc: Global, chunk: &[u8], frames: &Frames, last: u64) -> Result<Chain, ReadFault>
+        requires framed { AreRecords chunk.now frames.now }
+        requires last { IsTrue (starts_at frames.now last 1) }
+        ensures ok { IfOk result (λ chain. IsChain chunk.now frames.now last (reverse chain)) }
+        ensures read { IfOk result (λ chain. IsReadFrom chunk.now chain) }
+        ensures refused { IfErr result (λ fault. IsRefusedChain chunk.now frames.now last fault) }
+
+        // The same by computing.
+        ensures exact { IfSome (checkpoint_at frames.now last) (λ r. MatchResult result (λ chain. chain_of chunk.now frames.now r ≡ Ok (reverse chain)) (TellsFlaw (chain_of chunk.now frames.now r))) }
+    {
+        let mut links = Vec::new(alloc);
+        let mut next = frames.find(last, CHECKPOINT);
+        'links: while let Some(frame) = next {
+            let link = read_link(chunk, frame)?;
+            next = older(frames, &link)?;
+            links.push(link)?;
+        }
+        links.reverse();
+        Ok(Chain { links })
+    }
+
+    /// How many checkpoints the chain has.
+    pub fn len(&self) -> usize
+        ensures { result ≡ length self.now }
+    {
+        self.links.len()
+    }
+
+    /// The checkpoint of a number, from 0, in the order of the file.
+    pub(crate) fn at(&self, number: usize) -> &Link
+        requires { number < length self.now }
+        ensures { slice_get self.now number ≡ Some result.now }
+    {
+        &self.links[number]
+    }
+
+    /// The checkpoint of a number, from 0, in the order of the file; `None` exactly past the end.
+    pub fn get(&self, at: usize) -> Option<&Link>
+        ensures { option_copied result ≡ slice_get self.now at }
+    {
+        self.links.get(at)
+    }
+}
+
+/// A checkpoint, read up to its delta.
+#[tactic(auto, unfolding(jfr_base::specs::Formats::run))]
+fn read_link(chunk: &[u8], frame: Framed) -> Result<Link, Flaw>
+    requires { IsRecord chunk.now frame }
+    ensures exact { result ≡ linked frame (run head_format chunk.now (record_end frame) frame.body) }
+{
+    let end = frame.at + frame.size;
+    let start = read_within(chunk, frame.body, end)?;
+    let duration = read_within(chunk, start.end, end)?;
+    let delta = read_within(chunk, duration.end, end)?;
+    Ok(Link {
+        frame,
+        delta_at: duration.end,
+        delta_end: delta.end,
+        delta: signed(delta.value),
+    })
+}
+
+/// The checkpoint that a delta leads to; `None` behind the oldest.
+fn older(frames: &Frames, link: &Link) -> Result<Option<Framed>, Flaw>
+    ensures exact { result ≡ older_of frames.now link.now }
+{
+    if link.delta == 0 {
+        return Ok(None);
+    }
+    match earlier_checkpoint(frames, link) {
+        Some(frame) => Ok(Some(frame)),
+        None => Err(Flaw {
+            offset: link.delta_at as u64,
+            reason: Reason::ChainDelta,
+        }),
+    }
+}
+
+/// The checkpoint that starts where a delta leads, if that is an earlier place.
+fn earlier_checkpoint(frames: &Frames, link: &Link) -> Option<Framed>
+    ensures { result ≡ earlier_checkpoint frames.now (earlier_place link.now.frame.at (pos link.now.frame.at +ℤ link.now.delta)) }
+{
+    let place = earlier_place(link.frame.at, link.delta)?;
+    frames.find(place, CHECKPOINT)
+}
+
+/// Where a delta leads from a place, if that is an earlier one.
+fn earlier_place(at: usize, delta: i64) -> Option<u64>
+    ensures { result ≡ earlier_place at (pos at +ℤ delta) }
+{
+    if delta >= 0 {
+        return None;
+    }
+    let back = delta.unsigned_abs();
+    if back <= at as u64 {
+        Some(at as u64 - back)
+    } else {
+        None
+    }
+}

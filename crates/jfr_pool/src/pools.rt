@@ -1,0 +1,108 @@
+// The entries of the chained checkpoints.
+ghost use Rattle.std.specs.Prelude.{◌≡◌, ◌<◌, ◌↔◌, length, slice_get, option_copied, IfOk, IfErr, IsTrue, MatchResult};
+ghost use Rattle.jfr_pool.specs.Chains.{IsReadFrom};
+ghost use Rattle.jfr_pool.specs.Entries.{AreEntries, IsInForce, IsRefusedEntries, entries_of, number_in_force};
+ghost use Rattle.jfr_pool.specs.Faults.{TellsFlaw};
+ghost use Rattle.jfr_pool.specs.Index.{Indexes};
+
+use crate::checkpoint::read_checkpoint;
+use crate::{Chain, EntryAt};
+use jfr_base::ReadFault;
+use jfr_layout::Classes;
+use jfr_outside::NoMemory;
+use std::alloc::Global;
+use std::collections::BTreeMap;
+use std::marker::Model;
+
+/// The entries of the chained checkpoints, in the order of the file.
+#[derive(Drop)]
+pub struct Pools {
+    entries: Vec<EntryAt>,
+    /// The number of the entry in force, by class and key.
+    index: BTreeMap<(u64, u64), usize>,
+}
+
+impl Model for Pools {
+    ghost use Rattle.std.specs.Prelude.{List};
+    ghost use Rattle.jfr_pool.specs.declared.entry.EntryAt.{EntryAt};
+    ghost use Rattle.jfr_pool.specs.Index.{Indexes};
+
+    ghost Value = { List EntryAt };
+
+    ghost view = { λ pools. pools.entries.items };
+
+    ghost invariant = { λ pools. Indexes pools.index pools.entries.items };
+}
+
+impl Pools {
+    /// Reads the entries of the chained checkpoints, the oldest first. They are refused, at the first
+    /// fault in the order of the file, as `Short`, `StringKind` or `PoolType`, and as `Trailing` where
+    /// a checkpoint has bytes behind its last pool.
+    pub fn read(
+        alloc: Global,
+        chunk: &[u8],
+        classes: &Classes,
+        chain: &Chain,
+    ) -> Result<Pools, ReadFault>
+        requires { IsReadFrom chunk.now chain.now }
+        ensures ok { IfOk result (λ pools. AreEntries chunk.now classes.now 0 chain.now pools) }
+        ensures refused { IfErr result (λ fault. IsRefusedEntries chunk.now classes.now chain.now fault) }
+
+        // The same by computing.
+        ensures exact { MatchResult result (λ pools. entries_of chunk.now classes.now 0 chain.now ≡ Ok pools) (TellsFlaw (entries_of chunk.now classes.now 0 chain.now)) }
+    {
+        let mut entries = Vec::new(alloc);
+        for number in 0..chain.len() {
+            let frame = chain.at(number).frame;
+            read_checkpoint(chunk, classes, number, frame, &mut entries)?;
+        }
+        let index = index_of(alloc, &entries)?;
+        Ok(Pools { entries, index })
+    }
+
+    /// How many entries there are.
+    pub fn len(&self) -> usize
+        ensures { result ≡ length self.now }
+    {
+        self.entries.len()
+    }
+
+    /// The entry of a number, from 0, in the order of the file; `None` exactly past the end.
+    pub fn get(&self, at: usize) -> Option<&EntryAt>
+        ensures { option_copied result ≡ slice_get self.now at }
+    {
+        self.entries.get(at)
+    }
+
+    /// The number of the entry in force for a class and a key: of those with both, the one that stands
+    /// last. `None` exactly where there is none.
+    pub fn entry(&self, class: u64, key: u64) -> Option<usize>
+        ensures { result ≡ number_in_force self.now (class, key) }
+    {
+        self.index.get(&(class, key)).copied()
+    }
+
+    /// Whether the entry of a number is the one in force for its class and key.
+    pub fn in_force(&self, at: usize) -> bool
+        requires { at < length self.now }
+        ensures { IsTrue result ↔ IsInForce self.now at }
+    {
+        let entry = self.entries[at];
+        match self.entry(entry.class, entry.key) {
+            Some(number) => number == at,
+            None => false,
+        }
+    }
+}
+
+/// The numbers of the entries in force, by class and key.
+fn index_of(alloc: Global, entries: &[EntryAt]) -> Result<BTreeMap<(u64, u64), usize>, NoMemory>
+    ensures { IfOk result (λ index. Indexes index entries.now) }
+{
+    let mut index = BTreeMap::new(alloc);
+    for (number, entry) in entries.iter().enumerate() {
+        let target = (entry.class, entry.key);
+        index.insert(target, number)?;
+    }
+    Ok(index)
+}

@@ -1,0 +1,118 @@
+// Chains and entries of small chunks: 68 bytes, and the records.
+use crate::{Chain, EntryAt, Pools};
+use jfr_base::{Flaw, ReadFault, Reason};
+use jfr_frame::Frames;
+use jfr_layout::{ClassFault, ClassInfo, ClassList, Classes, FieldInfo, Fields, Shape};
+use jfr_outside::{Text, Words};
+use std::alloc::{AllocError, Global};
+use std::test::Fail;
+
+const HEADER: usize = 68;
+
+// A checkpoint with the entry `p` for the key 1, an event, and a checkpoint with the entry `q` for it.
+const TWICE: &[u8] = &[
+    0x0E, 1, 0, 0, 0, 0, 1, 7, 1, 1, 0, 3, 1, 0x70, 5, 8, 0xAC, 2, 1, 0x16, 1, 0, 0, 0xED, 0xFF,
+    0xFF, 0xFF, 0xFF, 0xFF, 0xFF, 0xFF, 0xFF, 0, 1, 7, 1, 1, 0, 3, 1, 0x71,
+];
+
+fn shape(class: u64, constant: bool) -> Shape {
+    Shape {
+        class,
+        constant,
+        array: false,
+    }
+}
+
+// java.lang.String, and t.Node of a reference and a string.
+fn classes(alloc: Global) -> Result<Classes, ClassFault> {
+    let mut list = ClassList::new(alloc);
+    list.push(ClassInfo {
+        id: 6,
+        name: Text::make(alloc, "java.lang.String")?,
+        super_name: None,
+        fields: Fields::new(alloc),
+        categories: Words::new(alloc),
+    })?;
+    let mut fields = Fields::new(alloc);
+    fields.push(FieldInfo {
+        name: Text::make(alloc, "next")?,
+        shape: shape(7, true),
+    })?;
+    fields.push(FieldInfo {
+        name: Text::make(alloc, "text")?,
+        shape: shape(6, false),
+    })?;
+    list.push(ClassInfo {
+        id: 7,
+        name: Text::make(alloc, "t.Node")?,
+        super_name: None,
+        fields,
+        categories: Words::new(alloc),
+    })?;
+    Classes::make(alloc, list)
+}
+
+fn chunk_of(alloc: Global, records: &[u8]) -> Result<Vec<u8>, AllocError> {
+    let mut bytes = Vec::from_slice(alloc, [0; HEADER].as_slice())?;
+    bytes.extend_from_slice(records)?;
+    Ok(bytes)
+}
+
+fn pools_of(alloc: Global, classes: &Classes, chunk: &[u8], last: u64) -> Result<Pools, ReadFault> {
+    if chunk.len() < HEADER {
+        return Err(ReadFault::Memory);
+    }
+    let frames = Frames::read(alloc, chunk)?;
+    if !frames.starts_at(last, 1) {
+        return Err(ReadFault::Memory);
+    }
+    let chain = Chain::read(alloc, chunk, &frames, last)?;
+    Pools::read(alloc, chunk, classes, &chain)
+}
+
+#[test]
+fn last_entry_of_a_key_is_in_force(rt: HostRuntime) -> Result<(), Fail> {
+    let alloc = rt.alloc();
+    let classes = classes(alloc)?;
+    let chunk = chunk_of(alloc, TWICE)?;
+    let pools = pools_of(alloc, &classes, &chunk, 87)?;
+    assert_eq!(rt; pools.len(), 2);
+    let second = EntryAt {
+        class: 7,
+        key: 1,
+        key_at: 104,
+        value_at: 105,
+        end: 109,
+        checkpoint: 1,
+        pool: 0,
+    };
+    assert_eq!(rt; pools.get(1).copied(), Some(second));
+    assert_eq!(rt; pools.entry(7, 1), Some(1));
+    assert_eq!(rt; pools.entry(7, 2), None);
+    assert!(rt; !pools.in_force(0));
+    assert!(rt; pools.in_force(1));
+    Ok(())
+}
+
+#[test]
+fn faults_are_told(rt: HostRuntime) -> Result<(), Fail> {
+    let alloc = rt.alloc();
+    let classes = classes(alloc)?;
+    let table: [(&[u8], u64, Reason); 5] = [
+        (&[7, 1, 0, 0, 1, 0, 0], 72, Reason::ChainDelta),
+        (&[4, 1, 0, 0], 72, Reason::Short),
+        (&[8, 1, 0, 0, 0, 0, 0, 0], 75, Reason::Trailing),
+        (&[9, 1, 0, 0, 0, 0, 1, 10, 0], 75, Reason::PoolType),
+        (
+            &[14, 1, 0, 0, 0, 0, 1, 7, 2, 1, 0, 3, 1, 0x70],
+            82,
+            Reason::Short,
+        ),
+    ];
+    for (records, offset, reason) in table {
+        let chunk = chunk_of(alloc, records)?;
+        let fault = pools_of(alloc, &classes, &chunk, 68).err();
+        assert_eq!(rt; fault, Some(ReadFault::Flawed(Flaw { offset, reason })));
+    }
+    Ok(())
+}
