@@ -1,0 +1,57 @@
+-- What holds of the parts of accepted chunks.
+use Rattle.std.specs.Prelude.{◌≡◌, ◌↔◌, ℕ, ◌<◌, List, slice_get, [], ◌∷◌, Some, Ok, ◌⊎◌, All, Contains, ⊤}
+use Rattle.jfr_layout.specs.Classes.{Agree}
+use Rattle.jfr_frame.specs.Records.{record_bytes}
+use Rattle.jfr_value.specs.declared.node.Step.{Step}
+use Rattle.jfr_value.specs.Nodes.{NodeAt, target}
+use Rattle.jfr_pool.specs.declared.entry.EntryAt.{EntryAt}
+use Rattle.jfr_base.specs.declared.flaw.Flaw.{Flaw}
+use Rattle.jfr_chunk.specs.Parts.{Parts, EventAt, events_of, AreParts}
+use Rattle.jfr_chunk.specs.Refusal.{Refused, read_parts, refusal_of}
+use Rattle.jfr_chunk.specs.Paths.{leads}
+use Rattle.jfr_chunk.specs.Reach.{Reached, IsMarked, reached_marks}
+use Rattle.jfr_chunk.specs.Meaning.{SameEntry}
+
+-- These are events of the chunk.
+abbrev pub AreEvents : Parts → List EventAt → Type 0
+AreEvents p es = All (Contains (events_of p)) es
+
+-- Two events of one class, on which the class lists agree, with equal record bytes.
+pub record SameRecord (p q : Parts) (e f : EventAt) : Type 0 where
+  pub class : e.record_of.type_id ≡ f.record_of.type_id
+  pub bytes : record_bytes p.bytes e.record_of ≡ record_bytes q.bytes f.record_of
+  pub agree : Agree p.classes q.classes e.record_of.type_id
+
+-- Such events stand one to one, in order.
+abbrev pub SameRecords : Parts → Parts → List EventAt → List EventAt → Type 0
+SameRecords p q [] [] = ⊤
+SameRecords p q (e ∷ es) (f ∷ fs) = SameRecord p q e f × SameRecords p q es fs
+SameRecords p q [] (f ∷ fs) = ⊥
+SameRecords p q (e ∷ es) [] = ⊥
+
+-- Both chunks have the same entry in force, or neither has one, for each class and key to which a node on a path of a kept event refers.
+abbrev pub SameOnPaths : Parts → Parts → List EventAt → Type 0
+SameOnPaths p q kept = (e : EventAt) (path : List Step) (n : NodeAt) (key : ℕ × ℕ) → Contains kept e → leads p e.node path ≡ Some n → target p.classes p.bytes n ≡ Some key → SameEntry p q key
+
+-- The entry of this number is the last one of the class and the key.
+pub record IsLast (es : List EntryAt) (target : ℕ × ℕ) (number : ℕ) : Type 0 where
+  pub entry : EntryAt
+  pub there : slice_get es number ≡ Some entry
+  pub class : entry.class ≡ target.0
+  pub key : entry.key ≡ target.1
+  pub last : (later : ℕ) (other : EntryAt) → number < later → slice_get es later ≡ Some other → other.class ≡ target.0 → other.key ≡ target.1 → ⊥
+
+-- An entry is marked exactly where a path of a kept event reaches it.
+abbrev pub AreReached : Parts → List EventAt → Type 0
+AreReached p kept = (number : ℕ) → Reached p kept number ↔ IsMarked (reached_marks p kept) number
+
+-- A chunk consists of parts, or it is refused: one of the two, and for one flaw.
+pub record HasOneAnswer (c : List ℕ) : Type 0 where
+  pub some : ((p : Parts) × (p.bytes ≡ c) × AreParts p) ⊎ ((flaw : Flaw) × Refused c flaw)
+  pub not_both : (p : Parts) (flaw : Flaw) → p.bytes ≡ c → AreParts p → Refused c flaw → ⊥
+  pub one_flaw : (flaw other : Flaw) → Refused c flaw → Refused c other → flaw ≡ other
+
+-- The parts, or the flaw, are those that are computed.
+pub record IsComputed (c : List ℕ) : Type 0 where
+  pub parts : (p : Parts) → ((p.bytes ≡ c) × AreParts p) ↔ (read_parts c ≡ Ok p)
+  pub flaw : (flaw : Flaw) → Refused c flaw ↔ (refusal_of c ≡ Some flaw)

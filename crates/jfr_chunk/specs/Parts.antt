@@ -1,0 +1,74 @@
+-- What an accepted chunk consists of. The bytes determine the parts.
+use Rattle.std.specs.Prelude.{◌≡◌, ℕ, List, take, filter, reverse, Option, Some, None, Ok, Err, Contains, All}
+use Rattle.std.specs.List.{filter_map}
+use Rattle.jfr_header.specs.Headers.{header_of}
+use Rattle.jfr_base.specs.Formats.{Reads, Answer, run}
+use Rattle.jfr_layout.specs.Classes.{Classes, is_event_class}
+use Rattle.jfr_frame.specs.declared.framed.Framed.{Framed}
+use Rattle.jfr_frame.specs.Records.{AreRecords, record_end}
+use Rattle.jfr_meta.specs.Body.{Body}
+use Rattle.jfr_meta.specs.Described.{IsMetadata}
+use Rattle.jfr_value.specs.Values.{Value}
+use Rattle.jfr_value.specs.Reading.{value_format}
+use Rattle.jfr_value.specs.Nodes.{NodeAt}
+use Rattle.jfr_pool.specs.declared.link.Link.{Link}
+use Rattle.jfr_pool.specs.declared.entry.EntryAt.{EntryAt}
+use Rattle.jfr_pool.specs.Chains.{IsChain}
+use Rattle.jfr_pool.specs.Entries.{AreEntries, inline}
+
+-- The header's positions of the last checkpoint and of the metadata record.
+abbrev pub pools_at : List ℕ → ℕ
+pools_at c = (header_of (take 68 c)).pools
+
+abbrev pub metadata_at : List ℕ → ℕ
+metadata_at c = (header_of (take 68 c)).metadata
+
+-- The bytes, the records, the chained checkpoints with the newest first, what the metadata record holds, the classes that it describes, and the entries of the chained checkpoints in file order.
+pub record Parts : Type 0 where
+  pub bytes : List ℕ
+  pub records : List Framed
+  pub chain : List Link
+  pub body : Body
+  pub classes : Classes
+  pub entries : List EntryAt
+
+-- An event: its record, and the node of its fields, which ends where the last field does.
+pub record EventAt : Type 0 where
+  pub record_of : Framed
+  pub node : NodeAt
+
+-- The records of event classes, in order.
+abbrev pub event_records : Classes → List Framed → List Framed
+event_records k rs = filter (λ r. is_event_class k r.type_id) rs
+
+-- The fields of an event stand in its record.
+abbrev pub HasFields : List ℕ → Classes → Framed → Type 0
+HasFields c k r = (v : Value) × (to : ℕ) × Reads (value_format k (inline r.type_id)) c (record_end r) r.body v to
+
+-- The event of a record, by where its fields end.
+abbrev pub event_by : Framed → Answer Value → Option EventAt
+event_by r (Ok g) = Some (record { record_of = r; node = record { shape = inline r.type_id; at = r.body; end = g.place } })
+event_by r (Err flaw) = None
+
+abbrev pub event_of : List ℕ → Classes → Framed → Option EventAt
+event_of c k r = event_by r (run (value_format k (inline r.type_id)) c (record_end r) r.body)
+
+-- The events of a chunk, in order.
+unfoldable pub events_of : Parts → List EventAt
+events_of p = filter_map (event_of p.bytes p.classes) (event_records p.classes p.records)
+
+-- A record of the type starts at the place.
+pub record StartsAt (rs : List Framed) (at type_id : ℕ) (r : Framed) : Type 0 where
+  pub listed : Contains rs r
+  pub place : r.at ≡ at
+  pub type_is : r.type_id ≡ type_id
+
+-- The parts stand in the bytes.
+pub record AreParts (p : Parts) : Type 0 where
+  pub records : AreRecords p.bytes p.records
+  pub chain : IsChain p.bytes p.records (pools_at p.bytes) p.chain
+  pub metadata_record : Framed
+  pub metadata_there : StartsAt p.records (metadata_at p.bytes) 0 metadata_record
+  pub metadata : IsMetadata p.bytes metadata_record p.body p.classes
+  pub entries : AreEntries p.bytes p.classes 0 (reverse p.chain) p.entries
+  pub events : All (HasFields p.bytes p.classes) (event_records p.classes p.records)

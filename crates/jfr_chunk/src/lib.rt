@@ -1,0 +1,9 @@
+//! A whole chunk: accepted, or refused at its first flaw; and what its parts mean.
+//!
+//! Read `specs/Parts.antt` first, then `specs/Refusal.antt`, `specs/Paths.antt`, `specs/Reach.antt`,
+//! `specs/Scrub.antt`, `specs/Meaning.antt` and `specs/Laws.antt`.
+#![tactic(auto)]
+
+mod laws;
+
+pub use laws::{computed_answer, marked_by_paths, one_answer, one_in_force, one_parts, same_paths};
