@@ -1,0 +1,64 @@
+-- What the program answers: the status, and the line on the error sink.
+use Rattle.std.specs.Prelude.{◌≡◌, ℕ, List, [], ◌∷◌, ◌++◌, take, Option, None, Some, option_map, codes}
+use Rattle.std.specs.Fmt.{decimal}
+use Rattle.jfr_base.specs.declared.flaw.Refusal.{Refusal}
+use Rattle.jfr_base.specs.Reasons.{reason_name}
+use Rattle.jfr_outside.specs.World.{SinkState, added}
+use Rattle.jfr_outside.specs.Counts.{Rose}
+use Rattle.jfr_header.specs.declared.ending.Ending.{Ending}
+use Rattle.jfr_header.specs.declared.ending.Ending.TheVariants.{Done, Refused, ReadFault, WriteFault, TooManyParts, Memory}
+
+-- The status of a command's ending.
+abbrev pub status_of : Ending → ℕ
+status_of Done = 0
+status_of (Refused r) = 2
+status_of ReadFault = 3
+status_of WriteFault = 4
+status_of Memory = 5
+status_of TooManyParts = 6
+
+abbrev pub newline : List ℕ
+newline = 10 ∷ []
+
+abbrev pub usage_line : List ℕ
+usage_line = codes "usage: jfr print|summary|metadata|scrub|disassemble|assemble|sample" ++ newline
+
+-- The line of a refused recording: the number of the chunk, the place in it, and the name of the reason.
+abbrev pub refusal_line : Refusal → List ℕ
+refusal_line r = codes "chunk " ++ (decimal r.chunk ++ (codes " offset " ++ (decimal r.offset ++ (codes ": " ++ (reason_name r.reason ++ newline)))))
+
+abbrev pub read_line : List ℕ
+read_line = codes "read fault" ++ newline
+
+abbrev pub write_line : List ℕ
+write_line = codes "write fault" ++ newline
+
+-- The line of an ending, if it has one.
+abbrev pub line_of : Ending → Option (List ℕ)
+line_of Done = None
+line_of (Refused r) = Some (refusal_line r)
+line_of ReadFault = Some read_line
+line_of WriteFault = Some write_line
+line_of Memory = Some (codes "out of memory" ++ newline)
+line_of TooManyParts = Some (codes "too many parts" ++ newline)
+
+-- The line stands on the sink; only where its count rose may it be a prefix of the line.
+pub data IsSaid (line : List ℕ) (a b : SinkState) : Type 0 where
+  Whole : b ≡ record { written = option_map (added line) a.written; faults = a.faults } → IsSaid line a b
+  Part : Rose a.faults b.faults → (k : ℕ) → b.written ≡ option_map (added (take k line)) a.written → IsSaid line a b
+
+-- The first k bytes of a line stand on the sink.
+pub record IsPartlySaid (a b : SinkState) : Type 0 where
+  pub line : List ℕ
+  pub count : ℕ
+  pub written : b.written ≡ option_map (added (take count line)) a.written
+
+-- An ending without a line leaves the sink as it is.
+abbrev pub Said : Option (List ℕ) → SinkState → SinkState → Type 0
+Said None a b = b ≡ a
+Said (Some line) a b = IsSaid line a b
+
+-- A status and its line, or 5 with a part of a line, since memory may be wanting while a line is written.
+pub data IsAnswered (status : ℕ) (line : Option (List ℕ)) (answer : ℕ) (a b : SinkState) : Type 0 where
+  Fully : answer ≡ status → Said line a b → IsAnswered status line answer a b
+  ForMemory : answer ≡ 5 → IsPartlySaid a b → IsAnswered status line answer a b

@@ -1,0 +1,55 @@
+// The status of an ending, and its line on the error sink.
+ghost use Rattle.std.specs.Prelude.{◌≡◌, Some, IfOk, string_bytes};
+ghost use Rattle.jfr_cli.specs.Answers.{status_of, line_of, usage_line, refusal_line, IsAnswered};
+
+use jfr_base::Refusal;
+use jfr_header::Ending;
+use jfr_outside::{Fault, Sink};
+use std::alloc::{AllocError, Global};
+
+/// Writes the line of the usage, and answers its status.
+pub fn say_usage<E: Sink>(err: &mut E) -> u8
+    ensures { IsAnswered 1 (Some usage_line) result (E.state err.old) (E.state err.new) }
+{
+    say_line(
+        err,
+        "usage: jfr print|summary|metadata|scrub|disassemble|assemble|sample\n",
+        1,
+    )
+}
+
+/// Writes the line of an ending, if it has one, and answers its status.
+pub fn say_ending<E: Sink>(alloc: Global, err: &mut E, ending: Ending) -> u8
+    ensures { IsAnswered (status_of ending) (line_of ending) result (E.state err.old) (E.state err.new) }
+{
+    match ending {
+        Ending::Done => 0,
+        Ending::Refused(refusal) => match refusal_text(alloc, &refusal) {
+            Ok(line) => say_line(err, line.as_str(), 2),
+            Err(_) => say_line(err, "out of memory\n", 5),
+        },
+        Ending::ReadFault => say_line(err, "read fault\n", 3),
+        Ending::WriteFault => say_line(err, "write fault\n", 4),
+        Ending::Memory => say_line(err, "out of memory\n", 5),
+        Ending::TooManyParts => say_line(err, "too many parts\n", 6),
+    }
+}
+
+// The line of a refused recording.
+fn refusal_text(alloc: Global, refusal: &Refusal) -> Result<String, AllocError>
+    ensures { IfOk result (λ text. string_bytes text ≡ refusal_line refusal.now) }
+{
+    let (chunk, offset, name) = (refusal.chunk, refusal.offset, refusal.reason.name());
+    format!(in alloc; "chunk {chunk} offset {offset}: {name}\n")
+}
+
+// Writes a line. A failed write changes no status; where memory is wanting, the status is 5.
+fn say_line<E: Sink>(err: &mut E, line: &str, status: u8) -> u8
+    ensures { IsAnswered status (Some line.now) result (E.state err.old) (E.state err.new) }
+{
+    match err.write(line.as_bytes()) {
+        Ok(()) => status,
+        Err(Fault::Failed) => status,
+        Err(Fault::Memory) => 5,
+    }
+}
