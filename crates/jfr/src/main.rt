@@ -1,0 +1,47 @@
+//! The program `jfr`: the real files and streams, the words of the command line, and the exit status.
+//!
+//! Everything that is decided is decided by `jfr_cli::run`; here stands what no clause can speak of.
+#![tactic(auto)]
+
+mod counts;
+mod file_place;
+mod stream_sink;
+
+use file_place::FilePlace;
+use jfr_cli::run;
+use jfr_outside::Words;
+use std::alloc::{AllocGlobal, Global};
+use std::env::Env;
+use std::process::ExitCode;
+use std::{env, io};
+use stream_sink::StreamSink;
+
+/// The status of want of memory.
+const NO_MEMORY: u8 = 5;
+
+// The words after the program's name.
+fn words_of<R: Env + AllocGlobal>(rt: &R, alloc: Global) -> io::Result<Words> {
+    let mut words = Words::new(alloc);
+    for word in env::args(rt)?.skip(1) {
+        if words.push(word.as_str()).is_err() {
+            return Err(io::Error::from(io::ErrorKind::OutOfMemory));
+        }
+    }
+    Ok(words)
+}
+
+fn main(rt: HostRuntime) -> ExitCode {
+    let alloc = rt.alloc();
+    let words = match words_of(&rt, alloc) {
+        Ok(words) => words,
+        Err(error) if error.kind() == io::ErrorKind::OutOfMemory => {
+            return ExitCode::from(NO_MEMORY);
+        }
+        // A word that isn't UTF-8 is a usage fault, as no words are.
+        Err(_) => Words::new(alloc),
+    };
+    let mut place = FilePlace::new(&rt);
+    let mut out = StreamSink::new(rt.stdout());
+    let mut err = StreamSink::new(rt.stderr());
+    ExitCode::from(run(alloc, &words, &mut place, &mut out, &mut err))
+}
