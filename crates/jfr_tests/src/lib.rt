@@ -1,0 +1,9 @@
+//! Tests of the top call over places in memory, as tables.
+//!
+//! The test chunks stand in `chunks.rt`, under plain names.
+#![tactic(auto)]
+
+#[cfg(test)]
+mod chunks;
+#[cfg(test)]
+mod scrubs;

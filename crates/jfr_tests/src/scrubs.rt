@@ -1,0 +1,229 @@
+// Scrubs of the plain chunk.
+use crate::chunks::PLAIN;
+use jfr_cli::run;
+use jfr_outside::{Call, MemoryPlace, MemorySink, Place, SteadyPlace, SteadySink, Words};
+use std::alloc::Global;
+use std::process::Abort;
+use std::test::Fail;
+
+// The words of a command line.
+fn words(alloc: Global, line: &[&str]) -> Result<Words, Fail> {
+    let mut words = Words::new(alloc);
+    for word in line {
+        words.push(word)?;
+    }
+    Ok(words)
+}
+
+// The plain chunk so many times, and then its first bytes.
+fn plain(alloc: Global, times: usize, more: usize) -> Result<Vec<u8>, Fail> {
+    let mut bytes = Vec::new(alloc);
+    for _ in 0..times {
+        bytes.extend_from_slice(&PLAIN)?;
+    }
+    for byte in PLAIN.iter().take(more) {
+        bytes.push(*byte)?;
+    }
+    Ok(bytes)
+}
+
+// Runs `scrub a.jfr b.jfr`, and compares the status, the line and the output.
+fn scrub(
+    rt: &impl Abort,
+    alloc: Global,
+    place: &mut MemoryPlace,
+    status: u8,
+    line: &str,
+    output: Option<&[u8]>,
+) -> Result<(), Fail> {
+    let words = words(alloc, &["scrub", "a.jfr", "b.jfr"])?;
+    let mut out = MemorySink::new(alloc);
+    let mut err = MemorySink::new(alloc);
+    assert_eq!(rt;
+        run(alloc, &words, place, &mut out, &mut err),
+        status,
+        "{line}"
+    );
+    assert_eq!(rt; err.bytes(), line.as_bytes());
+    assert_eq!(rt; out.bytes().len(), 0);
+    assert_eq!(rt; place.file("b.jfr"), output);
+    Ok(())
+}
+
+// Two chunks come out as they are, however reads are cut.
+#[test]
+fn plain_chunks_stay(rt: HostRuntime) -> Result<(), Fail> {
+    for size in [1, 7, 67, 68, 69, 103, 4096] {
+        let bytes = plain(rt.alloc(), 2, 0)?;
+        let mut place = MemoryPlace::new(rt.alloc());
+        place.put("a.jfr", &bytes)?;
+        place.cut(size);
+        scrub(&rt, rt.alloc(), &mut place, 0, "", Some(&bytes))?;
+    }
+    Ok(())
+}
+
+// The plain chunk with some bytes changed.
+fn changed(alloc: Global, changes: &[(usize, u8)]) -> Result<Vec<u8>, Fail> {
+    let mut bytes = plain(alloc, 1, 0)?;
+    for (at, byte) in changes {
+        if let Some(there) = bytes.get_mut(*at) {
+            *there = *byte;
+        }
+    }
+    Ok(bytes)
+}
+
+// Bytes of the plain chunk are changed, and it is refused for the first flaw.
+#[test]
+fn changed_chunks_are_refused(rt: HostRuntime) -> Result<(), Fail> {
+    for (changes, line) in [
+        (&[(0usize, 0x47u8)][..], "chunk 1 offset 0: Magic\n"),
+        (&[(5, 0x01)][..], "chunk 1 offset 4: Version\n"),
+        (&[(64, 0x01)][..], "chunk 1 offset 64: Unfinished\n"),
+        (
+            &[(64, 0x01), (67, 0x00)][..],
+            "chunk 1 offset 64: Unfinished\n",
+        ),
+        (&[(67, 0x00)][..], "chunk 1 offset 67: NotCompact\n"),
+        (&[(15, 0x43)][..], "chunk 1 offset 8: ChunkSize\n"),
+        (&[(12, 0x10)][..], "chunk 1 offset 8: ChunkSize\n"),
+        (&[(96, 0x08)][..], "chunk 1 offset 96: RecordSize\n"),
+        (&[(96, 0x01)][..], "chunk 1 offset 96: RecordSize\n"),
+        (&[(31, 0x45)][..], "chunk 1 offset 24: MetadataPosition\n"),
+        (&[(23, 0x44)][..], "chunk 1 offset 16: PoolPosition\n"),
+        (&[(100, 0x01)][..], "chunk 1 offset 96: PoolsNotBuilt\n"),
+    ] {
+        let bytes = changed(rt.alloc(), changes)?;
+        let mut place = MemoryPlace::new(rt.alloc());
+        place.put("a.jfr", &bytes)?;
+        scrub(&rt, rt.alloc(), &mut place, 2, line, Some(&[]))?;
+    }
+    Ok(())
+}
+
+// A recording that ends early is refused at its end, and the chunks before stand.
+#[test]
+fn cut_recordings_are_refused(rt: HostRuntime) -> Result<(), Fail> {
+    for (times, more, line) in [
+        (0, 0, "chunk 1 offset 0: NoChunk\n"),
+        (0, 67, "chunk 1 offset 67: ShortHeader\n"),
+        (0, 68, "chunk 1 offset 68: ShortChunk\n"),
+        (1, 100, "chunk 2 offset 100: ShortChunk\n"),
+        (2, 1, "chunk 3 offset 1: ShortHeader\n"),
+    ] {
+        let bytes = plain(rt.alloc(), times, more)?;
+        let whole = plain(rt.alloc(), times, 0)?;
+        let mut place = MemoryPlace::new(rt.alloc());
+        place.put("a.jfr", &bytes)?;
+        scrub(&rt, rt.alloc(), &mut place, 2, line, Some(&whole))?;
+    }
+    Ok(())
+}
+
+// Calls of the outside that fail.
+#[test]
+fn faults_are_told(rt: HostRuntime) -> Result<(), Fail> {
+    let two = plain(rt.alloc(), 2, 0)?;
+    let part = plain(rt.alloc(), 1, 10)?;
+    for (call, nth, status, line, output) in [
+        (Call::Open, 1, 3, "read fault\n", None),
+        (Call::Read, 1, 3, "read fault\n", Some(&[][..])),
+        (Call::Create, 1, 4, "write fault\n", None),
+        (Call::Append, 2, 4, "write fault\n", Some(part.as_slice())),
+        (Call::Finish, 1, 4, "write fault\n", Some(two.as_slice())),
+    ] {
+        let mut place = MemoryPlace::new(rt.alloc());
+        place.put("a.jfr", &two)?;
+        place.fail(call, nth, 10)?;
+        scrub(&rt, rt.alloc(), &mut place, status, line, output)?;
+    }
+    // The input isn't there, or the output is there already.
+    let mut place = MemoryPlace::new(rt.alloc());
+    scrub(&rt, rt.alloc(), &mut place, 3, "read fault\n", None)?;
+    place.put("a.jfr", &two)?;
+    place.put("b.jfr", b"mine")?;
+    scrub(
+        &rt,
+        rt.alloc(),
+        &mut place,
+        4,
+        "write fault\n",
+        Some(b"mine"),
+    )?;
+    Ok(())
+}
+
+// A read fails in mid-header, or where the header was refused already; an output is open already.
+#[test]
+fn the_first_event_decides(rt: HostRuntime) -> Result<(), Fail> {
+    let mut place = MemoryPlace::new(rt.alloc());
+    place.put("a.jfr", &PLAIN)?;
+    place.cut(40);
+    place.fail(Call::Read, 2, 0)?;
+    scrub(&rt, rt.alloc(), &mut place, 3, "read fault\n", Some(&[]))?;
+
+    let bytes = changed(rt.alloc(), &[(0, 0x47)])?;
+    let mut place = MemoryPlace::new(rt.alloc());
+    place.put("a.jfr", &bytes)?;
+    place.cut(34);
+    place.fail(Call::Read, 3, 0)?;
+    let line = "chunk 1 offset 0: Magic\n";
+    scrub(&rt, rt.alloc(), &mut place, 2, line, Some(&[]))?;
+
+    let mut place = MemoryPlace::new(rt.alloc());
+    place.put("a.jfr", &PLAIN)?;
+    assert!(&rt; place.create_output("c.jfr").is_ok());
+    scrub(&rt, rt.alloc(), &mut place, 4, "write fault\n", None)?;
+    Ok(())
+}
+
+// Every other list of words is a usage fault, and nothing is done.
+#[test]
+fn other_words_are_a_usage_fault(rt: HostRuntime) -> Result<(), Fail> {
+    let usage = "usage: jfr print|summary|metadata|scrub|disassemble|assemble|sample\n";
+    for line in [
+        &[][..],
+        &["--help"][..],
+        &["frobnicate", "x"][..],
+        &["scrub", "a.jfr"][..],
+        &["print", "--depth", "9", "a.jfr"][..],
+        &["sample", "1", "0"][..],
+        &["scrub", "--include-events", "b.jfr"][..],
+        &["scrub", "a.jfr", ""][..],
+        &["scrub", "a.jfr", "b.jfr", "c.jfr"][..],
+        &["scrubs", "a.jfr", "b.jfr"][..],
+    ] {
+        let mut place = SteadyPlace::new(rt.alloc());
+        place.put("a.jfr", &PLAIN)?;
+        let mut out = SteadySink::new(rt.alloc());
+        let mut err = SteadySink::new(rt.alloc());
+        let words = words(rt.alloc(), line)?;
+        assert_eq!(&rt; run(rt.alloc(), &words, &mut place, &mut out, &mut err), 1);
+        assert_eq!(&rt; err.bytes(), usage.as_bytes());
+        assert_eq!(&rt; place.file("b.jfr"), None);
+    }
+    Ok(())
+}
+
+// Over a steady place a plain chunk is scrubbed; and a line that is cut short changes no status.
+#[test]
+fn sinks_may_fail(rt: HostRuntime) -> Result<(), Fail> {
+    let line = words(rt.alloc(), &["scrub", "a.jfr", "b.jfr"])?;
+    let mut steady = SteadyPlace::new(rt.alloc());
+    steady.put("a.jfr", &PLAIN)?;
+    let mut out = SteadySink::new(rt.alloc());
+    let mut silent = SteadySink::new(rt.alloc());
+    assert_eq!(&rt;
+        run(rt.alloc(), &line, &mut steady, &mut out, &mut silent),
+        0
+    );
+    assert_eq!(&rt; steady.file("b.jfr"), Some(&PLAIN[..]));
+    let mut place = MemoryPlace::new(rt.alloc());
+    place.put("a.jfr", &[])?;
+    let mut err = MemorySink::new(rt.alloc());
+    err.fail(1, 5)?;
+    assert_eq!(&rt; run(rt.alloc(), &line, &mut place, &mut out, &mut err), 2);
+    assert_eq!(&rt; err.bytes(), b"chunk".as_slice());
+    Ok(())
+}
