@@ -1,5 +1,4 @@
 mod Lists
-mod Names
 mod Places
 mod Stages
 mod NamesSeen

@@ -4,19 +4,13 @@ use Rattle.std.specs.Prelude.{Option, Some, None, unwrap_or, suc, Bool, true, fa
 use Rattle.jfr_meta.specs.Attributes.{not_empty}
 use Rattle.std.specs.Borrow.{Bor}
 use Rattle.jfr_outside.specs.Texts.{text_in}
+use Rattle.jfr_outside.proofs.TextLaws.{bytes_eq-chars}
 use Rattle.std.specs.Str.{chars, bytes_eq, IsUtf8, IsAscii, encode_utf8_all}
-use Rattle.std.proofs.lemmas.Bool.Decides.{same_from_decides, Decides-like}
-use Rattle.std.proofs.lemmas.Str.{encodes-chars, encodes_same, chars-nil, chars-IsAscii}
+use Rattle.std.proofs.lemmas.Str.{encodes-chars, chars-nil, chars-IsAscii}
 use Rattle.std.proofs.lemmas.Str.Ascii.{IsAscii-cons, IsAscii-nil}
 use Rattle.std.proofs.lemmas.Bool.Decides.{nat_tests}
 use Rattle.std.specs.Char.{is_ascii}
 use Rattle.std.specs.List.{list_all}
-use Rattle.std.proofs.lemmas.Slice.Eq.{bytes_eq-Decides}
-
--- two texts are equal exactly where their characters are
-pub bytes_eq-chars : (a b : List ℕ) → IsUtf8 a → IsUtf8 b → bytes_eq a b ≡ bytes_eq (chars a) (chars b)
-bytes_eq-chars a b u v = same_from_decides (bytes_eq a b) (bytes_eq (chars a) (chars b)) (bytes_eq-Decides a b)
-    (Decides-like (bytes_eq (chars a) (chars b)) (λ e. sym (encodes-chars a u) ∙ (ap encode_utf8_all e ∙ encodes-chars b v)) (ap chars) (bytes_eq-Decides (chars a) (chars b)))
 
 pub text_or : (o : Option (Bor (List ℕ))) (d : Bor (List ℕ)) → chars d.now ≡ [] → chars (unwrap_or o d).now ≡ unwrap_or (text_in o) []
 text_or None d e = e
@@ -51,9 +45,3 @@ word_ascii (c ∷ cs) e = by_test (is_ascii c) refl e (word_ascii cs)
 
 pub word_eq : (t ws : List ℕ) → IsUtf8 t → IsUtf8 ws → list_all is_ascii ws ≡ true → bytes_eq t ws ≡ bytes_eq (chars t) ws
 word_eq t ws u v e = bytes_eq-chars t ws u v ∙ ap (bytes_eq (chars t)) (chars-IsAscii ws (word_ascii ws e))
-
--- the spellings of two lists of characters are equal exactly where the lists are
-pub bytes_eq-encodes : (a b : List ℕ) → bytes_eq (encode_utf8_all a) (encode_utf8_all b) ≡ bytes_eq a b
-bytes_eq-encodes a b = same_from_decides (bytes_eq (encode_utf8_all a) (encode_utf8_all b)) (bytes_eq a b)
-    (Decides-like (bytes_eq (encode_utf8_all a) (encode_utf8_all b)) (encodes_same a b) (ap encode_utf8_all) (bytes_eq-Decides (encode_utf8_all a) (encode_utf8_all b)))
-    (bytes_eq-Decides a b)

@@ -1,2 +1,3 @@
 pub mod HeldLaws
 pub mod ScriptLaws
+pub mod TextLaws
