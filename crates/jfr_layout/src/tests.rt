@@ -142,7 +142,8 @@ fn values_end(rt: HostRuntime) -> Result<(), Fail> {
     Ok(())
 }
 
-// Two classes of one base name, a class with the id of checkpoints, and an event class.
+// Two classes of one base name, classes with the ids of checkpoints and of metadata, and an event
+// class.
 fn sample(alloc: Global) -> Result<Classes, ClassFault> {
     let mut list = ClassList::new(alloc);
     add(&mut list, alloc, 7, "int", EVENT, &[])?;
@@ -156,6 +157,7 @@ fn sample(alloc: Global) -> Result<Classes, ClassFault> {
         &[("n", inline(7)), ("m", reference(6))],
     )?;
     add(&mut list, alloc, 8, "t.B", EVENT, &[("n", items(1))])?;
+    add(&mut list, alloc, 0, "t.C", EVENT, &[("n", inline(7))])?;
     Classes::make(alloc, list)
 }
 
@@ -176,5 +178,6 @@ fn knows_event_classes(rt: HostRuntime) -> Result<(), Fail> {
     assert!(rt; classes.is_event(8));
     assert!(rt; !classes.is_event(7), "a base name");
     assert!(rt; !classes.is_event(1), "the id of checkpoints");
+    assert!(rt; !classes.is_event(0), "the id of metadata");
     Ok(())
 }

@@ -15,6 +15,21 @@ const TWICE: &[u8] = &[
     0xFF, 0xFF, 0xFF, 0xFF, 0xFF, 0xFF, 0xFF, 0, 1, 7, 1, 1, 0, 3, 1, 0x71,
 ];
 
+// A checkpoint with an entry for the key 1, one with an entry for the key 3, an event, and a checkpoint
+// without pools.
+const THREE: &[u8] = &[
+    0x0E, 1, 0, 0, 0, 0, 1, 7, 1, 1, 0, 3, 1, 0x70, 0x16, 1, 0, 0, 0xF2, 0xFF, 0xFF, 0xFF, 0xFF,
+    0xFF, 0xFF, 0xFF, 0xFF, 0, 1, 7, 1, 3, 0, 3, 1, 0x72, 5, 8, 0xAC, 2, 1, 0x0F, 1, 0, 0, 0xE5,
+    0xFF, 0xFF, 0xFF, 0xFF, 0xFF, 0xFF, 0xFF, 0xFF, 0, 0,
+];
+
+// An event, and a checkpoint of two pools: a node whose text is a key, and strings of which two are the
+// key of the second.
+const STRINGS: &[u8] = &[
+    5, 8, 0xAC, 2, 1, 0x19, 1, 0, 0, 0, 0, 2, 7, 1, 1, 0, 2, 1, 6, 3, 1, 2, 2, 2, 2, 2, 3, 3, 1,
+    0x78,
+];
+
 fn shape(class: u64, constant: bool) -> Shape {
     Shape {
         class,
@@ -91,6 +106,33 @@ fn last_entry_of_a_key_is_in_force(rt: HostRuntime) -> Result<(), Fail> {
     assert_eq!(rt; pools.entry(7, 2), None);
     assert!(rt; !pools.in_force(0));
     assert!(rt; pools.in_force(1));
+    Ok(())
+}
+
+#[test]
+fn entries_follow_the_chain(rt: HostRuntime) -> Result<(), Fail> {
+    let alloc = rt.alloc();
+    let classes = classes(alloc)?;
+    // class, key, checkpoint and pool of each entry
+    let three: &[(u64, u64, usize, usize)] = &[(7, 1, 0, 0), (7, 3, 1, 0)];
+    let strings: &[(u64, u64, usize, usize)] = &[
+        (7, 1, 0, 0),
+        (6, 1, 0, 1),
+        (6, 2, 0, 1),
+        (6, 3, 0, 1),
+    ];
+    for (records, last, expected) in [(THREE, 109, three), (STRINGS, 73, strings)] {
+        let chunk = chunk_of(alloc, records)?;
+        let pools = pools_of(alloc, &classes, &chunk, last)?;
+        assert_eq!(rt; pools.len(), expected.len());
+        for (number, (class, key, checkpoint, pool)) in expected.iter().enumerate() {
+            let entry = pools.get(number).ok_or("no entry")?;
+            assert_eq!(rt; (entry.class, entry.key), (*class, *key));
+            assert_eq!(rt; (entry.checkpoint, entry.pool), (*checkpoint, *pool));
+            assert_eq!(rt; pools.entry(*class, *key), Some(number));
+        }
+        assert_eq!(rt; pools.entry(7, 0), None);
+    }
     Ok(())
 }
 

@@ -28,7 +28,15 @@ fn items(class: u64) -> Shape {
     }
 }
 
-// Adds a class with one field or none.
+fn reference(class: u64) -> Shape {
+    Shape {
+        class,
+        constant: true,
+        array: false,
+    }
+}
+
+// Adds a class with fields of these shapes, four at most.
 fn add(
     list: &mut ClassList,
     alloc: Global,
@@ -43,7 +51,7 @@ fn add(
         fields: Fields::new(alloc),
         categories: Words::new(alloc),
     };
-    let names = ["a", "b", "c"];
+    let names = ["a", "b", "c", "d"];
     for (shape, name) in fields.iter().zip(names.iter()) {
         class.fields.push(FieldInfo {
             name: Text::make(alloc, name)?,
@@ -66,6 +74,20 @@ fn some_classes(alloc: Global) -> Result<Classes, ClassFault> {
     add(&mut list, alloc, 2, "double", &[])?;
     add(&mut list, alloc, 3, "java.lang.String", &[])?;
     add(&mut list, alloc, 4, "t.Pair", &[keys, inline(2)])?;
+    Classes::make(alloc, list)
+}
+
+// The classes of stack traces, with the ids of a recording of JDK 17.
+fn trace_classes(alloc: Global) -> Result<Classes, ClassFault> {
+    let mut list = ClassList::new(alloc);
+    let frame = [reference(168), inline(207), inline(207), reference(189)];
+    let trace = [inline(212), items(197)];
+    add(&mut list, alloc, 188, "jdk.types.StackTrace", &trace)?;
+    add(&mut list, alloc, 197, "jdk.types.StackFrame", &frame)?;
+    add(&mut list, alloc, 168, "jdk.types.Method", &[])?;
+    add(&mut list, alloc, 189, "jdk.types.FrameType", &[])?;
+    add(&mut list, alloc, 207, "int", &[])?;
+    add(&mut list, alloc, 212, "boolean", &[])?;
     Classes::make(alloc, list)
 }
 
@@ -171,6 +193,39 @@ fn leaves_follow_one_another(rt: HostRuntime) -> Result<(), Fail> {
     assert_eq!(rt; seen.as_slice(), expected.as_slice());
     let second = child(&classes, &node, &Step::Item(1)).ok_or("no item")?;
     assert_eq!(rt; (second.at, second.end), (12, 21));
+    Ok(())
+}
+
+#[test]
+fn stack_traces_are_read(rt: HostRuntime) -> Result<(), Fail> {
+    let alloc = rt.alloc();
+    let classes = trace_classes(alloc)?;
+    // a constant of a recording of JDK 17: three frames
+    let bytes = [
+        0x00, 0x03, 0xa1, 0x80, 0xc8, 0x39, 0xd9, 0x01, 0x0f, 0x00, 0x81, 0x80, 0xa4, 0x3c, 0xff,
+        0xff, 0xff, 0xff, 0x0f, 0x08, 0x00, 0x8e, 0x80, 0xf8, 0x08, 0xc8, 0x06, 0x0b, 0x00,
+    ];
+    let node = node_at_front(&classes, inline(188), &bytes).ok_or("no value")?;
+    assert_eq!(rt; node.end, 29);
+    let seen = leaves_of::<Brand>(alloc, Blank::new(1), &classes, node)?;
+    let int = LeafKind::Base(Kind::Int);
+    let expected = [
+        (LeafKind::Base(Kind::Boolean), 0),
+        (LeafKind::Count(3), 1),
+        (LeafKind::Key(120_717_345), 2),
+        (int, 6),
+        (int, 8),
+        (LeafKind::Key(0), 9),
+        (LeafKind::Key(126_418_945), 10),
+        (int, 14),
+        (int, 19),
+        (LeafKind::Key(0), 20),
+        (LeafKind::Key(18_743_310), 21),
+        (int, 25),
+        (int, 27),
+        (LeafKind::Key(0), 28),
+    ];
+    assert_eq!(rt; seen.as_slice(), expected.as_slice());
     Ok(())
 }
 
