@@ -5,7 +5,7 @@ use Rattle.std.proofs.lemmas.Map.Views.{exact_unsigned_eq}
 use Rattle.jfr_pool.specs.declared.entry.EntryAt.{EntryAt}
 use Rattle.jfr_chunk.specs.Laws.{IsLast}
 use Rattle.jfr_pool.specs.Entries.{or_later, last_from, number_in_force, in_force}
-use Rattle.jfr_chunk.proofs.Tests.{left_true, right_true, is_eq}
+use Rattle.jfr_chunk.proofs.TestLaws.{left_true, right_true, is_eq}
 
 abbrev pub fits : EntryAt → ℕ × ℕ → Bool
 fits e t = (e.class == t.0) && (e.key == t.1)

@@ -1,20 +1,25 @@
 pub mod ChainAnswers
 mod Chunks
+mod EventReading
 pub mod AllLaws
 pub mod AnswerLaws
 pub mod ForceLaws
+mod InertLaws
 pub mod MeaningLaws
 pub mod Members
 pub mod PartsLaws
 pub mod PathLaws
 pub mod ReachLaws
 pub mod ReachedLaws
+pub mod Reading
 mod RefusalRows
 mod RingRows
 pub mod Rounds
 mod Rows
+pub mod SeenLaws
 pub mod StageLaws
 pub mod StandingLaws
 pub mod SweepLaws
-pub mod Tests
+pub mod TestLaws
+mod FilterRows
 mod ThreadRows

@@ -23,7 +23,7 @@ use Rattle.jfr_chunk.specs.Parts.{StartsAt, HasFields}
 use Rattle.jfr_chunk.specs.Refusal.{FirstFails, fields_by, events_checked}
 use Rattle.jfr_chunk.proofs.Members.{In, contains_in, in_contains}
 use Rattle.jfr_chunk.proofs.AllLaws.{all_in}
-use Rattle.jfr_chunk.proofs.Tests.{left_true, right_true, is_eq}
+use Rattle.jfr_chunk.proofs.TestLaws.{left_true, right_true, is_eq}
 
 pub flaw_is : (e : Flaw) (o : ℕ) (why : Reason) → e.offset ≡ o → e.reason ≡ why → record { offset = o; reason = why } ≡ e
 flaw_is e o why p q =

@@ -2,7 +2,10 @@ pub mod Parts
 pub mod Refusal
 pub mod Paths
 pub mod Reach
+pub mod Chosen
 pub mod Written
 pub mod Scrub
 pub mod Meaning
+pub mod Seen
+pub mod Stages
 pub mod Laws

@@ -1,6 +1,6 @@
 -- What an accepted chunk consists of. The bytes determine the parts.
-use Rattle.std.specs.Prelude.{◌≡◌, ℕ, List, take, filter, reverse, Option, Some, None, Ok, Err, Contains, All}
-use Rattle.std.specs.List.{filter_map}
+use Rattle.std.specs.Prelude.{◌≡◌, ℕ, Bool, not, ◌||◌, ◌==◌, List, take, filter, reverse, Option, Some, None, Ok, Err, Contains, All}
+use Rattle.std.specs.List.{filter_map, list_any}
 use Rattle.jfr_header.specs.Headers.{header_of}
 use Rattle.jfr_base.specs.Formats.{Reads, Answer, run}
 use Rattle.jfr_layout.specs.Classes.{Classes, is_event_class}
@@ -56,6 +56,10 @@ event_of c k r = event_by r (run (value_format k (inline r.type_id)) c (record_e
 -- The events of a chunk, in order.
 unfoldable pub events_of : Parts → List EventAt
 events_of p = filter_map (event_of p.bytes p.classes) (event_records p.classes p.records)
+
+-- A record that is neither an event, nor the header's metadata record, nor a chained checkpoint.
+abbrev pub is_inert : Parts → Framed → Bool
+is_inert p r = not (is_event_class p.classes r.type_id || (r.at == metadata_at p.bytes) || list_any (λ l. l.frame.at == r.at) p.chain)
 
 -- A record of the type starts at the place.
 pub record StartsAt (rs : List Framed) (at type_id : ℕ) (r : Framed) : Type 0 where

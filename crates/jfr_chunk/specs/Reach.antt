@@ -5,7 +5,7 @@ use Rattle.jfr_value.specs.declared.node.Step.{Step}
 use Rattle.jfr_value.specs.Nodes.{NodeAt, target, targets}
 use Rattle.jfr_pool.specs.declared.entry.EntryAt.{EntryAt}
 use Rattle.jfr_pool.specs.Entries.{number_in_force, entry_node}
-use Rattle.jfr_chunk.specs.Parts.{Parts, EventAt}
+use Rattle.jfr_chunk.specs.Parts.{Parts, EventAt, events_of}
 use Rattle.jfr_chunk.specs.Paths.{leads}
 
 -- A path of a kept event leads to a node that refers to a class and a key whose entry in force has this number.
@@ -78,6 +78,10 @@ marked [] xs = []
 marked (m ∷ ms) [] = []
 marked (true ∷ ms) (x ∷ xs) = x ∷ marked ms xs
 marked (false ∷ ms) (x ∷ xs) = marked ms xs
+
+-- The events that are kept, by a flag for each.
+abbrev pub kept_by : Parts → List Bool → List EventAt
+kept_by p flags = marked flags (events_of p)
 
 -- The entries that remain: those that are in force and reached.
 unfoldable pub remain : Parts → List EventAt → List EntryAt

@@ -4,6 +4,15 @@
 //! `specs/Scrub.antt`, `specs/Meaning.antt` and `specs/Laws.antt`.
 #![tactic(auto)]
 
+mod chunk;
+mod event;
+mod kept;
 mod laws;
+mod read;
+#[cfg(test)]
+mod tests;
 
+pub use chunk::Chunk;
+pub use event::Event;
+pub use kept::Kept;
 pub use laws::{computed_answer, marked_by_paths, one_answer, one_in_force, one_parts, same_paths};

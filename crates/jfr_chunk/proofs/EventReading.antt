@@ -1,0 +1,128 @@
+-- The events of a chunk, read one after another.
+use Rattle.std.specs.Prelude.{◌≡◌, ℕ, zero, suc, ◌+◌, ◌≤◌, Bool, true, false, List, [], ◌∷◌, ◌++◌, length, map, drop, slice_get, Option, Some, None, Ok, Err, IsSome, cond, nat_lt, ◌&&◌, option_map}
+use Rattle.std.specs.List.{AllByRecursion, filter_map, cons_option}
+use Rattle.std.specs.Option.{option_map_or}
+use Rattle.std.proofs.Common.{ap, arith, refl, sym, ◌∙◌, subst, append_assoc, add-one}
+use Rattle.std.proofs.lemmas.List.{map-append, append-nil}
+use Rattle.std.proofs.lemmas.List.Elements.{All-from_recursion}
+use Rattle.jfr_base.specs.declared.flaw.Flaw.{Flaw}
+use Rattle.jfr_base.specs.Formats.{Answer, run, seen}
+use Rattle.jfr_layout.specs.Classes.{Class, Classes, find_class, extends_event, is_event_class}
+use Rattle.jfr_frame.specs.declared.framed.Framed.{Framed}
+use Rattle.jfr_frame.specs.Records.{IsRecord, AreRecords, record_end}
+use Rattle.jfr_value.specs.Values.{Value}
+use Rattle.jfr_value.specs.Reading.{value_format}
+use Rattle.jfr_pool.specs.Entries.{inline}
+use Rattle.jfr_chunk.specs.declared.chunk.FieldsAt.{FieldsAt}
+use Rattle.jfr_chunk.specs.Parts.{HasFields, event_records, event_by, event_of}
+use Rattle.jfr_chunk.specs.Refusal.{fields_by, events_checked}
+use Rattle.jfr_chunk.specs.Seen.{event_with, event_kept}
+use Rattle.jfr_chunk.specs.Stages.{AreFields, IsRefusedEvents}
+use Rattle.jfr_chunk.proofs.AllLaws.{all_get, filter_all}
+use Rattle.jfr_chunk.proofs.StandingLaws.{tiles_each}
+use Rattle.jfr_chunk.proofs.StageLaws.{EventsTell, events_tell}
+
+-- the class of an event is known
+pub event_known : (k : Classes) (id : ℕ) → is_event_class k id ≡ true → IsSome (find_class k id)
+unfolding is_event_class
+event_known k id e = by_class (find_class k id) (nat_lt 1 id) e
+  where
+    by_class : (o : Option Class) (b : Bool) → (b && option_map_or extends_event o false) ≡ true → IsSome o
+    by_class (Some c) b h = refl
+    by_class None true h = cc
+    by_class None false h = cc
+
+pub record_of : (c : List ℕ) (rs : List Framed) (n : ℕ) (r : Framed) → AreRecords c rs → slice_get rs n ≡ Some r → IsRecord c r
+record_of c rs n r t e = all_get (IsRecord c) rs n r (tiles_each c 68 (length c) rs t) e
+
+drop_suc : {X : Type 0} (xs : List X) (n : ℕ) (x : X) → slice_get xs n ≡ Some x → drop n xs ≡ x ∷ drop (suc n) xs
+drop_suc [] n x e = cc
+drop_suc (y ∷ ys) zero x e = let h : y ≡ x = cc in ap (λ z. z ∷ ys) h
+drop_suc (y ∷ ys) (suc n) x e = drop_suc ys n x e
+
+drop_at : {X : Type 0} (xs : List X) (n : ℕ) (x : X) → slice_get xs n ≡ Some x → drop n xs ≡ x ∷ drop (n + 1) xs
+drop_at xs n x e = drop_suc xs n x e ∙ ap (λ m. x ∷ drop m xs) (sym (add-one n))
+
+drop_past : {X : Type 0} (xs : List X) (n : ℕ) → length xs ≤ n → drop n xs ≡ []
+drop_past [] zero h = refl
+drop_past [] (suc n) h = refl
+drop_past (x ∷ xs) zero h = absurd (omega (arith, h))
+drop_past (x ∷ xs) (suc n) h = drop_past xs n (omega (arith, h))
+
+module _ (c : List ℕ) (k : Classes) (rs : List Framed) where
+  abbrev all : List Framed
+  all = event_records k rs
+
+  -- the events up to a record are read: the flaw and the events are those of the rest behind these
+  pub record Pending (left : List Framed) (fields : List FieldsAt) : Type 0 where
+    pub checked : events_checked c k all left ≡ events_checked c k all all
+    pub listed : map (event_kept rs) fields ++ map Some (filter_map (event_of c k) left) ≡ map Some (filter_map (event_of c k) all)
+
+  abbrev pub ReadTo : ℕ → List FieldsAt → Type 0
+  ReadTo n fields = Pending (event_records k (drop n rs)) fields
+
+  pub read_none : (fields : List FieldsAt) → fields ≡ [] → ReadTo 0 fields
+  read_none fields e = subst (Pending all) (sym e) (record { checked = refl; listed = refl })
+
+  left_at : (n : ℕ) (r : Framed) → slice_get rs n ≡ Some r → event_records k (drop n rs) ≡ cond (is_event_class k r.type_id) (r ∷ event_records k (drop (n + 1) rs)) (event_records k (drop (n + 1) rs))
+  left_at n r e = ap (event_records k) (drop_at rs n r e)
+
+  left_other : (n : ℕ) (r : Framed) → slice_get rs n ≡ Some r → is_event_class k r.type_id ≡ false → event_records k (drop n rs) ≡ event_records k (drop (n + 1) rs)
+  left_other n r e f = left_at n r e ∙ ap (λ b. cond b (r ∷ event_records k (drop (n + 1) rs)) (event_records k (drop (n + 1) rs))) f
+
+  left_event : (n : ℕ) (r : Framed) → slice_get rs n ≡ Some r → is_event_class k r.type_id ≡ true → event_records k (drop n rs) ≡ r ∷ event_records k (drop (n + 1) rs)
+  left_event n r e f = left_at n r e ∙ ap (λ b. cond b (r ∷ event_records k (drop (n + 1) rs)) (event_records k (drop (n + 1) rs))) f
+
+  -- a record that is no event
+  pub read_other : (n : ℕ) (fields : List FieldsAt) (r : Framed) → slice_get rs n ≡ Some r → is_event_class k r.type_id ≡ false → ReadTo n fields → ReadTo (n + 1) fields
+  read_other n fields r e f p = subst (λ left. Pending left fields) (left_other n r e f) p
+
+  abbrev answer : Framed → Answer Value
+  answer r = run (value_format k (inline r.type_id)) c (record_end r) r.body
+
+  -- an event whose fields stand
+  pub read_event : (n : ℕ) (fields : List FieldsAt) (r : Framed) (end : ℕ) → slice_get rs n ≡ Some r → is_event_class k r.type_id ≡ true → Ok end ≡ seen (answer r) → ReadTo n fields
+      → ReadTo (n + 1) (fields ++ record { «record» = n; end = end } ∷ [])
+  read_event n fields r end e f s p = by_answer (answer r) refl s (subst (λ left. Pending left fields) (left_event n r e f) p)
+    where
+      rest : List Framed
+      rest = event_records k (drop (n + 1) rs)
+
+      by_answer : (a : Answer Value) → answer r ≡ a → Ok end ≡ seen a → Pending (r ∷ rest) fields → Pending rest (fields ++ record { «record» = n; end = end } ∷ [])
+      by_answer (Err flaw) q s p = cc
+      by_answer (Ok g) q s p =
+          let t : end ≡ g.place = cc in
+          let m : option_map (event_with end) (slice_get rs n) ≡ event_by r (Ok g) = ap (option_map (event_with end)) e ∙ ap (λ z. Some (event_with z r)) t in
+          let o : event_of c k r ≡ Some (event_with end r) = ap (event_by r) q ∙ ap (λ z. Some (event_with z r)) (sym t) in
+          record {
+            checked = sym (ap (λ a. fields_by a (events_checked c k all rest)) q) ∙ p.checked;
+            listed =
+                ap (λ z. z ++ map Some (filter_map (event_of c k) rest)) (map-append (event_kept rs) fields (record { «record» = n; end = end } ∷ []))
+                ∙ append_assoc (map (event_kept rs) fields) (event_kept rs (record { «record» = n; end = end }) ∷ []) (map Some (filter_map (event_of c k) rest))
+                ∙ ap (λ z. map (event_kept rs) fields ++ z ∷ map Some (filter_map (event_of c k) rest)) (ap (option_map (event_with end)) e)
+                ∙ ap (λ z. map (event_kept rs) fields ++ map Some (cons_option z (filter_map (event_of c k) rest))) (sym o)
+                ∙ p.listed;
+          }
+
+  each : AreRecords c rs → AllByRecursion (IsRecord c) all
+  each t = filter_all (IsRecord c) (λ r. is_event_class k r.type_id) rs (tiles_each c 68 (length c) rs t)
+
+  -- an event whose fields don't stand
+  pub read_stops : (n : ℕ) (fields : List FieldsAt) (r : Framed) (flaw : Flaw) → AreRecords c rs → slice_get rs n ≡ Some r → is_event_class k r.type_id ≡ true → Err flaw ≡ seen (answer r) → ReadTo n fields → IsRefusedEvents c k rs flaw
+  read_stops n fields r flaw t e f s p = subst (EventsTell c k all all) (by_answer (answer r) refl s (subst (λ left. Pending left fields) (left_event n r e f) p)) (events_tell c k all all (each t))
+    where
+      rest : List Framed
+      rest = event_records k (drop (n + 1) rs)
+
+      by_answer : (a : Answer Value) → answer r ≡ a → Err flaw ≡ seen a → Pending (r ∷ rest) fields → events_checked c k all all ≡ Err flaw
+      by_answer (Ok g) q s p = cc
+      by_answer (Err other) q s p = let h : other ≡ flaw = cc in sym p.checked ∙ (ap (λ a. fields_by a (events_checked c k all rest)) q ∙ ap (λ z. Err z) h)
+
+  -- all are read
+  pub read_all : (n : ℕ) (fields : List FieldsAt) → AreRecords c rs → length rs ≤ n → ReadTo n fields → AreFields c k rs fields
+  read_all n fields t h p =
+      let q : Pending [] fields = subst (λ left. Pending left fields) (ap (event_records k) (drop_past rs n h)) p in
+      record {
+        stand = All-from_recursion (HasFields c k) all (subst (EventsTell c k all all) (sym q.checked) (events_tell c k all all (each t)));
+        listed = sym (append-nil (map (event_kept rs) fields)) ∙ q.listed;
+      }

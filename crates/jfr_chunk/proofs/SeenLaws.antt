@@ -1,0 +1,46 @@
+-- The events that a chunk keeps.
+use Rattle.std.specs.Prelude.{◌≡◌, ℕ, zero, suc, List, [], ◌∷◌, length, map, slice_get, Option, Some, None, option_and_then}
+use Rattle.std.proofs.Common.{ap, refl, sym, ◌∙◌}
+use Rattle.jfr_frame.specs.declared.framed.Framed.{Framed}
+use Rattle.jfr_chunk.specs.declared.chunk.FieldsAt.{FieldsAt}
+use Rattle.jfr_chunk.specs.Parts.{Parts, events_of}
+use Rattle.jfr_chunk.specs.Seen.{event_kept, event_with}
+
+-- a function whose values at one list are the members of another
+pub each_length : {A B : Type 0} (f : A → Option B) (xs : List A) (ys : List B) → map f xs ≡ map Some ys → length xs ≡ length ys
+each_length f [] [] e = refl
+each_length f [] (y ∷ ys) e = cc
+each_length f (x ∷ xs) [] e = cc
+each_length f (x ∷ xs) (y ∷ ys) e = ap suc (each_length f xs ys (tails (f x) (Some y) (map f xs) (map Some ys) e))
+  where
+    tails : {C : Type 0} (c d : C) (cs ds : List C) → (c ∷ cs) ≡ (d ∷ ds) → cs ≡ ds
+    tails c d cs ds e = cc
+
+pub each_get : {A B : Type 0} (f : A → Option B) (xs : List A) (ys : List B) (n : ℕ) → map f xs ≡ map Some ys → option_and_then f (slice_get xs n) ≡ slice_get ys n
+each_get f [] [] n e = refl
+each_get f [] (y ∷ ys) n e = cc
+each_get f (x ∷ xs) [] n e = cc
+each_get f (x ∷ xs) (y ∷ ys) zero e = heads (f x) (Some y) (map f xs) (map Some ys) e
+  where
+    heads : {C : Type 0} (c d : C) (cs ds : List C) → (c ∷ cs) ≡ (d ∷ ds) → c ≡ d
+    heads c d cs ds e = cc
+each_get f (x ∷ xs) (y ∷ ys) (suc n) e = each_get f xs ys n (tails (f x) (Some y) (map f xs) (map Some ys) e)
+  where
+    tails : {C : Type 0} (c d : C) (cs ds : List C) → (c ∷ cs) ≡ (d ∷ ds) → cs ≡ ds
+    tails c d cs ds e = cc
+
+-- the event of a number
+pub event_found : (p : Parts) (fs : List FieldsAt) (n : ℕ) (f : FieldsAt) (r : Framed) → map (event_kept p.records) fs ≡ map Some (events_of p) → slice_get fs n ≡ Some f → slice_get p.records f.record ≡ Some r
+    → Some (event_with f.end r) ≡ slice_get (events_of p) n
+event_found p fs n f r e g h = sym (ap (λ o. option_and_then (event_kept p.records) o) g ∙ by_record (slice_get p.records f.record) h) ∙ each_get (event_kept p.records) fs (events_of p) n e
+  where
+    by_record : (o : Option Framed) → o ≡ Some r → option_and_then (λ x. Some (event_with f.end x)) o ≡ Some (event_with f.end r)
+    by_record o q = ap (λ z. option_and_then (λ x. Some (event_with f.end x)) z) q
+
+-- or there is none
+pub event_missed : (p : Parts) (fs : List FieldsAt) (n : ℕ) (f : FieldsAt) → map (event_kept p.records) fs ≡ map Some (events_of p) → slice_get fs n ≡ Some f → slice_get p.records f.record ≡ None
+    → None ≡ slice_get (events_of p) n
+event_missed p fs n f e g h = sym (ap (λ o. option_and_then (event_kept p.records) o) g ∙ by_record (slice_get p.records f.record) h) ∙ each_get (event_kept p.records) fs (events_of p) n e
+  where
+    by_record : (o : Option Framed) → o ≡ None → option_and_then (λ x. Some (event_with f.end x)) o ≡ None
+    by_record o q = ap (λ z. option_and_then (λ x. Some (event_with f.end x)) z) q

@@ -1,0 +1,48 @@
+-- What a chunk keeps beside its bytes, and what its calls hand out.
+use Rattle.std.specs.Prelude.{◌≡◌, ℕ, List, Option, Some, map, take, reverse, slice_get, option_map}
+use Rattle.jfr_header.specs.declared.header.Header.{Header}
+use Rattle.jfr_header.specs.Headers.{header_of}
+use Rattle.jfr_header.specs.Fronts.{Whole}
+use Rattle.jfr_frame.specs.declared.framed.Framed.{Framed}
+use Rattle.jfr_layout.specs.Classes.{Classes}
+use Rattle.jfr_meta.specs.declared.metadata.Metadata.{Metadata}
+use Rattle.jfr_meta.specs.Body.{Body}
+use Rattle.jfr_value.specs.Nodes.{node_at, node_of}
+use Rattle.jfr_pool.specs.declared.link.Link.{Link}
+use Rattle.jfr_pool.specs.declared.entry.EntryAt.{EntryAt}
+use Rattle.jfr_pool.specs.Entries.{inline}
+use Rattle.jfr_chunk.specs.declared.chunk.FieldsAt.{FieldsAt}
+use Rattle.jfr_chunk.specs.declared.event.Event.{Event}
+use Rattle.jfr_chunk.specs.Parts.{Parts, EventAt, StartsAt, AreParts, events_of, metadata_at}
+
+-- The event whose record has this number, and whose fields end there.
+abbrev pub event_with : ℕ → Framed → EventAt
+event_with end r = record { record_of = r; node = node_at (inline r.type_id) r.body end }
+
+abbrev pub event_kept : List Framed → FieldsAt → Option EventAt
+event_kept rs f = option_map (event_with f.end) (slice_get rs f.record)
+
+-- The parts stand in a whole chunk; the header, the metadata record and the events are those of the parts.
+pub record IsIndexed (p : Parts) (header : Header) (metadata : Framed) (fields : List FieldsAt) : Type 0 where
+  pub whole : Whole p.bytes
+  pub parts : AreParts p
+  pub header_is : header ≡ header_of (take 68 p.bytes)
+  pub metadata_there : StartsAt p.records (metadata_at p.bytes) 0 metadata
+  pub events : map (event_kept p.records) fields ≡ map Some (events_of p)
+
+-- What a metadata record's body holds, as it was read.
+abbrev pub body_in : Metadata → Body
+body_in m = record { start = m.start; duration = m.duration; id = m.id; strings = m.strings; root = m.root }
+
+-- The parts, with the chained checkpoints in the order of the file.
+abbrev pub parts_in : List ℕ → List Framed → List Link → Body → Classes → List EntryAt → Parts
+parts_in bytes records chain body classes entries = record { bytes = bytes; records = records; chain = reverse chain; body = body; classes = classes; entries = entries }
+
+-- An event as it stands in the chunk.
+abbrev pub event_at : Event → EventAt
+event_at e = record { record_of = e.frame; node = node_of e.node }
+
+-- The event has this number, and its node's bytes are the chunk's.
+pub record IsOfChunk (p : Parts) (number : ℕ) (e : Event) : Type 0 where
+  pub number_is : e.number ≡ number
+  pub bytes : e.node.bytes.now ≡ p.bytes

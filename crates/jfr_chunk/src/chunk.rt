@@ -1,0 +1,203 @@
+// A chunk inside the grammar.
+ghost use Rattle.std.specs.Prelude.{◌≡◌, length, filter, reverse, slice_get, take, option_map, Ok, IfOk, IfErr, IfSome, MatchResult};
+ghost use Rattle.jfr_header.specs.Fronts.{Whole};
+ghost use Rattle.jfr_header.specs.Headers.{header_of};
+ghost use Rattle.jfr_meta.specs.Answers.{IfFlawed};
+ghost use Rattle.jfr_pool.specs.Faults.{TellsFlaw};
+ghost use Rattle.jfr_chunk.specs.Parts.{AreParts, StartsAt, events_of, is_inert, metadata_at};
+ghost use Rattle.jfr_chunk.specs.Refusal.{Refused, read_parts};
+ghost use Rattle.jfr_chunk.specs.Seen.{IsOfChunk, event_at};
+
+use crate::Event;
+use crate::read::{header_in, read_events, record_named};
+use jfr_base::{Flaw, ReadFault, Reason};
+use jfr_frame::{Framed, Frames};
+use jfr_header::Header;
+use jfr_layout::{Classes, Shape};
+use jfr_meta::{Metadata, read_metadata};
+use jfr_pool::{Chain, Pools};
+use jfr_value::Node;
+use std::alloc::Global;
+use std::marker::Model;
+
+// The types of metadata records and of checkpoints.
+const METADATA: u64 = 0;
+
+const CHECKPOINT: u64 = 1;
+
+// The header names no metadata record, or no checkpoint.
+const NO_METADATA: Flaw = Flaw {
+    offset: 24,
+    reason: Reason::MetadataPosition,
+};
+
+const NO_CHECKPOINT: Flaw = Flaw {
+    offset: 16,
+    reason: Reason::PoolPosition,
+};
+
+/// Where the fields of an event stand: the number of its record, and the place behind the last field.
+#[derive(Clone, Copy, Debug)]
+pub(crate) struct FieldsAt {
+    pub record: usize,
+    pub end: usize,
+}
+
+/// A chunk inside the grammar, with the indexes over it. None of its bytes is copied.
+#[derive(Drop)]
+pub struct Chunk<'a> {
+    bytes: &'a [u8],
+    header: Header,
+    frames: Frames,
+    metadata_frame: Framed,
+    chain: Chain,
+    metadata: Metadata,
+    pools: Pools,
+    events: Vec<FieldsAt>,
+}
+
+impl<'a> Model for Chunk<'a> {
+    ghost use Rattle.std.specs.Coded.{codes};
+    ghost use Rattle.jfr_meta.specs.Trees.{tree_code};
+    ghost use Rattle.jfr_chunk.specs.Parts.{Parts};
+    ghost use Rattle.jfr_chunk.specs.Seen.{IsIndexed, body_in, parts_in};
+
+    ghost Value = { Parts };
+
+    ghost coded = { Prim.hlevel (codes, tree_code) };
+
+    ghost view = { λ c. parts_in c.bytes.now c.frames c.chain (body_in c.metadata) c.metadata.classes c.pools };
+
+    ghost invariant = { λ c. IsIndexed (parts_in c.bytes.now c.frames c.chain (body_in c.metadata) c.metadata.classes c.pools) c.header c.metadata_frame c.events.items };
+}
+
+impl<'a> Chunk<'a> {
+    /// Reads a whole chunk. It is refused at the first flaw of the first of these stages that has one:
+    /// the records, the positions of the metadata record and of the last checkpoint, the chain of
+    /// checkpoints, the metadata record, the bodies of the chained checkpoints, the fields of the events.
+    pub fn read(alloc: Global, bytes: &'a [u8]) -> Result<Chunk<'a>, ReadFault>
+        requires { Whole bytes.now }
+        ensures ok { IfOk result (λ chunk. chunk.bytes ≡ bytes.now) }
+        ensures refused { IfErr result (IfFlawed (Refused bytes.now)) }
+
+        // The same by computing.
+        ensures exact { MatchResult result (λ chunk. read_parts bytes.now ≡ Ok chunk) (TellsFlaw (read_parts bytes.now)) }
+    {
+        let header = header_in(bytes);
+        let frames = Frames::read(alloc, bytes)?;
+        let metadata_frame = record_named(&frames, header.metadata, METADATA, NO_METADATA)?;
+        record_named(&frames, header.pools, CHECKPOINT, NO_CHECKPOINT)?;
+        let chain = Chain::read(alloc, bytes, &frames, header.pools)?;
+        let metadata = read_metadata(alloc, bytes, &metadata_frame)?;
+        let pools = Pools::read(alloc, bytes, &metadata.classes, &chain)?;
+        let events = read_events(alloc, bytes, &frames, &metadata.classes)?;
+        Ok(Chunk {
+            bytes,
+            header,
+            frames,
+            metadata_frame,
+            chain,
+            metadata,
+            pools,
+            events,
+        })
+    }
+
+    /// The bytes of the chunk.
+    pub fn bytes(&self) -> &'a [u8]
+        ensures exact { result.now ≡ self.now.bytes }
+        ensures whole { Whole self.now.bytes }
+        ensures parts { AreParts self.now }
+    {
+        self.bytes
+    }
+
+    /// The header.
+    pub fn header(&self) -> &Header
+        ensures { result.now ≡ header_of (take 68 self.now.bytes) }
+    {
+        &self.header
+    }
+
+    /// All records, in the order of the file.
+    pub fn frames(&self) -> &Frames
+        ensures { result.now ≡ self.now.records }
+    {
+        &self.frames
+    }
+
+    /// The record of the metadata that the header names.
+    pub fn metadata_frame(&self) -> Framed
+        ensures { StartsAt self.now.records (metadata_at self.now.bytes) 0 result }
+    {
+        self.metadata_frame
+    }
+
+    /// The classes that the metadata describes.
+    pub fn classes(&self) -> &Classes
+        ensures { result.now ≡ self.now.classes }
+    {
+        &self.metadata.classes
+    }
+
+    /// The chained checkpoints.
+    pub fn chain(&self) -> &Chain
+        ensures { reverse result.now ≡ self.now.chain }
+    {
+        &self.chain
+    }
+
+    /// The entries of the chained checkpoints.
+    pub fn pools(&self) -> &Pools
+        ensures { result.now ≡ self.now.entries }
+    {
+        &self.pools
+    }
+
+    /// How many records are neither events, nor the metadata record that the header names, nor chained
+    /// checkpoints.
+    pub fn inert_count(&self) -> u64
+        ensures { result ≡ length (filter (is_inert self.now) self.now.records) }
+    {
+        (self.frames.len() - self.events.len() - self.chain.len() - 1) as u64
+    }
+
+    /// How many events there are.
+    pub fn event_count(&self) -> usize
+        ensures { result ≡ length (events_of self.now) }
+    {
+        self.events.len()
+    }
+
+    /// The event of a number, from 0, in the order of the file; `None` exactly past the end.
+    pub fn event(&self, number: usize) -> Option<Event<'a>>
+        ensures exact { option_map event_at result ≡ slice_get (events_of self.now) number }
+        ensures of_chunk { IfSome result (IsOfChunk self.now number) }
+    {
+        let fields = fields_at(&self.events, number)?;
+        let frame = self.frames.get(fields.record).copied()?;
+        let shape = Shape {
+            class: frame.type_id,
+            constant: false,
+            array: false,
+        };
+        let node = Node {
+            shape,
+            bytes: self.bytes,
+            at: frame.body,
+            end: fields.end,
+        };
+        Some(Event {
+            number,
+            frame,
+            node,
+        })
+    }
+}
+
+// Where the fields of the event of a number stand.
+fn fields_at(events: &[FieldsAt], number: usize) -> Option<FieldsAt>
+    ensures { result ≡ slice_get events.now number }
+{
+    events.get(number).copied()
+}

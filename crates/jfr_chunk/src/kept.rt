@@ -1,0 +1,62 @@
+// Which events are kept.
+ghost use Rattle.std.specs.Prelude.{◌≡◌, ◌<◌, length, replicate, slice_get, slice_set, false, true, IfOk};
+
+use jfr_outside::NoMemory;
+use std::alloc::Global;
+use std::marker::Model;
+
+/// Which events of a chunk are kept: a truth value for each, in the order of the file.
+#[derive(Drop)]
+pub struct Kept {
+    flags: Vec<bool>,
+}
+
+impl Model for Kept {
+    ghost use Rattle.std.specs.Prelude.{List, Bool};
+
+    ghost Value = { List Bool };
+
+    ghost view = { λ kept. kept.flags.items };
+}
+
+impl Kept {
+    /// So many events, of which none is kept.
+    pub fn new(alloc: Global, count: usize) -> Result<Kept, NoMemory>
+        ensures { IfOk result (λ kept. kept ≡ replicate count false) }
+    {
+        let mut flags = Vec::new(alloc);
+        flags.resize(count, false)?;
+        Ok(Kept { flags })
+    }
+
+    /// So many events, all of which are kept.
+    pub fn all(alloc: Global, count: usize) -> Result<Kept, NoMemory>
+        ensures { IfOk result (λ kept. kept ≡ replicate count true) }
+    {
+        let mut flags = Vec::new(alloc);
+        flags.resize(count, true)?;
+        Ok(Kept { flags })
+    }
+
+    /// Says of an event, by its number, whether it is kept.
+    pub fn set(&mut self, at: usize, keep: bool)
+        requires { at < length self.old }
+        ensures { self.new ≡ slice_set self.old at keep }
+    {
+        self.flags[at] = keep;
+    }
+
+    /// Whether the event of a number is kept; `None` exactly past the end.
+    pub fn get(&self, at: usize) -> Option<bool>
+        ensures { result ≡ slice_get self.now at }
+    {
+        self.flags.get(at).copied()
+    }
+
+    /// How many events there are.
+    pub fn len(&self) -> usize
+        ensures { result ≡ length self.now }
+    {
+        self.flags.len()
+    }
+}
