@@ -1,0 +1,139 @@
+-- What the parts of a chunk say of what stays of it: it can be written.
+use Rattle.std.specs.Prelude.{◌≡◌, ℕ, ◌+◌, Bool, true, false, List, [], ◌∷◌, reverse, length, Option, Some, None, ⊤}
+use Rattle.std.specs.List.{AllByRecursion, cons_option, enumerate_from}
+use Rattle.std.proofs.Common.{ap, arith, refl, sym, subst, inl, inr}
+use Rattle.jfr_layout.specs.Classes.{Classes}
+use Rattle.jfr_frame.specs.declared.framed.Framed.{Framed}
+use Rattle.jfr_frame.specs.Records.{IsRecord, Tiles}
+use Rattle.jfr_pool.specs.declared.link.Link.{Link}
+use Rattle.jfr_pool.specs.declared.entry.EntryAt.{EntryAt}
+use Rattle.jfr_pool.specs.Chains.{IsLink}
+use Rattle.jfr_chunk.specs.Parts.{Parts, AreParts, pools_at}
+use Rattle.jfr_chunk.specs.Reach.{marked}
+use Rattle.jfr_chunk.specs.Scrub.{Stay, Whole, Chained, stay_by, groups_of}
+use Rattle.jfr_chunk.proofs.Members.{In, contains_in}
+use Rattle.jfr_chunk.proofs.AllLaws.{all_in}
+use Rattle.jfr_chunk.proofs.StandingLaws.{tiles_each}
+use Rattle.jfr_laws.proofs.Chains.{Linked, chain_linked}
+use Rattle.jfr_laws.proofs.Checkpoints.{CanWrite, checkpoints_can, nine_of}
+use Rattle.jfr_laws.proofs.Order.{Numbered, numbered_at, stays_in, chained_of, Rising, Occurs, AllOccur, occurs_low, in_order}
+use Rattle.jfr_laws.proofs.Stays.{Deltas, StayStands}
+
+-- the chained checkpoints with their numbers, oldest first
+abbrev pub all_links : Parts → List Numbered
+all_links p = enumerate_from 0 (reverse p.chain)
+
+-- a record of type 1
+abbrev pub IsCheckpoint : List ℕ → Numbered → Type 0
+IsCheckpoint c m = IsRecord c m.1.frame × (m.1.frame.type_id ≡ 1)
+
+occurs_in : (rs : List Framed) (f : Framed) → In rs f → Occurs f.at rs
+occurs_in [] f i = absurd i
+occurs_in (r ∷ rs) f (inl e) = inl (ap (λ (z : Framed). z.at) e)
+occurs_in (r ∷ rs) f (inr i) = inr (occurs_in rs f i)
+
+module _ (c : List ℕ) (rs : List Framed) where
+  links_stand : (older : Option ℕ) (ls : List Link) → AllByRecursion (IsRecord c) rs → Linked c rs older ls → AllByRecursion (λ l. IsRecord c l.frame × IsLink c rs l) ls
+  links_stand older [] a k = tt
+  links_stand older (l ∷ ls) a k = ((all_in (IsRecord c) rs l.frame a (contains_in rs l.frame k.0.framed), k.0), links_stand (Some l.frame.at) ls a k.2)
+
+  checkpoints_stand : (i : ℕ) (ls : List Link) → AllByRecursion (λ l. IsRecord c l.frame × IsLink c rs l) ls → AllByRecursion (IsCheckpoint c) (enumerate_from i ls)
+  checkpoints_stand i [] a = tt
+  checkpoints_stand i (l ∷ ls) a = ((a.0.0, a.0.1.checkpoint), checkpoints_stand (i + 1) ls a.1)
+
+  links_occur : (older : Option ℕ) (i : ℕ) (ls : List Link) → Linked c rs older ls → AllOccur rs (enumerate_from i ls)
+  links_occur older i [] k = tt
+  links_occur older i (l ∷ ls) k = (occurs_in rs l.frame (contains_in rs l.frame k.0.framed), links_occur (Some l.frame.at) (i + 1) ls k.2)
+
+  links_rise : (at i : ℕ) (ls : List Link) → Linked c rs (Some at) ls → Rising (at + 1) (enumerate_from i ls)
+  links_rise at i [] k = tt
+  links_rise at i (l ∷ ls) k = (omega (arith, k.1.earlier), links_rise l.frame.at (i + 1) ls k.2)
+
+  chain_rises : (p q : ℕ) (ls : List Link) → Tiles c p rs q → Linked c rs None ls → Rising p (enumerate_from 0 ls)
+  chain_rises p q [] t k = tt
+  chain_rises p q (l ∷ ls) t k = (occurs_low c p q rs l.frame.at t (links_occur None 0 (l ∷ ls) k).0, links_rise l.frame.at 1 ls k.2)
+
+-- it took nine bytes for its delta
+abbrev IsNine : Numbered → Type 0
+IsNine m = m.1.delta_end ≡ m.1.delta_at + 9
+
+abbrev Nines : Bool → List Numbered → Type 0
+Nines true ts = AllByRecursion IsNine ts
+Nines false [] = ⊤
+Nines false (t ∷ ts) = AllByRecursion IsNine ts
+
+module _ (c : List ℕ) (k : Classes) (left : List EntryAt) where
+  -- it can be written with the entries that are left
+  abbrev CanStay : Numbered → Type 0
+  CanStay m = CanWrite c k m.1 (groups_of left m.0)
+
+  nines_later : (rs : List Framed) (older i : ℕ) (ls : List Link) → AllByRecursion CanStay (enumerate_from i ls) → Linked c rs (Some older) ls → AllByRecursion IsNine (enumerate_from i ls)
+  nines_later rs older i [] a b = tt
+  nines_later rs older i (l ∷ ls) a b = (nine_of c l older a.0.link b.1, nines_later rs l.frame.at (i + 1) ls a.1 b.2)
+
+  nines : (rs : List Framed) (ls : List Link) → AllByRecursion CanStay (enumerate_from 0 ls) → Linked c rs None ls → Nines false (enumerate_from 0 ls)
+  nines rs [] a b = tt
+  nines rs (l ∷ ls) a b = nines_later rs l.frame.at 1 ls a.1 b.2
+
+deltas_of : (seen : Bool) (ss : List Stay) → Nines seen (chained_of ss) → Deltas seen ss
+deltas_of seen [] n = tt
+deltas_of seen (Whole r ∷ ss) n = deltas_of seen ss n
+deltas_of true (Chained i l ∷ ss) n = ((λ e. n.0), deltas_of true ss n.1)
+deltas_of false (Chained i l ∷ ss) n = ((λ e. cc), deltas_of true ss n)
+
+-- What holds of those that stay whole.
+abbrev pub OnWhole : (Framed → Type 0) → Stay → Type 0
+OnWhole P (Whole r) = P r
+OnWhole P (Chained i l) = ⊤
+
+pub on_whole : (P : Framed → Type 0) (all : List Numbered) (whole : Framed → Bool) (rs : List Framed) → AllByRecursion P rs → AllByRecursion (OnWhole P) (stays_in all whole rs)
+on_whole P all whole [] a = tt
+on_whole P all whole (r ∷ rs) a = one (numbered_at all r.at) (whole r) (on_whole P all whole rs a.1)
+  where
+    one : (o : Option Numbered) (t : Bool) → AllByRecursion (OnWhole P) (stays_in all whole rs) → AllByRecursion (OnWhole P) (cons_option (stay_by o t r) (stays_in all whole rs))
+    one (Some l) t i = (tt, i)
+    one None true i = (a.0, i)
+    one None false i = i
+
+stays_stand : (c : List ℕ) (left : List EntryAt) (k : Classes) (ss : List Stay) → AllByRecursion (OnWhole (IsRecord c)) ss → AllByRecursion (CanStay c k left) (chained_of ss) → AllByRecursion (StayStands c left k) ss
+stays_stand c left k [] a d = tt
+stays_stand c left k (Whole r ∷ ss) a d = (a.0, stays_stand c left k ss a.1 d)
+stays_stand c left k (Chained i l ∷ ss) a d = ((d.0.link, d.0.groups, d.0.room), stays_stand c left k ss a.1 d.1)
+
+-- What stays can be written, with these entries left.
+pub record Ready (p : Parts) (left : List EntryAt) (ss : List Stay) : Type 0 where
+  pub order : chained_of ss ≡ all_links p
+  pub stand : AllByRecursion (StayStands p.bytes left p.classes) ss
+  pub deltas : Deltas false ss
+
+module _ (p : Parts) (a : AreParts p) where
+  abbrev pub recorded : AllByRecursion (IsRecord p.bytes) p.records
+  recorded = tiles_each p.bytes 68 (length p.bytes) p.records a.records
+
+  pub metadata_stands : IsRecord p.bytes a.metadata_record
+  metadata_stands = all_in (IsRecord p.bytes) p.records a.metadata_record recorded (contains_in p.records a.metadata_record a.metadata_there.listed)
+
+  linked : Linked p.bytes p.records None (reverse p.chain)
+  linked = chain_linked p.bytes p.records (pools_at p.bytes) p.chain a.chain
+
+  abbrev standing_links : AllByRecursion (λ l. IsRecord p.bytes l.frame × IsLink p.bytes p.records l) (reverse p.chain)
+  standing_links = links_stand p.bytes p.records None (reverse p.chain) recorded linked
+
+  pub chained_checkpoints : AllByRecursion (IsCheckpoint p.bytes) (all_links p)
+  chained_checkpoints = checkpoints_stand p.bytes p.records 0 (reverse p.chain) standing_links
+
+  pub ready : (whole : Framed → Bool) (marks : List Bool) → Ready p (marked marks p.entries) (stays_in (all_links p) whole p.records)
+  ready whole marks =
+      let c : List ℕ = p.bytes in
+      let ls : List Link = reverse p.chain in
+      let left : List EntryAt = marked marks p.entries in
+      let ss : List Stay = stays_in (all_links p) whole p.records in
+      let order : chained_of ss ≡ all_links p =
+      in_order c (all_links p) whole p.records 68 (length c) [] (all_links p) a.records refl tt
+      (chain_rises c p.records 68 (length c) ls a.records linked) (links_occur c p.records None 0 ls linked) in
+      let can = checkpoints_can c p.classes p.records marks ls p.entries standing_links a.entries in
+      record {
+        order = order;
+        stand = stays_stand c left p.classes ss (on_whole (IsRecord c) (all_links p) whole p.records recorded) (subst (AllByRecursion (CanStay c p.classes left)) (sym order) can);
+        deltas = deltas_of false ss (subst (Nines false) (sym order) (nines c p.classes left p.records ls can linked));
+      }

@@ -1,0 +1,127 @@
+-- What is written of a chunk, behind a header: it is whole, and no longer than the chunk.
+use Rattle.std.specs.Prelude.{◌≡◌, ℕ, ◌+◌, ◌^◌, ◌<◌, ◌≤◌, Bool, true, false, ◌==◌, ◌||◌, List, [], ◌∷◌, ◌++◌, length, Option, Some, None}
+use Rattle.std.specs.List.{AllByRecursion}
+use Rattle.std.proofs.Common.{ap, arith, refl, sym, ◌∙◌, length-append}
+use Rattle.jfr_base.proofs.HoldLaws.{Holds, holds_at, holds_behind}
+use Rattle.jfr_header.specs.Fronts as fronts
+use Rattle.jfr_frame.specs.declared.framed.Framed.{Framed}
+use Rattle.jfr_frame.specs.Records.{IsRecord, record_bytes}
+use Rattle.jfr_frame.proofs.RecordLaws.{record_one}
+use Rattle.jfr_pool.specs.declared.entry.EntryAt.{EntryAt}
+use Rattle.jfr_chunk.specs.Parts.{Parts, EventAt, AreParts, pools_at, metadata_at}
+use Rattle.jfr_chunk.specs.Reach.{marked}
+use Rattle.jfr_chunk.specs.Scrub.{Written, stays_whole, stays, written, last_at, moved, header_with, assembled}
+use Rattle.jfr_chunk.proofs.Members.{contains_in}
+use Rattle.jfr_chunk.proofs.TestLaws.{is_eq}
+use Rattle.jfr_laws.proofs.Order.{Numbered, numbered_at, found_numbered}
+use Rattle.jfr_laws.proofs.Header.{whole_small, header_length, made_pools, made_metadata, made_whole}
+use Rattle.jfr_laws.proofs.Stays.{bytes_from}
+use Rattle.jfr_laws.proofs.Lengths.{length_back, last_bound, sizes_within}
+use Rattle.jfr_laws.proofs.Found.{Found, found_back}
+use Rattle.jfr_laws.proofs.Premises.{all_links, IsCheckpoint, Ready, recorded, metadata_stands, chained_checkpoints, ready}
+use Rattle.jfr_laws.proofs.Chosen.{is_kept}
+
+only_records : (c : List ℕ) (ts : List Numbered) → AllByRecursion (IsCheckpoint c) ts → AllByRecursion (λ m. IsRecord c m.1.frame) ts
+only_records c [] a = tt
+only_records c (t ∷ ts) a = (a.0.0, only_records c ts a.1)
+
+pub or_right : (x y : Bool) → y ≡ true → (x || y) ≡ true
+or_right true y h = refl
+or_right false y h = h
+
+-- no chained checkpoint stands where a record of type 0 does
+no_link_at : (c : List ℕ) (all : List Numbered) (f : Framed) → AllByRecursion (IsCheckpoint c) all → IsRecord c f → f.type_id ≡ 0 → numbered_at all f.at ≡ None
+no_link_at c all f a s t = by_find (numbered_at all f.at) refl
+  where
+    by_find : (o : Option Numbered) → numbered_at all f.at ≡ o → o ≡ None
+    by_find None g = refl
+    by_find (Some x) g =
+        let h = found_numbered (IsCheckpoint c) all f.at x a g in
+        let j : x.1.frame ≡ f = record_one c x.1.frame f h.0.0 s h.1 in
+        let n : x.1.frame.type_id ≡ f.type_id = ap (λ (z : Framed). z.type_id) j in
+        let o : x.1.frame.type_id ≡ 1 = h.0.1 in
+        absurd (omega arith)
+
+-- The entries that are left, by marks.
+abbrev pub left_of : Parts → List Bool → List EntryAt
+left_of p marks = marked marks p.entries
+
+module _ (p : Parts) (kept : List EventAt) (marks : List Bool) where
+  -- What is written, and its bytes.
+  abbrev pub written_of : List Written
+  written_of = written p.bytes (left_of p marks) 68 None (stays p kept)
+
+  abbrev pub body_of : List ℕ
+  body_of = bytes_from p.bytes (left_of p marks) 68 None (stays p kept)
+
+  -- Where its last checkpoint and its metadata record stand.
+  abbrev pub last_of : ℕ
+  last_of = last_at None written_of
+
+  abbrev pub metadata_of : ℕ
+  metadata_of = moved written_of (metadata_at p.bytes)
+
+  -- It stands in bytes behind a header that leads there.
+  pub record Leading (b : List ℕ) : Type 0 where
+    pub held : Holds b (length b) 68 body_of
+    pub size : length b ≡ 68 + length body_of
+    pub pools : pools_at b ≡ last_of
+    pub metadata : metadata_at b ≡ metadata_of
+
+  -- The chunk of it.
+  abbrev pub out : List ℕ
+  out = assembled p (left_of p marks) (stays p kept)
+
+  abbrev header : List ℕ
+  header = header_with p.bytes (68 + length body_of) last_of metadata_of
+
+  header_is_long : length header ≡ 68
+  header_is_long = header_length p.bytes (68 + length body_of) last_of metadata_of
+
+  out_size : length out ≡ 68 + length body_of
+  out_size = let l : length (header ++ body_of) ≡ length header + length body_of = length-append header body_of in omega (arith, header_is_long)
+
+  out_held : Holds out (length out) 68 body_of
+  out_held = holds_at out (length out) (length header) 68 body_of header_is_long (holds_behind header body_of)
+
+  module _ (a : AreParts p) where
+    pub is_ready : Ready p (left_of p marks) (stays p kept)
+    is_ready = ready p a (stays_whole p kept) marks
+
+    body_fits : 68 + length body_of ≤ length p.bytes
+    body_fits =
+        let l = length_back p.bytes (left_of p marks) p.classes (stays p kept) 68 None is_ready.stand is_ready.deltas in
+        let s = sizes_within p.bytes (all_links p) (stays_whole p kept) (only_records p.bytes (all_links p) (chained_checkpoints p a)) p.records 68 (length p.bytes) a.records in
+        omega (arith, l, s)
+
+    pub out_shorter : length out ≤ length p.bytes
+    out_shorter = omega (arith, body_fits, out_size)
+
+    -- The metadata record is found where the body stands.
+    pub metadata_found : (b : List ℕ) → Holds b (length b) 68 body_of → Found p.bytes (left_of p marks) p.classes b a.metadata_record 68 written_of
+    metadata_found b h =
+        let f : Framed = a.metadata_record in
+        found_back p.bytes (left_of p marks) p.classes b (all_links p) (stays_whole p kept) f (metadata_stands p a)
+        (no_link_at p.bytes (all_links p) f (chained_checkpoints p a) (metadata_stands p a) a.metadata_there.type_is)
+        (or_right (is_kept kept f) (f.at == metadata_at p.bytes) (is_eq f.at (metadata_at p.bytes) a.metadata_there.place))
+        p.records 68 None (recorded p a) (contains_in p.records f a.metadata_there.listed) is_ready.stand is_ready.deltas h
+
+    module _ (whole : fronts.Whole p.bytes) where
+      small : length p.bytes < 2 ^ 28
+      small = whole_small p.bytes whole
+
+      pub out_leading : Leading out
+      out_leading =
+          let f = metadata_found out out_held in
+          let m : metadata_of ≡ f.place = ap (moved written_of) (sym a.metadata_there.place) ∙ f.leads in
+          let w : f.place + length (record_bytes p.bytes a.metadata_record) ≤ length out = f.held.within in
+          let l = last_bound p.bytes (left_of p marks) (stays p kept) 68 None tt in
+          record {
+            held = out_held;
+            size = out_size;
+            pools = made_pools p.bytes body_of (68 + length body_of) last_of metadata_of (omega (arith, l, body_fits, small));
+            metadata = made_metadata p.bytes body_of (68 + length body_of) last_of metadata_of (omega (arith, m, w, out_shorter, small));
+          }
+
+      pub out_whole : fronts.Whole out
+      out_whole = made_whole p.bytes body_of (68 + length body_of) last_of metadata_of whole (sym out_size) (omega (arith, body_fits, small))

@@ -1,0 +1,47 @@
+-- What scrubbing a chunk keeps.
+use Rattle.std.specs.Prelude.{◌≡◌, ℕ, ◌≤◌, ◌<◌, true, List, [], ◌∷◌, length, replicate, ⊤}
+use Rattle.jfr_filter.specs.Filters.{Given}
+use Rattle.jfr_header.specs.Fronts.{Whole}
+use Rattle.jfr_value.specs.Nodes.{node_bytes}
+use Rattle.jfr_pool.specs.declared.entry.EntryAt.{EntryAt}
+use Rattle.jfr_pool.specs.Entries.{entry_node}
+use Rattle.jfr_chunk.specs.Parts.{Parts, EventAt, AreParts, events_of}
+use Rattle.jfr_chunk.specs.Reach.{Reached, remain}
+use Rattle.jfr_chunk.specs.Chosen.{chosen, kept_of}
+use Rattle.jfr_chunk.specs.Scrub.{scrub_of}
+use Rattle.jfr_chunk.specs.Meaning.{SameMeaning}
+use Rattle.jfr_chunk.specs.Laws.{SameRecords}
+
+-- Two entries of one class, key and checkpoint, with equal value bytes.
+pub record IsCopied (p q : Parts) (e f : EntryAt) : Type 0 where
+  pub class : e.class ≡ f.class
+  pub key : e.key ≡ f.key
+  pub checkpoint : e.checkpoint ≡ f.checkpoint
+  pub value : node_bytes p.bytes (entry_node e) ≡ node_bytes q.bytes (entry_node f)
+
+-- Such entries stand one to one, in order.
+abbrev pub AreCopied : Parts → Parts → List EntryAt → List EntryAt → Type 0
+AreCopied p q [] [] = ⊤
+AreCopied p q (e ∷ es) (f ∷ fs) = IsCopied p q e f × AreCopied p q es fs
+AreCopied p q [] (f ∷ fs) = ⊥
+AreCopied p q (e ∷ es) [] = ⊥
+
+-- What a chunk becomes where these events are kept is a whole chunk, no longer than it, and consists of parts: its classes are the same, its events the kept ones, its entries those that remain, and it means the same; each of its entries is reached in it, and with all its events kept it becomes itself.
+pub record IsKept (p : Parts) (kept : List EventAt) : Type 0 where
+  pub parts : Parts
+  pub classes : parts.classes ≡ p.classes
+  pub bytes : parts.bytes ≡ scrub_of p kept
+  pub whole : Whole (scrub_of p kept)
+  pub stand : AreParts parts
+  pub size : length (scrub_of p kept) ≤ length p.bytes
+  pub events : SameRecords p parts kept (events_of parts)
+  pub entries : AreCopied p parts (remain p kept) parts.entries
+  pub meaning : SameMeaning p parts kept (events_of parts)
+  pub reached : (number : ℕ) → number < length parts.entries → Reached parts (events_of parts) number
+  pub again : scrub_of parts (events_of parts) ≡ parts.bytes
+
+-- What a filter leaves of a chunk is kept, the filter keeps all events of that, and scrubbed with it once more it stays the same.
+pub record IsSettled (g : Given) (p : Parts) : Type 0 where
+  pub kept : IsKept p (kept_of g p)
+  pub all : chosen g kept.parts ≡ replicate (length (events_of kept.parts)) true
+  pub again : scrub_of kept.parts (kept_of g kept.parts) ≡ kept.parts.bytes
