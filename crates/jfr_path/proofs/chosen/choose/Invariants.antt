@@ -1,0 +1,11 @@
+use Rattle.std.proofs.Common.{◌≡◌, length}
+use Rattle.std.specs.Prelude.{take}
+use Rattle.jfr_chunk.specs.Chosen.{chosen}
+use Rattle.jfr_path.proofs.chosen.choose.Given as goal
+
+-- the events so far have their truth values
+abbrev pub invariant-loop-number : goal.invariant-loop-number
+invariant-loop-number l = record {
+  room : length l.kept ≡ l.count;
+  so_far : take l.number l.kept ≡ take l.number (chosen l.fn.filter l.fn.chunk);
+}

@@ -1,0 +1,19 @@
+//! Paths through a chunk: where they lead, through fields, items and constants, the texts that names
+//! lead to, and the events that a filter keeps.
+//!
+//! `leads` takes the steps of a `Path`, and `named` the fields of some names; `choose` asks a filter
+//! about each event. What they mean is in `specs/Paths.antt` and `specs/Chosen.antt` of `jfr_chunk`.
+#![tactic(auto)]
+
+mod chosen;
+mod names;
+mod path;
+mod steps;
+
+pub use chosen::choose;
+pub use names::named;
+pub use path::Path;
+pub use steps::{fields_of, leads};
+
+#[cfg(test)]
+mod tests;

@@ -1,0 +1,64 @@
+// Paths.
+ghost use Rattle.std.specs.Prelude.{◌≡◌, [], ◌∷◌, ◌++◌, length, OnOk, OnErr, slice_get};
+ghost use Rattle.std.specs.Option.{option_copied};
+
+use jfr_outside::NoMemory;
+use jfr_value::Step;
+use std::alloc::Global;
+use std::marker::Model;
+
+/// Steps, one after another.
+#[derive(Drop)]
+pub struct Path {
+    steps: Vec<Step>,
+}
+
+impl Model for Path {
+    ghost use Rattle.std.specs.Prelude.{List};
+    ghost use Rattle.jfr_value.specs.declared.node.Step.{Step};
+
+    ghost Value = { List Step };
+
+    ghost view = { λ path. path.steps.items };
+}
+
+impl Path {
+    /// The path without steps. It takes no memory.
+    pub fn new(alloc: Global) -> Path
+        ensures { result ≡ [] }
+    {
+        Path {
+            steps: Vec::new(alloc),
+        }
+    }
+
+    /// Adds the step at the end.
+    pub fn push(&mut self, step: Step) -> Result<(), NoMemory>
+        ensures ok { OnOk result (self.new ≡ self.old ++ step ∷ []) }
+        ensures unchanged { OnErr result (self.new ≡ self.old) }
+    {
+        self.steps.push(step)?;
+        Ok(())
+    }
+
+    /// How many steps the path has.
+    pub fn len(&self) -> usize
+        ensures { result ≡ length self.now }
+    {
+        self.steps.len()
+    }
+
+    /// The step at a place, from 0; `None` exactly past the end.
+    pub fn get(&self, at: usize) -> Option<&Step>
+        ensures { option_copied result ≡ slice_get self.now at }
+    {
+        self.steps.get(at)
+    }
+
+    /// All steps, in order.
+    pub(crate) fn steps(&self) -> &[Step]
+        ensures { result.now ≡ self.now }
+    {
+        &self.steps
+    }
+}

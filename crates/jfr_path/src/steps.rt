@@ -1,0 +1,137 @@
+// Steps from value to value.
+ghost use Rattle.std.specs.Prelude.{◌≡◌, Some, IfSome, option_map, slice_get};
+ghost use Rattle.jfr_chunk.specs.Parts.{AreParts, events_of};
+ghost use Rattle.jfr_chunk.specs.Paths.{follow, leads, step, string_of};
+ghost use Rattle.jfr_chunk.specs.Seen.{event_at};
+ghost use Rattle.jfr_text.specs.Spans.{content_of};
+ghost use Rattle.jfr_value.specs.Nodes.{IsValue, node_of, target};
+ghost use Rattle.jfr_value.specs.Values.{key_of};
+
+use crate::Path;
+use jfr_base::read_within;
+use jfr_chunk::{Chunk, Event};
+use jfr_layout::{Kind, Shape};
+use jfr_text::{StringKind, StringSpan, read_string};
+use jfr_value::{Node, Step, child};
+
+/// The value of an event's fields, where paths begin.
+pub fn fields_of<'a>(chunk: &Chunk<'a>, event: &Event<'_>) -> Node<'a>
+    requires { slice_get (events_of chunk.now) event.now.number ≡ Some (event_at event.now) }
+    ensures exact { node_of result ≡ node_of event.now.node }
+    ensures bytes { result.bytes.now ≡ chunk.now.bytes }
+    ensures value { IsValue chunk.now.classes result }
+    ensures parts { AreParts chunk.now }
+{
+    Node {
+        shape: event.node.shape,
+        bytes: chunk.bytes(),
+        at: event.node.at,
+        end: event.node.end,
+    }
+}
+
+/// Where a path leads from a value of the chunk; `None` exactly where it leads nowhere.
+pub fn leads<'a>(chunk: &Chunk<'a>, node: &Node<'a>, path: &Path) -> Option<Node<'a>>
+    requires value { IsValue chunk.now.classes node.now }
+    requires of_chunk { node.now.bytes.now ≡ chunk.now.bytes }
+    ensures exact { option_map node_of result ≡ leads chunk.now (node_of node.now) path.now }
+    ensures bytes { IfSome result (λ to. to.bytes.now ≡ chunk.now.bytes) }
+    ensures value { IfSome result (IsValue chunk.now.classes) }
+{
+    let mut place = Node {
+        shape: node.shape,
+        bytes: chunk.bytes(),
+        at: node.at,
+        end: node.end,
+    };
+    for next in path.steps() {
+        place = step(chunk, &place, next)?;
+    }
+    Some(place)
+}
+
+/// One step: to a field or an item, or to the constant that is referred to.
+fn step<'a>(chunk: &Chunk<'a>, node: &Node<'a>, by: &Step) -> Option<Node<'a>>
+    requires parts { AreParts chunk.now }
+    requires value { IsValue chunk.now.classes node.now }
+    requires of_chunk { node.now.bytes.now ≡ chunk.now.bytes }
+    ensures exact { option_map node_of result ≡ step chunk.now (node_of node.now) by.now }
+    ensures bytes { IfSome result (λ to. to.bytes.now ≡ chunk.now.bytes) }
+    ensures value { IfSome result (IsValue chunk.now.classes) }
+{
+    match by {
+        Step::Follow => follow(chunk, node),
+        _ => child(chunk.classes(), node, by),
+    }
+}
+
+/// The constant that a reference, or a string that is a key, refers to: the value of the entry in
+/// force.
+pub(crate) fn follow<'a>(chunk: &Chunk<'a>, node: &Node<'a>) -> Option<Node<'a>>
+    requires parts { AreParts chunk.now }
+    requires value { IsValue chunk.now.classes node.now }
+    requires of_chunk { node.now.bytes.now ≡ chunk.now.bytes }
+    ensures exact { option_map node_of result ≡ follow chunk.now (node_of node.now) }
+    ensures bytes { IfSome result (λ to. to.bytes.now ≡ chunk.now.bytes) }
+    ensures value { IfSome result (IsValue chunk.now.classes) }
+{
+    let key = key_in(chunk, node)?;
+    let number = chunk.pools().entry(node.shape.class, key)?;
+    let entry = chunk.pools().get(number)?;
+    let shape = Shape {
+        class: entry.class,
+        constant: false,
+        array: false,
+    };
+    Some(Node {
+        shape,
+        bytes: chunk.bytes(),
+        at: entry.value_at,
+        end: entry.end,
+    })
+}
+
+/// The key of a reference, or of a string that is one.
+fn key_in(chunk: &Chunk<'_>, node: &Node<'_>) -> Option<u64>
+    requires parts { AreParts chunk.now }
+    requires value { IsValue chunk.now.classes node.now }
+    requires of_chunk { node.now.bytes.now ≡ chunk.now.bytes }
+    ensures { option_map (λ key. (node.now.shape.class, key)) result ≡ target chunk.now.classes chunk.now.bytes (node_of node.now) }
+{
+    if node.shape.array {
+        return None;
+    }
+    if node.shape.constant {
+        let Ok(key) = read_within(node.bytes, node.at, node.end) else {
+            unreachable!()
+        };
+        return Some(key.value);
+    }
+    let span = string_of(chunk, node)?;
+    key_of(&span)
+}
+
+/// The key of a string that is one.
+fn key_of(span: &StringSpan<'_>) -> Option<u64>
+    ensures { result ≡ key_of (content_of span.now) }
+{
+    match span.kind {
+        StringKind::Key => Some(span.key),
+        _ => None,
+    }
+}
+
+/// The string that stands there, where it is one.
+pub(crate) fn string_of<'a>(chunk: &Chunk<'_>, node: &Node<'a>) -> Option<StringSpan<'a>>
+    requires value { IsValue chunk.now.classes node.now }
+    requires of_chunk { node.now.bytes.now ≡ chunk.now.bytes }
+    ensures { option_map content_of result ≡ string_of chunk.now (node_of node.now) }
+{
+    if node.shape.array || node.shape.constant {
+        return None;
+    }
+    match chunk.classes().kind(node.shape.class)? {
+        Kind::Text => read_string(node.bytes, node.at, node.end).ok(),
+        _ => None,
+    }
+}
