@@ -1,0 +1,119 @@
+-- The loop over the marked entries.
+use Rattle.std.specs.Prelude.{◌≡◌, ◌↔◌, ℕ, zero, suc, ◌+◌, ◌<◌, ◌≤◌, Bool, true, false, List, [], ◌∷◌, length, replicate, slice_get, slice_index, Some, option_and_then}
+use Rattle.std.proofs.Common.{ap, arith, refl, sym, ◌∙◌, inl, inr, subst}
+use Rattle.std.proofs.lemmas.List.{length-replicate}
+use Rattle.jfr_layout.specs.Classes.{Classes}
+use Rattle.jfr_value.specs.Values.{Value}
+use Rattle.jfr_value.specs.Nodes.{NodeAt, IsNode}
+use Rattle.jfr_pool.specs.declared.entry.EntryAt.{EntryAt}
+use Rattle.jfr_pool.specs.Entries.{IsInForce, entry_node, in_force, number_in_force}
+use Rattle.jfr_chunk.specs.Parts.{Parts, EventAt, AreParts, events_of}
+use Rattle.jfr_chunk.specs.Reach.{IsMarked, Reached, all_targets, nodes_of, roots, next_entries, marked, kept_by, marked_at, swept, reached_marks, led_to}
+use Rattle.jfr_chunk.proofs.ForceLaws.{last_in_force}
+use Rattle.jfr_chunk.proofs.Members.{In, in_those}
+use Rattle.jfr_chunk.proofs.ReachedLaws.{reached_marked}
+use Rattle.jfr_chunk.proofs.StandingLaws.{standing, event_is}
+use Rattle.jfr_chunk.proofs.SweepLaws.{Reach, root, more, AllBelow, marks_reach}
+use Rattle.jfr_reach.specs.Worklists.{ordered_all}
+use Rattle.jfr_reach.specs.Walks.{event_leaves, entry_leaves}
+use Rattle.jfr_reach.proofs.BoundLaws.{leaves_bound}
+use Rattle.jfr_reach.proofs.KeyLaws.{force_within}
+use Rattle.jfr_reach.proofs.WalkLaws.{Walking, all_size, listed_found, walking_ends, started, went_on}
+
+-- an entry that something refers to is in force
+force_of : (es : List EntryAt) (t : ℕ × ℕ) (i : ℕ) → number_in_force es t ≡ Some i → IsInForce es i
+force_of es t i q =
+    let l = (last_in_force es t i).0 q in
+    record { entry = l.entry; stands = l.there; last = subst (λ a. number_in_force es (a, l.entry.key) ≡ Some i) (sym l.class) (subst (λ b. number_in_force es (t.0, b) ≡ Some i) (sym l.key) q) }
+
+module _ (p : Parts) where
+  next_below : (j : ℕ) → AllBelow (length p.entries) (next_entries p j)
+  next_below j i k = let t = in_those (number_in_force p.entries) _ i k in force_within p.entries t.0 i t.2
+
+  roots_below : (kept : List EventAt) → AllBelow (length p.entries) (roots p kept)
+  roots_below kept i k = let t = in_those (number_in_force p.entries) (all_targets p (nodes_of kept)) i k in force_within p.entries t.0 i t.2
+
+  reach_force : (kept : List EventAt) {i : ℕ} → Reach (next_entries p) (roots p kept) i → IsInForce p.entries i
+  reach_force kept {i} (root k) = let t = in_those (number_in_force p.entries) (all_targets p (nodes_of kept)) i k in force_of p.entries t.0 i t.2
+  reach_force kept {i} (more {j = j} r k) = let t = in_those (number_in_force p.entries) _ i k in force_of p.entries t.0 i t.2
+
+  -- a value stands where an entry in force has one
+  pub force_value : AreParts p → (k : Classes) (b : List ℕ) (n : NodeAt) (i : ℕ) (e : EntryAt) → k ≡ p.classes → b ≡ p.bytes → n ≡ entry_node e → Some e ≡ slice_get p.entries i → IsInForce p.entries i → (v : Value) × IsNode k b n v
+  force_value parts k b n i e x y z h f =
+      let g : f.entry ≡ e = (let q : slice_get p.entries i ≡ Some f.entry = f.stands in cc) in
+      let q : in_force p.entries (f.entry.class, f.entry.key) ≡ Some f.entry = ap (option_and_then (λ n. slice_get p.entries n)) f.last ∙ f.stands in
+      let v = (standing p parts).entries (f.entry.class, f.entry.key) f.entry q in
+      let w : IsNode p.classes p.bytes (entry_node e) v.0 = subst (λ (u : EntryAt). IsNode p.classes p.bytes (entry_node u) v.0) g v.1 in
+      (v.0, subst (λ u. IsNode u b n v.0) (sym x) (subst (λ u. IsNode p.classes u n v.0) (sym y) (subst (λ u. IsNode p.classes p.bytes u v.0) (sym z) w)))
+
+  length_swept : (k : ℕ) (ms : List Bool) → length (swept k (next_entries p) ms) ≡ length ms
+  length_swept zero ms = refl
+  length_swept (suc k) ms = all_size (swept k (next_entries p) ms) (led_to (swept k (next_entries p) ms) (next_entries p)) ∙ length_swept k ms
+
+  -- there is a mark for each entry
+  pub marks_size : (kept : List EventAt) → length (reached_marks p kept) ≡ length p.entries
+  unfolding reached_marks
+  marks_size kept =
+      let a = length_swept (length p.entries) (marked_at (replicate (length p.entries) false) (roots p kept)) in
+      let b = all_size (replicate (length p.entries) false) (roots p kept) in
+      a ∙ (b ∙ length-replicate (length p.entries) false)
+
+  module _ (keep : List Bool) where
+    -- what holds before each round, behind the events
+    abbrev pub Going : ℕ → List Bool → List ℕ → ℕ → ℕ → Type 0
+    Going steps f o at s = Walking (length p.entries) (next_entries p) (roots p (kept_by p keep)) (entry_leaves p) (steps + event_leaves p (kept_by p keep)) f o at s
+
+    pub going_starts : (steps : ℕ) (f g : List Bool) (o q : List ℕ) (s : ℕ) → f ≡ replicate (length p.entries) false → o ≡ [] → g ≡ marked_at f (roots p (kept_by p keep)) → q ≡ ordered_all f o (roots p (kept_by p keep))
+        → s ≡ steps + event_leaves p (kept_by p keep) → Going steps g q 0 s
+    going_starts steps f g o q s a b x y z =
+        subst (Going steps g q 0) (sym z)
+        (started (length p.entries) (next_entries p) (roots p (kept_by p keep)) (entry_leaves p) (roots_below (kept_by p keep)) next_below (steps + event_leaves p (kept_by p keep)) g q
+        (x ∙ ap (λ v. marked_at v (roots p (kept_by p keep))) a) (y ∙ (ap (λ v. ordered_all v o (roots p (kept_by p keep))) a ∙ ap (λ v. ordered_all (replicate (length p.entries) false) v (roots p (kept_by p keep))) b)))
+
+    pub going_on : (steps : ℕ) (f g : List Bool) (o q : List ℕ) (at s t j : ℕ) → at < length o → Going steps f o at s → j ≡ slice_index o at → g ≡ marked_at f (next_entries p j) → q ≡ ordered_all f o (next_entries p j) → t ≡ s + entry_leaves p j
+        → Going steps g q (at + 1) t
+    going_on steps f g o q at s t j h w e x y z =
+        went_on (length p.entries) (next_entries p) (roots p (kept_by p keep)) (entry_leaves p) (roots_below (kept_by p keep)) next_below (steps + event_leaves p (kept_by p keep)) f g o q at s t j h w e x y z
+
+    pub going_force : (steps : ℕ) (f : List Bool) (o : List ℕ) (at s j : ℕ) → at < length o → Going steps f o at s → j ≡ slice_index o at → IsInForce p.entries j
+    going_force steps f o at s j h w e =
+        subst (IsInForce p.entries) (sym e) (reach_force (kept_by p keep) (listed_found (length p.entries) (next_entries p) (roots p (kept_by p keep)) (entry_leaves p) (steps + event_leaves p (kept_by p keep)) f o at s h w))
+
+    same_flags : (f g : List Bool) → length f ≡ length g → ((i : ℕ) → IsMarked f i ↔ IsMarked g i) → f ≡ g
+    same_flags [] [] l h = refl
+    same_flags [] (b ∷ g) l h = absurd (omega arith)
+    same_flags (a ∷ f) [] l h = absurd (omega arith)
+    same_flags (a ∷ f) (b ∷ g) l h = by_flag a b (h 0) (same_flags f g (omega arith) (λ i. h (suc i)))
+      where
+        by_flag : (a b : Bool) → (a ≡ true) ↔ (b ≡ true) → f ≡ g → a ∷ f ≡ b ∷ g
+        by_flag true true k e = ap (λ z. true ∷ z) e
+        by_flag false false k e = ap (λ z. false ∷ z) e
+        by_flag true false k e = let z : false ≡ true = k.0 refl in cc
+        by_flag false true k e = let z : false ≡ true = k.1 refl in cc
+
+    pub going_ends : (steps : ℕ) (f : List Bool) (o : List ℕ) (at s : ℕ) → length o ≤ at → Going steps f o at s → f ≡ reached_marks p (kept_by p keep)
+    unfolding reached_marks
+    going_ends steps f o at s h w =
+        let e = walking_ends (length p.entries) (next_entries p) (roots p (kept_by p keep)) (entry_leaves p) (steps + event_leaves p (kept_by p keep)) f o at s h w in
+        let m = marks_reach (length p.entries) (next_entries p) (roots p (kept_by p keep)) (roots_below (kept_by p keep)) next_below in
+        same_flags f (swept (length p.entries) (next_entries p) (marked_at (replicate (length p.entries) false) (roots p (kept_by p keep)))) (e.size ∙ sym (marks_size (kept_by p keep)))
+        (λ i. ((λ k. (m i).1 ((e.exact i).0 k)), (λ k. (e.exact i).1 ((m i).0 k))))
+
+    pub going_cost : AreParts p → (steps : ℕ) (f : List Bool) (o : List ℕ) (at s : ℕ) → length o ≤ at → Going steps f o at s → s ≤ steps + length p.bytes
+    going_cost parts steps f o at s h w =
+        let e = (walking_ends (length p.entries) (next_entries p) (roots p (kept_by p keep)) (entry_leaves p) (steps + event_leaves p (kept_by p keep)) f o at s h w).cost in
+        let b = leaves_bound p parts keep in
+        omega arith
+
+    in_marked : (flags : List Bool) (es : List EventAt) (e : EventAt) → In (marked flags es) e → In es e
+    in_marked [] es e i = absurd i
+    in_marked (b ∷ flags) [] e i = absurd i
+    in_marked (true ∷ flags) (x ∷ es) e (inl h) = inl h
+    in_marked (true ∷ flags) (x ∷ es) e (inr i) = inr (in_marked flags es e i)
+    in_marked (false ∷ flags) (x ∷ es) e i = inr (in_marked flags es e i)
+
+    -- what is marked is what paths reach
+    pub marked_reached : AreParts p → (f : List Bool) → f ≡ reached_marks p (kept_by p keep) → (i : ℕ) → IsMarked f i ↔ Reached p (kept_by p keep) i
+    marked_reached parts f e i =
+        let r = reached_marked p (standing p parts) (kept_by p keep) (λ x k. (let v = event_is p parts x (in_marked keep (events_of p) x k) in (v.value, v.node))) i in
+        (λ k. r.1 (subst (λ z. IsMarked z i) e k), λ k. subst (λ z. IsMarked z i) (sym e) (r.0 k))

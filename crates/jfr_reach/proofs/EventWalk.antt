@@ -1,0 +1,106 @@
+-- The loop over the events.
+use Rattle.std.specs.Prelude.{◌≡◌, ℕ, zero, suc, ◌+◌, ◌<◌, ◌≤◌, Bool, true, false, List, [], ◌∷◌, ◌++◌, length, drop, slice_get, Option, Some, None, option_and_then, option_to_list, if◌then◌else◌}
+use Rattle.std.proofs.Common.{ap, arith, refl, sym, ◌∙◌, inl, inr, subst}
+use Rattle.std.proofs.lemmas.List.{append_assoc}
+use Rattle.jfr_value.specs.Values.{Value}
+use Rattle.jfr_value.specs.Nodes.{IsNode, targets}
+use Rattle.jfr_layout.specs.Classes.{Classes}
+use Rattle.jfr_pool.specs.Entries.{number_in_force}
+use Rattle.jfr_chunk.specs.Parts.{Parts, EventAt, AreParts, events_of}
+use Rattle.jfr_chunk.specs.Reach.{add, those, all_targets, nodes_of, roots, marked, kept_by, marked_at}
+use Rattle.jfr_chunk.proofs.Members.{In}
+use Rattle.jfr_chunk.proofs.StandingLaws.{event_is}
+use Rattle.jfr_reach.specs.Worklists.{ordered_all}
+use Rattle.jfr_reach.specs.Walks.{kept_at, event_leaves}
+use Rattle.jfr_reach.proofs.KeyLaws.{marked_append, ordered_append}
+use Rattle.jfr_reach.proofs.WalkLaws.{all_size}
+
+get_in : {X : Type 0} (xs : List X) (i : ℕ) (x : X) → Some x ≡ slice_get xs i → In xs x
+get_in [] i x e = cc
+get_in (y ∷ xs) zero x e = let h : y ≡ x = cc in inl h
+get_in (y ∷ xs) (suc i) x e = inr (get_in xs i x e)
+
+kept_in : (keep : List Bool) (es : List EventAt) (i : ℕ) (e : EventAt) → Some e ≡ kept_at keep es i → In es e
+kept_in keep es i e h = by_flag (slice_get keep i) h
+  where
+    by_flag : (o : Option Bool) → Some e ≡ option_and_then (λ keep. if keep then slice_get es i else None) o → In es e
+    by_flag None h = cc
+    by_flag (Some true) h = get_in es i e h
+    by_flag (Some false) h = cc
+
+-- a value stands at the node of a kept event
+pub kept_value : (p : Parts) → AreParts p → (k : Classes) (b : List ℕ) (keep : List Bool) (i : ℕ) (e : EventAt) → k ≡ p.classes → b ≡ p.bytes → Some e ≡ kept_at keep (events_of p) i → (v : Value) × IsNode k b e.node v
+kept_value p parts k b keep i e x y h =
+    let v = event_is p parts e (kept_in keep (events_of p) i e h) in
+    (v.value, subst (λ z. IsNode z b e.node v.value) (sym x) (subst (λ z. IsNode p.classes z e.node v.value) (sym y) v.node))
+
+no_events : (keep : List Bool) → marked {X = EventAt} keep [] ≡ []
+no_events [] = refl
+no_events (k ∷ keep) = refl
+
+none_at : (i : ℕ) (o : Option Bool) → option_and_then (λ keep. if keep then slice_get {X = EventAt} [] i else None) o ≡ None
+none_at i None = refl
+none_at i (Some true) = refl
+none_at i (Some false) = refl
+
+-- events from a place on
+from_place : (keep : List Bool) (es : List EventAt) (i : ℕ) → i < length keep → marked (drop i keep) (drop i es) ≡ option_to_list (kept_at keep es i) ++ marked (drop (suc i) keep) (drop (suc i) es)
+from_place [] es i h = absurd (omega arith)
+from_place (k ∷ keep) [] zero h = sym (ap (λ z. option_to_list z ++ marked keep []) (none_at 0 (Some k)) ∙ no_events keep)
+from_place (true ∷ keep) (e ∷ es) zero h = refl
+from_place (false ∷ keep) (e ∷ es) zero h = refl
+from_place (k ∷ keep) [] (suc i) h = no_events (drop i keep) ∙ sym (ap (λ z. option_to_list z ++ marked (drop (suc i) keep) []) (none_at (suc i) (slice_get keep i)) ∙ no_events (drop (suc i) keep))
+from_place (k ∷ keep) (e ∷ es) (suc i) h = from_place keep es i (omega arith)
+
+none_from : (keep : List Bool) (es : List EventAt) (i : ℕ) → length keep ≤ i → marked (drop i keep) (drop i es) ≡ []
+none_from [] es zero h = refl
+none_from [] es (suc i) h = refl
+none_from (k ∷ keep) es zero h = absurd (omega arith)
+none_from (k ∷ keep) [] (suc i) h = no_events (drop i keep)
+none_from (k ∷ keep) (e ∷ es) (suc i) h = none_from keep es i (omega arith)
+
+-- what events refer to, one part after another
+those_append : {A B : Type 0} (f : A → Option B) (xs ys : List A) → those f (xs ++ ys) ≡ those f xs ++ those f ys
+those_append f [] ys = refl
+those_append {B = B} f (x ∷ xs) ys = by_value (f x) (those_append f xs ys)
+  where
+    by_value : (o : Option B) → those f (xs ++ ys) ≡ those f xs ++ those f ys → add o (those f (xs ++ ys)) ≡ add o (those f xs) ++ those f ys
+    by_value None e = e
+    by_value (Some y) e = ap (λ z. y ∷ z) e
+
+targets_append : (p : Parts) (xs ys : List EventAt) → all_targets p (nodes_of (xs ++ ys)) ≡ all_targets p (nodes_of xs) ++ all_targets p (nodes_of ys)
+targets_append p [] ys = refl
+targets_append p (x ∷ xs) ys = ap (λ z. targets p.classes p.bytes x.node ++ z) (targets_append p xs ys) ∙ sym (append_assoc (targets p.classes p.bytes x.node) (all_targets p (nodes_of xs)) (all_targets p (nodes_of ys)))
+
+roots_append : (p : Parts) (xs ys : List EventAt) → roots p (xs ++ ys) ≡ roots p xs ++ roots p ys
+roots_append p xs ys = ap (those (number_in_force p.entries)) (targets_append p xs ys) ∙ those_append (number_in_force p.entries) (all_targets p (nodes_of xs)) (all_targets p (nodes_of ys))
+
+leaves_append : (p : Parts) (xs ys : List EventAt) → event_leaves p (xs ++ ys) ≡ event_leaves p xs + event_leaves p ys
+leaves_append p [] ys = omega arith
+leaves_append p (x ∷ xs) ys = let i = leaves_append p xs ys in omega arith
+
+-- the events that are left make of flags and order what all events make of those before
+pub record EventsLeft (p : Parts) (keep flags : List Bool) (order : List ℕ) (steps : ℕ) (f : List Bool) (o : List ℕ) (i s : ℕ) : Type 0 where
+  pub size : length f ≡ length p.entries
+  pub flags_left : marked_at f (roots p (marked (drop i keep) (drop i (events_of p)))) ≡ marked_at flags (roots p (kept_by p keep))
+  pub order_left : ordered_all f o (roots p (marked (drop i keep) (drop i (events_of p)))) ≡ ordered_all flags order (roots p (kept_by p keep))
+  pub cost : s + event_leaves p (marked (drop i keep) (drop i (events_of p))) ≡ steps + event_leaves p (kept_by p keep)
+
+module _ (p : Parts) (keep flags : List Bool) (order : List ℕ) (steps : ℕ) where
+  pub events_next : (f g : List Bool) (o q : List ℕ) (i s t : ℕ) → i < length keep → EventsLeft p keep flags order steps f o i s
+      → g ≡ marked_at f (roots p (option_to_list (kept_at keep (events_of p) i))) → q ≡ ordered_all f o (roots p (option_to_list (kept_at keep (events_of p) i)))
+      → t ≡ s + event_leaves p (option_to_list (kept_at keep (events_of p) i)) → EventsLeft p keep flags order steps g q (i + 1) t
+  events_next f g o q i s t h w x y z =
+      let here : List EventAt = option_to_list (kept_at keep (events_of p) i) in
+      let later : List EventAt = marked (drop (suc i) keep) (drop (suc i) (events_of p)) in
+      let e : marked (drop i keep) (drop i (events_of p)) ≡ option_to_list (kept_at keep (events_of p) i) ++ marked (drop (suc i) keep) (drop (suc i) (events_of p)) = from_place keep (events_of p) i h in
+      let u : roots p (marked (drop i keep) (drop i (events_of p))) ≡ roots p here ++ roots p later = ap (roots p) e ∙ roots_append p here later in
+      let l : event_leaves p (marked (drop i keep) (drop i (events_of p))) ≡ event_leaves p here + event_leaves p later = ap (event_leaves p) e ∙ leaves_append p here later in
+      let c = w.cost in
+      let n : suc i ≡ i + 1 = omega arith in
+      subst (λ m. EventsLeft p keep flags order steps g q m t) n (record {
+        size = ap length x ∙ (all_size f (roots p here) ∙ w.size);
+        flags_left = ap (λ v. marked_at v (roots p later)) x ∙ (sym (ap (marked_at f) u ∙ marked_append f (roots p here) (roots p later)) ∙ w.flags_left);
+        order_left = ap (λ v. ordered_all g v (roots p later)) y ∙ (ap (λ v. ordered_all v (ordered_all f o (roots p here)) (roots p later)) x ∙ (sym (ap (ordered_all f o) u ∙ ordered_append f o (roots p here) (roots p later)) ∙ w.order_left));
+        cost = omega arith;
+      })

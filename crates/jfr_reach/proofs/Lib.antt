@@ -1,0 +1,10 @@
+pub mod BoundLaws
+pub mod ClosureLaws
+pub mod Counts
+pub mod EntryWalk
+pub mod EventWalk
+pub mod KeyLaws
+pub mod NodeWalk
+pub mod PutLaws
+pub mod StringKeys
+pub mod WalkLaws

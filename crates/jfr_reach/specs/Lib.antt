@@ -1,0 +1,3 @@
+pub mod Worklists
+pub mod Keys
+pub mod Walks

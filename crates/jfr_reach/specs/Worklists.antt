@@ -1,0 +1,18 @@
+-- Numbers that are marked, and the order in which they were.
+use Rattle.std.specs.Prelude.{ℕ, suc, Bool, true, false, List, [], ◌∷◌, ◌++◌, slice_set, if◌then◌else◌}
+use Rattle.jfr_chunk.specs.Reach.{is_marked}
+
+-- How many are marked.
+abbrev pub marked_count : List Bool → ℕ
+marked_count [] = 0
+marked_count (true ∷ marks) = suc (marked_count marks)
+marked_count (false ∷ marks) = marked_count marks
+
+-- A number joins the order where it isn't marked yet.
+abbrev pub ordered : List Bool → List ℕ → ℕ → List ℕ
+ordered marks order i = if is_marked marks i then order else order ++ (i ∷ [])
+
+-- So do these numbers, each of which is marked then.
+abbrev pub ordered_all : List Bool → List ℕ → List ℕ → List ℕ
+ordered_all marks order [] = order
+ordered_all marks order (i ∷ is) = ordered_all (slice_set marks i true) (ordered marks order i) is

@@ -1,0 +1,60 @@
+// Which entries the kept events reach.
+ghost use Rattle.std.specs.Prelude.{◌≡◌, ◌↔◌, ◌+◌, ◌<◌, ◌≤◌, ℕ, false, length, replicate, IfOk};
+ghost use Rattle.jfr_chunk.specs.Parts.{events_of};
+ghost use Rattle.jfr_chunk.specs.Reach.{IsMarked, Reached, is_marked, kept_by, reached_marks};
+
+use crate::walk::put_reached;
+use crate::worklist::Worklist;
+use jfr_chunk::{Chunk, Kept};
+use jfr_outside::NoMemory;
+use jfr_pool::Pools;
+use jfr_value::Steps;
+use std::alloc::Global;
+use std::marker::Model;
+use std::sync::ledger::Ledger;
+
+/// Which entries of a chunk are reached: a truth value for each, in the order of the file.
+#[derive(Drop)]
+pub struct Marks {
+    list: Worklist,
+}
+
+impl Model for Marks {
+    ghost use Rattle.std.specs.Prelude.{List, Bool};
+
+    ghost Value = { List Bool };
+
+    ghost view = { λ marks. marks.list.flags.items };
+}
+
+impl Marks {
+    /// None of the entries is reached. All the memory that `mark` needs is taken here.
+    pub fn make(alloc: Global, pools: &Pools) -> Result<Marks, NoMemory>
+        ensures { IfOk result (λ marks. marks ≡ replicate (length pools.now) false) }
+    {
+        let list = Worklist::new(alloc, pools.len())?;
+        Ok(Marks { list })
+    }
+
+    /// Marks the entries that paths of the kept events reach, through cycles too, and no others. Each
+    /// kept event and each reached entry is walked once, at a step for each of its leaves. It takes no
+    /// memory.
+    pub fn mark<L: Ledger>(&mut self, chunk: &Chunk<'_>, kept: &Kept, steps: &mut Steps<L>)
+        requires fresh { self.old ≡ replicate (length chunk.now.entries) false }
+        requires kept { length kept.now ≡ length (events_of chunk.now) }
+        ensures exact { self.new ≡ reached_marks chunk.now (kept_by chunk.now kept.now) }
+        ensures size { length self.new ≡ length chunk.now.entries }
+        ensures reached { (number : ℕ) → IsMarked self.new number ↔ Reached chunk.now (kept_by chunk.now kept.now) number }
+        ensures cost { steps.new ≤ steps.old + length chunk.now.bytes }
+    {
+        put_reached(&mut self.list, chunk, kept, steps);
+    }
+
+    /// Whether the entry of a number is reached.
+    pub fn is_reached(&self, at: usize) -> bool
+        requires { at < length self.now }
+        ensures { result ≡ is_marked self.now at }
+    {
+        self.list.flags[at]
+    }
+}

@@ -1,0 +1,53 @@
+// Numbers that are marked, and the order in which they were.
+ghost use Rattle.std.specs.Prelude.{◌≡◌, ◌+◌, ◌<◌, ◌≤◌, [], ◌∷◌, ◌++◌, false, true, length, replicate, slice_set, vec_len, vec_capacity, IfOk};
+ghost use Rattle.jfr_reach.specs.Worklists.{marked_count, ordered};
+
+use jfr_outside::NoMemory;
+use std::alloc::Global;
+
+/// Marks at numbers, and the marked numbers in the order of marking, each once. There is room for all
+/// of them, and those from a place of the order on are the ones that are still to be walked.
+#[derive(Drop)]
+pub(crate) struct Worklist {
+    pub flags: Vec<bool>,
+    pub order: Vec<usize>,
+    ghost room: { length flags.items ≤ vec_capacity order },
+    ghost each: { vec_len order ≡ marked_count flags.items },
+}
+
+impl Worklist {
+    /// So many numbers, of which none is marked.
+    pub fn new(alloc: Global, count: usize) -> Result<Worklist, NoMemory>
+        ensures { IfOk result (λ list. list.flags.items ≡ replicate count false) }
+    {
+        let order = Vec::with_capacity(alloc, count)?;
+        let mut flags = Vec::new(alloc);
+        flags.resize(count, false)?;
+        Ok(Worklist { flags, order })
+    }
+
+    /// Marks a number.
+    pub fn put(&mut self, number: usize)
+        requires { number < length self.old.flags.items }
+        ensures flags { self.new.flags.items ≡ slice_set self.old.flags.items number true }
+        ensures order { self.new.order.items ≡ ordered self.old.flags.items self.old.order.items number }
+    {
+        if !self.flags[number] {
+            self.flags[number] = true;
+            push_within(&mut self.order, number);
+        }
+    }
+}
+
+/// A push where there is room.
+fn push_within(list: &mut Vec<usize>, number: usize)
+    requires { vec_len list.old < vec_capacity list.old }
+    ensures items { list.new.items ≡ list.old.items ++ number ∷ [] }
+    ensures len { vec_len list.new ≡ vec_len list.old + 1 }
+    ensures capacity { vec_capacity list.old ≤ vec_capacity list.new }
+{
+    match list.push(number) {
+        Ok(()) => {}
+        Err(_) => unreachable!(),
+    }
+}
