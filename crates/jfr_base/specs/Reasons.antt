@@ -1,7 +1,7 @@
 -- The number and the name of each reason.
 use Rattle.std.specs.Prelude.{ℕ, List, codes}
 use Rattle.jfr_base.specs.declared.reason.Reason.{Reason}
-use Rattle.jfr_base.specs.declared.reason.Reason.TheVariants.{NoChunk, ShortHeader, Magic, Version, Unfinished, NotCompact, ChunkSize, ShortChunk, RecordSize, MetadataPosition, PoolPosition, ChainDelta, Short, Trailing, StringKind, StringIndex, TreeDeep, NoClasses, ClassBad, ClassTwice, FieldBad, FieldTwice, UnknownType, EmptyInline, InlineDeep, PoolType, TooLong, PoolsNotBuilt}
+use Rattle.jfr_base.specs.declared.reason.Reason.TheVariants.{NoChunk, ShortHeader, Magic, Version, Unfinished, NotCompact, ChunkSize, ShortChunk, RecordSize, MetadataPosition, PoolPosition, ChainDelta, Short, Trailing, StringKind, StringIndex, TreeDeep, NoClasses, ClassBad, ClassTwice, FieldBad, FieldTwice, UnknownType, EmptyInline, InlineDeep, PoolType, TooLong}
 
 abbrev pub reason_number : Reason → ℕ
 reason_number NoChunk = 1
@@ -31,7 +31,6 @@ reason_number EmptyInline = 24
 reason_number InlineDeep = 25
 reason_number PoolType = 26
 reason_number TooLong = 27
-reason_number PoolsNotBuilt = 29
 
 -- the name's characters, all ASCII
 abbrev pub reason_name : Reason → List ℕ
@@ -62,4 +61,3 @@ reason_name EmptyInline = codes "EmptyInline"
 reason_name InlineDeep = codes "InlineDeep"
 reason_name PoolType = codes "PoolType"
 reason_name TooLong = codes "TooLong"
-reason_name PoolsNotBuilt = codes "PoolsNotBuilt"

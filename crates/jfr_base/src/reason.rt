@@ -58,8 +58,6 @@ pub enum Reason {
     PoolType,
     /// A chunk starts too far into the recording.
     TooLong,
-    /// A checkpoint has pools, or is not the only one of its chunk.
-    PoolsNotBuilt,
 }
 
 impl Reason {
@@ -97,7 +95,6 @@ impl Reason {
             Reason::InlineDeep => 25,
             Reason::PoolType => 26,
             Reason::TooLong => 27,
-            Reason::PoolsNotBuilt => 29,
         }
     }
 
@@ -133,7 +130,6 @@ impl Reason {
             Reason::InlineDeep => "InlineDeep",
             Reason::PoolType => "PoolType",
             Reason::TooLong => "TooLong",
-            Reason::PoolsNotBuilt => "PoolsNotBuilt",
         }
     }
 }

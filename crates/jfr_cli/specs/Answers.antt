@@ -33,13 +33,16 @@ read_line = codes "read fault" ++ newline
 abbrev pub write_line : List ℕ
 write_line = codes "write fault" ++ newline
 
+abbrev pub memory_line : List ℕ
+memory_line = codes "out of memory" ++ newline
+
 -- The line of an ending, if it has one.
 abbrev pub line_of : Ending → Option (List ℕ)
 line_of Done = None
 line_of (Refused r) = Some (refusal_line r)
 line_of ReadFault = Some read_line
 line_of WriteFault = Some write_line
-line_of Memory = Some (codes "out of memory" ++ newline)
+line_of Memory = Some memory_line
 line_of TooManyParts = Some (codes "too many parts" ++ newline)
 
 -- The line stands on the sink; only where its count rose may it be a prefix of the line.

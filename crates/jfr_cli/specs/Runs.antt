@@ -1,7 +1,7 @@
 -- What the program does and answers.
 use Rattle.std.specs.Prelude.{◌≡◌, ◌≢◌, ◌<◌, ℕ, List, Option, None, Some}
 use Rattle.jfr_base.specs.declared.flaw.Refusal.{Refusal}
-use Rattle.jfr_outside.specs.World.{State, SinkState}
+use Rattle.jfr_outside.specs.World.{State, SinkState, Told}
 use Rattle.jfr_outside.specs.Counts.{Rose}
 use Rattle.jfr_header.specs.declared.ending.Ending.{Ending}
 use Rattle.jfr_header.specs.declared.ending.Ending.TheVariants as ending
@@ -9,8 +9,11 @@ use Rattle.jfr_plan.specs.Ends.{End, Fine, Refused, TooMany, way_of}
 use Rattle.jfr_plan.specs.Walks.{Rule}
 use Rattle.jfr_plan.specs.Effects.{alone}
 use Rattle.jfr_plan.specs.Clauses.{Ended, Halted, Broken, Partly, IsComplete, CanRead, CanCreate}
-use Rattle.jfr_cli.specs.Words.{Order, order_of, rule_of, input_of, output_of}
-use Rattle.jfr_cli.specs.Answers.{status_of, line_of, usage_line, refusal_line, IsAnswered, IsSaid}
+use Rattle.jfr_scrub.specs.Headline.{IsByPlan, Scrubs}
+use Rattle.jfr_cli.specs.declared.words.Order.{Order}
+use Rattle.jfr_cli.specs.declared.words.Order.TheVariants.{Scrub}
+use Rattle.jfr_cli.specs.Words.{order_of, rule_of, input_of, output_of, file_name}
+use Rattle.jfr_cli.specs.Answers.{status_of, line_of, usage_line, refusal_line, memory_line, IsAnswered, IsSaid}
 
 -- What the command with this order of the work says of its ending.
 pub record Carries (r : Rule) (input output : List ℕ) (e : Ending) (a b : State) : Type 0 where
@@ -29,16 +32,21 @@ pub record Carries (r : Rule) (input output : List ℕ) (e : Ending) (a b : Stat
   pub can_create : CanCreate output a → (e ≢ ending.WriteFault) × (b.write_faults ≡ a.write_faults)
   pub same : b.steady ≡ a.steady
 
--- The words are a usage fault and nothing is done, or they are an order, which is carried out and ends somehow; and the status and its line are told.
+-- A command whose answer is one that its plan ends with has written what it is for: a scrub, the scrub of its input.
+abbrev pub Wrote : Order → Ending → State → State → Type 0
+Wrote (Scrub g input output) e a b = IsByPlan e → Told a.told b.told (Scrubs g (file_name input) (file_name output))
+
+-- The words are a usage fault and nothing is done; or memory was wanting while they were read, and nothing is done; or they are an order, which is carried out and ends somehow. The status and its line are told.
 pub data Answers (words : List (List ℕ)) (answer : ℕ) (a b : State) (e f : SinkState) : Type 0 where
   Usage : order_of words ≡ None → b ≡ a → IsAnswered 1 (Some usage_line) answer e f → Answers words answer a b e f
-  Carried : (o : Order) → order_of words ≡ Some o → (end : Ending) → Carries (rule_of o) (input_of o) (output_of o) end a b → IsAnswered (status_of end) (line_of end) answer e f → Answers words answer a b e f
+  Unread : b ≡ a → IsAnswered 5 (Some memory_line) answer e f → Answers words answer a b e f
+  Carried : (o : Order) → order_of words ≡ Some o → (end : Ending) → Carries (rule_of o) (input_of o) (output_of o) end a b → Wrote o end a b → IsAnswered (status_of end) (line_of end) answer e f → Answers words answer a b e f
 
 -- The words are an order, and this holds of it.
 abbrev pub Under : List (List ℕ) → (Order → Type 0) → Type 0
 Under words P = (o : Order) × (order_of words ≡ Some o) × P o
 
--- What stands where memory was wanting: the first effects are done; or exactly those whose need is met; or, where the count of write faults rose, the first ones and a prefix of the next one's bytes.
+-- What stands where memory was wanting: the first effects are done, and none where the words were not read; or exactly those whose need is met; or, where the count of write faults rose, the first ones and a prefix of the next one's bytes.
 pub data StandsPartly (r : Rule) (input : List ℕ) (a b : State) : Type 0 where
   Prefix : Partly r input (alone a) (alone b) → StandsPartly r input a b
   Whole : (e : End) → Ended r input e (alone a) (alone b) → StandsPartly r input a b

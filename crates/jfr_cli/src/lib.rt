@@ -4,6 +4,7 @@
 //! `run` is the entry. Read `specs/Words.antt` first, and then `specs/Answers.antt`.
 #![tactic(auto)]
 
+mod left;
 mod say;
 mod top;
 mod words;

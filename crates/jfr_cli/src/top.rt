@@ -1,16 +1,23 @@
 // The top call.
-ghost use Rattle.std.specs.Prelude.{◌≡◌, ◌≢◌, ◌<◌, ◌≤◌, ◌⊎◌, None, Some, IfSome};
+ghost use Rattle.std.specs.Prelude.{◌≡◌, ◌≢◌, ◌<◌, ◌≤◌, ◌⊎◌, ℕ, List, None, Some, IfSome};
 ghost use Rattle.jfr_outside.specs.Counts.{Rose};
+ghost use Rattle.jfr_outside.specs.World.{Told};
+ghost use Rattle.jfr_header.specs.Fronts.{Whole};
 ghost use Rattle.jfr_plan.specs.Ends.{Fine};
 ghost use Rattle.jfr_plan.specs.Effects.{alone};
 ghost use Rattle.jfr_plan.specs.Clauses.{Ended, Halted, Broken, CanRead, CanCreate};
 ghost use Rattle.jfr_plan.specs.Walks.{plan_in};
-ghost use Rattle.jfr_cli.specs.Words.{Order, order_of, rule_of, input_of, output_of};
+ghost use Rattle.jfr_chunk.specs.Refusal.{refusal_of};
+ghost use Rattle.jfr_scrub.specs.Headline.{IsScrubbed, Scrubs};
+ghost use Rattle.jfr_scrub.specs.Scrubs.{scrubbed};
+ghost use Rattle.jfr_cli.specs.declared.words.Order.{Order};
+ghost use Rattle.jfr_cli.specs.Words.{order_of, rule_of, filter_of, input_of, output_of};
 ghost use Rattle.jfr_cli.specs.Answers.{usage_line, read_line, write_line, IsSaid, IsPartlySaid};
-ghost use Rattle.jfr_cli.specs.Runs.{Answers, Under, StandsPartly, IsPlannedStatus, IsRefused};
+ghost use Rattle.jfr_cli.specs.Runs.{Carries, Wrote, Answers, Under, StandsPartly, IsPlannedStatus, IsRefused};
 
 use crate::say::{say_ending, say_usage};
-use crate::words::scrub_names;
+use crate::words::{Order, WordsFault, read_words};
+use jfr_header::Ending;
 use jfr_outside::{Place, Sink, Words};
 use jfr_scrub::scrub_stream;
 use std::alloc::Global;
@@ -19,11 +26,28 @@ use std::alloc::Global;
 fn answer<P: Place, E: Sink>(alloc: Global, words: &Words, place: &mut P, err: &mut E) -> u8
     ensures { Answers words.now result (P.state place.old) (P.state place.new) (E.state err.old) (E.state err.new) }
 {
-    let Some(names) = scrub_names(words) else {
-        return say_usage(err);
-    };
-    let ending = scrub_stream(alloc, place, names.input, names.output);
-    say_ending(alloc, err, ending)
+    match read_words(alloc, words) {
+        Ok(order) => {
+            let ending = carry_out(alloc, place, &order);
+            say_ending(alloc, err, ending)
+        }
+        Err(WordsFault::Usage) => say_usage(err),
+        Err(WordsFault::Memory) => say_ending(alloc, err, Ending::Memory),
+    }
+}
+
+// Carries out an order.
+fn carry_out<P: Place>(alloc: Global, place: &mut P, order: &Order) -> Ending
+    ensures carries { Carries (rule_of order.now) (input_of order.now) (output_of order.now) result (P.state place.old) (P.state place.new) }
+    ensures wrote { Wrote order.now result (P.state place.old) (P.state place.new) }
+{
+    match order {
+        Order::Scrub {
+            filter,
+            input,
+            output,
+        } => scrub_stream(alloc, place, input.as_str(), output.as_str(), filter),
+    }
 }
 
 /// Carries out the order of the words over a place, writes a line on the error sink where it ends
@@ -40,6 +64,12 @@ pub fn run<P: Place, O: Sink, E: Sink>(
     ensures usage { result ≡ 1 → (order_of words.now ≡ None) × IsSaid usage_line (E.state err.old) (E.state err.new) }
     ensures usage_only { order_of words.now ≡ None → (result ≡ 1) ⊎ (result ≡ 5) }
     ensures untouched { order_of words.now ≡ None → P.state place.new ≡ P.state place.old }
+
+    // With 0 and 2 the output holds the scrub of each chunk before the first refused one: a chunk that
+    // is accepted again, with exactly the events that the filter keeps and exactly the constants that
+    // they reach, and of the same meaning. `each` says it of every chunk of which the clauses of the other statuses speak.
+    ensures headline { (result ≡ 0) ⊎ (result ≡ 2) → Under words.now (λ o. Told (P.state place.old).told (P.state place.new).told (Scrubs (filter_of o) (input_of o) (output_of o))) }
+    ensures each { (o : Order) → order_of words.now ≡ Some o → (c : List ℕ) → Whole c → refusal_of c ≡ None → IsScrubbed (filter_of o) c (scrubbed (filter_of o) c) }
 
     // What stands after each other status, and the line on the error sink.
     ensures done { result ≡ 0 → Under words.now (λ o. Ended (rule_of o) (input_of o) Fine (alone (P.state place.old)) (alone (P.state place.new))) }

@@ -1,1 +1,11 @@
-pub mod PlainLaws
+pub mod PieceLaws
+pub mod LeftLaws
+pub mod CheckpointLaws
+pub mod Widths
+pub mod StayLaws
+pub mod CursorLaws
+pub mod BodyLaws
+pub mod FitLaws
+pub mod CountLaws
+pub mod HeadlineLaws
+mod MadeFile

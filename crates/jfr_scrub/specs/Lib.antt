@@ -1,2 +1,8 @@
-pub mod Plain
-pub mod Shape
+pub mod Pieces
+pub mod Left
+pub mod Fits
+pub mod Staying
+pub mod Bodies
+pub mod Scrubbing
+pub mod Scrubs
+pub mod Headline

@@ -1,11 +1,19 @@
 //! The scrubber: what each chunk of a recording becomes, and the stream that scrubs a recording.
 //!
-//! `scrub_stream` is the entry. Read `specs/Plain.antt` first.
+//! `scrub_stream` takes a recording, `Scrubber` one chunk. Read `specs/Scrubs.antt`,
+//! `specs/Headline.antt` and `specs/Pieces.antt` first.
 #![tactic(auto)]
 
-mod plain;
+mod body;
+mod checkpoint;
+mod left;
+mod output;
+mod piece;
+mod pieces;
 mod scrub;
-mod write;
+mod scrubber;
+mod stays;
 
-pub use plain::{DeltaAt, PlainChunk};
+pub use piece::Piece;
 pub use scrub::scrub_stream;
+pub use scrubber::Scrubber;

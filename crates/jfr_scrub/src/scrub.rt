@@ -1,42 +1,49 @@
 // The stream that scrubs a recording.
-ghost use Rattle.std.specs.Prelude.{◌≡◌, ◌≢◌, ◌<◌};
+ghost use Rattle.std.specs.Prelude.{◌≡◌, ◌≢◌, ◌<◌, ℕ, List, None};
 ghost use Rattle.jfr_base.specs.declared.flaw.Refusal.{Refusal};
 ghost use Rattle.jfr_outside.specs.Counts.{Rose};
 ghost use Rattle.jfr_plan.specs.Ends.{Fine, Refused, way_of};
 ghost use Rattle.jfr_plan.specs.Effects.{alone};
 ghost use Rattle.jfr_plan.specs.Makes.{making};
 ghost use Rattle.jfr_plan.specs.Clauses.{Ended, Halted, Broken, Partly, IsComplete, CanRead, CanCreate};
-ghost use Rattle.jfr_scrub.specs.Plain.{scrubbing};
+ghost use Rattle.jfr_outside.specs.World.{Told};
+ghost use Rattle.jfr_header.specs.Fronts.{Whole};
+ghost use Rattle.jfr_chunk.specs.Refusal.{refusal_of};
+ghost use Rattle.jfr_scrub.specs.Headline.{IsByPlan, IsScrubbed, Scrubs};
+ghost use Rattle.jfr_scrub.specs.Scrubs.{scrubbed, scrubbing};
 
-use crate::plain::{header_in, read_plain};
-use crate::write::write_plain;
+use crate::Scrubber;
 use jfr_base::ReadFault;
+use jfr_chunk::Chunk;
+use jfr_filter::Filter;
 use jfr_header::Ending;
 use jfr_outside::Place;
 use jfr_plan::{Make, make_stream};
 use std::alloc::Global;
 
-/// Makes of each chunk what it becomes, in one buffer that is used again.
+/// Makes of each chunk what it becomes under a filter.
 #[derive(Drop)]
-struct Scrub {
+struct Scrub<'f> {
+    filter: &'f Filter,
     out: Vec<u8>,
 }
 
-impl Make for Scrub {
+impl<'f> Make for Scrub<'f> {
     ghost use Rattle.std.specs.Prelude.{ℕ, List};
-    ghost use Rattle.jfr_scrub.specs.Plain.{plain_flaw, plain_becomes};
+    ghost use Rattle.jfr_chunk.specs.Refusal.{refusal_of};
+    ghost use Rattle.jfr_scrub.specs.Scrubs.{scrubbed};
 
-    ghost refusal = { λ _ chunk. plain_flaw chunk };
+    ghost refusal = { λ _ chunk. refusal_of chunk };
 
-    ghost becomes = { λ _ chunk. plain_becomes chunk };
+    ghost becomes = { λ s chunk. scrubbed s.filter.now chunk };
 
     ghost last = { λ s. s.out.items };
 
     fn make(&mut self, alloc: Global, chunk: &[u8]) -> Result<(), ReadFault> {
-        let header = header_in(chunk);
-        let plain = read_plain(alloc, chunk, &header)?;
-        self.out.clear();
-        write_plain(&mut self.out, chunk, &header, &plain)?;
+        let chunk = Chunk::read(alloc, chunk)?;
+        let mut scrubber = Scrubber::prepare(alloc, &chunk, self.filter)?;
+        scrubber.write();
+        self.out = scrubber.into_bytes();
         Ok(())
     }
 
@@ -47,13 +54,25 @@ impl Make for Scrub {
 
 /// Scrubs a recording: opens the input, creates the output, appends what each chunk becomes by one
 /// call, and finishes the output after the last.
-pub fn scrub_stream<P: Place>(alloc: Global, place: &mut P, input: &str, output: &str) -> Ending
+pub fn scrub_stream<P: Place>(
+    alloc: Global,
+    place: &mut P,
+    input: &str,
+    output: &str,
+    filter: &Filter,
+) -> Ending
+    // The output holds the scrub of each chunk before the first refused one: a chunk that is accepted
+    // again, with exactly the events that the filter keeps and exactly the constants that they reach,
+    // and of the same meaning. `each` says it of every chunk of which the clauses below speak.
+    ensures headline { IsByPlan result → Told (P.state place.old).told (P.state place.new).told (Scrubs filter.now input.now output.now) }
+    ensures each { (c : List ℕ) → Whole c → refusal_of c ≡ None → IsScrubbed filter.now c (scrubbed filter.now c) }
+
     // What stands after each answer, where the place tells its files.
-    ensures done { result ≡ Ending.Done → Ended (scrubbing output.now) input.now Fine (alone (P.state place.old)) (alone (P.state place.new)) }
-    ensures refused { (r : Refusal) → result ≡ Ending.Refused r → Ended (scrubbing output.now) input.now (Refused r) (alone (P.state place.old)) (alone (P.state place.new)) }
-    ensures halted { result ≡ Ending.ReadFault → Halted (scrubbing output.now) input.now (alone (P.state place.old)) (alone (P.state place.new)) }
-    ensures broken { result ≡ Ending.WriteFault → Broken (scrubbing output.now) input.now (alone (P.state place.old)) (alone (P.state place.new)) }
-    ensures memory { result ≡ Ending.Memory → Partly (scrubbing output.now) input.now (alone (P.state place.old)) (alone (P.state place.new)) }
+    ensures done { result ≡ Ending.Done → Ended (scrubbing filter.now output.now) input.now Fine (alone (P.state place.old)) (alone (P.state place.new)) }
+    ensures refused { (r : Refusal) → result ≡ Ending.Refused r → Ended (scrubbing filter.now output.now) input.now (Refused r) (alone (P.state place.old)) (alone (P.state place.new)) }
+    ensures halted { result ≡ Ending.ReadFault → Halted (scrubbing filter.now output.now) input.now (alone (P.state place.old)) (alone (P.state place.new)) }
+    ensures broken { result ≡ Ending.WriteFault → Broken (scrubbing filter.now output.now) input.now (alone (P.state place.old)) (alone (P.state place.new)) }
+    ensures memory { result ≡ Ending.Memory → Partly (scrubbing filter.now output.now) input.now (alone (P.state place.old)) (alone (P.state place.new)) }
 
     // A fault comes only where it was counted, and none is passed over.
     ensures read_fault { result ≡ Ending.ReadFault → Rose (P.state place.old).read_faults (P.state place.new).read_faults }
@@ -62,7 +81,7 @@ pub fn scrub_stream<P: Place>(alloc: Global, place: &mut P, input: &str, output:
     ensures no_write_passed { (P.state place.old).write_faults < (P.state place.new).write_faults → result ≡ Ending.WriteFault }
 
     // Without a fault the answer is the plan's end, or memory was wanting.
-    ensures complete { IsComplete (scrubbing output.now) input.now (way_of result) (alone (P.state place.old)) (alone (P.state place.new)) }
+    ensures complete { IsComplete (scrubbing filter.now output.now) input.now (way_of result) (alone (P.state place.old)) (alone (P.state place.new)) }
     ensures parts { result ≢ Ending.TooManyParts }
 
     // The call brings no fault about by itself.
@@ -74,6 +93,7 @@ pub fn scrub_stream<P: Place>(alloc: Global, place: &mut P, input: &str, output:
         alloc,
         place,
         Scrub {
+            filter,
             out: Vec::new(alloc),
         },
         input,

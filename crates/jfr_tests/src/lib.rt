@@ -4,6 +4,12 @@
 #![tactic(auto)]
 
 #[cfg(test)]
+mod calls;
+#[cfg(test)]
 mod chunks;
+#[cfg(test)]
+mod constants;
+#[cfg(test)]
+mod filters;
 #[cfg(test)]
 mod scrubs;

@@ -1,19 +1,12 @@
 // Scrubs of the plain chunk.
-use crate::chunks::PLAIN;
+use crate::calls::{run_over_places, scrub, words};
+use crate::chunks::{PLAIN, plain_with};
 use jfr_cli::run;
-use jfr_outside::{Call, MemoryPlace, MemorySink, Place, SteadyPlace, SteadySink, Words};
+use jfr_outside::{Call, MemoryPlace, MemorySink, Place, SteadyPlace, SteadySink};
 use std::alloc::Global;
-use std::process::Abort;
 use std::test::Fail;
 
-// The words of a command line.
-fn words(alloc: Global, line: &[&str]) -> Result<Words, Fail> {
-    let mut words = Words::new(alloc);
-    for word in line {
-        words.push(word)?;
-    }
-    Ok(words)
-}
+const SCRUB: &[&str] = &["scrub", "a.jfr", "b.jfr"];
 
 // The plain chunk so many times, and then its first bytes.
 fn plain(alloc: Global, times: usize, more: usize) -> Result<Vec<u8>, Fail> {
@@ -25,29 +18,6 @@ fn plain(alloc: Global, times: usize, more: usize) -> Result<Vec<u8>, Fail> {
         bytes.push(*byte)?;
     }
     Ok(bytes)
-}
-
-// Runs `scrub a.jfr b.jfr`, and compares the status, the line and the output.
-fn scrub(
-    rt: &impl Abort,
-    alloc: Global,
-    place: &mut MemoryPlace,
-    status: u8,
-    line: &str,
-    output: Option<&[u8]>,
-) -> Result<(), Fail> {
-    let words = words(alloc, &["scrub", "a.jfr", "b.jfr"])?;
-    let mut out = MemorySink::new(alloc);
-    let mut err = MemorySink::new(alloc);
-    assert_eq!(rt;
-        run(alloc, &words, place, &mut out, &mut err),
-        status,
-        "{line}"
-    );
-    assert_eq!(rt; err.bytes(), line.as_bytes());
-    assert_eq!(rt; out.bytes().len(), 0);
-    assert_eq!(rt; place.file("b.jfr"), output);
-    Ok(())
 }
 
 // Two chunks come out as they are, however reads are cut.
@@ -92,13 +62,63 @@ fn changed_chunks_are_refused(rt: HostRuntime) -> Result<(), Fail> {
         (&[(96, 0x01)][..], "chunk 1 offset 96: RecordSize\n"),
         (&[(31, 0x45)][..], "chunk 1 offset 24: MetadataPosition\n"),
         (&[(23, 0x44)][..], "chunk 1 offset 16: PoolPosition\n"),
-        (&[(100, 0x01)][..], "chunk 1 offset 96: PoolsNotBuilt\n"),
+        (&[(100, 0x01)][..], "chunk 1 offset 100: ChainDelta\n"),
+        (&[(74, 0x02)][..], "chunk 1 offset 74: StringKind\n"),
+        (&[(74, 0x06)][..], "chunk 1 offset 74: StringKind\n"),
+        (&[(90, 0x02)][..], "chunk 1 offset 90: StringIndex\n"),
+        (&[(93, 0x00)][..], "chunk 1 offset 90: NoClasses\n"),
     ] {
         let bytes = changed(rt.alloc(), changes)?;
-        let mut place = MemoryPlace::new(rt.alloc());
-        place.put("a.jfr", &bytes)?;
-        scrub(&rt, rt.alloc(), &mut place, 2, line, Some(&[]))?;
+        run_over_places(&rt, rt.alloc(), &bytes, SCRUB, 2, line, Some(&[]))?;
     }
+    Ok(())
+}
+
+// The metadata record of the plain chunk, and one with trees of 16 and of 17 levels, each behind its
+// strings; and checkpoints without pools.
+const METADATA: &[u8] = &[
+    0x1C, 0, 0, 0, 1, 2, 3, 4, 0x72, 0x6F, 0x6F, 0x74, 3, 8, 0x6D, 0x65, 0x74, 0x61, 0x64, 0x61,
+    0x74, 0x61, 0, 0, 1, 1, 0, 0,
+];
+
+const SIXTEEN_LEVELS: &[u8] = &[
+    0x46, 0, 0, 0, 1, 2, 3, 4, 0x72, 0x6F, 0x6F, 0x74, 3, 8, 0x6D, 0x65, 0x74, 0x61, 0x64, 0x61,
+    0x74, 0x61, 1, 0, 1, 1, 0, 1, 1, 0, 1, 1, 0, 1, 1, 0, 1, 1, 0, 1, 1, 0, 1, 1, 0, 1, 1, 0, 1, 1,
+    0, 1, 1, 0, 1, 1, 0, 1, 1, 0, 1, 1, 0, 1, 1, 0, 1, 1, 0, 0,
+];
+
+const SEVENTEEN_LEVELS: &[u8] = &[
+    0x49, 0, 0, 0, 1, 2, 3, 4, 0x72, 0x6F, 0x6F, 0x74, 3, 8, 0x6D, 0x65, 0x74, 0x61, 0x64, 0x61,
+    0x74, 0x61, 1, 0, 1, 1, 0, 1, 1, 0, 1, 1, 0, 1, 1, 0, 1, 1, 0, 1, 1, 0, 1, 1, 0, 1, 1, 0, 1, 1,
+    0, 1, 1, 0, 1, 1, 0, 1, 1, 0, 1, 1, 0, 1, 1, 0, 1, 1, 0, 1, 1, 0, 0,
+];
+
+const NO_POOLS: &[u8] = &[7, 1, 0, 0, 0, 0, 0];
+
+const NO_DELTA: &[u8] = &[4, 1, 0, 0];
+
+const BYTE_LEFT: &[u8] = &[8, 1, 0, 0, 0, 0, 0, 0];
+
+// Records of the plain chunk are others, and it is refused for the first flaw, or stays.
+#[test]
+fn other_records_are_refused(rt: HostRuntime) -> Result<(), Fail> {
+    for (metadata, checkpoint, status, line) in [
+        (METADATA, NO_POOLS, 0u8, ""),
+        (METADATA, NO_DELTA, 2, "chunk 1 offset 100: Short\n"),
+        (METADATA, BYTE_LEFT, 2, "chunk 1 offset 103: Trailing\n"),
+        (
+            SEVENTEEN_LEVELS,
+            NO_POOLS,
+            2,
+            "chunk 1 offset 138: TreeDeep\n",
+        ),
+    ] {
+        let bytes = plain_with(rt.alloc(), metadata, checkpoint)?;
+        let left: &[u8] = if status == 0 { &bytes } else { &[] };
+        run_over_places(&rt, rt.alloc(), &bytes, SCRUB, status, line, Some(left))?;
+    }
+    let deep = plain_with(rt.alloc(), SIXTEEN_LEVELS, NO_POOLS)?;
+    run_over_places(&rt, rt.alloc(), &deep, SCRUB, 0, "", Some(&deep))?;
     Ok(())
 }
 
@@ -114,9 +134,7 @@ fn cut_recordings_are_refused(rt: HostRuntime) -> Result<(), Fail> {
     ] {
         let bytes = plain(rt.alloc(), times, more)?;
         let whole = plain(rt.alloc(), times, 0)?;
-        let mut place = MemoryPlace::new(rt.alloc());
-        place.put("a.jfr", &bytes)?;
-        scrub(&rt, rt.alloc(), &mut place, 2, line, Some(&whole))?;
+        run_over_places(&rt, rt.alloc(), &bytes, SCRUB, 2, line, Some(&whole))?;
     }
     Ok(())
 }
@@ -193,6 +211,25 @@ fn other_words_are_a_usage_fault(rt: HostRuntime) -> Result<(), Fail> {
         &["scrub", "a.jfr", ""][..],
         &["scrub", "a.jfr", "b.jfr", "c.jfr"][..],
         &["scrubs", "a.jfr", "b.jfr"][..],
+        &["scrub", "--include-events"][..],
+        &["scrub", "--include-events", "A"][..],
+        &["scrub", "--include-events", "A", "a.jfr"][..],
+        &["scrub", "--include-event", "A", "a.jfr", "b.jfr"][..],
+        &["scrub", "--include-events", "A,,B", "a.jfr", "b.jfr"][..],
+        &["scrub", "--exclude-threads", "", "a.jfr", "b.jfr"][..],
+        &["scrub", "a.jfr", "b.jfr", "--include-events", "A"][..],
+        &["scrub", "a.jfr", "--include-events", "A", "b.jfr"][..],
+        &["--include-events", "A", "scrub", "a.jfr", "b.jfr"][..],
+        &[
+            "scrub",
+            "--include-events",
+            "A",
+            "--include-events",
+            "B",
+            "a.jfr",
+            "b.jfr",
+        ][..],
+        &["scrub", "--include-events", "A", "a.jfr", "b.jfr", "c.jfr"][..],
     ] {
         let mut place = SteadyPlace::new(rt.alloc());
         place.put("a.jfr", &PLAIN)?;
@@ -202,6 +239,49 @@ fn other_words_are_a_usage_fault(rt: HostRuntime) -> Result<(), Fail> {
         assert_eq!(&rt; run(rt.alloc(), &words, &mut place, &mut out, &mut err), 1);
         assert_eq!(&rt; err.bytes(), usage.as_bytes());
         assert_eq!(&rt; place.file("b.jfr"), None);
+    }
+    Ok(())
+}
+
+// Options in any order, whatever their values are.
+#[test]
+fn options_come_before_the_names(rt: HostRuntime) -> Result<(), Fail> {
+    for line in [
+        &["scrub", "--include-events", "A,B", "a.jfr", "b.jfr"][..],
+        &["scrub", "--exclude-categories", "-", "a.jfr", "b.jfr"][..],
+        &[
+            "scrub",
+            "--include-events",
+            "--x",
+            "--exclude-threads",
+            "-y",
+            "a.jfr",
+            "b.jfr",
+        ][..],
+        &[
+            "scrub",
+            "--exclude-threads",
+            "--include-threads",
+            "--include-threads",
+            "scrub",
+            "--exclude-events",
+            "a.jfr",
+            "--include-categories",
+            "*",
+            "--exclude-categories",
+            "?",
+            "--include-events",
+            "A",
+            "scrub",
+            "b.jfr",
+        ][..],
+    ] {
+        let mut place = SteadyPlace::new(rt.alloc());
+        let mut out = SteadySink::new(rt.alloc());
+        let mut err = SteadySink::new(rt.alloc());
+        let words = words(rt.alloc(), line)?;
+        assert_eq!(&rt; run(rt.alloc(), &words, &mut place, &mut out, &mut err), 3);
+        assert_eq!(&rt; err.bytes(), b"read fault\n".as_slice());
     }
     Ok(())
 }

@@ -1,5 +1,13 @@
-use Rattle.jfr_cli.proofs.Clauses.{usage_told, refused_told, halted_told, broken_told, memory_told, memory_said, complete}
+use Rattle.jfr_cli.proofs.Clauses.{usage_told, refused_told, halted_told, broken_told, memory_told, memory_said, complete, headline_told}
+use Rattle.jfr_cli.specs.Words.{filter_of}
+use Rattle.jfr_scrub.proofs.HeadlineLaws.{is_scrubbed}
 use Rattle.jfr_cli.proofs.top.run.Goals as goal
+
+pub returns-clause-headline : goal.returns-clause-headline
+returns-clause-headline g c = headline_told c.answer.ensures
+
+pub returns-clause-each : goal.returns-clause-each
+returns-clause-each g c = λ o is. is_scrubbed (filter_of o)
 
 pub returns-clause-usage : goal.returns-clause-usage
 returns-clause-usage g c = usage_told c.answer.ensures

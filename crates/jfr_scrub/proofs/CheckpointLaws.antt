@@ -1,0 +1,169 @@
+-- What is written of a checkpoint, part by part.
+use Rattle.std.specs.Prelude.{◌≡◌, ℕ, ◌+◌, ◌-◌, ◌^◌, ◌<◌, ◌≤◌, Bool, true, false, ◌&&◌, ◌==◌, List, [], ◌∷◌, ◌++◌, length, take, drop, slice_range, slice_get, Some, if◌then◌else◌}
+use Rattle.std.specs.List.{flat_map, AllByRecursion}
+use Rattle.std.proofs.Common.{ap, arith, refl, sym, ◌∙◌, subst, append_assoc, length-append}
+use Rattle.std.proofs.lemmas.List.{append-nil}
+use Rattle.jfr_base.specs.Integer.{spell, spell_in}
+use Rattle.jfr_base.proofs.Ranges.{range_split, range_length}
+use Rattle.jfr_pool.specs.declared.link.Link.{Link}
+use Rattle.jfr_pool.specs.declared.entry.EntryAt.{EntryAt}
+use Rattle.jfr_chunk.specs.Written.{Group, add_entry, by_pool, entry_bytes, group_bytes, checkpoint_tail, checkpoint_bytes}
+use Rattle.jfr_scrub.specs.Left.{HasRange, leading, entries_size, pool_size, groups_size, capped}
+use Rattle.jfr_scrub.specs.Fits.{LinkFits}
+use Rattle.jfr_scrub.specs.Pieces.{Laying, more}
+use Rattle.jfr_scrub.proofs.Widths.{spelled_length}
+use Rattle.jfr_scrub.proofs.LeftLaws.{by_leading, range_drop}
+
+-- the entries of a group lie in the chunk
+abbrev pub GroupRange : ℕ → Group → Type 0
+GroupRange n g = AllByRecursion (HasRange n) g.entries
+
+pub groups_range : (n : ℕ) (es : List EntryAt) → AllByRecursion (HasRange n) es → AllByRecursion (GroupRange n) (by_pool es)
+groups_range n [] a = tt
+groups_range n (e ∷ es) a = by_groups (by_pool es) a.0 (groups_range n es a.1)
+  where
+    by_groups : (gs : List Group) → HasRange n e → AllByRecursion (GroupRange n) gs → AllByRecursion (GroupRange n) (add_entry e gs)
+    by_groups [] r h = ((r, tt), tt)
+    by_groups (g ∷ gs) r h = by_test ((e.pool == g.pool) && (e.class == g.class))
+      where
+        by_test : (b : Bool) → AllByRecursion (GroupRange n) (if b then record { class = g.class; pool = g.pool; entries = e ∷ g.entries } ∷ gs else record { class = e.class; pool = e.pool; entries = e ∷ [] } ∷ (g ∷ gs))
+        by_test true = ((r, h.0), h.1)
+        by_test false = ((r, tt), h)
+
+pub entries_length : (c : List ℕ) (es : List EntryAt) → AllByRecursion (HasRange (length c)) es → length (flat_map (entry_bytes c) es) ≡ entries_size es
+entries_length c [] a = refl
+entries_length c (e ∷ es) a =
+    let l : length (entry_bytes c e ++ flat_map (entry_bytes c) es) ≡ length (entry_bytes c e) + length (flat_map (entry_bytes c) es) = length-append (entry_bytes c e) (flat_map (entry_bytes c) es) in
+    let k : length (entry_bytes c e) ≡ e.end - e.key_at = range_length c e.key_at e.end a.0.within in
+    let i = entries_length c es a.1 in
+    omega arith
+
+pub group_length : (c : List ℕ) (g : Group) → GroupRange (length c) g → length (group_bytes c g) ≡ pool_size g.class g.entries
+group_length c g a =
+    let n = spell (length g.entries) in
+    let b = flat_map (entry_bytes c) g.entries in
+    let l : length (group_bytes c g) ≡ length (spell g.class) + length (n ++ b) = length-append (spell g.class) (n ++ b) in
+    let k : length (n ++ b) ≡ length n + length b = length-append n b in
+    let i : length b ≡ entries_size g.entries = entries_length c g.entries a in
+    omega arith
+
+pub groups_length : (c : List ℕ) (gs : List Group) → AllByRecursion (GroupRange (length c)) gs → length (flat_map (group_bytes c) gs) ≡ groups_size gs
+groups_length c [] a = refl
+groups_length c (g ∷ gs) a =
+    let l : length (flat_map (group_bytes c) (g ∷ gs)) ≡ length (group_bytes c g) + length (flat_map (group_bytes c) gs) = length-append (group_bytes c g) (flat_map (group_bytes c) gs) in
+    let k = group_length c g a.0 in
+    let i = groups_length c gs a.1 in
+    omega arith
+
+-- how many bytes come behind the size
+pub tail_length : (c : List ℕ) (l : Link) (delta : ℕ) (gs : List Group) → LinkFits c l delta gs → AllByRecursion (GroupRange (length c)) gs →
+    length (checkpoint_tail c l delta gs) ≡ (l.delta_at - l.frame.type_at) + length (spell delta) + 1 + length (spell (length gs)) + groups_size gs
+tail_length c l delta gs f a =
+    let t = slice_range c l.frame.type_at l.frame.body in
+    let m = slice_range c l.frame.body l.delta_at in
+    let d = spell delta in
+    let k = slice_range c l.delta_end (l.delta_end + 1) in
+    let n = spell (length gs) in
+    let b = flat_map (group_bytes c) gs in
+    let e₁ : length (t ++ (m ++ (d ++ (k ++ (n ++ b))))) ≡ length t + length (m ++ (d ++ (k ++ (n ++ b)))) = length-append t (m ++ (d ++ (k ++ (n ++ b)))) in
+    let e₂ : length (m ++ (d ++ (k ++ (n ++ b)))) ≡ length m + length (d ++ (k ++ (n ++ b))) = length-append m (d ++ (k ++ (n ++ b))) in
+    let e₃ : length (d ++ (k ++ (n ++ b))) ≡ length d + length (k ++ (n ++ b)) = length-append d (k ++ (n ++ b)) in
+    let e₄ : length (k ++ (n ++ b)) ≡ length k + length (n ++ b) = length-append k (n ++ b) in
+    let e₅ : length (n ++ b) ≡ length n + length b = length-append n b in
+    let w : l.delta_end + 1 ≤ length c = f.kind in
+    let o : l.delta_at ≤ l.delta_end = f.order in
+    let h : l.frame.body ≤ l.delta_at = f.behind in
+    let s : l.frame.type_at ≤ l.frame.body = f.framed.type_spelled.order in
+    let t₁ : length t ≡ l.frame.body - l.frame.type_at = range_length c l.frame.type_at l.frame.body (omega arith) in
+    let t₂ : length m ≡ l.delta_at - l.frame.body = range_length c l.frame.body l.delta_at (omega arith) in
+    let t₃ : length k ≡ (l.delta_end + 1) - l.delta_end = range_length c l.delta_end (l.delta_end + 1) w in
+    let t₄ : length b ≡ groups_size gs = groups_length c gs a in
+    omega arith
+
+-- one part behind another
+pub more_more : (o : Laying) (a b : List ℕ) → more (more o a) b ≡ more o (a ++ b)
+more_more o a b = λ i. record { chunk = o.chunk; bytes = append_assoc o.bytes a b i }
+
+regrouped : (o s a t m d k n g : List ℕ) → a ≡ t ++ m → (((((o ++ s) ++ a) ++ d) ++ k) ++ n) ++ g ≡ o ++ (s ++ (t ++ (m ++ (d ++ (k ++ (n ++ g))))))
+regrouped o s a t m d k n g e = rw e (simp append_assoc)
+
+-- one behind another, of the chunk that stays the same
+pub laid_parts : (o a b d e f g : Laying) (s v n : List ℕ) (p q t u : ℕ) (h : List ℕ → List ℕ) → a ≡ more o s → b ≡ more a (slice_range a.chunk p q) → d ≡ more b v → e ≡ more d (slice_range d.chunk t u) → f ≡ more e n → g ≡ more f (h f.chunk) →
+    g ≡ more (more (more (more (more (more o s) (slice_range o.chunk p q)) v) (slice_range o.chunk t u)) n) (h o.chunk)
+laid_parts o a b d e f g s v n p q t u h i j k l m w =
+    let b' : b ≡ more (more o s) (slice_range o.chunk p q) = j ∙ ap (λ (z : Laying). more z (slice_range z.chunk p q)) i in
+    let d' : d ≡ more (more (more o s) (slice_range o.chunk p q)) v = k ∙ ap (λ z. more z v) b' in
+    let e' : e ≡ more (more (more (more o s) (slice_range o.chunk p q)) v) (slice_range o.chunk t u) = l ∙ ap (λ (z : Laying). more z (slice_range z.chunk t u)) d' in
+    let f' : f ≡ more (more (more (more (more o s) (slice_range o.chunk p q)) v) (slice_range o.chunk t u)) n = m ∙ ap (λ z. more z n) e' in
+    w ∙ ap (λ (z : Laying). more z (h z.chunk)) f'
+
+-- the parts of a checkpoint
+pub laid_checkpoint : (o : Laying) (l : Link) (delta size : ℕ) (gs : List Group) → LinkFits o.chunk l delta gs → size ≡ (l.frame.type_at - l.frame.at) + length (checkpoint_tail o.chunk l delta gs) →
+    more (more (more (more (more (more o (spell_in (l.frame.type_at - l.frame.at) size)) (slice_range o.chunk l.frame.type_at l.delta_at)) (spell delta)) (slice_range o.chunk l.delta_end (l.delta_end + 1))) (spell (length gs))) (flat_map (group_bytes o.chunk) gs)
+    ≡ more o (checkpoint_bytes o.chunk l delta gs)
+laid_checkpoint o l delta size gs f e =
+    let w = l.frame.type_at - l.frame.at in
+    let a : slice_range o.chunk l.frame.type_at l.delta_at ≡ slice_range o.chunk l.frame.type_at l.frame.body ++ slice_range o.chunk l.frame.body l.delta_at =
+    range_split o.chunk l.frame.type_at l.frame.body l.delta_at f.framed.type_spelled.order f.behind in
+    let b = regrouped o.bytes (spell_in w size) (slice_range o.chunk l.frame.type_at l.delta_at) (slice_range o.chunk l.frame.type_at l.frame.body) (slice_range o.chunk l.frame.body l.delta_at) (spell delta) (slice_range o.chunk l.delta_end (l.delta_end + 1)) (spell (length gs)) (flat_map (group_bytes o.chunk) gs) a in
+    (λ i. record { chunk = o.chunk; bytes = b i }) ∙ ap (λ n. more o (spell_in w n ++ checkpoint_tail o.chunk l delta gs)) e
+
+-- the pools that are left to lay out
+pub record LayingPools (o now : Laying) (es rest : List EntryAt) : Type 0 where
+  pub chunk : now.chunk ≡ o.chunk
+  pub laid : more now (flat_map (group_bytes o.chunk) (by_pool rest)) ≡ more o (flat_map (group_bytes o.chunk) (by_pool es))
+  pub ranges : AllByRecursion (HasRange (length o.chunk)) rest
+
+pub laying_none : (o : Laying) (es : List EntryAt) → AllByRecursion (HasRange (length o.chunk)) es → LayingPools o o es es
+laying_none o es a = record { chunk = refl; laid = refl; ranges = a }
+
+one_group : (x a b d f : List ℕ) → (((x ++ a) ++ b) ++ d) ++ f ≡ x ++ ((a ++ (b ++ d)) ++ f)
+one_group x a b d f = simp append_assoc
+
+pub group_laid : (o a b d : Laying) (x y : List ℕ) (f : List ℕ → List ℕ) → a ≡ more o x → b ≡ more a y → d ≡ more b (f b.chunk) → d ≡ more (more (more o x) y) (f o.chunk)
+group_laid o a b d x y f p q r =
+    let m : b ≡ more (more o x) y = q ∙ ap (λ z. more z y) p in
+    r ∙ ap (λ (z : Laying). more z (f z.chunk)) m
+
+pub laying_next : (o now next : Laying) (es rest : List EntryAt) (e : EntryAt) → LayingPools o now es rest → slice_get rest 0 ≡ Some e →
+    next ≡ more (more (more now (spell e.class)) (spell (length (take (leading e rest) rest)))) (flat_map (entry_bytes now.chunk) (take (leading e rest) rest)) → LayingPools o next es (drop (leading e rest) rest)
+laying_next o now next es [] e m r n = cc
+laying_next o now next es (x ∷ behind) e m r n =
+    let same : x ≡ e = cc in
+    let rest : List EntryAt = x ∷ behind in
+    let pool = take (leading e rest) rest in
+    let others = drop (leading e rest) rest in
+    let b : by_pool rest ≡ record { class = e.class; pool = e.pool; entries = pool } ∷ by_pool others =
+    subst (λ z. by_pool rest ≡ record { class = z.class; pool = z.pool; entries = take (leading z rest) rest } ∷ by_pool (drop (leading z rest) rest)) same (by_leading x behind) in
+    let f = flat_map (group_bytes o.chunk) (by_pool others) in
+    let g = spell e.class ++ (spell (length pool) ++ flat_map (entry_bytes o.chunk) pool) in
+    let u : next ≡ more (more (more now (spell e.class)) (spell (length pool))) (flat_map (entry_bytes o.chunk) pool) = n ∙ ap (λ z. more (more (more now (spell e.class)) (spell (length pool))) (flat_map (entry_bytes z) pool)) m.chunk in
+    let v = one_group now.bytes (spell e.class) (spell (length pool)) (flat_map (entry_bytes o.chunk) pool) f in
+    record {
+      chunk = ap (λ (z : Laying). z.chunk) n ∙ m.chunk;
+      laid = ap (λ z. more z f) u ∙ ((λ i. record { chunk = now.chunk; bytes = v i }) ∙ (ap (λ gs. more now (flat_map (group_bytes o.chunk) gs)) (sym b) ∙ m.laid));
+      ranges = range_drop (length o.chunk) rest (leading e rest) m.ranges;
+    }
+
+pub laying_all : (o now : Laying) (es rest : List EntryAt) → LayingPools o now es rest → length rest ≤ 0 → now ≡ more o (flat_map (group_bytes o.chunk) (by_pool es))
+laying_all o now es [] m h = (λ i. record { chunk = now.chunk; bytes = sym (append-nil now.bytes) i }) ∙ m.laid
+laying_all o now es (e ∷ rest) m h = absurd (omega arith)
+
+-- the size of what is written of a checkpoint
+pub size_is : (c : List ℕ) (l : Link) (delta : ℕ) (gs : List Group) (bytes v w : ℕ) → LinkFits c l delta gs → AllByRecursion (GroupRange (length c)) gs → length c < 2 ^ 64 →
+    bytes ≡ capped (groups_size gs) → v ≡ length (spell delta) → w ≡ length (spell (length gs)) →
+    (((l.frame.type_at - l.frame.at) + (l.delta_at - l.frame.type_at) + v + 1 + w) + bytes ≡ (l.frame.type_at - l.frame.at) + length (checkpoint_tail c l delta gs))
+size_is c l delta gs bytes v w f a h b d e =
+    let t = tail_length c l delta gs f a in
+    let r : (l.frame.type_at - l.frame.at) + length (checkpoint_tail c l delta gs) ≤ l.frame.size = f.room in
+    let k : l.frame.at + l.frame.size ≤ length c = f.framed.within in
+    omega arith
+
+-- and how long it is
+pub checkpoint_length : (c : List ℕ) (l : Link) (delta : ℕ) (gs : List Group) → LinkFits c l delta gs → length (checkpoint_bytes c l delta gs) ≡ (l.frame.type_at - l.frame.at) + length (checkpoint_tail c l delta gs)
+checkpoint_length c l delta gs f =
+    let w = l.frame.type_at - l.frame.at in
+    let n = w + length (checkpoint_tail c l delta gs) in
+    let a : length (spell_in w n ++ checkpoint_tail c l delta gs) ≡ length (spell_in w n) + length (checkpoint_tail c l delta gs) = length-append (spell_in w n) (checkpoint_tail c l delta gs) in
+    let b : length (spell_in w n) ≡ w = spelled_length c l.frame n f.framed f.room in
+    omega arith

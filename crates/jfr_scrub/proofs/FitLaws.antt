@@ -1,0 +1,166 @@
+-- What stays of a chunk fits where it stood.
+use Rattle.std.specs.Prelude.{◌≡◌, ℕ, zero, suc, ◌+◌, ◌-◌, ◌<◌, ◌≤◌, Bool, true, false, List, [], ◌∷◌, ◌++◌, length, map, reverse, replicate, slice_set, Option, Some, None, is_some}
+use Rattle.std.specs.List.{flat_map, enumerate_from, AllByRecursion}
+use Rattle.std.proofs.Common.{arith, refl, sym, ◌∙◌, subst, append_assoc}
+use Rattle.std.proofs.lemmas.List.{length-set, length-replicate}
+use Rattle.jfr_base.specs.Integer.{spell}
+use Rattle.jfr_base.proofs.Copies.{int_some}
+use Rattle.jfr_base.proofs.Spelling.{spell_most}
+use Rattle.jfr_base.proofs.Ranges.{range_length}
+use Rattle.jfr_scrub.proofs.CheckpointLaws.{checkpoint_length}
+use Rattle.jfr_layout.specs.Classes.{Classes}
+use Rattle.jfr_frame.specs.Records.{IsRecord, record_end, record_bytes}
+use Rattle.jfr_frame.proofs.RecordLaws.{some_bytes}
+use Rattle.jfr_pool.specs.declared.link.Link.{Link}
+use Rattle.jfr_pool.specs.declared.entry.EntryAt.{EntryAt}
+use Rattle.jfr_pool.specs.Entries.{Constant, PoolAt, entry_of, entries_from, AreEntries}
+use Rattle.jfr_chunk.specs.Parts.{Parts, EventAt, AreParts}
+use Rattle.jfr_chunk.specs.Reach.{marked, marked_at, swept, led_to, next_entries, roots, reached_marks, remain}
+use Rattle.jfr_chunk.specs.Written.{distance}
+use Rattle.jfr_chunk.specs.Scrub.{Stay, Whole, Chained, groups_of, bytes_of, written_bytes, written, stays, stays_whole}
+use Rattle.jfr_laws.proofs.Standing.{LinkStands, Constants, Pools, body_stands}
+use Rattle.jfr_laws.proofs.Marks.{all_marked}
+use Rattle.jfr_laws.proofs.Order.{Numbered}
+use Rattle.jfr_laws.proofs.Stays.{Deltas, StayStands}
+use Rattle.jfr_laws.proofs.ReadBack.{tail_small}
+use Rattle.jfr_laws.proofs.Premises.{all_links, IsCheckpoint, Ready, ready, chained_checkpoints}
+use Rattle.jfr_laws.proofs.Lengths.{length_back, sizes_within}
+use Rattle.jfr_scrub.specs.Fits.{LinkFits}
+use Rattle.jfr_scrub.specs.Bodies.{StayFits, NotFalling}
+use Rattle.jfr_scrub.specs.Left.{HasRange}
+use Rattle.jfr_scrub.proofs.BodyLaws.{WrittenFits}
+use Rattle.jfr_scrub.proofs.Widths.{size_width}
+
+module _ (c : List ℕ) (left : List EntryAt) (k : Classes) where
+  -- its delta takes no more bytes than before
+  delta_room : (l : Link) → LinkStands c l → (at : ℕ) (older : Option ℕ) → (is_some older ≡ true → l.delta_end ≡ l.delta_at + 9) → l.delta_at + length (spell (distance at older)) ≤ l.delta_end
+  unfolding spell
+  delta_room l s at None d = let i : l.delta_at < l.delta_end = int_some c l.delta_at l.delta_end s.word s.delta_spelled in omega arith
+  delta_room l s at (Some o) d = let e : l.delta_end ≡ l.delta_at + 9 = d refl in let i = spell_most (distance at (Some o)) in omega arith
+
+  -- a checkpoint that can be written fits
+  link_fits : (i : ℕ) (l : Link) (at : ℕ) (older : Option ℕ) → StayStands c left k (Chained i l) → (is_some older ≡ true → l.delta_end ≡ l.delta_at + 9) → LinkFits c l (distance at older) (groups_of left i)
+  link_fits i l at older s d =
+      let b : l.frame.body ≤ s.0.middle = s.0.start_spelled.order in
+      let m : s.0.middle ≤ l.delta_at = s.0.duration_spelled.order in
+      let t = tail_small c l (distance at older) (groups_of left i) s.0 (delta_room l s.0 at older d) s.2 in
+      record { framed = s.0.record_stands; behind = omega arith; order = s.0.delta_spelled.order; kind = s.0.kind_within; room = omega arith }
+
+  all_written : (ss : List Stay) (at : ℕ) (older : Option ℕ) → AllByRecursion (StayStands c left k) ss → Deltas (is_some older) ss → AllByRecursion (WrittenFits c left) (written c left at older ss)
+  all_written [] at older a d = tt
+  all_written (Whole r ∷ ss) at older a d = (a.0, all_written ss (at + length (bytes_of c left (Whole r) at older)) older a.1 d)
+  all_written (Chained i l ∷ ss) at older a d = (link_fits i l at older a.0 d.0, all_written ss (at + length (bytes_of c left (Chained i l) at older)) (Some at) a.1 d.1)
+
+-- what is written has a byte
+pub some_written : (c : List ℕ) (left : List EntryAt) (s : Stay) (at : ℕ) (older : Option ℕ) → StayFits c left s at older → 1 ≤ length (bytes_of c left s at older)
+some_written c left (Whole r) at older f =
+    let i = some_bytes c r f in
+    let l : length (record_bytes c r) ≡ record_end r - r.at = range_length c r.at (record_end r) f.within in
+    omega arith
+some_written c left (Chained i l) at older f =
+    let n = checkpoint_length c l (distance at older) (groups_of left i) f in
+    let w = size_width c l.frame f.framed in
+    omega (arith, w.0)
+
+module _ (p : Parts) (a : AreParts p) (kept : List EventAt) where
+  records_of : (ts : List Numbered) → AllByRecursion (IsCheckpoint p.bytes) ts → AllByRecursion (λ m. IsRecord p.bytes m.1.frame) ts
+  records_of [] b = tt
+  records_of (t ∷ ts) b = (b.0.0, records_of ts b.1)
+
+  is_ready : Ready p (remain p kept) (stays p kept)
+  unfolding remain
+  is_ready = ready p a (stays_whole p kept) (reached_marks p kept)
+
+  pub all_fit : AllByRecursion (WrittenFits p.bytes (remain p kept)) (written p.bytes (remain p kept) 68 None (stays p kept))
+  all_fit = all_written p.bytes (remain p kept) p.classes (stays p kept) 68 None is_ready.stand is_ready.deltas
+
+  pub all_within : 68 + length (flat_map (written_bytes p.bytes (remain p kept)) (written p.bytes (remain p kept) 68 None (stays p kept))) ≤ length p.bytes
+  all_within =
+      let i = length_back p.bytes (remain p kept) p.classes (stays p kept) 68 None is_ready.stand is_ready.deltas in
+      let j = sizes_within p.bytes (all_links p) (stays_whole p kept) (records_of (all_links p) (chained_checkpoints p a)) p.records 68 (length p.bytes) a.records in
+      omega arith
+
+-- entries in the order of their checkpoints, each in its range
+abbrev Ordered : ℕ → ℕ → List EntryAt → Type 0
+Ordered n m es = NotFalling m es × AllByRecursion (HasRange n) es
+
+pub falling_less : (m n : ℕ) (es : List EntryAt) → m ≤ n → NotFalling n es → NotFalling m es
+falling_less m n [] h b = tt
+falling_less m n (e ∷ es) h b = let i : n ≤ e.checkpoint = b.0 in (omega arith, b.1)
+
+pub falling_marked : (n : ℕ) (ms : List Bool) (es : List EntryAt) → NotFalling n es → NotFalling n (marked ms es)
+falling_marked n [] es b = tt
+falling_marked n (m ∷ ms) [] b = tt
+falling_marked n (true ∷ ms) (e ∷ es) b = (b.0, falling_marked e.checkpoint ms es b.1)
+falling_marked n (false ∷ ms) (e ∷ es) b = falling_less n e.checkpoint (marked ms es) b.0 (falling_marked e.checkpoint ms es b.1)
+
+-- entries of one checkpoint, and then later ones
+falling_append : (n : ℕ) (xs ys : List EntryAt) → AllByRecursion (λ e. e.checkpoint ≡ n) xs → NotFalling n ys → NotFalling n (xs ++ ys)
+falling_append n [] ys b d = d
+falling_append n (x ∷ xs) ys b d =
+    let q : x.checkpoint ≡ n = b.0 in
+    (omega arith, subst (λ m. NotFalling m (xs ++ ys)) (sym q) (falling_append n xs ys b.1 d))
+
+constants_number : (checkpoint number class : ℕ) (xs : List Constant) (ys : List EntryAt) → AllByRecursion (λ e. e.checkpoint ≡ checkpoint) ys → AllByRecursion (λ e. e.checkpoint ≡ checkpoint) (map (entry_of checkpoint number class) xs ++ ys)
+constants_number checkpoint number class [] ys b = b
+constants_number checkpoint number class (x ∷ xs) ys b = (refl, constants_number checkpoint number class xs ys b)
+
+pools_number : (checkpoint number : ℕ) (ps : List PoolAt) → AllByRecursion (λ e. e.checkpoint ≡ checkpoint) (entries_from checkpoint number ps)
+pools_number checkpoint number [] = tt
+pools_number checkpoint number (p ∷ ps) = constants_number checkpoint number p.class p.constants (entries_from checkpoint (number + 1) ps) (pools_number checkpoint (number + 1) ps)
+
+entries_order : (c : List ℕ) (k : Classes) (n : ℕ) (ls : List Link) (es : List EntryAt) → AreEntries c k n ls es → NotFalling n es
+entries_order c k n [] es b = subst (NotFalling n) (sym b) tt
+entries_order c k n (l ∷ ls) es b =
+    subst (NotFalling n) (sym b.3) (falling_append n (entries_from n 0 b.0) b.2 (pools_number n 0 b.0) (falling_less n (n + 1) b.2 (omega arith) (entries_order c k (n + 1) ls b.2 b.4)))
+
+module _ (c : List ℕ) (k : Classes) where
+  constants_range : (checkpoint number class at : ℕ) (xs : List Constant) (to : ℕ) (ys : List EntryAt) → Constants c k class at xs to → AllByRecursion (HasRange (length c)) ys → AllByRecursion (HasRange (length c)) (map (entry_of checkpoint number class) xs ++ ys)
+  constants_range checkpoint number class at [] to ys s b = b
+  constants_range checkpoint number class at (x ∷ xs) to ys s b =
+      let i : x.key_at ≤ x.value_at = s.0.key.order in
+      let j : x.value_at ≤ x.end = s.0.order in
+      (record { order = omega arith; within = s.0.within }, constants_range checkpoint number class x.end xs to ys s.1 b)
+
+  pools_range : (checkpoint number at : ℕ) (ps : List PoolAt) (to : ℕ) (ys : List EntryAt) → Pools c k at ps to → AllByRecursion (HasRange (length c)) ys → AllByRecursion (HasRange (length c)) (entries_from checkpoint number ps ++ ys)
+  pools_range checkpoint number at [] to ys s b = b
+  pools_range checkpoint number at (p ∷ ps) to ys s b =
+      subst (AllByRecursion (HasRange (length c))) (sym (append_assoc (map (entry_of checkpoint number p.class) p.constants) (entries_from checkpoint (number + 1) ps) ys))
+      (constants_range checkpoint number p.class s.1.first p.constants s.0 (entries_from checkpoint (number + 1) ps ++ ys) s.1.constants (pools_range checkpoint (number + 1) s.0 ps to ys s.2 b))
+
+  entries_range : (n : ℕ) (ls : List Link) (es : List EntryAt) → AllByRecursion (λ l. record_end l.frame ≤ length c) ls → AreEntries c k n ls es → AllByRecursion (HasRange (length c)) es
+  entries_range n [] es w b = subst (AllByRecursion (HasRange (length c))) (sym b) tt
+  entries_range n (l ∷ ls) es w b =
+      let s = body_stands c k (record_end l.frame) w.0 l.frame.body b.0 b.1 in
+      subst (AllByRecursion (HasRange (length c))) (sym b.3) (pools_range n 0 s.first b.0 (record_end l.frame) b.2 s.rest (entries_range (n + 1) ls b.2 w.1 b.4))
+
+module _ (p : Parts) (a : AreParts p) (kept : List EventAt) where
+  ends_of : (i : ℕ) (ls : List Link) → AllByRecursion (IsCheckpoint p.bytes) (enumerate_from i ls) → AllByRecursion (λ l. record_end l.frame ≤ length p.bytes) ls
+  ends_of i [] b = tt
+  ends_of i (l ∷ ls) b = (b.0.0.within, ends_of (i + 1) ls b.1)
+
+  pub left_order : NotFalling 0 (remain p kept)
+  unfolding remain
+  left_order = falling_marked 0 (reached_marks p kept) p.entries (entries_order p.bytes p.classes 0 (reverse p.chain) p.entries a.entries)
+
+  pub left_ranges : AllByRecursion (HasRange (length p.bytes)) (remain p kept)
+  unfolding remain
+  left_ranges = all_marked (HasRange (length p.bytes)) (reached_marks p kept) p.entries (entries_range p.bytes p.classes 0 (reverse p.chain) p.entries (ends_of 0 (reverse p.chain) (chained_checkpoints p a)) a.entries)
+
+-- as many marks as entries
+marked_length : (ms : List Bool) (is : List ℕ) → length (marked_at ms is) ≡ length ms
+marked_length ms [] = refl
+marked_length ms (i ∷ is) = marked_length (slice_set ms i true) is ∙ length-set ms i true
+
+swept_length : (n : ℕ) (next : ℕ → List ℕ) (ms : List Bool) → length (swept n next ms) ≡ length ms
+swept_length zero next ms = refl
+swept_length (suc n) next ms = marked_length (swept n next ms) (led_to (swept n next ms) next) ∙ swept_length n next ms
+
+pub marks_length : (p : Parts) (kept : List EventAt) → length (reached_marks p kept) ≡ length p.entries
+unfolding reached_marks
+marks_length p kept = swept_length (length p.entries) (next_entries p) (marked_at (replicate (length p.entries) false) (roots p kept)) ∙ (marked_length (replicate (length p.entries) false) (roots p kept) ∙ length-replicate (length p.entries) false)
+
+-- the entries that are marked remain
+pub left_is : (p : Parts) (kept : List EventAt) (ms : List Bool) (es left : List EntryAt) → ms ≡ reached_marks p kept → es ≡ p.entries → left ≡ marked ms es → left ≡ remain p kept
+unfolding remain
+left_is p kept ms es left m e l = l ∙ (λ i. marked (m i) (e i))

@@ -1,0 +1,50 @@
+use Rattle.std.proofs.Common.{ap, sym, ◌∙◌, ◌+◌, ◌≤◌, subst, length, List, [], None}
+use Rattle.std.specs.List.{AllByRecursion, flat_map}
+use Rattle.jfr_header.specs.declared.header.Header.{Header}
+use Rattle.jfr_pool.specs.declared.entry.EntryAt.{EntryAt}
+use Rattle.jfr_chunk.specs.Reach.{kept_by}
+use Rattle.jfr_chunk.specs.Scrub.{stays, bytes_of, written, written_bytes}
+use Rattle.jfr_scrub.specs.Bodies.{NotFalling}
+use Rattle.jfr_scrub.specs.Left.{HasRange}
+use Rattle.jfr_scrub.specs.Staying.{stay_as}
+use Rattle.jfr_scrub.proofs.BodyLaws.{Going, WrittenFits, going_none, going_next, going_room}
+use Rattle.jfr_scrub.proofs.CursorLaws.{cursor_first}
+use Rattle.jfr_scrub.proofs.FitLaws.{all_fit, all_within, left_order, left_ranges, some_written}
+use Rattle.jfr_scrub.proofs.body.lay_body.Goals as goal
+
+pub stays-init : goal.stays-init
+stays-init c =
+    let p = c.args.chunk.now in
+    let a = c.bytes.ensures.parts in
+    let kept = kept_by p c.args.kept.now in
+    let new = c.new.ensures in
+    let start = new ∙ ap (λ (z : List _). record { chunk = z; bytes = [] }) c.bytes.ensures.exact in
+    record {
+      cursor = cursor_first p c.args.kept.now a;
+      body = going_none p c.args.left.now (stays p kept) _ (λ i. record { output = start i; at = 68; older = None; metadata = None })
+          (subst (λ (z : List EntryAt). AllByRecursion (WrittenFits p.bytes z) (written p.bytes z 68 None (stays p kept))) (sym c.requires) (all_fit p a kept))
+          (subst (λ (z : List EntryAt). 68 + length (flat_map (written_bytes p.bytes z) (written p.bytes z 68 None (stays p kept))) ≤ length p.bytes) (sym c.requires) (all_within p a kept));
+    }
+
+pub lay_stay-requires-clause-order : goal.lay_stay-requires-clause-order
+lay_stay-requires-clause-order c = subst (NotFalling 0) (sym c.requires) (left_order c.args.chunk.now c.bytes.ensures.parts (kept_by c.args.chunk.now c.args.kept.now))
+
+pub lay_stay-requires-clause-ranges : goal.lay_stay-requires-clause-ranges
+lay_stay-requires-clause-ranges c =
+    subst (λ (z : List _). AllByRecursion (HasRange (length z)) c.args.left.now) (sym c.stays.invariant.body.chunk)
+    (subst (AllByRecursion (HasRange (length c.args.chunk.now.bytes))) (sym c.requires) (left_ranges c.args.chunk.now c.bytes.ensures.parts (kept_by c.args.chunk.now c.args.kept.now)))
+
+pub lay_stay-requires-clause-room : goal.lay_stay-requires-clause-room
+lay_stay-requires-clause-room c =
+    let p = c.args.chunk.now in
+    let g = subst (λ ss. Going p c.args.left.now (stays p (kept_by p c.args.kept.now)) ss c.stays.body) c.in-Some.ensures.exact c.stays.invariant.body in
+    subst (λ (z : List _). c.stays.body.at + length (bytes_of z c.args.left.now (stay_as c.in-Some.stay) c.stays.body.at c.stays.body.older) ≤ length z) (sym c.stays.invariant.body.chunk) (going_room p _ _ _ _ _ g)
+
+pub stays-preserved : goal.stays-preserved
+stays-preserved c =
+    let p = c.args.chunk.now in
+    let g = subst (λ ss. Going p c.args.left.now (stays p (kept_by p c.args.kept.now)) ss c.stays.body) c.in-Some.ensures.exact c.stays.invariant.body in
+    record {
+      cursor = c.in-Some.ensures.cursor;
+      body = going_next p _ _ _ _ _ _ _ g (ap (λ (h : Header). h.metadata) c.header.ensures) c.in_ok-lay_stay.ensures.ok (some_written p.bytes c.args.left.now (stay_as c.in-Some.stay) c.stays.body.at c.stays.body.older g.fits.0);
+    }

@@ -1,0 +1,60 @@
+-- What a scrub writes: a result for each chunk of the recording before the first that is refused.
+use Rattle.std.specs.Prelude.{◌≡◌, ℕ, List, [], ◌∷◌, Option, Some, None, true, ⊤}
+use Rattle.jfr_base.specs.declared.flaw.Flaw.{Flaw}
+use Rattle.jfr_filter.specs.Filters.{Given}
+use Rattle.jfr_outside.specs.World.{World, file}
+use Rattle.jfr_header.specs.Cuts.{cut, joined}
+use Rattle.jfr_header.specs.declared.ending.Ending.{Ending}
+use Rattle.jfr_header.specs.declared.ending.Ending.TheVariants.{Done, Refused, ReadFault, WriteFault, TooManyParts, Memory}
+use Rattle.jfr_chunk.specs.Parts.{Parts, AreParts}
+use Rattle.jfr_chunk.specs.Chosen.{kept_of}
+use Rattle.jfr_chunk.specs.Scrub.{scrub_of}
+use Rattle.jfr_chunk.specs.Refusal.{refusal_of}
+use Rattle.jfr_laws.specs.Laws.{IsSettled}
+
+-- The chunks before the first that a rule refuses.
+abbrev pub unless_refused : Option Flaw → List (List ℕ) → List (List ℕ)
+unless_refused None cs = cs
+unless_refused (Some flaw) cs = []
+
+abbrev pub before_refused : (List ℕ → Option Flaw) → List (List ℕ) → List (List ℕ)
+before_refused refusal [] = []
+before_refused refusal (c ∷ cs) = unless_refused (refusal c) (c ∷ before_refused refusal cs)
+
+-- The chunk c is accepted, and b is what it becomes: a chunk that is accepted again, with exactly the events that the filter keeps and exactly the constants that they reach, and of the same meaning; scrubbed once more it stays the same.
+pub record IsScrubbed (g : Given) (c b : List ℕ) : Type 0 where
+  pub parts : Parts
+  pub bytes : parts.bytes ≡ c
+  pub stand : AreParts parts
+  pub becomes : b ≡ scrub_of parts (kept_of g parts)
+  pub settled : IsSettled g parts
+
+-- Such results stand one to one with chunks, in order.
+abbrev pub AreScrubbed : Given → List (List ℕ) → List (List ℕ) → Type 0
+AreScrubbed g [] [] = ⊤
+AreScrubbed g (c ∷ cs) (b ∷ bs) = IsScrubbed g c b × AreScrubbed g cs bs
+AreScrubbed g [] (b ∷ bs) = ⊥
+AreScrubbed g (c ∷ cs) [] = ⊥
+
+-- The bytes y are the results for the recording x, one after another.
+pub record IsScrubOf (g : Given) (x y : List ℕ) : Type 0 where
+  pub results : List (List ℕ)
+  pub scrubbed : AreScrubbed g (before_refused refusal_of (cut x 0 true).chunks) results
+  pub bytes : y ≡ joined results
+
+-- The answer is one that the plan ends with.
+abbrev pub IsByPlan : Ending → Type 0
+IsByPlan Done = ⊤
+IsByPlan (Refused refusal) = ⊤
+IsByPlan ReadFault = ⊥
+IsByPlan WriteFault = ⊥
+IsByPlan TooManyParts = ⊥
+IsByPlan Memory = ⊥
+
+-- The output holds the scrub of the input.
+pub record Scrubs (g : Given) (input output : List ℕ) (w v : World) : Type 0 where
+  pub recording : List ℕ
+  pub read : file w input ≡ Some recording
+  pub written : List ℕ
+  pub stands : file v output ≡ Some written
+  pub scrub : IsScrubOf g recording written

@@ -1,0 +1,21 @@
+-- A scrubber of one chunk.
+use Rattle.std.specs.Prelude.{ℕ, List}
+use Rattle.jfr_header.specs.Fronts.{Whole}
+use Rattle.jfr_chunk.specs.Parts.{Parts, AreParts}
+use Rattle.jfr_scrub.specs.Pieces.{Laid, joined}
+
+-- The parts stand in a whole chunk.
+pub record IsAccepted (p : Parts) : Type 0 where
+  pub whole : Whole p.bytes
+  pub parts : AreParts p
+
+-- The pieces of what the chunk becomes, the bytes that are written, and how many events and entries are kept.
+pub record Scrubbing : Type 0 where
+  pub laid : Laid
+  pub written : List ℕ
+  pub events : ℕ
+  pub entries : ℕ
+
+-- The pieces are written.
+abbrev pub all_written : Scrubbing → Scrubbing
+all_written s = record { laid = s.laid; written = joined s.laid; events = s.events; entries = s.entries }

@@ -1,0 +1,117 @@
+// What comes behind the header.
+ghost use Rattle.std.specs.Prelude.{◌≡◌, ◌+◌, ◌-◌, ◌^◌, ◌<◌, ◌≤◌, ◌==◌, [], None, filter, length, IfOk, OnOk};
+ghost use Rattle.std.specs.List.{AllByRecursion};
+ghost use Rattle.jfr_chunk.specs.Parts.{metadata_at};
+ghost use Rattle.jfr_chunk.specs.Reach.{kept_by, remain};
+ghost use Rattle.jfr_chunk.specs.Scrub.{bytes_of, stays};
+ghost use Rattle.jfr_chunk.specs.Written.{distance};
+ghost use Rattle.jfr_scrub.specs.Bodies.{IsBefore, IsBody, NotFalling, StayFits, body_with, place_seen};
+ghost use Rattle.jfr_scrub.specs.Left.{HasRange};
+ghost use Rattle.jfr_scrub.specs.Scrubbing.{IsAccepted};
+ghost use Rattle.jfr_scrub.specs.Staying.{stay_as};
+
+use crate::checkpoint::lay_checkpoint;
+use crate::output::Output;
+use crate::stays::{Cursor, Staying, next_stay};
+use jfr_chunk::{Chunk, Kept};
+use jfr_outside::NoMemory;
+use jfr_pool::EntryAt;
+use std::alloc::Global;
+
+/// What is laid out behind the header: the bytes, the place behind them, and the places of the last
+/// checkpoint and of the metadata record.
+#[derive(Drop)]
+pub(crate) struct Body<'a> {
+    pub(crate) output: Output<'a>,
+    pub(crate) at: usize,
+    pub(crate) older: Option<usize>,
+    pub(crate) metadata: Option<usize>,
+}
+
+/// Lays out all that stays, with the entries that remain.
+pub(crate) fn lay_body<'a>(
+    alloc: Global,
+    chunk: &Chunk<'a>,
+    kept: &Kept,
+    left: &[EntryAt],
+) -> Result<Body<'a>, NoMemory>
+    requires { left.now ≡ remain chunk.now (kept_by chunk.now kept.now) }
+    ensures ok { IfOk result (IsBody chunk.now left.now (stays chunk.now (kept_by chunk.now kept.now))) }
+    ensures accepted { IsAccepted chunk.now }
+{
+    let metadata = chunk.header().metadata;
+    let mut body = Body {
+        output: Output::new(alloc, chunk.bytes()),
+        at: 68,
+        older: None,
+        metadata: None,
+    };
+    let mut cursor = Cursor {
+        frame: 0,
+        event: 0,
+        link: 0,
+    };
+    'stays: while let Some(stay) = next_stay(chunk, kept, &mut cursor) {
+        lay_stay(&mut body, left, metadata, stay)?;
+    }
+    Ok(body)
+}
+
+// Lays out one that stays.
+fn lay_stay(body: &mut Body, left: &[EntryAt], metadata: u64, stay: Staying) -> Result<(), NoMemory>
+    requires fits { StayFits body.old.output.chunk left.now (stay_as stay) body.old.at body.old.older }
+    requires order { NotFalling 0 left.now }
+    requires ranges { AllByRecursion (HasRange (length body.old.output.chunk)) left.now }
+    requires before { IsBefore body.old.older body.old.at }
+    requires room { body.old.at + length (bytes_of body.old.output.chunk left.now (stay_as stay) body.old.at body.old.older) ≤ length body.old.output.chunk }
+    requires small { length body.old.output.chunk < 2 ^ 64 }
+    ensures ok { OnOk result (body.new ≡ body_with left.now metadata body.old (stay_as stay)) }
+{
+    let at = body.at;
+    match stay {
+        Staying::Whole(frame) => {
+            body.metadata = seen(body.metadata, frame.at as u64 == metadata, at);
+            body.output.copy(frame.at, frame.at + frame.size)?;
+            body.at = at + frame.size;
+        }
+        Staying::Chained(number, link) => {
+            body.metadata = seen(body.metadata, link.frame.at as u64 == metadata, at);
+            let delta = delta_to(body.older, at);
+            let size = lay_checkpoint(&mut body.output, &link, delta, entries_of(left, number))?;
+            body.older = Some(at);
+            body.at = at + size;
+        }
+    }
+    Ok(())
+}
+
+// A place that was seen before, or is seen now.
+fn seen(before: Option<usize>, now: bool, at: usize) -> Option<usize>
+    ensures { result ≡ place_seen before now at }
+{
+    match before {
+        Some(place) => Some(place),
+        None => { if now { Some(at) } else { None } }
+    }
+}
+
+// The delta from a place to the older checkpoint.
+fn delta_to(older: Option<usize>, at: usize) -> u64
+    requires { IsBefore older at }
+    ensures { result ≡ distance at older }
+{
+    match older {
+        Some(place) => (place as u64).wrapping_sub(at as u64),
+        None => 0,
+    }
+}
+
+// The entries of the checkpoint of a number.
+fn entries_of(left: &[EntryAt], number: usize) -> &[EntryAt]
+    requires { NotFalling 0 left.now }
+    ensures { result.now ≡ filter (λ e. e.checkpoint == number) left.now }
+{
+    let (_, rest) = left.split_at(left.partition_point(|entry| entry.checkpoint < number));
+    let (entries, _) = rest.split_at(rest.partition_point(|entry| entry.checkpoint <= number));
+    entries
+}

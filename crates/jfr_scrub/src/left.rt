@@ -1,0 +1,119 @@
+// The entries that remain.
+ghost use Rattle.std.specs.Prelude.{◌≡◌, ℕ, ◌<◌, ◌≤◌, ◌++◌, [], ◌∷◌, length, slice_get, Some, IfOk, OnOk, if◌then◌else◌};
+ghost use Rattle.std.specs.List.{AllByRecursion};
+ghost use Rattle.jfr_base.specs.Integer.{spell};
+ghost use Rattle.jfr_chunk.specs.Reach.{marked};
+ghost use Rattle.jfr_chunk.specs.Written.{by_pool};
+ghost use Rattle.jfr_scrub.specs.Left.{HasRange, capped, entries_size, groups_size, leading, pool_size, same_pool};
+
+use jfr_base::var_len;
+use jfr_outside::NoMemory;
+use jfr_pool::{EntryAt, Pools};
+use jfr_reach::Marks;
+use std::alloc::Global;
+
+/// The entries that are reached, in order.
+pub(crate) fn remaining(
+    alloc: Global,
+    pools: &Pools,
+    marks: &Marks,
+) -> Result<Vec<EntryAt>, NoMemory>
+    requires { length marks.now ≡ length pools.now }
+    ensures { IfOk result (λ left. left.items ≡ marked marks.now pools.now) }
+{
+    let mut left = Vec::new(alloc);
+    for at in 0..pools.len() {
+        push_if(&mut left, entry_at(pools, at), marks.is_reached(at))?;
+    }
+    Ok(left)
+}
+
+// The entry of a number.
+fn entry_at(pools: &Pools, at: usize) -> EntryAt
+    requires { at < length pools.now }
+    ensures { slice_get pools.now at ≡ Some result }
+{
+    match pools.get(at) {
+        Some(entry) => *entry,
+        None => unreachable!(),
+    }
+}
+
+// Adds an entry that is kept.
+fn push_if(left: &mut Vec<EntryAt>, entry: EntryAt, keep: bool) -> Result<(), NoMemory>
+    ensures ok { OnOk result (left.new.items ≡ left.old.items ++ (if keep then entry ∷ [] else [])) }
+{
+    if keep {
+        left.push(entry)?;
+    }
+    Ok(())
+}
+
+// Whether two entries of a checkpoint are of one pool.
+fn same_pool(one: &EntryAt, other: &EntryAt) -> bool
+    ensures { result ≡ same_pool one.now other.now }
+{
+    if one.pool != other.pool {
+        return false;
+    }
+    one.class == other.class
+}
+
+/// How many entries at the front are of the pool of one.
+pub(crate) fn pool_len(first: &EntryAt, entries: &[EntryAt]) -> usize
+    ensures exact { result ≡ leading first.now entries.now }
+    ensures within { result ≤ length entries.now }
+{
+    for (number, entry) in entries.iter().enumerate() {
+        if !same_pool(first, entry) {
+            return number;
+        }
+    }
+    entries.len()
+}
+
+// How many bytes the entries of a pool take.
+fn entries_len(entries: &[EntryAt]) -> u64
+    requires { (n : ℕ) × AllByRecursion (HasRange n) entries.now }
+    ensures { result ≡ capped (entries_size entries.now) }
+{
+    let mut len: u64 = 0;
+    for entry in entries {
+        len = len.saturating_add((entry.end - entry.key_at) as u64);
+    }
+    len
+}
+
+// How many bytes a pool takes.
+fn pool_size(class: u64, entries: &[EntryAt]) -> u64
+    requires { (n : ℕ) × AllByRecursion (HasRange n) entries.now }
+    ensures { result ≡ capped (pool_size class entries.now) }
+{
+    let head = var_len(class) + var_len(entries.len() as u64);
+    entries_len(entries).saturating_add(head as u64)
+}
+
+/// How many pools some entries are of, and how many bytes those take.
+#[derive(Clone, Copy, Debug)]
+pub(crate) struct Measure {
+    pub(crate) count: usize,
+    pub(crate) bytes: u64,
+}
+
+/// The measure of the pools of a checkpoint's entries.
+pub(crate) fn measured(entries: &[EntryAt]) -> Measure
+    requires { (n : ℕ) × AllByRecursion (HasRange n) entries.now }
+    ensures count { result.count ≡ length (by_pool entries.now) }
+    ensures bytes { result.bytes ≡ capped (groups_size (by_pool entries.now)) }
+{
+    let mut count = 0;
+    let mut bytes: u64 = 0;
+    let mut rest = entries;
+    'pools: while let Some(first) = rest.first() {
+        let (pool, others) = rest.split_at(pool_len(first, rest));
+        count += 1;
+        bytes = bytes.saturating_add(pool_size(first.class, pool));
+        rest = others;
+    }
+    Measure { count, bytes }
+}

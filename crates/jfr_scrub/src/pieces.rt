@@ -1,0 +1,171 @@
+// The pieces of an output, in order.
+ghost use Rattle.std.specs.Prelude.{◌≡◌, ℕ, ◌≤◌, ◌+◌, ◌++◌, [], length, slice_get, slice_range, option_map, vec_len, vec_capacity, IfSome, OnOk};
+ghost use Rattle.std.specs.List.{AllByRecursion, flat_map};
+ghost use Rattle.jfr_scrub.specs.Pieces.{IsOfChunk, joined, Lies, part_bytes, part_of};
+
+use crate::piece::{Part, Piece};
+use jfr_outside::NoMemory;
+use std::alloc::Global;
+use std::marker::Model;
+
+/// Ranges of a chunk and of made bytes, one behind another.
+#[derive(Drop)]
+pub(crate) struct Pieces<'a> {
+    chunk: &'a [u8],
+    made: Vec<u8>,
+    parts: Vec<Part>,
+}
+
+impl<'a> Model for Pieces<'a> {
+    ghost use Rattle.std.specs.Prelude.{length};
+    ghost use Rattle.std.specs.List.{AllByRecursion};
+    ghost use Rattle.jfr_scrub.specs.Pieces.{Laid, Lies};
+
+    ghost Value = { Laid };
+
+    ghost view = { λ p. record { chunk = p.chunk.now; made = p.made.items; pieces = p.parts.items } };
+
+    ghost invariant = { λ p. AllByRecursion (Lies (length p.chunk.now) (length p.made.items)) p.parts.items };
+}
+
+impl<'a> Pieces<'a> {
+    /// No pieces.
+    pub(crate) fn new(alloc: Global, chunk: &'a [u8]) -> Pieces<'a>
+        ensures { result ≡ record { chunk = chunk.now; made = []; pieces = [] } }
+    {
+        Pieces {
+            chunk,
+            made: Vec::new(alloc),
+            parts: Vec::new(alloc),
+        }
+    }
+
+    /// Adds a range of the chunk, unless it is empty.
+    pub(crate) fn copy(&mut self, from: usize, to: usize) -> Result<(), NoMemory>
+        requires order { from ≤ to }
+        requires within { to ≤ length self.old.chunk }
+        ensures chunk { self.new.chunk ≡ self.old.chunk }
+        ensures ok { OnOk result (joined self.new ≡ joined self.old ++ slice_range self.old.chunk from to) }
+    {
+        if from == to {
+            return Ok(());
+        }
+        self.parts.push(Part::Copied { from, to })?;
+        Ok(())
+    }
+
+    /// Adds bytes that are made.
+    pub(crate) fn put(&mut self, bytes: &[u8]) -> Result<(), NoMemory>
+        ensures chunk { self.new.chunk ≡ self.old.chunk }
+        ensures ok { OnOk result (joined self.new ≡ joined self.old ++ bytes.now) }
+    {
+        let from = self.made.len();
+        self.made.extend_from_slice(bytes)?;
+        self.parts.push(Part::Made {
+            from,
+            to: self.made.len(),
+        })?;
+        Ok(())
+    }
+
+    /// Puts bytes that are made before all pieces.
+    pub(crate) fn put_front(&mut self, bytes: &[u8]) -> Result<(), NoMemory>
+        ensures chunk { self.new.chunk ≡ self.old.chunk }
+        ensures ok { OnOk result (joined self.new ≡ bytes.now ++ joined self.old) }
+    {
+        let from = self.made.len();
+        self.made.extend_from_slice(bytes)?;
+        self.parts.insert(
+            0,
+            Part::Made {
+                from,
+                to: self.made.len(),
+            },
+        )?;
+        Ok(())
+    }
+
+    /// The bytes that are made.
+    pub(crate) fn made(&self) -> &[u8]
+        ensures { result.now ≡ self.now.made }
+    {
+        self.made.as_slice()
+    }
+
+    /// How many pieces there are.
+    pub(crate) fn len(&self) -> usize
+        ensures { result ≡ length self.now.pieces }
+    {
+        self.parts.len()
+    }
+
+    /// The piece of a number, from 0; `None` exactly past the end.
+    pub(crate) fn get(&self, number: usize) -> Option<Piece<'a>>
+        ensures exact { option_map part_of result ≡ slice_get self.now.pieces number }
+        ensures of_chunk { IfSome result (IsOfChunk self.now.chunk) }
+    {
+        let part = *self.parts.get(number)?;
+        Some(piece_of(self.chunk, part))
+    }
+
+    /// Writes the pieces behind what was written, into room that is there.
+    pub(crate) fn write(&self, out: &mut Vec<u8>)
+        requires { vec_len out.old + length (joined self.now) ≤ vec_capacity out.old }
+        ensures { out.new.items ≡ out.old.items ++ joined self.now }
+    {
+        write_parts(out, self.chunk, &self.made, &self.parts);
+    }
+}
+
+// The piece that a range is.
+fn piece_of<'a>(chunk: &'a [u8], part: Part) -> Piece<'a>
+    requires { (m : ℕ) × Lies (length chunk.now) m part }
+    ensures exact { part_of result ≡ part }
+    ensures of_chunk { IsOfChunk chunk.now result }
+{
+    match part {
+        Part::Copied { from, to } => Piece::Copied {
+            at: from,
+            bytes: &chunk[from..to],
+        },
+        Part::Made { from, to } => Piece::Made { from, to },
+    }
+}
+
+// Writes ranges behind what was written, into room that is there.
+fn write_parts(out: &mut Vec<u8>, chunk: &[u8], made: &[u8], parts: &[Part])
+    requires lie { AllByRecursion (Lies (length chunk.now) (length made.now)) parts.now }
+    requires room { vec_len out.old + length (flat_map (part_bytes chunk.now made.now) parts.now) ≤ vec_capacity out.old }
+    ensures { out.new.items ≡ out.old.items ++ flat_map (part_bytes chunk.now made.now) parts.now }
+{
+    for part in parts {
+        write_part(out, chunk, made, *part);
+    }
+}
+
+// Writes a range behind what was written, into room that is there.
+fn write_part(out: &mut Vec<u8>, chunk: &[u8], made: &[u8], part: Part)
+    requires lies { Lies (length chunk.now) (length made.now) part }
+    requires room { vec_len out.old + length (part_bytes chunk.now made.now part) ≤ vec_capacity out.old }
+    ensures items { out.new.items ≡ out.old.items ++ part_bytes chunk.now made.now part }
+    ensures len { vec_len out.new ≡ vec_len out.old + length (part_bytes chunk.now made.now part) }
+    ensures capacity { vec_capacity out.old ≤ vec_capacity out.new }
+{
+    match part {
+        Part::Copied { from, to } => write_within(out, &chunk[from..to]),
+        Part::Made { from, to } => write_within(out, &made[from..to]),
+    }
+}
+
+// Writes bytes into room that is there.
+fn write_within(out: &mut Vec<u8>, bytes: &[u8])
+    requires { vec_len out.old + length bytes.now ≤ vec_capacity out.old }
+    ensures items { out.new.items ≡ out.old.items ++ bytes.now }
+    ensures len { vec_len out.new ≡ vec_len out.old + length bytes.now }
+    ensures capacity { vec_capacity out.old ≤ vec_capacity out.new }
+{
+    match out.extend_from_slice(bytes) {
+        Ok(()) => {}
+        Err(_) => unreachable!(),
+    }
+}

@@ -1,0 +1,121 @@
+// What stays of the records of a chunk.
+ghost use Rattle.std.specs.Prelude.{◌≡◌, ◌||◌, ◌+◌, ◌-◌, ◌^◌, ◌<◌, [], ◌∷◌, length, slice_get, option_map, MatchOption, Some};
+ghost use Rattle.jfr_chunk.specs.Parts.{AreParts, events_of};
+ghost use Rattle.jfr_chunk.specs.Reach.{kept_by};
+ghost use Rattle.jfr_chunk.specs.Scrub.{stay_by, stay_of};
+ghost use Rattle.jfr_scrub.specs.Staying.{IsCursor, event_behind, is_kept_at, link_behind, linked_at, stay_as, still_stays};
+
+use jfr_chunk::{Chunk, Kept};
+use jfr_frame::{Framed, Frames};
+use jfr_pool::{Chain, Link};
+
+/// What stays of a record: the whole of it, or, of a chained checkpoint, what is written of it.
+/// Checkpoints are numbered in the order of the file.
+#[derive(Clone, Copy, Debug)]
+pub(crate) enum Staying {
+    Whole(Framed),
+    Chained(usize, Link),
+}
+
+/// The numbers of the record, of the event and of the chained checkpoint that come next.
+#[derive(Clone, Copy, Debug)]
+pub(crate) struct Cursor {
+    pub(crate) frame: usize,
+    pub(crate) event: usize,
+    pub(crate) link: usize,
+}
+
+/// What stays next, if anything does.
+pub(crate) fn next_stay(chunk: &Chunk, kept: &Kept, cursor: &mut Cursor) -> Option<Staying>
+    requires { IsCursor chunk.now kept.now cursor.old }
+    ensures cursor { IsCursor chunk.now kept.now cursor.new }
+    ensures exact { MatchOption result (still_stays chunk.now kept.now cursor.old ≡ []) (λ s. still_stays chunk.now kept.now cursor.old ≡ stay_as s ∷ still_stays chunk.now kept.now cursor.new) }
+{
+    let frames = chunk.frames();
+    'records: while cursor.frame < frames.len() {
+        let record = record_at(frames, cursor.frame);
+        let stay = pass_record(chunk, kept, cursor, record);
+        if stay.is_some() {
+            return stay;
+        }
+    }
+    None
+}
+
+// The record of a number.
+fn record_at(frames: &Frames, number: usize) -> Framed
+    requires { number < length frames.now }
+    ensures { slice_get frames.now number ≡ Some result }
+{
+    match frames.get(number) {
+        Some(record) => *record,
+        None => unreachable!(),
+    }
+}
+
+// What stays of a record, behind which the cursor moves.
+fn pass_record(chunk: &Chunk, kept: &Kept, cursor: &mut Cursor, frame: Framed) -> Option<Staying>
+    requires cursor { IsCursor chunk.now kept.now cursor.old }
+    requires there { slice_get chunk.now.records cursor.old.frame ≡ Some frame }
+    requires more { cursor.old.frame < 2 ^ 64 - 1 }
+    ensures cursor { IsCursor chunk.now kept.now cursor.new }
+    ensures next { cursor.new.frame ≡ cursor.old.frame + 1 }
+    ensures exact { option_map stay_as result ≡ stay_of chunk.now (kept_by chunk.now kept.now) frame }
+{
+    cursor.frame += 1;
+    let is_kept = pass_event(chunk, kept, &mut cursor.event, frame.at);
+    let link = pass_link(chunk.chain(), &mut cursor.link, frame.at);
+    let is_metadata = frame.at as u64 == chunk.header().metadata;
+    chosen(link, is_kept, is_metadata, frame)
+}
+
+// A chained checkpoint stays as one, and another record whole or not at all.
+fn chosen(
+    link: Option<(usize, Link)>,
+    is_kept: bool,
+    is_metadata: bool,
+    frame: Framed,
+) -> Option<Staying>
+    ensures { option_map stay_as result ≡ stay_by link (is_kept || is_metadata) frame }
+{
+    match link {
+        Some((number, link)) => Some(Staying::Chained(number, link)),
+        None => {
+            if is_kept || is_metadata {
+                Some(Staying::Whole(frame))
+            } else {
+                None
+            }
+        }
+    }
+}
+
+// Whether a kept event starts at a place. The number moves behind an event that starts there.
+fn pass_event(chunk: &Chunk, kept: &Kept, number: &mut usize, at: usize) -> bool
+    ensures number { number.new ≡ event_behind (events_of chunk.now) number.old at }
+    ensures kept { result ≡ is_kept_at (events_of chunk.now) kept.now number.old at }
+{
+    let old = *number;
+    let Some(event) = chunk.event(old) else {
+        return false;
+    };
+    if event.frame.at != at || old >= chunk.event_count() {
+        return false;
+    }
+    *number = old + 1;
+    kept.get(old).unwrap_or(false)
+}
+
+// The chained checkpoint that starts at a place, with its number, which moves behind it.
+fn pass_link(chain: &Chain, number: &mut usize, at: usize) -> Option<(usize, Link)>
+    ensures number { number.new ≡ link_behind chain.now number.old at }
+    ensures link { result ≡ linked_at chain.now number.old at }
+{
+    let old = *number;
+    let link = *chain.get(old)?;
+    if link.frame.at != at || old >= chain.len() {
+        return None;
+    }
+    *number = old + 1;
+    Some((old, link))
+}
