@@ -1,5 +1,6 @@
 pub mod AnyLaws
 pub mod GlobLaws
+pub mod KeepLaws
 pub mod NameLaws
 pub mod Rows
 pub mod SplitLaws

@@ -53,6 +53,16 @@ thread_matches thread pattern = option_map_or (glob pattern) thread false
 abbrev pub allows : (List ℕ → Bool) → Option (List (List ℕ)) → Option (List (List ℕ)) → Bool
 allows matches include exclude = option_map_or (list_any matches) include true && not (option_map_or (list_any matches) exclude false)
 
+-- The options over events allow the class name, and those over categories its categories.
+unfoldable pub allows_class : Given → List ℕ → List (List ℕ) → Bool
+allows_class g name categories =
+    allows (event_matches name) g.include_events g.exclude_events
+    && allows (category_matches categories) g.include_categories g.exclude_categories
+
+-- The options over threads allow the thread text, or that there is none.
+unfoldable pub allows_thread : Given → Option (List ℕ) → Bool
+allows_thread g thread = allows (thread_matches thread) g.include_threads g.exclude_threads
+
 -- An event is kept where every given option allows it.
 unfoldable pub keeps : Given → List ℕ → List (List ℕ) → Option (List ℕ) → Bool
 keeps g name categories thread =

@@ -3,7 +3,7 @@ ghost use Rattle.std.specs.Prelude.{◌≡◌, ◌↔◌, IsTrue, OnOk, OnErr, I
 ghost use Rattle.std.specs.Str.{chars};
 ghost use Rattle.jfr_outside.specs.Texts.{text_in};
 ghost use Rattle.jfr_filter.specs.declared.side.FilterFault.TheVariants.{EmptyPattern};
-ghost use Rattle.jfr_filter.specs.Filters.{nothing_given, given_at, with_patterns, event_matches, category_matches, thread_matches, allows, keeps};
+ghost use Rattle.jfr_filter.specs.Filters.{nothing_given, given_at, with_patterns, event_matches, category_matches, allows, allows_class, allows_thread, keeps};
 ghost use Rattle.jfr_filter.specs.Patterns.{patterns_in, has_empty_part};
 
 use crate::list::{has_empty_part, patterns_of};
@@ -95,17 +95,44 @@ impl Filter {
 
     /// Whether the event is kept, by the name of its class, the categories of its class, and its thread
     /// text where it has one: every given option allows it. It takes no memory.
-    #[tactic(auto, unfolding(crate::specs::Filters::keeps))]
+    #[tactic(auto, using(crate::proofs::KeepLaws::keeps_by_parts))]
     pub fn keeps(&self, name: &str, categories: &Words, thread: Option<&str>) -> bool
         ensures { result ≡ keeps self.now (chars name.now) categories.now (text_in thread.entry) }
+    {
+        if !self.allows_class(name, categories) {
+            return false;
+        }
+        self.allows_thread(thread)
+    }
+
+    /// Whether the options over events and over categories allow the class, by its name and its
+    /// categories. It takes no memory.
+    #[tactic(auto, unfolding(crate::specs::Filters::allows_class))]
+    pub fn allows_class(&self, name: &str, categories: &Words) -> bool
+        ensures { result ≡ allows_class self.now (chars name.now) categories.now }
     {
         if !self.allows_event(name) {
             return false;
         }
-        if !self.allows_categories(categories) {
+        self.allows_categories(categories)
+    }
+
+    /// Whether the options over threads allow this text, or none. It takes no memory.
+    #[tactic(auto, unfolding(crate::specs::Filters::allows_thread))]
+    pub fn allows_thread(&self, thread: Option<&str>) -> bool
+        ensures { result ≡ allows_thread self.now (text_in thread.entry) }
+    {
+        if let Some(patterns) = &self.include_threads
+            && !any_thread(patterns, thread)
+        {
             return false;
         }
-        self.allows_thread(thread)
+        if let Some(patterns) = &self.exclude_threads
+            && any_thread(patterns, thread)
+        {
+            return false;
+        }
+        true
     }
 
     /// Whether the options over events allow the class name.
@@ -136,23 +163,6 @@ impl Filter {
         }
         if let Some(patterns) = &self.exclude_categories
             && any_category(patterns, categories)
-        {
-            return false;
-        }
-        true
-    }
-
-    /// Whether the options over threads allow this text, or none.
-    fn allows_thread(&self, thread: Option<&str>) -> bool
-        ensures { result ≡ allows (thread_matches (text_in thread.entry)) self.now.include_threads self.now.exclude_threads }
-    {
-        if let Some(patterns) = &self.include_threads
-            && !any_thread(patterns, thread)
-        {
-            return false;
-        }
-        if let Some(patterns) = &self.exclude_threads
-            && any_thread(patterns, thread)
         {
             return false;
         }

@@ -100,3 +100,23 @@ fn threads(rt: HostRuntime) -> Result<(), Fail> {
     assert!(rt; exclude.keeps("t.A", &none, None));
     Ok(())
 }
+
+// The class alone, and the thread alone.
+#[test]
+fn parts(rt: HostRuntime) -> Result<(), Fail> {
+    let alloc = rt.alloc();
+    let none = Words::new(alloc);
+    let mut java = Words::new(alloc);
+    java.push("Java")?;
+    let mut filter = Filter::new(alloc);
+    filter.add(Side::IncludeEvents, "t.*")?;
+    filter.add(Side::ExcludeCategories, "Java")?;
+    filter.add(Side::IncludeThreads, "main")?;
+    assert!(rt; filter.allows_class("t.A", &none));
+    assert!(rt; !filter.allows_class("t.A", &java));
+    assert!(rt; !filter.allows_class("u.A", &none));
+    assert!(rt; filter.allows_thread(Some("main")));
+    assert!(rt; !filter.allows_thread(None));
+    assert!(rt; !filter.keeps("t.A", &java, Some("main")));
+    Ok(())
+}
