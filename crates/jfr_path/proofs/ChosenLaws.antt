@@ -1,25 +1,36 @@
--- The events that are chosen, one after another, and what a filter asks for.
-use Rattle.std.specs.Prelude.{◌≡◌, ℕ, ◌+◌, ◌<◌, List, [], ◌∷◌, ◌++◌, length, take, slice_get, slice_set, Option, Some, None, is_some, Bool, false, ◌||◌, ◌&&◌}
-use Rattle.std.proofs.Common.{ap, refl, sym, ◌∙◌}
-use Rattle.std.proofs.lemmas.List.{take_more, take_more_set}
-use Rattle.jfr_filter.specs.Filters.{Given, keeps, allows, event_matches, category_matches, thread_matches}
-use Rattle.std.proofs.lemmas.Option.{slice_get_within, get_or_from_slice_get}
+-- The verdict at the place of the class of an event.
+use Rattle.std.specs.Prelude.{◌≡◌, ℕ, List, Option, Some, None, IfSome, IsSome, slice_get, slice_index_or}
+use Rattle.std.specs.List.{AllZip}
+use Rattle.std.proofs.Common.{ap, refl, sym, ◌∙◌, subst}
+use Rattle.jfr_filter.specs.Filters.{Given}
+use Rattle.jfr_layout.specs.declared.shape.Shape.{Shape}
+use Rattle.jfr_layout.specs.Classes.{Class, Classes, find_class}
+use Rattle.jfr_value.specs.declared.node.Node.{Node}
+use Rattle.jfr_value.specs.Nodes.{NodeAt, node_of}
+use Rattle.jfr_chunk.specs.declared.event.Event.{Event}
+use Rattle.jfr_chunk.specs.Parts.{Parts, AreParts, events_of}
+use Rattle.jfr_chunk.specs.Seen.{event_at}
+use Rattle.jfr_chunk.proofs.Members.{In, in_contains}
+use Rattle.jfr_path.specs.declared.verdict.ClassVerdict.{ClassVerdict}
+use Rattle.jfr_path.specs.Verdicts.{IsVerdict, Says}
+use Rattle.jfr_path.proofs.EventLaws.{event_known, event_shape}
+use Rattle.jfr_path.proofs.ListLaws.{zip_at}
+use Rattle.jfr_path.proofs.NameLaws.{get_in}
 
--- a list whose members are set one after another to those of another list
-pub set_next : {X : Type 0} (xs ys : List X) (i : ℕ) (y : X) → i < length xs → slice_get ys i ≡ Some y → take i xs ≡ take i ys → take (i + 1) (slice_set xs i y) ≡ take (i + 1) ys
-set_next xs ys i y l g e =
-    take_more_set xs i y l ∙ (ap (λ z. z ++ y ∷ []) e ∙ (ap (λ z. take i ys ++ z ∷ []) (sym (get_or_from_slice_get ys i y y g)) ∙ sym (take_more ys i y (slice_get_within ys i y g))))
+module _ (p : Parts) (parts : AreParts p) (e : Event) (q : slice_get (events_of p) e.number ≡ Some (event_at e)) (k : Classes) (h : k ≡ p.classes) (fields : Node) (f : node_of fields ≡ node_of e.node) where
+  abbrev listed : In (events_of p) (event_at e)
+  listed = get_in (events_of p) e.number (event_at e) q
 
--- where no option on threads is given, it is no matter what the thread is
-pub unasked : (g : Given) (name : List ℕ) (categories : List (List ℕ)) (text other : Option (List ℕ)) → (is_some g.include_threads || is_some g.exclude_threads) ≡ false → keeps g name categories text ≡ keeps g name categories other
-unfolding keeps
-unasked g name categories text other e = by_options g.include_threads g.exclude_threads e
-  where
-    rest : Bool
-    rest = allows (category_matches categories) g.include_categories g.exclude_categories
+  same_class : find_class k fields.shape.class ≡ find_class p.classes e.frame.type_id
+  same_class = ap (λ (z : Classes). find_class z fields.shape.class) h ∙ (ap (λ (z : NodeAt). find_class p.classes z.shape.class) f ∙ ap (λ (z : Shape). find_class p.classes z.class) (event_shape p parts (event_at e) listed))
 
-    by_options : (i x : Option (List (List ℕ))) → (is_some i || is_some x) ≡ false
-        → (allows (event_matches name) g.include_events g.exclude_events && (rest && allows (thread_matches text) i x)) ≡ (allows (event_matches name) g.include_events g.exclude_events && (rest && allows (thread_matches other) i x))
-    by_options None None e = refl
-    by_options None (Some x) e = cc
-    by_options (Some i) x e = cc
+  -- the class of an event is known
+  pub placed : None ≡ find_class k fields.shape.class → ⊥
+  placed n = let x : IsSome {T = Class} None = subst (λ z. IsSome z) (sym (n ∙ same_class)) (event_known p parts (event_at e) listed) in cc
+
+  pub said : (g : Given) (verdicts : List ClassVerdict) (place : ℕ) (other : ClassVerdict) → AllZip (IsVerdict g) p.classes verdicts → slice_get k place ≡ find_class k fields.shape.class → Says g p (event_at e) (slice_index_or verdicts place other)
+  said g verdicts place other all there = by_class (find_class p.classes e.frame.type_id) refl (zip_at (IsVerdict g) p.classes verdicts place other (find_class p.classes e.frame.type_id) all (ap (λ (z : Classes). slice_get z place) (sym h) ∙ (there ∙ same_class)))
+    where
+      by_class : (o : Option Class) → find_class p.classes e.frame.type_id ≡ o → IfSome o (λ c. IsVerdict g c (slice_index_or verdicts place other)) → Says g p (event_at e) (slice_index_or verdicts place other)
+      by_class None n v = absurd (placed (sym (same_class ∙ n)))
+      by_class (Some c) n v = v.each p (event_at e) (record { parts = parts; listed = in_contains (events_of p) (event_at e) listed; class = n })

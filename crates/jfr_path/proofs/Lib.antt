@@ -1,6 +1,10 @@
 pub mod ChosenLaws
+pub mod EventLaws
 pub mod FollowLaws
+pub mod ListLaws
 pub mod NameLaws
 pub mod StepLaws
 pub mod TargetBytes
 pub mod TextLaws
+pub mod ThreadLaws
+pub mod VerdictLaws

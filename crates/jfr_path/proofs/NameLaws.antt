@@ -1,6 +1,6 @@
 -- Names, one after another, and the text that they lead to.
 use Rattle.std.specs.Prelude.{◌≡◌, ℕ, zero, suc, ◌+◌, List, [], ◌∷◌, drop, slice_get, Option, Some, None, option_and_then}
-use Rattle.std.proofs.Common.{ap, sym, ◌∙◌, inl, inr, drop-cons, add-one}
+use Rattle.std.proofs.Common.{ap, refl, sym, ◌∙◌, inl, inr, drop-cons, add-one}
 use Rattle.std.proofs.lemmas.Option.{slice_get_within, get_or_from_slice_get}
 use Rattle.jfr_value.specs.Nodes.{NodeAt}
 use Rattle.jfr_chunk.specs.Parts.{Parts}
@@ -16,7 +16,16 @@ get_in [] i x e = cc
 get_in (y ∷ ys) zero x e = inl (let h : Some y ≡ Some x = e in cc)
 get_in (y ∷ ys) (suc i) x e = inr (get_in ys i x e)
 
+then_then : {A B C : Type 0} (f : B → Option C) (g : A → Option B) (o : Option A) → option_and_then f (option_and_then g o) ≡ option_and_then (λ x. option_and_then f (g x)) o
+then_then f g None = refl
+then_then f g (Some x) = refl
+
 module _ (p : Parts) where
+  -- the text, from the field of the first name on
+  pub named_next : (name : List ℕ) (names : List (List ℕ)) (n : NodeAt) → named_text p n (name ∷ names) ≡ option_and_then (λ m. named_text p m names) (named_field p name (follow_while 16 is_reference p n))
+  unfolding named_text
+  named_next name names n = then_then (text_of p) (λ m. named_node p m names) (named_field p name (follow_while 16 is_reference p n))
+
   name_there : (names : List (List ℕ)) (i : ℕ) (name : List ℕ) (n m : NodeAt) → Some name ≡ slice_get names i → m ≡ follow_while 16 is_reference p n → named_node p n (drop i names) ≡ option_and_then (λ z. named_node p z (drop (i + 1) names)) (named_field p name m)
   name_there names i name n m e h = ap (named_node p n) (drop_at names i name e) ∙ ap (λ z. option_and_then (λ z. named_node p z (drop (i + 1) names)) (named_field p name z)) (sym h)
 
@@ -35,3 +44,10 @@ module _ (p : Parts) where
   pub named_none : (names : List (List ℕ)) (n : NodeAt) → None ≡ named_node p n names → None ≡ named_text p n names
   unfolding named_text
   named_none names n e = ap (option_and_then (text_of p)) e
+
+  -- the text of one name's field
+  pub field_there : (name : List ℕ) (n holder m : NodeAt) → holder ≡ follow_while 16 is_reference p n → Some m ≡ named_field p name holder → text_of p m ≡ named_text p n (name ∷ [])
+  field_there name n holder m h e = named_there (name ∷ []) n m (ap (option_and_then (λ z. Some z)) (e ∙ ap (named_field p name) h))
+
+  pub field_none : (name : List ℕ) (n holder : NodeAt) → holder ≡ follow_while 16 is_reference p n → None ≡ named_field p name holder → None ≡ named_text p n (name ∷ [])
+  field_none name n holder h e = named_none (name ∷ []) n (ap (option_and_then (λ z. Some z)) (e ∙ ap (named_field p name) h))

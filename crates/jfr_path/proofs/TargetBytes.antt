@@ -1,5 +1,5 @@
 -- What a node refers to, by its bytes: the key of a reference, or of a string that is one.
-use Rattle.std.specs.Prelude.{◌≡◌, ℕ, true, false, List, Option, Some, None, if◌then◌else◌, option_and_then}
+use Rattle.std.specs.Prelude.{◌≡◌, ℕ, Bool, true, false, List, Option, Some, None, if◌then◌else◌, option_and_then}
 use Rattle.std.specs.Option.{option_map}
 use Rattle.std.proofs.Common.{ap, refl, sym, ◌∙◌, subst, inl, inr, arith}
 use Rattle.jfr_base.specs.declared.integer.Var.{Var}
@@ -17,7 +17,15 @@ use Rattle.jfr_value.specs.Nodes.{NodeAt, IsNode, target}
 use Rattle.jfr_value.proofs.NodeLaws.{node_stands, target_is}
 use Rattle.jfr_value.proofs.StringLaws.{is_exact}
 use Rattle.jfr_chunk.specs.Parts.{Parts}
-use Rattle.jfr_chunk.specs.Paths.{content_in, content_by, string_of}
+use Rattle.jfr_chunk.specs.Paths.{content_in, content_by, is_reference, string_of}
+
+-- the marks of a reference
+pub marks_of_reference : (n : NodeAt) → is_reference n ≡ true → (n.shape.array ≡ false) × (n.shape.constant ≡ true)
+marks_of_reference n e = by_marks n.shape.array n.shape.constant e
+  where
+    by_marks : (a c : Bool) → (if a then false else c) ≡ true → (a ≡ false) × (c ≡ true)
+    by_marks true c e = cc
+    by_marks false c e = (refl, e)
 
 -- an array refers to nothing by itself
 array_alone : (k : Classes) (v : Value) → (shape_of v).array ≡ true → Fits k v → own_target v ≡ None

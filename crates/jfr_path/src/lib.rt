@@ -2,13 +2,16 @@
 //! lead to, and the events that a filter keeps.
 //!
 //! `leads` takes the steps of a `Path`, and `named` the fields of some names; `choose` asks a filter
-//! about each event. What they mean is in `specs/Paths.antt` and `specs/Chosen.antt` of `jfr_chunk`.
+//! about each class of a chunk, and about its threads. What they mean is in `specs/Paths.antt` and
+//! `specs/Chosen.antt` of `jfr_chunk`.
 #![tactic(auto)]
 
 mod chosen;
 mod names;
 mod path;
 mod steps;
+mod threads;
+mod verdict;
 
 pub use chosen::choose;
 pub use names::named;

@@ -56,7 +56,7 @@ fn named_node<'a>(chunk: &Chunk<'a>, node: &Node<'a>, names: &Words) -> Option<N
 }
 
 /// The field of a name.
-fn named_field<'a>(chunk: &Chunk<'a>, node: &Node<'a>, name: &str) -> Option<Node<'a>>
+pub(crate) fn named_field<'a>(chunk: &Chunk<'a>, node: &Node<'a>, name: &str) -> Option<Node<'a>>
     requires parts { AreParts chunk.now }
     requires value { IsValue chunk.now.classes node.now }
     requires of_chunk { node.now.bytes.now ≡ chunk.now.bytes }
@@ -70,7 +70,7 @@ fn named_field<'a>(chunk: &Chunk<'a>, node: &Node<'a>, name: &str) -> Option<Nod
 }
 
 /// Where references lead that follow one another.
-fn behind_references<'a>(chunk: &Chunk<'a>, node: &Node<'a>) -> Node<'a>
+pub(crate) fn behind_references<'a>(chunk: &Chunk<'a>, node: &Node<'a>) -> Node<'a>
     requires parts { AreParts chunk.now }
     requires value { IsValue chunk.now.classes node.now }
     requires of_chunk { node.now.bytes.now ≡ chunk.now.bytes }
@@ -92,7 +92,7 @@ fn behind_references<'a>(chunk: &Chunk<'a>, node: &Node<'a>) -> Node<'a>
 }
 
 /// Whether the value is a reference.
-fn is_reference(node: &Node<'_>) -> bool
+pub(crate) fn is_reference(node: &Node<'_>) -> bool
     ensures { result ≡ is_reference (node_of node.now) }
 {
     !node.shape.array && node.shape.constant
@@ -118,7 +118,11 @@ fn behind_keys<'a>(chunk: &Chunk<'a>, node: &Node<'a>) -> Node<'a>
 }
 
 /// The text of a value, where it has one.
-fn text_at<'a>(alloc: Global, chunk: &Chunk<'a>, node: &Node<'a>) -> Result<Option<Text>, NoMemory>
+pub(crate) fn text_at<'a>(
+    alloc: Global,
+    chunk: &Chunk<'a>,
+    node: &Node<'a>,
+) -> Result<Option<Text>, NoMemory>
     requires parts { AreParts chunk.now }
     requires value { IsValue chunk.now.classes node.now }
     requires of_chunk { node.now.bytes.now ≡ chunk.now.bytes }

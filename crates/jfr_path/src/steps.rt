@@ -1,7 +1,7 @@
 // Steps from value to value.
-ghost use Rattle.std.specs.Prelude.{◌≡◌, Some, IfSome, option_map, slice_get};
+ghost use Rattle.std.specs.Prelude.{◌≡◌, Some, IfSome, IsTrue, option_map, slice_get};
 ghost use Rattle.jfr_chunk.specs.Parts.{AreParts, events_of};
-ghost use Rattle.jfr_chunk.specs.Paths.{follow, leads, step, string_of};
+ghost use Rattle.jfr_chunk.specs.Paths.{follow, is_reference, leads, step, string_of};
 ghost use Rattle.jfr_chunk.specs.Seen.{event_at};
 ghost use Rattle.jfr_text.specs.Spans.{content_of};
 ghost use Rattle.jfr_value.specs.Nodes.{IsValue, node_of, target};
@@ -102,13 +102,24 @@ fn key_in(chunk: &Chunk<'_>, node: &Node<'_>) -> Option<u64>
         return None;
     }
     if node.shape.constant {
-        let Ok(key) = read_within(node.bytes, node.at, node.end) else {
-            unreachable!()
-        };
-        return Some(key.value);
+        return Some(reference_key(chunk, node));
     }
     let span = string_of(chunk, node)?;
     key_of(&span)
+}
+
+/// The key of a reference.
+pub(crate) fn reference_key(chunk: &Chunk<'_>, node: &Node<'_>) -> u64
+    requires parts { AreParts chunk.now }
+    requires value { IsValue chunk.now.classes node.now }
+    requires of_chunk { node.now.bytes.now ≡ chunk.now.bytes }
+    requires reference { IsTrue (is_reference (node_of node.now)) }
+    ensures { target chunk.now.classes chunk.now.bytes (node_of node.now) ≡ Some (node.now.shape.class, result) }
+{
+    match read_within(node.bytes, node.at, node.end) {
+        Ok(key) => key.value,
+        Err(_) => unreachable!(),
+    }
 }
 
 /// The key of a string that is one.

@@ -3,17 +3,22 @@ use Rattle.std.specs.Prelude.{Some, option_map, slice_get, take}
 use Rattle.std.proofs.lemmas.List.{length-set}
 use Rattle.std.proofs.lemmas.Option.{slice_get-map}
 use Rattle.jfr_chunk.specs.Parts.{events_of}
+use Rattle.jfr_chunk.specs.Seen.{event_at}
 use Rattle.jfr_chunk.specs.Chosen.{chosen, is_chosen}
-use Rattle.jfr_path.proofs.ChosenLaws.{set_next}
+use Rattle.jfr_path.specs.Threads.{Asked}
+use Rattle.jfr_path.proofs.ListLaws.{set_next}
 use Rattle.jfr_path.proofs.chosen.choose.Goals as goal
 
 pub loop-number-preserved : goal.loop-number-preserved
 loop-number-preserved c =
     let s : slice_get (chosen c.args.filter.now c.args.chunk.now) c.loop-number.number ≡ Some c.in_ok-keep.keep =
     slice_get-map (is_chosen c.args.filter.now c.args.chunk.now) (events_of c.args.chunk.now) c.loop-number.number
-    ∙ (ap (option_map (is_chosen c.args.filter.now c.args.chunk.now)) (sym c.in-Some.ensures.exact) ∙ ap (λ z. Some z) (sym c.in_ok-keep.ensures.ok)) in
+    ∙ (ap (option_map (is_chosen c.args.filter.now c.args.chunk.now)) (sym c.in-Some.ensures.exact)
+    ∙ (ap (λ z. Some (is_chosen z c.args.chunk.now (event_at c.in-Some.event))) (sym c.loop-number.invariant.filter) ∙ ap (λ z. Some z) (sym c.in_ok-keep.ensures.ok))) in
     let l : c.loop-number.number < length c.loop-number.kept = omega (arith, c.loop-number.invariant.room, c.loop-number-test.true) in
     record {
+      filter = ap (λ (z : Asked). z.filter) c.in_ok-keep.ensures.same ∙ c.loop-number.invariant.filter;
+      chunk = ap (λ (z : Asked). z.chunk) c.in_ok-keep.ensures.same ∙ c.loop-number.invariant.chunk;
       room = ap length c.set.ensures ∙ (length-set c.loop-number.kept c.loop-number.number c.in_ok-keep.keep ∙ c.loop-number.invariant.room);
       so_far = ap (take (c.loop-number.number + 1)) c.set.ensures ∙ set_next c.loop-number.kept (chosen c.args.filter.now c.args.chunk.now) c.loop-number.number c.in_ok-keep.keep l s c.loop-number.invariant.so_far;
     }

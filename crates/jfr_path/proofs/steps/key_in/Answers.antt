@@ -1,21 +1,14 @@
-use Rattle.std.proofs.Common.{ap, sym, ◌∙◌}
-use Rattle.jfr_base.specs.Formats.{int_at}
+use Rattle.std.proofs.Common.{sym}
 use Rattle.jfr_text.specs.Spans.{content_of}
 use Rattle.jfr_value.specs.Nodes.{node_of}
 use Rattle.jfr_path.proofs.StepLaws.{sound, value_place}
-use Rattle.jfr_path.proofs.TargetBytes.{array_target, reference_target, no_string, some_string}
+use Rattle.jfr_path.proofs.TargetBytes.{array_target, no_string, some_string}
 use Rattle.jfr_path.proofs.steps.key_in.Goals as goal
 
 pub returns-then-node : goal.returns-then-node
 returns-then-node c =
     let v = value_place c.args.chunk.now c.args.node.now c.requires.of_chunk c.requires.value in
     sym (array_target c.args.chunk.now (node_of c.args.node.now) v.0 (sound c.args.chunk.now c.requires.parts) v.1 c.if-node.true)
-
-pub returns-then-node-2 : goal.returns-then-node-2
-returns-then-node-2 c =
-    let v = value_place c.args.chunk.now c.args.node.now c.requires.of_chunk c.requires.value in
-    let e = ap (λ z. int_at z c.args.node.now.at c.args.node.now.end) (sym c.requires.of_chunk) ∙ c.in-Ok.ensures.exact in
-    sym (reference_target c.args.chunk.now (node_of c.args.node.now) v.0 (sound c.args.chunk.now c.requires.parts) v.1 c.in-Ok.key c.if-node.false c.if-node-2.true e)
 
 pub returns-in_err-span : goal.returns-in_err-span
 returns-in_err-span c =

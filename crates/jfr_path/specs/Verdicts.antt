@@ -1,0 +1,27 @@
+-- What a filter says of the events of a class.
+use Rattle.std.specs.Prelude.{◌≡◌, true, false, Some, Contains}
+use Rattle.jfr_filter.specs.Filters.{Given}
+use Rattle.jfr_layout.specs.Classes.{Class, find_class}
+use Rattle.jfr_value.specs.declared.node.Step.TheVariants as steps
+use Rattle.jfr_value.specs.Nodes.{NodeAt, child}
+use Rattle.jfr_chunk.specs.Parts.{Parts, EventAt, AreParts, events_of}
+use Rattle.jfr_chunk.specs.Chosen.{is_chosen}
+use Rattle.jfr_path.specs.declared.verdict.ClassVerdict.{ClassVerdict}
+use Rattle.jfr_path.specs.declared.verdict.ClassVerdict.TheVariants.{Kept, Dropped, ByThread}
+use Rattle.jfr_path.specs.Threads.{allows_behind}
+
+-- An event of a chunk, of this class.
+pub record IsOfClass (p : Parts) (c : Class) (e : EventAt) : Type 0 where
+  pub parts : AreParts p
+  pub listed : Contains (events_of p) e
+  pub class : find_class p.classes e.record_of.type_id ≡ Some c
+
+-- The event is kept, or dropped, or has a field of this number and is kept where the filter allows the thread behind that.
+abbrev pub Says : Given → Parts → EventAt → ClassVerdict → Type 0
+Says g p e Kept = is_chosen g p e ≡ true
+Says g p e Dropped = is_chosen g p e ≡ false
+Says g p e (ByThread number) = (n : NodeAt) × (child p.classes p.bytes e.node (steps.Field number) ≡ Some n) × (is_chosen g p e ≡ allows_behind g p n)
+
+-- The verdict holds of every event of the class, in every chunk.
+pub record IsVerdict (g : Given) (c : Class) (verdict : ClassVerdict) : Type 0 where
+  pub each : (p : Parts) (e : EventAt) → IsOfClass p c e → Says g p e verdict

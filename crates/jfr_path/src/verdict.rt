@@ -1,0 +1,68 @@
+// What a filter says of the events of a class, before any of them is looked at.
+ghost use Rattle.std.specs.Prelude.{◌≡◌, ◌||◌, IfOk, codes, is_some};
+ghost use Rattle.std.specs.List.{AllZip};
+ghost use Rattle.jfr_layout.specs.Classes.{field_number};
+ghost use Rattle.jfr_path.specs.Verdicts.{IsVerdict};
+
+use jfr_filter::{Filter, Side};
+use jfr_layout::{ClassInfo, Classes};
+use jfr_outside::NoMemory;
+use std::alloc::Global;
+
+/// What a filter says of the events of a class.
+#[derive(Clone, Copy, Debug)]
+pub(crate) enum ClassVerdict {
+    /// Each is kept.
+    Kept,
+    /// None is kept.
+    Dropped,
+    /// Those are kept whose thread the filter allows: the one behind the field of this number.
+    ByThread(usize),
+}
+
+/// The verdict on each class, in their order.
+pub(crate) fn verdicts_on(
+    alloc: Global,
+    classes: &Classes,
+    filter: &Filter,
+) -> Result<Vec<ClassVerdict>, NoMemory>
+    ensures ok { IfOk result (λ verdicts. AllZip (IsVerdict filter.now) classes.now verdicts.items) }
+{
+    let mut verdicts = Vec::new(alloc);
+    for place in 0..classes.len() {
+        verdicts.push(verdict_on(classes.class_at(place), filter))?;
+    }
+    Ok(verdicts)
+}
+
+/// The verdict on a class.
+#[tactic(auto, using(crate::proofs::VerdictLaws::dropped, crate::proofs::VerdictLaws::unasked_kept, crate::proofs::VerdictLaws::threadless_kept, crate::proofs::VerdictLaws::threadless_dropped, crate::proofs::VerdictLaws::asked_by_thread))]
+fn verdict_on(class: &ClassInfo, filter: &Filter) -> ClassVerdict
+    ensures { IsVerdict filter.now class.now result }
+{
+    if !filter.allows_class(class.name.as_str(), &class.categories) {
+        return ClassVerdict::Dropped;
+    }
+    if !asks_for_threads(filter) {
+        return ClassVerdict::Kept;
+    }
+    match thread_field(class) {
+        Some(number) => ClassVerdict::ByThread(number),
+        None if filter.allows_thread(None) => ClassVerdict::Kept,
+        None => ClassVerdict::Dropped,
+    }
+}
+
+/// The number of the field of the thread, where the class has one.
+fn thread_field(class: &ClassInfo) -> Option<usize>
+    ensures { result ≡ field_number class.now.fields (codes "eventThread") }
+{
+    class.fields.number("eventThread")
+}
+
+/// Whether an option on threads is given.
+fn asks_for_threads(filter: &Filter) -> bool
+    ensures { result ≡ is_some filter.now.include_threads || is_some filter.now.exclude_threads }
+{
+    filter.has(Side::IncludeThreads) || filter.has(Side::ExcludeThreads)
+}
