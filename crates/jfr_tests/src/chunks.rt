@@ -1,5 +1,7 @@
 // The test chunks.
 
+use jfr_chunk::Chunk;
+use jfr_header::is_cut;
 use std::alloc::Global;
 use std::test::Fail;
 
@@ -10,6 +12,25 @@ pub(crate) const PLAIN: [u8; 103] = [
     0, 0, 0, 0, 0, 0, 0, 96, 0, 0, 0, 0, 0, 0, 0, 68,
     0, 0, 0, 0, 0, 0, 0x03, 0xE8, 0, 0, 0, 0, 0, 0, 0, 5,
     0, 0, 0, 0, 0, 0, 0, 0, 0, 0, 0, 0, 0x3B, 0x9A, 0xCA, 0x00, 0, 0, 0, 1,
+    0x1C, 0x00, 0x00, 0x00, 0x01, 0x02, 0x03, 0x04, 0x72, 0x6F, 0x6F, 0x74,
+    0x03, 0x08, 0x6D, 0x65, 0x74, 0x61, 0x64, 0x61, 0x74, 0x61,
+    0x00, 0x00, 0x01, 0x01, 0x00, 0x00,
+    0x07, 0x01, 0x00, 0x00, 0x00, 0x00, 0x00,
+];
+
+/// The plain chunk with records that belong to nothing: a metadata record and a checkpoint that the header
+/// doesn't name, and between these and those that it names a record of no class.
+#[rattlefmt::skip]
+pub(crate) const INERT: [u8; 141] = [
+    0x46, 0x4C, 0x52, 0x00, 0x00, 0x02, 0x00, 0x01, 0, 0, 0, 0, 0, 0, 0, 141,
+    0, 0, 0, 0, 0, 0, 0, 134, 0, 0, 0, 0, 0, 0, 0, 106,
+    0, 0, 0, 0, 0, 0, 0x03, 0xE8, 0, 0, 0, 0, 0, 0, 0, 5,
+    0, 0, 0, 0, 0, 0, 0, 0, 0, 0, 0, 0, 0x3B, 0x9A, 0xCA, 0x00, 0, 0, 0, 1,
+    0x1C, 0x00, 0x00, 0x00, 0x01, 0x02, 0x03, 0x04, 0x72, 0x6F, 0x6F, 0x74,
+    0x03, 0x08, 0x6D, 0x65, 0x74, 0x61, 0x64, 0x61, 0x74, 0x61,
+    0x00, 0x00, 0x01, 0x01, 0x00, 0x00,
+    0x07, 0x01, 0x00, 0x00, 0x00, 0x00, 0x00,
+    0x03, 0x63, 0xAA,
     0x1C, 0x00, 0x00, 0x00, 0x01, 0x02, 0x03, 0x04, 0x72, 0x6F, 0x6F, 0x74,
     0x03, 0x08, 0x6D, 0x65, 0x74, 0x61, 0x64, 0x61, 0x74, 0x61,
     0x00, 0x00, 0x01, 0x01, 0x00, 0x00,
@@ -54,8 +75,8 @@ pub(crate) fn plain_with(
     let last = bytes.len();
     bytes.extend_from_slice(checkpoint)?;
     let size = bytes.len();
-    put(&mut bytes, 14, size);
-    put(&mut bytes, 22, last);
+    put(&mut bytes, 12, size);
+    put(&mut bytes, 20, last);
     Ok(bytes)
 }
 
@@ -163,14 +184,23 @@ pub(crate) fn chunk(alloc: Global, records: &[u8], last: usize) -> Result<Vec<u8
     bytes.extend_from_slice(&CLASSES)?;
     bytes.extend_from_slice(records)?;
     let size = bytes.len();
-    put(&mut bytes, 14, size);
-    put(&mut bytes, 22, last);
+    put(&mut bytes, 12, size);
+    put(&mut bytes, 20, last);
     Ok(bytes)
 }
 
-/// Writes a number of two bytes at a place.
+/// Reads a chunk.
+pub(crate) fn read<'a>(alloc: Global, bytes: &'a [u8]) -> Result<Chunk<'a>, Fail> {
+    if !is_cut(bytes) {
+        Err("no whole chunk")?;
+        unreachable!()
+    }
+    Ok(Chunk::read(alloc, bytes)?)
+}
+
+/// Writes a number of four bytes at a place.
 pub(crate) fn put(bytes: &mut [u8], at: usize, value: usize) {
-    let number = [(value / 256 % 256) as u8, (value % 256) as u8];
+    let number = ((value % 0x1_0000_0000) as u32).to_be_bytes();
     for (byte, there) in number.iter().zip(bytes.iter_mut().skip(at)) {
         *there = *byte;
     }

@@ -23,47 +23,47 @@ pub(crate) const BYTES_LEFT: &[u8] = &[
 const EVENTS: &[u8] = &[5, 8, 0xAC, 2, 1, 3, 9, 3, 7, 1, 0, 0, 0, 0, 0];
 
 // The key 1 in two checkpoints. The entry that stands last stays.
-const TWICE: &[u8] = &[
+pub(crate) const TWICE: &[u8] = &[
     0x0E, 1, 0, 0, 0, 0, 1, 7, 1, 1, 0, 3, 1, 0x70, 5, 8, 0xAC, 2, 1, 0x16, 1, 0, 0, 0xED, 0xFF,
     0xFF, 0xFF, 0xFF, 0xFF, 0xFF, 0xFF, 0xFF, 0, 1, 7, 1, 1, 0, 3, 1, 0x71,
 ];
 
-const TWICE_SCRUBBED: &[u8] = &[
+pub(crate) const TWICE_SCRUBBED: &[u8] = &[
     7, 1, 0, 0, 0, 0, 0, 5, 8, 0xAC, 2, 1, 0x16, 1, 0, 0, 0xF4, 0xFF, 0xFF, 0xFF, 0xFF, 0xFF, 0xFF,
     0xFF, 0xFF, 0, 1, 7, 1, 1, 0, 3, 1, 0x71,
 ];
 
 // Three checkpoints, of which the second has an entry that nothing reaches.
-const THREE: &[u8] = &[
+pub(crate) const THREE: &[u8] = &[
     0x0E, 1, 0, 0, 0, 0, 1, 7, 1, 1, 0, 3, 1, 0x70, 0x16, 1, 0, 0, 0xF2, 0xFF, 0xFF, 0xFF, 0xFF,
     0xFF, 0xFF, 0xFF, 0xFF, 0, 1, 7, 1, 3, 0, 3, 1, 0x72, 5, 8, 0xAC, 2, 1, 0x0F, 1, 0, 0, 0xE5,
     0xFF, 0xFF, 0xFF, 0xFF, 0xFF, 0xFF, 0xFF, 0xFF, 0, 0,
 ];
 
-const THREE_SCRUBBED: &[u8] = &[
+pub(crate) const THREE_SCRUBBED: &[u8] = &[
     0x0E, 1, 0, 0, 0, 0, 1, 7, 1, 1, 0, 3, 1, 0x70, 0x0F, 1, 0, 0, 0xF2, 0xFF, 0xFF, 0xFF, 0xFF,
     0xFF, 0xFF, 0xFF, 0xFF, 0, 0, 5, 8, 0xAC, 2, 1, 0x0F, 1, 0, 0, 0xEC, 0xFF, 0xFF, 0xFF, 0xFF,
     0xFF, 0xFF, 0xFF, 0xFF, 0, 0,
 ];
 
 // Strings that are keys: 1 is the key 2, and 2 is its own key; nothing leads to 3.
-const STRINGS: &[u8] = &[
+pub(crate) const STRINGS: &[u8] = &[
     5, 8, 0xAC, 2, 1, 0x19, 1, 0, 0, 0, 0, 2, 7, 1, 1, 0, 2, 1, 6, 3, 1, 2, 2, 2, 2, 2, 3, 3, 1,
     0x78,
 ];
 
-const STRINGS_SCRUBBED: &[u8] = &[
+pub(crate) const STRINGS_SCRUBBED: &[u8] = &[
     5, 8, 0xAC, 2, 1, 0x15, 1, 0, 0, 0, 0, 2, 7, 1, 1, 0, 2, 1, 6, 2, 1, 2, 2, 2, 2, 2,
 ];
 
 // The key 1 in two checkpoints, of which the first has a size of nine bytes.
-const WIDE: &[u8] = &[
+pub(crate) const WIDE: &[u8] = &[
     0x96, 0x80, 0x80, 0x80, 0x80, 0x80, 0x80, 0x80, 0x00, 1, 0, 0, 0, 0, 1, 7, 1, 1, 0, 3, 1, 0x70,
     5, 8, 0xAC, 2, 1, 0x16, 1, 0, 0, 0xE5, 0xFF, 0xFF, 0xFF, 0xFF, 0xFF, 0xFF, 0xFF, 0xFF, 0, 1, 7,
     1, 1, 0, 3, 1, 0x71,
 ];
 
-const WIDE_SCRUBBED: &[u8] = &[
+pub(crate) const WIDE_SCRUBBED: &[u8] = &[
     0x8F, 0x80, 0x80, 0x80, 0x80, 0x80, 0x80, 0x80, 0x00, 1, 0, 0, 0, 0, 0, 5, 8, 0xAC, 2, 1, 0x16,
     1, 0, 0, 0xEC, 0xFF, 0xFF, 0xFF, 0xFF, 0xFF, 0xFF, 0xFF, 0xFF, 0, 1, 7, 1, 1, 0, 3, 1, 0x71,
 ];
@@ -118,13 +118,21 @@ fn changed_chunks_with_constants_are_refused(rt: HostRuntime) -> Result<(), Fail
     Ok(())
 }
 
-// An event, and a checkpoint with a ring of 2,000 nodes, each of which refers to the next.
+// How many nodes a long ring has.
+const NODES: u64 = 200_000;
+
+// How far each of them refers.
+const FAR: u64 = 77_776;
+
+// An event, and a checkpoint with a long ring of nodes, each of which refers to one far away, so that
+// passes over the entries, one after another, would need tens of thousands of them.
 fn long_ring(alloc: Global) -> Result<Vec<u8>, Fail> {
     let mut checkpoint = Vec::new(alloc);
-    checkpoint.extend_from_slice(&[1, 0, 0, 0, 0, 1, 7, 0xD0, 0x0F])?;
-    for key in 1..=2000u64 {
+    checkpoint.extend_from_slice(&[1, 0, 0, 0, 0, 1, 7])?;
+    push_integer(&mut checkpoint, NODES)?;
+    for key in 1..=NODES {
         push_integer(&mut checkpoint, key)?;
-        push_integer(&mut checkpoint, key % 2000 + 1)?;
+        push_integer(&mut checkpoint, (key + FAR) % NODES + 1)?;
         checkpoint.push(0)?;
     }
     let mut bytes = Vec::new(alloc);

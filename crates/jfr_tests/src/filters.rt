@@ -85,9 +85,9 @@ fn jdk_like(
     }
     bytes.extend_from_slice(last)?;
     let size = bytes.len();
-    put(&mut bytes, 14, size);
-    put(&mut bytes, 22, last_at);
-    put(&mut bytes, 30, metadata_at);
+    put(&mut bytes, 12, size);
+    put(&mut bytes, 20, last_at);
+    put(&mut bytes, 28, metadata_at);
     Ok(bytes)
 }
 

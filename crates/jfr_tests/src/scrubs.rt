@@ -1,6 +1,6 @@
 // Scrubs of the plain chunk.
 use crate::calls::{run_over_places, scrub, words};
-use crate::chunks::{PLAIN, plain_with};
+use crate::chunks::{INERT, PLAIN, plain_with};
 use jfr_cli::run;
 use jfr_outside::{Call, MemoryPlace, MemorySink, Place, SteadyPlace, SteadySink};
 use std::alloc::Global;
@@ -23,7 +23,7 @@ fn plain(alloc: Global, times: usize, more: usize) -> Result<Vec<u8>, Fail> {
 // Two chunks come out as they are, however reads are cut.
 #[test]
 fn plain_chunks_stay(rt: HostRuntime) -> Result<(), Fail> {
-    for size in [1, 7, 67, 68, 69, 103, 4096] {
+    for size in 1..=104 {
         let bytes = plain(rt.alloc(), 2, 0)?;
         let mut place = MemoryPlace::new(rt.alloc());
         place.put("a.jfr", &bytes)?;
@@ -31,6 +31,12 @@ fn plain_chunks_stay(rt: HostRuntime) -> Result<(), Fail> {
         scrub(&rt, rt.alloc(), &mut place, 0, "", Some(&bytes))?;
     }
     Ok(())
+}
+
+// Records that belong to nothing go.
+#[test]
+fn inert_records_go(rt: HostRuntime) -> Result<(), Fail> {
+    run_over_places(&rt, rt.alloc(), &INERT, SCRUB, 0, "", Some(&PLAIN))
 }
 
 // The plain chunk with some bytes changed.
