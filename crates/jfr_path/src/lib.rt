@@ -17,6 +17,3 @@ pub use chosen::choose;
 pub use names::named;
 pub use path::Path;
 pub use steps::{fields_of, leads};
-
-#[cfg(test)]
-mod tests;

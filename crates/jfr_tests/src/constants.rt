@@ -56,6 +56,13 @@ pub(crate) const STRINGS_SCRUBBED: &[u8] = &[
     5, 8, 0xAC, 2, 1, 0x15, 1, 0, 0, 0, 0, 2, 7, 1, 1, 0, 2, 1, 6, 2, 1, 2, 2, 2, 2, 2,
 ];
 
+// An event and an event of another class, whose nodes have the keys 1 and 3 of strings as texts: 1 is
+// the key 2, which is its own, and 3 the key 4, which is x.
+pub(crate) const KEYS: &[u8] = &[
+    5, 8, 0xAC, 2, 1, 3, 9, 3, 0x20, 1, 0, 0, 0, 0, 2, 7, 2, 1, 0, 2, 1, 3, 0, 2, 3, 6, 4, 1, 2, 2,
+    2, 2, 2, 3, 2, 4, 4, 3, 1, 0x78,
+];
+
 // The key 1 in two checkpoints, of which the first has a size of nine bytes.
 pub(crate) const WIDE: &[u8] = &[
     0x96, 0x80, 0x80, 0x80, 0x80, 0x80, 0x80, 0x80, 0x00, 1, 0, 0, 0, 0, 1, 7, 1, 1, 0, 3, 1, 0x70,

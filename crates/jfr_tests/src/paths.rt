@@ -1,6 +1,6 @@
 // Where paths and names lead.
 use crate::chunks::{JDK_LIKE, chunk, read};
-use crate::constants::{RINGS, STRINGS};
+use crate::constants::{KEYS, RINGS, STRINGS};
 use jfr_chunk::Chunk;
 use jfr_filter::{Filter, Side};
 use jfr_outside::{NoMemory, Text, Words};
@@ -148,7 +148,8 @@ fn compare_texts(
     Ok(())
 }
 
-// Names lead through references to texts; a string that is no text, and a field that isn't there, have none.
+// Names lead through references to texts, and through strings that are keys. A string that is no text
+// in the end, and a field that isn't there, have none.
 #[test]
 fn names_lead_to_texts(rt: HostRuntime) -> Result<(), Fail> {
     let texts = [
@@ -161,6 +162,11 @@ fn names_lead_to_texts(rt: HostRuntime) -> Result<(), Fail> {
         (0, &["text"][..], None),
     ];
     compare_texts(&rt, rt.alloc(), RINGS, 333, &texts)?;
+    let texts = [
+        (0, &["node", "text"][..], None),
+        (1, &["node", "text"][..], Some("x")),
+    ];
+    compare_texts(&rt, rt.alloc(), KEYS, 333, &texts)?;
     let texts = [(0, &["node", "text"][..], None)];
     compare_texts(&rt, rt.alloc(), STRINGS, 330, &texts)
 }
