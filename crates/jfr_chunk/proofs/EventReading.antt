@@ -81,14 +81,14 @@ module _ (c : List ℕ) (k : Classes) (rs : List Framed) where
   answer r = run (value_format k (inline r.type_id)) c (record_end r) r.body
 
   -- an event whose fields stand
-  pub read_event : (n : ℕ) (fields : List FieldsAt) (r : Framed) (end : ℕ) → slice_get rs n ≡ Some r → is_event_class k r.type_id ≡ true → Ok end ≡ seen (answer r) → ReadTo n fields
-      → ReadTo (n + 1) (fields ++ record { «record» = n; end = end } ∷ [])
-  read_event n fields r end e f s p = by_answer (answer r) refl s (subst (λ left. Pending left fields) (left_event n r e f) p)
+  pub read_event : (n : ℕ) (fields : List FieldsAt) (r : Framed) (end noted : ℕ) → slice_get rs n ≡ Some r → is_event_class k r.type_id ≡ true → Ok end ≡ seen (answer r) → ReadTo n fields
+      → ReadTo (n + 1) (fields ++ record { «record» = n; end = end; noted = noted } ∷ [])
+  read_event n fields r end noted e f s p = by_answer (answer r) refl s (subst (λ left. Pending left fields) (left_event n r e f) p)
     where
       rest : List Framed
       rest = event_records k (drop (n + 1) rs)
 
-      by_answer : (a : Answer Value) → answer r ≡ a → Ok end ≡ seen a → Pending (r ∷ rest) fields → Pending rest (fields ++ record { «record» = n; end = end } ∷ [])
+      by_answer : (a : Answer Value) → answer r ≡ a → Ok end ≡ seen a → Pending (r ∷ rest) fields → Pending rest (fields ++ record { «record» = n; end = end; noted = noted } ∷ [])
       by_answer (Err flaw) q s p = cc
       by_answer (Ok g) q s p =
           let t : end ≡ g.place = cc in
@@ -97,8 +97,8 @@ module _ (c : List ℕ) (k : Classes) (rs : List Framed) where
           record {
             checked = sym (ap (λ a. fields_by a (events_checked c k all rest)) q) ∙ p.checked;
             listed =
-                ap (λ z. z ++ map Some (filter_map (event_of c k) rest)) (map-append (event_kept rs) fields (record { «record» = n; end = end } ∷ []))
-                ∙ append_assoc (map (event_kept rs) fields) (event_kept rs (record { «record» = n; end = end }) ∷ []) (map Some (filter_map (event_of c k) rest))
+                ap (λ z. z ++ map Some (filter_map (event_of c k) rest)) (map-append (event_kept rs) fields (record { «record» = n; end = end; noted = noted } ∷ []))
+                ∙ append_assoc (map (event_kept rs) fields) (event_kept rs (record { «record» = n; end = end; noted = noted }) ∷ []) (map Some (filter_map (event_of c k) rest))
                 ∙ ap (λ z. map (event_kept rs) fields ++ z ∷ map Some (filter_map (event_of c k) rest)) (ap (option_map (event_with end)) e)
                 ∙ ap (λ z. map (event_kept rs) fields ++ map Some (cons_option z (filter_map (event_of c k) rest))) (sym o)
                 ∙ p.listed;

@@ -7,6 +7,7 @@ pub mod ForceLaws
 mod InertLaws
 pub mod MeaningLaws
 pub mod Members
+pub mod NotedLaws
 pub mod PartsLaws
 pub mod PathLaws
 pub mod ReachLaws

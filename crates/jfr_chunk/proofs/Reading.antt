@@ -27,7 +27,7 @@ use Rattle.jfr_pool.proofs.Among.{found_any}
 use Rattle.jfr_chunk.specs.declared.chunk.FieldsAt.{FieldsAt}
 use Rattle.jfr_chunk.specs.Parts.{Parts, StartsAt, AreParts, events_of, metadata_at, pools_at}
 use Rattle.jfr_chunk.specs.Refusal.{Framing, Chained, Described, Refused, framing, metadata_position, pool_position, chain, metadata, checkpoints, events, found_or, read_parts}
-use Rattle.jfr_chunk.specs.Seen.{IsIndexed, parts_in}
+use Rattle.jfr_chunk.specs.Seen.{AreNoted, IsIndexed, due, parts_in}
 use Rattle.jfr_chunk.specs.Stages.{AreFields, IsRefusedEvents}
 use Rattle.jfr_chunk.proofs.Members.{contains_in}
 use Rattle.jfr_chunk.proofs.AllLaws.{all_in, all_reverse}
@@ -151,12 +151,13 @@ module _ (c : List ℕ) (h : Header) (rs : List Framed) (m : Framed) (n : Named 
           events_refused (Flawed flaw) w = events (record { described = described; entries = es; stand = there }) w
           events_refused Memory w = tt
 
-          pub indexed : (fields : List FieldsAt) → Whole c → AreFields c k rs fields → IsIndexed (parts_in c rs ls b k es) h m fields
+          pub indexed : (fields : List FieldsAt) (numbers : List ℕ) → Whole c → AreFields c k rs fields → AreNoted (due es k c rs) 0 fields numbers → IsIndexed (parts_in c rs ls b k es) h m fields numbers
           unfolding events_of
-          indexed fields whole f = record {
+          indexed fields numbers whole f noted = record {
             whole = whole;
             parts = record { records = n.records; chain = links; metadata_record = m; metadata_there = metadata_there; metadata = d; entries = there; events = f.stand };
             header_is = n.header_is;
             metadata_there = metadata_there;
             events = f.listed;
+            noted = noted;
           }

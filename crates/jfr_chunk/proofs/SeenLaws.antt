@@ -1,10 +1,12 @@
 -- The events that a chunk keeps.
-use Rattle.std.specs.Prelude.{◌≡◌, ℕ, zero, suc, List, [], ◌∷◌, length, map, slice_get, Option, Some, None, option_and_then}
+use Rattle.std.specs.Prelude.{◌≡◌, ℕ, zero, suc, List, [], ◌∷◌, length, map, slice_get, Option, Some, None, option_and_then, option_map}
+use Rattle.std.specs.Option.{option_map_or}
 use Rattle.std.proofs.Common.{ap, refl, sym, ◌∙◌}
 use Rattle.jfr_frame.specs.declared.framed.Framed.{Framed}
 use Rattle.jfr_chunk.specs.declared.chunk.FieldsAt.{FieldsAt}
-use Rattle.jfr_chunk.specs.Parts.{Parts, events_of}
-use Rattle.jfr_chunk.specs.Seen.{event_kept, event_with}
+use Rattle.jfr_chunk.specs.Parts.{EventAt, Parts, events_of}
+use Rattle.jfr_chunk.specs.Reach.{node_entries}
+use Rattle.jfr_chunk.specs.Seen.{due, event_kept, event_with}
 
 -- a function whose values at one list are the members of another
 pub each_length : {A B : Type 0} (f : A → Option B) (xs : List A) (ys : List B) → map f xs ≡ map Some ys → length xs ≡ length ys
@@ -29,6 +31,19 @@ each_get f (x ∷ xs) (y ∷ ys) (suc n) e = each_get f xs ys n (tails (f x) (So
     tails : {C : Type 0} (c d : C) (cs ds : List C) → (c ∷ cs) ≡ (d ∷ ds) → cs ≡ ds
     tails c d cs ds e = cc
 
+-- a member of the one has a value, which is the other's member
+each_some : {A B : Type 0} (f : A → Option B) (xs : List A) (ys : List B) (n : ℕ) (x : A) → map f xs ≡ map Some ys → slice_get xs n ≡ Some x → (y : B) × (f x ≡ Some y) × (slice_get ys n ≡ Some y)
+each_some f [] ys n x e g = cc
+each_some f (z ∷ xs) [] n x e g = cc
+each_some f (z ∷ xs) (y ∷ ys) zero x e g = (y, (let h : z ≡ x = cc in ap f (sym h) ∙ heads (f z) (Some y) (map f xs) (map Some ys) e), refl)
+  where
+    heads : {C : Type 0} (c d : C) (cs ds : List C) → (c ∷ cs) ≡ (d ∷ ds) → c ≡ d
+    heads c d cs ds e = cc
+each_some f (z ∷ xs) (y ∷ ys) (suc n) x e g = each_some f xs ys n x (tails (f z) (Some y) (map f xs) (map Some ys) e) g
+  where
+    tails : {C : Type 0} (c d : C) (cs ds : List C) → (c ∷ cs) ≡ (d ∷ ds) → cs ≡ ds
+    tails c d cs ds e = cc
+
 -- the event of a number
 pub event_found : (p : Parts) (fs : List FieldsAt) (n : ℕ) (f : FieldsAt) (r : Framed) → map (event_kept p.records) fs ≡ map Some (events_of p) → slice_get fs n ≡ Some f → slice_get p.records f.record ≡ Some r
     → Some (event_with f.end r) ≡ slice_get (events_of p) n
@@ -44,3 +59,19 @@ event_missed p fs n f e g h = sym (ap (λ o. option_and_then (event_kept p.recor
   where
     by_record : (o : Option Framed) → o ≡ None → option_and_then (λ x. Some (event_with f.end x)) o ≡ None
     by_record o q = ap (λ z. option_and_then (λ x. Some (event_with f.end x)) z) q
+
+-- the event of a number starts where its record does
+pub event_placed : (p : Parts) (fs : List FieldsAt) (n : ℕ) (f : FieldsAt) → map (event_kept p.records) fs ≡ map Some (events_of p) → slice_get fs n ≡ Some f
+    → option_map (λ (r : Framed). r.at) (slice_get p.records f.record) ≡ option_map (λ (e : EventAt). e.record_of.at) (slice_get (events_of p) n)
+event_placed p fs n f e g = by_record (slice_get p.records f.record) ∙ ap (option_map (λ (e : EventAt). e.record_of.at)) (sym (ap (option_and_then (event_kept p.records)) g) ∙ each_get (event_kept p.records) fs (events_of p) n e)
+  where
+    by_record : (o : Option Framed) → option_map (λ (r : Framed). r.at) o ≡ option_map (λ (e : EventAt). e.record_of.at) (option_map (event_with f.end) o)
+    by_record None = refl
+    by_record (Some r) = refl
+
+-- what is due to the fields of a number is due to the event of that number
+pub event_due : (p : Parts) (fs : List FieldsAt) (n : ℕ) (f : FieldsAt) → map (event_kept p.records) fs ≡ map Some (events_of p) → slice_get fs n ≡ Some f
+    → Some (due p.entries p.classes p.bytes p.records f) ≡ option_map (λ (e : EventAt). node_entries p.entries p.classes p.bytes e.node) (slice_get (events_of p) n)
+event_due p fs n f e g =
+    let m = each_some (event_kept p.records) fs (events_of p) n f e g in
+    ap (λ o. Some (option_map_or (λ (e : EventAt). node_entries p.entries p.classes p.bytes e.node) o [])) m.1 ∙ sym (ap (option_map (λ (e : EventAt). node_entries p.entries p.classes p.bytes e.node)) m.2)

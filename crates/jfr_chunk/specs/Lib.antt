@@ -7,5 +7,6 @@ pub mod Written
 pub mod Scrub
 pub mod Meaning
 pub mod Seen
+pub mod Notes
 pub mod Stages
 pub mod Laws

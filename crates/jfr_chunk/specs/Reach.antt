@@ -1,6 +1,7 @@
 -- What the kept events reach: by paths of every length, and the same by computing.
 use Rattle.std.specs.Prelude.{◌≡◌, ℕ, zero, suc, Bool, true, false, List, [], ◌∷◌, ◌++◌, length, replicate, slice_get, slice_set, slice_index_or, Option, Some, None, Contains}
 use Rattle.std.specs.Option.{option_map_or}
+use Rattle.jfr_layout.specs.Classes.{Classes}
 use Rattle.jfr_value.specs.declared.node.Step.{Step}
 use Rattle.jfr_value.specs.Nodes.{NodeAt, target, targets}
 use Rattle.jfr_pool.specs.declared.entry.EntryAt.{EntryAt}
@@ -27,6 +28,10 @@ add (Some x) xs = x ∷ xs
 abbrev pub those : {A B : Type 0} → (A → Option B) → List A → List B
 those f [] = []
 those f (x ∷ xs) = add (f x) (those f xs)
+
+-- The numbers of the entries in force to which a node refers, from left to right.
+abbrev pub node_entries : List EntryAt → Classes → List ℕ → NodeAt → List ℕ
+node_entries es k c n = those (number_in_force es) (targets k c n)
 
 -- What nodes refer to at any depth, from left to right.
 abbrev pub all_targets : Parts → List NodeAt → List (ℕ × ℕ)

@@ -1,5 +1,6 @@
 -- What a chunk keeps beside its bytes, and what its calls hand out.
-use Rattle.std.specs.Prelude.{◌≡◌, ℕ, List, Option, Some, map, take, reverse, slice_get, option_map}
+use Rattle.std.specs.Prelude.{◌≡◌, ℕ, ◌+◌, List, [], ◌∷◌, ◌++◌, Option, Some, length, map, take, reverse, slice_get, option_map}
+use Rattle.std.specs.Option.{option_map_or}
 use Rattle.jfr_header.specs.declared.header.Header.{Header}
 use Rattle.jfr_header.specs.Headers.{header_of}
 use Rattle.jfr_header.specs.Fronts.{Whole}
@@ -14,6 +15,7 @@ use Rattle.jfr_pool.specs.Entries.{inline}
 use Rattle.jfr_chunk.specs.declared.chunk.FieldsAt.{FieldsAt}
 use Rattle.jfr_chunk.specs.declared.event.Event.{Event}
 use Rattle.jfr_chunk.specs.Parts.{Parts, EventAt, StartsAt, AreParts, events_of, metadata_at}
+use Rattle.jfr_chunk.specs.Reach.{node_entries}
 
 -- The event whose record has this number, and whose fields end there.
 abbrev pub event_with : ℕ → Framed → EventAt
@@ -22,13 +24,23 @@ event_with end r = record { record_of = r; node = node_at (inline r.type_id) r.b
 abbrev pub event_kept : List Framed → FieldsAt → Option EventAt
 event_kept rs f = option_map (event_with f.end) (slice_get rs f.record)
 
--- The parts stand in a whole chunk; the header, the metadata record and the events are those of the parts.
-pub record IsIndexed (p : Parts) (header : Header) (metadata : Framed) (fields : List FieldsAt) : Type 0 where
+-- The numbers of the entries in force to which the event of these fields refers.
+abbrev pub due : List EntryAt → Classes → List ℕ → List Framed → FieldsAt → List ℕ
+due es k c rs f = option_map_or (λ e. node_entries es k c e.node) (event_kept rs f) []
+
+-- The numbers are those that are due to the events, one event after another, and the count of each, from a number on, tells how many there are up to its last.
+abbrev pub AreNoted : (FieldsAt → List ℕ) → ℕ → List FieldsAt → List ℕ → Type 0
+AreNoted due from [] numbers = numbers ≡ []
+AreNoted due from (f ∷ fs) numbers = (rest : List ℕ) × (numbers ≡ due f ++ rest) × (f.noted ≡ from + length (due f)) × AreNoted due f.noted fs rest
+
+-- The parts stand in a whole chunk; the header, the metadata record, the events and what they refer to are those of the parts.
+pub record IsIndexed (p : Parts) (header : Header) (metadata : Framed) (fields : List FieldsAt) (numbers : List ℕ) : Type 0 where
   pub whole : Whole p.bytes
   pub parts : AreParts p
   pub header_is : header ≡ header_of (take 68 p.bytes)
   pub metadata_there : StartsAt p.records (metadata_at p.bytes) 0 metadata
   pub events : map (event_kept p.records) fields ≡ map Some (events_of p)
+  pub noted : AreNoted (due p.entries p.classes p.bytes p.records) 0 fields numbers
 
 -- What a metadata record's body holds, as it was read.
 abbrev pub body_in : Metadata → Body

@@ -1,20 +1,22 @@
 // A chunk inside the grammar.
-ghost use Rattle.std.specs.Prelude.{◌≡◌, length, filter, reverse, slice_get, take, option_map, Ok, IfOk, IfErr, IfSome, MatchResult};
+ghost use Rattle.std.specs.Prelude.{◌≡◌, ◌+◌, ◌<◌, ℕ, true, length, filter, replicate, reverse, slice_get, take, option_map, Ok, IfOk, IfErr, IfSome, MatchResult};
 ghost use Rattle.jfr_header.specs.Fronts.{Whole};
 ghost use Rattle.jfr_header.specs.Headers.{header_of};
 ghost use Rattle.jfr_meta.specs.Answers.{IfFlawed};
 ghost use Rattle.jfr_pool.specs.Faults.{TellsFlaw};
 ghost use Rattle.jfr_chunk.specs.Parts.{AreParts, StartsAt, events_of, is_inert, metadata_at};
+ghost use Rattle.jfr_chunk.specs.Reach.{node_entries};
 ghost use Rattle.jfr_chunk.specs.Refusal.{Refused, read_parts};
 ghost use Rattle.jfr_chunk.specs.Seen.{IsOfChunk, event_at};
 
-use crate::Event;
 use crate::read::{header_in, read_events, record_named};
+use crate::{Event, Kept};
 use jfr_base::{Flaw, ReadFault, Reason};
 use jfr_frame::{Framed, Frames};
 use jfr_header::Header;
 use jfr_layout::{Classes, Shape};
 use jfr_meta::{Metadata, read_metadata};
+use jfr_outside::NoMemory;
 use jfr_pool::{Chain, Pools};
 use jfr_value::Node;
 use std::alloc::Global;
@@ -36,11 +38,14 @@ const NO_CHECKPOINT: Flaw = Flaw {
     reason: Reason::PoolPosition,
 };
 
-/// Where the fields of an event stand: the number of its record, and the place behind the last field.
+/// Where the fields of an event stand: the number of its record, and the place behind the last field;
+/// and how many numbers of entries are noted up to the last one to which it refers. A chunk has so many
+/// events that these are kept short.
 #[derive(Clone, Copy, Debug)]
 pub(crate) struct FieldsAt {
-    pub record: usize,
-    pub end: usize,
+    pub record: u32,
+    pub end: u32,
+    pub noted: u32,
 }
 
 /// A chunk inside the grammar, with the indexes over it. None of its bytes is copied.
@@ -48,12 +53,13 @@ pub(crate) struct FieldsAt {
 pub struct Chunk<'a> {
     bytes: &'a [u8],
     header: Header,
-    frames: Frames,
+    frames: Frames<'a>,
     metadata_frame: Framed,
     chain: Chain,
     metadata: Metadata,
     pools: Pools,
     events: Vec<FieldsAt>,
+    numbers: Vec<u32>,
 }
 
 impl<'a> Model for Chunk<'a> {
@@ -68,7 +74,7 @@ impl<'a> Model for Chunk<'a> {
 
     ghost view = { λ c. parts_in c.bytes.now c.frames c.chain (body_in c.metadata) c.metadata.classes c.pools };
 
-    ghost invariant = { λ c. IsIndexed (parts_in c.bytes.now c.frames c.chain (body_in c.metadata) c.metadata.classes c.pools) c.header c.metadata_frame c.events.items };
+    ghost invariant = { λ c. IsIndexed (parts_in c.bytes.now c.frames c.chain (body_in c.metadata) c.metadata.classes c.pools) c.header c.metadata_frame c.events.items c.numbers.items };
 }
 
 impl<'a> Chunk<'a> {
@@ -90,7 +96,7 @@ impl<'a> Chunk<'a> {
         let chain = Chain::read(alloc, bytes, &frames, header.pools)?;
         let metadata = read_metadata(alloc, bytes, &metadata_frame)?;
         let pools = Pools::read(alloc, bytes, &metadata.classes, &chain)?;
-        let events = read_events(alloc, bytes, &frames, &metadata.classes)?;
+        let index = read_events(alloc, bytes, &frames, &metadata.classes, &pools)?;
         Ok(Chunk {
             bytes,
             header,
@@ -99,7 +105,8 @@ impl<'a> Chunk<'a> {
             chain,
             metadata,
             pools,
-            events,
+            events: index.fields,
+            numbers: index.numbers,
         })
     }
 
@@ -120,7 +127,7 @@ impl<'a> Chunk<'a> {
     }
 
     /// All records, in the order of the file.
-    pub fn frames(&self) -> &Frames
+    pub fn frames(&self) -> &Frames<'a>
         ensures { result.now ≡ self.now.records }
     {
         &self.frames
@@ -169,13 +176,22 @@ impl<'a> Chunk<'a> {
         self.events.len()
     }
 
+    /// All events, kept.
+    pub fn keep_all(&self, alloc: Global) -> Result<Kept, NoMemory>
+        ensures ok { IfOk result (λ kept. kept ≡ replicate (length (events_of self.now)) true) }
+        ensures parts { AreParts self.now }
+    {
+        Kept::all(alloc, self.events.len())
+    }
+
     /// The event of a number, from 0, in the order of the file; `None` exactly past the end.
+    #[inline(always)]
     pub fn event(&self, number: usize) -> Option<Event<'a>>
         ensures exact { option_map event_at result ≡ slice_get (events_of self.now) number }
         ensures of_chunk { IfSome result (IsOfChunk self.now number) }
     {
         let fields = fields_at(&self.events, number)?;
-        let frame = self.frames.get(fields.record).copied()?;
+        let frame = self.frames.get(fields.record as usize)?;
         let shape = Shape {
             class: frame.type_id,
             constant: false,
@@ -185,7 +201,7 @@ impl<'a> Chunk<'a> {
             shape,
             bytes: self.bytes,
             at: frame.body,
-            end: fields.end,
+            end: fields.end as usize,
         };
         Some(Event {
             number,
@@ -193,11 +209,45 @@ impl<'a> Chunk<'a> {
             node,
         })
     }
+
+    /// The place where the event of a number starts; `None` exactly past the end. Its record is not
+    /// read.
+    #[inline]
+    pub fn event_place(&self, number: usize) -> Option<usize>
+        ensures { result ≡ option_map (λ e. e.record_of.at) (slice_get (events_of self.now) number) }
+    {
+        let fields = fields_at(&self.events, number)?;
+        self.frames.place(fields.record as usize)
+    }
+
+    /// The numbers of the entries in force to which the event of a number refers, from left to right;
+    /// `None` exactly past the end.
+    pub fn event_entries(&self, number: usize) -> Option<&[u32]>
+        ensures { option_map (λ s. s.now) result ≡ option_map (λ e. node_entries self.now.entries self.now.classes self.now.bytes e.node) (slice_get (events_of self.now) number) }
+    {
+        let fields = fields_at(&self.events, number)?;
+        let start = noted_before(&self.events, number);
+        self.numbers.get(start..fields.noted as usize)
+    }
 }
 
 // Where the fields of the event of a number stand.
+#[inline]
 fn fields_at(events: &[FieldsAt], number: usize) -> Option<FieldsAt>
     ensures { result ≡ slice_get events.now number }
 {
     events.get(number).copied()
+}
+
+// How many numbers are noted of the events before the one of a number.
+#[inline]
+fn noted_before(events: &[FieldsAt], number: usize) -> usize
+    requires { number < length events.now }
+    ensures first { number ≡ 0 → result ≡ 0 }
+    ensures later { (before : ℕ) → number ≡ before + 1 → Some result ≡ option_map (λ f. f.noted) (slice_get events.now before) }
+{
+    match number.checked_sub(1) {
+        Some(before) => events[before].noted as usize,
+        None => 0,
+    }
 }

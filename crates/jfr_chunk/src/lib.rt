@@ -8,6 +8,7 @@ mod chunk;
 mod event;
 mod kept;
 mod laws;
+mod notes;
 mod read;
 #[cfg(test)]
 mod tests;

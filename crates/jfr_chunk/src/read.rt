@@ -6,17 +6,24 @@ ghost use Rattle.jfr_header.specs.Headers.{header_of};
 ghost use Rattle.jfr_frame.specs.Records.{AreRecords, IsRecord, record_end, record_there};
 ghost use Rattle.jfr_layout.specs.Classes.{is_event_class};
 ghost use Rattle.jfr_meta.specs.Answers.{IfFlawed};
+ghost use Rattle.jfr_value.specs.Nodes.{node_at};
 ghost use Rattle.jfr_value.specs.Reading.{value_format};
 ghost use Rattle.jfr_pool.specs.Entries.{inline};
+ghost use Rattle.jfr_chunk.specs.Notes.{Noted};
+ghost use Rattle.jfr_chunk.specs.Reach.{node_entries};
 ghost use Rattle.jfr_chunk.specs.Refusal.{found_or};
+ghost use Rattle.jfr_chunk.specs.Seen.{AreNoted, due};
 ghost use Rattle.jfr_chunk.specs.Stages.{AreFields, IsRefusedEvents};
 
 use crate::chunk::FieldsAt;
+use crate::notes::{Notes, short};
 use jfr_base::{Flaw, ReadFault};
 use jfr_frame::{Framed, Frames};
 use jfr_header::{Header, read_header};
 use jfr_layout::{Classes, Shape};
-use jfr_value::end_of;
+use jfr_outside::NoMemory;
+use jfr_pool::Pools;
+use jfr_value::end_visiting;
 use std::alloc::Global;
 
 /// The header of a whole chunk.
@@ -48,53 +55,89 @@ pub(crate) fn record_named(
     }
 }
 
-/// Where the fields of the events stand, in the order of the file.
+/// Where the fields of the events stand, in the order of the file, and the numbers of the entries in
+/// force to which they refer.
+#[derive(Drop)]
+pub(crate) struct EventIndex {
+    pub fields: Vec<FieldsAt>,
+    pub numbers: Vec<u32>,
+}
+
+/// Where the fields of the events stand, and to which entries they refer.
 pub(crate) fn read_events(
     alloc: Global,
     chunk: &[u8],
     frames: &Frames,
     classes: &Classes,
-) -> Result<Vec<FieldsAt>, ReadFault>
+    pools: &Pools,
+) -> Result<EventIndex, ReadFault>
     requires { AreRecords chunk.now frames.now }
-    ensures ok { IfOk result (λ fields. AreFields chunk.now classes.now frames.now fields.items) }
+    ensures ok { IfOk result (λ index. AreFields chunk.now classes.now frames.now index.fields.items) }
+    ensures noted { IfOk result (λ index. AreNoted (due pools.now classes.now chunk.now frames.now) 0 index.fields.items index.numbers.items) }
     ensures refused { IfErr result (IfFlawed (IsRefusedEvents chunk.now classes.now frames.now)) }
 {
-    let mut events = Vec::new(alloc);
+    let mut fields = Vec::new(alloc);
+    let mut notes = Notes::new(alloc);
     for number in 0..frames.len() {
         let frame = record_at(frames, number);
         if !classes.is_event(frame.type_id) {
             continue;
         }
-        let end = fields_end(chunk, classes, frame)?;
-        events.push(FieldsAt {
-            record: number,
-            end,
-        })?;
+        let end = fields_end(chunk, classes, pools, frame, &mut notes)?;
+        if notes.lacks {
+            return Err(ReadFault::Memory);
+        }
+        fields.push(kept_short(number, end, notes.numbers.len())?)?;
     }
-    Ok(events)
+    Ok(EventIndex {
+        fields,
+        numbers: notes.numbers,
+    })
+}
+
+/// The fields of an event, kept short.
+#[inline]
+fn kept_short(number: usize, end: usize, noted: usize) -> Result<FieldsAt, NoMemory>
+    ensures { IfOk result (λ fields. fields ≡ record { «record» = number; end = end; noted = noted }) }
+{
+    Ok(FieldsAt {
+        record: short(number)?,
+        end: short(end)?,
+        noted: short(noted)?,
+    })
 }
 
 /// The record of a number.
+#[inline]
 fn record_at(frames: &Frames, number: usize) -> Framed
     requires { number < length frames.now }
     ensures { slice_get frames.now number ≡ Some result }
 {
     match frames.get(number) {
-        Some(record) => *record,
+        Some(record) => record,
         None => unreachable!(),
     }
 }
 
-/// Where the fields of an event end.
-fn fields_end(chunk: &[u8], classes: &Classes, frame: Framed) -> Result<usize, Flaw>
+/// Where the fields of an event end. The entries to which they refer are noted.
+#[inline]
+fn fields_end(
+    chunk: &[u8],
+    classes: &Classes,
+    pools: &Pools,
+    frame: Framed,
+    notes: &mut Notes,
+) -> Result<usize, Flaw>
     requires event { is_event_class classes.now frame.type_id ≡ true }
     requires record { IsRecord chunk.now frame }
-    ensures { result ≡ seen (run (value_format classes.now (inline frame.type_id)) chunk.now (record_end frame) frame.body) }
+    ensures exact { result ≡ seen (run (value_format classes.now (inline frame.type_id)) chunk.now (record_end frame) frame.body) }
+    ensures noted { IfOk result (λ end. Noted (node_entries pools.now classes.now chunk.now (node_at (inline frame.type_id) frame.body end)) notes.old notes.new) }
 {
     let shape = Shape {
         class: frame.type_id,
         constant: false,
         array: false,
     };
-    end_of(classes, shape, chunk, frame.body, frame.at + frame.size)
+    let end = frame.at + frame.size;
+    end_visiting(classes, shape, chunk, frame.body, end, notes, pools)
 }

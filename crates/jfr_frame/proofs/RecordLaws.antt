@@ -1,11 +1,6 @@
 -- One record at a place, and the records of a chunk.
-use Rattle.std.specs.Prelude.{◌≡◌, ℕ, zero, suc, ◌+◌, ◌-◌, ◌<◌, ◌≤◌, List, [], ◌∷◌, ◌++◌, length, Option, None, Some, Result, Ok, Err, nat_le, ◌&&◌, ◌||◌, ◌==◌, Bool, true, false, if◌then◌else◌, slice_range}
-use Rattle.std.proofs.Common.{ap, arith, refl, sym, ◌∙◌, subst, get_or, inl, inr, ◌⊎◌}
-use Rattle.std.proofs.lemmas.Bool.{cases_lt}
-use Rattle.std.proofs.lemmas.List.{length-map}
-use Rattle.std.proofs.lemmas.List.Sorted.{searched}
-use Rattle.std.specs.List.Sorted.{IsBinarySearchResult}
-use Rattle.std.specs.Ordering.{nat_cmp}
+use Rattle.std.specs.Prelude.{◌≡◌, ℕ, zero, suc, ◌+◌, ◌-◌, ◌<◌, ◌≤◌, List, [], ◌∷◌, ◌++◌, length, Option, None, Some, Result, Ok, Err, nat_le, ◌&&◌, Bool, true, false, if◌then◌else◌, slice_range}
+use Rattle.std.proofs.Common.{ap, arith, refl, sym, ◌∙◌, subst, get_or}
 use Rattle.jfr_base.specs.Integer.{IntAt, IsSpellingWithin}
 use Rattle.jfr_base.specs.Formats.{int_at}
 use Rattle.jfr_base.specs.declared.flaw.Flaw.{Flaw}
@@ -15,7 +10,7 @@ use Rattle.jfr_base.proofs.Exact.{int_found, int_none}
 use Rattle.jfr_base.proofs.OneInt.{int_one}
 use Rattle.jfr_base.proofs.Ranges.{range_length}
 use Rattle.jfr_frame.specs.declared.framed.Framed.{Framed}
-use Rattle.jfr_frame.specs.Records.{IsRecord, record_end, Tiles, AreRecords, NoRecord, Rising, places_of, starts_at, record_at, with_size, with_type, covering, before_records, records_within, records_of}
+use Rattle.jfr_frame.specs.Records.{IsRecord, record_end, Tiles, AreRecords, NoRecord, Rising, places_of, record_at, with_size, with_type, covering, before_records, records_within, records_of}
 
 framed_path : (r s : Framed) → r.at ≡ s.at → r.size ≡ s.size → r.type_at ≡ s.type_at → r.type_id ≡ s.type_id → r.body ≡ s.body → r ≡ s
 framed_path r s a b c d e = λ i. record { at = a i; size = b i; type_at = c i; type_id = d i; body = e i }
@@ -121,6 +116,19 @@ pub tiles_more : (c : List ℕ) (p q : ℕ) (rs : List Framed) (r : Framed) → 
 tiles_more c p q [] r t e s = (e ∙ sym t, s, refl)
 tiles_more c p q (x ∷ rs) r t e s = (t.0, t.1, tiles_more c (record_end x) q rs r t.2 e s)
 
+-- a record that stands there is the one computed
+pub record_found : (c : List ℕ) (p : ℕ) (r : Framed) → r.at ≡ p → IsRecord c r → record_at c p ≡ Some r
+record_found c p r a s = by_found (record_at c p) refl
+  where
+    there : p ≤ length c
+    there = let i = some_bytes c r s in let j : record_end r ≤ length c = s.within in omega arith
+
+    by_found : (o : Option Framed) → record_at c p ≡ o → record_at c p ≡ Some r
+    by_found None e = absurd (record_none c p there e r a s)
+    by_found (Some x) e =
+        let y = record_stands c p x there e in
+        e ∙ ap (λ z. Some z) (record_one c x r y.1 s (y.0 ∙ sym a))
+
 -- records before others, if these are records
 abbrev pub onto : List Framed → Result (List Framed) Flaw → Result (List Framed) Flaw
 onto [] a = a
@@ -136,17 +144,8 @@ records_on c p q (suc n) (r ∷ rs) t h i =
     let w : record_end r ≤ length c = t.1.within in
     let k = records_on c (record_end r) q n rs t.2 h (omega arith) in
     let l : nat_le (length c) p ≡ false = grind arith in
-    let f : record_at c p ≡ Some r = found c p r a t.1 in
+    let f : record_at c p ≡ Some r = record_found c p r a t.1 in
     (k.0, k.1, rw (l, f) (ap (before_records r) k.2))
-  where
-    by_found : (o : Option Framed) (c : List ℕ) (p : ℕ) (r : Framed) → record_at c p ≡ o → r.at ≡ p → IsRecord c r → record_at c p ≡ Some r
-    by_found None c p r e a s = absurd (record_none c p (let i = some_bytes c r s in let j : record_end r ≤ length c = s.within in omega arith) e r a s)
-    by_found (Some x) c p r e a s =
-        let y = record_stands c p x (let i = some_bytes c r s in let j : record_end r ≤ length c = s.within in omega arith) e in
-        e ∙ ap (λ z. Some z) (record_one c x r y.1 s (y.0 ∙ sym a))
-
-    found : (c : List ℕ) (p : ℕ) (r : Framed) → r.at ≡ p → IsRecord c r → record_at c p ≡ Some r
-    found c p r a s = by_found (record_at c p) c p r refl a s
 
 onto_ok : (rs : List Framed) → onto rs (Ok []) ≡ Ok rs
 onto_ok [] = refl
@@ -187,76 +186,10 @@ rising_of c n p q (r ∷ rs) h t =
     let b = some_bytes c r t.1 in
     (omega arith, rising_of c (r.at + 1) (record_end r) q rs (omega arith) t.2)
 
--- the place of a record is computed
-pub places_more : (rs : List Framed) (r : Framed) → places_of (rs ++ r ∷ []) ≡ places_of rs ++ r.at ∷ []
-places_more [] r = refl
-places_more (x ∷ rs) r = ap (λ z. x.at ∷ z) (places_more rs r)
-
+-- places rise as the records do
 pub rising_places : (p : ℕ) (rs : List Framed) → Rising p rs → (i j : ℕ) → i ≤ j → j < length (places_of rs) → (p ≤ get_or (places_of rs) i 0) × (get_or (places_of rs) i 0 ≤ get_or (places_of rs) j 0)
 rising_places p [] h i j k l = absurd (omega arith)
 rising_places p (r ∷ rs) h zero zero k l = (h.0, omega arith)
 rising_places p (r ∷ rs) h zero (suc j) k l = let g = rising_places (r.at + 1) rs h.1 j j (omega arith) (omega arith) in (h.0, omega (arith, g.0))
 rising_places p (r ∷ rs) h (suc i) zero k l = absurd (omega arith)
 rising_places p (r ∷ rs) h (suc i) (suc j) k l = let g = rising_places (r.at + 1) rs h.1 i j (omega arith) (omega arith) in let q : p ≤ r.at = h.0 in (omega (arith, g.0), g.1)
-
--- a place that no record has
-pub starts_nowhere : (rs : List Framed) (at t : ℕ) → ((k : ℕ) → k < length (places_of rs) → get_or (places_of rs) k 0 ≡ at → ⊥) → starts_at rs at t ≡ false
-starts_nowhere [] at t h = refl
-starts_nowhere (r ∷ rs) at t h =
-    let e : (r.at == at) ≡ false = by_test (r.at == at) refl in
-    rw e (starts_nowhere rs at t (λ k i. h (suc k) (omega arith)))
-  where
-    by_test : (b : Bool) → (r.at == at) ≡ b → b ≡ false
-    by_test true f = absurd (h 0 (omega arith) (grind (arith, f)))
-    by_test false f = refl
-
-starts_past : (p at t : ℕ) (rs : List Framed) → Rising p rs → at < p → starts_at rs at t ≡ false
-starts_past p at t [] h i = refl
-starts_past p at t (r ∷ rs) h i =
-    let q : p ≤ r.at = h.0 in
-    let e : (r.at == at) ≡ false = grind arith in
-    rw e (starts_past (r.at + 1) at t rs h.1 (omega arith))
-
--- the record of a number decides for its place
-pub starts_there : (p : ℕ) (rs : List Framed) (n at t : ℕ) (r : Framed) → Rising p rs → n < length rs → get_or rs n r ≡ r → r.at ≡ at → starts_at rs at t ≡ (r.type_id == t)
-starts_there p [] n at t r h i e a = absurd (omega arith)
-starts_there p (x ∷ rs) zero at t r h i e a =
-    let f : (x.at == at) ≡ true = grind (arith, ap (λ (z : Framed). z.at) e) in
-    let g = starts_past (x.at + 1) at t rs h.1 (omega (arith, ap (λ (z : Framed). z.at) e)) in
-    rw (f, g) (by_type (x.type_id == t) ∙ ap (λ (z : Framed). z.type_id == t) e)
-  where
-    by_type : (b : Bool) → (b || false) ≡ b
-    by_type true = refl
-    by_type false = refl
-starts_there p (x ∷ rs) (suc n) at t r h i e a =
-    let l = least (x.at + 1) rs n r h.1 (omega arith) e in
-    let f : (x.at == at) ≡ false = grind (arith, l) in
-    rw f (starts_there (x.at + 1) rs n at t r h.1 (omega arith) e a)
-  where
-    least : (p : ℕ) (rs : List Framed) (n : ℕ) (r : Framed) → Rising p rs → n < length rs → get_or rs n r ≡ r → p ≤ r.at
-    least p [] n r h i e = absurd (omega arith)
-    least p (x ∷ rs) zero r h i e = let q : p ≤ x.at = h.0 in omega (arith, ap (λ (z : Framed). z.at) e)
-    least p (x ∷ rs) (suc n) r h i e = let q : p ≤ x.at = h.0 in omega (arith, least (x.at + 1) rs n r h.1 (omega arith) e)
-
--- what a binary search over the places says
-pub found_at : (rs : List Framed) (places searched_in : List ℕ) (at t n : ℕ) (r : Framed) → Rising 0 rs × (places ≡ places_of rs) → searched_in ≡ places → IsBinarySearchResult (λ y. nat_cmp y at) searched_in (Ok n) → get_or rs n r ≡ r → starts_at rs at t ≡ (r.type_id == t)
-found_at rs places xs at t n r h e s g =
-    let same : xs ≡ places_of rs = e ∙ h.1 in
-    let m = searched (places_of rs) at (Ok n) (subst (λ z. IsBinarySearchResult (λ y. nat_cmp y at) z (Ok n)) same s) (λ i j k l. (rising_places 0 rs h.0 i j k l).1) in
-    let l : length (places_of rs) ≡ length rs = simp length-map in
-    starts_there 0 rs n at t r h.0 (omega (arith, m.0)) g (place n rs r (omega (arith, m.0)) g ∙ m.1)
-  where
-    place : (n : ℕ) (rs : List Framed) (r : Framed) → n < length rs → get_or rs n r ≡ r → r.at ≡ get_or (places_of rs) n 0
-    place n [] r i e = absurd (omega arith)
-    place zero (x ∷ rs) r i e = sym (ap (λ (z : Framed). z.at) e)
-    place (suc n) (x ∷ rs) r i e = place n rs r (omega arith) e
-
-pub found_nowhere : (rs : List Framed) (places searched_in : List ℕ) (at t n : ℕ) → Rising 0 rs × (places ≡ places_of rs) → searched_in ≡ places → IsBinarySearchResult (λ y. nat_cmp y at) searched_in (Err n) → starts_at rs at t ≡ false
-found_nowhere rs places xs at t n h e s =
-    let same : xs ≡ places_of rs = e ∙ h.1 in
-    let m = searched (places_of rs) at (Err n) (subst (λ z. IsBinarySearchResult (λ y. nat_cmp y at) z (Err n)) same s) (λ i j k l. (rising_places 0 rs h.0 i j k l).1) in
-    starts_nowhere rs at t (λ k i is. other k i is (cases_lt k n) m)
-  where
-    other : (k : ℕ) → k < length (places_of rs) → get_or (places_of rs) k 0 ≡ at → ((k < n) ⊎ (n ≤ k)) → (n ≤ length (places_of rs)) × ((k : ℕ) → k < n → get_or (places_of rs) k 0 < at) × ((k : ℕ) → n ≤ k → k < length (places_of rs) → at < get_or (places_of rs) k 0) → ⊥
-    other k i is (inl l) m = let a : get_or (places_of rs) k 0 < at = m.1 k l in omega arith
-    other k i is (inr l) m = let a : at < get_or (places_of rs) k 0 = m.2 k l i in omega arith

@@ -43,9 +43,10 @@ pub fn next_record(chunk: &[u8], at: usize) -> Result<Option<Framed>, Flaw>
     }
 }
 
-// The record that starts there, if one does.
+/// The record that starts there, if one does.
+#[inline]
 #[tactic(auto, unfolding(crate::specs::Records::record_at))]
-fn framed_at(chunk: &[u8], at: usize) -> Option<Framed>
+pub(crate) fn framed_at(chunk: &[u8], at: usize) -> Option<Framed>
     requires { at < length chunk.now }
     ensures { result ≡ record_at chunk.now at }
 {

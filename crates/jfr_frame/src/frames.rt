@@ -1,37 +1,38 @@
 // All records of a chunk.
-ghost use Rattle.std.specs.Prelude.{◌≡◌, ◌<◌, ◌≤◌, ◌⊎◌, length, slice_get, option_copied, Ok, Err, IfOk, IfErr};
+ghost use Rattle.std.specs.Prelude.{◌≡◌, ◌≤◌, length, option_map, slice_get, Ok, IfOk, IfErr};
 ghost use Rattle.jfr_frame.specs.Records.{AreRecords, starts_at, record_there, records_of};
 ghost use Rattle.jfr_frame.specs.Refused.{RefusedAt};
 
+use crate::framed::framed_at;
 use crate::{Framed, next_record};
 use jfr_base::ReadFault;
 use std::alloc::Global;
 use std::marker::Model;
 
-/// The records of a chunk, in order.
+/// The records of a chunk, in order. Only their places are kept: a record is read from the chunk's
+/// bytes where it is asked for.
 #[derive(Drop)]
-pub struct Frames {
-    records: Vec<Framed>,
-    /// Where each record starts, to look one up by its place.
+pub struct Frames<'a> {
+    chunk: &'a [u8],
     places: Vec<usize>,
 }
 
-impl Model for Frames {
-    ghost use Rattle.std.specs.Prelude.{List, ◌≡◌};
+impl<'a> Model for Frames<'a> {
+    ghost use Rattle.std.specs.Prelude.{List};
     ghost use Rattle.jfr_frame.specs.declared.framed.Framed.{Framed};
-    ghost use Rattle.jfr_frame.specs.Records.{Rising, places_of};
+    ghost use Rattle.jfr_frame.specs.Records.{ArePlaces, records_at};
 
     ghost Value = { List Framed };
 
-    ghost view = { λ frames. frames.records.items };
+    ghost view = { λ frames. records_at frames.chunk.now frames.places.items };
 
-    ghost invariant = { λ frames. Rising 0 frames.records.items × (frames.places.items ≡ places_of frames.records.items) };
+    ghost invariant = { λ frames. ArePlaces frames.chunk.now frames.places.items };
 }
 
-impl Frames {
+impl<'a> Frames<'a> {
     /// Reads the records of a chunk. It is refused as `RecordSize` at the first place where none
     /// stands.
-    pub fn read(alloc: Global, chunk: &[u8]) -> Result<Frames, ReadFault>
+    pub fn read(alloc: Global, chunk: &'a [u8]) -> Result<Frames<'a>, ReadFault>
         requires { 68 ≤ length chunk.now }
         ensures ok { IfOk result (λ rs. AreRecords chunk.now rs) }
         ensures refused { IfErr result (λ fault. RefusedAt chunk.now fault) }
@@ -39,45 +40,52 @@ impl Frames {
         // The same by computing.
         ensures exact { IfOk result (λ rs. records_of chunk.now ≡ Ok rs) }
     {
-        let mut records = Vec::new(alloc);
         let mut places = Vec::new(alloc);
         let mut at = 68;
         'records: while let Some(record) = next_record(chunk, at)? {
-            records.push(record)?;
             places.push(record.at)?;
             at = record.at + record.size;
         }
-        Ok(Frames { records, places })
+        Ok(Frames { chunk, places })
     }
 
     /// How many records there are.
     pub fn len(&self) -> usize
         ensures { result ≡ length self.now }
     {
-        self.records.len()
+        self.places.len()
     }
 
     /// The record of a number, from 0; `None` exactly past the end.
-    pub fn get(&self, number: usize) -> Option<&Framed>
-        ensures { option_copied result ≡ slice_get self.now number }
+    #[inline(always)]
+    pub fn get(&self, number: usize) -> Option<Framed>
+        ensures { result ≡ slice_get self.now number }
     {
-        self.records.get(number)
+        let at = self.place(number)?;
+        framed_at(self.chunk, at)
+    }
+
+    /// Where the record of a number starts; `None` exactly past the end. The record is not read.
+    #[inline]
+    pub fn place(&self, number: usize) -> Option<usize>
+        ensures { result ≡ option_map (λ r. r.at) (slice_get self.now number) }
+    {
+        self.places.get(number).copied()
     }
 
     /// The record of that type that starts there; `None` exactly where none does.
     pub fn find(&self, at: u64, type_id: u64) -> Option<Framed>
         ensures { result ≡ record_there self.now at type_id }
     {
-        match self.places.binary_search(&(at as usize)) {
-            Ok(number) => {
-                let record = self.records[number];
-                if record.type_id == type_id {
-                    Some(record)
-                } else {
-                    None
-                }
-            }
-            Err(_) => None,
+        let number = match self.places.binary_search(&(at as usize)) {
+            Ok(number) => number,
+            Err(_) => return None,
+        };
+        let record = self.get(number)?;
+        if record.type_id == type_id {
+            Some(record)
+        } else {
+            None
         }
     }
 
@@ -85,9 +93,6 @@ impl Frames {
     pub fn starts_at(&self, at: u64, type_id: u64) -> bool
         ensures { result ≡ starts_at self.now at type_id }
     {
-        match self.places.binary_search(&(at as usize)) {
-            Ok(number) => self.records[number].type_id == type_id,
-            Err(_) => false,
-        }
+        self.find(at, type_id).is_some()
     }
 }

@@ -5,6 +5,7 @@ mod NamesSeen
 mod IdsSeen
 mod FieldsKnown
 mod FieldPlaces
+mod FieldSlots
 mod Steps
 mod Filled
 mod Depth

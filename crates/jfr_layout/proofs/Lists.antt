@@ -1,7 +1,7 @@
 -- Lists by their members' places.
-use Rattle.std.proofs.Common.{◌≡◌, ℕ, zero, suc, ◌+◌, ◌<◌, List, [], ◌∷◌, ◌++◌, length, take, get_or, map, Option, Some, None, false, sym, ◌∙◌, ap, refl, arith}
+use Rattle.std.proofs.Common.{◌≡◌, ℕ, zero, suc, ◌+◌, ◌<◌, List, [], ◌∷◌, ◌++◌, length, take, get_or, map, Option, Some, None, false, sym, ◌∙◌, ap, refl, subst, arith}
 use Rattle.std.specs.Prelude.{is_some, IsSome, option_map}
-use Rattle.std.specs.List.{slice_get, flat_map, enumerate_from}
+use Rattle.std.specs.List.{slice_get, flat_map, enumerate_from, AllByRecursion, AllZip}
 use Rattle.std.specs.Option.{option_and_then}
 use Rattle.std.proofs.lemmas.List.{take_more, map_more, length-map}
 use Rattle.std.proofs.lemmas.Option.{slice_get_within, get_or_from_slice_get, slice_get-get_or, slice_get-map, same_Some}
@@ -52,3 +52,25 @@ chained f (Some x) y e = (x, refl, e)
 pub absent : {X : Type 0} (o : Option X) → is_some o ≡ false → o ≡ None
 absent None e = refl
 absent (Some x) e = cc
+
+pub all_at : {X : Type 0} (P : X → Type 0) (xs : List X) (i : ℕ) (x : X) → AllByRecursion P xs → slice_get xs i ≡ Some x → P x
+all_at P [] i x a e = cc
+all_at P (y ∷ xs) zero x a e = subst P (same_Some y x e) a.0
+all_at P (y ∷ xs) (suc i) x a e = all_at P xs i x a.1 e
+
+pub all_push : {X : Type 0} (P : X → Type 0) (xs : List X) (x : X) → AllByRecursion P xs → P x → AllByRecursion P (xs ++ x ∷ [])
+all_push P [] x a p = (p, tt)
+all_push P (y ∷ xs) x a p = (a.0, all_push P xs x a.1 p)
+
+-- two lists that are related place by place
+pub zip_at : {X Y : Type 0} (R : X → Y → Type 0) (xs : List X) (ys : List Y) (i : ℕ) (x : X) → AllZip R xs ys → slice_get xs i ≡ Some x → (y : Y) × (slice_get ys i ≡ Some y) × R x y
+zip_at R [] ys i x a e = cc
+zip_at R (w ∷ xs) [] i x a e = absurd a
+zip_at R (w ∷ xs) (y ∷ ys) zero x a e = (y, refl, subst (λ z. R z y) (same_Some w x e) a.0)
+zip_at R (w ∷ xs) (y ∷ ys) (suc i) x a e = zip_at R xs ys i x a.1 e
+
+pub zip_push : {X Y : Type 0} (R : X → Y → Type 0) (xs : List X) (ys : List Y) (x : X) (y : Y) → AllZip R xs ys → R x y → AllZip R (xs ++ x ∷ []) (ys ++ y ∷ [])
+zip_push R [] [] x y a r = (r, tt)
+zip_push R [] (v ∷ ys) x y a r = absurd a
+zip_push R (w ∷ xs) [] x y a r = absurd a
+zip_push R (w ∷ xs) (v ∷ ys) x y a r = (a.0, zip_push R xs ys x y a.1 r)

@@ -1,5 +1,5 @@
 -- Classes, their kinds, and what makes a list of them sound.
-use Rattle.std.specs.Prelude.{◌≡◌, ℕ, zero, suc, Bool, true, false, not, ◌&&◌, ◌==◌, List, [], ◌∷◌, length, Option, Some, None, Result, Ok, Err, is_some, if◌then◌else◌, find, position, take, option_and_then, codes, slice_get, ◌++◌, ⊤, nat_lt}
+use Rattle.std.specs.Prelude.{◌≡◌, ℕ, zero, suc, Bool, true, false, not, ◌&&◌, ◌==◌, List, [], ◌∷◌, length, Option, Some, None, Result, Ok, Err, is_some, if◌then◌else◌, find, position, take, option_and_then, option_map, codes, slice_get, map, ◌++◌, ⊤, nat_lt}
 use Rattle.std.specs.List.{AllByRecursion, list_any, flat_map, enumerate_from}
 use Rattle.std.specs.Option.{option_map_or}
 use Rattle.std.specs.Str.{bytes_eq}
@@ -8,6 +8,7 @@ use Rattle.jfr_base.specs.declared.reason.Reason.TheVariants.{ClassTwice, FieldT
 use Rattle.jfr_layout.specs.declared.kind.Kind.{Kind}
 use Rattle.jfr_layout.specs.declared.kind.Kind.TheVariants.{Boolean, Byte, Char, Short, Int, Long, Float, Double, Text, Composite}
 use Rattle.jfr_layout.specs.declared.shape.Shape.{Shape}
+use Rattle.jfr_layout.specs.declared.slot.Slot.{Slot}
 use Rattle.jfr_layout.specs.declared.fault.ClassFault.{ClassFault}
 use Rattle.jfr_layout.specs.declared.fault.ClassFault.TheVariants.{Flawed, Memory}
 use Rattle.jfr_layout.specs.declared.class.ClassInfo.{ClassInfo}
@@ -64,6 +65,16 @@ extends_event c = is_composite (kind_of c.name) && option_map_or (λ n. bytes_eq
 -- an event class is such a class with an id that is neither 0 nor 1
 unfoldable pub is_event_class : Classes → ℕ → Bool
 is_event_class k id = nat_lt 1 id && option_map_or extends_event (find_class k id) false
+
+-- the slot has the place and the kind of the class of its shape
+pub record IsSlot (k : Classes) (s : Slot) : Type 0 where
+  pub place : class_place k s.shape.class ≡ Some s.place
+  pub kind : option_map (λ c. kind_of c.name) (find_class k s.shape.class) ≡ Some s.kind
+
+-- one slot for each field, in order, with the field's shape
+pub record AreSlots (k : Classes) (fs : List Field) (slots : List Slot) : Type 0 where
+  pub shapes : map (λ s. s.shape) slots ≡ map (λ f. f.shape) fs
+  pub each : AllByRecursion (IsSlot k) slots
 
 -- an item's shape: the array's without the array mark
 abbrev pub item_of : Shape → Shape

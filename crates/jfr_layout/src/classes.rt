@@ -1,12 +1,12 @@
 // Sound classes.
-ghost use Rattle.std.specs.Prelude.{◌≡◌, ◌<◌, length, OnOk, IfOk, IfErr, IfSome, IsSome, slice_get, option_map, option_and_then};
+ghost use Rattle.std.specs.Prelude.{◌≡◌, ◌<◌, length, OnOk, IfOk, IfErr, IfSome, slice_get, option_map, option_and_then};
 ghost use Rattle.std.specs.Option.{option_copied};
 ghost use Rattle.std.specs.Str.{chars};
-ghost use Rattle.jfr_layout.specs.Classes.{class_faults, Sound, TellsFirst, find_class, class_place, kind_of, field_at, field_number, is_event_class, extends_event};
+ghost use Rattle.jfr_layout.specs.Classes.{class_faults, Sound, TellsFirst, find_class, class_place, kind_of, field_number, is_event_class, AreSlots};
 
 use crate::inline::{check_depth, check_filled};
 use crate::resolved::Resolved;
-use crate::{ClassFault, ClassInfo, ClassList, Kind, Shape, is_text};
+use crate::{ClassFault, ClassInfo, ClassList, Kind, Slot};
 use std::alloc::Global;
 use std::marker::Model;
 
@@ -98,22 +98,7 @@ impl Classes {
             return false;
         }
         match self.resolved.place(id) {
-            Some(place) => self.extends_event(place),
-            None => false,
-        }
-    }
-
-    // Whether the class is composite and has the super type of events.
-    fn extends_event(&self, place: usize) -> bool
-        requires { place < length self.now }
-        ensures { IfSome (slice_get self.now place) (λ c. result ≡ extends_event c) }
-    {
-        match self.resolved.kind_at(place) {
-            Kind::Composite => {}
-            _ => return false,
-        }
-        match &self.resolved.class_at(place).super_name {
-            Some(name) => is_text(name, "jdk.jfr.Event"),
+            Some(place) => self.resolved.extends_event(place),
             None => false,
         }
     }
@@ -144,29 +129,11 @@ impl Classes {
         self.resolved.kind_at(place)
     }
 
-    /// How many fields the class at a place has.
-    pub fn field_count(&self, place: usize) -> usize
+    /// How the values of each field of the class at a place are spelled, in order.
+    pub fn slots(&self, place: usize) -> &[Slot]
         requires { place < length self.now }
-        ensures { IfSome (slice_get self.now place) (λ c. result ≡ length c.fields) }
+        ensures exact { IfSome (slice_get self.now place) (λ c. AreSlots self.now c.fields result.now) }
     {
-        self.resolved.class_at(place).fields.len()
-    }
-
-    /// The shape of a field, by the place of its class and its number.
-    pub fn field_shape(&self, place: usize, number: usize) -> Shape
-        requires { IsSome (field_at self.now place number) }
-        ensures { IfSome (field_at self.now place number) (λ f. result ≡ f.shape) }
-    {
-        self.resolved.class_at(place).fields.at(number).shape
-    }
-
-    /// The place of the class of a field's values.
-    pub fn field_place(&self, place: usize, number: usize) -> usize
-        requires { IsSome (field_at self.now place number) }
-        ensures exact { IfSome (field_at self.now place number) (λ f. class_place self.now f.shape.class ≡ Some result) }
-        ensures class { IfSome (field_at self.now place number) (λ f. slice_get self.now result ≡ find_class self.now f.shape.class) }
-        ensures within { result < length self.now }
-    {
-        self.resolved.field_place(place, number)
+        self.resolved.slots(place)
     }
 }

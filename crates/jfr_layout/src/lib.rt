@@ -10,12 +10,14 @@
 mod class;
 mod classes;
 mod fault;
+mod index;
 mod inline;
 mod kind;
 mod laws;
 mod name;
 mod resolved;
 mod shape;
+mod slot;
 
 pub use class::{ClassInfo, ClassList, FieldInfo, Fields};
 pub use classes::Classes;
@@ -24,6 +26,7 @@ pub use kind::Kind;
 pub use laws::{classes_are_known, fields_agree, ids_stand_once, values_end};
 pub use name::is_text;
 pub use shape::Shape;
+pub use slot::Slot;
 
 #[cfg(test)]
 mod tests;

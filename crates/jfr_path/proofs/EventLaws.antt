@@ -1,10 +1,11 @@
 -- An event and its class: the class is composite, and the event has each of its fields.
 use Rattle.std.specs.Prelude.{◌≡◌, ℕ, ◌+◌, Bool, true, false, List, [], ◌∷◌, cond, filter, map, slice_get, Option, Some, None, Ok, Err, nat_lt, codes, IsSome}
-use Rattle.std.specs.Option.{option_map_or}
+use Rattle.std.specs.Option.{option_map, option_map_or}
 use Rattle.std.specs.Str.{bytes_eq}
 use Rattle.std.proofs.Common.{ap, refl, sym, ◌∙◌, subst, inl, inr}
 use Rattle.std.proofs.lemmas.Bool.{and_parts}
 use Rattle.std.proofs.lemmas.List.Quantifiers.{position-Some}
+use Rattle.std.proofs.lemmas.Option.{slice_get-map}
 use Rattle.jfr_base.specs.Formats.{Answer, run}
 use Rattle.jfr_layout.specs.declared.kind.Kind.{Kind}
 use Rattle.jfr_layout.specs.declared.kind.Kind.TheVariants as kinds
@@ -18,7 +19,7 @@ use Rattle.jfr_value.specs.Reading.{value_format}
 use Rattle.jfr_value.specs.Nodes.{NodeAt, IsRow, child, laid, node_at}
 use Rattle.jfr_value.proofs.ChildLaws.{field_is}
 use Rattle.jfr_value.proofs.PlaceLaws.{get_within}
-use Rattle.jfr_value.proofs.RowLaws.{row_at, shapes_get, start_of}
+use Rattle.jfr_value.proofs.RowLaws.{row_at, start_of}
 use Rattle.jfr_pool.specs.Entries.{inline}
 use Rattle.jfr_chunk.specs.Parts.{Parts, EventAt, AreParts, event_by, event_of, event_records, events_of}
 use Rattle.jfr_chunk.proofs.AllLaws.{in_filter_map}
@@ -80,7 +81,7 @@ known k id e = by_class (find_class k id) refl (and_parts (nat_lt 1 id) (option_
 
 -- one of a row of values
 one_of_row : (k : Classes) (c : List ℕ) (at end number : ℕ) (fs : List Field) (f : Field) (vs : Values) (o : Option NodeAt) → IsRow k c at end (map (λ f. f.shape) fs) vs → slice_get fs number ≡ Some f → o ≡ slice_get (laid at (list_of vs)) number → (n : NodeAt) × (o ≡ Some n)
-one_of_row k c at end number fs f vs o r g e = (node_at f.shape (start_of at vs number) (start_of at vs (number + 1)), e ∙ (row_at k c at end (map (λ f. f.shape) fs) vs number f.shape r (shapes_get fs number f g)).is)
+one_of_row k c at end number fs f vs o r g e = (node_at f.shape (start_of at vs number) (start_of at vs (number + 1)), e ∙ (row_at k c at end (map (λ f. f.shape) fs) vs number f.shape r (slice_get-map (λ (f : Field). f.shape) fs number ∙ ap (option_map (λ (f : Field). f.shape)) g)).is)
 
 module _ (p : Parts) (parts : AreParts p) (e : EventAt) (listed : In (events_of p) e) where
   pub event_known : IsSome (find_class p.classes e.record_of.type_id)

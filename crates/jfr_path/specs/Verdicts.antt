@@ -1,5 +1,5 @@
 -- What a filter says of the events of a class.
-use Rattle.std.specs.Prelude.{◌≡◌, true, false, Some, Contains}
+use Rattle.std.specs.Prelude.{◌≡◌, Bool, true, false, Some, Contains}
 use Rattle.jfr_filter.specs.Filters.{Given}
 use Rattle.jfr_layout.specs.Classes.{Class, find_class}
 use Rattle.jfr_value.specs.declared.node.Step.TheVariants as steps
@@ -21,6 +21,11 @@ abbrev pub Says : Given → Parts → EventAt → ClassVerdict → Type 0
 Says g p e Kept = is_chosen g p e ≡ true
 Says g p e Dropped = is_chosen g p e ≡ false
 Says g p e (ByThread number) = (n : NodeAt) × (child p.classes p.bytes e.node (steps.Field number) ≡ Some n) × (is_chosen g p e ≡ allows_behind g p n)
+
+-- Each event of the class is kept.
+abbrev pub is_kept : ClassVerdict → Bool
+is_kept Kept = true
+is_kept _ = false
 
 -- The verdict holds of every event of the class, in every chunk.
 pub record IsVerdict (g : Given) (c : Class) (verdict : ClassVerdict) : Type 0 where

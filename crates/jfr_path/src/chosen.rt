@@ -9,7 +9,7 @@ ghost use Rattle.jfr_path.specs.Verdicts.{IsVerdict, Says};
 
 use crate::fields_of;
 use crate::threads::ThreadVerdicts;
-use crate::verdict::{ClassVerdict, verdicts_on};
+use crate::verdict::{ClassVerdict, are_all_kept, verdicts_on};
 use jfr_chunk::{Chunk, Event, Kept};
 use jfr_filter::Filter;
 use jfr_outside::NoMemory;
@@ -22,6 +22,9 @@ pub fn choose(alloc: Global, chunk: &Chunk<'_>, filter: &Filter) -> Result<Kept,
     ensures ok { IfOk result (λ kept. kept ≡ chosen filter.now chunk.now) }
 {
     let verdicts = verdicts_on(alloc, chunk.classes(), filter)?;
+    if are_all_kept(&verdicts) {
+        return chunk.keep_all(alloc);
+    }
     let mut threads = ThreadVerdicts::new(alloc, chunk, filter);
     let count = chunk.event_count();
     let mut kept = Kept::new(alloc, count)?;

@@ -1,8 +1,8 @@
 // What a filter says of the events of a class, before any of them is looked at.
 ghost use Rattle.std.specs.Prelude.{◌≡◌, ◌||◌, IfOk, codes, is_some};
-ghost use Rattle.std.specs.List.{AllZip};
+ghost use Rattle.std.specs.List.{AllZip, list_all};
 ghost use Rattle.jfr_layout.specs.Classes.{field_number};
-ghost use Rattle.jfr_path.specs.Verdicts.{IsVerdict};
+ghost use Rattle.jfr_path.specs.Verdicts.{IsVerdict, is_kept};
 
 use jfr_filter::{Filter, Side};
 use jfr_layout::{ClassInfo, Classes};
@@ -33,6 +33,15 @@ pub(crate) fn verdicts_on(
         verdicts.push(verdict_on(classes.class_at(place), filter))?;
     }
     Ok(verdicts)
+}
+
+/// Whether the events of every class are kept.
+pub(crate) fn are_all_kept(verdicts: &[ClassVerdict]) -> bool
+    ensures { result ≡ list_all is_kept verdicts.now }
+{
+    verdicts
+        .iter()
+        .all(|verdict| matches!(verdict, ClassVerdict::Kept))
 }
 
 /// The verdict on a class.

@@ -1,94 +1,186 @@
--- The entry in force, and the index that leads to it.
-use Rattle.std.specs.Prelude.{◌≡◌, ℕ, zero, suc, ◌+◌, ◌<◌, ◌≤◌, Bool, true, false, cond, ◌&&◌, ◌==◌, nat_lt, List, [], ◌∷◌, ◌++◌, length, take, slice_get, Some, None}
-use Rattle.std.proofs.Common.{ap, arith, refl, sym, ◌∙◌, subst, get_or}
-use Rattle.std.proofs.lemmas.Option.{slice_get-get_or}
-use Rattle.std.specs.declared.cmp.Ordering.{Ordering}
-use Rattle.std.specs.declared.cmp.Ordering.TheVariants.{Less, Equal, Greater}
-use Rattle.std.specs.Ordering.{nat_cmp, ordering_then, is_eq}
-use Rattle.std.specs.BTreeMap.{BTreeMap, get, IsEmpty, Updates}
+-- The index leads to the entry in force.
+use Rattle.std.specs.Prelude.{◌≡◌, ◌≢◌, ◌⊎◌, ℕ, zero, suc, ◌+◌, ◌^◌, ◌<◌, Bool, true, false, cond, ◌&&◌, ◌==◌, nat_lt, List, [], ◌∷◌, ◌++◌, length, Option, Some, None, IsSome, option_map, if◌then◌else◌, replicate}
+use Rattle.std.proofs.Common.{ap, refl, sym, ◌∙◌, inl, inr, subst, get_or, set, length-set}
+use Rattle.std.proofs.lemmas.Bool.{cases_eq}
+use Rattle.std.proofs.lemmas.List.{get_or-set_same, get_or-set_other}
+use Rattle.std.specs.Ordering.{is_eq}
+use Rattle.std.specs.BTreeMap.{get, IsEmpty, Updates}
 use Rattle.std.specs.Map.{lookup}
 use Rattle.jfr_pool.specs.declared.entry.EntryAt.{EntryAt}
-use Rattle.jfr_pool.specs.Entries.{or_later, last_from, number_in_force}
-use Rattle.jfr_pool.specs.Index.{target_cmp, Indexes}
+use Rattle.jfr_pool.specs.declared.index.Index.{Index}
+use Rattle.jfr_pool.specs.declared.index.Slot.{Slot}
+use Rattle.jfr_pool.specs.declared.index.TheConstants.{REACH}
+use Rattle.jfr_pool.specs.Entries.{number_in_force}
+use Rattle.jfr_pool.specs.Index.{target_cmp, Placed, held, number_in, is_open, slot_at, seat_from, home, seat, number_at, number_of, Indexes}
+use Rattle.jfr_pool.proofs.Targets.{hits, same_target, target_same, eq_target, force_push, force_none, some_push}
+use Rattle.jfr_pool.proofs.Seats.{home_same, seat_found, held_counted, none_of}
 
--- keys that compare equal are equal
-eq_number : (x y : ℕ) → is_eq (nat_cmp x y) ≡ (x == y)
-eq_number x y = by_tests (nat_lt x y) refl (x == y) refl
-  where
-    by_tests : (a : Bool) → nat_lt x y ≡ a → (b : Bool) → (x == y) ≡ b → is_eq (cond a Less (cond b Equal Greater)) ≡ b
-    by_tests true e true f = absurd (grind (arith, e, f))
-    by_tests true e false f = refl
-    by_tests false e true f = refl
-    by_tests false e false f = refl
+abbrev empty : Slot
+empty = record { key = 0; class = 0; count = 0 }
 
-eq_then : (a b : Ordering) → is_eq (ordering_then a b) ≡ (is_eq a && is_eq b)
-eq_then Less b = refl
-eq_then Equal b = refl
-eq_then Greater b = refl
+no_some : (o : Option ℕ) → o ≡ None → IsSome o → ⊥
+no_some None q h = cc
+no_some (Some m) q h = cc
 
-eq_target : (s t : ℕ × ℕ) → is_eq (target_cmp s t) ≡ ((s.0 == t.0) && (s.1 == t.1))
-eq_target s t = eq_then (nat_cmp s.0 t.0) (nat_cmp s.1 t.1) ∙ ap (λ b. b && is_eq (nat_cmp s.1 t.1)) (eq_number s.0 t.0) ∙ ap (λ b. (s.0 == t.0) && b) (eq_number s.1 t.1)
+clash : (b : Bool) → b ≡ true → b ≡ false → ⊥
+clash b p q = cc
 
-abbrev hits : EntryAt → ℕ × ℕ → Bool
-hits e t = (e.class == t.0) && (e.key == t.1)
+get_replicate : {X : Type 0} (n i : ℕ) (x : X) → get_or (replicate n x) i x ≡ x
+get_replicate zero i x = refl
+get_replicate (suc n) zero x = refl
+get_replicate (suc n) (suc i) x = get_replicate n i x
 
--- one entry more
-last_push : (n : ℕ) (es : List EntryAt) (e : EntryAt) (t : ℕ × ℕ) → last_from n (es ++ e ∷ []) t ≡ cond (hits e t) (Some (n + length es)) (last_from n es t)
-last_push n [] e t = by_test (hits e t) (let q : n + 0 ≡ n = omega arith in ap (λ m. Some m) (sym q))
-  where
-    by_test : (b : Bool) → Some n ≡ Some (n + 0) → or_later n b None ≡ cond b (Some (n + 0)) None
-    by_test true q = q
-    by_test false q = refl
-last_push n (x ∷ es) e t = ap (or_later n (hits x t)) (last_push (n + 1) es e t) ∙ by_test (hits e t) (let q : n + 1 + length es ≡ n + suc (length es) = omega arith in ap (λ m. Some m) q)
-  where
-    by_test : (b : Bool) → Some (n + 1 + length es) ≡ Some (n + suc (length es)) → or_later n (hits x t) (cond b (Some (n + 1 + length es)) (last_from (n + 1) es t)) ≡ cond b (Some (n + suc (length es))) (or_later n (hits x t) (last_from (n + 1) es t))
-    by_test true q = q
-    by_test false q = refl
-
-pub force_push : (es : List EntryAt) (e : EntryAt) (t : ℕ × ℕ) → number_in_force (es ++ e ∷ []) t ≡ cond (hits e t) (Some (length es)) (number_in_force es t)
-unfolding number_in_force
-force_push es e t = last_push 0 es e t ∙ (let q : 0 + length es ≡ length es = omega arith in ap (λ m. cond (hits e t) (Some m) (last_from 0 es t)) q)
-
-force_none : (t : ℕ × ℕ) → number_in_force [] t ≡ None
-unfolding number_in_force
-force_none t = refl
-
-pub indexes_none : (index : BTreeMap (ℕ × ℕ) ℕ) (es : List EntryAt) → IsEmpty index → Indexes index (take 0 es)
-indexes_none index es e = record { leads = λ t. ap (λ (z : List ((ℕ × ℕ) × ℕ)). lookup (λ k. is_eq (target_cmp t k)) z) e ∙ sym (force_none t) }
-
-take_more : (es : List EntryAt) (i : ℕ) (e : EntryAt) → slice_get es i ≡ Some e → take (i + 1) es ≡ take i es ++ e ∷ []
-take_more [] i e h = cc
-take_more (x ∷ es) zero e h = let q : x ≡ e = cc in ap (λ z. z ∷ []) q
-take_more (x ∷ es) (suc i) e h = let q : suc i + 1 ≡ suc (i + 1) = omega arith in ap (λ n. take n (x ∷ es)) q ∙ ap (λ z. x ∷ z) (take_more es i e h)
-
-take_length : (es : List EntryAt) (i : ℕ) (e : EntryAt) → slice_get es i ≡ Some e → length (take i es) ≡ i
-take_length [] i e h = cc
-take_length (x ∷ es) zero e h = refl
-take_length (x ∷ es) (suc i) e h = ap suc (take_length es i e h)
-
-pub indexes_more : (old new : BTreeMap (ℕ × ℕ) ℕ) (es : List EntryAt) (i : ℕ) (e : EntryAt) → Indexes old (take i es) → slice_get es i ≡ Some e → Updates target_cmp old new (e.class, e.key) (Some i) → Indexes new (take (i + 1) es)
-indexes_more old new es i e h s u = record {
-  leads = λ t.
-      u.0 t
-      ∙ ap (λ b. cond b (Some i) (get target_cmp old t)) (eq_target (e.class, e.key) t)
-      ∙ ap (cond (hits e t) (Some i)) (h.leads t)
-      ∙ ap (λ n. cond (hits e t) (Some n) (number_in_force (take i es) t)) (sym (take_length es i e s))
-      ∙ sym (force_push (take i es) e t)
-      ∙ ap (λ z. number_in_force z t) (sym (take_more es i e s));
+-- where all slots are empty and there are no others, nothing has a number
+pub indexes_none : (index : Index) (n : ℕ) → index.slots.items ≡ replicate n empty → IsEmpty index.others → Indexes index []
+indexes_none index n slots o = record {
+  leads = λ t. none_of index t (no_others t) (λ i p q. absurd (differ i p q)) ∙ sym (force_none t);
+  in_slots = λ i p q. absurd (differ i p q);
+  in_others = λ t q. absurd (no_some (get target_cmp index.others t) (no_others t) q);
 }
+  where
+    no_others : (t : ℕ × ℕ) → get target_cmp index.others t ≡ None
+    no_others t = ap (λ (z : List ((ℕ × ℕ) × ℕ)). lookup (λ k. is_eq (target_cmp t k)) z) o
 
-abbrev nothing : EntryAt
-nothing = record { class = 0; key = 0; key_at = 0; value_at = 0; end = 0; checkpoint = 0; pool = 0 }
+    differ : (i : ℕ) (p : Placed) → held (slot_at index.slots.items i) ≡ Some p → ⊥
+    differ i p q = let f : held (slot_at index.slots.items i) ≡ None = ap (λ z. held (slot_at z i)) slots ∙ ap held (get_replicate n i empty) in cc
 
--- the same at the entry that a loop reads
-pub indexes_next : (old new : BTreeMap (ℕ × ℕ) ℕ) (es : List EntryAt) (i : ℕ) → i < length es → Indexes old (take i es) → Updates target_cmp old new ((get_or es i nothing).class, (get_or es i nothing).key) (Some i) → Indexes new (take (i + 1) es)
-indexes_next old new es i h k u = indexes_more old new es i (get_or es i nothing) k (slice_get-get_or es i nothing h) u
+-- an open slot takes the entry
+module _ (old new : Index) (e : EntryAt) (number place : ℕ) (within : place < length old.slots.items) (slots : new.slots.items ≡ set old.slots.items place (record { key = e.key; class = e.class; count = number + 1 })) (others : new.others ≡ old.others) where
+  abbrev placed : Placed
+  placed = record { class = e.class; key = e.key; number = number }
 
-take_all : (es : List EntryAt) (i : ℕ) → length es ≤ i → take i es ≡ es
-take_all [] zero h = refl
-take_all [] (suc i) h = refl
-take_all (x ∷ es) zero h = absurd (omega arith)
-take_all (x ∷ es) (suc i) h = ap (λ z. x ∷ z) (take_all es i (omega arith))
+  here : held (slot_at new.slots.items place) ≡ Some placed
+  here = ap (λ z. held (slot_at z place)) slots ∙ ap held (get_or-set_same old.slots.items place _ empty within) ∙ held_counted e.class e.key number
 
-pub indexes_all : (index : BTreeMap (ℕ × ℕ) ℕ) (es : List EntryAt) (i : ℕ) → Indexes index (take i es) → length es ≤ i → Indexes index es
-indexes_all index es i h l = subst (Indexes index) (take_all es i l) h
+  elsewhere : (i : ℕ) → i ≢ place → held (slot_at new.slots.items i) ≡ held (slot_at old.slots.items i)
+  elsewhere i h = ap (λ z. held (slot_at z i)) slots ∙ ap held (get_or-set_other old.slots.items place i _ empty h)
+
+  -- the seat is open
+  seat_open : (n at : ℕ) → seat_from n at old.slots.items (e.class, e.key) ≡ Some place → is_open (held (slot_at old.slots.items place)) (e.class, e.key) ≡ true
+  seat_open zero at h = cc
+  seat_open (suc n) at h = by_test (is_open (held (slot_at old.slots.items at)) (e.class, e.key)) refl h (seat_open n (at + 1))
+    where
+      by_test : (b : Bool) → is_open (held (slot_at old.slots.items at)) (e.class, e.key) ≡ b → (if b then Some at else seat_from n (at + 1) old.slots.items (e.class, e.key)) ≡ Some place → (seat_from n (at + 1) old.slots.items (e.class, e.key) ≡ Some place → is_open (held (slot_at old.slots.items place)) (e.class, e.key) ≡ true) → is_open (held (slot_at old.slots.items place)) (e.class, e.key) ≡ true
+      by_test true f h k = let q : at ≡ place = cc in ap (λ i. is_open (held (slot_at old.slots.items i)) (e.class, e.key)) (sym q) ∙ f
+      by_test false f h k = k h
+
+  -- it is still the first
+  seat_stays : (n at : ℕ) → seat_from n at old.slots.items (e.class, e.key) ≡ Some place → seat_from n at new.slots.items (e.class, e.key) ≡ Some place
+  seat_stays zero at h = cc
+  seat_stays (suc n) at h = by_place (cases_eq at place) (seat_stays n (at + 1))
+    where
+      by_test : (b : Bool) → at ≢ place → (if b then Some at else seat_from n (at + 1) old.slots.items (e.class, e.key)) ≡ Some place → (seat_from n (at + 1) old.slots.items (e.class, e.key) ≡ Some place → seat_from n (at + 1) new.slots.items (e.class, e.key) ≡ Some place) → (if b then Some at else seat_from n (at + 1) new.slots.items (e.class, e.key)) ≡ Some place
+      by_test true q h k = h
+      by_test false q h k = k h
+
+      by_place : ((at ≡ place) ⊎ (at ≢ place)) → (seat_from n (at + 1) old.slots.items (e.class, e.key) ≡ Some place → seat_from n (at + 1) new.slots.items (e.class, e.key) ≡ Some place) → seat_from (suc n) at new.slots.items (e.class, e.key) ≡ Some place
+      by_place (inl q) k = rw (ap (λ i. held (slot_at new.slots.items i)) q ∙ here, target_same e.class e.key (e.class, e.key) refl) (ap (λ i. Some i) q)
+      by_place (inr q) k = rw (elsewhere at q) (by_test (is_open (held (slot_at old.slots.items at)) (e.class, e.key)) q h k)
+
+  -- the numbers of others are still found
+  abbrev Stays : ℕ × ℕ → ℕ → ℕ → ℕ → Type 0
+  Stays t m n at = number_at old t (seat_from n at old.slots.items t) ≡ Some m → number_at new t (seat_from n at new.slots.items t) ≡ Some m
+
+  number_stays : (t : ℕ × ℕ) (m : ℕ) → hits e t ≡ false → is_open (held (slot_at old.slots.items place)) (e.class, e.key) ≡ true → (n at : ℕ) → Stays t m n at
+  number_stays t m apart was_open zero at h = ap (λ z. get target_cmp z t) others ∙ h
+  number_stays t m apart was_open (suc n) at h = by_place (cases_eq at place) (number_stays t m apart was_open n (at + 1))
+    where
+      by_test : (b : Bool) → at ≢ place → number_at old t (if b then Some at else seat_from n (at + 1) old.slots.items t) ≡ Some m → Stays t m n (at + 1) → number_at new t (if b then Some at else seat_from n (at + 1) new.slots.items t) ≡ Some m
+      by_test true q h k = ap (option_map (λ (p : Placed). p.number)) (elsewhere at q) ∙ h
+      by_test false q h k = k h
+
+      by_slot : (slot : Option Placed) → held (slot_at old.slots.items at) ≡ slot → is_open slot (e.class, e.key) ≡ true → number_at old t (if is_open slot t then Some at else seat_from n (at + 1) old.slots.items t) ≡ Some m → Stays t m n (at + 1) → number_at new t (seat_from n (at + 1) new.slots.items t) ≡ Some m
+      by_slot None f o h k = let g = ap (option_map (λ (p : Placed). p.number)) f in cc
+      by_slot (Some p) f o h k =
+          let same : (p.class, p.key) ≡ (e.class, e.key) = same_target p.class p.key (e.class, e.key) o in
+          let g : is_open (Some p) t ≡ false = ap (λ (z : ℕ × ℕ). (z.0 == t.0) && (z.1 == t.1)) same ∙ apart in
+          k (rw g at h)
+
+      by_place : ((at ≡ place) ⊎ (at ≢ place)) → Stays t m n (at + 1) → number_at new t (seat_from (suc n) at new.slots.items t) ≡ Some m
+      by_place (inl q) k =
+          rw (ap (λ i. held (slot_at new.slots.items i)) q ∙ here, apart) (by_slot (held (slot_at old.slots.items at)) refl (ap (λ i. is_open (held (slot_at old.slots.items i)) (e.class, e.key)) q ∙ was_open) h k)
+      by_place (inr q) k = rw (elsewhere at q) (by_test (is_open (held (slot_at old.slots.items at)) t) q h k)
+
+  homes_stay : (t : ℕ × ℕ) → home new.slots.items t ≡ home old.slots.items t
+  homes_stay t = home_same new.slots.items old.slots.items t (ap length slots ∙ length-set old.slots.items place _)
+
+  some_stays : (t : ℕ × ℕ) (m : ℕ) → hits e t ≡ false → is_open (held (slot_at old.slots.items place)) (e.class, e.key) ≡ true → number_of old t ≡ Some m → number_of new t ≡ Some m
+  unfolding seat
+  some_stays t m apart was_open = by_class (nat_lt t.0 (2 ^ 32))
+    where
+      by_class : (b : Bool) → number_at old t (if b then seat_from REACH (home old.slots.items t) old.slots.items t else None) ≡ Some m → number_at new t (if b then seat_from REACH (home new.slots.items t) new.slots.items t else None) ≡ Some m
+      by_class true h = rw (homes_stay t) (number_stays t m apart was_open REACH (home old.slots.items t) h)
+      by_class false h = ap (λ z. get target_cmp z t) others ∙ h
+
+  module _ (found : seat old.slots.items (e.class, e.key) ≡ Some place) (es : List EntryAt) (h : Indexes old es) where
+    own : number_of new (e.class, e.key) ≡ Some number
+    unfolding seat
+    own =
+        let f = seat_found old.slots.items (e.class, e.key) place found in
+        rw (f.0, homes_stay (e.class, e.key), seat_stays REACH (home old.slots.items (e.class, e.key)) f.1) (ap (option_map (λ (p : Placed). p.number)) here)
+
+    -- a target that has no entry stands nowhere
+    nowhere : (t : ℕ × ℕ) → hits e t ≡ false → number_in_force es t ≡ None → number_of new t ≡ None
+    nowhere t apart none = none_of new t (ap (λ z. get target_cmp z t) others ∙ no_other (get target_cmp old.others t) refl) no_slot
+      where
+        no_other : (o : Option ℕ) → get target_cmp old.others t ≡ o → o ≡ None
+        no_other None q = refl
+        no_other (Some m) q = absurd (no_some (number_in_force es t) none (h.in_others t (subst (λ o. IsSome o) (sym q) refl)))
+
+        no_slot : (i : ℕ) (p : Placed) → held (slot_at new.slots.items i) ≡ Some p → (p.class, p.key) ≢ t
+        no_slot i p q same = by_place (cases_eq i place)
+          where
+            by_place : ((i ≡ place) ⊎ (i ≢ place)) → ⊥
+            by_place (inl r) =
+                let f : Some placed ≡ Some p = sym here ∙ ap (λ j. held (slot_at new.slots.items j)) (sym r) ∙ q in
+                let g : placed ≡ p = cc in
+                clash (hits e t) (target_same e.class e.key t (ap (λ (z : Placed). (z.class, z.key)) g ∙ same)) apart
+            by_place (inr r) = no_some (number_in_force es t) none (subst (λ z. IsSome (number_in_force es z)) same (h.in_slots i p (sym (elsewhere i r) ∙ q)))
+
+    seated_number : (t : ℕ × ℕ) → number_of new t ≡ cond (hits e t) (Some number) (number_in_force es t)
+    seated_number t = by_test (hits e t) refl (number_in_force es t) refl
+      where
+        by_test : (b : Bool) → hits e t ≡ b → (o : Option ℕ) → number_in_force es t ≡ o → number_of new t ≡ cond b (Some number) o
+        by_test true f o g = ap (number_of new) (sym (same_target e.class e.key t f)) ∙ own
+        by_test false f None g = nowhere t f g
+        by_test false f (Some m) g = some_stays t m f (seat_open REACH (home old.slots.items (e.class, e.key)) (seat_found old.slots.items (e.class, e.key) place found).1) (h.leads t ∙ g)
+
+    pub seated : length es ≡ number → Indexes new (es ++ e ∷ [])
+    seated n = record {
+      leads = λ t. seated_number t ∙ ap (λ m. cond (hits e t) (Some m) (number_in_force es t)) (sym n) ∙ sym (force_push es e t);
+      in_slots = λ i p q. by_place i p q (cases_eq i place);
+      in_others = λ t q. some_push es e t (inr (h.in_others t (subst (λ z. IsSome (get target_cmp z t)) others q)));
+    }
+      where
+        by_place : (i : ℕ) (p : Placed) → held (slot_at new.slots.items i) ≡ Some p → ((i ≡ place) ⊎ (i ≢ place)) → IsSome (number_in_force (es ++ e ∷ []) (p.class, p.key))
+        by_place i p q (inl r) =
+            let f : Some placed ≡ Some p = sym here ∙ ap (λ j. held (slot_at new.slots.items j)) (sym r) ∙ q in
+            let g : placed ≡ p = cc in
+            some_push es e (p.class, p.key) (inl (target_same e.class e.key (p.class, p.key) (ap (λ (z : Placed). (z.class, z.key)) g)))
+        by_place i p q (inr r) = some_push es e (p.class, p.key) (inr (h.in_slots i p (sym (elsewhere i r) ∙ q)))
+
+-- where no slot is open, the entry is put among the others
+pub passed : (old new : Index) (e : EntryAt) (number : ℕ) (es : List EntryAt) → seat old.slots.items (e.class, e.key) ≡ None → new.slots.items ≡ old.slots.items → Updates target_cmp old.others new.others (e.class, e.key) (Some number) → Indexes old es → length es ≡ number → Indexes new (es ++ e ∷ [])
+passed old new e number es none slots u h n = record {
+  leads = λ t. passed_number t (seat old.slots.items t) refl ∙ ap (cond (hits e t) (Some number)) (h.leads t) ∙ ap (λ m. cond (hits e t) (Some m) (number_in_force es t)) (sym n) ∙ sym (force_push es e t);
+  in_slots = λ i p q. some_push es e (p.class, p.key) (inr (h.in_slots i p (ap (λ z. held (slot_at z i)) (sym slots) ∙ q)));
+  in_others = λ t q. by_test t (hits e t) refl (subst (λ o. IsSome o) (updated t) q);
+}
+  where
+    updated : (t : ℕ × ℕ) → get target_cmp new.others t ≡ cond (hits e t) (Some number) (get target_cmp old.others t)
+    updated t = u.0 t ∙ ap (λ b. cond b (Some number) (get target_cmp old.others t)) (eq_target (e.class, e.key) t)
+
+    passed_number : (t : ℕ × ℕ) (o : Option ℕ) → seat old.slots.items t ≡ o → number_of new t ≡ cond (hits e t) (Some number) (number_of old t)
+    passed_number t None q = ap (number_at new t) (ap (λ z. seat z t) slots ∙ q) ∙ updated t ∙ ap (cond (hits e t) (Some number)) (sym (ap (number_at old t) q))
+    passed_number t (Some place) q = by_hit (hits e t) refl
+      where
+        differ : (o : Option ℕ) → o ≡ None → o ≡ Some place → ⊥
+        differ o f g = cc
+
+        by_hit : (b : Bool) → hits e t ≡ b → number_of new t ≡ cond b (Some number) (number_of old t)
+        by_hit true f = absurd (differ (seat old.slots.items t) (ap (seat old.slots.items) (sym (same_target e.class e.key t f)) ∙ none) q)
+        by_hit false f = ap (number_at new t) (ap (λ z. seat z t) slots ∙ q) ∙ ap (λ z. number_in (slot_at z place)) slots ∙ sym (ap (number_at old t) q)
+
+    by_test : (t : ℕ × ℕ) (b : Bool) → hits e t ≡ b → IsSome (cond b (Some number) (get target_cmp old.others t)) → IsSome (number_in_force (es ++ e ∷ []) t)
+    by_test t true f s = some_push es e t (inl f)
+    by_test t false f s = some_push es e t (inr (h.in_others t s))

@@ -6,3 +6,5 @@ mod IndexLaws
 mod Listings
 mod OneLaws
 mod Rows
+mod Seats
+mod Targets

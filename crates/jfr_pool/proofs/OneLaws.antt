@@ -1,5 +1,5 @@
 -- One chain and one list of entries, and the last entry of a class and key.
-use Rattle.std.specs.Prelude.{◌≡◌, ◌≢◌, ◌⊎◌, ◌↔◌, ℕ, zero, suc, ◌+◌, ◌<◌, ◌≤◌, Bool, true, false, ◌&&◌, ◌==◌, List, [], ◌∷◌, length, slice_get, Option, Some, None, Result, Ok, Err, IsTrue, Contains}
+use Rattle.std.specs.Prelude.{◌≡◌, ◌≢◌, ◌⊎◌, ◌↔◌, ℕ, zero, suc, ◌+◌, ◌<◌, ◌≤◌, Bool, true, false, List, [], ◌∷◌, length, slice_get, Option, Some, None, Result, Ok, Err, IsTrue, Contains}
 use Rattle.std.proofs.Common.{ap, arith, refl, ◌∙◌, inl, inr, subst}
 use Rattle.std.proofs.lemmas.Bool.{cases_lt}
 use Rattle.jfr_base.specs.declared.flaw.Flaw.{Flaw}
@@ -16,6 +16,7 @@ use Rattle.jfr_pool.specs.Laws.{HasOneChain, IsComputedChain, HaveOneList, AreCo
 use Rattle.jfr_pool.proofs.Among.{Among, among_of, CheckpointAt, found_checkpoint, any_found, are_records, one_there}
 use Rattle.jfr_pool.proofs.ChainLaws.{Tells, chain_tells, chain_read, chain_fails}
 use Rattle.jfr_pool.proofs.EntryLaws.{Told, entries_told, entries_read, entries_fail, chain_stands}
+use Rattle.jfr_pool.proofs.Targets.{hits, same_target, target_same}
 
 abbrev flaw_of : ℕ → Reason → Flaw
 flaw_of o why = record { offset = o; reason = why }
@@ -86,28 +87,6 @@ module _ (c : List ℕ) (k : Classes) (ls : List Link) (read : IsReadFrom c ls) 
   }
 
 -- The entry in force.
-abbrev hits : EntryAt → ℕ × ℕ → Bool
-hits e t = (e.class == t.0) && (e.key == t.1)
-
-hits_is : (e : EntryAt) (t : ℕ × ℕ) → hits e t ≡ true → (e.class, e.key) ≡ t
-hits_is e t h = by_parts (e.class == t.0) refl (e.key == t.1) refl h
-  where
-    pair : (a b : ℕ) → a ≡ t.0 → b ≡ t.1 → (a, b) ≡ t
-    pair a b p q = ap (λ z. (z, b)) p ∙ ap (λ z. (t.0, z)) q
-
-    by_parts : (a : Bool) → (e.class == t.0) ≡ a → (b : Bool) → (e.key == t.1) ≡ b → (a && b) ≡ true → (e.class, e.key) ≡ t
-    by_parts true p true q h = pair e.class e.key (grind (arith, p)) (grind (arith, q))
-    by_parts true p false q h = cc
-    by_parts false p b q h = cc
-
-is_hits : (e : EntryAt) (t : ℕ × ℕ) → (e.class, e.key) ≡ t → hits e t ≡ true
-is_hits e t h =
-    let a : e.class ≡ t.0 = ap (λ (z : ℕ × ℕ). z.0) h in
-    let b : e.key ≡ t.1 = ap (λ (z : ℕ × ℕ). z.1) h in
-    let p : (e.class == t.0) ≡ true = grind (arith, a) in
-    let q : (e.key == t.1) ≡ true = grind (arith, b) in
-    rw (p, q) refl
-
 -- the last one of entries that are counted from a number on
 pub record LastFrom (n : ℕ) (es : List EntryAt) (t : ℕ × ℕ) (m : ℕ) : Type 0 where
   pub place : ℕ
@@ -130,14 +109,14 @@ told_last n (x ∷ es) t = by_later (last_from (n + 1) es t) (told_last (n + 1) 
     this_last h (suc l) e i g = h l e g
 
     by_test : (b : Bool) → hits x t ≡ b → NoneHits es t → ToldLast n (x ∷ es) t (or_later n b None)
-    by_test true e h = record { place = 0; counted = omega arith; last = record { entry = x; stands = refl; has = hits_is x t e; last = this_last h } }
+    by_test true e h = record { place = 0; counted = omega arith; last = record { entry = x; stands = refl; has = same_target x.class x.key t e; last = this_last h } }
     by_test false e h = none
       where
         clash : (b : Bool) → b ≡ true → b ≡ false → ⊥
         clash b p q = cc
 
         none : (i : ℕ) (y : EntryAt) → slice_get (x ∷ es) i ≡ Some y → (y.class, y.key) ≢ t
-        none zero y g = λ q. (let f : x ≡ y = cc in clash (hits x t) (is_hits x t (ap (λ (z : EntryAt). (z.class, z.key)) f ∙ q)) e)
+        none zero y g = λ q. (let f : x ≡ y = cc in clash (hits x t) (target_same x.class x.key t (ap (λ (z : EntryAt). (z.class, z.key)) f ∙ q)) e)
         none (suc i) y g = h i y g
 
     by_later : (o : Option ℕ) → ToldLast (n + 1) es t o → ToldLast n (x ∷ es) t (or_later n (hits x t) o)

@@ -1,15 +1,65 @@
 -- The index of the entries, by class and key.
-use Rattle.std.specs.Prelude.{◌≡◌, ℕ, List}
+use Rattle.std.specs.Prelude.{◌≡◌, ℕ, zero, suc, ◌+◌, ◌-◌, ◌*◌, ◌/◌, ◌%◌, ◌^◌, ◌&&◌, ◌==◌, nat_lt, Bool, true, List, length, Option, Some, None, IsSome, bit_xor, slice_index_or, option_map, if◌then◌else◌}
 use Rattle.std.specs.declared.cmp.Ordering.{Ordering}
 use Rattle.std.specs.Ordering.{nat_cmp, ordering_then}
-use Rattle.std.specs.BTreeMap.{BTreeMap, get}
+use Rattle.std.specs.BTreeMap.{get}
 use Rattle.jfr_pool.specs.declared.entry.EntryAt.{EntryAt}
+use Rattle.jfr_pool.specs.declared.index.Index.{Index}
+use Rattle.jfr_pool.specs.declared.index.Slot.{Slot}
+use Rattle.jfr_pool.specs.declared.index.TheConstants.{REACH, CLASS_MIX, MIX}
 use Rattle.jfr_pool.specs.Entries.{number_in_force}
 
 -- By class, and then by key.
 abbrev pub target_cmp : ℕ × ℕ → ℕ × ℕ → Ordering
 target_cmp s t = ordering_then (nat_cmp s.0 t.0) (nat_cmp s.1 t.1)
 
--- For each class and key the index has the number of the entry in force, where there is one.
-pub record Indexes (index : BTreeMap (ℕ × ℕ) ℕ) (es : List EntryAt) : Type 0 where
-  pub leads : (target : ℕ × ℕ) → get target_cmp index target ≡ number_in_force es target
+-- A class and key that stand in a slot, with the number of their entry.
+pub record Placed : Type 0 where
+  pub class : ℕ
+  pub key : ℕ
+  pub number : ℕ
+
+-- What stands in a slot: nothing where it counts no entry.
+abbrev pub held : Slot → Option Placed
+held s = if s.count == 0 then None else Some (record { class = s.class; key = s.key; number = s.count - 1 })
+
+-- The number that stands in a slot.
+abbrev pub number_in : Slot → Option ℕ
+number_in s = option_map (λ (p : Placed). p.number) (held s)
+
+-- A slot is open to a class and key where nothing stands in it, or they do.
+abbrev pub is_open : Option Placed → ℕ × ℕ → Bool
+is_open None t = true
+is_open (Some p) t = (p.class == t.0) && (p.key == t.1)
+
+-- The slot of a place.
+abbrev pub slot_at : List Slot → ℕ → Slot
+slot_at slots place = slice_index_or slots place (record { key = 0; class = 0; count = 0 })
+
+-- The place of the first open slot, of so many from a place on.
+abbrev pub seat_from : ℕ → ℕ → List Slot → ℕ × ℕ → Option ℕ
+seat_from zero place slots t = None
+seat_from (suc n) place slots t = if is_open (held (slot_at slots place)) t then Some place else seat_from n (place + 1) slots t
+
+-- The first place of a class and key: a mixing of the two, scaled to the slots that have their reach behind them.
+unfoldable pub home : List Slot → ℕ × ℕ → ℕ
+home slots t = bit_xor t.1 (t.0 * CLASS_MIX % 2 ^ 64) * MIX % 2 ^ 64 * (length slots - REACH) / 2 ^ 64
+
+-- The place of the first open slot within reach. A class that is too large for a slot has none.
+unfoldable pub seat : List Slot → ℕ × ℕ → Option ℕ
+seat slots t = if nat_lt t.0 (2 ^ 32) then seat_from REACH (home slots t) slots t else None
+
+-- The number that stands in a seat, and without a seat the one among the others.
+abbrev pub number_at : Index → ℕ × ℕ → Option ℕ → Option ℕ
+number_at index t (Some place) = number_in (slot_at index.slots.items place)
+number_at index t None = get target_cmp index.others t
+
+-- The number that the index has for a class and key.
+abbrev pub number_of : Index → ℕ × ℕ → Option ℕ
+number_of index t = number_at index t (seat index.slots.items t)
+
+-- For each class and key the index has the number of the entry in force, where there is one; and only such stand in it.
+pub record Indexes (index : Index) (es : List EntryAt) : Type 0 where
+  pub leads : (t : ℕ × ℕ) → number_of index t ≡ number_in_force es t
+  pub in_slots : (place : ℕ) (p : Placed) → held (slot_at index.slots.items place) ≡ Some p → IsSome (number_in_force es (p.class, p.key))
+  pub in_others : (t : ℕ × ℕ) → IsSome (get target_cmp index.others t) → IsSome (number_in_force es t)

@@ -7,6 +7,7 @@
 mod chain;
 mod checkpoint;
 mod entry;
+mod index;
 pub mod laws;
 mod link;
 mod pools;

@@ -3,23 +3,20 @@ ghost use Rattle.std.specs.Prelude.{◌≡◌, ◌<◌, ◌↔◌, length, slice
 ghost use Rattle.jfr_pool.specs.Chains.{IsReadFrom};
 ghost use Rattle.jfr_pool.specs.Entries.{AreEntries, IsInForce, IsRefusedEntries, entries_of, number_in_force};
 ghost use Rattle.jfr_pool.specs.Faults.{TellsFlaw};
-ghost use Rattle.jfr_pool.specs.Index.{Indexes};
 
 use crate::checkpoint::read_checkpoint;
+use crate::index::Index;
 use crate::{Chain, EntryAt};
 use jfr_base::ReadFault;
 use jfr_layout::Classes;
-use jfr_outside::NoMemory;
 use std::alloc::Global;
-use std::collections::BTreeMap;
 use std::marker::Model;
 
 /// The entries of the chained checkpoints, in the order of the file.
 #[derive(Drop)]
 pub struct Pools {
     entries: Vec<EntryAt>,
-    /// The number of the entry in force, by class and key.
-    index: BTreeMap<(u64, u64), usize>,
+    index: Index,
 }
 
 impl Model for Pools {
@@ -56,7 +53,7 @@ impl Pools {
             let frame = chain.at(number).frame;
             read_checkpoint(chunk, classes, number, frame, &mut entries)?;
         }
-        let index = index_of(alloc, &entries)?;
+        let index = Index::of(alloc, &entries)?;
         Ok(Pools { entries, index })
     }
 
@@ -76,10 +73,11 @@ impl Pools {
 
     /// The number of the entry in force for a class and a key: of those with both, the one that stands
     /// last. `None` exactly where there is none.
+    #[inline(never)]
     pub fn entry(&self, class: u64, key: u64) -> Option<usize>
         ensures { result ≡ number_in_force self.now (class, key) }
     {
-        self.index.get(&(class, key)).copied()
+        self.index.number(class, key)
     }
 
     /// Whether the entry of a number is the one in force for its class and key.
@@ -93,16 +91,4 @@ impl Pools {
             None => false,
         }
     }
-}
-
-/// The numbers of the entries in force, by class and key.
-fn index_of(alloc: Global, entries: &[EntryAt]) -> Result<BTreeMap<(u64, u64), usize>, NoMemory>
-    ensures { IfOk result (λ index. Indexes index entries.now) }
-{
-    let mut index = BTreeMap::new(alloc);
-    for (number, entry) in entries.iter().enumerate() {
-        let target = (entry.class, entry.key);
-        index.insert(target, number)?;
-    }
-    Ok(index)
 }

@@ -1,9 +1,10 @@
 // Chains and entries of small chunks: 68 bytes, and the records.
+use crate::index::Index;
 use crate::{Chain, EntryAt, Pools};
 use jfr_base::{Flaw, ReadFault, Reason};
 use jfr_frame::Frames;
 use jfr_layout::{ClassFault, ClassInfo, ClassList, Classes, FieldInfo, Fields, Shape};
-use jfr_outside::{Text, Words};
+use jfr_outside::{NoMemory, Text, Words};
 use std::alloc::{AllocError, Global};
 use std::test::Fail;
 
@@ -156,5 +157,51 @@ fn faults_are_told(rt: HostRuntime) -> Result<(), Fail> {
         let fault = pools_of(alloc, &classes, &chunk, 68).err();
         assert_eq!(rt; fault, Some(ReadFault::Flawed(Flaw { offset, reason })));
     }
+    Ok(())
+}
+
+fn entry(class: u64, key: u64) -> EntryAt {
+    EntryAt {
+        class,
+        key,
+        key_at: 0,
+        value_at: 0,
+        end: 0,
+        checkpoint: 0,
+        pool: 0,
+    }
+}
+
+// The slot that a key takes where it is the only one of 24 entries.
+fn home_of(alloc: Global, key: u64) -> Result<Option<usize>, NoMemory> {
+    let entries = vec![in alloc; entry(7, key); 24]?;
+    let index = Index::of(alloc, &entries)?;
+    Ok(index.slots.iter().position(|slot| slot.count > 0))
+}
+
+#[test]
+fn keys_of_one_home_are_told_apart(rt: HostRuntime) -> Result<(), Fail> {
+    let alloc = rt.alloc();
+    let home = home_of(alloc, 0)?;
+    let mut entries = Vec::new(alloc);
+    for key in 0..2000 {
+        if entries.len() < 11 && home_of(alloc, key)? == home {
+            entries.push(entry(7, key))?;
+        }
+    }
+    // The class is too large for a slot.
+    entries.push(entry(1 << 32, 0))?;
+    let again = entries.clone()?;
+    entries.extend_from_slice(&again)?;
+    let index = Index::of(alloc, &entries)?;
+    assert_eq!(rt; index.others.len(), 4);
+    for (number, entry) in entries.iter().enumerate() {
+        assert_eq!(rt;
+            index.number(entry.class, entry.key),
+            Some(number % 12 + 12)
+        );
+    }
+    assert_eq!(rt; index.number(8, 0), None);
+    assert_eq!(rt; index.number(1 << 32, 1), None);
     Ok(())
 }

@@ -30,7 +30,7 @@ module _ (p : Parts) where
   next_below : (j : ℕ) → AllBelow (length p.entries) (next_entries p j)
   next_below j i k = let t = in_those (number_in_force p.entries) _ i k in force_within p.entries t.0 i t.2
 
-  roots_below : (kept : List EventAt) → AllBelow (length p.entries) (roots p kept)
+  pub roots_below : (kept : List EventAt) → AllBelow (length p.entries) (roots p kept)
   roots_below kept i k = let t = in_those (number_in_force p.entries) (all_targets p (nodes_of kept)) i k in force_within p.entries t.0 i t.2
 
   reach_force : (kept : List EventAt) {i : ℕ} → Reach (next_entries p) (roots p kept) i → IsInForce p.entries i
@@ -64,11 +64,10 @@ module _ (p : Parts) where
     Going steps f o at s = Walking (length p.entries) (next_entries p) (roots p (kept_by p keep)) (entry_leaves p) (steps + event_leaves p (kept_by p keep)) f o at s
 
     pub going_starts : (steps : ℕ) (f g : List Bool) (o q : List ℕ) (s : ℕ) → f ≡ replicate (length p.entries) false → o ≡ [] → g ≡ marked_at f (roots p (kept_by p keep)) → q ≡ ordered_all f o (roots p (kept_by p keep))
-        → s ≡ steps + event_leaves p (kept_by p keep) → Going steps g q 0 s
-    going_starts steps f g o q s a b x y z =
-        subst (Going steps g q 0) (sym z)
-        (started (length p.entries) (next_entries p) (roots p (kept_by p keep)) (entry_leaves p) (roots_below (kept_by p keep)) next_below (steps + event_leaves p (kept_by p keep)) g q
-        (x ∙ ap (λ v. marked_at v (roots p (kept_by p keep))) a) (y ∙ (ap (λ v. ordered_all v o (roots p (kept_by p keep))) a ∙ ap (λ v. ordered_all (replicate (length p.entries) false) v (roots p (kept_by p keep))) b)))
+        → s ≤ steps + event_leaves p (kept_by p keep) → Going steps g q 0 s
+    going_starts steps f g o q s a b x y few =
+        started (length p.entries) (next_entries p) (roots p (kept_by p keep)) (entry_leaves p) (roots_below (kept_by p keep)) next_below (steps + event_leaves p (kept_by p keep)) s g q
+        (x ∙ ap (λ v. marked_at v (roots p (kept_by p keep))) a) (y ∙ (ap (λ v. ordered_all v o (roots p (kept_by p keep))) a ∙ ap (λ v. ordered_all (replicate (length p.entries) false) v (roots p (kept_by p keep))) b)) few
 
     pub going_on : (steps : ℕ) (f g : List Bool) (o q : List ℕ) (at s t j : ℕ) → at < length o → Going steps f o at s → j ≡ slice_index o at → g ≡ marked_at f (next_entries p j) → q ≡ ordered_all f o (next_entries p j) → t ≡ s + entry_leaves p j
         → Going steps g q (at + 1) t

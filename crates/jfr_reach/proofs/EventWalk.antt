@@ -1,17 +1,20 @@
 -- The loop over the events.
-use Rattle.std.specs.Prelude.{◌≡◌, ℕ, zero, suc, ◌+◌, ◌<◌, ◌≤◌, Bool, true, false, List, [], ◌∷◌, ◌++◌, length, drop, slice_get, Option, Some, None, option_and_then, option_to_list, if◌then◌else◌}
+use Rattle.std.specs.Prelude.{◌≡◌, ℕ, zero, suc, ◌+◌, ◌<◌, ◌≤◌, Bool, true, false, List, [], ◌∷◌, ◌++◌, length, drop, slice_get, Option, Some, None, option_and_then, option_map, option_to_list, if◌then◌else◌}
+use Rattle.std.specs.List.{AllByRecursion, cons_option, filter_map}
 use Rattle.std.proofs.Common.{ap, arith, refl, sym, ◌∙◌, inl, inr, subst}
-use Rattle.std.proofs.lemmas.List.{append_assoc}
-use Rattle.jfr_value.specs.Values.{Value}
-use Rattle.jfr_value.specs.Nodes.{IsNode, targets}
-use Rattle.jfr_layout.specs.Classes.{Classes}
+use Rattle.std.proofs.lemmas.List.{append_assoc, append-nil}
+use Rattle.jfr_value.specs.Leaves.{leaf_target, leaves}
+use Rattle.jfr_value.specs.Nodes.{targets}
+use Rattle.jfr_value.proofs.TargetLaws.{refers_parts}
 use Rattle.jfr_pool.specs.Entries.{number_in_force}
 use Rattle.jfr_chunk.specs.Parts.{Parts, EventAt, AreParts, events_of}
-use Rattle.jfr_chunk.specs.Reach.{add, those, all_targets, nodes_of, roots, marked, kept_by, marked_at}
+use Rattle.jfr_chunk.specs.Reach.{add, those, node_entries, all_targets, nodes_of, roots, marked, kept_by, marked_at}
 use Rattle.jfr_chunk.proofs.Members.{In}
-use Rattle.jfr_chunk.proofs.StandingLaws.{event_is}
+use Rattle.jfr_chunk.proofs.StandingLaws.{event_is, standing}
+use Rattle.jfr_chunk.proofs.SweepLaws.{AllBelow}
 use Rattle.jfr_reach.specs.Worklists.{ordered_all}
-use Rattle.jfr_reach.specs.Walks.{kept_at, event_leaves}
+use Rattle.jfr_reach.specs.Walks.{kept_at, event_leaves, node_leaves}
+use Rattle.jfr_reach.proofs.EntryWalk.{roots_below}
 use Rattle.jfr_reach.proofs.KeyLaws.{marked_append, ordered_append}
 use Rattle.jfr_reach.proofs.WalkLaws.{all_size}
 
@@ -28,11 +31,64 @@ kept_in keep es i e h = by_flag (slice_get keep i) h
     by_flag (Some true) h = get_in es i e h
     by_flag (Some false) h = cc
 
--- a value stands at the node of a kept event
-pub kept_value : (p : Parts) → AreParts p → (k : Classes) (b : List ℕ) (keep : List Bool) (i : ℕ) (e : EventAt) → k ≡ p.classes → b ≡ p.bytes → Some e ≡ kept_at keep (events_of p) i → (v : Value) × IsNode k b e.node v
-kept_value p parts k b keep i e x y h =
-    let v = event_is p parts e (kept_in keep (events_of p) i e h) in
-    (v.value, subst (λ z. IsNode z b e.node v.value) (sym x) (subst (λ z. IsNode p.classes z e.node v.value) (sym y) v.node))
+-- a node refers to at most as many entries as it has leaves
+those_length : {A B : Type 0} (f : A → Option B) (xs : List A) → length (those f xs) ≤ length xs
+those_length f [] = omega arith
+those_length {B = B} f (x ∷ xs) = by_value (f x) (those_length f xs)
+  where
+    by_value : (o : Option B) → length (those f xs) ≤ length xs → length (add o (those f xs)) ≤ suc (length xs)
+    by_value None h = omega arith
+    by_value (Some y) h = omega arith
+
+filter_length : {A B : Type 0} (f : A → Option B) (xs : List A) → length (filter_map f xs) ≤ length xs
+filter_length f [] = omega arith
+filter_length {B = B} f (x ∷ xs) = by_value (f x) (filter_length f xs)
+  where
+    by_value : (o : Option B) → length (filter_map f xs) ≤ length xs → length (cons_option o (filter_map f xs)) ≤ suc (length xs)
+    by_value None h = omega arith
+    by_value (Some y) h = omega arith
+
+entries_few : (p : Parts) → AreParts p → (e : EventAt) → In (events_of p) e → length (node_entries p.entries p.classes p.bytes e.node) ≤ node_leaves p e.node
+entries_few p parts e i =
+    let v = event_is p parts e i in
+    let t = ap length (refers_parts p.classes (standing p parts).sound p.bytes e.node v.value v.node).leaves_too in
+    let a = those_length (number_in_force p.entries) (targets p.classes p.bytes e.node) in
+    let b = filter_length leaf_target (leaves p.classes p.bytes e.node) in
+    omega arith
+
+-- the entries to which the event of a number refers where it is kept
+pub record KeptEntries (p : Parts) (keep : List Bool) (i : ℕ) (numbers : List ℕ) : Type 0 where
+  pub roots_are : numbers ≡ roots p (option_to_list (kept_at keep (events_of p) i))
+  pub below : AllByRecursion (λ n. n < length p.entries) numbers
+  pub few : length numbers ≤ event_leaves p (option_to_list (kept_at keep (events_of p) i))
+
+below_all : (n : ℕ) (xs : List ℕ) → AllBelow n xs → AllByRecursion (λ x. x < n) xs
+below_all n [] h = tt
+below_all n (x ∷ xs) h = (h x (inl refl), below_all n xs (λ i k. h i (inr k)))
+
+pub kept_entries : (p : Parts) → AreParts p → (keep : List Bool) (i : ℕ) (numbers : List ℕ) → Some numbers ≡ option_map (λ (e : EventAt). node_entries p.entries p.classes p.bytes e.node) (kept_at keep (events_of p) i) → KeptEntries p keep i numbers
+kept_entries p parts keep i numbers h = by_event (kept_at keep (events_of p) i) refl h
+  where
+    by_event : (o : Option EventAt) → kept_at keep (events_of p) i ≡ o → Some numbers ≡ option_map (λ (e : EventAt). node_entries p.entries p.classes p.bytes e.node) o → KeptEntries p keep i numbers
+    by_event None q h = cc
+    by_event (Some e) q h =
+        let x : numbers ≡ node_entries p.entries p.classes p.bytes e.node = cc in
+        let r : numbers ≡ roots p (e ∷ []) = x ∙ ap (those (number_in_force p.entries)) (sym (append-nil (targets p.classes p.bytes e.node))) in
+        let a = entries_few p parts e (kept_in keep (events_of p) i e (sym q)) in
+        let l = ap length x in
+        let m = ap (λ o. event_leaves p (option_to_list o)) q in
+        record {
+          roots_are = r ∙ ap (λ o. roots p (option_to_list o)) (sym q);
+          below = below_all (length p.entries) numbers (subst (AllBelow (length p.entries)) (sym r) (roots_below p (e ∷ [])));
+          few = omega arith;
+        }
+
+pub kept_none : (p : Parts) (keep : List Bool) (i : ℕ) → None ≡ option_map (λ (e : EventAt). node_entries p.entries p.classes p.bytes e.node) (kept_at keep (events_of p) i) → kept_at keep (events_of p) i ≡ None
+kept_none p keep i h = by_event (kept_at keep (events_of p) i) h
+  where
+    by_event : (o : Option EventAt) → None ≡ option_map (λ (e : EventAt). node_entries p.entries p.classes p.bytes e.node) o → o ≡ None
+    by_event None h = refl
+    by_event (Some e) h = cc
 
 no_events : (keep : List Bool) → marked {X = EventAt} keep [] ≡ []
 no_events [] = refl
@@ -84,12 +140,12 @@ pub record EventsLeft (p : Parts) (keep flags : List Bool) (order : List ℕ) (s
   pub size : length f ≡ length p.entries
   pub flags_left : marked_at f (roots p (marked (drop i keep) (drop i (events_of p)))) ≡ marked_at flags (roots p (kept_by p keep))
   pub order_left : ordered_all f o (roots p (marked (drop i keep) (drop i (events_of p)))) ≡ ordered_all flags order (roots p (kept_by p keep))
-  pub cost : s + event_leaves p (marked (drop i keep) (drop i (events_of p))) ≡ steps + event_leaves p (kept_by p keep)
+  pub cost : s + event_leaves p (marked (drop i keep) (drop i (events_of p))) ≤ steps + event_leaves p (kept_by p keep)
 
 module _ (p : Parts) (keep flags : List Bool) (order : List ℕ) (steps : ℕ) where
   pub events_next : (f g : List Bool) (o q : List ℕ) (i s t : ℕ) → i < length keep → EventsLeft p keep flags order steps f o i s
       → g ≡ marked_at f (roots p (option_to_list (kept_at keep (events_of p) i))) → q ≡ ordered_all f o (roots p (option_to_list (kept_at keep (events_of p) i)))
-      → t ≡ s + event_leaves p (option_to_list (kept_at keep (events_of p) i)) → EventsLeft p keep flags order steps g q (i + 1) t
+      → t ≤ s + event_leaves p (option_to_list (kept_at keep (events_of p) i)) → EventsLeft p keep flags order steps g q (i + 1) t
   events_next f g o q i s t h w x y z =
       let here : List EventAt = option_to_list (kept_at keep (events_of p) i) in
       let later : List EventAt = marked (drop (suc i) keep) (drop (suc i) (events_of p)) in

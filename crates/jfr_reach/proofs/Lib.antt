@@ -4,7 +4,5 @@ pub mod Counts
 pub mod EntryWalk
 pub mod EventWalk
 pub mod KeyLaws
-pub mod NodeWalk
 pub mod PutLaws
-pub mod StringKeys
 pub mod WalkLaws

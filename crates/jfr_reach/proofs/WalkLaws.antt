@@ -92,7 +92,7 @@ module _ (n : ℕ) (next : ℕ → List ℕ) (roots : List ℕ) (weight : ℕ �
     pub within : at ≤ length o
     pub work : Work next roots (IsMarked f) (In (drop at o)) []
     pub weights : waiting o weight ≡ weigh f weight
-    pub cost : s ≡ steps + waiting (take at o) weight
+    pub cost : s ≤ steps + waiting (take at o) weight
 
   -- a number that is listed
   pub listed_found : (steps : ℕ) (f : List Bool) (o : List ℕ) (at s : ℕ) → at < length o → Walking steps f o at s → Reach next roots (slice_index o at)
@@ -117,8 +117,8 @@ module _ (n : ℕ) (next : ℕ → List ℕ) (roots : List ℕ) (weight : ℕ �
       }
 
   module _ (below : AllBelow n roots) (kept : (j : ℕ) → AllBelow n (next j)) where
-    walking_starts : (steps : ℕ) → Walking steps (marked_at (replicate n false) roots) (ordered_all (replicate n false) [] roots) 0 steps
-    walking_starts steps =
+    walking_starts : (steps s : ℕ) → s ≤ steps → Walking steps (marked_at (replicate n false) roots) (ordered_all (replicate n false) [] roots) 0 s
+    walking_starts steps s few =
         let l : length (replicate n false) ≡ n = length-replicate n false in
         let c : AllBelow (length (replicate n false)) roots = λ i p. (let h : i < n = below i p in omega arith) in
         let z = weigh_none (replicate n false) weight (none_marked n) in
@@ -151,9 +151,9 @@ module _ (n : ℕ) (next : ℕ → List ℕ) (roots : List ℕ) (weight : ℕ �
           cost = omega arith;
         }
 
-    pub started : (steps : ℕ) (g : List Bool) (p : List ℕ) → g ≡ marked_at (replicate n false) roots → p ≡ ordered_all (replicate n false) [] roots → Walking steps g p 0 steps
-    started steps g p h i =
-        subst (λ z. Walking steps z p 0 steps) (sym h) (subst (λ z. Walking steps (marked_at (replicate n false) roots) z 0 steps) (sym i) (walking_starts steps))
+    pub started : (steps s : ℕ) (g : List Bool) (p : List ℕ) → g ≡ marked_at (replicate n false) roots → p ≡ ordered_all (replicate n false) [] roots → s ≤ steps → Walking steps g p 0 s
+    started steps s g p h i few =
+        subst (λ z. Walking steps z p 0 s) (sym h) (subst (λ z. Walking steps (marked_at (replicate n false) roots) z 0 s) (sym i) (walking_starts steps s few))
 
     pub went_on : (steps : ℕ) (f g : List Bool) (o p : List ℕ) (at s t j : ℕ) → at < length o → Walking steps f o at s
         → j ≡ slice_index o at → g ≡ marked_at f (next j) → p ≡ ordered_all f o (next j) → t ≡ s + weight j → Walking steps g p (at + 1) t

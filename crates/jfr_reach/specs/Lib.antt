@@ -1,3 +1,2 @@
 pub mod Worklists
-pub mod Keys
 pub mod Walks

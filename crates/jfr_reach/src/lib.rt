@@ -2,11 +2,9 @@
 //!
 //! `Marks::make` takes all the room that is needed, and `Marks::mark` marks the entries that are
 //! reached. Read `specs/Reach.antt` of `jfr_chunk` first: what is reached by paths, and the same by
-//! computing; then `specs/Keys.antt`, `specs/Worklists.antt` and `specs/Walks.antt`: what a node refers
-//! to, and how a walk goes over the nodes.
+//! computing; then `specs/Worklists.antt` and `specs/Walks.antt`: how a walk goes over the nodes.
 #![tactic(auto)]
 
-mod key;
 mod marks;
 mod node;
 mod roots;

@@ -36,9 +36,9 @@ impl Marks {
         Ok(Marks { list })
     }
 
-    /// Marks the entries that paths of the kept events reach, through cycles too, and no others. Each
-    /// kept event and each reached entry is walked once, at a step for each of its leaves. It takes no
-    /// memory.
+    /// Marks the entries that paths of the kept events reach, through cycles too, and no others. It takes
+    /// a step for each reference of a kept event to an entry, and walks each reached entry once, at a
+    /// step for each of its leaves. It takes no memory.
     pub fn mark<L: Ledger>(&mut self, chunk: &Chunk<'_>, kept: &Kept, steps: &mut Steps<L>)
         requires fresh { self.old ≡ replicate (length chunk.now.entries) false }
         requires kept { length kept.now ≡ length (events_of chunk.now) }

@@ -1,17 +1,35 @@
 // What a node refers to.
 ghost use Rattle.std.specs.Prelude.{◌≡◌, ◌+◌, length};
 ghost use Rattle.jfr_layout.specs.Classes.{Sound};
-ghost use Rattle.jfr_value.specs.Leaves.{leaf_of, leaves};
+ghost use Rattle.jfr_value.specs.Leaves.{leaves};
 ghost use Rattle.jfr_value.specs.Nodes.{IsValue, node_of};
-ghost use Rattle.jfr_reach.specs.Keys.{IsSpelled, leaf_entry, node_entries};
+ghost use Rattle.jfr_chunk.specs.Reach.{node_entries};
 ghost use Rattle.jfr_reach.specs.Walks.{Puts};
 
-use crate::key::key_of;
 use crate::worklist::Worklist;
 use jfr_layout::Classes;
 use jfr_pool::Pools;
-use jfr_value::{Leaf, Leaves, Node, Steps};
+use jfr_value::{Node, Steps, Visit, visit_targets};
 use std::sync::ledger::Ledger;
+
+impl Visit<Pools> for Worklist {
+    ghost use Rattle.std.specs.Prelude.{◌≡◌, [], ◌∷◌, length};
+    ghost use Rattle.jfr_pool.specs.Entries.{number_in_force};
+    ghost use Rattle.jfr_chunk.specs.Reach.{those};
+    ghost use Rattle.jfr_reach.specs.Walks.{Puts};
+
+    ghost ready = { λ list pools. length list.flags.items ≡ length pools };
+
+    ghost takes = { λ pools target old new. Puts (those (number_in_force pools) (target ∷ [])) old new };
+
+    /// Marks the entry in force to which a target refers, where there is one.
+    #[inline]
+    fn visit(&mut self, pools: &Pools, class: u64, key: u64) {
+        if let Some(number) = pools.entry(class, key) {
+            self.put(number);
+        }
+    }
+}
 
 /// Marks the entries in force to which a node refers, at a step for each leaf.
 pub(crate) fn put_node<L: Ledger>(
@@ -27,22 +45,5 @@ pub(crate) fn put_node<L: Ledger>(
     ensures puts { Puts (node_entries pools.now classes.now node.entry.bytes.now (node_of node.entry)) list.old list.new }
     ensures cost { steps.new ≡ steps.old + length (leaves classes.now node.entry.bytes.now (node_of node.entry)) }
 {
-    let mut leaves = Leaves::new(classes, node);
-    'leaves: while let Some(leaf) = leaves.next_leaf(steps) {
-        put_leaf(list, pools, &leaf);
-    }
-}
-
-/// Marks the entry in force to which a leaf refers, where there is one.
-fn put_leaf(list: &mut Worklist, pools: &Pools, leaf: &Leaf<'_>)
-    requires size { length list.old.flags.items ≡ length pools.now }
-    requires spelled { IsSpelled leaf.now.kind leaf.now.spelled.now }
-    ensures puts { Puts (leaf_entry pools.now (leaf_of leaf.now)) list.old list.new }
-{
-    let Some(key) = key_of(leaf) else {
-        return;
-    };
-    if let Some(number) = pools.entry(leaf.class, key) {
-        list.put(number);
-    }
+    visit_targets(classes, node, list, pools, steps);
 }

@@ -58,6 +58,7 @@ pub(crate) fn lay_body<'a>(
 }
 
 // Lays out one that stays.
+#[inline(always)]
 fn lay_stay(body: &mut Body, left: &[EntryAt], metadata: u64, stay: Staying) -> Result<(), NoMemory>
     requires fits { StayFits body.old.output.chunk left.now (stay_as stay) body.old.at body.old.older }
     requires order { NotFalling 0 left.now }
@@ -86,6 +87,7 @@ fn lay_stay(body: &mut Body, left: &[EntryAt], metadata: u64, stay: Staying) -> 
 }
 
 // A place that was seen before, or is seen now.
+#[inline(always)]
 fn seen(before: Option<usize>, now: bool, at: usize) -> Option<usize>
     ensures { result ≡ place_seen before now at }
 {

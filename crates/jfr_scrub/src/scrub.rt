@@ -20,6 +20,7 @@ use jfr_header::Ending;
 use jfr_outside::Place;
 use jfr_plan::{Make, make_stream};
 use std::alloc::Global;
+use std::mem;
 
 /// Makes of each chunk what it becomes under a filter.
 #[derive(Drop)]
@@ -41,7 +42,8 @@ impl<'f> Make for Scrub<'f> {
 
     fn make(&mut self, alloc: Global, chunk: &[u8]) -> Result<(), ReadFault> {
         let chunk = Chunk::read(alloc, chunk)?;
-        let mut scrubber = Scrubber::prepare(alloc, &chunk, self.filter)?;
+        let room = mem::replace(&mut self.out, Vec::new(alloc));
+        let mut scrubber = Scrubber::prepare_in(alloc, room, &chunk, self.filter)?;
         scrubber.write();
         self.out = scrubber.into_bytes();
         Ok(())

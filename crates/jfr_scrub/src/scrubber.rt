@@ -69,9 +69,26 @@ impl<'a> Scrubber<'a> {
         ensures events { IfOk result (λ s. s.events ≡ length (kept_of filter.now chunk.now)) }
         ensures entries { IfOk result (λ s. s.entries ≡ length (remain chunk.now (kept_of filter.now chunk.now))) }
     {
+        Scrubber::prepare_in(alloc, Vec::new(alloc), chunk, filter)
+    }
+
+    /// The same, with room for the output that was used before. What stands in it is given up.
+    pub fn prepare_in(
+        alloc: Global,
+        room: Vec<u8>,
+        chunk: &Chunk<'a>,
+        filter: &Filter,
+    ) -> Result<Scrubber<'a>, NoMemory>
+        ensures joined { IfOk result (λ s. joined s.laid ≡ scrub_of chunk.now (kept_of filter.now chunk.now)) }
+        ensures chunk { IfOk result (λ s. s.laid.chunk ≡ chunk.now.bytes) }
+        ensures empty { IfOk result (λ s. s.written ≡ []) }
+        ensures settled { IfOk result (λ s. IsSettled filter.now chunk.now) }
+        ensures events { IfOk result (λ s. s.events ≡ length (kept_of filter.now chunk.now)) }
+        ensures entries { IfOk result (λ s. s.entries ≡ length (remain chunk.now (kept_of filter.now chunk.now))) }
+    {
         let kept = choose(alloc, chunk, filter)?;
         let marks = marks_of::<Brand>(alloc, Blank::new(1), chunk, &kept)?;
-        lay_out(alloc, chunk, &kept, &marks)
+        lay_out(alloc, room, chunk, &kept, &marks)
     }
 
     /// Writes the pieces. It takes no memory.
@@ -136,6 +153,7 @@ impl<'a> Scrubber<'a> {
 // Lays out what a chunk becomes where these events are kept and these entries are reached.
 fn lay_out<'a>(
     alloc: Global,
+    room: Vec<u8>,
     chunk: &Chunk<'a>,
     kept: &Kept,
     marks: &Marks,
@@ -153,7 +171,8 @@ fn lay_out<'a>(
     let size = body.at;
     let front = front_of(chunk.header(), &body);
     let pieces = body.output.finish(&front)?;
-    let mut out = Vec::new(alloc);
+    let mut out = room;
+    out.clear();
     out.reserve(size)?;
     Ok(Scrubber {
         pieces,

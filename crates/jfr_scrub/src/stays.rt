@@ -26,6 +26,7 @@ pub(crate) struct Cursor {
 }
 
 /// What stays next, if anything does.
+#[inline(always)]
 pub(crate) fn next_stay(chunk: &Chunk, kept: &Kept, cursor: &mut Cursor) -> Option<Staying>
     requires { IsCursor chunk.now kept.now cursor.old }
     ensures cursor { IsCursor chunk.now kept.now cursor.new }
@@ -43,17 +44,19 @@ pub(crate) fn next_stay(chunk: &Chunk, kept: &Kept, cursor: &mut Cursor) -> Opti
 }
 
 // The record of a number.
+#[inline(always)]
 fn record_at(frames: &Frames, number: usize) -> Framed
     requires { number < length frames.now }
     ensures { slice_get frames.now number ≡ Some result }
 {
     match frames.get(number) {
-        Some(record) => *record,
+        Some(record) => record,
         None => unreachable!(),
     }
 }
 
 // What stays of a record, behind which the cursor moves.
+#[inline(always)]
 fn pass_record(chunk: &Chunk, kept: &Kept, cursor: &mut Cursor, frame: Framed) -> Option<Staying>
     requires cursor { IsCursor chunk.now kept.now cursor.old }
     requires there { slice_get chunk.now.records cursor.old.frame ≡ Some frame }
@@ -70,6 +73,7 @@ fn pass_record(chunk: &Chunk, kept: &Kept, cursor: &mut Cursor, frame: Framed) -
 }
 
 // A chained checkpoint stays as one, and another record whole or not at all.
+#[inline(always)]
 fn chosen(
     link: Option<(usize, Link)>,
     is_kept: bool,
@@ -91,15 +95,16 @@ fn chosen(
 }
 
 // Whether a kept event starts at a place. The number moves behind an event that starts there.
+#[inline(always)]
 fn pass_event(chunk: &Chunk, kept: &Kept, number: &mut usize, at: usize) -> bool
     ensures number { number.new ≡ event_behind (events_of chunk.now) number.old at }
     ensures kept { result ≡ is_kept_at (events_of chunk.now) kept.now number.old at }
 {
     let old = *number;
-    let Some(event) = chunk.event(old) else {
+    let Some(place) = chunk.event_place(old) else {
         return false;
     };
-    if event.frame.at != at || old >= chunk.event_count() {
+    if place != at || old >= chunk.event_count() {
         return false;
     }
     *number = old + 1;
@@ -107,6 +112,7 @@ fn pass_event(chunk: &Chunk, kept: &Kept, number: &mut usize, at: usize) -> bool
 }
 
 // The chained checkpoint that starts at a place, with its number, which moves behind it.
+#[inline(always)]
 fn pass_link(chain: &Chain, number: &mut usize, at: usize) -> Option<(usize, Link)>
     ensures number { number.new ≡ link_behind chain.now number.old at }
     ensures link { result ≡ linked_at chain.now number.old at }

@@ -10,6 +10,7 @@ use jfr_base::{Flaw, Reason, read_within};
 /// Reads the string that begins at a place and ends by `end`: a kind byte, and what follows it. The
 /// flaw is `Short` at the kind byte, the integer or the run of bytes that doesn't end by `end`, or
 /// `StringKind` at a kind byte above 5.
+#[inline(always)]
 pub fn read_string<'a>(bytes: &'a [u8], at: usize, end: usize) -> Result<StringSpan<'a>, Flaw>
     requires order { at ≤ end }
     requires within { end ≤ length bytes.now }
@@ -35,6 +36,7 @@ pub fn read_string<'a>(bytes: &'a [u8], at: usize, end: usize) -> Result<StringS
 }
 
 /// Reads what follows the kind byte at a place.
+#[inline(always)]
 fn read_kind<'a>(kind: u8, bytes: &'a [u8], at: usize, end: usize) -> Result<StringSpan<'a>, Flaw>
     requires order { at < end }
     requires within { end ≤ length bytes.now }
@@ -66,6 +68,7 @@ fn read_kind<'a>(kind: u8, bytes: &'a [u8], at: usize, end: usize) -> Result<Str
 }
 
 /// The string that is its kind byte alone.
+#[inline(always)]
 fn bare<'a>(kind: StringKind, at: usize) -> StringSpan<'a>
     requires { at + 1 < 2 ^ 64 }
     ensures place { (result.kind ≡ kind) × (result.at ≡ at) × (result.end ≡ at + 1) }
@@ -91,6 +94,7 @@ struct Counted<'a> {
 
 impl<'a> Counted<'a> {
     /// The string whose kind byte stands before the count.
+    #[inline(always)]
     fn spanned(self, kind: StringKind, at: usize) -> StringSpan<'a>
         ensures place { (result.kind ≡ kind) × (result.at ≡ at) × (result.end ≡ self.entry.end) }
         ensures counted { (result.payload.now ≡ self.entry.payload.now) × (result.count ≡ self.entry.count) × (result.key ≡ 0) }
@@ -107,6 +111,7 @@ impl<'a> Counted<'a> {
 }
 
 /// Reads a length, and so many bytes.
+#[inline(always)]
 fn read_bytes<'a>(bytes: &'a [u8], at: usize, end: usize) -> Result<Counted<'a>, Flaw>
     requires order { at ≤ end }
     requires within { end ≤ length bytes.now }
@@ -131,6 +136,7 @@ fn read_bytes<'a>(bytes: &'a [u8], at: usize, end: usize) -> Result<Counted<'a>,
 }
 
 /// Reads a count, and so many integers.
+#[inline(always)]
 fn read_integers<'a>(bytes: &'a [u8], at: usize, end: usize) -> Result<Counted<'a>, Flaw>
     requires order { at ≤ end }
     requires within { end ≤ length bytes.now }

@@ -14,7 +14,11 @@ pub mod PlaceLaws
 pub mod RowLaws
 mod Rows
 pub mod StackLaws
+pub mod SkipLaws
+pub mod SlotLaws
 pub mod StringLaws
+pub mod TakingLaws
 pub mod TargetLaws
 pub mod TreeLaws
+pub mod VisitLaws
 pub mod WalkLaws

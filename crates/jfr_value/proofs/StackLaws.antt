@@ -10,7 +10,6 @@ use Rattle.jfr_layout.specs.declared.shape.Shape.{Shape}
 use Rattle.jfr_value.specs.declared.stack.Frame.{Frame}
 use Rattle.jfr_value.specs.declared.stack.Frame.TheVariants.{Fields, Items}
 use Rattle.jfr_value.specs.Walks.{Room, IsFrame, AreFrames, frame_shapes, shapes_left}
-use Rattle.jfr_value.proofs.PlaceLaws.{get_within}
 use Rattle.jfr_value.proofs.DepthLaws.{any_none, steps_to}
 
 -- what a pushed frame has comes first
@@ -125,26 +124,6 @@ pub pushed_item : (k : Classes) (fs new : List Frame) (s : Shape) (place left le
 pushed_item k fs new s place left levels l n =
     ap (λ z. z ++ shapes_left k fs) (next_item k s place left (left - 1) levels (omega arith))
     ∙ ap (λ z. s ∷ z) (sym (ap (shapes_left k) n ∙ shapes_push k fs (Items s place (left - 1) levels)))
-
--- the field that a number below their count names
-pub field_given : (k : Classes) (place number count : ℕ) → place < length k → IfSome (slice_get k place) (λ c. count ≡ length c.fields) → number < count → (f : Field) × (field_at k place number ≡ Some f)
-field_given k place number count l h b =
-    let c = get_within k place l in
-    let n : count ≡ length c.0.fields = subst (λ o. IfSome o (λ c. count ≡ length c.fields)) c.1 h in
-    let f = get_within c.0.fields number (omega arith) in
-    (f.0, ap (λ o. option_and_then (λ c. slice_get c.fields number) o) c.1 ∙ f.1)
-
-pub of_field : (P : Field → Type 0) (k : Classes) (place number : ℕ) (f : Field) → field_at k place number ≡ Some f → IfSome (field_at k place number) P → P f
-of_field P k place number f e h = subst (λ o. IfSome o P) e h
-
-pub some_field : (k : Classes) (place number : ℕ) (f : Field) → field_at k place number ≡ Some f → IsSome (field_at k place number)
-some_field k place number f e = subst (λ o. IsSome o) (sym e) refl
-
-pub few_fields : (k : Classes) (place number count : ℕ) → place < length k → IfSome (slice_get k place) (λ c. count ≡ length c.fields) → count ≤ number → IfSome (slice_get k place) (λ c. length c.fields ≤ number)
-few_fields k place number count l h b =
-    let c = get_within k place l in
-    let n : count ≡ length c.0.fields = subst (λ o. IfSome o (λ c. count ≡ length c.fields)) c.1 h in
-    subst (λ o. IfSome o (λ c. length c.fields ≤ number)) (sym c.1) (omega arith)
 
 -- what a stack has before a frame is taken from it
 pub record Popped (k : Classes) (fs gs : List Frame) (f : Frame) : Type 0 where

@@ -4,4 +4,5 @@ pub mod Nodes
 pub mod Leaves
 pub mod Stacks
 pub mod Walks
+pub mod Visits
 pub mod Laws

@@ -3,10 +3,11 @@ use Rattle.std.specs.Prelude.{◌≡◌, ℕ, true, false, List, [], ◌∷◌, 
 use Rattle.std.specs.Option.{option_map}
 use Rattle.jfr_base.specs.Integer.{Spells}
 use Rattle.jfr_text.specs.Strings.{Content, Null, Empty, Key, Utf8, Units, Latin, IsString}
-use Rattle.jfr_layout.specs.Classes.{Class, Classes, class_place, find_class, kind_of, item_of}
+use Rattle.jfr_layout.specs.Classes.{Class, Classes, IsSlot, find_class, kind_of, item_of}
 use Rattle.jfr_layout.specs.declared.kind.Kind.{Kind}
 use Rattle.jfr_layout.specs.declared.kind.Kind.TheVariants as kinds
 use Rattle.jfr_layout.specs.declared.shape.Shape.{Shape}
+use Rattle.jfr_layout.specs.declared.slot.Slot.{Slot}
 use Rattle.jfr_value.specs.declared.leaf.LeafKind.{LeafKind}
 use Rattle.jfr_value.specs.declared.leaf.LeafKind.TheVariants as leaf_kinds
 
@@ -126,6 +127,6 @@ IsHollow c = (kind_of c.name ≡ kinds.Composite) × (c.fields ≡ [])
 abbrev pub IsHollowArray : Shape → Class → Type 0
 IsHollowArray s c = (s.array ≡ true) × (s.constant ≡ false) × IsHollow c
 
--- where the class stands in the list; of a constant it doesn't matter
-abbrev pub IsPlaced : Classes → Shape → ℕ → Type 0
-IsPlaced k s place = s.constant ≡ false → class_place k s.class ≡ Some place
+-- the slot is that of its class; of a constant it doesn't matter
+abbrev pub IsPlaced : Classes → Slot → Type 0
+IsPlaced k s = s.shape.constant ≡ false → IsSlot k s

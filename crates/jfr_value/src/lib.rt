@@ -1,9 +1,10 @@
-//! The values of classes: where they end, their parts, and their leaves.
+//! The values of classes: where they end, their parts, their leaves, and what they refer to.
 //!
-//! `end_of` says where a value ends that begins at a place, `child` leads to a field or an item of a
-//! node, and `Leaves` hands out a node's leaves from left to right. Read `specs/Values.antt` first, then
-//! `specs/Reading.antt`, `specs/Nodes.antt` and `specs/Leaves.antt`; what holds of every value is in
-//! `specs/Laws.antt`.
+//! `end_of` says where a value ends that begins at a place, and `end_visiting` hands out on the way
+//! what the value refers to. `child` leads to a field or an item of a node, `Leaves` hands out a node's
+//! leaves from left to right, and `visit_targets` what a node refers to. Read `specs/Values.antt`
+//! first, then `specs/Reading.antt`, `specs/Nodes.antt`, `specs/Leaves.antt` and `specs/Visits.antt`;
+//! what holds of every value is in `specs/Laws.antt`.
 #![tactic(auto)]
 
 mod extent;
@@ -14,15 +15,17 @@ mod node;
 mod part;
 mod stack;
 mod steps;
+mod visit;
 mod walk;
 
-pub use extent::end_of;
+pub use extent::{end_of, end_visiting};
 pub use laws::{leaves_within_bytes, one_answer, refers_by_parts, same_bytes, values_are_read};
 pub use leaf::{Leaf, LeafKind};
 pub use leaves::Leaves;
 pub use node::{Node, Step};
 pub use part::child;
 pub use steps::Steps;
+pub use visit::{Visit, visit_targets};
 
 #[cfg(test)]
 mod tests;

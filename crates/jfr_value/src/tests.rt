@@ -12,6 +12,8 @@ use std::marker::Brand;
 use std::sync::ledger::{Blank, Ledger};
 use std::test::Fail;
 
+mod visit;
+
 fn inline(class: u64) -> Shape {
     Shape {
         class,

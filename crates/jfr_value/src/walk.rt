@@ -100,17 +100,17 @@ fn next_field<'a>(
     ensures frames { AreFrames classes.now 0 walk.new.stack }
     ensures left { (vs : Values) → IsRow classes.now bytes.now walk.old.at end (frame_shapes classes.now (Fields place number levels) ++ shapes_left classes.now walk.old.stack) vs → GoesOn classes.now bytes.now end walk.old.at vs (size_of_all vs + (length walk.old.stack + 1)) walk.new result }
 {
-    if number >= classes.field_count(place) {
+    let slots = classes.slots(place);
+    if number >= slots.len() {
         return Progress::Onward;
     }
+    let slot = slots[number];
     walk.stack.push(Frame::Fields {
         place,
         number: number + 1,
         levels,
     });
-    let shape = classes.field_shape(place, number);
-    let class = classes.field_place(place, number);
-    enter(walk, classes, bytes, end, shape, class, levels)
+    enter(walk, classes, bytes, end, slot.shape, slot.place, levels)
 }
 
 /// Enters the next item of a frame that was taken from the stack, where one is left.

@@ -1,11 +1,15 @@
-use Rattle.std.proofs.Common.{◌≡◌, ◌+◌, ◌<◌, ap, arith, length, sym, ◌∙◌}
-use Rattle.std.specs.Prelude.{Some, option_map, slice_get, take}
+use Rattle.std.proofs.Common.{◌≡◌, ◌+◌, ◌<◌, ap, arith, length, subst, sym, true, ◌∙◌}
+use Rattle.std.specs.List.{AllZip, list_all}
+use Rattle.std.specs.Prelude.{IfOk, Some, option_map, slice_get, take}
 use Rattle.std.proofs.lemmas.List.{length-set}
 use Rattle.std.proofs.lemmas.Option.{slice_get-map}
 use Rattle.jfr_chunk.specs.Parts.{events_of}
 use Rattle.jfr_chunk.specs.Seen.{event_at}
 use Rattle.jfr_chunk.specs.Chosen.{chosen, is_chosen}
+use Rattle.jfr_layout.specs.Classes.{Classes}
 use Rattle.jfr_path.specs.Threads.{Asked}
+use Rattle.jfr_path.specs.Verdicts.{IsVerdict, is_kept}
+use Rattle.jfr_path.proofs.ChosenLaws.{all_chosen}
 use Rattle.jfr_path.proofs.ListLaws.{set_next}
 use Rattle.jfr_path.proofs.chosen.choose.Goals as goal
 
@@ -22,3 +26,10 @@ loop-number-preserved c =
       room = ap length c.set.ensures ∙ (length-set c.loop-number.kept c.loop-number.number c.in_ok-keep.keep ∙ c.loop-number.invariant.room);
       so_far = ap (take (c.loop-number.number + 1)) c.set.ensures ∙ set_next c.loop-number.kept (chosen c.args.filter.now c.args.chunk.now) c.loop-number.number c.in_ok-keep.keep l s c.loop-number.invariant.so_far;
     }
+
+pub returns-then-are_all_kept : goal.returns-then-are_all_kept
+returns-then-are_all_kept c =
+    let z = subst (λ (k : Classes). AllZip (IsVerdict c.args.filter.now) k c.in_ok-verdicts.verdicts.items) c.classes.ensures c.in_ok-verdicts.ensures.ok in
+    let k : list_all is_kept c.in_ok-verdicts.verdicts.items ≡ true = ap (list_all is_kept) (sym c.deref.ensures.value) ∙ (sym c.are_all_kept.ensures ∙ c.if-are_all_kept.true) in
+    let e = all_chosen c.args.filter.now c.args.chunk.now c.keep_all.ensures.parts c.in_ok-verdicts.verdicts.items z k in
+    record { ok = subst (λ bs. IfOk c.keep_all.result (λ kept. kept ≡ bs)) (sym e) c.keep_all.ensures.ok }

@@ -1,13 +1,28 @@
-use Rattle.jfr_chunk.specs.Seen.{event_at}
-use Rattle.jfr_chunk.proofs.StandingLaws.{standing}
-use Rattle.std.proofs.Common.{subst, sym}
-use Rattle.jfr_layout.specs.Classes.{Sound}
-use Rattle.jfr_reach.proofs.EventWalk.{kept_value}
+use Rattle.std.proofs.Common.{◌<◌, arith, length, refl, sym, subst}
+use Rattle.std.specs.Prelude.{All, option_to_list}
+use Rattle.std.proofs.lemmas.List.Elements.{All-from_recursion}
+use Rattle.jfr_chunk.specs.Reach.{roots}
+use Rattle.jfr_reach.specs.Walks.{Puts}
+use Rattle.jfr_reach.proofs.EventWalk.{kept_entries, kept_none}
 use Rattle.jfr_reach.proofs.roots.put_event.Goals as goal
 
-pub put_node-requires-clause-sound : goal.put_node-requires-clause-sound
-put_node-requires-clause-sound g c = subst Sound (sym c.classes.ensures) (standing c.args.chunk.now c.requires.parts).sound
+pub put_each-requires : goal.put_each-requires
+put_each-requires g c =
+    let k = kept_entries c.args.chunk.now c.requires.parts c.args.kept.now c.args.number c.in-Some.entries.now c.in-Some.ensures in
+    let a = All-from_recursion (λ n. n < length c.args.chunk.now.entries) c.in-Some.entries.now k.below in
+    subst (λ z. All (λ n. n < z) c.in-Some.entries.now) (sym c.requires.size) a
 
-pub put_node-requires-clause-value : goal.put_node-requires-clause-value
-put_node-requires-clause-value g c =
-    kept_value c.args.chunk.now c.requires.parts c.classes.result.now c.in-Some.event.node.bytes.now c.args.kept.now c.args.number (event_at c.in-Some.event) c.classes.ensures c.in-Some.ensures.of_chunk.bytes c.in-Some.ensures.exact
+pub returns-in-Some-clause-puts : goal.returns-in-Some-clause-puts
+returns-in-Some-clause-puts g c =
+    let k = kept_entries c.args.chunk.now c.requires.parts c.args.kept.now c.args.number c.in-Some.entries.now c.in-Some.ensures in
+    subst (λ z. Puts z c.args.list.now c.put_each.new.list) k.roots_are c.put_each.ensures.puts
+
+pub returns-in-Some-clause-cost : goal.returns-in-Some-clause-cost
+returns-in-Some-clause-cost g c =
+    let k = kept_entries c.args.chunk.now c.requires.parts c.args.kept.now c.args.number c.in-Some.entries.now c.in-Some.ensures in
+    omega (arith, k.few, c.put_each.ensures.cost)
+
+pub returns-in_default-clause-puts : goal.returns-in_default-clause-puts
+returns-in_default-clause-puts g c =
+    let n = kept_none c.args.chunk.now c.args.kept.now c.args.number c.in_default.ensures in
+    subst (λ o. Puts (roots c.args.chunk.now (option_to_list o)) c.args.list.now c.args.list.now) (sym n) (record { marks = refl; order = refl })

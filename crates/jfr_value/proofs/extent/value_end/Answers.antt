@@ -1,25 +1,34 @@
-use Rattle.std.proofs.Common.{ap, ◌∙◌}
-use Rattle.std.specs.Prelude.{Err}
-use Rattle.std.proofs.lemmas.Result.{err_from_is_err_and}
+use Rattle.std.proofs.Common.{◌∙◌, ap, subst}
+use Rattle.jfr_base.specs.Formats.{run, seen}
 use Rattle.jfr_value.specs.Reading.{value_format}
-use Rattle.jfr_value.proofs.EndLaws.{hollow_ends, hollow_short}
+use Rattle.jfr_value.proofs.EndLaws.{hollow_count}
+use Rattle.jfr_value.proofs.SlotLaws.{slot_within}
+use Rattle.jfr_value.proofs.TakingLaws.{hollow_taken}
+use Rattle.jfr_value.specs.Visits.{TakesRead}
 use Rattle.jfr_value.proofs.extent.value_end.Goals as goal
 
-pub returns-in_err-count : goal.returns-in_err-count
-returns-in_err-count c = record {
-  exact =
-      let p = err_from_is_err_and c.from_residual.result c.from_residual.ensures.1 in
-      rw (p.1, p.2) (ap (λ e. Err e) c.in_err-count.ensures.exact.1
-      ∙ hollow_short c.args.classes.now c.args.shape c.place_of-place.result c.is_hollow_array.result c.args.bytes.now c.args.end c.args.at c.place_of-place.ensures.exact c.is_hollow_array.ensures c.if-is_hollow_array.true c.in_err-count.ensures.exact.0);
-  sound = c.place_of-place.ensures.sound;
-}
+pub is_hollow_array-requires : goal.is_hollow_array-requires
+is_hollow_array-requires g c = slot_within c.args.classes.now c.slot_of-slot.result (c.slot_of-slot.ensures.known c.requires.known)
 
 pub returns-then-is_hollow_array : goal.returns-then-is_hollow_array
-returns-then-is_hollow_array c = record {
-  exact = hollow_ends c.args.classes.now c.args.shape c.place_of-place.result c.is_hollow_array.result c.in_ok-count.count c.args.bytes.now c.args.end c.args.at c.place_of-place.ensures.exact c.is_hollow_array.ensures c.if-is_hollow_array.true c.in_ok-count.ensures.exact;
-  sound = c.place_of-place.ensures.sound;
+returns-then-is_hollow_array g c = record {
+  exact = c.integer_end.ensures.exact
+      ∙ (hollow_count c.args.classes.now c.slot_of-slot.result c.is_hollow_array.result c.args.bytes.now c.args.end c.args.at (c.slot_of-slot.ensures.known c.requires.known) c.is_hollow_array.ensures c.if-is_hollow_array.true
+      ∙ ap (λ s. seen (run (value_format c.args.classes.now s) c.args.bytes.now c.args.end c.args.at)) c.slot_of-slot.ensures.shape);
+  sound = c.slot_of-slot.ensures.sound;
+  visited = subst (λ s. TakesRead (g.V.Visit.takes c.args.with.now) (run (value_format c.args.classes.now s) c.args.bytes.now c.args.end c.args.at) c.args.visitor.now c.args.visitor.now) c.slot_of-slot.ensures.shape
+      (hollow_taken (g.V.Visit.takes c.args.with.now) c.args.classes.now c.args.bytes.now c.args.end c.args.at c.args.visitor.now c.slot_of-slot.result c.is_hollow_array.result (c.slot_of-slot.ensures.known c.requires.known) c.is_hollow_array.ensures c.if-is_hollow_array.true);
+  ready = c.requires.ready;
 }
+
+pub shape_end-requires-clause-placed : goal.shape_end-requires-clause-placed
+shape_end-requires-clause-placed g c = λ o. c.slot_of-slot.ensures.known c.requires.known
 
 pub returns : goal.returns
 unfolding value_format
-returns c = record { exact = c.shape_end.ensures.exact; sound = c.place_of-place.ensures.sound }
+returns g c = record {
+  exact = c.shape_end.ensures.exact ∙ ap (λ s. seen (run (value_format c.args.classes.now s) c.args.bytes.now c.args.end c.args.at)) c.slot_of-slot.ensures.shape;
+  sound = c.slot_of-slot.ensures.sound;
+  visited = subst (λ s. TakesRead (g.V.Visit.takes c.args.with.now) (run (value_format c.args.classes.now s) c.args.bytes.now c.args.end c.args.at) c.args.visitor.now c.shape_end.new.visitor) c.slot_of-slot.ensures.shape c.shape_end.ensures.visited;
+  ready = c.shape_end.ensures.ready;
+}

@@ -7,11 +7,11 @@ pub unreachable-requires : goal.unreachable-requires
 unfolding value_format
 unreachable-requires c =
     let s = c.requires.stands in
-    let r = end_seen c.args.classes.now c.args.bytes.now c.args.shape c.args.at c.args.end s.0 c.requires.sound s.1 s.2 c.requires.within in
+    let r = end_seen c.args.classes.now c.args.bytes.now c.args.slot.now.shape c.args.at c.args.end s.0 c.requires.sound s.1 s.2 c.requires.within in
     cc (sym c.in-Err.is ∙ (c.shape_end.ensures.exact ∙ r))
 
 pub returns : goal.returns
 unfolding value_format
 returns c = λ to e l.
-    (let r = end_seen c.args.classes.now c.args.bytes.now c.args.shape c.args.at c.args.end to c.requires.sound e l c.requires.within in
+    (let r = end_seen c.args.classes.now c.args.bytes.now c.args.slot.now.shape c.args.at c.args.end to c.requires.sound e l c.requires.within in
     cc (sym c.in-Ok.is ∙ (c.shape_end.ensures.exact ∙ r)))

@@ -1,0 +1,130 @@
+-- Numbers that are noted one after another, and those of one event among them.
+use Rattle.std.specs.Prelude.{◌≡◌, ℕ, zero, suc, ◌+◌, ◌-◌, ◌<◌, ◌≤◌, ◌⊎◌, List, [], ◌∷◌, ◌++◌, length, take, drop, slice_get, slice_range, Option, Some, None, option_map, Result, Ok, Err, IfOk, MatchOption}
+use Rattle.std.specs.Option.{option_map_or}
+use Rattle.std.proofs.Common.{ap, arith, refl, sym, ◌∙◌, subst, append_assoc, inl, inr, Bor}
+use Rattle.std.proofs.Math.Seq.{drop-append_seam, take-append_seam}
+use Rattle.std.proofs.lemmas.List.{append-nil, length-append}
+use Rattle.jfr_base.specs.declared.flaw.Flaw.{Flaw}
+use Rattle.jfr_frame.specs.declared.framed.Framed.{Framed}
+use Rattle.jfr_layout.specs.Classes.{Classes}
+use Rattle.jfr_value.specs.Nodes.{node_at}
+use Rattle.jfr_value.specs.Visits.{TakesAll}
+use Rattle.jfr_pool.specs.declared.entry.EntryAt.{EntryAt}
+use Rattle.jfr_pool.specs.Entries.{inline, number_in_force}
+use Rattle.jfr_chunk.specs.declared.chunk.FieldsAt.{FieldsAt}
+use Rattle.jfr_chunk.specs.declared.notes.Notes.{Notes}
+use Rattle.jfr_chunk.specs.Notes.{Noted}
+use Rattle.jfr_chunk.specs.Parts.{EventAt}
+use Rattle.jfr_chunk.specs.Reach.{add, node_entries, those}
+use Rattle.jfr_chunk.specs.Seen.{AreNoted, due, event_with}
+
+noted_none : (a : Notes) → Noted [] a a
+noted_none a = record { lacked_none = λ h. h; appended = λ h. sym (append-nil a.numbers.items) }
+
+noted_then : (xs ys : List ℕ) (a b c : Notes) → Noted xs a b → Noted ys b c → Noted (xs ++ ys) a c
+noted_then xs ys a b c p q = record {
+  lacked_none = λ h. p.lacked_none (q.lacked_none h);
+  appended = λ h. q.appended h ∙ (ap (λ z. z ++ ys) (p.appended (q.lacked_none h)) ∙ append_assoc a.numbers.items xs ys);
+}
+
+-- targets that are taken note the numbers of their entries
+pub takes_noted : (es : List EntryAt) (ts : List (ℕ × ℕ)) (old new : Notes) → TakesAll (λ t a b. Noted (those (number_in_force es) (t ∷ [])) a b) ts old new → Noted (those (number_in_force es) ts) old new
+takes_noted es [] old new e = subst (λ z. Noted [] old z) e (noted_none old)
+takes_noted es (t ∷ ts) old new h = by_number (number_in_force es t) (those (number_in_force es) ts) h.1 (takes_noted es ts h.0 new h.2)
+  where
+    by_number : (o : Option ℕ) (is : List ℕ) → Noted (add o []) old h.0 → Noted is h.0 new → Noted (add o is) old new
+    by_number None is p q = noted_then [] is old h.0 new p q
+    by_number (Some i) is p q = noted_then (i ∷ []) is old h.0 new p q
+
+module _ (due : FieldsAt → List ℕ) where
+  -- one event more
+  pub noted_more : (from : ℕ) (fs : List FieldsAt) (numbers : List ℕ) (f : FieldsAt) → AreNoted due from fs numbers → f.noted ≡ from + length (numbers ++ due f) → AreNoted due from (fs ++ f ∷ []) (numbers ++ due f)
+  noted_more from [] numbers f a e = ([], ap (λ z. z ++ due f) a ∙ sym (append-nil (due f)), e ∙ ap (λ z. from + length (z ++ due f)) a, refl)
+  noted_more from (g ∷ fs) numbers f a e =
+      let rest : List ℕ = a.0 in
+      let p : numbers ++ due f ≡ due g ++ (rest ++ due f) = ap (λ z. z ++ due f) a.1 ∙ append_assoc (due g) rest (due f) in
+      let l : length (numbers ++ due f) ≡ length (due g) + length (rest ++ due f) = ap length p ∙ length-append (due g) (rest ++ due f) in
+      let h : g.noted ≡ from + length (due g) = a.2 in
+      (rest ++ due f, p, a.2, noted_more g.noted fs rest f a.3 (omega arith))
+
+  -- those of one event, behind those of the ones before
+  record NotedAt (from : ℕ) (numbers : List ℕ) (f : FieldsAt) (start : ℕ) : Type 0 where
+    before : List ℕ
+    after : List ℕ
+    parts : numbers ≡ before ++ (due f ++ after)
+    starts : start ≡ from + length before
+    ends : f.noted ≡ from + length before + length (due f)
+
+  noted_at : (from : ℕ) (fs : List FieldsAt) (numbers : List ℕ) (n : ℕ) (f : FieldsAt) (start : ℕ) → AreNoted due from fs numbers → slice_get fs n ≡ Some f
+      → (n ≡ 0 → start ≡ from) → ((before : ℕ) → n ≡ before + 1 → Some start ≡ option_map (λ (f : FieldsAt). f.noted) (slice_get fs before)) → NotedAt from numbers f start
+  noted_at from [] numbers n f start a e first later = cc
+  noted_at from (g ∷ fs) numbers zero f start a e first later =
+      let h : g ≡ f = cc in
+      let s : start ≡ from = first refl in
+      let l : g.noted ≡ from + length (due g) = a.2 in
+      let x : NotedAt from numbers g start = record { before = []; after = a.0; parts = a.1; starts = omega arith; ends = omega arith } in
+      subst (λ (z : FieldsAt). NotedAt from numbers z start) h x
+  noted_at from (g ∷ fs) numbers (suc n) f start a e first later =
+      let i = noted_at g.noted fs a.0 n f start a.3 e (λ z. (let q : Some start ≡ Some g.noted = later 0 (omega arith) in cc)) (λ before z. later (suc before) (omega arith)) in
+      let l : g.noted ≡ from + length (due g) = a.2 in
+      let k = length-append (due g) i.before in
+      let s = i.starts in
+      let t = i.ends in
+      record {
+        before = due g ++ i.before;
+        after = i.after;
+        parts = a.1 ∙ (ap (λ z. due g ++ z) i.parts ∙ sym (append_assoc (due g) i.before (due f ++ i.after)));
+        starts = omega arith;
+        ends = omega arith;
+      }
+
+  -- they stand between its count and the one of the event before
+  pub record NotedRange (numbers : List ℕ) (f : FieldsAt) (start : ℕ) : Type 0 where
+    pub order : start ≤ f.noted
+    pub within : f.noted ≤ length numbers
+    pub range : slice_range numbers start f.noted ≡ due f
+
+  pub noted_range : (fs : List FieldsAt) (numbers : List ℕ) (n : ℕ) (f : FieldsAt) (start : ℕ) → AreNoted due 0 fs numbers → slice_get fs n ≡ Some f
+      → (n ≡ 0 → start ≡ 0) → ((before : ℕ) → n ≡ before + 1 → Some start ≡ option_map (λ (f : FieldsAt). f.noted) (slice_get fs before)) → NotedRange numbers f start
+  noted_range fs numbers n f start a e first later =
+      let i = noted_at 0 fs numbers n f start a e first later in
+      let k = length-append i.before (due f ++ i.after) in
+      let l = length-append (due f) i.after in
+      let m = ap length i.parts in
+      let s = i.starts in
+      let t = i.ends in
+      let p : start ≡ length i.before = omega arith in
+      let q : f.noted ≡ length i.before + length (due f) = omega arith in
+      record {
+        order = omega arith;
+        within = omega arith;
+        range = ap (λ z. slice_range z start f.noted) i.parts ∙ (ap (λ z. slice_range (i.before ++ (due f ++ i.after)) z f.noted) p ∙ (ap (λ z. slice_range (i.before ++ (due f ++ i.after)) (length i.before) z) q ∙ range_within i.before (due f) i.after));
+      }
+    where
+      range_within : (xs ys zs : List ℕ) → slice_range (xs ++ (ys ++ zs)) (length xs) (length xs + length ys) ≡ ys
+      range_within xs ys zs =
+          let n : length xs + length ys - length xs ≡ length ys = omega arith in
+          ap (λ m. take m (drop (length xs) (xs ++ (ys ++ zs)))) n ∙ (ap (take (length ys)) (drop-append_seam xs (ys ++ zs)) ∙ take-append_seam ys zs)
+
+-- a range that is within a slice is got
+pub range_got : (o : Option (Bor (List ℕ))) (xs : List ℕ) (a b : ℕ) → MatchOption o ((b < a) ⊎ (length xs < b)) (λ x. (a ≤ b) × (b ≤ length xs) × (x.now ≡ slice_range xs a b) × (length x.now + a ≡ b))
+    → a ≤ b → b ≤ length xs → option_map (λ s. s.now) o ≡ Some (slice_range xs a b)
+range_got None xs a b (inl h) order within = absurd (omega arith)
+range_got None xs a b (inr h) order within = absurd (omega arith)
+range_got (Some x) xs a b h order within = ap (λ z. Some z) h.2
+
+-- the numbers that are noted of a value
+pub all_noted : (es : List EntryAt) (ts : ℕ → List (ℕ × ℕ)) (old new : Notes) (r : Result ℕ Flaw) → IfOk r (λ to. TakesAll (λ t a b. Noted (those (number_in_force es) (t ∷ [])) a b) (ts to) old new) → IfOk r (λ to. Noted (those (number_in_force es) (ts to)) old new)
+all_noted es ts old new (Ok to) h = takes_noted es (ts to) old new h
+all_noted es ts old new (Err flaw) h = h
+
+-- the fields of an event are read, and what they refer to is noted
+pub event_noted : (es : List EntryAt) (k : Classes) (c : List ℕ) (rs : List Framed) (n end noted : ℕ) (r : Framed) (fields : List FieldsAt) (numbers more : List ℕ) → slice_get rs n ≡ Some r
+    → more ≡ numbers ++ node_entries es k c (node_at (inline r.type_id) r.body end) → noted ≡ length more → AreNoted (due es k c rs) 0 fields numbers
+    → AreNoted (due es k c rs) 0 (fields ++ record { «record» = n; end = end; noted = noted } ∷ []) more
+event_noted es k c rs n end noted r fields numbers more e x y a =
+    let f : FieldsAt = record { «record» = n; end = end; noted = noted } in
+    let d : due es k c rs f ≡ node_entries es k c (node_at (inline r.type_id) r.body end) = ap (λ o. option_map_or (λ (e : EventAt). node_entries es k c e.node) (option_map (event_with end) o) []) e in
+    let m : more ≡ numbers ++ due es k c rs f = x ∙ ap (λ z. numbers ++ z) (sym d) in
+    let l : noted ≡ 0 + length (numbers ++ due es k c rs f) = (let l = ap length m in omega arith) in
+    subst (AreNoted (due es k c rs) 0 (fields ++ f ∷ [])) (sym m) (noted_more (due es k c rs) 0 fields numbers f a l)

@@ -1,0 +1,18 @@
+use Rattle.std.proofs.Common.{sym, ◌∙◌, arith}
+use Rattle.std.proofs.lemmas.Result.{err_from_is_err_and}
+use Rattle.jfr_layout.proofs.IdsSeen.{ids_next, ids_tell, ids_names_tell}
+use Rattle.jfr_layout.proofs.index.index_of.Goals as goal
+
+pub returns-then-branch-clause-judged : goal.returns-then-branch-clause-judged
+returns-then-branch-clause-judged c = ids_tell c.args.list.now c.loop-at.at c.loop-at.index c.at-class.result.now
+    c.loop-at.invariant c.at-class.ensures (sym c.in_ok-insert.ensures.used ∙ c.if-branch.true)
+
+pub returns-in_err-check_names-clause-judged : goal.returns-in_err-check_names-clause-judged
+returns-in_err-check_names-clause-judged c = let p = err_from_is_err_and c.from_residual-in_err-check_names.result c.from_residual-in_err-check_names.ensures.1 in rw (p.1, p.2) (ids_names_tell c.args.list.now c.loop-at.at c.loop-at.index c.at-class.result.now c.in_err-check_names.field-0.0
+    c.loop-at.invariant c.at-class.ensures (sym c.in_ok-insert.ensures.used ∙ c.if-branch.false)
+    c.in_err-check_names.ensures)
+
+pub loop-at-preserved : goal.loop-at-preserved
+loop-at-preserved c = ids_next c.args.list.now c.loop-at.at c.loop-at.index c.insert.new.self c.at-class.result.now
+    c.loop-at.invariant c.at-class.ensures (omega arith) (sym c.in_ok-insert.ensures.used ∙ c.if-branch.false)
+    c.in_ok-insert.ensures.places c.in_ok-check_names.ensures

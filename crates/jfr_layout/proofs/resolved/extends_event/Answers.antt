@@ -1,0 +1,7 @@
+use Rattle.std.specs.Str.{chars}
+use Rattle.jfr_layout.proofs.Steps.{extends_is}
+use Rattle.jfr_layout.proofs.resolved.extends_event.Goals as goal
+
+pub returns-in-Some : goal.returns-in-Some
+unfolding chars
+returns-in-Some c = extends_is c.args.class.now c.of.result c.in-Some.name c.is_text.result c.of.ensures c.in-Composite.is c.in-Some.is c.is_text.ensures

@@ -1,0 +1,122 @@
+// Which class has an id. Ids and names stand once.
+ghost use Rattle.std.specs.Prelude.{◌≡◌, ℕ, ◌+◌, ◌*◌, ◌≤◌, length, None, Some, IfOk, is_some, if◌then◌else◌, ◌==◌};
+ghost use Rattle.std.specs.BTreeMap as tree;
+ghost use Rattle.std.specs.Ordering.{nat_cmp};
+ghost use Rattle.jfr_layout.specs.Classes.{Judges, repeats, name_repeats};
+ghost use Rattle.jfr_layout.specs.Resolved.{IsIndex, place_in};
+
+use crate::{ClassFault, ClassList, Fields};
+use jfr_base::Reason;
+use jfr_outside::NoMemory;
+use std::alloc::Global;
+use std::collections::BTreeMap;
+
+/// So many ids have a place in the table in any list, and so many more for each class.
+const FEW_IDS: u64 = 16384;
+
+const IDS_A_CLASS: u64 = 4;
+
+/// The places of classes by their ids: those of small ids in a table, and the others in a map.
+#[derive(Drop)]
+pub struct Index {
+    near: Vec<Option<usize>>,
+    far: BTreeMap<u64, usize>,
+}
+
+impl Index {
+    // The index of no classes, with a table for so many ids.
+    fn new(alloc: Global, ids: usize) -> Result<Index, NoMemory>
+        ensures { IfOk result (λ index. (id : ℕ) → place_in index id ≡ None) }
+    {
+        let near = vec![in alloc; None; ids]?;
+        Ok(Index {
+            near,
+            far: BTreeMap::new(alloc),
+        })
+    }
+
+    // Puts a class at a place, and tells whether its id was there.
+    fn insert(&mut self, id: u64, place: usize) -> Result<bool, NoMemory>
+        ensures used { IfOk result (λ used. used ≡ is_some (place_in self.old id)) }
+        ensures places { IfOk result (λ _. (other : ℕ) → place_in self.new other ≡ (if id == other then Some place else place_in self.old other)) }
+    {
+        if id < self.near.len() as u64 {
+            let used = self.near[id as usize].is_some();
+            self.near[id as usize] = Some(place);
+            return Ok(used);
+        }
+        let old = self.far.insert(id, place)?;
+        Ok(old.is_some())
+    }
+
+    /// The place of the class of an id.
+    #[inline]
+    pub fn place(&self, id: u64) -> Option<usize>
+        ensures { result ≡ place_in self.now id }
+    {
+        if id < self.near.len() as u64 {
+            return self.near[id as usize];
+        }
+        self.far_place(id)
+    }
+
+    // The place of the class of an id that the table doesn't have.
+    #[cold]
+    fn far_place(&self, id: u64) -> Option<usize>
+        ensures { result ≡ tree.get nat_cmp self.now.far id }
+    {
+        self.far.get(&id).copied()
+    }
+}
+
+// How many ids have a place in the table: those up to the greatest, where they are small.
+fn near_ids(list: &ClassList) -> usize
+    ensures small { result ≤ IDS_A_CLASS * length list.now + FEW_IDS }
+{
+    let mut ids = 0;
+    for at in 0..list.len() {
+        ids = list.at(at).id.saturating_add(1).max(ids);
+    }
+    let most = (list.len() as u64)
+        .saturating_mul(IDS_A_CLASS)
+        .saturating_add(FEW_IDS);
+    ids.min(most) as usize
+}
+
+// No field has the name of an earlier one.
+fn check_names(alloc: Global, class: usize, fields: &Fields) -> Result<(), ClassFault>
+    ensures { Judges (name_repeats class fields.now) result }
+{
+    let mut names = BTreeMap::new(alloc);
+    for number in 0..fields.len() {
+        let name = fields.at(number).name.as_str();
+        if names.insert(name, number)?.is_some() {
+            return Err(ClassFault::Flawed {
+                class,
+                field: Some(number),
+                reason: Reason::FieldTwice,
+            });
+        }
+    }
+    Ok(())
+}
+
+/// The place of each id. No class has the id of an earlier one, and no field the name of an earlier one of its class.
+pub fn index_of(alloc: Global, list: &ClassList) -> Result<Index, ClassFault>
+    ensures exact { IfOk result (IsIndex list.now) }
+    ensures judged { Judges (repeats list.now) result }
+{
+    let mut index = Index::new(alloc, near_ids(list))?;
+    for at in 0..list.len() {
+        let class = list.at(at);
+        if index.insert(class.id, at)? {
+            return Err(ClassFault::Flawed {
+                class: at,
+                field: None,
+                reason: Reason::ClassTwice,
+            });
+        }
+        check_names(alloc, at, &class.fields)?;
+    }
+    Ok(index)
+}

@@ -1,0 +1,89 @@
+-- A slot, and the class of its shape.
+use Rattle.std.specs.Prelude.{◌≡◌, ℕ, zero, suc, ◌<◌, ◌≤◌, false, List, [], ◌∷◌, length, map, Some, IfSome, option_and_then, option_map, slice_get}
+use Rattle.std.specs.List.{AllByRecursion}
+use Rattle.std.proofs.Common.{ap, arith, get_or, refl, subst, sym, ◌∙◌}
+use Rattle.std.proofs.lemmas.List.{length-map}
+use Rattle.std.proofs.lemmas.Option.{slice_get-get_or}
+use Rattle.jfr_layout.specs.Classes.{Class, Classes, Field, AreSlots, IsSlot, class_place, field_at, find_class, kind_of}
+use Rattle.jfr_layout.specs.declared.kind.Kind.{Kind}
+use Rattle.jfr_layout.specs.declared.kind.Kind.TheVariants as kinds
+use Rattle.jfr_layout.specs.declared.shape.Shape.{Shape}
+use Rattle.jfr_layout.specs.declared.slot.Slot.{Slot}
+use Rattle.jfr_value.proofs.PlaceLaws.{get_within, kind_there, placed_class, placed_some, placed_within}
+
+-- the class of a slot's shape
+pub record SlotClass (k : Classes) (s : Slot) : Type 0 where
+  pub class : Class
+  pub found : find_class k s.shape.class ≡ Some class
+  pub there : slice_get k s.place ≡ Some class
+  pub kind : s.kind ≡ kind_of class.name
+
+pub slot_class : (k : Classes) (s : Slot) → IsSlot k s → SlotClass k s
+slot_class k s i =
+    let c = placed_some k s.shape.class s.place i.place in
+    let f : find_class k s.shape.class ≡ Some c.0 = placed_class k s.shape.class s.place i.place ∙ c.1 in
+    record {
+      class = c.0;
+      found = f;
+      there = c.1;
+      kind = (let e : Some (kind_of c.0.name) ≡ Some s.kind = sym (ap (option_map (λ (d : Class). kind_of d.name)) f) ∙ i.kind in cc);
+    }
+
+pub slot_within : (k : Classes) (s : Slot) → IsSlot k s → s.place < length k
+slot_within k s i = placed_within k s.shape.class s.place i.place
+
+-- the slot of a shape whose class stands at a place
+pub slot_made : (k : Classes) (s : Shape) (place : ℕ) (kind : Kind) → class_place k s.class ≡ Some place → IfSome (slice_get k place) (λ c. kind ≡ kind_of c.name) → IsSlot k (record { shape = s; place = place; kind = kind })
+slot_made k s place kind p h =
+    let c = placed_some k s.class place p in
+    record {
+      place = p;
+      kind = ap (option_map (λ (d : Class). kind_of d.name)) (placed_class k s.class place p ∙ c.1) ∙ ap (λ z. Some z) (sym (kind_there k place c.0 kind h c.1));
+    }
+
+-- a slot that is read from a list of them
+abbrev pub no_slot : Slot
+no_slot = record { shape = record { class = 0; constant = false; array = false }; place = 0; kind = kinds.Boolean }
+
+pub slot_there : (ss : List Slot) (i : ℕ) → i < length ss → slice_get ss i ≡ Some (get_or ss i no_slot)
+slot_there ss i l = slice_get-get_or ss i no_slot l
+
+pub slots_at : (k : Classes) (ss : List Slot) (i : ℕ) → AllByRecursion (IsSlot k) ss → i < length ss → IsSlot k (get_or ss i no_slot)
+slots_at k [] i a l = absurd (omega arith)
+slots_at k (s ∷ ss) zero a l = a.0
+slots_at k (s ∷ ss) (suc i) a l = slots_at k ss i a.1 (omega arith)
+
+-- the slots of the class at a place
+pub record SlotsOf (k : Classes) (place : ℕ) (ss : List Slot) : Type 0 where
+  pub class : Class
+  pub there : slice_get k place ≡ Some class
+  pub slots : AreSlots k class.fields ss
+  pub count : length ss ≡ length class.fields
+
+pub slots_of : (k : Classes) (place : ℕ) (ss : List Slot) → place < length k → IfSome (slice_get k place) (λ c. AreSlots k c.fields ss) → SlotsOf k place ss
+slots_of k place ss l a =
+    let c = get_within k place l in
+    let h : AreSlots k c.0.fields ss = subst (λ o. IfSome o (λ c. AreSlots k c.fields ss)) c.1 a in
+    record { class = c.0; there = c.1; slots = h; count = omega (arith, ap length h.shapes, length-map ss (λ (s : Slot). s.shape), length-map c.0.fields (λ (f : Field). f.shape)) }
+
+-- the field of a slot
+pub record FieldOf (k : Classes) (place number : ℕ) (s : Slot) : Type 0 where
+  pub field : Field
+  pub there : field_at k place number ≡ Some field
+  pub shape : s.shape ≡ field.shape
+  pub of_class : IsSlot k s
+
+same_shape : (fs : List Field) (ss : List Slot) (i : ℕ) → map (λ s. s.shape) ss ≡ map (λ f. f.shape) fs → i < length ss → (f : Field) × (slice_get fs i ≡ Some f) × ((get_or ss i no_slot).shape ≡ f.shape)
+same_shape fs [] i e l = absurd (omega arith)
+same_shape [] (s ∷ ss) i e l = cc
+same_shape (f ∷ fs) (s ∷ ss) zero e l = (f, refl, (let q : s.shape ∷ map (λ s. s.shape) ss ≡ f.shape ∷ map (λ f. f.shape) fs = e in cc))
+same_shape (f ∷ fs) (s ∷ ss) (suc i) e l = same_shape fs ss i (let q : s.shape ∷ map (λ s. s.shape) ss ≡ f.shape ∷ map (λ f. f.shape) fs = e in cc) (omega arith)
+
+pub field_of : (k : Classes) (place number : ℕ) (ss : List Slot) → place < length k → IfSome (slice_get k place) (λ c. AreSlots k c.fields ss) → number < length ss → FieldOf k place number (get_or ss number no_slot)
+field_of k place number ss l a n =
+    let c = slots_of k place ss l a in
+    let f = same_shape c.class.fields ss number c.slots.shapes n in
+    record { field = f.0; there = ap (option_and_then (λ c. slice_get c.fields number)) c.there ∙ f.1; shape = f.2; of_class = slots_at k ss number c.slots.each n }
+
+pub few_fields : (k : Classes) (place number : ℕ) (ss : List Slot) → place < length k → IfSome (slice_get k place) (λ c. AreSlots k c.fields ss) → length ss ≤ number → IfSome (slice_get k place) (λ c. length c.fields ≤ number)
+few_fields k place number ss l a n = let c = slots_of k place ss l a in subst (λ o. IfSome o (λ c. length c.fields ≤ number)) (sym c.there) (omega (arith, c.count))

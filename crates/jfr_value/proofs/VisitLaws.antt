@@ -1,0 +1,390 @@
+-- A visit of a value, part by part.
+use Rattle.std.specs.Prelude.{◌≡◌, ◌≢◌, ℕ, zero, suc, ◌+◌, ◌-◌, ◌<◌, ◌≤◌, Bool, true, false, List, [], ◌∷◌, ◌++◌, length, map, replicate, drop, slice_get, slice_range, Option, Some, None, IsSome, IfSome, Ok, option_map, option_to_list, if◌then◌else◌}
+use Rattle.std.specs.Option.{option_map_or}
+use Rattle.std.specs.List.{AllByRecursion, filter_map}
+use Rattle.std.proofs.Common.{ap, arith, refl, sym, ◌∙◌, subst, inl, inr}
+use Rattle.std.proofs.lemmas.List.{drop_all, length-append, length-map, nil_from_length}
+use Rattle.jfr_base.specs.declared.integer.Var.{Var}
+use Rattle.jfr_base.specs.Integer.{IntAt, Spells, worth_within}
+use Rattle.jfr_base.specs.Formats.{int_at, run, seen}
+use Rattle.jfr_base.proofs.OneAnswer.{int_computed}
+use Rattle.jfr_base.proofs.Ranges.{range_length}
+use Rattle.jfr_base.proofs.RunLaws.{Stands, stands_split, exact_run}
+use Rattle.jfr_text.specs.Strings.{Content, string_format}
+use Rattle.jfr_layout.specs.Classes.{Class, Classes, Field, field_at, find_class, kind_of, item_of}
+use Rattle.jfr_layout.specs.declared.kind.Kind.{Kind}
+use Rattle.jfr_layout.specs.declared.kind.Kind.TheVariants as kinds
+use Rattle.jfr_layout.specs.declared.shape.Shape.{Shape}
+use Rattle.jfr_value.specs.declared.leaf.LeafKind.TheVariants as leaf_kinds
+use Rattle.jfr_value.specs.Values.{Value, Values, Single, Group, Nil, Cons, shape_of, shapes_of, bytes_of, bytes_of_all, targets_of, targets_of_all, key_of, IsBase, IsSingle, IsHead, IsHollow, AllFit}
+use Rattle.jfr_value.specs.Reading.{base_format}
+use Rattle.jfr_value.specs.Nodes.{node_at, IsNode, IsRow}
+use Rattle.jfr_value.specs.Leaves.{LeafAt, leaf_target, leaves_at, leaves_from}
+use Rattle.jfr_value.specs.Visits.{TakesAll, field_shapes}
+use Rattle.jfr_value.specs.Walks.{IsSlotIfKnown, Room}
+use Rattle.jfr_value.proofs.ChildLaws.{inline_known}
+use Rattle.jfr_value.proofs.FitLaws.{is_base}
+use Rattle.jfr_value.proofs.LeafLaws.{all_within, leaf_targets_from}
+use Rattle.jfr_value.proofs.NodeLaws.{node_stands}
+use Rattle.jfr_value.proofs.PlaceLaws.{get_within, placed_class, placed_some, placed_within}
+use Rattle.jfr_value.proofs.RowLaws.{hollow_bytes}
+use Rattle.jfr_value.proofs.SlotLaws.{slot_class}
+use Rattle.jfr_value.proofs.StackLaws.{field_there, inner_room}
+use Rattle.jfr_value.proofs.StringLaws.{is_exact}
+use Rattle.jfr_value.proofs.WalkLaws.{first_of}
+
+-- Targets that are taken behind others, none, and one.
+pub takes_append : {A : Type 0} (takes : ℕ × ℕ → A → A → Type 0) (ts us : List (ℕ × ℕ)) (a b c : A) → TakesAll takes ts a b → TakesAll takes us b c → TakesAll takes (ts ++ us) a c
+takes_append takes [] us a b c e h = subst (λ z. TakesAll takes us z c) (sym e) h
+takes_append takes (t ∷ ts) us a b c g h = (g.0, g.1, takes_append takes ts us g.0 b c g.2 h)
+
+pub takes_none : {A : Type 0} (takes : ℕ × ℕ → A → A → Type 0) (ts : List (ℕ × ℕ)) (a : A) → ts ≡ [] → TakesAll takes ts a a
+takes_none takes ts a e = subst (λ z. TakesAll takes z a a) (sym e) refl
+
+pub takes_one : {A : Type 0} (takes : ℕ × ℕ → A → A → Type 0) (ts : List (ℕ × ℕ)) (t : ℕ × ℕ) (a b : A) → ts ≡ t ∷ [] → takes t a b → TakesAll takes ts a b
+takes_one takes ts t a b e h = subst (λ z. TakesAll takes z a b) (sym e) (b, h, refl)
+
+module _ (k : Classes) (c : List ℕ) (at to end : ℕ) (s : Shape) (l : to ≤ end) (w : end ≤ length c) where
+  -- a reference: its key stands there
+  pub record KeyNode (v : Value) : Type 0 where
+    pub key : ℕ
+    pub found : int_at c at end ≡ Some (record { value = key; end = to })
+    pub leaves : length (leaves_at at v) ≡ 1
+    pub targets : targets_of v ≡ (s.class, key) ∷ []
+
+  pub key_node : (v : Value) → IsNode k c (node_at s at to) v → s.array ≡ false → s.constant ≡ true → KeyNode v
+  key_node (Single t kind b key) i a o = by_case i.fits
+    where
+      by_case : IsSingle k t kind b key → KeyNode (Single t kind b key)
+      by_case (inl p) =
+          let n : IntAt c at to p.2 = record { order = i.order; within = i.within; spelled = subst (λ z. Spells z p.2) (sym i.bytes) p.3 } in
+          record {
+            key = p.2;
+            found = int_computed c at end to p.2 (let r = i.order in omega arith) w n l;
+            leaves = refl;
+            targets = ap (λ z. targets_of (Single t kind b z)) p.5 ∙ ap (λ (z : Shape). (z.class, p.2) ∷ []) (sym i.shape);
+          }
+      by_case (inr p) = let z : t.constant ≡ true = ap (λ (z : Shape). z.constant) (sym i.shape) ∙ o in let y = p.1 in cc
+  key_node (Group t h vs) i a o = by_case i.fits.0
+    where
+      by_case : IsHead k t h (shapes_of vs) → KeyNode (Group t h vs)
+      by_case (inl p) = let z : t.array ≡ false = ap (λ (z : Shape). z.array) (sym i.shape) ∙ a in let y = p.0 in cc
+      by_case (inr p) = let z : t.constant ≡ true = ap (λ (z : Shape). z.constant) (sym i.shape) ∙ o in let y = p.1 in cc
+
+  -- an inline value is of the class at its place
+  pub record InlineNode (place : ℕ) (kind : Kind) : Type 0 where
+    pub class : Class
+    pub found : find_class k s.class ≡ Some class
+    pub there : slice_get k place ≡ Some class
+    pub within : place < length k
+    pub kind_is : kind ≡ kind_of class.name
+
+  pub inline_node : (v : Value) (place : ℕ) (kind : Kind) → IsNode k c (node_at s at to) v → s.array ≡ false → s.constant ≡ false → IsSlotIfKnown k (record { shape = s; place = place; kind = kind }) → InlineNode place kind
+  inline_node v place kind i a o p =
+      let known : IsSome (find_class k s.class) = subst (λ (z : Shape). IsSome (find_class k z.class)) (sym i.shape) (inline_known k v (ap (λ (z : Shape). z.array) (sym i.shape) ∙ a) (ap (λ (z : Shape). z.constant) (sym i.shape) ∙ o) i.fits) in
+      let q = p o known in
+      let d = slot_class k (record { shape = s; place = place; kind = kind }) q in
+      record { class = d.class; found = d.found; there = d.there; within = placed_within k s.class place q.place; kind_is = d.kind }
+
+  -- a value of a base name
+  record BaseNode (kind : Kind) (v : Value) : Type 0 where
+    key : Option ℕ
+    is : IsBase kind (slice_range c at to) key
+    stands : Stands c at to (slice_range c at to)
+    leaves : length (leaves_at at v) ≡ 1
+    targets : targets_of v ≡ option_to_list (option_map (λ key. (s.class, key)) key)
+
+  base_of : (v : Value) (d : Class) → IsNode k c (node_at s at to) v → s.array ≡ false → s.constant ≡ false → find_class k s.class ≡ Some d → kind_of d.name ≢ kinds.Composite → BaseNode (kind_of d.name) v
+  base_of (Single t kind b key) d i a o q n = by_case i.fits
+    where
+      by_key : (key : Option ℕ) → targets_of (Single t kind b key) ≡ option_to_list (option_map (λ key. (t.class, key)) key)
+      by_key None = refl
+      by_key (Some key) = refl
+
+      by_case : IsSingle k t kind b key → BaseNode (kind_of d.name) (Single t kind b key)
+      by_case (inl p) = let z : t.constant ≡ false = ap (λ (z : Shape). z.constant) (sym i.shape) ∙ o in let y = p.1 in cc
+      by_case (inr p) =
+          let e : p.2 ≡ d = (let x : find_class k s.class ≡ Some p.2 = ap (λ (z : Shape). find_class k z.class) i.shape ∙ p.3 in cc) in
+          let f : IsBase (kind_of d.name) b key = subst (λ (z : Class). IsBase (kind_of z.name) b key) e p.5 in
+          record {
+            key = key;
+            is = subst (λ z. IsBase (kind_of d.name) z key) (sym i.bytes) f;
+            stands = record { order = i.order; within = i.within; bytes = refl };
+            leaves = refl;
+            targets = by_key key ∙ ap (λ (z : Shape). option_to_list (option_map (λ key. (z.class, key)) key)) (sym i.shape);
+          }
+  base_of (Group t h vs) d i a o q n = by_case i.fits.0
+    where
+      by_case : IsHead k t h (shapes_of vs) → BaseNode (kind_of d.name) (Group t h vs)
+      by_case (inl p) = let z : t.array ≡ false = ap (λ (z : Shape). z.array) (sym i.shape) ∙ a in let y = p.0 in cc
+      by_case (inr p) =
+          let e : p.2 ≡ d = (let x : find_class k s.class ≡ Some p.2 = ap (λ (z : Shape). find_class k z.class) i.shape ∙ p.3 in cc) in
+          absurd (n (ap (λ (z : Class). kind_of z.name) (sym e) ∙ p.4))
+
+  base_node : (v : Value) (place : ℕ) (kind : Kind) → IsNode k c (node_at s at to) v → s.array ≡ false → s.constant ≡ false → InlineNode place kind → kind ≢ kinds.Composite → BaseNode kind v
+  base_node v place kind i a o d n = subst (λ z. BaseNode z v) (sym d.kind_is) (base_of v d.class i a o d.found (λ z. n (d.kind_is ∙ z)))
+
+  base_runs : (kind : Kind) (v : Value) (n : BaseNode kind v) → run (base_format kind) c end at ≡ Ok (record { value = n.key; place = to })
+  base_runs kind v n = exact_run c end w (base_format kind) at to (slice_range c at to) n.key (is_base kind (slice_range c at to) n.key n.is) n.stands l
+
+  -- one that is no string refers to nothing
+  pub record PlainNode (kind : Kind) (v : Value) : Type 0 where
+    pub ends : seen (run (base_format kind) c end at) ≡ Ok to
+    pub leaves : length (leaves_at at v) ≡ 1
+    pub targets : targets_of v ≡ []
+
+  plain_node : (kind : Kind) (v : Value) → BaseNode kind v → kind ≢ kinds.Text → PlainNode kind v
+  plain_node kind v n x = record {
+    ends = ap seen (base_runs kind v n);
+    leaves = n.leaves;
+    targets = n.targets ∙ ap (λ z. option_to_list (option_map (λ key. (s.class, key)) z)) (no_key kind (slice_range c at to) n.key x n.is);
+  }
+    where
+      no_key : (kind : Kind) (b : List ℕ) (key : Option ℕ) → kind ≢ kinds.Text → IsBase kind b key → key ≡ None
+      no_key kinds.Boolean b key x i = i.1
+      no_key kinds.Byte b key x i = i.1
+      no_key kinds.Char b key x i = i.2
+      no_key kinds.Short b key x i = i.2
+      no_key kinds.Int b key x i = i.2
+      no_key kinds.Long b key x i = i.2
+      no_key kinds.Float b key x i = i.1
+      no_key kinds.Double b key x i = i.1
+      no_key kinds.Text b key x i = absurd (x refl)
+      no_key kinds.Composite b key x i = absurd i
+
+  -- a string refers to its key, where it is one
+  pub record TextNode (v : Value) : Type 0 where
+    pub content : Content
+    pub reads : run (string_format true) c end at ≡ Ok (record { value = content; place = to })
+    pub leaves : length (leaves_at at v) ≡ 1
+    pub targets : targets_of v ≡ option_to_list (option_map (λ key. (s.class, key)) (key_of content))
+
+  text_node : (kind : Kind) (v : Value) → BaseNode kind v → kind ≡ kinds.Text → TextNode v
+  text_node kind v n x =
+      let i = subst (λ z. IsBase z (slice_range c at to) n.key) x n.is in
+      record {
+        content = i.0;
+        reads = exact_run c end w (string_format true) at to (slice_range c at to) i.0 (is_exact (slice_range c at to) i.0 i.1) n.stands l;
+        leaves = n.leaves;
+        targets = n.targets ∙ ap (λ z. option_to_list (option_map (λ key. (s.class, key)) z)) i.2;
+      }
+
+  pub inline_text : (v : Value) (place : ℕ) (kind : Kind) → IsNode k c (node_at s at to) v → s.array ≡ false → s.constant ≡ false → IsSlotIfKnown k (record { shape = s; place = place; kind = kind }) → kind ≡ kinds.Text → TextNode v
+  inline_text v place kind i a o p x = text_node kind v (base_node v place kind i a o (inline_node v place kind i a o p) (λ y. (let z : kinds.Text ≡ kinds.Composite = sym x ∙ y in cc))) x
+
+  pub inline_plain : (v : Value) (place : ℕ) (kind : Kind) → IsNode k c (node_at s at to) v → s.array ≡ false → s.constant ≡ false → IsSlotIfKnown k (record { shape = s; place = place; kind = kind }) → kind ≢ kinds.Text → kind ≢ kinds.Composite → PlainNode kind v
+  inline_plain v place kind i a o p x n = plain_node kind v (base_node v place kind i a o (inline_node v place kind i a o p) n) x
+
+  -- parts that stand from a place on, behind so many leaves
+  pub record PartsNode (from more : ℕ) (ss : List Shape) (v : Value) : Type 0 where
+    pub parts : Values
+    pub row : IsRow k c from to ss parts
+    pub leaves : length (leaves_at at v) ≡ more + length (leaves_from from parts)
+    pub targets : targets_of v ≡ targets_of_all parts
+
+  fields_of : (v : Value) (d : Class) → IsNode k c (node_at s at to) v → s.array ≡ false → s.constant ≡ false → find_class k s.class ≡ Some d → kind_of d.name ≡ kinds.Composite → PartsNode at 0 (map (λ f. f.shape) d.fields) v
+  fields_of (Single t kind b key) d i a o q m = by_case i.fits
+    where
+      by_case : IsSingle k t kind b key → PartsNode at 0 (map (λ f. f.shape) d.fields) (Single t kind b key)
+      by_case (inl p) = let z : t.constant ≡ false = ap (λ (z : Shape). z.constant) (sym i.shape) ∙ o in let y = p.1 in cc
+      by_case (inr p) =
+          let e : p.2 ≡ d = (let x : find_class k s.class ≡ Some p.2 = ap (λ (z : Shape). find_class k z.class) i.shape ∙ p.3 in cc) in
+          absurd (subst (λ z. IsBase z b key) (ap (λ (z : Class). kind_of z.name) e ∙ m) p.5)
+  fields_of (Group t h vs) d i a o q m = by_case i.fits
+    where
+      by_case : IsHead k t h (shapes_of vs) × AllFit k vs → PartsNode at 0 (map (λ f. f.shape) d.fields) (Group t h vs)
+      by_case (inl p, f) = let z : t.array ≡ false = ap (λ (z : Shape). z.array) (sym i.shape) ∙ a in let y = p.0 in cc
+      by_case (inr p, f) =
+          let e : p.2 ≡ d = (let x : find_class k s.class ≡ Some p.2 = ap (λ (z : Shape). find_class k z.class) i.shape ∙ p.3 in cc) in
+          let z : at + length h ≡ at = (let y : length h ≡ 0 = ap length p.5 in omega arith) in
+          let head : Bool → List LeafAt = λ x. if x then record { kind = leaf_kinds.Count (worth_within 8 h); class = t.class; at = at; spelled = h } ∷ [] else [] in
+          let y : length (head t.array ++ leaves_from (at + length h) vs) ≡ length (leaves_from at vs) = ap (λ x. length (head x ++ leaves_from (at + length h) vs)) p.0 ∙ ap (λ y. length (leaves_from y vs)) z in
+          record {
+            parts = vs;
+            row = record { order = i.order; within = i.within; bytes = i.bytes ∙ ap (λ y. y ++ bytes_of_all vs) p.5; fit = f; of_shapes = p.6 ∙ ap (λ (z : Class). map (λ f. f.shape) z.fields) e };
+            leaves = omega arith;
+            targets = refl;
+          }
+
+  shapes_there : (place : ℕ) (d : Class) → slice_get k place ≡ Some d → field_shapes k place ≡ map (λ f. f.shape) d.fields
+  shapes_there place d e = ap (λ o. option_map_or (λ c. map (λ f. f.shape) c.fields) o []) e
+
+  -- a composite value: its fields
+  pub fields_node : (v : Value) (place : ℕ) (kind : Kind) → IsNode k c (node_at s at to) v → s.array ≡ false → s.constant ≡ false → InlineNode place kind → kind ≡ kinds.Composite → PartsNode at 0 (field_shapes k place) v
+  fields_node v place kind i a o d m = subst (λ z. PartsNode at 0 z v) (sym (shapes_there place d.class d.there)) (fields_of v d.class i a o d.found (sym d.kind_is ∙ m))
+
+  rooms : (P : Shape → Type 0) (fs : List Field) → AllByRecursion (λ f. P f.shape) fs → AllByRecursion P (map (λ f. f.shape) fs)
+  rooms P [] a = tt
+  rooms P (f ∷ fs) a = (a.0, rooms P fs a.1)
+
+  -- and the room for them
+  pub room_within : (place : ℕ) (kind : Kind) (levels : ℕ) → InlineNode place kind → kind ≡ kinds.Composite → s.constant ≡ false → Room k levels s → AllByRecursion (Room k (levels - 1)) (field_shapes k place)
+  room_within place kind levels d m o r =
+      subst (AllByRecursion (Room k (levels - 1))) (sym (shapes_there place d.class d.there)) (rooms (Room k (levels - 1)) d.class.fields (inner_room k levels s d.class r o d.found (sym d.kind_is ∙ m)).1)
+
+  -- an array: its count, and the items behind it
+  record ArrayNode (v : Value) : Type 0 where
+    count : Var
+    found : int_at c at end ≡ Some count
+    items : PartsNode count.end 1 (replicate count.value (item_of s)) v
+
+  array_node : (v : Value) → IsNode k c (node_at s at to) v → s.array ≡ true → ArrayNode v
+  array_node (Single t kind b key) i a = by_case i.fits
+    where
+      by_case : IsSingle k t kind b key → ArrayNode (Single t kind b key)
+      by_case (inl p) = let z : t.array ≡ true = ap (λ (z : Shape). z.array) (sym i.shape) ∙ a in let y = p.0 in cc
+      by_case (inr p) = let z : t.array ≡ true = ap (λ (z : Shape). z.array) (sym i.shape) ∙ a in let y = p.0 in cc
+  array_node (Group t h vs) i a = by_case i.fits
+    where
+      by_case : IsHead k t h (shapes_of vs) × AllFit k vs → ArrayNode (Group t h vs)
+      by_case (inr p, f) = let z : t.array ≡ true = ap (λ (z : Shape). z.array) (sym i.shape) ∙ a in let y = p.0 in cc
+      by_case (inl p, f) =
+          let y = stands_split c at to (h ++ bytes_of_all vs) h (bytes_of_all vs) (node_stands k c (node_at s at to) (Group t h vs) i) refl in
+          let n : IntAt c at (at + length h) p.1 = record { order = y.first.order; within = y.first.within; spelled = subst (λ z. Spells z p.1) (sym y.first.bytes) p.2 } in
+          let m : at + length h ≤ to = y.second.order in
+          let head : Bool → List LeafAt = λ x. if x then record { kind = leaf_kinds.Count (worth_within 8 h); class = t.class; at = at; spelled = h } ∷ [] else [] in
+          let x : length (head t.array ++ leaves_from (at + length h) vs) ≡ suc (length (leaves_from (at + length h) vs)) = ap (λ x. length (head x ++ leaves_from (at + length h) vs)) p.0 in
+          record {
+            count = record { value = p.1; end = at + length h };
+            found = int_computed c at end (at + length h) p.1 (let r = i.order in omega arith) w n (omega arith);
+            items = record {
+              parts = vs;
+              row = record { order = m; within = i.within; bytes = y.second.bytes; fit = f; of_shapes = p.3 ∙ ap (λ z. replicate p.1 (item_of z)) (sym i.shape) };
+              leaves = omega arith;
+              targets = refl;
+            };
+          }
+
+  pub array_there : (v : Value) → IsNode k c (node_at s at to) v → s.array ≡ true → int_at c at end ≡ None → ⊥
+  array_there v i a e = let n = array_node v i a in let q : int_at c at end ≡ Some n.count = n.found in cc
+
+  pub items_node : (v : Value) (count : Var) → IsNode k c (node_at s at to) v → s.array ≡ true → int_at c at end ≡ Some count → PartsNode count.end 1 (replicate count.value (item_of s)) v
+  items_node v count i a e =
+      let n = array_node v i a in
+      let q : n.count ≡ count = (let x : int_at c at end ≡ Some n.count = n.found in cc) in
+      subst (λ (z : Var). PartsNode z.end 1 (replicate z.value (item_of s)) v) q n.items
+
+-- where no values are left, or values without bytes: there are no leaves, and they refer to nothing
+pub record Nothing (at to : ℕ) (vs : Values) : Type 0 where
+  pub ends : at ≡ to
+  pub leaves : length (leaves_from at vs) ≡ 0
+  pub targets : targets_of_all vs ≡ []
+
+module _ (k : Classes) (c : List ℕ) (at to : ℕ) where
+  nothing : (ss : List Shape) (vs : Values) → IsRow k c at to ss vs → bytes_of_all vs ≡ [] → Nothing at to vs
+  nothing ss vs r b =
+      let x : length (slice_range c at to) ≡ to - at = range_length c at to r.within in
+      let y : length (slice_range c at to) ≡ 0 = ap length (r.bytes ∙ b) in
+      let u : length (bytes_of_all vs) ≡ 0 = ap length b in
+      let z : length (leaves_from at vs) ≤ length (bytes_of_all vs) = all_within k at vs r.fit in
+      let m : leaves_from at vs ≡ [] = nil_from_length (leaves_from at vs) (omega arith) in
+      record { ends = (let p = r.order in omega arith); leaves = ap length m; targets = sym (leaf_targets_from k at vs r.fit) ∙ ap (filter_map leaf_target) m }
+
+  pub none_left : (ss : List Shape) (vs : Values) → IsRow k c at to ss vs → ss ≡ [] → Nothing at to vs
+  none_left ss vs r e = nothing ss vs r (none vs (r.of_shapes ∙ e))
+    where
+      none : (vs : Values) → shapes_of vs ≡ [] → bytes_of_all vs ≡ []
+      none Nil e = refl
+      none (Cons v vs) e = cc
+
+  no_bytes : (n : ℕ) (s : Shape) (d : Class) (vs : Values) → IsRow k c at to (replicate n s) vs → s.array ≡ false → s.constant ≡ false → find_class k s.class ≡ Some d → IsHollow d → Nothing at to vs
+  no_bytes n s d vs r a o q h = nothing (replicate n s) vs r (none n vs r.of_shapes r.fit)
+    where
+      none : (n : ℕ) (vs : Values) → shapes_of vs ≡ replicate n s → AllFit k vs → bytes_of_all vs ≡ []
+      none n Nil e f = refl
+      none zero (Cons v vs) e f = cc
+      none (suc n) (Cons v vs) e f =
+          let p : shape_of v ≡ s = (let x : shape_of v ∷ shapes_of vs ≡ s ∷ replicate n s = e in cc) in
+          let g : shapes_of vs ≡ replicate n s = (let x : shape_of v ∷ shapes_of vs ≡ s ∷ replicate n s = e in cc) in
+          let b : bytes_of v ≡ [] = hollow_bytes k v d (ap (λ (z : Shape). z.array) p ∙ a) (ap (λ (z : Shape). z.constant) p ∙ o) (ap (λ (z : Shape). find_class k z.class) p ∙ q) h f.0 in
+          ap (λ z. z ++ bytes_of_all vs) b ∙ none n vs g f.1
+
+  -- the class of an array's items is known where there is one
+  pub items_known : (n : ℕ) (s : Shape) (vs : Values) → IsRow k c at to (replicate n (item_of s)) vs → n ≢ 0 → s.constant ≡ false → IsSome (find_class k s.class)
+  items_known zero s vs r n o = absurd (n refl)
+  items_known (suc n) s Nil r m o = let h = r.of_shapes in cc
+  items_known (suc n) s (Cons v vs) r m o =
+      let p : shape_of v ≡ item_of s = (let x : shape_of v ∷ shapes_of vs ≡ item_of s ∷ replicate n (item_of s) = r.of_shapes in cc) in
+      subst (λ (z : Shape). IsSome (find_class k z.class)) p (inline_known k v (ap (λ (z : Shape). z.array) p) (ap (λ (z : Shape). z.constant) p ∙ o) r.fit.0)
+
+  pub hollow_items : (n place : ℕ) (kind : Kind) (s : Shape) (vs : Values) → IsRow k c at to (replicate n (item_of s)) vs → n ≢ 0 → IsSlotIfKnown k (record { shape = s; place = place; kind = kind }) → s.constant ≡ false → IfSome (slice_get k place) IsHollow → Nothing at to vs
+  hollow_items n place kind s vs r m p o h =
+      let q = (p o (items_known n s vs r m o)).place in
+      let d = placed_some k s.class place q in
+      no_bytes n (item_of s) d.0 vs r refl o (placed_class k s.class place q ∙ d.1) (subst (λ z. IfSome z IsHollow) d.1 h)
+
+-- A loop over values that stand one behind another: those that are left stand from a place on, and what they refer to is to
+-- be taken yet, at a step for each of their leaves.
+pub record Left {A : Type 0} (takes : ℕ × ℕ → A → A → Type 0) (k : Classes) (c : List ℕ) (at to : ℕ) (vs : Values) (old : A) (before : ℕ) (ss : List Shape) (from : ℕ) (now : A) (after : ℕ) : Type 0 where
+  pub others : Values
+  pub row : IsRow k c from to ss others
+  pub taken : (new : A) → TakesAll takes (targets_of_all others) now new → TakesAll takes (targets_of_all vs) old new
+  pub steps : after + length (leaves_from from others) ≡ before + length (leaves_from at vs)
+
+module _ {A : Type 0} (takes : ℕ × ℕ → A → A → Type 0) (k : Classes) (c : List ℕ) (at to : ℕ) (vs : Values) (old : A) (before : ℕ) where
+  pub left_ends : (ss : List Shape) (from : ℕ) (now : A) (after : ℕ) → Left takes k c at to vs old before ss from now after → ss ≡ [] → (from ≡ to) × TakesAll takes (targets_of_all vs) old now × (after ≡ before + length (leaves_from at vs))
+  left_ends ss from now after f e =
+      let n = none_left k c from to ss f.others f.row e in
+      (n.ends, f.taken now (takes_none takes (targets_of_all f.others) now n.targets), (let x = n.leaves in let y = f.steps in omega arith))
+
+  -- the value that stands first
+  pub record FirstLeft (s : Shape) (from : ℕ) : Type 0 where
+    pub place : ℕ
+    pub value : Value
+    pub node : IsNode k c (node_at s from place) value
+    pub within : place ≤ to
+
+  pub left_there : (s : Shape) (ss us : List Shape) (from : ℕ) (now : A) (after : ℕ) → Left takes k c at to vs old before us from now after → us ≡ s ∷ ss → FirstLeft s from
+  left_there s ss us from now after f e =
+      let g = first_of k c from to s ss f.others (subst (λ z. IsRow k c from to z f.others) e f.row) in
+      record { place = from + length (bytes_of g.value); value = g.value; node = record { shape = sym g.shape; order = g.stands.order; within = g.stands.within; bytes = g.stands.bytes; fits = g.fits }; within = g.row.order }
+
+  -- what is left behind it
+  pub left_goes : (s : Shape) (ss us : List Shape) (from : ℕ) (now : A) (after end result : ℕ) (new : A) (next : ℕ) → Left takes k c at to vs old before us from now after → us ≡ s ∷ ss → to ≤ end
+      → ((p : ℕ) (v : Value) → IsNode k c (node_at s from p) v → p ≤ end → (result ≡ p) × TakesAll takes (targets_of v) now new × (next ≡ after + length (leaves_at from v)))
+      → Left takes k c at to vs old before ss result new next
+  left_goes s ss us from now after end result new next f d l x =
+      let g = first_of k c from to s ss f.others (subst (λ z. IsRow k c from to z f.others) d f.row) in
+      let p = from + length (bytes_of g.value) in
+      let n : IsNode k c (node_at s from p) g.value = record { shape = sym g.shape; order = g.stands.order; within = g.stands.within; bytes = g.stands.bytes; fits = g.fits } in
+      let m : p ≤ end = (let q = g.row.order in omega arith) in
+      let (e, t, u) = x p g.value n m in
+      let y : length (leaves_from from f.others) ≡ length (leaves_at from g.value) + length (leaves_from p g.others) = ap (λ q. length (leaves_from from q)) g.are ∙ length-append (leaves_at from g.value) (leaves_from p g.others) in
+      let z : length (leaves_from result g.others) ≡ length (leaves_from p g.others) = ap (λ q. length (leaves_from q g.others)) e in
+      record {
+        others = g.others;
+        row = subst (λ q. IsRow k c q to ss g.others) (sym e) g.row;
+        taken = λ last h. f.taken last (subst (λ q. TakesAll takes (targets_of_all q) now last) (sym g.are) (takes_append takes (targets_of g.value) (targets_of_all g.others) now new last t h));
+        steps = (let i = f.steps in omega arith);
+      }
+
+-- the shapes of fields and of items from a number on
+drop_map : (fs : List Field) (i : ℕ) (f : Field) → slice_get fs i ≡ Some f → drop i (map (λ f. f.shape) fs) ≡ f.shape ∷ drop (i + 1) (map (λ f. f.shape) fs)
+drop_map [] i f e = cc
+drop_map (g ∷ fs) zero f e = let h : g ≡ f = cc in ap (λ (z : Field). z.shape ∷ map (λ f. f.shape) fs) h
+drop_map (g ∷ fs) (suc i) f e = let h : suc i + 1 ≡ suc (i + 1) = omega arith in rw h (drop_map fs i f e)
+
+pub field_next : (k : Classes) (place number : ℕ) (f : Field) (s : Shape) → field_at k place number ≡ Some f → s ≡ f.shape → drop number (field_shapes k place) ≡ s ∷ drop (number + 1) (field_shapes k place)
+field_next k place number f s e q =
+    let t = field_there k place number f e in
+    let h : field_shapes k place ≡ map (λ f. f.shape) t.0.fields = ap (λ o. option_map_or (λ c. map (λ f. f.shape) c.fields) o []) t.1 in
+    ap (drop number) h ∙ (drop_map t.0.fields number f t.2 ∙ (ap (λ z. z ∷ drop (number + 1) (map (λ f. f.shape) t.0.fields)) (sym q) ∙ ap (λ z. s ∷ drop (number + 1) z) (sym h)))
+
+pub item_next : (n i : ℕ) (s : Shape) → i < n → replicate (n - i) s ≡ s ∷ replicate (n - (i + 1)) s
+item_next n i s h = let e : n - i ≡ suc (n - (i + 1)) = omega arith in ap (λ z. replicate z s) e
+
+pub items_past : (n i : ℕ) (s : Shape) → n ≤ i → replicate (n - i) s ≡ []
+items_past n i s h = let e : n - i ≡ 0 = omega arith in ap (λ z. replicate z s) e
+
+pub fields_past : (k : Classes) (place number : ℕ) → place < length k → IfSome (slice_get k place) (λ c. length c.fields ≤ number) → drop number (field_shapes k place) ≡ []
+fields_past k place number l h =
+    let d = get_within k place l in
+    let n : length d.0.fields ≤ number = subst (λ o. IfSome o (λ c. length c.fields ≤ number)) d.1 h in
+    let m : length (map (λ f. f.shape) d.0.fields) ≡ length d.0.fields = length-map d.0.fields (λ f. f.shape) in
+    ap (λ o. drop number (option_map_or (λ c. map (λ f. f.shape) c.fields) o [])) d.1 ∙ drop_all number (map (λ f. f.shape) d.0.fields) (omega arith)
+
+pub room_first : (P : Shape → Type 0) (ss : List Shape) (i : ℕ) (s : Shape) (us : List Shape) → AllByRecursion P ss → drop i ss ≡ s ∷ us → P s
+room_first P [] zero s us a e = cc
+room_first P [] (suc i) s us a e = cc
+room_first P (t ∷ ss) zero s us a e = let h : t ≡ s = cc in subst P h a.0
+room_first P (t ∷ ss) (suc i) s us a e = room_first P ss i s us a.1 e

@@ -1,0 +1,151 @@
+-- Each part of a value where it stands, and what it comes to.
+use Rattle.std.proofs.Common.{◌≡◌, ℕ, ◌+◌, ◌-◌, ◌<◌, ◌≤◌, length, refl, sym, ◌∙◌, ap, subst, arith, get_or, rules}
+use Rattle.std.specs.Prelude.{IsSome, IfSome, IsOk, IfOk, option_map, option_to_list, replicate}
+use Rattle.jfr_layout.specs.Classes.{item_of}
+use Rattle.jfr_value.specs.Nodes.{EndsAt, IsRow}
+use Rattle.jfr_value.specs.Values.{Values, key_of}
+use Rattle.jfr_value.specs.Visits.{TakesAll, field_shapes}
+use Rattle.jfr_value.specs.Walks.{IsSlotIfKnown, Room}
+use Rattle.jfr_value.proofs.PlaceLaws.{placed_within}
+use Rattle.jfr_value.proofs.SlotLaws.{few_fields, field_of, no_slot}
+use Rattle.jfr_value.proofs.StackLaws.{inner_room}
+use Rattle.jfr_value.proofs.VisitLaws.{array_there, field_next, fields_node, fields_past, hollow_items, inline_node, inline_plain, inline_text, item_next, items_known, items_node, items_past, key_node, left_ends, left_goes, left_there, none_left, room_first, room_within, takes_none, takes_one}
+use Rattle.jfr_value.proofs.visit.+visits.Goals as goal
+
+pub visit_value-visit_key-requires-clause-stands : goal.visit_value-visit_key-requires-clause-stands
+visit_value-visit_key-requires-clause-stands g t c =
+    let r = c.requires.stands in
+    let n = key_node c.args.classes.now c.args.whole.now.bytes.now c.args.at r.0 c.args.whole.now.end c.args.slot.now.shape r.2 c.requires.within r.1.0 r.1.1 c.if-slot.false c.if-slot-2.true in
+    subst (λ z. IsSome z) (sym n.found) refl
+
+pub visit_value-returns-then-slot-2-clause-visited : goal.visit_value-returns-then-slot-2-clause-visited
+visit_value-returns-then-slot-2-clause-visited g t c = λ to v i l.
+    (let n = key_node c.args.classes.now c.args.whole.now.bytes.now c.args.at to c.args.whole.now.end c.args.slot.now.shape l c.requires.within v i c.if-slot.false c.if-slot-2.true in
+    let h = subst (λ z. IfSome z (λ key. (c.visit_key.result ≡ key.end) × g.V.Visit.takes c.args.with.now (c.args.slot.now.shape.class, key.value) c.args.visitor.now c.visit_key.new.visitor)) n.found c.visit_key.ensures.visited in
+    (h.0, takes_one (g.V.Visit.takes c.args.with.now) _ (c.args.slot.now.shape.class, n.key) c.args.visitor.now c.visit_key.new.visitor n.targets h.1, rw n.leaves c.visit_key.ensures.cost))
+
+pub visit_array-unreachable-requires : goal.visit_array-unreachable-requires
+visit_array-unreachable-requires g t c =
+    let r = c.requires.stands in
+    array_there c.args.classes.now c.args.whole.now.bytes.now c.args.at r.0 c.args.whole.now.end c.args.slot.now.shape r.2 c.requires.within r.1.0 r.1.1 c.requires.array c.in_default.ensures.exact.0
+
+pub visit_array-returns-then-count-eq0-clause-visited : goal.visit_array-returns-then-count-eq0-clause-visited
+visit_array-returns-then-count-eq0-clause-visited g t c = λ to v i l.
+    (let n = items_node c.args.classes.now c.args.whole.now.bytes.now c.args.at to c.args.whole.now.end c.args.slot.now.shape l c.requires.within v c.in-Ok.count i c.requires.array c.in-Ok.ensures.exact in
+    let x = none_left c.args.classes.now c.args.whole.now.bytes.now c.in-Ok.count.end to (replicate c.in-Ok.count.value (item_of c.args.slot.now.shape)) n.parts n.row (ap (λ z. replicate z (item_of c.args.slot.now.shape)) c.if-count-eq0.true) in
+    (x.ends, takes_none (g.V.Visit.takes c.args.with.now) _ c.args.visitor.now (n.targets ∙ x.targets), omega (arith, n.leaves, x.leaves, c.tick.ensures)))
+
+pub visit_array-has_bytes-requires : goal.visit_array-has_bytes-requires
+visit_array-has_bytes-requires g t c = λ o.
+    (let r = c.requires.stands in
+    let n = items_node c.args.classes.now c.args.whole.now.bytes.now c.args.at r.0 c.args.whole.now.end c.args.slot.now.shape r.2 c.requires.within r.1.0 c.in-Ok.count r.1.1 c.requires.array c.in-Ok.ensures.exact in
+    let h = items_known c.args.classes.now c.args.whole.now.bytes.now c.in-Ok.count.end r.0 c.in-Ok.count.value c.args.slot.now.shape n.parts n.row c.if-count-eq0.false o in
+    placed_within c.args.classes.now c.args.slot.now.shape.class c.args.slot.now.place (c.requires.slot o h).place)
+
+pub visit_array-returns-then-not-has_bytes-clause-visited : goal.visit_array-returns-then-not-has_bytes-clause-visited
+visit_array-returns-then-not-has_bytes-clause-visited g t c = λ to v i l.
+    (let n = items_node c.args.classes.now c.args.whole.now.bytes.now c.args.at to c.args.whole.now.end c.args.slot.now.shape l c.requires.within v c.in-Ok.count i c.requires.array c.in-Ok.ensures.exact in
+    let h = c.has_bytes.ensures c.if-not-has_bytes.true in
+    let x = hollow_items c.args.classes.now c.args.whole.now.bytes.now c.in-Ok.count.end to c.in-Ok.count.value c.args.slot.now.place c.args.slot.now.kind c.args.slot.now.shape n.parts n.row c.if-count-eq0.false c.requires.slot h.0 h.1 in
+    (x.ends, takes_none (g.V.Visit.takes c.args.with.now) _ c.args.visitor.now (n.targets ∙ x.targets), omega (arith, n.leaves, x.leaves, c.tick.ensures)))
+
+pub visit_array-visit_value-to-requires : goal.visit_array-visit_value-to-requires
+visit_array-visit_value-to-requires g t c =
+    let r = c.requires.stands in
+    let n = items_node c.args.classes.now c.args.whole.now.bytes.now c.args.at r.0 c.args.whole.now.end c.args.slot.now.shape r.2 c.requires.within r.1.0 c.in-Ok.count r.1.1 c.requires.array c.in-Ok.ensures.exact in
+    let f = c.items.invariant.left r.0 n.parts n.row r.2 in
+    let h = left_there (g.V.Visit.takes c.args.with.now) c.args.classes.now c.args.whole.now.bytes.now c.in-Ok.count.end r.0 n.parts c.args.visitor.now c.tick.new.self (item_of c.args.slot.now.shape) (replicate (c.in-Ok.count.value - (c.items.counter + 1)) (item_of c.args.slot.now.shape)) _ c.items.to c.items.visitor c.items.steps f (item_next c.in-Ok.count.value c.items.counter (item_of c.args.slot.now.shape) c.items-test.true) in
+    let stands : (to : ℕ) × EndsAt c.args.classes.now c.args.whole.now.bytes.now (item_of c.args.slot.now.shape) c.items.to to × (to ≤ c.args.whole.now.end) = (let w = h.within in let l = r.2 in (h.place, (h.value, h.node), omega arith)) in
+    search (rules, stands)
+
+pub visit_array-items-preserved : goal.visit_array-items-preserved
+visit_array-items-preserved g t c = record {
+  ready = c.visit_value-to.ensures.ready;
+  left = λ to vs r l.
+      left_goes (g.V.Visit.takes c.args.with.now) c.args.classes.now c.args.whole.now.bytes.now c.in-Ok.count.end to vs c.args.visitor.now c.tick.new.self (item_of c.args.slot.now.shape) (replicate (c.in-Ok.count.value - (c.items.counter + 1)) (item_of c.args.slot.now.shape)) _ c.items.to c.items.visitor c.items.steps c.args.whole.now.end c.visit_value-to.result c.visit_value-to.new.visitor c.visit_value-to.new.steps
+      (c.items.invariant.left to vs r l) (item_next c.in-Ok.count.value c.items.counter (item_of c.args.slot.now.shape) c.items-test.true) l c.visit_value-to.ensures.visited;
+}
+
+pub visit_array-returns-clause-visited : goal.visit_array-returns-clause-visited
+visit_array-returns-clause-visited g t c = λ to v i l.
+    (let n = items_node c.args.classes.now c.args.whole.now.bytes.now c.args.at to c.args.whole.now.end c.args.slot.now.shape l c.requires.within v c.in-Ok.count i c.requires.array c.in-Ok.ensures.exact in
+    let e = left_ends (g.V.Visit.takes c.args.with.now) c.args.classes.now c.args.whole.now.bytes.now c.in-Ok.count.end to n.parts c.args.visitor.now c.tick.new.self _ c.items.to c.items.visitor c.items.steps (c.items.invariant.left to n.parts n.row l) (items_past c.in-Ok.count.value c.items.counter (item_of c.args.slot.now.shape) c.items-test.false) in
+    (e.0, subst (λ z. TakesAll (g.V.Visit.takes c.args.with.now) z c.args.visitor.now c.items.visitor) (sym n.targets) e.1, omega (arith, n.leaves, e.2, c.tick.ensures)))
+
+pub visit_fields-visit_value-to-requires : goal.visit_fields-visit_value-to-requires
+visit_fields-visit_value-to-requires g t c =
+    let slot = get_or c.slots-slot-items.result.now c.loop-slot.slot-index no_slot in
+    let f = field_of c.args.classes.now c.args.place c.loop-slot.slot-index c.slots-slot-items.result.now c.requires.placed c.slots-slot-items.ensures.exact c.loop-slot-test.true in
+    let x = field_next c.args.classes.now c.args.place c.loop-slot.slot-index f.field slot.shape f.there f.shape in
+    let r = c.requires.stand in
+    let h = left_there (g.V.Visit.takes c.args.with.now) c.args.classes.now c.args.whole.now.bytes.now c.args.at r.0 r.1 c.args.visitor.now c.args.steps.now slot.shape _ _ c.loop-slot.to c.loop-slot.visitor c.loop-slot.steps (c.loop-slot.invariant.left r.0 r.1 r.2 r.3) x in
+    let stands : (to : ℕ) × EndsAt c.args.classes.now c.args.whole.now.bytes.now slot.shape c.loop-slot.to to × (to ≤ c.args.whole.now.end) = (let w = h.within in let l = r.3 in (h.place, (h.value, h.node), omega arith)) in
+    let known : IsSlotIfKnown c.args.classes.now slot = (λ o h. f.of_class) in
+    let room : Room c.args.classes.now c.args.levels slot.shape = room_first (Room c.args.classes.now c.args.levels) (field_shapes c.args.classes.now c.args.place) c.loop-slot.slot-index slot.shape _ c.requires.room x in
+    search (rules, stands, known, room)
+
+pub visit_fields-loop-slot-preserved : goal.visit_fields-loop-slot-preserved
+visit_fields-loop-slot-preserved g t c = record {
+  ready = c.visit_value-to.ensures.ready;
+  left =
+      let slot = get_or c.slots-slot-items.result.now c.loop-slot.slot-index no_slot in
+      let f = field_of c.args.classes.now c.args.place c.loop-slot.slot-index c.slots-slot-items.result.now c.requires.placed c.slots-slot-items.ensures.exact c.loop-slot-test.true in
+      let x = field_next c.args.classes.now c.args.place c.loop-slot.slot-index f.field slot.shape f.there f.shape in
+      λ to vs r l.
+      left_goes (g.V.Visit.takes c.args.with.now) c.args.classes.now c.args.whole.now.bytes.now c.args.at to vs c.args.visitor.now c.args.steps.now slot.shape _ _ c.loop-slot.to c.loop-slot.visitor c.loop-slot.steps c.args.whole.now.end c.visit_value-to.result c.visit_value-to.new.visitor c.visit_value-to.new.steps
+      (c.loop-slot.invariant.left to vs r l) x l c.visit_value-to.ensures.visited;
+}
+
+pub visit_fields-returns-clause-visited : goal.visit_fields-returns-clause-visited
+visit_fields-returns-clause-visited g t c = λ to vs r l.
+    left_ends (g.V.Visit.takes c.args.with.now) c.args.classes.now c.args.whole.now.bytes.now c.args.at to vs c.args.visitor.now c.args.steps.now _ c.loop-slot.to c.loop-slot.visitor c.loop-slot.steps (c.loop-slot.invariant.left to vs r l)
+    (fields_past c.args.classes.now c.args.place c.loop-slot.slot-index c.requires.placed (few_fields c.args.classes.now c.args.place c.loop-slot.slot-index c.slots-slot-items.result.now c.requires.placed c.slots-slot-items.ensures.exact c.loop-slot-test.false))
+
+pub visit_value-overflow_sub-levels : goal.visit_value-overflow_sub-levels
+visit_value-overflow_sub-levels g t c =
+    let r = c.requires.stands in
+    let d = inline_node c.args.classes.now c.args.whole.now.bytes.now c.args.at r.0 c.args.whole.now.end c.args.slot.now.shape r.2 c.requires.within r.1.0 c.args.slot.now.place c.args.slot.now.kind r.1.1 c.if-slot.false c.if-slot-2.false c.requires.slot in
+    (inner_room c.args.classes.now c.args.levels c.args.slot.now.shape d.class c.requires.room c.if-slot-2.false d.found (sym d.kind_is ∙ c.in-Composite.is)).0
+
+pub visit_value-visit_fields-requires : goal.visit_value-visit_fields-requires
+visit_value-visit_fields-requires g t c =
+    let r = c.requires.stands in
+    let d = inline_node c.args.classes.now c.args.whole.now.bytes.now c.args.at r.0 c.args.whole.now.end c.args.slot.now.shape r.2 c.requires.within r.1.0 c.args.slot.now.place c.args.slot.now.kind r.1.1 c.if-slot.false c.if-slot-2.false c.requires.slot in
+    let room = room_within c.args.classes.now c.args.whole.now.bytes.now c.args.at r.0 c.args.whole.now.end c.args.slot.now.shape r.2 c.requires.within c.args.slot.now.place c.args.slot.now.kind c.args.levels d c.in-Composite.is c.if-slot-2.false c.requires.room in
+    let n = fields_node c.args.classes.now c.args.whole.now.bytes.now c.args.at r.0 c.args.whole.now.end c.args.slot.now.shape r.2 c.requires.within r.1.0 c.args.slot.now.place c.args.slot.now.kind r.1.1 c.if-slot.false c.if-slot-2.false d c.in-Composite.is in
+    let within : c.args.slot.now.place < length c.args.classes.now = d.within in
+    let stand : (to : ℕ) × (vs : Values) × IsRow c.args.classes.now c.args.whole.now.bytes.now c.args.at to (field_shapes c.args.classes.now c.args.slot.now.place) vs × (to ≤ c.args.whole.now.end) = (r.0, n.parts, n.row, r.2) in
+    search (rules, room, within, stand)
+
+pub visit_value-visit_string-requires-clause-stands : goal.visit_value-visit_string-requires-clause-stands
+visit_value-visit_string-requires-clause-stands g t c =
+    let r = c.requires.stands in
+    let n = inline_text c.args.classes.now c.args.whole.now.bytes.now c.args.at r.0 c.args.whole.now.end c.args.slot.now.shape r.2 c.requires.within r.1.0 c.args.slot.now.place c.args.slot.now.kind r.1.1 c.if-slot.false c.if-slot-2.false c.requires.slot c.in-Text.is in
+    subst (λ z. IsOk z) (sym n.reads) refl
+
+pub visit_value-visit_plain-requires : goal.visit_value-visit_plain-requires
+visit_value-visit_plain-requires g t c =
+    let r = c.requires.stands in
+    let n = inline_plain c.args.classes.now c.args.whole.now.bytes.now c.args.at r.0 c.args.whole.now.end c.args.slot.now.shape r.2 c.requires.within r.1.0 c.args.slot.now.place c.args.slot.now.kind r.1.1 c.if-slot.false c.if-slot-2.false c.requires.slot c.in_default.not-Text c.in_default.not-Composite in
+    record { order = (let o = r.1.1.order in let l = r.2 in omega arith); within = c.requires.within; stands = subst (λ z. IsOk z) (sym n.ends) refl }
+
+pub visit_value-returns-in-Composite-clause-visited : goal.visit_value-returns-in-Composite-clause-visited
+visit_value-returns-in-Composite-clause-visited g t c = λ to v i l.
+    (let d = inline_node c.args.classes.now c.args.whole.now.bytes.now c.args.at to c.args.whole.now.end c.args.slot.now.shape l c.requires.within v c.args.slot.now.place c.args.slot.now.kind i c.if-slot.false c.if-slot-2.false c.requires.slot in
+    let n = fields_node c.args.classes.now c.args.whole.now.bytes.now c.args.at to c.args.whole.now.end c.args.slot.now.shape l c.requires.within v c.args.slot.now.place c.args.slot.now.kind i c.if-slot.false c.if-slot-2.false d c.in-Composite.is in
+    let e = c.visit_fields.ensures.visited to n.parts n.row l in
+    (e.0, subst (λ z. TakesAll (g.V.Visit.takes c.args.with.now) z c.args.visitor.now c.visit_fields.new.visitor) (sym n.targets) e.1, omega (arith, n.leaves, e.2)))
+
+pub visit_value-returns-in-Text-clause-visited : goal.visit_value-returns-in-Text-clause-visited
+visit_value-returns-in-Text-clause-visited g t c = λ to v i l.
+    (let n = inline_text c.args.classes.now c.args.whole.now.bytes.now c.args.at to c.args.whole.now.end c.args.slot.now.shape l c.requires.within v c.args.slot.now.place c.args.slot.now.kind i c.if-slot.false c.if-slot-2.false c.requires.slot c.in-Text.is in
+    let h = subst (λ z. IfOk z (λ got. (c.visit_string.result ≡ got.place) × TakesAll (g.V.Visit.takes c.args.with.now) (option_to_list (option_map (λ key. (c.args.slot.now.shape.class, key)) (key_of got.value))) c.args.visitor.now c.visit_string.new.visitor)) n.reads c.visit_string.ensures.visited in
+    (h.0, subst (λ z. TakesAll (g.V.Visit.takes c.args.with.now) z c.args.visitor.now c.visit_string.new.visitor) (sym n.targets) h.1, rw n.leaves c.visit_string.ensures.cost))
+
+pub visit_value-returns-in_default : goal.visit_value-returns-in_default
+visit_value-returns-in_default g t c = record {
+  visited = λ to v i l.
+      (let n = inline_plain c.args.classes.now c.args.whole.now.bytes.now c.args.at to c.args.whole.now.end c.args.slot.now.shape l c.requires.within v c.args.slot.now.place c.args.slot.now.kind i c.if-slot.false c.if-slot-2.false c.requires.slot c.in_default.not-Text c.in_default.not-Composite in
+      (subst (λ z. IfOk z (λ to. c.visit_plain.result ≡ to)) n.ends c.visit_plain.ensures.ends, takes_none (g.V.Visit.takes c.args.with.now) _ c.args.visitor.now n.targets, rw n.leaves c.visit_plain.ensures.cost));
+  ready = c.requires.ready;
+}

@@ -1,0 +1,261 @@
+// What a value refers to, handed out by a walk over its parts.
+ghost use Rattle.std.specs.Prelude.{◌≡◌, ◌≢◌, ℕ, ◌+◌, ◌≤◌, ◌<◌, length, true, false, IsOk, IfOk, IsSome, IfSome, option_map, option_to_list, slice_get};
+ghost use Rattle.std.specs.List.{AllByRecursion};
+ghost use Rattle.jfr_base.specs.Formats.{int_at, run, seen};
+ghost use Rattle.jfr_text.specs.Strings.{string_format};
+ghost use Rattle.jfr_layout.specs.Classes.{Sound};
+ghost use Rattle.jfr_value.specs.Leaves.{leaves, leaves_at, leaves_from};
+ghost use Rattle.jfr_value.specs.Nodes.{EndsAt, IsNode, IsRow, IsValue, node_at, node_of, targets};
+ghost use Rattle.jfr_value.specs.Reading.{base_format};
+ghost use Rattle.jfr_value.specs.Values.{IsHollow, Value, Values, key_of, targets_of, targets_of_all};
+ghost use Rattle.jfr_value.specs.Visits.{TakesAll, field_shapes};
+ghost use Rattle.jfr_value.specs.Walks.{IsSlotIfKnown, Room};
+
+use crate::extent::{base_end, is_hollow, slot_of};
+use crate::walk::STEPS;
+use crate::{Node, Steps};
+use jfr_base::read_within;
+use jfr_layout::{Classes, Kind, Shape, Slot};
+use jfr_text::{StringKind, read_string};
+use std::sync::ledger::Ledger;
+
+/// Takes what a value refers to, beside something that it looks at.
+pub trait Visit<C> {
+    // Whether it can take a target.
+    ghost ready: { Self → C → Type 0 };
+
+    // What becomes of it when it takes a class and a key.
+    ghost takes: { C → ℕ × ℕ → Self → Self → Type 0 };
+
+    /// Takes a class and a key.
+    fn visit(&mut self, with: &C, class: u64, key: u64)
+        requires { ready self.old with.now }
+        ensures ready { ready self.new with.now }
+        ensures takes { takes with.now (class, key) self.old self.new };
+}
+
+/// Hands out the class and the key of each reference of a value, and of each string that is a key, from
+/// left to right, at a step for each leaf. It takes no memory. A value must stand there.
+pub fn visit_targets<C, V: Visit<C>, L: Ledger>(
+    classes: &Classes,
+    node: Node<'_>,
+    visitor: &mut V,
+    with: &C,
+    steps: &mut Steps<L>,
+)
+    requires value { IsValue classes.now node }
+    requires ready { V.ready visitor.old with.now }
+    ensures exact { TakesAll (V.takes with.now) (targets classes.now node.entry.bytes.now (node_of node.entry)) visitor.old visitor.new }
+    ensures ready { V.ready visitor.new with.now }
+    ensures cost { steps.new ≡ steps.old + length (leaves classes.now node.entry.bytes.now (node_of node.entry)) }
+{
+    let slot = slot_of(classes, node.shape);
+    let _end = visit_value(classes, &node, &slot, STEPS, node.at, visitor, with, steps);
+}
+
+/// Visits a value of a shape, whose class is at a place, and says where it ends.
+#[cycle(visits)]
+#[inline(always)]
+fn visit_value<C, V: Visit<C>, L: Ledger>(
+    classes: &Classes,
+    whole: &Node<'_>,
+    slot: &Slot,
+    levels: u32,
+    at: usize,
+    visitor: &mut V,
+    with: &C,
+    steps: &mut Steps<L>,
+) -> usize
+    requires sound { Sound classes.now }
+    requires within { whole.now.end ≤ length whole.now.bytes.now }
+    requires slot { IsSlotIfKnown classes.now slot.now }
+    requires room { Room classes.now levels slot.now.shape }
+    requires stands { (to : ℕ) × EndsAt classes.now whole.now.bytes.now slot.now.shape at to × (to ≤ whole.now.end) }
+    requires ready { V.ready visitor.old with.now }
+    ensures visited { (to : ℕ) (v : Value) → IsNode classes.now whole.now.bytes.now (node_at slot.now.shape at to) v → to ≤ whole.now.end
+        → (result ≡ to) × TakesAll (V.takes with.now) (targets_of v) visitor.old visitor.new × (steps.new ≡ steps.old + length (leaves_at at v)) }
+    ensures ready { V.ready visitor.new with.now }
+{
+    if slot.shape.array {
+        return visit_array(classes, whole, slot, levels, at, visitor, with, steps);
+    }
+    if slot.shape.constant {
+        return visit_key(whole, slot.shape.class, at, visitor, with, steps);
+    }
+    match slot.kind {
+        Kind::Composite => visit_fields(
+            classes,
+            whole,
+            slot.place,
+            levels - 1,
+            at,
+            visitor,
+            with,
+            steps,
+        ),
+        Kind::Text => visit_string(whole, slot.shape.class, at, visitor, with, steps),
+        kind => visit_plain(whole, kind, at, steps),
+    }
+}
+
+/// Visits the fields of the class at a place, and says where they end.
+#[cycle(visits)]
+fn visit_fields<C, V: Visit<C>, L: Ledger>(
+    classes: &Classes,
+    whole: &Node<'_>,
+    place: usize,
+    levels: u32,
+    at: usize,
+    visitor: &mut V,
+    with: &C,
+    steps: &mut Steps<L>,
+) -> usize
+    requires sound { Sound classes.now }
+    requires within { whole.now.end ≤ length whole.now.bytes.now }
+    requires placed { place < length classes.now }
+    requires room { AllByRecursion (Room classes.now levels) (field_shapes classes.now place) }
+    requires stand { (to : ℕ) × (vs : Values) × IsRow classes.now whole.now.bytes.now at to (field_shapes classes.now place) vs × (to ≤ whole.now.end) }
+    requires ready { V.ready visitor.old with.now }
+    ensures visited { (to : ℕ) (vs : Values) → IsRow classes.now whole.now.bytes.now at to (field_shapes classes.now place) vs → to ≤ whole.now.end
+        → (result ≡ to) × TakesAll (V.takes with.now) (targets_of_all vs) visitor.old visitor.new × (steps.new ≡ steps.old + length (leaves_from at vs)) }
+    ensures ready { V.ready visitor.new with.now }
+{
+    let mut to = at;
+    for slot in classes.slots(place) {
+        to = visit_value(classes, whole, slot, levels, to, visitor, with, steps);
+    }
+    to
+}
+
+/// Visits an array, whose count takes a step, and says where it ends.
+#[cycle(visits)]
+fn visit_array<C, V: Visit<C>, L: Ledger>(
+    classes: &Classes,
+    whole: &Node<'_>,
+    slot: &Slot,
+    levels: u32,
+    at: usize,
+    visitor: &mut V,
+    with: &C,
+    steps: &mut Steps<L>,
+) -> usize
+    requires sound { Sound classes.now }
+    requires within { whole.now.end ≤ length whole.now.bytes.now }
+    requires array { slot.now.shape.array ≡ true }
+    requires slot { IsSlotIfKnown classes.now slot.now }
+    requires room { Room classes.now levels slot.now.shape }
+    requires stands { (to : ℕ) × EndsAt classes.now whole.now.bytes.now slot.now.shape at to × (to ≤ whole.now.end) }
+    requires ready { V.ready visitor.old with.now }
+    ensures visited { (to : ℕ) (v : Value) → IsNode classes.now whole.now.bytes.now (node_at slot.now.shape at to) v → to ≤ whole.now.end
+        → (result ≡ to) × TakesAll (V.takes with.now) (targets_of v) visitor.old visitor.new × (steps.new ≡ steps.old + length (leaves_at at v)) }
+    ensures ready { V.ready visitor.new with.now }
+{
+    let Ok(count) = read_within(whole.bytes, at, whole.end) else {
+        unreachable!()
+    };
+    steps.tick();
+    if count.value == 0 {
+        return count.end;
+    }
+    if !has_bytes(classes, slot) {
+        return count.end;
+    }
+    let item = Slot {
+        shape: Shape {
+            class: slot.shape.class,
+            constant: slot.shape.constant,
+            array: false,
+        },
+        place: slot.place,
+        kind: slot.kind,
+    };
+    let mut to = count.end;
+    'items: for _ in 0..count.value {
+        to = visit_value(classes, whole, &item, levels, to, visitor, with, steps);
+    }
+    to
+}
+
+/// Whether the items of an array have bytes.
+fn has_bytes(classes: &Classes, slot: &Slot) -> bool
+    requires { slot.now.shape.constant ≡ false → slot.now.place < length classes.now }
+    ensures { result ≡ false → (slot.now.shape.constant ≡ false) × IfSome (slice_get classes.now slot.now.place) IsHollow }
+{
+    if slot.shape.constant {
+        return true;
+    }
+    !is_hollow(classes, slot.place)
+}
+
+/// Visits a reference of a class, at a step, and says where it ends.
+#[inline(always)]
+fn visit_key<C, V: Visit<C>, L: Ledger>(
+    whole: &Node<'_>,
+    class: u64,
+    at: usize,
+    visitor: &mut V,
+    with: &C,
+    steps: &mut Steps<L>,
+) -> usize
+    requires order { at ≤ whole.now.end }
+    requires within { whole.now.end ≤ length whole.now.bytes.now }
+    requires stands { IsSome (int_at whole.now.bytes.now at whole.now.end) }
+    requires ready { V.ready visitor.old with.now }
+    ensures visited { IfSome (int_at whole.now.bytes.now at whole.now.end) (λ key.
+        (result ≡ key.end) × V.takes with.now (class, key.value) visitor.old visitor.new) }
+    ensures ready { V.ready visitor.new with.now }
+    ensures cost { steps.new ≡ steps.old + 1 }
+{
+    let Ok(key) = read_within(whole.bytes, at, whole.end) else {
+        unreachable!()
+    };
+    steps.tick();
+    visitor.visit(with, class, key.value);
+    key.end
+}
+
+/// Visits a string, at a step, and says where it ends.
+#[inline(always)]
+fn visit_string<C, V: Visit<C>, L: Ledger>(
+    whole: &Node<'_>,
+    class: u64,
+    at: usize,
+    visitor: &mut V,
+    with: &C,
+    steps: &mut Steps<L>,
+) -> usize
+    requires order { at ≤ whole.now.end }
+    requires within { whole.now.end ≤ length whole.now.bytes.now }
+    requires stands { IsOk (run (string_format true) whole.now.bytes.now whole.now.end at) }
+    requires ready { V.ready visitor.old with.now }
+    ensures visited { IfOk (run (string_format true) whole.now.bytes.now whole.now.end at) (λ got.
+        (result ≡ got.place) × TakesAll (V.takes with.now) (option_to_list (option_map (λ key. (class, key)) (key_of got.value))) visitor.old visitor.new) }
+    ensures ready { V.ready visitor.new with.now }
+    ensures cost { steps.new ≡ steps.old + 1 }
+{
+    let Ok(string) = read_string(whole.bytes, at, whole.end) else {
+        unreachable!()
+    };
+    steps.tick();
+    match string.kind {
+        StringKind::Key => visitor.visit(with, class, string.key),
+        _ => {}
+    }
+    string.end
+}
+
+/// Visits a value of a base name that refers to nothing, at a step, and says where it ends.
+#[inline(always)]
+fn visit_plain<L: Ledger>(whole: &Node<'_>, kind: Kind, at: usize, steps: &mut Steps<L>) -> usize
+    requires order { at ≤ whole.now.end }
+    requires within { whole.now.end ≤ length whole.now.bytes.now }
+    requires stands { IsOk (seen (run (base_format kind) whole.now.bytes.now whole.now.end at)) }
+    ensures ends { IfOk (seen (run (base_format kind) whole.now.bytes.now whole.now.end at)) (λ to. result ≡ to) }
+    ensures cost { steps.new ≡ steps.old + 1 }
+{
+    let Ok(to) = base_end(kind, whole.bytes, at, whole.end) else {
+        unreachable!()
+    };
+    steps.tick();
+    to
+}
