@@ -142,10 +142,3 @@ reading_next x at end place value shift byte r h i e j n = by_groups r.groups re
           small = omega arith;
           same = r.same ∙ (f ∙ (ap (λ v. going_on k x (place + 1) end v (2 ^ shift * 128)) t ∙ ap (λ w. going_on k x (place + 1) end (value + byte % 128 * 2 ^ shift % 18446744073709551616) w) (sym p)));
         }
-
--- an integer of one byte
-pub one_byte : (x : List ℕ) (at end byte : ℕ) → at < end → end ≤ length x → byte ≡ slice_index x at → byte < 128 → int_at x at end ≡ Some (var byte (at + 1))
-one_byte x at end byte h i e j =
-    let r = reading_start x at end in
-    let s : 0 + 1 * slice_index x at ≡ byte = omega arith in
-    r.same ∙ (going_last r.groups x at end 0 1 h i (omega arith) ∙ ap (λ v. Some (var v (at + 1))) s)

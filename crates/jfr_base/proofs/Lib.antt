@@ -1,5 +1,6 @@
 pub mod AlikeLaws
 pub mod Copies
+pub mod Ends
 pub mod Exact
 pub mod ExactLaws
 pub mod FormatLaws

@@ -18,6 +18,9 @@ pub struct Var {
 #[derive(Clone, Copy, Debug, PartialEq, Eq)]
 pub struct Short;
 
+/// So many bytes has the longest spelling.
+const LONGEST: usize = 9;
+
 /// Where the ninth byte's eight bits stand in the value.
 const NINTH_SHIFT: u32 = 56;
 
@@ -37,6 +40,7 @@ pub fn read_var(bytes: &[u8], at: usize) -> Result<Var, Short>
 
 /// Reads the integer that is spelled at a place and ends by `end`. Where none does, the flaw is
 /// `Short` at that place.
+#[inline]
 pub fn read_within(bytes: &[u8], at: usize, end: usize) -> Result<Var, Flaw>
     requires order { at ≤ end }
     requires within { end ≤ length bytes.now }
@@ -45,16 +49,41 @@ pub fn read_within(bytes: &[u8], at: usize, end: usize) -> Result<Var, Flaw>
     ensures range { IfOk result (λ v. (at < v.end) × (v.end ≤ end)) }
     ensures exact { MatchResult result (λ v. int_at bytes.now at end ≡ Some v) (λ e. (int_at bytes.now at end ≡ None) × (e ≡ record { offset = at; reason = Reason.Short })) }
 {
-    if at < end && bytes[at] < 128 {
-        return Ok(Var {
-            value: u64::from(bytes[at]),
-            end: at + 1,
-        });
+    var_within(bytes, at, end)
+}
+
+/// The same, by computing.
+#[inline]
+fn var_within(bytes: &[u8], at: usize, end: usize) -> Result<Var, Flaw>
+    requires order { at ≤ end }
+    requires within { end ≤ length bytes.now }
+    ensures range { IfOk result (λ v. (at < v.end) × (v.end ≤ end)) }
+    ensures exact { MatchResult result (λ v. int_at bytes.now at end ≡ Some v) (λ e. (int_at bytes.now at end ≡ None) × (e ≡ record { offset = at; reason = Reason.Short })) }
+{
+    if bytes.len() - at < LONGEST {
+        return read_near_end(bytes, at, end);
     }
+    // An integer ends in any nine bytes: the loop has a fixed length.
+    let var = read_groups(bytes, at, at + LONGEST)?;
+    if var.end > end {
+        return Err(ends_early(at));
+    }
+    Ok(var)
+}
+
+/// The same, where fewer bytes are left than the longest spelling has.
+#[cold]
+fn read_near_end(bytes: &[u8], at: usize, end: usize) -> Result<Var, Flaw>
+    requires order { at ≤ end }
+    requires within { end ≤ length bytes.now }
+    ensures range { IfOk result (λ v. (at < v.end) × (v.end ≤ end)) }
+    ensures exact { MatchResult result (λ v. int_at bytes.now at end ≡ Some v) (λ e. (int_at bytes.now at end ≡ None) × (e ≡ record { offset = at; reason = Reason.Short })) }
+{
     read_groups(bytes, at, end)
 }
 
 /// The same, by a loop over the groups.
+#[inline(always)]
 fn read_groups(bytes: &[u8], at: usize, end: usize) -> Result<Var, Flaw>
     requires order { at ≤ end }
     requires within { end ≤ length bytes.now }
@@ -74,10 +103,17 @@ fn read_groups(bytes: &[u8], at: usize, end: usize) -> Result<Var, Flaw>
         value += u64::from(byte % 128) << shift;
         shift += 7;
     }
-    Err(Flaw {
+    Err(ends_early(at))
+}
+
+/// The flaw of a place where no integer ends in time.
+fn ends_early(at: usize) -> Flaw
+    ensures { result ≡ record { offset = at; reason = Reason.Short } }
+{
+    Flaw {
         offset: at as u64,
         reason: Reason::Short,
-    })
+    }
 }
 
 /// Writes the shortest spelling of a value to the front of `into`, and gives its length. Nothing is
