@@ -60,7 +60,7 @@ fn var_within(bytes: &[u8], at: usize, end: usize) -> Result<Var, Flaw>
     ensures range { IfOk result (λ v. (at < v.end) × (v.end ≤ end)) }
     ensures exact { MatchResult result (λ v. int_at bytes.now at end ≡ Some v) (λ e. (int_at bytes.now at end ≡ None) × (e ≡ record { offset = at; reason = Reason.Short })) }
 {
-    if bytes.len() - at < LONGEST {
+    if at >= bytes.len().saturating_sub(LONGEST - 1) {
         return read_near_end(bytes, at, end);
     }
     // An integer ends in any nine bytes: the loop has a fixed length.

@@ -22,6 +22,7 @@ ghost use Rattle.jfr_frame.specs.Records.{IsRecord, NoRecord, record_at};
 /// The record that starts at a place: `None` exactly at the chunk's end. It is refused as
 /// `RecordSize`, at its start, exactly where its size or its type doesn't end within the chunk, or
 /// the size is below its own two integers or past the chunk's end.
+#[inline(always)]
 pub fn next_record(chunk: &[u8], at: usize) -> Result<Option<Framed>, Flaw>
     requires { at ≤ length chunk.now }
     ensures end { (result ≡ Ok None) ↔ (at ≡ length chunk.now) }
@@ -44,7 +45,7 @@ pub fn next_record(chunk: &[u8], at: usize) -> Result<Option<Framed>, Flaw>
 }
 
 /// The record that starts there, if one does.
-#[inline]
+#[inline(always)]
 #[tactic(auto, unfolding(crate::specs::Records::record_at))]
 pub(crate) fn framed_at(chunk: &[u8], at: usize) -> Option<Framed>
     requires { at < length chunk.now }
