@@ -1,6 +1,6 @@
 // All records of a chunk.
 ghost use Rattle.std.specs.Prelude.{◌≡◌, ◌≤◌, length, option_map, slice_get, Ok, IfOk, IfErr};
-ghost use Rattle.jfr_frame.specs.Records.{AreRecords, starts_at, record_there, records_of};
+ghost use Rattle.jfr_frame.specs.Records.{AreRecords, places_of, starts_at, record_there, records_of};
 ghost use Rattle.jfr_frame.specs.Refused.{RefusedAt};
 
 use crate::framed::framed_at;
@@ -40,13 +40,31 @@ impl<'a> Frames<'a> {
         // The same by computing.
         ensures exact { IfOk result (λ rs. records_of chunk.now ≡ Ok rs) }
     {
-        let mut places = Vec::new(alloc);
+        Frames::read_in(Vec::new(alloc), chunk)
+    }
+
+    /// The same, where the places are kept in this room, whose content is given up.
+    pub fn read_in(room: Vec<usize>, chunk: &'a [u8]) -> Result<Frames<'a>, ReadFault>
+        requires { 68 ≤ length chunk.now }
+        ensures ok { IfOk result (λ rs. AreRecords chunk.now rs) }
+        ensures refused { IfErr result (λ fault. RefusedAt chunk.now fault) }
+        ensures exact { IfOk result (λ rs. records_of chunk.now ≡ Ok rs) }
+    {
+        let mut places = room;
+        places.clear();
         let mut at = 68;
         'records: while let Some(record) = next_record(chunk, at)? {
             places.push(record.at)?;
             at = record.at + record.size;
         }
         Ok(Frames { chunk, places })
+    }
+
+    /// The room of the places, to be used again.
+    pub fn into_room(self) -> Vec<usize>
+        ensures { result.items ≡ places_of self.entry }
+    {
+        self.places
     }
 
     /// How many records there are.

@@ -1,6 +1,6 @@
 use Rattle.std.proofs.Common.{length, ◌-◌}
 use Rattle.jfr_frame.proofs.Reading.{Read}
-use Rattle.jfr_frame.proofs.frames.Frames.read.Given as goal
+use Rattle.jfr_frame.proofs.frames.Frames.read_in.Given as goal
 
 abbrev pub invariant-records : goal.invariant-records
 invariant-records l = Read l.chunk l.places.items l.at

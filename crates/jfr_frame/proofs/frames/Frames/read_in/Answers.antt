@@ -1,7 +1,7 @@
 use Rattle.std.proofs.Common.{refl}
 use Rattle.std.proofs.lemmas.Result.{err_from_is_err_and}
 use Rattle.jfr_frame.proofs.Reading.{read_more, read_all, read_computed, read_stops}
-use Rattle.jfr_frame.proofs.frames.Frames.read.Goals as goal
+use Rattle.jfr_frame.proofs.frames.Frames.read_in.Goals as goal
 
 pub returns-in_err-record-clause-refused : goal.returns-in_err-record-clause-refused
 returns-in_err-record-clause-refused c =
