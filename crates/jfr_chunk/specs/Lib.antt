@@ -8,5 +8,6 @@ pub mod Scrub
 pub mod Meaning
 pub mod Seen
 pub mod Notes
+pub mod Rooms
 pub mod Stages
 pub mod Laws

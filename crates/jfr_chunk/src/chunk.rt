@@ -7,10 +7,11 @@ ghost use Rattle.jfr_pool.specs.Faults.{TellsFlaw};
 ghost use Rattle.jfr_chunk.specs.Parts.{AreParts, StartsAt, events_of, is_inert, metadata_at};
 ghost use Rattle.jfr_chunk.specs.Reach.{node_entries};
 ghost use Rattle.jfr_chunk.specs.Refusal.{Refused, read_parts};
+ghost use Rattle.jfr_chunk.specs.Rooms.{IsEmpty};
 ghost use Rattle.jfr_chunk.specs.Seen.{IsOfChunk, event_at};
 
 use crate::read::{header_in, read_events, record_named};
-use crate::{Event, Kept};
+use crate::{Event, Kept, Room};
 use jfr_base::{Flaw, ReadFault, Reason};
 use jfr_frame::{Framed, Frames};
 use jfr_header::Header;
@@ -89,14 +90,24 @@ impl<'a> Chunk<'a> {
         // The same by computing.
         ensures exact { MatchResult result (λ chunk. read_parts bytes.now ≡ Ok chunk) (TellsFlaw (read_parts bytes.now)) }
     {
+        Chunk::read_in(alloc, Room::new(alloc), bytes)
+    }
+
+    /// The same, where the indexes are kept in the room of an earlier chunk.
+    pub fn read_in(alloc: Global, room: Room, bytes: &'a [u8]) -> Result<Chunk<'a>, ReadFault>
+        requires { Whole bytes.now }
+        ensures ok { IfOk result (λ chunk. chunk.bytes ≡ bytes.now) }
+        ensures refused { IfErr result (IfFlawed (Refused bytes.now)) }
+        ensures exact { MatchResult result (λ chunk. read_parts bytes.now ≡ Ok chunk) (TellsFlaw (read_parts bytes.now)) }
+    {
         let header = header_in(bytes);
-        let frames = Frames::read(alloc, bytes)?;
+        let frames = Frames::read_in(room.places, bytes)?;
         let metadata_frame = record_named(&frames, header.metadata, METADATA, NO_METADATA)?;
         record_named(&frames, header.pools, CHECKPOINT, NO_CHECKPOINT)?;
         let chain = Chain::read(alloc, bytes, &frames, header.pools)?;
         let metadata = read_metadata(alloc, bytes, &metadata_frame)?;
         let pools = Pools::read(alloc, bytes, &metadata.classes, &chain)?;
-        let index = read_events(alloc, bytes, &frames, &metadata.classes, &pools)?;
+        let index = read_events(room.events, bytes, &frames, &metadata.classes, &pools)?;
         Ok(Chunk {
             bytes,
             header,
@@ -108,6 +119,13 @@ impl<'a> Chunk<'a> {
             events: index.fields,
             numbers: index.numbers,
         })
+    }
+
+    /// The room of the indexes, to be used again for the next chunk.
+    pub fn into_room(self) -> Room
+        ensures { IsEmpty result }
+    {
+        Room::of(self.frames.into_room(), self.events, self.numbers)
     }
 
     /// The bytes of the chunk.

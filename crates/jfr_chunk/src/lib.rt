@@ -10,10 +10,12 @@ mod kept;
 mod laws;
 mod notes;
 mod read;
+mod room;
 #[cfg(test)]
 mod tests;
 
 pub use chunk::Chunk;
 pub use event::Event;
 pub use kept::Kept;
+pub use room::Room;
 pub use laws::{computed_answer, marked_by_paths, one_answer, one_in_force, one_parts, same_paths};

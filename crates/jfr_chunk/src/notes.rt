@@ -5,7 +5,6 @@ ghost use Rattle.jfr_chunk.specs.Notes.{Noted};
 use jfr_outside::NoMemory;
 use jfr_pool::Pools;
 use jfr_value::Visit;
-use std::alloc::Global;
 
 /// Numbers of entries in force, in the order in which values refer to them.
 #[derive(Drop)]
@@ -16,13 +15,15 @@ pub(crate) struct Notes {
 }
 
 impl Notes {
-    /// No numbers.
-    pub fn new(alloc: Global) -> Notes
+    /// No numbers, which are kept in this room.
+    pub fn new(room: Vec<u32>) -> Notes
         ensures numbers { result.numbers.items ≡ [] }
         ensures lacks { result.lacks ≡ false }
     {
+        let mut numbers = room;
+        numbers.clear();
         Notes {
-            numbers: Vec::new(alloc),
+            numbers,
             lacks: false,
         }
     }

@@ -1,5 +1,5 @@
 // The stages of reading a chunk.
-ghost use Rattle.std.specs.Prelude.{◌≡◌, ◌<◌, length, take, slice_get, Some, IfOk, IfErr, true};
+ghost use Rattle.std.specs.Prelude.{◌≡◌, ◌<◌, [], length, take, slice_get, Some, IfOk, IfErr, true};
 ghost use Rattle.jfr_base.specs.Formats.{run, seen};
 ghost use Rattle.jfr_header.specs.Fronts.{Whole};
 ghost use Rattle.jfr_header.specs.Headers.{header_of};
@@ -12,6 +12,7 @@ ghost use Rattle.jfr_pool.specs.Entries.{inline};
 ghost use Rattle.jfr_chunk.specs.Notes.{Noted};
 ghost use Rattle.jfr_chunk.specs.Reach.{node_entries};
 ghost use Rattle.jfr_chunk.specs.Refusal.{found_or};
+ghost use Rattle.jfr_chunk.specs.Rooms.{HasNoEvents};
 ghost use Rattle.jfr_chunk.specs.Seen.{AreNoted, due};
 ghost use Rattle.jfr_chunk.specs.Stages.{AreFields, IsRefusedEvents};
 
@@ -63,9 +64,29 @@ pub(crate) struct EventIndex {
     pub numbers: Vec<u32>,
 }
 
-/// Where the fields of the events stand, and to which entries they refer.
+impl EventIndex {
+    /// The index of no events. It takes no memory.
+    pub fn new(alloc: Global) -> EventIndex
+        ensures { HasNoEvents result }
+    {
+        EventIndex {
+            fields: Vec::new(alloc),
+            numbers: Vec::new(alloc),
+        }
+    }
+
+    /// Gives up what is there, and keeps the room.
+    pub fn clear(&mut self)
+        ensures { HasNoEvents self.new }
+    {
+        self.fields.clear();
+        self.numbers.clear();
+    }
+}
+
+/// Where the fields of the events stand, and to which entries they refer. They are kept in this room.
 pub(crate) fn read_events(
-    alloc: Global,
+    room: EventIndex,
     chunk: &[u8],
     frames: &Frames,
     classes: &Classes,
@@ -76,8 +97,8 @@ pub(crate) fn read_events(
     ensures noted { IfOk result (λ index. AreNoted (due pools.now classes.now chunk.now frames.now) 0 index.fields.items index.numbers.items) }
     ensures refused { IfErr result (IfFlawed (IsRefusedEvents chunk.now classes.now frames.now)) }
 {
-    let mut fields = Vec::new(alloc);
-    let mut notes = Notes::new(alloc);
+    let mut fields = emptied(room.fields, frames.len())?;
+    let mut notes = Notes::new(room.numbers);
     for number in 0..frames.len() {
         let frame = record_at(frames, number);
         if !classes.is_event(frame.type_id) {
@@ -93,6 +114,16 @@ pub(crate) fn read_events(
         fields,
         numbers: notes.numbers,
     })
+}
+
+/// The room of a list, with place for so many.
+fn emptied(list: Vec<FieldsAt>, count: usize) -> Result<Vec<FieldsAt>, NoMemory>
+    ensures { IfOk result (λ emptied. emptied.items ≡ []) }
+{
+    let mut emptied = list;
+    emptied.clear();
+    emptied.reserve(count)?;
+    Ok(emptied)
 }
 
 /// The fields of an event, kept short.

@@ -14,7 +14,7 @@ ghost use Rattle.jfr_scrub.specs.Scrubs.{scrubbed, scrubbing};
 
 use crate::Scrubber;
 use jfr_base::ReadFault;
-use jfr_chunk::Chunk;
+use jfr_chunk::{Chunk, Room};
 use jfr_filter::Filter;
 use jfr_header::Ending;
 use jfr_outside::Place;
@@ -22,10 +22,11 @@ use jfr_plan::{Make, make_stream};
 use std::alloc::Global;
 use std::mem;
 
-/// Makes of each chunk what it becomes under a filter.
+/// Makes of each chunk what it becomes under a filter. The room of one chunk is used again for the next.
 #[derive(Drop)]
 struct Scrub<'f> {
     filter: &'f Filter,
+    room: Room,
     out: Vec<u8>,
 }
 
@@ -41,11 +42,13 @@ impl<'f> Make for Scrub<'f> {
     ghost last = { λ s. s.out.items };
 
     fn make(&mut self, alloc: Global, chunk: &[u8]) -> Result<(), ReadFault> {
-        let chunk = Chunk::read(alloc, chunk)?;
-        let room = mem::replace(&mut self.out, Vec::new(alloc));
-        let mut scrubber = Scrubber::prepare_in(alloc, room, &chunk, self.filter)?;
+        let room = mem::replace(&mut self.room, Room::new(alloc));
+        let chunk = Chunk::read_in(alloc, room, chunk)?;
+        let out = mem::replace(&mut self.out, Vec::new(alloc));
+        let mut scrubber = Scrubber::prepare_in(alloc, out, &chunk, self.filter)?;
         scrubber.write();
         self.out = scrubber.into_bytes();
+        self.room = chunk.into_room();
         Ok(())
     }
 
@@ -96,6 +99,7 @@ pub fn scrub_stream<P: Place>(
         place,
         Scrub {
             filter,
+            room: Room::new(alloc),
             out: Vec::new(alloc),
         },
         input,

@@ -11,9 +11,9 @@ fields_end-requires-clause-record c = record_of c.args.chunk.now c.args.frames.n
 
 pub loop-number-init : goal.loop-number-init
 loop-number-init c = record {
-  read = read_none c.args.chunk.now c.args.classes.now c.args.frames.now c.new-fields.result.items c.new-fields.ensures.items;
+  read = read_none c.args.chunk.now c.args.classes.now c.args.frames.now c.in_ok-fields.fields.items c.in_ok-fields.ensures;
   lacks_none = c.new-notes.ensures.lacks;
-  noted = subst (λ z. AreNoted (due c.args.pools.now c.args.classes.now c.args.chunk.now c.args.frames.now) 0 z c.new-notes.result.numbers.items) (sym c.new-fields.ensures.items) c.new-notes.ensures.numbers;
+  noted = subst (λ z. AreNoted (due c.args.pools.now c.args.classes.now c.args.chunk.now c.args.frames.now) 0 z c.new-notes.result.numbers.items) (sym c.in_ok-fields.ensures) c.new-notes.ensures.numbers;
 }
 
 pub loop-number-preserved-then-not-is_event : goal.loop-number-preserved-then-not-is_event
@@ -27,17 +27,17 @@ pub loop-number-preserved : goal.loop-number-preserved
 loop-number-preserved c = record {
   read =
       subst (ReadTo c.args.chunk.now c.args.classes.now c.args.frames.now (c.loop-number.number + 1)) (sym (c.in_ok-push.ensures.items ∙ ap (λ (z : FieldsAt). c.loop-number.fields.items ++ z ∷ []) c.in_ok-kept_short.ensures))
-      (read_event c.args.chunk.now c.args.classes.now c.args.frames.now c.loop-number.number c.loop-number.fields.items c.record_at-frame.result c.in_ok-end.end c.len.result c.record_at-frame.ensures (sym c.is_event.ensures ∙ c.if-not-is_event.false) (sym c.in_ok-end.was ∙ c.fields_end.ensures.exact) c.loop-number.invariant.read);
+      (read_event c.args.chunk.now c.args.classes.now c.args.frames.now c.loop-number.number c.loop-number.fields.items c.record_at-frame.result c.in_ok-end.end c.len-in-loop-number.result c.record_at-frame.ensures (sym c.is_event.ensures ∙ c.if-not-is_event.false) (sym c.in_ok-end.was ∙ c.fields_end.ensures.exact) c.loop-number.invariant.read);
   lacks_none = c.if-notes.false;
   noted =
       subst (λ z. AreNoted (due c.args.pools.now c.args.classes.now c.args.chunk.now c.args.frames.now) 0 z c.fields_end.new.notes.numbers.items) (sym (c.in_ok-push.ensures.items ∙ ap (λ (z : FieldsAt). c.loop-number.fields.items ++ z ∷ []) c.in_ok-kept_short.ensures))
-      (event_noted c.args.pools.now c.args.classes.now c.args.chunk.now c.args.frames.now c.loop-number.number c.in_ok-end.end c.len.result c.record_at-frame.result c.loop-number.fields.items c.loop-number.notes.numbers.items c.fields_end.new.notes.numbers.items
-      c.record_at-frame.ensures (c.in_ok-end.ensures.noted.appended c.if-notes.false) (omega (arith, c.len.ensures)) c.loop-number.invariant.noted);
+      (event_noted c.args.pools.now c.args.classes.now c.args.chunk.now c.args.frames.now c.loop-number.number c.in_ok-end.end c.len-in-loop-number.result c.record_at-frame.result c.loop-number.fields.items c.loop-number.notes.numbers.items c.fields_end.new.notes.numbers.items
+      c.record_at-frame.ensures (c.in_ok-end.ensures.noted.appended c.if-notes.false) (omega (arith, c.len-in-loop-number.ensures)) c.loop-number.invariant.noted);
 }
 
 pub returns-in_err-end-clause-refused : goal.returns-in_err-end-clause-refused
 returns-in_err-end-clause-refused c =
-    let p = err_from_is_err_and c.from_residual.result c.from_residual.ensures.1 in
+    let p = err_from_is_err_and c.from_residual-in_err-end.result c.from_residual-in_err-end.ensures.1 in
     rw (p.1, p.2) (read_stops c.args.chunk.now c.args.classes.now c.args.frames.now c.loop-number.number c.loop-number.fields.items c.record_at-frame.result c.in_err-end.field-0.0 c.requires c.record_at-frame.ensures (sym c.is_event.ensures ∙ c.if-not-is_event.false) (sym c.in_err-end.was ∙ c.fields_end.ensures.exact) c.loop-number.invariant.read)
 
 pub returns-clause-ok : goal.returns-clause-ok

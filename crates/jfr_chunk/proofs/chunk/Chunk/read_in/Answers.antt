@@ -1,7 +1,7 @@
 use Rattle.std.proofs.Common.{refl, sym, ◌∙◌}
 use Rattle.std.proofs.lemmas.Result.{err_from_is_err_and}
 use Rattle.jfr_chunk.proofs.Reading.{named, told, told_of, parts_told, records_refused, metadata_refused, metadata_record, checkpoint_refused, checkpoint_starts, chain_refused, body_refused, entries_refused, events_refused, indexed}
-use Rattle.jfr_chunk.proofs.chunk.Chunk.read.Goals as goal
+use Rattle.jfr_chunk.proofs.chunk.Chunk.read_in.Goals as goal
 
 pub returns-in_err-frames-clause-exact : goal.returns-in_err-frames-clause-exact
 returns-in_err-frames-clause-exact c =
@@ -24,8 +24,8 @@ returns-in_err-record_named-clause-refused c =
 pub returns-in_err-record_named-clause-exact : goal.returns-in_err-record_named-clause-exact
 returns-in_err-record_named-clause-exact c = told_of _ _ _ c.requires.long c.from_residual-in_err-record_named.ensures.0 (returns-in_err-record_named-clause-refused c)
 
-pub read-requires-2-clause-last : goal.read-requires-2-clause-last
-read-requires-2-clause-last c = checkpoint_starts _ _ _ _ (named _ _ _ _ c.header_in-header.ensures c.in_ok-frames.ensures.ok (sym c.in_ok-metadata_frame.was ∙ c.record_named.ensures)) _ (sym c.in_ok-record_named.was ∙ c.record_named-2.ensures)
+pub read-requires-clause-last : goal.read-requires-clause-last
+read-requires-clause-last c = checkpoint_starts _ _ _ _ (named _ _ _ _ c.header_in-header.ensures c.in_ok-frames.ensures.ok (sym c.in_ok-metadata_frame.was ∙ c.record_named.ensures)) _ (sym c.in_ok-record_named.was ∙ c.record_named-2.ensures)
 
 pub returns-in_err-chain-clause-refused : goal.returns-in_err-chain-clause-refused
 returns-in_err-chain-clause-refused c =

@@ -1,0 +1,14 @@
+-- Room for the indexes of a chunk.
+use Rattle.std.specs.Prelude.{◌≡◌, []}
+use Rattle.jfr_chunk.specs.declared.read.EventIndex.{EventIndex}
+use Rattle.jfr_chunk.specs.declared.room.Room.{Room}
+
+-- There are no events, and no numbers of entries.
+pub record HasNoEvents (index : EventIndex) : Type 0 where
+  pub fields : index.fields.items ≡ []
+  pub numbers : index.numbers.items ≡ []
+
+-- Nothing is left in the room.
+pub record IsEmpty (room : Room) : Type 0 where
+  pub places : room.places.items ≡ []
+  pub events : HasNoEvents room.events

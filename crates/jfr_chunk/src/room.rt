@@ -1,0 +1,39 @@
+// Room for the indexes of a chunk.
+ghost use Rattle.std.specs.Prelude.{◌≡◌};
+ghost use Rattle.jfr_chunk.specs.Rooms.{IsEmpty};
+
+use crate::chunk::FieldsAt;
+use crate::read::EventIndex;
+use std::alloc::Global;
+
+/// The room that the indexes of a chunk took, to be used again for those of the next one.
+#[derive(Drop)]
+pub struct Room {
+    pub(crate) places: Vec<usize>,
+    pub(crate) events: EventIndex,
+}
+
+impl Room {
+    /// The room that no chunk took yet. It takes no memory.
+    pub fn new(alloc: Global) -> Room
+        ensures { IsEmpty result }
+    {
+        Room {
+            places: Vec::new(alloc),
+            events: EventIndex::new(alloc),
+        }
+    }
+
+    /// The room of indexes, which are given up.
+    pub(crate) fn of(places: Vec<usize>, fields: Vec<FieldsAt>, numbers: Vec<u32>) -> Room
+        ensures { IsEmpty result }
+    {
+        let mut room = Room {
+            places,
+            events: EventIndex { fields, numbers },
+        };
+        room.places.clear();
+        room.events.clear();
+        room
+    }
+}
