@@ -18,6 +18,15 @@ use Rattle.jfr_chunk.specs.Parts.{EventAt}
 use Rattle.jfr_chunk.specs.Reach.{add, node_entries, those}
 use Rattle.jfr_chunk.specs.Seen.{AreNoted, due, event_with}
 
+-- what lists have, one behind another
+pub those_append : {A B : Type 0} (f : A → Option B) (xs ys : List A) → those f (xs ++ ys) ≡ those f xs ++ those f ys
+those_append f [] ys = refl
+those_append {B = B} f (x ∷ xs) ys = by_value (f x) (those_append f xs ys)
+  where
+    by_value : (o : Option B) → those f (xs ++ ys) ≡ those f xs ++ those f ys → add o (those f (xs ++ ys)) ≡ add o (those f xs) ++ those f ys
+    by_value None e = e
+    by_value (Some y) e = ap (λ z. y ∷ z) e
+
 noted_none : (a : Notes) → Noted [] a a
 noted_none a = record { lacked_none = λ h. h; appended = λ h. sym (append-nil a.numbers.items) }
 

@@ -1,12 +1,15 @@
 -- The events that a chunk keeps.
-use Rattle.std.specs.Prelude.{◌≡◌, ℕ, zero, suc, List, [], ◌∷◌, length, map, slice_get, Option, Some, None, option_and_then, option_map}
+use Rattle.std.specs.Prelude.{◌≡◌, ℕ, zero, suc, List, [], ◌∷◌, ◌++◌, length, map, slice_get, Option, Some, None, option_and_then, option_map}
 use Rattle.std.specs.Option.{option_map_or}
 use Rattle.std.proofs.Common.{ap, refl, sym, ◌∙◌}
 use Rattle.jfr_frame.specs.declared.framed.Framed.{Framed}
+use Rattle.jfr_value.specs.Nodes.{targets}
+use Rattle.jfr_pool.specs.Entries.{number_in_force}
 use Rattle.jfr_chunk.specs.declared.chunk.FieldsAt.{FieldsAt}
 use Rattle.jfr_chunk.specs.Parts.{EventAt, Parts, events_of}
-use Rattle.jfr_chunk.specs.Reach.{node_entries}
-use Rattle.jfr_chunk.specs.Seen.{due, event_kept, event_with}
+use Rattle.jfr_chunk.specs.Reach.{all_targets, node_entries, nodes_of, roots}
+use Rattle.jfr_chunk.specs.Seen.{AreNoted, due, event_kept, event_with}
+use Rattle.jfr_chunk.proofs.NotedLaws.{those_append}
 
 -- a function whose values at one list are the members of another
 pub each_length : {A B : Type 0} (f : A → Option B) (xs : List A) (ys : List B) → map f xs ≡ map Some ys → length xs ≡ length ys
@@ -75,3 +78,15 @@ pub event_due : (p : Parts) (fs : List FieldsAt) (n : ℕ) (f : FieldsAt) → ma
 event_due p fs n f e g =
     let m = each_some (event_kept p.records) fs (events_of p) n f e g in
     ap (λ o. Some (option_map_or (λ (e : EventAt). node_entries p.entries p.classes p.bytes e.node) o [])) m.1 ∙ sym (ap (option_map (λ (e : EventAt). node_entries p.entries p.classes p.bytes e.node)) m.2)
+
+-- and all that is noted is what the events refer to
+pub all_due : (p : Parts) (from : ℕ) (fs : List FieldsAt) (es : List EventAt) (numbers : List ℕ) → map (event_kept p.records) fs ≡ map Some es → AreNoted (due p.entries p.classes p.bytes p.records) from fs numbers → numbers ≡ roots p es
+all_due p from [] [] numbers e a = a
+all_due p from [] (x ∷ es) numbers e a = cc
+all_due p from (f ∷ fs) [] numbers e a = cc
+all_due p from (f ∷ fs) (x ∷ es) numbers e a =
+    let h : event_kept p.records f ≡ Some x = cc in
+    let t : map (event_kept p.records) fs ≡ map Some es = cc in
+    let d : due p.entries p.classes p.bytes p.records f ≡ node_entries p.entries p.classes p.bytes x.node = ap (λ o. option_map_or (λ (e : EventAt). node_entries p.entries p.classes p.bytes e.node) o []) h in
+    let r : a.0 ≡ roots p es = all_due p f.noted fs es a.0 t a.3 in
+    a.1 ∙ (ap (λ z. z ++ a.0) d ∙ (ap (λ z. node_entries p.entries p.classes p.bytes x.node ++ z) r ∙ sym (those_append (number_in_force p.entries) (targets p.classes p.bytes x.node) (all_targets p (nodes_of es)))))

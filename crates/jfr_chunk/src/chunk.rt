@@ -5,7 +5,7 @@ ghost use Rattle.jfr_header.specs.Headers.{header_of};
 ghost use Rattle.jfr_meta.specs.Answers.{IfFlawed};
 ghost use Rattle.jfr_pool.specs.Faults.{TellsFlaw};
 ghost use Rattle.jfr_chunk.specs.Parts.{AreParts, StartsAt, events_of, is_inert, metadata_at};
-ghost use Rattle.jfr_chunk.specs.Reach.{node_entries};
+ghost use Rattle.jfr_chunk.specs.Reach.{node_entries, roots};
 ghost use Rattle.jfr_chunk.specs.Refusal.{Refused, read_parts};
 ghost use Rattle.jfr_chunk.specs.Rooms.{IsEmpty};
 ghost use Rattle.jfr_chunk.specs.Seen.{IsOfChunk, event_at};
@@ -236,6 +236,13 @@ impl<'a> Chunk<'a> {
     {
         let fields = fields_at(&self.events, number)?;
         self.frames.place(fields.record as usize)
+    }
+
+    /// The numbers of the entries in force to which the events refer, of one event after another.
+    pub fn all_entries(&self) -> &[u32]
+        ensures { result.now ≡ roots self.now (events_of self.now) }
+    {
+        self.numbers.as_slice()
     }
 
     /// The numbers of the entries in force to which the event of a number refers, from left to right;

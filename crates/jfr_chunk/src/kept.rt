@@ -1,5 +1,6 @@
 // Which events are kept.
 ghost use Rattle.std.specs.Prelude.{◌≡◌, ◌<◌, length, replicate, slice_get, slice_set, false, true, IfOk};
+ghost use Rattle.std.specs.List.{list_all};
 
 use jfr_outside::NoMemory;
 use std::alloc::Global;
@@ -51,6 +52,13 @@ impl Kept {
         ensures { result ≡ slice_get self.now at }
     {
         self.flags.get(at).copied()
+    }
+
+    /// Whether every event is kept.
+    pub fn are_all(&self) -> bool
+        ensures { result ≡ list_all (λ keep. keep) self.now }
+    {
+        self.flags.iter().all(|keep| *keep)
     }
 
     /// How many events there are.
