@@ -1,8 +1,8 @@
 -- The loop over the events.
 use Rattle.std.specs.Prelude.{◌≡◌, ℕ, zero, suc, ◌+◌, ◌<◌, ◌≤◌, Bool, true, false, List, [], ◌∷◌, ◌++◌, length, drop, slice_get, Option, Some, None, option_and_then, option_map, option_to_list, if◌then◌else◌}
-use Rattle.std.specs.List.{AllByRecursion, cons_option, filter_map}
+use Rattle.std.specs.List.{AllByRecursion, cons_option, filter_map, list_all}
 use Rattle.std.proofs.Common.{ap, arith, refl, sym, ◌∙◌, inl, inr, subst}
-use Rattle.std.proofs.lemmas.List.{append_assoc, append-nil}
+use Rattle.std.proofs.lemmas.List.{append_assoc, append-nil, length-append}
 use Rattle.jfr_value.specs.Leaves.{leaf_target, leaves}
 use Rattle.jfr_value.specs.Nodes.{targets}
 use Rattle.jfr_value.proofs.TargetLaws.{refers_parts}
@@ -10,6 +10,7 @@ use Rattle.jfr_pool.specs.Entries.{number_in_force}
 use Rattle.jfr_chunk.specs.Parts.{Parts, EventAt, AreParts, events_of}
 use Rattle.jfr_chunk.specs.Reach.{add, those, node_entries, all_targets, nodes_of, roots, marked, kept_by, marked_at}
 use Rattle.jfr_chunk.proofs.Members.{In}
+use Rattle.jfr_chunk.proofs.NotedLaws.{those_append}
 use Rattle.jfr_chunk.proofs.StandingLaws.{event_is, standing}
 use Rattle.jfr_chunk.proofs.SweepLaws.{AllBelow}
 use Rattle.jfr_reach.specs.Worklists.{ordered_all}
@@ -116,14 +117,6 @@ none_from (k ∷ keep) [] (suc i) h = no_events (drop i keep)
 none_from (k ∷ keep) (e ∷ es) (suc i) h = none_from keep es i (omega arith)
 
 -- what events refer to, one part after another
-those_append : {A B : Type 0} (f : A → Option B) (xs ys : List A) → those f (xs ++ ys) ≡ those f xs ++ those f ys
-those_append f [] ys = refl
-those_append {B = B} f (x ∷ xs) ys = by_value (f x) (those_append f xs ys)
-  where
-    by_value : (o : Option B) → those f (xs ++ ys) ≡ those f xs ++ those f ys → add o (those f (xs ++ ys)) ≡ add o (those f xs) ++ those f ys
-    by_value None e = e
-    by_value (Some y) e = ap (λ z. y ∷ z) e
-
 targets_append : (p : Parts) (xs ys : List EventAt) → all_targets p (nodes_of (xs ++ ys)) ≡ all_targets p (nodes_of xs) ++ all_targets p (nodes_of ys)
 targets_append p [] ys = refl
 targets_append p (x ∷ xs) ys = ap (λ z. targets p.classes p.bytes x.node ++ z) (targets_append p xs ys) ∙ sym (append_assoc (targets p.classes p.bytes x.node) (all_targets p (nodes_of xs)) (all_targets p (nodes_of ys)))
@@ -160,3 +153,37 @@ module _ (p : Parts) (keep flags : List Bool) (order : List ℕ) (steps : ℕ) w
         order_left = ap (λ v. ordered_all g v (roots p later)) y ∙ (ap (λ v. ordered_all v (ordered_all f o (roots p here)) (roots p later)) x ∙ (sym (ap (ordered_all f o) u ∙ ordered_append f o (roots p here) (roots p later)) ∙ w.order_left));
         cost = omega arith;
       })
+
+-- where all are kept, the kept events are all
+all_marked : {X : Type 0} (keep : List Bool) (xs : List X) → list_all (λ k. k) keep ≡ true → length keep ≡ length xs → marked keep xs ≡ xs
+all_marked [] [] a l = refl
+all_marked [] (x ∷ xs) a l = cc
+all_marked (k ∷ keep) [] a l = cc
+all_marked (true ∷ keep) (x ∷ xs) a l = ap (λ z. x ∷ z) (all_marked keep xs a (omega (arith, l)))
+all_marked (false ∷ keep) (x ∷ xs) a l = cc
+
+all_few : (p : Parts) → AreParts p → (es : List EventAt) → ((e : EventAt) → In es e → In (events_of p) e) → length (roots p es) ≤ event_leaves p es
+all_few p parts [] i = omega arith
+all_few p parts (e ∷ es) i =
+    let h = entries_few p parts e (i e (inl refl)) in
+    let t = all_few p parts es (λ x k. i x (inr k)) in
+    let l = ap length (those_append (number_in_force p.entries) (targets p.classes p.bytes e.node) (all_targets p (nodes_of es))) in
+    let m = length-append (node_entries p.entries p.classes p.bytes e.node) (roots p es) in
+    omega arith
+
+-- the entries to which the events refer, where all are kept
+pub record AllEntries (p : Parts) (keep : List Bool) (numbers : List ℕ) : Type 0 where
+  pub roots_are : numbers ≡ roots p (kept_by p keep)
+  pub below : AllByRecursion (λ n. n < length p.entries) numbers
+  pub few : length numbers ≤ event_leaves p (kept_by p keep)
+
+pub all_entries : (p : Parts) → AreParts p → (keep : List Bool) (numbers : List ℕ) → list_all (λ k. k) keep ≡ true → length keep ≡ length (events_of p) → numbers ≡ roots p (events_of p) → AllEntries p keep numbers
+all_entries p parts keep numbers a l e =
+    let k : kept_by p keep ≡ events_of p = all_marked keep (events_of p) a l in
+    let f = all_few p parts (events_of p) (λ e i. i) in
+    let m = ap length e in
+    record {
+      roots_are = e ∙ ap (roots p) (sym k);
+      below = below_all (length p.entries) numbers (subst (AllBelow (length p.entries)) (sym e) (roots_below p (events_of p)));
+      few = subst (λ es. length numbers ≤ event_leaves p es) (sym k) (omega arith);
+    }

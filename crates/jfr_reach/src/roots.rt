@@ -9,8 +9,28 @@ use jfr_chunk::{Chunk, Kept};
 use jfr_value::Steps;
 use std::sync::ledger::Ledger;
 
-/// Marks the entries in force to which the kept events refer.
+/// Marks the entries in force to which the kept events refer: those of all events at once, where all
+/// are kept.
 pub(crate) fn put_roots<L: Ledger>(
+    list: &mut Worklist,
+    chunk: &Chunk<'_>,
+    kept: &Kept,
+    steps: &mut Steps<L>,
+)
+    requires size { length list.old.flags.items ≡ length chunk.now.entries }
+    requires parts { AreParts chunk.now }
+    ensures puts { Puts (roots chunk.now (kept_by chunk.now kept.now)) list.old list.new }
+    ensures cost { steps.new ≤ steps.old + event_leaves chunk.now (kept_by chunk.now kept.now) }
+{
+    if kept.are_all() && kept.len() == chunk.event_count() {
+        put_each(list, chunk.all_entries(), steps);
+        return;
+    }
+    put_events(list, chunk, kept, steps);
+}
+
+/// The same, of one event after another.
+fn put_events<L: Ledger>(
     list: &mut Worklist,
     chunk: &Chunk<'_>,
     kept: &Kept,
