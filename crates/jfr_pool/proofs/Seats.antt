@@ -1,11 +1,11 @@
 -- Slots, and the seat of a class and key among them.
 use Rattle.std.specs.Prelude.{◌≡◌, ◌≢◌, ℕ, zero, suc, ◌+◌, ◌-◌, ◌^◌, ◌<◌, ◌≤◌, Bool, true, false, ◌==◌, nat_lt, List, length, Option, Some, None, option_map, if◌then◌else◌}
-use Rattle.std.proofs.Common.{ap, arith, refl, ◌∙◌}
+use Rattle.std.proofs.Common.{ap, arith, refl, sym, ◌∙◌}
 use Rattle.std.specs.BTreeMap.{get}
 use Rattle.jfr_pool.specs.declared.index.Index.{Index}
 use Rattle.jfr_pool.specs.declared.index.Slot.{Slot}
 use Rattle.jfr_pool.specs.declared.index.TheConstants.{REACH}
-use Rattle.jfr_pool.specs.Index.{target_cmp, Placed, held, is_open, slot_at, seat_from, home, seat, number_at, number_of}
+use Rattle.jfr_pool.specs.Index.{target_cmp, Placed, held, is_of, number_in, is_open, slot_at, seat_from, home, seat, number_at, number_of}
 use Rattle.jfr_pool.proofs.Targets.{same_target}
 
 -- slots of one number have one home for a target
@@ -20,6 +20,13 @@ seat_start slots t place i e =
     let q : place + REACH - place ≡ REACH = omega arith in
     let b : nat_lt t.0 (2 ^ 32) ≡ true = grind (arith, i) in
     rw b (ap (λ n. seat_from n place slots t) q ∙ ap (λ h. seat_from REACH h slots t) e)
+
+-- the home is the seat of those to whom it is open
+pub seat_home : (slots : List Slot) (t : ℕ × ℕ) (place : ℕ) → t.0 < 2 ^ 32 → place ≡ home slots t → is_open (held (slot_at slots place)) t ≡ true → seat slots t ≡ Some place
+unfolding seat
+seat_home slots t place i e o =
+    let b : nat_lt t.0 (2 ^ 32) ≡ true = grind (arith, i) in
+    rw (b, sym e, o) refl
 
 -- a class that is too large for a slot has no seat
 pub seat_none : (slots : List Slot) (t : ℕ × ℕ) → 2 ^ 32 ≤ t.0 → seat slots t ≡ None
@@ -45,6 +52,32 @@ held_counted class key number =
 -- a slot that isn't open is passed over
 pub seat_on : (slots : List Slot) (t : ℕ × ℕ) (end place : ℕ) → place < end → is_open (held (slot_at slots place)) t ≡ false → seat_from (end - place) place slots t ≡ seat_from (end - (place + 1)) (place + 1) slots t
 seat_on slots t end place i h = let q : end - place ≡ suc (end - (place + 1)) = omega arith in rw q (rw h refl)
+
+-- the seat of others stands behind their home
+pub seat_past : (slots : List Slot) (t : ℕ × ℕ) (place : ℕ) → t.0 < 2 ^ 32 → place ≡ home slots t → is_open (held (slot_at slots place)) t ≡ false → seat_from (place + REACH - (place + 1)) (place + 1) slots t ≡ seat slots t
+seat_past slots t place i e h = sym (seat_on slots t (place + REACH) place (omega arith) h) ∙ seat_start slots t place i e
+
+-- a slot that has a class and key is open to them
+of_open : (slot : Slot) (t : ℕ × ℕ) → is_of slot t ≡ true → is_open (held slot) t ≡ true
+of_open slot t h = by_count (slot.count == 0)
+  where
+    by_count : (b : Bool) → is_open (if b then None else Some (record { class = slot.class; key = slot.key; number = slot.count - 1 })) t ≡ true
+    by_count true = refl
+    by_count false = h
+
+-- the number of those who stand in their home
+pub number_home : (index : Index) (t : ℕ × ℕ) (place : ℕ) (slot : Slot) → t.0 < 2 ^ 32 → place ≡ home index.slots.items t → slot ≡ slot_at index.slots.items place → is_of slot t ≡ true → number_of index t ≡ number_in slot
+number_home index t place slot fits e s h =
+    let open_home = ap (λ z. is_open (held z) t) (sym s) ∙ of_open slot t h in
+    ap (number_at index t) (seat_home index.slots.items t place fits e open_home) ∙ ap number_in (sym s)
+
+-- those whose home is empty have no number
+pub number_none : (index : Index) (t : ℕ × ℕ) (place : ℕ) (slot : Slot) → t.0 < 2 ^ 32 → place ≡ home index.slots.items t → slot ≡ slot_at index.slots.items place → slot.count ≡ 0 → number_of index t ≡ None
+number_none index t place slot fits e s q =
+    let b : (slot.count == 0) ≡ true = grind (arith, q) in
+    let none : held slot ≡ None = rw b refl in
+    let open_home = ap (λ z. is_open (held z) t) (sym s) ∙ ap (λ o. is_open o t) none in
+    ap (number_at index t) (seat_home index.slots.items t place fits e open_home) ∙ ap number_in (sym s) ∙ ap (option_map (λ (p : Placed). p.number)) none
 
 -- what stands nowhere has no number
 number_nowhere : (index : Index) (t : ℕ × ℕ) → get target_cmp index.others t ≡ None → ((i : ℕ) (p : Placed) → held (slot_at index.slots.items i) ≡ Some p → (p.class, p.key) ≢ t) → (n place : ℕ) → number_at index t (seat_from n place index.slots.items t) ≡ None

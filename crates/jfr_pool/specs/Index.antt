@@ -6,7 +6,7 @@ use Rattle.std.specs.BTreeMap.{get}
 use Rattle.jfr_pool.specs.declared.entry.EntryAt.{EntryAt}
 use Rattle.jfr_pool.specs.declared.index.Index.{Index}
 use Rattle.jfr_pool.specs.declared.index.Slot.{Slot}
-use Rattle.jfr_pool.specs.declared.index.TheConstants.{REACH, CLASS_MIX, MIX}
+use Rattle.jfr_pool.specs.declared.index.TheConstants.{REACH, CLASS_AT, MIX}
 use Rattle.jfr_pool.specs.Entries.{number_in_force}
 
 -- By class, and then by key.
@@ -27,6 +27,10 @@ held s = if s.count == 0 then None else Some (record { class = s.class; key = s.
 abbrev pub number_in : Slot → Option ℕ
 number_in s = option_map (λ (p : Placed). p.number) (held s)
 
+-- The slot has this class and key.
+abbrev pub is_of : Slot → ℕ × ℕ → Bool
+is_of s t = (s.class == t.0) && (s.key == t.1)
+
 -- A slot is open to a class and key where nothing stands in it, or they do.
 abbrev pub is_open : Option Placed → ℕ × ℕ → Bool
 is_open None t = true
@@ -43,7 +47,7 @@ seat_from (suc n) place slots t = if is_open (held (slot_at slots place)) t then
 
 -- The first place of a class and key: a mixing of the two, scaled to the slots that have their reach behind them.
 unfoldable pub home : List Slot → ℕ × ℕ → ℕ
-home slots t = bit_xor t.1 (t.0 * CLASS_MIX % 2 ^ 64) * MIX % 2 ^ 64 * (length slots - REACH) / 2 ^ 64
+home slots t = bit_xor t.1 (t.0 * 2 ^ CLASS_AT % 2 ^ 64) * MIX % 2 ^ 64 * (length slots - REACH) / 2 ^ 64
 
 -- The place of the first open slot within reach. A class that is too large for a slot has none.
 unfoldable pub seat : List Slot → ℕ × ℕ → Option ℕ

@@ -1,5 +1,5 @@
 // The numbers of the entries in force, by class and key.
-ghost use Rattle.std.specs.Prelude.{None, ◌≡◌, ◌+◌, ◌<◌, ◌≤◌, ◌^◌, [], ◌∷◌, ◌++◌, length, vec_len, IfOk, IfSome, OnOk};
+ghost use Rattle.std.specs.Prelude.{None, ◌≡◌, false, ◌+◌, ◌-◌, ◌<◌, ◌≤◌, ◌^◌, [], ◌∷◌, ◌++◌, length, vec_len, IfOk, IfSome, IsTrue, OnOk};
 ghost use Rattle.jfr_pool.specs.declared.index.TheConstants.{REACH};
 
 use crate::EntryAt;
@@ -10,11 +10,14 @@ use std::collections::BTreeMap;
 // A class and key stand in one of so many slots, from their home on.
 const REACH: usize = 8;
 
-// By this odd number a class is mixed.
-const CLASS_MIX: u64 = 0x9E37_79B9_7F4A_7C15;
+// Classes below this may stand in a slot.
+const CLASSES: u64 = 1 << 32;
 
-// By this odd number a key is mixed with what a class became.
-const MIX: u64 = 0xD6E8_FEB8_6659_FD93;
+// A class is laid over a key from this bit on, where few keys have any.
+const CLASS_AT: u32 = 48;
+
+// By this odd number the two are mixed.
+const MIX: u64 = 0x94D0_49BB_1331_11EB;
 
 /// A class and key, and how many entries there are up to the one in force; none where the slot is
 /// empty.
@@ -22,25 +25,35 @@ const MIX: u64 = 0xD6E8_FEB8_6659_FD93;
 pub(crate) struct Slot {
     pub key: u64,
     pub class: u32,
-    pub count: usize,
+    pub count: u32,
 }
 
 impl Slot {
-    ghost use Rattle.jfr_pool.specs.Index.{held, is_open, number_in};
+    ghost use Rattle.jfr_pool.specs.Index.{held, is_of, is_open, number_in};
+
+    /// Whether the slot has this class and key.
+    #[inline(always)]
+    fn is_of(&self, class: u64, key: u64) -> bool
+        ensures exact { result ≡ is_of self.now (class, key) }
+        ensures within { IsTrue result → class < 2 ^ 32 }
+    {
+        self.key == key && u64::from(self.class) == class
+    }
 
     /// Whether the slot is empty, or has this class and key.
     #[inline(always)]
     fn is_open(&self, class: u64, key: u64) -> bool
         ensures { result ≡ is_open (held self.now) (class, key) }
     {
-        self.count == 0 || (u64::from(self.class) == class && self.key == key)
+        self.count == 0 || self.is_of(class, key)
     }
 
     /// The number of the entry in force.
+    #[inline(always)]
     fn number(&self) -> Option<usize>
         ensures { result ≡ number_in self.now }
     {
-        self.count.checked_sub(1)
+        (self.count as usize).checked_sub(1)
     }
 }
 
@@ -56,12 +69,16 @@ pub(crate) struct Index {
 impl Index {
     ghost use Rattle.std.specs.Prelude.{List};
     ghost use Rattle.jfr_pool.specs.declared.entry.EntryAt.{EntryAt};
-    ghost use Rattle.jfr_pool.specs.Index.{Indexes, home, number_at, number_of, seat};
+    ghost use Rattle.jfr_pool.specs.Index.{Indexes, held, home, is_open, number_at, number_of, seat, seat_from, slot_at};
 
-    /// The index of entries.
+    /// The index of entries. `NoMemory` also for 2 ^ 32 and more, which a slot can't count; a chunk is far
+    /// below that size.
     pub fn of(alloc: Global, entries: &[EntryAt]) -> Result<Index, NoMemory>
         ensures { IfOk result (λ index. Indexes index entries.now) }
     {
+        if entries.len() > u32::MAX as usize {
+            return Err(NoMemory);
+        }
         let mut index = Index::new(alloc, entries.len())?;
         for (number, entry) in entries.iter().enumerate() {
             index.put(entry, number)?;
@@ -70,11 +87,34 @@ impl Index {
     }
 
     /// The number of the entry in force for a class and a key; `None` exactly where there is none.
+    /// Most stand in their home, or nothing does.
     #[inline(always)]
     pub fn number(&self, class: u64, key: u64) -> Option<usize>
         ensures { result ≡ number_of self.now (class, key) }
     {
-        match self.seat(class, key) {
+        let home = self.home(class, key);
+        let slot = self.slots[home];
+        if slot.is_of(class, key) {
+            return slot.number();
+        }
+        if slot.count == 0 && class < CLASSES {
+            return None;
+        }
+        self.number_past(home, class, key)
+    }
+
+    /// The same, of a class and a key whose home is not open to them.
+    #[inline(never)]
+    fn number_past(&self, place: usize, class: u64, key: u64) -> Option<usize>
+        requires home { place ≡ home self.now.slots.items (class, key) }
+        requires within { place + REACH ≤ vec_len self.now.slots }
+        requires closed { class < 2 ^ 32 → is_open (held (slot_at self.now.slots.items place)) (class, key) ≡ false }
+        ensures { result ≡ number_of self.now (class, key) }
+    {
+        if class >= CLASSES {
+            return self.other_number(class, key);
+        }
+        match self.first_open(place + 1, place + REACH, class, key) {
             Some(place) => self.slots[place].number(),
             None => self.other_number(class, key),
         }
@@ -107,7 +147,7 @@ impl Index {
 
     /// Puts in the next entry, which has this number.
     fn put(&mut self, entry: &EntryAt, number: usize) -> Result<(), NoMemory>
-        requires { number + 1 < 2 ^ 64 }
+        requires { number + 1 < 2 ^ 32 }
         ensures { OnOk result ((es : List EntryAt) → Indexes self.old es → length es ≡ number → Indexes self.new (es ++ entry.now ∷ [])) }
     {
         let (class, key) = (entry.class, entry.key);
@@ -116,7 +156,7 @@ impl Index {
                 self.slots[place] = Slot {
                     key,
                     class: class as u32,
-                    count: number + 1,
+                    count: number as u32 + 1,
                 };
             }
             None => {
@@ -127,16 +167,25 @@ impl Index {
     }
 
     /// The place of the first slot that is open to a class and key, of those within reach.
-    #[inline(always)]
     fn seat(&self, class: u64, key: u64) -> Option<usize>
         ensures exact { result ≡ seat self.now.slots.items (class, key) }
         ensures within { IfSome result (λ place. (place < vec_len self.now.slots) × (class < 2 ^ 32)) }
     {
-        if class >= 1 << 32 {
+        if class >= CLASSES {
             return None;
         }
         let home = self.home(class, key);
-        for place in home..home + REACH {
+        self.first_open(home, home + REACH, class, key)
+    }
+
+    /// The place of the first slot that is open to a class and key, from one place up to another.
+    #[inline(always)]
+    fn first_open(&self, from: usize, end: usize, class: u64, key: u64) -> Option<usize>
+        requires { end ≤ vec_len self.now.slots }
+        ensures exact { result ≡ seat_from (end - from) from self.now.slots.items (class, key) }
+        ensures within { IfSome result (λ place. place < vec_len self.now.slots) }
+    {
+        for place in from..end {
             if self.slots[place].is_open(class, key) {
                 return Some(place);
             }
@@ -152,7 +201,7 @@ impl Index {
         ensures within { result + REACH ≤ vec_len self.now.slots }
     {
         let homes = (self.slots.len() - REACH) as u128;
-        let mixed = (key ^ class.wrapping_mul(CLASS_MIX)).wrapping_mul(MIX);
+        let mixed = (key ^ (class << CLASS_AT)).wrapping_mul(MIX);
         ((u128::from(mixed) * homes) >> 64) as usize
     }
 }

@@ -1,20 +1,9 @@
-use Rattle.std.proofs.Common.{◌≡◌, ◌+◌, sym, ap, ◌∙◌, arith}
-use Rattle.std.proofs.lemmas.List.{get_or_read}
-use Rattle.jfr_pool.specs.declared.index.TheConstants.{REACH}
-use Rattle.jfr_pool.specs.declared.index.Slot.{Slot}
-use Rattle.jfr_pool.specs.Index.{held, is_open, slot_at}
-use Rattle.jfr_pool.proofs.Seats.{seat_none, seat_start, seat_on}
+use Rattle.std.proofs.Common.{sym, ◌∙◌}
+use Rattle.jfr_pool.proofs.Seats.{seat_none, seat_start}
 use Rattle.jfr_pool.proofs.index.Index.seat.Goals as goal
 
-pub returns-then-class-clause-exact : goal.returns-then-class-clause-exact
-returns-then-class-clause-exact c = sym (seat_none c.args.self.now.slots.items (c.args.class, c.args.key) c.if-class.true)
+pub returns-then-class-ge-CLASSES-clause-exact : goal.returns-then-class-ge-CLASSES-clause-exact
+returns-then-class-ge-CLASSES-clause-exact c = sym (seat_none c.args.self.now.slots.items (c.args.class, c.args.key) c.if-class-ge-CLASSES.true)
 
-pub loop-place-init : goal.loop-place-init
-loop-place-init c = seat_start c.args.self.now.slots.items (c.args.class, c.args.key) c.home-home.result c.if-class.false c.home-home.ensures.exact
-
-pub loop-place-preserved : goal.loop-place-preserved
-loop-place-preserved c =
-    let slots = c.args.self.now.slots in
-    let slot : c.index.result.now ≡ slot_at slots.items c.loop-place.place = get_or_read slots.items c.loop-place.place c.index.result.now (omega (arith, slots.ok.0)) c.index.ensures _ in
-    let closed = ap (λ (s : Slot). is_open (held s) (c.args.class, c.args.key)) (sym slot) ∙ sym c.is_open.ensures ∙ c.if-is_open.false in
-    sym (seat_on slots.items (c.args.class, c.args.key) (c.home-home.result + REACH) c.loop-place.place c.loop-place-test.true closed) ∙ c.loop-place.invariant
+pub returns-clause-exact : goal.returns-clause-exact
+returns-clause-exact c = c.first_open.ensures.exact ∙ seat_start c.args.self.now.slots.items (c.args.class, c.args.key) c.home-home.result c.if-class-ge-CLASSES.false c.home-home.ensures.exact
