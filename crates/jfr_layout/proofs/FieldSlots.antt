@@ -1,5 +1,5 @@
 -- The slots of fields, kept beside the list.
-use Rattle.std.proofs.Common.{◌≡◌, ℕ, ◌<◌, List, [], ◌∷◌, ◌++◌, length, get_or, map, Some, sym, ◌∙◌, ap, arith, subst}
+use Rattle.std.proofs.Common.{◌≡◌, ℕ, ◌<◌, List, [], ◌∷◌, ◌++◌, length, get_or, map, Some, refl, sym, ◌∙◌, ap, arith, subst}
 use Rattle.std.specs.Prelude.{IsSome, option_map}
 use Rattle.std.specs.List.{slice_get}
 use Rattle.std.specs.Option.{IfSome}
@@ -8,19 +8,20 @@ use Rattle.std.proofs.lemmas.Option.{get_or_from_slice_get, same_Some, slice_get
 use Rattle.jfr_layout.specs.declared.kind.Kind.{Kind}
 use Rattle.jfr_layout.specs.declared.shape.Shape.{Shape}
 use Rattle.jfr_layout.specs.declared.slot.Slot.{Slot}
-use Rattle.jfr_layout.specs.Classes.{Class, Classes, Field, IsSlot, AreSlots, class_place, field_at, kind_of}
+use Rattle.jfr_layout.specs.Classes.{Class, Classes, Field, IsSlot, AreSlots, class_place, field_at, kind_of, slot_with}
 use Rattle.jfr_layout.specs.Resolved.{AreRows}
 use Rattle.jfr_layout.proofs.Lists.{all_at, all_push, chained, mapped_at, present, value_in, zip_at}
 use Rattle.jfr_layout.proofs.Places.{place_within, stands}
 
 -- the slot of a shape whose class stands at a place
-pub slot_at : (k : Classes) (kinds : List Kind) (s : Shape) (p : ℕ) (d : Kind) → kinds ≡ map (λ c. kind_of c.name) k → class_place k s.class ≡ Some p → IsSlot k (record { shape = s; place = p; kind = get_or kinds p d })
+pub slot_at : (k : Classes) (kinds : List Kind) (s : Shape) (p : ℕ) (d : Kind) → kinds ≡ map (λ c. kind_of c.name) k → class_place k s.class ≡ Some p → IsSlot k (slot_with s p (get_or kinds p d))
 slot_at k kinds s p d ks e =
     let c = present k p (place_within k s.class p e) in
     let q : slice_get kinds p ≡ Some (kind_of c.0.name) = ap (λ z. slice_get z p) ks ∙ (slice_get-map (λ (z : Class). kind_of z.name) k p ∙ ap (option_map (λ (z : Class). kind_of z.name)) c.1) in
     record {
       place = e;
       kind = ap (option_map (λ (z : Class). kind_of z.name)) (stands k s.class p e ∙ c.1) ∙ ap Some (sym (get_or_from_slice_get kinds p (kind_of c.0.name) d q));
+      form = refl;
     }
 
 pub slots_push : (k : Classes) (fs : List Field) (f : Field) (slots : List Slot) (s : Slot) → AreSlots k fs slots → s.shape ≡ f.shape → IsSlot k s → AreSlots k (fs ++ f ∷ []) (slots ++ s ∷ [])

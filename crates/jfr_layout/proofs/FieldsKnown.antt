@@ -10,7 +10,7 @@ use Rattle.jfr_layout.specs.declared.fault.ClassFault.TheVariants.{Flawed}
 use Rattle.jfr_layout.specs.declared.index.Index.{Index}
 use Rattle.jfr_layout.specs.declared.kind.Kind.{Kind}
 use Rattle.jfr_layout.specs.declared.slot.Slot.{Slot}
-use Rattle.jfr_layout.specs.Classes.{Class, Classes, Field, ClassFlaw, TellsFirst, AreSlots, flaw_if, flaws_in, unknown, is_unknown, find_class, kind_of}
+use Rattle.jfr_layout.specs.Classes.{Class, Classes, Field, ClassFlaw, TellsFirst, AreSlots, flaw_if, flaws_in, unknown, is_unknown, find_class, kind_of, slot_with}
 use Rattle.jfr_layout.specs.Resolved.{IsIndex, AreRows, place_in}
 use Rattle.jfr_layout.proofs.FieldSlots.{slots_push, slot_at}
 use Rattle.jfr_layout.proofs.Lists.{present, take_next, zip_push}
@@ -31,12 +31,12 @@ known_at k index id s = is_some-find (λ (c : Class). c.id == id) k ∙ ap is_so
 
 -- a class that is known
 pub known_next : (k : Classes) (i : ℕ) (fs : List Field) (n : ℕ) (index : Index) (kinds : List Kind) (f : Field) (slots more : List Slot) (p : ℕ) (d : Kind) → IsIndex k index → kinds ≡ map (λ c. kind_of c.name) k → FieldsKnown k i fs n slots → slice_get fs n ≡ Some f
-    → Some p ≡ place_in index f.shape.class → more ≡ slots ++ record { shape = f.shape; place = p; kind = get_or kinds p d } ∷ []
+    → Some p ≡ place_in index f.shape.class → more ≡ slots ++ slot_with f.shape p (get_or kinds p d) ∷ []
     → FieldsKnown k i fs (n + 1) more
 known_next k i fs n index kinds f slots more p d x ks s e g m = record {
   left = stage_next (found_unknown k i) fs n f (flaws_in UnknownType (is_unknown k) i fs) s.left e
       (ap (λ t. flaw_if (not t) i (Some n) UnknownType) (known_at k index f.shape.class x ∙ ap is_some (sym g)));
-  found = rw (take_next fs n f e, m) (slots_push k (take n fs) f slots (record { shape = f.shape; place = p; kind = get_or kinds p d }) s.found refl (slot_at k kinds f.shape p d ks (sym (x.at f.shape.class) ∙ sym g)));
+  found = rw (take_next fs n f e, m) (slots_push k (take n fs) f slots (slot_with f.shape p (get_or kinds p d)) s.found refl (slot_at k kinds f.shape p d ks (sym (x.at f.shape.class) ∙ sym g)));
 }
 
 -- a class that isn't

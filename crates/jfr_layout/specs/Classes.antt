@@ -7,6 +7,8 @@ use Rattle.jfr_base.specs.declared.reason.Reason.{Reason}
 use Rattle.jfr_base.specs.declared.reason.Reason.TheVariants.{ClassTwice, FieldTwice, UnknownType, EmptyInline, InlineDeep}
 use Rattle.jfr_layout.specs.declared.kind.Kind.{Kind}
 use Rattle.jfr_layout.specs.declared.kind.Kind.TheVariants.{Boolean, Byte, Char, Short, Int, Long, Float, Double, Text, Composite}
+use Rattle.jfr_layout.specs.declared.form.Form.{Form}
+use Rattle.jfr_layout.specs.declared.form.Form.TheVariants as forms
 use Rattle.jfr_layout.specs.declared.shape.Shape.{Shape}
 use Rattle.jfr_layout.specs.declared.slot.Slot.{Slot}
 use Rattle.jfr_layout.specs.declared.fault.ClassFault.{ClassFault}
@@ -53,6 +55,27 @@ kind_of name =
     else if bytes_eq name (codes "java.lang.String") then Text
     else Composite
 
+-- what stands where an inline value of this kind begins
+abbrev pub inline_form : Kind → Form
+inline_form Boolean = forms.Raw 1
+inline_form Byte = forms.Raw 1
+inline_form Char = forms.Integer
+inline_form Short = forms.Integer
+inline_form Int = forms.Integer
+inline_form Long = forms.Integer
+inline_form Float = forms.Raw 4
+inline_form Double = forms.Raw 8
+inline_form Text = forms.Text
+inline_form Composite = forms.Fields
+
+-- and a value of a shape, whose class is of this kind: the array mark is asked first, and then the constant mark
+abbrev pub form_of : Shape → Kind → Form
+form_of s kind = if s.array then forms.Array else if s.constant then forms.Key else inline_form kind
+
+-- the slot of a shape whose class has this place and this kind
+abbrev pub slot_with : Shape → ℕ → Kind → Slot
+slot_with s place kind = record { shape = s; place = place; kind = kind; form = form_of s kind }
+
 -- the kind is not one of the nine base kinds
 abbrev pub is_composite : Kind → Bool
 is_composite Composite = true
@@ -66,10 +89,11 @@ extends_event c = is_composite (kind_of c.name) && option_map_or (λ n. bytes_eq
 unfoldable pub is_event_class : Classes → ℕ → Bool
 is_event_class k id = nat_lt 1 id && option_map_or extends_event (find_class k id) false
 
--- the slot has the place and the kind of the class of its shape
+-- the slot has the place and the kind of the class of its shape, and the form that these give
 pub record IsSlot (k : Classes) (s : Slot) : Type 0 where
   pub place : class_place k s.shape.class ≡ Some s.place
   pub kind : option_map (λ c. kind_of c.name) (find_class k s.shape.class) ≡ Some s.kind
+  pub form : s.form ≡ form_of s.shape s.kind
 
 -- one slot for each field, in order, with the field's shape
 pub record AreSlots (k : Classes) (fs : List Field) (slots : List Slot) : Type 0 where

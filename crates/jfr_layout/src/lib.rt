@@ -10,6 +10,7 @@
 mod class;
 mod classes;
 mod fault;
+mod form;
 mod index;
 mod inline;
 mod kind;
@@ -22,6 +23,7 @@ mod slot;
 pub use class::{ClassInfo, ClassList, FieldInfo, Fields};
 pub use classes::Classes;
 pub use fault::ClassFault;
+pub use form::Form;
 pub use kind::Kind;
 pub use laws::{classes_are_known, fields_agree, ids_stand_once, values_end};
 pub use name::is_text;

@@ -89,11 +89,7 @@ fn slots_of(
     for number in 0..fields.len() {
         let shape = fields.at(number).shape;
         match index.place(shape.class) {
-            Some(place) => slots.push(Slot {
-                shape,
-                place,
-                kind: kinds[place],
-            })?,
+            Some(place) => slots.push(Slot::new(shape, place, kinds[place]))?,
             None => {
                 return Err(ClassFault::Flawed {
                     class,
