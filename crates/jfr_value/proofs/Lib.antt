@@ -6,6 +6,7 @@ pub mod DepthLaws
 pub mod EndLaws
 pub mod FitLaws
 pub mod FlawLaws
+pub mod FormLaws
 pub mod InsideLaws
 pub mod LeafLaws
 pub mod NodeLaws
@@ -15,6 +16,7 @@ pub mod RowLaws
 mod Rows
 pub mod StackLaws
 pub mod SkipLaws
+pub mod SlotEnds
 pub mod SlotLaws
 pub mod StringLaws
 pub mod TakingLaws

@@ -40,7 +40,7 @@ part_there k c at end ss vs i s place r e p =
 pub hollow_part : (k : Classes) (c : List ℕ) (at end : ℕ) (s : Slot) (count i : ℕ) (vs : Values) (b : Bool) → IsPlaced k s → s.shape.array ≡ false → s.shape.constant ≡ false → IfSome (slice_get k s.place) (λ c. IsTrue b ↔ IsHollow c) → b ≡ true
     → IsRow k c at end (replicate count s.shape) vs → i < count → slice_get (laid at (list_of vs)) i ≡ Some (node_at s.shape at at)
 hollow_part k c at end s count i vs b p a o h t r l =
-    let d = slot_class k s (p o) in
+    let d = slot_class k s (p.of_class o) in
     let w = (subst (λ z. IfSome z (λ c. IsTrue b ↔ IsHollow c)) d.there h).0 t in
     let x = row_at k c at end (replicate count s.shape) vs i s.shape r (replicate_get count i s.shape l) in
     let e = hollow_starts k s.shape d.class a o d.found w count vs r.of_shapes r.fit at in

@@ -4,11 +4,13 @@ use Rattle.std.specs.List.{AllByRecursion}
 use Rattle.std.proofs.Common.{ap, arith, get_or, refl, subst, sym, ◌∙◌}
 use Rattle.std.proofs.lemmas.List.{length-map}
 use Rattle.std.proofs.lemmas.Option.{slice_get-get_or}
-use Rattle.jfr_layout.specs.Classes.{Class, Classes, Field, AreSlots, IsSlot, class_place, field_at, find_class, kind_of}
+use Rattle.jfr_layout.specs.Classes.{Class, Classes, Field, AreSlots, IsSlot, class_place, field_at, find_class, kind_of, slot_with}
+use Rattle.jfr_layout.specs.declared.form.Form.TheVariants as forms
 use Rattle.jfr_layout.specs.declared.kind.Kind.{Kind}
 use Rattle.jfr_layout.specs.declared.kind.Kind.TheVariants as kinds
 use Rattle.jfr_layout.specs.declared.shape.Shape.{Shape}
 use Rattle.jfr_layout.specs.declared.slot.Slot.{Slot}
+use Rattle.jfr_value.specs.Values.{IsPlaced}
 use Rattle.jfr_value.proofs.PlaceLaws.{get_within, kind_there, placed_class, placed_some, placed_within}
 
 -- the class of a slot's shape
@@ -33,25 +35,32 @@ pub slot_within : (k : Classes) (s : Slot) → IsSlot k s → s.place < length k
 slot_within k s i = placed_within k s.shape.class s.place i.place
 
 -- the slot of a shape whose class stands at a place
-pub slot_made : (k : Classes) (s : Shape) (place : ℕ) (kind : Kind) → class_place k s.class ≡ Some place → IfSome (slice_get k place) (λ c. kind ≡ kind_of c.name) → IsSlot k (record { shape = s; place = place; kind = kind })
+pub slot_made : (k : Classes) (s : Shape) (place : ℕ) (kind : Kind) → class_place k s.class ≡ Some place → IfSome (slice_get k place) (λ c. kind ≡ kind_of c.name) → IsSlot k (slot_with s place kind)
 slot_made k s place kind p h =
     let c = placed_some k s.class place p in
     record {
       place = p;
       kind = ap (option_map (λ (d : Class). kind_of d.name)) (placed_class k s.class place p ∙ c.1) ∙ ap (λ z. Some z) (sym (kind_there k place c.0 kind h c.1));
+      form = refl;
     }
 
 -- a slot that is read from a list of them
 abbrev pub no_slot : Slot
-no_slot = record { shape = record { class = 0; constant = false; array = false }; place = 0; kind = kinds.Boolean }
+no_slot = record { shape = record { class = 0; constant = false; array = false }; place = 0; kind = kinds.Boolean; form = forms.Array }
 
 pub slot_there : (ss : List Slot) (i : ℕ) → i < length ss → slice_get ss i ≡ Some (get_or ss i no_slot)
 slot_there ss i l = slice_get-get_or ss i no_slot l
 
+pub all_at : (P : Slot → Type 0) (ss : List Slot) (i : ℕ) → AllByRecursion P ss → i < length ss → P (get_or ss i no_slot)
+all_at P [] i a l = absurd (omega arith)
+all_at P (s ∷ ss) zero a l = a.0
+all_at P (s ∷ ss) (suc i) a l = all_at P ss i a.1 (omega arith)
+
 pub slots_at : (k : Classes) (ss : List Slot) (i : ℕ) → AllByRecursion (IsSlot k) ss → i < length ss → IsSlot k (get_or ss i no_slot)
-slots_at k [] i a l = absurd (omega arith)
-slots_at k (s ∷ ss) zero a l = a.0
-slots_at k (s ∷ ss) (suc i) a l = slots_at k ss i a.1 (omega arith)
+slots_at k ss i a l = all_at (IsSlot k) ss i a l
+
+pub placed_at : (k : Classes) (ss : List Slot) (i : ℕ) → AllByRecursion (IsSlot k) ss → i < length ss → IsPlaced k (get_or ss i no_slot)
+placed_at k ss i a l = let s : IsSlot k (get_or ss i no_slot) = slots_at k ss i a l in record { form = s.form; of_class = λ o. s }
 
 -- the slots of the class at a place
 pub record SlotsOf (k : Classes) (place : ℕ) (ss : List Slot) : Type 0 where

@@ -3,7 +3,7 @@ use Rattle.std.specs.Prelude.{◌≡◌, ℕ, true, false, List, [], ◌∷◌, 
 use Rattle.std.specs.Option.{option_map}
 use Rattle.jfr_base.specs.Integer.{Spells}
 use Rattle.jfr_text.specs.Strings.{Content, Null, Empty, Key, Utf8, Units, Latin, IsString}
-use Rattle.jfr_layout.specs.Classes.{Class, Classes, IsSlot, find_class, kind_of, item_of}
+use Rattle.jfr_layout.specs.Classes.{Class, Classes, IsSlot, find_class, form_of, kind_of, item_of}
 use Rattle.jfr_layout.specs.declared.kind.Kind.{Kind}
 use Rattle.jfr_layout.specs.declared.kind.Kind.TheVariants as kinds
 use Rattle.jfr_layout.specs.declared.shape.Shape.{Shape}
@@ -127,6 +127,7 @@ IsHollow c = (kind_of c.name ≡ kinds.Composite) × (c.fields ≡ [])
 abbrev pub IsHollowArray : Shape → Class → Type 0
 IsHollowArray s c = (s.array ≡ true) × (s.constant ≡ false) × IsHollow c
 
--- the slot is that of its class; of a constant it doesn't matter
-abbrev pub IsPlaced : Classes → Slot → Type 0
-IsPlaced k s = s.shape.constant ≡ false → IsSlot k s
+-- the slot has its form, and is that of its class; of a constant the class doesn't matter
+pub record IsPlaced (k : Classes) (s : Slot) : Type 0 where
+  pub form : s.form ≡ form_of s.shape s.kind
+  pub of_class : s.shape.constant ≡ false → IsSlot k s

@@ -1,22 +1,22 @@
 // Where values end.
-ghost use Rattle.std.specs.Prelude.{◌≡◌, ℕ, ◌+◌, ◌≤◌, ◌<◌, length, IfOk, IfErr, IfSome, IsSome, IsTrue, ◌↔◌, option_map, option_to_list, slice_get, true};
+ghost use Rattle.std.specs.Prelude.{◌≡◌, ℕ, ◌+◌, ◌≤◌, ◌<◌, length, IfOk, IfErr, Ok, IfSome, IsSome, IsTrue, ◌↔◌, option_map, option_to_list, slice_get, true};
 ghost use Rattle.std.specs.List.{AllByRecursion};
 ghost use Rattle.jfr_base.specs.Formats.{for_each, integer, run, seen};
 ghost use Rattle.jfr_text.specs.Strings.{string_format};
-ghost use Rattle.jfr_layout.specs.Classes.{IsSlot, Sound, find_class, item_of};
+ghost use Rattle.jfr_layout.specs.Classes.{IsSlot, Sound, find_class, form_of, item_of, slot_with};
 ghost use Rattle.jfr_layout.specs.declared.kind.Kind.TheVariants as kinds;
 ghost use Rattle.jfr_value.specs.Nodes.{EndsAt, IsRefused, IsValueReason, node_at, targets};
 ghost use Rattle.jfr_value.specs.Values.{IsHollow, IsHollowArray, IsPlaced, key_of};
-ghost use Rattle.jfr_value.specs.Reading.{base_format, class_format, item_format, shape_format, value_format};
+ghost use Rattle.jfr_value.specs.Reading.{base_format, class_format, shape_format, value_format};
 ghost use Rattle.jfr_value.specs.Visits.{TakesAll, TakesRead, TakesReadAll};
+ghost use Rattle.jfr_value.specs.Walks.{Room};
 
 use crate::Visit;
+use crate::part::item_of;
+use crate::walk::STEPS;
 use jfr_base::{Flaw, Reason, read_within};
-use jfr_layout::{Classes, Kind, Shape, Slot};
+use jfr_layout::{Classes, Form, Kind, Shape, Slot};
 use jfr_text::{StringKind, read_string};
-
-/// How many classes may stand within one another: 33 composite ones, and one of a base name.
-pub(crate) const LEVELS: u32 = 34;
 
 /// So many groups of an integer have seven bits. Behind them comes one of eight.
 const SHORT_GROUPS: usize = 8;
@@ -91,7 +91,7 @@ fn value_end<C, V: Visit<C>>(
     if is_hollow_array(classes, &slot) {
         return integer_end(bytes, at, end);
     }
-    shape_end(classes, &slot, bytes, at, end, LEVELS, visitor, with)
+    slot_end(classes, &slot, bytes, at, end, STEPS, visitor, with)
 }
 
 /// A visitor that takes nothing.
@@ -112,20 +112,13 @@ impl Visit<()> for NoVisit {
 /// The slot of a shape. Where its class isn't known, only the shape says something.
 pub(crate) fn slot_of(classes: &Classes, shape: Shape) -> Slot
     ensures shape { result.shape ≡ shape }
+    ensures form { result.form ≡ form_of result.shape result.kind }
     ensures known { IsSome (find_class classes.now shape.class) → IsSlot classes.now result }
     ensures sound { Sound classes.now }
 {
     match classes.place(shape.class) {
-        Some(place) => Slot {
-            shape,
-            place,
-            kind: classes.kind_at(place),
-        },
-        None => Slot {
-            shape,
-            place: 0,
-            kind: Kind::Composite,
-        },
+        Some(place) => Slot::new(shape, place, classes.kind_at(place)),
+        None => Slot::new(shape, 0, Kind::Composite),
     }
 }
 
@@ -151,6 +144,16 @@ pub(crate) fn is_hollow(classes: &Classes, place: usize) -> bool
     }
 }
 
+/// The flaw of a place where a value doesn't end in time.
+fn ends_early(at: usize) -> Flaw
+    ensures { result ≡ record { offset = at; reason = Reason.Short } }
+{
+    Flaw {
+        offset: at as u64,
+        reason: Reason::Short,
+    }
+}
+
 /// Where an integer ends.
 #[inline(always)]
 fn integer_end(bytes: &[u8], at: usize, end: usize) -> Result<usize, Flaw>
@@ -159,39 +162,63 @@ fn integer_end(bytes: &[u8], at: usize, end: usize) -> Result<usize, Flaw>
     ensures exact { result ≡ seen (run integer bytes.now end at) }
     ensures range { IfOk result (λ to. (at ≤ to) × (to ≤ end)) }
 {
-    for passed in 0..(end - at).min(SHORT_GROUPS) {
+    if at >= bytes.len().saturating_sub(SHORT_GROUPS) {
+        return last_integer_end(bytes, at, end);
+    }
+    let to = groups_end(bytes, at);
+    if to > end {
+        return Err(ends_early(at));
+    }
+    Ok(to)
+}
+
+/// Where an integer ends that has room for all of its groups, by a loop of a fixed length.
+#[inline(always)]
+fn groups_end(bytes: &[u8], at: usize) -> usize
+    requires room { at + 8 < length bytes.now }
+    ensures exact { Ok result ≡ seen (run integer bytes.now (length bytes.now) at) }
+    ensures range { at ≤ result }
+{
+    for passed in 0..SHORT_GROUPS {
+        if bytes[at + passed] < 128 {
+            return at + passed + 1;
+        }
+    }
+    at + SHORT_GROUPS + 1
+}
+
+/// Where an integer ends among the last eight bytes.
+#[cold]
+#[inline(never)]
+fn last_integer_end(bytes: &[u8], at: usize, end: usize) -> Result<usize, Flaw>
+    requires order { at ≤ end }
+    requires within { end ≤ length bytes.now }
+    requires last { length bytes.now ≤ at + 8 }
+    ensures exact { result ≡ seen (run integer bytes.now end at) }
+    ensures range { IfOk result (λ to. (at ≤ to) × (to ≤ end)) }
+{
+    for passed in 0..end - at {
         if bytes[at + passed] < 128 {
             return Ok(at + passed + 1);
         }
     }
-    if end - at > SHORT_GROUPS {
-        return Ok(at + SHORT_GROUPS + 1);
-    }
-    Err(Flaw {
-        offset: at as u64,
-        reason: Reason::Short,
-    })
+    Err(ends_early(at))
 }
 
 /// Where a run of so many bytes ends.
 #[inline(always)]
 fn run_end(count: usize, at: usize, end: usize) -> Result<usize, Flaw>
     requires order { at ≤ end }
-    requires small { count ≤ 8 }
     ensures fits { IfOk result (λ to. (to ≡ at + count) × (to ≤ end)) }
     ensures short { IfErr result (λ flaw. (end < at + count) × (flaw ≡ record { offset = at; reason = Reason.Short })) }
 {
     if end - at < count {
-        return Err(Flaw {
-            offset: at as u64,
-            reason: Reason::Short,
-        });
+        return Err(ends_early(at));
     }
     Ok(at + count)
 }
 
 /// Where a string ends.
-#[inline(always)]
 fn string_end(bytes: &[u8], at: usize, end: usize) -> Result<usize, Flaw>
     requires order { at ≤ end }
     requires within { end ≤ length bytes.now }
@@ -233,7 +260,7 @@ fn key_end<C, V: Visit<C>>(
 }
 
 /// Where a string of a class ends, whose key is handed on if it is one.
-#[inline(always)]
+#[inline(never)]
 fn text_end<C, V: Visit<C>>(
     class: u64,
     bytes: &[u8],
@@ -265,7 +292,6 @@ fn text_end<C, V: Visit<C>>(
 
 /// Where a value of a base name ends.
 #[tactic(auto, unfolding(jfr_base::specs::Formats::run))]
-#[inline(always)]
 pub(crate) fn base_end(kind: Kind, bytes: &[u8], at: usize, end: usize) -> Result<usize, Flaw>
     requires order { at ≤ end }
     requires within { end ≤ length bytes.now }
@@ -282,108 +308,40 @@ pub(crate) fn base_end(kind: Kind, bytes: &[u8], at: usize, end: usize) -> Resul
     }
 }
 
-/// Where an inline value of a slot's class ends.
-#[cycle(ends)]
-#[tactic(auto, using(jfr_base::proofs::SeenLaws::ends), unfolding(jfr_base::specs::Formats::run, crate::specs::Reading::class_format))]
-#[inline(always)]
-fn class_end<C, V: Visit<C>>(
-    classes: &Classes,
-    slot: &Slot,
-    bytes: &[u8],
-    at: usize,
-    end: usize,
-    depth: u32,
-    visitor: &mut V,
-    with: &C,
-) -> Result<usize, Flaw>
-    requires slot { IsSlot classes.now slot.now }
-    requires order { at ≤ end }
-    requires within { end ≤ length bytes.now }
-    requires ready { V.ready visitor.old with.now }
-    ensures exact { result ≡ seen (run (class_format depth classes.now (item_of slot.now.shape)) bytes.now end at) }
-    ensures range { IfOk result (λ to. (at ≤ to) × (to ≤ end)) }
-    ensures visited { TakesRead (V.takes with.now) (run (class_format depth classes.now (item_of slot.now.shape)) bytes.now end at) visitor.old visitor.new }
-    ensures ready { V.ready visitor.new with.now }
-{
-    if depth == 0 {
-        return Err(Flaw {
-            offset: at as u64,
-            reason: Reason::InlineDeep,
-        });
-    }
-    match slot.kind {
-        Kind::Composite => {
-            let fields = classes.slots(slot.place);
-            let to = fields_end(classes, fields, bytes, at, end, depth - 1, visitor, with)?;
-            Ok(to)
-        }
-        Kind::Text => text_end(slot.shape.class, bytes, at, end, visitor, with),
-        kind => base_end(kind, bytes, at, end),
-    }
-}
-
-/// Where a value that is no array ends, or an item of an array.
-#[cycle(ends)]
-#[tactic(auto, using(jfr_base::proofs::SeenLaws::ends), unfolding(jfr_base::specs::Formats::run, crate::specs::Reading::class_format))]
-#[inline(always)]
-fn item_end<C, V: Visit<C>>(
-    classes: &Classes,
-    slot: &Slot,
-    bytes: &[u8],
-    at: usize,
-    end: usize,
-    depth: u32,
-    visitor: &mut V,
-    with: &C,
-) -> Result<usize, Flaw>
-    requires placed { IsPlaced classes.now slot.now }
-    requires order { at ≤ end }
-    requires within { end ≤ length bytes.now }
-    requires ready { V.ready visitor.old with.now }
-    ensures exact { result ≡ seen (run (item_format (class_format depth classes.now) (item_of slot.now.shape)) bytes.now end at) }
-    ensures range { IfOk result (λ to. (at ≤ to) × (to ≤ end)) }
-    ensures visited { TakesRead (V.takes with.now) (run (item_format (class_format depth classes.now) (item_of slot.now.shape)) bytes.now end at) visitor.old visitor.new }
-    ensures ready { V.ready visitor.new with.now }
-{
-    if slot.shape.constant {
-        key_end(slot.shape.class, bytes, at, end, visitor, with)
-    } else {
-        class_end(classes, slot, bytes, at, end, depth, visitor, with)
-    }
-}
-
 /// Where a value of a slot ends.
 #[cycle(ends)]
 #[tactic(auto, using(jfr_base::proofs::SeenLaws::ends), unfolding(jfr_base::specs::Formats::run, crate::specs::Reading::class_format))]
 #[inline(always)]
-pub(crate) fn shape_end<C, V: Visit<C>>(
+pub(crate) fn slot_end<C, V: Visit<C>>(
     classes: &Classes,
     slot: &Slot,
     bytes: &[u8],
     at: usize,
     end: usize,
-    depth: u32,
+    levels: u32,
     visitor: &mut V,
     with: &C,
 ) -> Result<usize, Flaw>
     requires placed { IsPlaced classes.now slot.now }
+    requires room { Room classes.now levels slot.now.shape }
     requires order { at ≤ end }
     requires within { end ≤ length bytes.now }
     requires ready { V.ready visitor.old with.now }
-    ensures exact { result ≡ seen (run (shape_format (class_format depth classes.now) slot.now.shape) bytes.now end at) }
+    ensures exact { result ≡ seen (run (shape_format (class_format (levels + 1) classes.now) slot.now.shape) bytes.now end at) }
     ensures range { IfOk result (λ to. (at ≤ to) × (to ≤ end)) }
-    ensures visited { TakesRead (V.takes with.now) (run (shape_format (class_format depth classes.now) slot.now.shape) bytes.now end at) visitor.old visitor.new }
+    ensures visited { TakesRead (V.takes with.now) (run (shape_format (class_format (levels + 1) classes.now) slot.now.shape) bytes.now end at) visitor.old visitor.new }
     ensures ready { V.ready visitor.new with.now }
 {
-    if slot.shape.array {
-        let count = read_within(bytes, at, end)?;
-        let mut to = count.end;
-        for _ in 0..count.value {
-            to = item_end(classes, slot, bytes, to, end, depth, visitor, with)?;
+    match slot.form {
+        Form::Integer => integer_end(bytes, at, end),
+        Form::Raw(count) => run_end(usize::from(count), at, end),
+        Form::Key => key_end(slot.shape.class, bytes, at, end, visitor, with),
+        Form::Text => text_end(slot.shape.class, bytes, at, end, visitor, with),
+        Form::Fields => {
+            let fields = classes.slots(slot.place);
+            fields_end(classes, fields, bytes, at, end, levels - 1, visitor, with)
         }
-        Ok(to)
-    } else {
-        item_end(classes, slot, bytes, at, end, depth, visitor, with)
+        Form::Array => array_end(classes, slot, bytes, at, end, levels, visitor, with),
     }
 }
 
@@ -397,22 +355,64 @@ fn fields_end<C, V: Visit<C>>(
     bytes: &[u8],
     at: usize,
     end: usize,
-    depth: u32,
+    levels: u32,
     visitor: &mut V,
     with: &C,
 ) -> Result<usize, Flaw>
     requires slots { AllByRecursion (IsSlot classes.now) slots.now }
+    requires room { AllByRecursion (λ s. Room classes.now levels s.shape) slots.now }
     requires order { at ≤ end }
     requires within { end ≤ length bytes.now }
     requires ready { V.ready visitor.old with.now }
-    ensures exact { result ≡ seen (run (for_each slots.now (λ s. shape_format (class_format depth classes.now) s.shape)) bytes.now end at) }
+    ensures exact { result ≡ seen (run (for_each slots.now (λ s. shape_format (class_format (levels + 1) classes.now) s.shape)) bytes.now end at) }
     ensures range { IfOk result (λ to. (at ≤ to) × (to ≤ end)) }
-    ensures visited { TakesReadAll (V.takes with.now) (run (for_each slots.now (λ s. shape_format (class_format depth classes.now) s.shape)) bytes.now end at) visitor.old visitor.new }
+    ensures visited { TakesReadAll (V.takes with.now) (run (for_each slots.now (λ s. shape_format (class_format (levels + 1) classes.now) s.shape)) bytes.now end at) visitor.old visitor.new }
     ensures ready { V.ready visitor.new with.now }
 {
     let mut to = at;
     for slot in slots {
-        to = shape_end(classes, slot, bytes, to, end, depth, visitor, with)?;
+        to = slot_end(classes, slot, bytes, to, end, levels, visitor, with)?;
     }
     Ok(to)
+}
+
+/// Where an array ends.
+#[cycle(ends)]
+#[tactic(auto, using(jfr_base::proofs::SeenLaws::ends), unfolding(jfr_base::specs::Formats::run, crate::specs::Reading::class_format))]
+#[inline(never)]
+fn array_end<C, V: Visit<C>>(
+    classes: &Classes,
+    slot: &Slot,
+    bytes: &[u8],
+    at: usize,
+    end: usize,
+    levels: u32,
+    visitor: &mut V,
+    with: &C,
+) -> Result<usize, Flaw>
+    requires array { slot.now.shape.array ≡ true }
+    requires placed { IsPlaced classes.now slot.now }
+    requires room { Room classes.now levels slot.now.shape }
+    requires order { at ≤ end }
+    requires within { end ≤ length bytes.now }
+    requires ready { V.ready visitor.old with.now }
+    ensures exact { result ≡ seen (run (shape_format (class_format (levels + 1) classes.now) slot.now.shape) bytes.now end at) }
+    ensures range { IfOk result (λ to. (at ≤ to) × (to ≤ end)) }
+    ensures visited { TakesRead (V.takes with.now) (run (shape_format (class_format (levels + 1) classes.now) slot.now.shape) bytes.now end at) visitor.old visitor.new }
+    ensures ready { V.ready visitor.new with.now }
+{
+    let count = read_within(bytes, at, end)?;
+    let item = item_slot(slot);
+    let mut to = count.end;
+    for _ in 0..count.value {
+        to = slot_end(classes, &item, bytes, to, end, levels, visitor, with)?;
+    }
+    Ok(to)
+}
+
+/// The slot of an array's items.
+pub(crate) fn item_slot(array: &Slot) -> Slot
+    ensures { result ≡ slot_with (item_of array.now.shape) array.now.place array.now.kind }
+{
+    Slot::new(item_of(array.shape), array.place, array.kind)
 }

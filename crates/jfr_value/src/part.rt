@@ -6,7 +6,8 @@ ghost use Rattle.jfr_layout.specs.Classes.{IsSlot, Sound, item_of};
 ghost use Rattle.jfr_value.specs.Nodes.{EndsAt, IsRow, IsValue, child, laid, node_of};
 ghost use Rattle.jfr_value.specs.Values.{IsPlaced, Values, list_of};
 
-use crate::extent::{LEVELS, NoVisit, is_hollow, shape_end, slot_of};
+use crate::extent::{NoVisit, is_hollow, slot_end, slot_of};
+use crate::walk::STEPS;
 use crate::{Node, Step};
 use jfr_base::{Var, read_within};
 use jfr_layout::{Classes, Kind, Shape, Slot};
@@ -87,7 +88,7 @@ fn part_end(classes: &Classes, slot: &Slot, bytes: &[u8], at: usize, end: usize)
     requires stands { (to : ℕ) × EndsAt classes.now bytes.now slot.now.shape at to × (to ≤ end) }
     ensures { (to : ℕ) → EndsAt classes.now bytes.now slot.now.shape at to → to ≤ end → result ≡ to }
 {
-    match shape_end(classes, slot, bytes, at, end, LEVELS, &mut NoVisit, &()) {
+    match slot_end(classes, slot, bytes, at, end, STEPS, &mut NoVisit, &()) {
         Ok(to) => to,
         Err(_) => unreachable!(),
     }

@@ -11,11 +11,11 @@ ghost use Rattle.jfr_value.specs.Values.{IsHollow, Value, Values, key_of, target
 ghost use Rattle.jfr_value.specs.Visits.{TakesAll, field_shapes};
 ghost use Rattle.jfr_value.specs.Walks.{IsSlotIfKnown, Room};
 
-use crate::extent::{base_end, is_hollow, slot_of};
+use crate::extent::{base_end, is_hollow, item_slot, slot_of};
 use crate::walk::STEPS;
 use crate::{Node, Steps};
 use jfr_base::read_within;
-use jfr_layout::{Classes, Kind, Shape, Slot};
+use jfr_layout::{Classes, Form, Kind, Slot};
 use jfr_text::{StringKind, read_string};
 use std::sync::ledger::Ledger;
 
@@ -76,14 +76,11 @@ fn visit_value<C, V: Visit<C>, L: Ledger>(
         → (result ≡ to) × TakesAll (V.takes with.now) (targets_of v) visitor.old visitor.new × (steps.new ≡ steps.old + length (leaves_at at v)) }
     ensures ready { V.ready visitor.new with.now }
 {
-    if slot.shape.array {
-        return visit_array(classes, whole, slot, levels, at, visitor, with, steps);
-    }
-    if slot.shape.constant {
-        return visit_key(whole, slot.shape.class, at, visitor, with, steps);
-    }
-    match slot.kind {
-        Kind::Composite => visit_fields(
+    match slot.form {
+        Form::Integer | Form::Raw(_) => visit_plain(whole, slot.kind, at, steps),
+        Form::Key => visit_key(whole, slot.shape.class, at, visitor, with, steps),
+        Form::Text => visit_string(whole, slot.shape.class, at, visitor, with, steps),
+        Form::Fields => visit_fields(
             classes,
             whole,
             slot.place,
@@ -93,8 +90,7 @@ fn visit_value<C, V: Visit<C>, L: Ledger>(
             with,
             steps,
         ),
-        Kind::Text => visit_string(whole, slot.shape.class, at, visitor, with, steps),
-        kind => visit_plain(whole, kind, at, steps),
+        Form::Array => visit_array(classes, whole, slot, levels, at, visitor, with, steps),
     }
 }
 
@@ -160,15 +156,7 @@ fn visit_array<C, V: Visit<C>, L: Ledger>(
     if !has_bytes(classes, slot) {
         return count.end;
     }
-    let item = Slot {
-        shape: Shape {
-            class: slot.shape.class,
-            constant: slot.shape.constant,
-            array: false,
-        },
-        place: slot.place,
-        kind: slot.kind,
-    };
+    let item = item_slot(slot);
     let mut to = count.end;
     'items: for _ in 0..count.value {
         to = visit_value(classes, whole, &item, levels, to, visitor, with, steps);

@@ -1,40 +1,37 @@
-use Rattle.std.proofs.Common.{◌≡◌, ◌+◌, ◌*◌, ◌≤◌, ◌-◌, drop}
+use Rattle.std.proofs.Common.{◌≡◌, ◌+◌, ◌*◌, ◌≤◌, ◌-◌, drop, if◌then◌else◌}
 use Rattle.jfr_base.specs.Formats.{for_each, run, times, seen}
 use Rattle.jfr_layout.specs.Classes.{item_of}
 use Rattle.jfr_value.specs.Reading.{class_format, item_format, shape_format}
 use Rattle.jfr_value.proofs.TakingLaws.{TakesLeft}
 use Rattle.jfr_value.proofs.extent.+ends.Given as goal
 
-abbrev pub decreases-class_end : goal.decreases-class_end
-decreases-class_end g l = 4 * l.depth
+abbrev pub decreases-slot_end : goal.decreases-slot_end
+decreases-slot_end g l = 4 * l.levels + (if l.slot.now.shape.array then 2 else 0)
+
+abbrev pub decreases-array_end : goal.decreases-array_end
+decreases-array_end g l = 4 * l.levels + 1
 
 abbrev pub decreases-fields_end : goal.decreases-fields_end
-decreases-fields_end g l = 4 * l.depth + 3
-
-abbrev pub decreases-item_end : goal.decreases-item_end
-decreases-item_end g l = 4 * l.depth + 1
-
-abbrev pub decreases-shape_end : goal.decreases-shape_end
-decreases-shape_end g l = 4 * l.depth + 2
+decreases-fields_end g l = 4 * l.levels + 3
 
 abbrev pub invariant-fields_end-loop-slot : goal.invariant-fields_end-loop-slot
 invariant-fields_end-loop-slot g l = record {
   from : l.at ≤ l.to;
   upto : l.to ≤ l.end;
-  same : seen (run (for_each (drop l.slot-index l.slots) (λ s. shape_format (class_format l.depth l.classes) s.shape)) l.bytes l.end l.to)
-      ≡ seen (run (for_each l.slots (λ s. shape_format (class_format l.depth l.classes) s.shape)) l.bytes l.end l.at);
+  same : seen (run (for_each (drop l.slot-index l.slots) (λ s. shape_format (class_format (l.levels + 1) l.classes) s.shape)) l.bytes l.end l.to)
+      ≡ seen (run (for_each l.slots (λ s. shape_format (class_format (l.levels + 1) l.classes) s.shape)) l.bytes l.end l.at);
   ready : g.V.Visit.ready l.visitor l.with;
-  left : TakesLeft (g.V.Visit.takes l.with) (run (for_each l.slots (λ s. shape_format (class_format l.depth l.classes) s.shape)) l.bytes l.end l.at)
-      (run (for_each (drop l.slot-index l.slots) (λ s. shape_format (class_format l.depth l.classes) s.shape)) l.bytes l.end l.to) l.initial.visitor l.visitor;
+  left : TakesLeft (g.V.Visit.takes l.with) (run (for_each l.slots (λ s. shape_format (class_format (l.levels + 1) l.classes) s.shape)) l.bytes l.end l.at)
+      (run (for_each (drop l.slot-index l.slots) (λ s. shape_format (class_format (l.levels + 1) l.classes) s.shape)) l.bytes l.end l.to) l.initial.visitor l.visitor;
 }
 
-abbrev pub invariant-shape_end-loop : goal.invariant-shape_end-loop
-invariant-shape_end-loop g l = record {
+abbrev pub invariant-array_end-loop : goal.invariant-array_end-loop
+invariant-array_end-loop g l = record {
   from : l.at ≤ l.to;
   upto : l.to ≤ l.end-2;
-  same : seen (run (times (l.end - l.counter) (item_format (class_format l.depth l.classes) (item_of l.slot.shape))) l.bytes l.end-2 l.to)
-      ≡ seen (run (times l.end (item_format (class_format l.depth l.classes) (item_of l.slot.shape))) l.bytes l.end-2 l.initial.to);
+  same : seen (run (times (l.end - l.counter) (item_format (class_format (l.levels + 1) l.classes) (item_of l.slot.shape))) l.bytes l.end-2 l.to)
+      ≡ seen (run (times l.end (item_format (class_format (l.levels + 1) l.classes) (item_of l.slot.shape))) l.bytes l.end-2 l.initial.to);
   ready : g.V.Visit.ready l.visitor l.with;
-  left : TakesLeft (g.V.Visit.takes l.with) (run (times l.end (item_format (class_format l.depth l.classes) (item_of l.slot.shape))) l.bytes l.end-2 l.initial.to)
-      (run (times (l.end - l.counter) (item_format (class_format l.depth l.classes) (item_of l.slot.shape))) l.bytes l.end-2 l.to) l.initial.visitor l.visitor;
+  left : TakesLeft (g.V.Visit.takes l.with) (run (times l.end (item_format (class_format (l.levels + 1) l.classes) (item_of l.slot.shape))) l.bytes l.end-2 l.initial.to)
+      (run (times (l.end - l.counter) (item_format (class_format (l.levels + 1) l.classes) (item_of l.slot.shape))) l.bytes l.end-2 l.to) l.initial.visitor l.visitor;
 }

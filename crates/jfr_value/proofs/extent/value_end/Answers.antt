@@ -1,6 +1,7 @@
 use Rattle.std.proofs.Common.{◌∙◌, ap, subst}
 use Rattle.jfr_base.specs.Formats.{run, seen}
 use Rattle.jfr_value.specs.Reading.{value_format}
+use Rattle.jfr_value.proofs.DepthLaws.{sound_inline}
 use Rattle.jfr_value.proofs.EndLaws.{hollow_count}
 use Rattle.jfr_value.proofs.SlotLaws.{slot_within}
 use Rattle.jfr_value.proofs.TakingLaws.{hollow_taken}
@@ -21,14 +22,17 @@ returns-then-is_hollow_array g c = record {
   ready = c.requires.ready;
 }
 
-pub shape_end-requires-clause-placed : goal.shape_end-requires-clause-placed
-shape_end-requires-clause-placed g c = λ o. c.slot_of-slot.ensures.known c.requires.known
+pub slot_end-requires-clause-placed : goal.slot_end-requires-clause-placed
+slot_end-requires-clause-placed g c = record { form = c.slot_of-slot.ensures.form; of_class = λ o. c.slot_of-slot.ensures.known c.requires.known }
+
+pub slot_end-requires-clause-room : goal.slot_end-requires-clause-room
+slot_end-requires-clause-room g c = λ o d q m. sound_inline c.args.classes.now c.slot_of-slot.result.shape.class d c.slot_of-slot.ensures.sound q
 
 pub returns : goal.returns
 unfolding value_format
 returns g c = record {
-  exact = c.shape_end.ensures.exact ∙ ap (λ s. seen (run (value_format c.args.classes.now s) c.args.bytes.now c.args.end c.args.at)) c.slot_of-slot.ensures.shape;
+  exact = c.slot_end.ensures.exact ∙ ap (λ s. seen (run (value_format c.args.classes.now s) c.args.bytes.now c.args.end c.args.at)) c.slot_of-slot.ensures.shape;
   sound = c.slot_of-slot.ensures.sound;
-  visited = subst (λ s. TakesRead (g.V.Visit.takes c.args.with.now) (run (value_format c.args.classes.now s) c.args.bytes.now c.args.end c.args.at) c.args.visitor.now c.shape_end.new.visitor) c.slot_of-slot.ensures.shape c.shape_end.ensures.visited;
-  ready = c.shape_end.ensures.ready;
+  visited = subst (λ s. TakesRead (g.V.Visit.takes c.args.with.now) (run (value_format c.args.classes.now s) c.args.bytes.now c.args.end c.args.at) c.args.visitor.now c.slot_end.new.visitor) c.slot_of-slot.ensures.shape c.slot_end.ensures.visited;
+  ready = c.slot_end.ensures.ready;
 }

@@ -20,10 +20,13 @@ pub nth_item-requires-clause-item : goal.nth_item-requires-clause-item
 nth_item-requires-clause-item c = ap (λ (z : Shape). z.array) (c.slot_of-slot.ensures.shape ∙ c.item_of.ensures)
 
 pub nth_item-requires-clause-placed : goal.nth_item-requires-clause-placed
-nth_item-requires-clause-placed c = λ o. c.slot_of-slot.ensures.known
-    (subst (λ (z : Shape). IsSome (find_class c.args.classes.now z.class)) (sym c.item_of.ensures)
-    (items_known c.args.classes.now c.args.node.now.bytes.now (node_of c.args.node.now) c.requires.0 c.slot_of-slot.ensures.sound c.requires.1 c.args.number c.in-Ok.count c.if-not-node.false c.in-Ok.ensures.exact c.if-number-count.false
-    (sym (ap (λ (z : Shape). z.constant) (c.slot_of-slot.ensures.shape ∙ c.item_of.ensures)) ∙ o)))
+nth_item-requires-clause-placed c = record {
+  form = c.slot_of-slot.ensures.form;
+  of_class = λ o. c.slot_of-slot.ensures.known
+      (subst (λ (z : Shape). IsSome (find_class c.args.classes.now z.class)) (sym c.item_of.ensures)
+      (items_known c.args.classes.now c.args.node.now.bytes.now (node_of c.args.node.now) c.requires.0 c.slot_of-slot.ensures.sound c.requires.1 c.args.number c.in-Ok.count c.if-not-node.false c.in-Ok.ensures.exact c.if-number-count.false
+      (sym (ap (λ (z : Shape). z.constant) (c.slot_of-slot.ensures.shape ∙ c.item_of.ensures)) ∙ o)));
+}
 
 pub nth_item-requires-clause-row : goal.nth_item-requires-clause-row
 nth_item-requires-clause-row c =

@@ -4,11 +4,11 @@ use Rattle.std.specs.Prelude.{Some, map}
 use Rattle.jfr_value.specs.Nodes.{node_at}
 use Rattle.jfr_value.proofs.PartLaws.{part_there}
 use Rattle.jfr_value.proofs.RowLaws.{start_of, shapes_get}
-use Rattle.jfr_value.proofs.SlotLaws.{no_slot, slot_there, slots_at}
+use Rattle.jfr_value.proofs.SlotLaws.{no_slot, placed_at, slot_there}
 use Rattle.jfr_value.proofs.part.nth_field.Goals as goal
 
 pub part_end-at-requires-clause-placed : goal.part_end-at-requires-clause-placed
-part_end-at-requires-clause-placed c = λ o. slots_at c.args.classes.now c.args.slots.now c.loop-i.i c.requires.slots (omega arith)
+part_end-at-requires-clause-placed c = placed_at c.args.classes.now c.args.slots.now c.loop-i.i c.requires.slots (omega arith)
 
 pub part_end-at-requires-clause-order : goal.part_end-at-requires-clause-order
 part_end-at-requires-clause-order c =
@@ -26,7 +26,7 @@ loop-i-preserved c = λ vs r.
     c.part_end-at.ensures t.to t.ends t.within ∙ t.next)
 
 pub part_end-requires-clause-placed : goal.part_end-requires-clause-placed
-part_end-requires-clause-placed c = λ o. slots_at c.args.classes.now c.args.slots.now c.args.number c.requires.slots c.requires.is_field
+part_end-requires-clause-placed c = placed_at c.args.classes.now c.args.slots.now c.args.number c.requires.slots c.requires.is_field
 
 pub part_end-requires-clause-order : goal.part_end-requires-clause-order
 part_end-requires-clause-order c =

@@ -8,7 +8,7 @@ use Rattle.jfr_value.proofs.SlotLaws.{slot_within}
 use Rattle.jfr_value.proofs.part.nth_item.Goals as goal
 
 pub is_hollow-requires : goal.is_hollow-requires
-is_hollow-requires c = slot_within c.args.classes.now c.args.slot.now (c.requires.placed (not_so c.args.slot.now.shape.constant c.if-not-shape.true))
+is_hollow-requires c = slot_within c.args.classes.now c.args.slot.now (c.requires.placed.of_class (not_so c.args.slot.now.shape.constant c.if-not-shape.true))
 
 pub returns-then-is_hollow-clause-exact : goal.returns-then-is_hollow-clause-exact
 returns-then-is_hollow-clause-exact c = λ vs r.

@@ -1,5 +1,6 @@
 use Rattle.std.proofs.Common.{ℕ, ◌+◌, ◌*◌, ◌-◌, ◌≤◌, drop, if◌then◌else◌}
 use Rattle.std.specs.Prelude.{replicate}
+use Rattle.jfr_layout.specs.Classes.{item_of}
 use Rattle.jfr_value.specs.Nodes.{IsRow}
 use Rattle.jfr_value.specs.Values.{Values}
 use Rattle.jfr_value.specs.Visits.{field_shapes}
@@ -18,8 +19,8 @@ decreases-visit_value g l = 4 * l.levels + (if l.slot.now.shape.array then 2 els
 abbrev pub invariant-visit_array-items : goal.invariant-visit_array-items
 invariant-visit_array-items g l = record {
   ready : g.V.Visit.ready l.visitor l.with;
-  left : (to : ℕ) (vs : Values) → IsRow l.classes l.whole.bytes.now l.initial.to to (replicate l.end l.item.shape) vs → to ≤ l.whole.end
-      → Left (g.V.Visit.takes l.with) l.classes l.whole.bytes.now l.initial.to to vs l.initial.visitor l.initial.steps (replicate (l.end - l.counter) l.item.shape) l.to l.visitor l.steps;
+  left : (to : ℕ) (vs : Values) → IsRow l.classes l.whole.bytes.now l.initial.to to (replicate l.end (item_of l.slot.shape)) vs → to ≤ l.whole.end
+      → Left (g.V.Visit.takes l.with) l.classes l.whole.bytes.now l.initial.to to vs l.initial.visitor l.initial.steps (replicate (l.end - l.counter) (item_of l.slot.shape)) l.to l.visitor l.steps;
 }
 
 abbrev pub invariant-visit_fields-loop-slot : goal.invariant-visit_fields-loop-slot

@@ -1,0 +1,123 @@
+-- What the form of a slot says of its shape and its kind.
+use Rattle.std.specs.Prelude.{◌≡◌, ◌≢◌, ◌⊎◌, ℕ, Bool, true, false, None, ⊤, if◌then◌else◌}
+use Rattle.std.proofs.Common.{ap, inl, inr, refl, subst, sym, ◌∙◌}
+use Rattle.jfr_base.specs.Formats.{Done, Int, Run, unchecked}
+use Rattle.jfr_layout.specs.Classes.{form_of, inline_form}
+use Rattle.jfr_layout.specs.declared.form.Form.{Form}
+use Rattle.jfr_layout.specs.declared.form.Form.TheVariants as forms
+use Rattle.jfr_layout.specs.declared.kind.Kind.{Kind}
+use Rattle.jfr_layout.specs.declared.kind.Kind.TheVariants as kinds
+use Rattle.jfr_layout.specs.declared.slot.Slot.{Slot}
+use Rattle.jfr_value.specs.Reading.{base_format}
+
+-- the form is that of an inline value
+abbrev pub IsInline : Form → Type 0
+IsInline forms.Array = ⊥
+IsInline forms.Key = ⊥
+IsInline forms.Integer = ⊤
+IsInline (forms.Raw n) = ⊤
+IsInline forms.Text = ⊤
+IsInline forms.Fields = ⊤
+
+inline_is : (kind : Kind) → IsInline (inline_form kind)
+inline_is kinds.Boolean = tt
+inline_is kinds.Byte = tt
+inline_is kinds.Char = tt
+inline_is kinds.Short = tt
+inline_is kinds.Int = tt
+inline_is kinds.Long = tt
+inline_is kinds.Float = tt
+inline_is kinds.Double = tt
+inline_is kinds.Text = tt
+inline_is kinds.Composite = tt
+
+-- then the slot has neither mark, and its kind has the form
+pub record Inline (s : Slot) (f : Form) : Type 0 where
+  pub array : s.shape.array ≡ false
+  pub constant : s.shape.constant ≡ false
+  pub form : f ≡ inline_form s.kind
+
+-- a kind of another form is another kind
+pub other_kind : (f : Form) (kind other : Kind) → f ≡ inline_form kind → f ≢ inline_form other → kind ≢ other
+other_kind f kind other e n h = n (e ∙ ap inline_form h)
+
+-- a value of a base name that refers to nothing
+pub record Plain (s : Slot) : Type 0 where
+  pub array : s.shape.array ≡ false
+  pub constant : s.shape.constant ≡ false
+  pub not_text : s.kind ≢ kinds.Text
+  pub not_composite : s.kind ≢ kinds.Composite
+
+plain_of : (s : Slot) (f : Form) → Inline s f → f ≢ forms.Text → f ≢ forms.Fields → Plain s
+plain_of s f i n m = record { array = i.array; constant = i.constant; not_text = other_kind f s.kind kinds.Text i.form n; not_composite = other_kind f s.kind kinds.Composite i.form m }
+
+module _ (s : Slot) (h : s.form ≡ form_of s.shape s.kind) where
+  pub inline_there : (f : Form) → s.form ≡ f → IsInline f → Inline s f
+  inline_there f e i = by_marks s.shape.array s.shape.constant refl refl (sym e ∙ h)
+    where
+      by_marks : (a c : Bool) → s.shape.array ≡ a → s.shape.constant ≡ c → f ≡ (if a then forms.Array else if c then forms.Key else inline_form s.kind) → Inline s f
+      by_marks true c p q g = absurd (subst IsInline g i)
+      by_marks false true p q g = absurd (subst IsInline g i)
+      by_marks false false p q g = record { array = p; constant = q; form = g }
+
+  pub key_there : s.form ≡ forms.Key → (s.shape.array ≡ false) × (s.shape.constant ≡ true)
+  key_there e = by_marks s.shape.array s.shape.constant refl refl (sym e ∙ h)
+    where
+      by_marks : (a c : Bool) → s.shape.array ≡ a → s.shape.constant ≡ c → forms.Key ≡ (if a then forms.Array else if c then forms.Key else inline_form s.kind) → (s.shape.array ≡ false) × (s.shape.constant ≡ true)
+      by_marks true c p q g = cc
+      by_marks false true p q g = (p, q)
+      by_marks false false p q g = absurd (subst IsInline (sym g) (inline_is s.kind))
+
+  -- an integer or raw bytes
+  pub plain_there : (s.form ≡ forms.Integer) ⊎ ((n : ℕ) × (s.form ≡ forms.Raw n)) → Plain s
+  plain_there (inl e) = plain_of s forms.Integer (inline_there forms.Integer e tt) (λ q. cc) (λ q. cc)
+  plain_there (inr e) = plain_of s (forms.Raw e.0) (inline_there (forms.Raw e.0) e.1 tt) (λ q. cc) (λ q. cc)
+
+-- the kinds of a form
+pub integer_kind : (kind : Kind) → forms.Integer ≡ inline_form kind → base_format kind ≡ Int unchecked (λ v spelled. Done None)
+integer_kind kinds.Char e = refl
+integer_kind kinds.Short e = refl
+integer_kind kinds.Int e = refl
+integer_kind kinds.Long e = refl
+integer_kind kinds.Boolean e = cc
+integer_kind kinds.Byte e = cc
+integer_kind kinds.Float e = cc
+integer_kind kinds.Double e = cc
+integer_kind kinds.Text e = cc
+integer_kind kinds.Composite e = cc
+
+pub raw_kind : (n : ℕ) (kind : Kind) → forms.Raw n ≡ inline_form kind → base_format kind ≡ Run n (λ bytes. Done None)
+raw_kind n kinds.Boolean e = let h : n ≡ 1 = cc in ap (λ m. Run m (λ bytes. Done None)) (sym h)
+raw_kind n kinds.Byte e = let h : n ≡ 1 = cc in ap (λ m. Run m (λ bytes. Done None)) (sym h)
+raw_kind n kinds.Float e = let h : n ≡ 4 = cc in ap (λ m. Run m (λ bytes. Done None)) (sym h)
+raw_kind n kinds.Double e = let h : n ≡ 8 = cc in ap (λ m. Run m (λ bytes. Done None)) (sym h)
+raw_kind n kinds.Char e = cc
+raw_kind n kinds.Short e = cc
+raw_kind n kinds.Int e = cc
+raw_kind n kinds.Long e = cc
+raw_kind n kinds.Text e = cc
+raw_kind n kinds.Composite e = cc
+
+pub text_kind : (kind : Kind) → forms.Text ≡ inline_form kind → kind ≡ kinds.Text
+text_kind kinds.Text e = refl
+text_kind kinds.Boolean e = cc
+text_kind kinds.Byte e = cc
+text_kind kinds.Char e = cc
+text_kind kinds.Short e = cc
+text_kind kinds.Int e = cc
+text_kind kinds.Long e = cc
+text_kind kinds.Float e = cc
+text_kind kinds.Double e = cc
+text_kind kinds.Composite e = cc
+
+pub fields_kind : (kind : Kind) → forms.Fields ≡ inline_form kind → kind ≡ kinds.Composite
+fields_kind kinds.Composite e = refl
+fields_kind kinds.Boolean e = cc
+fields_kind kinds.Byte e = cc
+fields_kind kinds.Char e = cc
+fields_kind kinds.Short e = cc
+fields_kind kinds.Int e = cc
+fields_kind kinds.Long e = cc
+fields_kind kinds.Float e = cc
+fields_kind kinds.Double e = cc
+fields_kind kinds.Text e = cc
