@@ -3,6 +3,7 @@ pub mod Left
 pub mod Fits
 pub mod Staying
 pub mod Bodies
+pub mod Runs
 pub mod Scrubbing
 pub mod Scrubs
 pub mod Headline

@@ -7,11 +7,13 @@ ghost use Rattle.jfr_chunk.specs.Scrub.{bytes_of, stays};
 ghost use Rattle.jfr_chunk.specs.Written.{distance};
 ghost use Rattle.jfr_scrub.specs.Bodies.{IsBefore, IsBody, NotFalling, StayFits, body_with, place_seen};
 ghost use Rattle.jfr_scrub.specs.Left.{HasRange};
+ghost use Rattle.jfr_scrub.specs.Runs.{body_with_run};
 ghost use Rattle.jfr_scrub.specs.Scrubbing.{IsAccepted};
 ghost use Rattle.jfr_scrub.specs.Staying.{stay_as};
 
 use crate::checkpoint::lay_checkpoint;
 use crate::output::Output;
+use crate::run::{Run, pass_run};
 use crate::stays::{Cursor, Staying, next_stay};
 use jfr_chunk::{Chunk, Kept};
 use jfr_outside::NoMemory;
@@ -51,10 +53,27 @@ pub(crate) fn lay_body<'a>(
         event: 0,
         link: 0,
     };
-    'stays: while let Some(stay) = next_stay(chunk, kept, &mut cursor) {
+    'stays: loop {
+        lay_run(&mut body, pass_run(chunk, kept, &mut cursor))?;
+        let Some(stay) = next_stay(chunk, kept, &mut cursor) else {
+            return Ok(body);
+        };
         lay_stay(&mut body, left, metadata, stay)?;
     }
-    Ok(body)
+}
+
+// Lays out a run.
+#[inline(always)]
+fn lay_run(body: &mut Body, run: Run) -> Result<(), NoMemory>
+    requires order { run.from ≤ run.to }
+    requires within { run.to ≤ length body.old.output.chunk }
+    requires room { body.old.at + (run.to - run.from) ≤ length body.old.output.chunk }
+    requires small { length body.old.output.chunk < 2 ^ 64 }
+    ensures ok { OnOk result (body.new ≡ body_with_run body.old run) }
+{
+    body.output.copy(run.from, run.to)?;
+    body.at += run.to - run.from;
+    Ok(())
 }
 
 // Lays out one that stays.

@@ -1,14 +1,16 @@
-use Rattle.std.proofs.Common.{ap, sym, ◌∙◌, ◌+◌, ◌≤◌, subst, length, List, [], None}
+use Rattle.std.proofs.Common.{ap, refl, sym, ◌∙◌, ◌+◌, ◌-◌, ◌≤◌, subst, length, List, [], None}
 use Rattle.std.specs.List.{AllByRecursion, flat_map}
 use Rattle.jfr_header.specs.declared.header.Header.{Header}
+use Rattle.jfr_frame.proofs.RecordLaws.{tiles_order}
 use Rattle.jfr_pool.specs.declared.entry.EntryAt.{EntryAt}
 use Rattle.jfr_chunk.specs.Reach.{kept_by}
 use Rattle.jfr_chunk.specs.Scrub.{stays, bytes_of, written, written_bytes}
-use Rattle.jfr_scrub.specs.Bodies.{NotFalling}
+use Rattle.jfr_scrub.specs.Bodies.{NotFalling, StayFits}
 use Rattle.jfr_scrub.specs.Left.{HasRange}
 use Rattle.jfr_scrub.specs.Staying.{stay_as}
-use Rattle.jfr_scrub.proofs.BodyLaws.{Going, WrittenFits, going_none, going_next, going_room}
+use Rattle.jfr_scrub.proofs.BodyLaws.{Going, WrittenFits, going_none, going_next, going_all, going_room}
 use Rattle.jfr_scrub.proofs.CursorLaws.{cursor_first}
+use Rattle.jfr_scrub.proofs.RunLaws.{going_run, going_within}
 use Rattle.jfr_scrub.proofs.FitLaws.{all_fit, all_within, left_order, left_ranges, some_written}
 use Rattle.jfr_scrub.proofs.body.lay_body.Goals as goal
 
@@ -26,25 +28,57 @@ stays-init c =
           (subst (λ (z : List EntryAt). 68 + length (flat_map (written_bytes p.bytes z) (written p.bytes z 68 None (stays p kept))) ≤ length p.bytes) (sym c.requires) (all_within p a kept));
     }
 
+pub lay_run-requires-clause-order : goal.lay_run-requires-clause-order
+lay_run-requires-clause-order c = tiles_order c.args.chunk.now.bytes c.pass_run.result.from c.pass_run.result.to c.pass_run.ensures.run.records c.pass_run.ensures.run.tiles
+
+pub lay_run-requires-clause-within : goal.lay_run-requires-clause-within
+lay_run-requires-clause-within c = subst (λ (z : List _). c.pass_run.result.to ≤ length z) (sym c.stays.invariant.body.chunk) c.pass_run.ensures.run.within
+
+pub lay_run-requires-clause-room : goal.lay_run-requires-clause-room
+lay_run-requires-clause-room c =
+    let p = c.args.chunk.now in
+    let g = going_run p c.args.kept.now c.args.left.now (stays p (kept_by p c.args.kept.now)) _ _ _ _ _ c.pass_run.ensures.run c.stays.invariant.body refl in
+    subst (λ (z : List _). c.stays.body.at + (c.pass_run.result.to - c.pass_run.result.from) ≤ length z) (sym c.stays.invariant.body.chunk) (going_within p _ _ _ _ g)
+
+pub returns-in_default-clause-ok : goal.returns-in_default-clause-ok
+returns-in_default-clause-ok c =
+    let p = c.args.chunk.now in
+    let run = going_run p c.args.kept.now c.args.left.now (stays p (kept_by p c.args.kept.now)) _ _ _ _ _ c.pass_run.ensures.run c.stays.invariant.body c.in_ok-lay_run.ensures.ok in
+    going_all p _ _ _ _ run c.in_default.ensures.exact
+
+pub lay_stay-requires-clause-fits : goal.lay_stay-requires-clause-fits
+lay_stay-requires-clause-fits c =
+    let p = c.args.chunk.now in
+    let all = stays p (kept_by p c.args.kept.now) in
+    let run = going_run p c.args.kept.now c.args.left.now all _ _ _ _ _ c.pass_run.ensures.run c.stays.invariant.body c.in_ok-lay_run.ensures.ok in
+    let g = subst (λ ss. Going p c.args.left.now all ss c.lay_run.new.body) c.in-Some.ensures.exact run in
+    subst (λ (z : List _). StayFits z c.args.left.now (stay_as c.in-Some.stay) c.lay_run.new.body.at c.lay_run.new.body.older) (sym g.chunk) g.fits.0
+
 pub lay_stay-requires-clause-order : goal.lay_stay-requires-clause-order
 lay_stay-requires-clause-order c = subst (NotFalling 0) (sym c.requires) (left_order c.args.chunk.now c.bytes.ensures.parts (kept_by c.args.chunk.now c.args.kept.now))
 
 pub lay_stay-requires-clause-ranges : goal.lay_stay-requires-clause-ranges
 lay_stay-requires-clause-ranges c =
-    subst (λ (z : List _). AllByRecursion (HasRange (length z)) c.args.left.now) (sym c.stays.invariant.body.chunk)
-    (subst (AllByRecursion (HasRange (length c.args.chunk.now.bytes))) (sym c.requires) (left_ranges c.args.chunk.now c.bytes.ensures.parts (kept_by c.args.chunk.now c.args.kept.now)))
+    let p = c.args.chunk.now in
+    let g = going_run p c.args.kept.now c.args.left.now (stays p (kept_by p c.args.kept.now)) _ _ _ _ _ c.pass_run.ensures.run c.stays.invariant.body c.in_ok-lay_run.ensures.ok in
+    subst (λ (z : List _). AllByRecursion (HasRange (length z)) c.args.left.now) (sym g.chunk)
+    (subst (AllByRecursion (HasRange (length p.bytes))) (sym c.requires) (left_ranges p c.bytes.ensures.parts (kept_by p c.args.kept.now)))
 
 pub lay_stay-requires-clause-room : goal.lay_stay-requires-clause-room
 lay_stay-requires-clause-room c =
     let p = c.args.chunk.now in
-    let g = subst (λ ss. Going p c.args.left.now (stays p (kept_by p c.args.kept.now)) ss c.stays.body) c.in-Some.ensures.exact c.stays.invariant.body in
-    subst (λ (z : List _). c.stays.body.at + length (bytes_of z c.args.left.now (stay_as c.in-Some.stay) c.stays.body.at c.stays.body.older) ≤ length z) (sym c.stays.invariant.body.chunk) (going_room p _ _ _ _ _ g)
+    let all = stays p (kept_by p c.args.kept.now) in
+    let run = going_run p c.args.kept.now c.args.left.now all _ _ _ _ _ c.pass_run.ensures.run c.stays.invariant.body c.in_ok-lay_run.ensures.ok in
+    let g = subst (λ ss. Going p c.args.left.now all ss c.lay_run.new.body) c.in-Some.ensures.exact run in
+    subst (λ (z : List _). c.lay_run.new.body.at + length (bytes_of z c.args.left.now (stay_as c.in-Some.stay) c.lay_run.new.body.at c.lay_run.new.body.older) ≤ length z) (sym g.chunk) (going_room p _ _ _ _ _ g)
 
 pub stays-preserved : goal.stays-preserved
 stays-preserved c =
     let p = c.args.chunk.now in
-    let g = subst (λ ss. Going p c.args.left.now (stays p (kept_by p c.args.kept.now)) ss c.stays.body) c.in-Some.ensures.exact c.stays.invariant.body in
+    let all = stays p (kept_by p c.args.kept.now) in
+    let run = going_run p c.args.kept.now c.args.left.now all _ _ _ _ _ c.pass_run.ensures.run c.stays.invariant.body c.in_ok-lay_run.ensures.ok in
+    let g = subst (λ ss. Going p c.args.left.now all ss c.lay_run.new.body) c.in-Some.ensures.exact run in
     record {
       cursor = c.in-Some.ensures.cursor;
-      body = going_next p _ _ _ _ _ _ _ g (ap (λ (h : Header). h.metadata) c.header.ensures) c.in_ok-lay_stay.ensures.ok (some_written p.bytes c.args.left.now (stay_as c.in-Some.stay) c.stays.body.at c.stays.body.older g.fits.0);
+      body = going_next p _ _ _ _ _ _ _ g (ap (λ (h : Header). h.metadata) c.header.ensures) c.in_ok-lay_stay.ensures.ok (some_written p.bytes c.args.left.now (stay_as c.in-Some.stay) c.lay_run.new.body.at c.lay_run.new.body.older g.fits.0);
     }
