@@ -95,6 +95,12 @@ pub record IsSlot (k : Classes) (s : Slot) : Type 0 where
   pub kind : option_map (λ c. kind_of c.name) (find_class k s.shape.class) ≡ Some s.kind
   pub form : s.form ≡ form_of s.shape s.kind
 
+-- the slot of the fields of an event whose class has this id
+pub record IsEventSlot (k : Classes) (id : ℕ) (s : Slot) : Type 0 where
+  pub event : is_event_class k id ≡ true
+  pub shape : s.shape ≡ record { class = id; constant = false; array = false }
+  pub slot : IsSlot k s
+
 -- one slot for each field, in order, with the field's shape
 pub record AreSlots (k : Classes) (fs : List Field) (slots : List Slot) : Type 0 where
   pub shapes : map (λ s. s.shape) slots ≡ map (λ f. f.shape) fs

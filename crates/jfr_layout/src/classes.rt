@@ -1,12 +1,12 @@
 // Sound classes.
-ghost use Rattle.std.specs.Prelude.{◌≡◌, ◌<◌, length, OnOk, IfOk, IfErr, IfSome, slice_get, option_map, option_and_then};
+ghost use Rattle.std.specs.Prelude.{◌≡◌, ◌<◌, length, false, OnOk, IfOk, IfErr, IfSome, MatchOption, slice_get, option_map, option_and_then};
 ghost use Rattle.std.specs.Option.{option_copied};
 ghost use Rattle.std.specs.Str.{chars};
-ghost use Rattle.jfr_layout.specs.Classes.{class_faults, Sound, TellsFirst, find_class, class_place, kind_of, field_number, is_event_class, AreSlots};
+ghost use Rattle.jfr_layout.specs.Classes.{class_faults, Sound, TellsFirst, find_class, class_place, kind_of, field_number, is_event_class, AreSlots, IsEventSlot};
 
 use crate::inline::{check_depth, check_filled};
 use crate::resolved::Resolved;
-use crate::{ClassFault, ClassInfo, ClassList, Kind, Slot};
+use crate::{ClassFault, ClassInfo, ClassList, Kind, Shape, Slot};
 use std::alloc::Global;
 use std::marker::Model;
 
@@ -94,13 +94,28 @@ impl Classes {
     pub fn is_event(&self, id: u64) -> bool
         ensures { result ≡ is_event_class self.now id }
     {
+        self.event_slot(id).is_some()
+    }
+
+    /// The slot of the fields of an event of this type; `None` exactly where records of the type are no
+    /// events.
+    #[inline]
+    pub fn event_slot(&self, id: u64) -> Option<Slot>
+        ensures { MatchOption result (is_event_class self.now id ≡ false) (IsEventSlot self.now id) }
+    {
         if id <= LAST_OWN_TYPE {
-            return false;
+            return None;
         }
-        match self.resolved.place(id) {
-            Some(place) => self.resolved.extends_event(place),
-            None => false,
+        let place = self.resolved.place(id)?;
+        if !self.resolved.extends_event(place) {
+            return None;
         }
+        let shape = Shape {
+            class: id,
+            constant: false,
+            array: false,
+        };
+        Some(Slot::new(shape, place, Kind::Composite))
     }
 
     /// The place of the class of an id, for the calls that take a place.

@@ -179,5 +179,7 @@ fn knows_event_classes(rt: HostRuntime) -> Result<(), Fail> {
     assert!(rt; !classes.is_event(7), "a base name");
     assert!(rt; !classes.is_event(1), "the id of checkpoints");
     assert!(rt; !classes.is_event(0), "the id of metadata");
+    assert!(rt; classes.event_slot(8).is_some());
+    assert!(rt; classes.event_slot(7).is_none(), "a base name");
     Ok(())
 }

@@ -1,5 +1,5 @@
 -- A slot, and the class of its shape.
-use Rattle.std.specs.Prelude.{◌≡◌, ℕ, zero, suc, ◌<◌, ◌≤◌, false, List, [], ◌∷◌, length, map, Some, IfSome, option_and_then, option_map, slice_get}
+use Rattle.std.specs.Prelude.{◌≡◌, ℕ, zero, suc, ◌<◌, ◌≤◌, false, List, [], ◌∷◌, length, map, Some, IfSome, IsSome, option_and_then, option_map, slice_get}
 use Rattle.std.specs.List.{AllByRecursion}
 use Rattle.std.proofs.Common.{ap, arith, get_or, refl, subst, sym, ◌∙◌}
 use Rattle.std.proofs.lemmas.List.{length-map}
@@ -30,6 +30,9 @@ slot_class k s i =
       there = c.1;
       kind = (let e : Some (kind_of c.0.name) ≡ Some s.kind = sym (ap (option_map (λ (d : Class). kind_of d.name)) f) ∙ i.kind in cc);
     }
+
+pub slot_known : (k : Classes) (s : Slot) → IsSlot k s → IsSome (find_class k s.shape.class)
+slot_known k s i = subst IsSome (sym (slot_class k s i).found) refl
 
 pub slot_within : (k : Classes) (s : Slot) → IsSlot k s → s.place < length k
 slot_within k s i = placed_within k s.shape.class s.place i.place

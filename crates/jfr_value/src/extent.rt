@@ -39,59 +39,60 @@ pub fn end_of(
     ensures reason { IfErr result (λ flaw. IsValueReason flaw.reason) }
     ensures exact { result ≡ seen (run (value_format classes.now shape) bytes.now end at) }
 {
-    value_end(classes, shape, bytes, at, end, &mut NoVisit, &())
+    let slot = slot_of(classes, shape);
+    value_end(classes, &slot, bytes, at, end, &mut NoVisit, &())
 }
 
-/// Where a value ends, as `end_of` says it. On the way the class and the key of each reference, and of
-/// each string that is a key, are handed to a visitor, from left to right. After a flaw it has taken
-/// some of them.
+/// Where a value of a slot ends, as `end_of` says it. On the way the class and the key of each reference,
+/// and of each string that is a key, are handed to a visitor, from left to right. After a flaw it has
+/// taken some of them.
 #[inline]
 pub fn end_visiting<C, V: Visit<C>>(
     classes: &Classes,
-    shape: Shape,
+    slot: &Slot,
     bytes: &[u8],
     at: usize,
     end: usize,
     visitor: &mut V,
     with: &C,
 ) -> Result<usize, Flaw>
-    requires known { IsSome (find_class classes.now shape.class) }
+    requires sound { Sound classes.now }
+    requires slot { IsSlot classes.now slot.now }
     requires order { at ≤ end }
     requires within { end ≤ length bytes.now }
     requires ready { V.ready visitor.old with.now }
-    ensures exact { result ≡ seen (run (value_format classes.now shape) bytes.now end at) }
+    ensures exact { result ≡ seen (run (value_format classes.now slot.now.shape) bytes.now end at) }
     ensures reason { IfErr result (λ flaw. IsValueReason flaw.reason) }
-    ensures visited { IfOk result (λ to. TakesAll (V.takes with.now) (targets classes.now bytes.now (node_at shape at to)) visitor.old visitor.new) }
+    ensures visited { IfOk result (λ to. TakesAll (V.takes with.now) (targets classes.now bytes.now (node_at slot.now.shape at to)) visitor.old visitor.new) }
     ensures ready { V.ready visitor.new with.now }
 {
-    value_end(classes, shape, bytes, at, end, visitor, with)
+    value_end(classes, slot, bytes, at, end, visitor, with)
 }
 
 /// The same, as the format computes it.
 #[inline]
 fn value_end<C, V: Visit<C>>(
     classes: &Classes,
-    shape: Shape,
+    slot: &Slot,
     bytes: &[u8],
     at: usize,
     end: usize,
     visitor: &mut V,
     with: &C,
 ) -> Result<usize, Flaw>
-    requires known { IsSome (find_class classes.now shape.class) }
+    requires sound { Sound classes.now }
+    requires slot { IsSlot classes.now slot.now }
     requires order { at ≤ end }
     requires within { end ≤ length bytes.now }
     requires ready { V.ready visitor.old with.now }
-    ensures exact { result ≡ seen (run (value_format classes.now shape) bytes.now end at) }
-    ensures sound { Sound classes.now }
-    ensures visited { TakesRead (V.takes with.now) (run (value_format classes.now shape) bytes.now end at) visitor.old visitor.new }
+    ensures exact { result ≡ seen (run (value_format classes.now slot.now.shape) bytes.now end at) }
+    ensures visited { TakesRead (V.takes with.now) (run (value_format classes.now slot.now.shape) bytes.now end at) visitor.old visitor.new }
     ensures ready { V.ready visitor.new with.now }
 {
-    let slot = slot_of(classes, shape);
-    if is_hollow_array(classes, &slot) {
+    if is_hollow_array(classes, slot) {
         return integer_end(bytes, at, end);
     }
-    slot_end(classes, &slot, bytes, at, end, STEPS, visitor, with)
+    slot_end(classes, slot, bytes, at, end, STEPS, visitor, with)
 }
 
 /// A visitor that takes nothing.

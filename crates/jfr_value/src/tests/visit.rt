@@ -4,6 +4,7 @@ ghost use Rattle.std.specs.Prelude.{◌≡◌, ◌<◌};
 ghost use Rattle.jfr_value.specs.Nodes.{IsValue};
 
 use super::{add, inline, items, node_at_front, reference};
+use crate::extent::slot_of;
 use crate::{Node, Steps, Visit, end_visiting, visit_targets};
 use jfr_base::{Flaw, Reason};
 use jfr_layout::{ClassFault, ClassList, Classes, Shape};
@@ -87,7 +88,8 @@ fn walk_to_end(
         targets: Vec::new(alloc),
         failed: false,
     };
-    let end = end_visiting(classes, shape, bytes, 0, bytes.len(), &mut seen, &0);
+    let slot = slot_of(classes, shape);
+    let end = end_visiting(classes, &slot, bytes, 0, bytes.len(), &mut seen, &0);
     if seen.failed {
         None
     } else {

@@ -1,38 +1,31 @@
-use Rattle.std.proofs.Common.{◌∙◌, ap, subst}
-use Rattle.jfr_base.specs.Formats.{run, seen}
-use Rattle.jfr_value.specs.Reading.{value_format}
 use Rattle.jfr_value.proofs.DepthLaws.{sound_inline}
 use Rattle.jfr_value.proofs.EndLaws.{hollow_count}
 use Rattle.jfr_value.proofs.SlotLaws.{slot_within}
 use Rattle.jfr_value.proofs.TakingLaws.{hollow_taken}
-use Rattle.jfr_value.specs.Visits.{TakesRead}
+use Rattle.jfr_value.specs.Reading.{value_format}
 use Rattle.jfr_value.proofs.extent.value_end.Goals as goal
+use Rattle.std.proofs.Common.{◌∙◌}
 
 pub is_hollow_array-requires : goal.is_hollow_array-requires
-is_hollow_array-requires g c = slot_within c.args.classes.now c.slot_of-slot.result (c.slot_of-slot.ensures.known c.requires.known)
+is_hollow_array-requires g c = slot_within c.args.classes.now c.args.slot.now c.requires.slot
 
 pub returns-then-is_hollow_array : goal.returns-then-is_hollow_array
 returns-then-is_hollow_array g c = record {
-  exact = c.integer_end.ensures.exact
-      ∙ (hollow_count c.args.classes.now c.slot_of-slot.result c.is_hollow_array.result c.args.bytes.now c.args.end c.args.at (c.slot_of-slot.ensures.known c.requires.known) c.is_hollow_array.ensures c.if-is_hollow_array.true
-      ∙ ap (λ s. seen (run (value_format c.args.classes.now s) c.args.bytes.now c.args.end c.args.at)) c.slot_of-slot.ensures.shape);
-  sound = c.slot_of-slot.ensures.sound;
-  visited = subst (λ s. TakesRead (g.V.Visit.takes c.args.with.now) (run (value_format c.args.classes.now s) c.args.bytes.now c.args.end c.args.at) c.args.visitor.now c.args.visitor.now) c.slot_of-slot.ensures.shape
-      (hollow_taken (g.V.Visit.takes c.args.with.now) c.args.classes.now c.args.bytes.now c.args.end c.args.at c.args.visitor.now c.slot_of-slot.result c.is_hollow_array.result (c.slot_of-slot.ensures.known c.requires.known) c.is_hollow_array.ensures c.if-is_hollow_array.true);
+  exact = c.integer_end.ensures.exact ∙ hollow_count c.args.classes.now c.args.slot.now c.is_hollow_array.result c.args.bytes.now c.args.end c.args.at c.requires.slot c.is_hollow_array.ensures c.if-is_hollow_array.true;
+  visited = hollow_taken (g.V.Visit.takes c.args.with.now) c.args.classes.now c.args.bytes.now c.args.end c.args.at c.args.visitor.now c.args.slot.now c.is_hollow_array.result c.requires.slot c.is_hollow_array.ensures c.if-is_hollow_array.true;
   ready = c.requires.ready;
 }
 
 pub slot_end-requires-clause-placed : goal.slot_end-requires-clause-placed
-slot_end-requires-clause-placed g c = record { form = c.slot_of-slot.ensures.form; of_class = λ o. c.slot_of-slot.ensures.known c.requires.known }
+slot_end-requires-clause-placed g c = record { form = c.requires.slot.form; of_class = λ o. c.requires.slot }
 
 pub slot_end-requires-clause-room : goal.slot_end-requires-clause-room
-slot_end-requires-clause-room g c = λ o d q m. sound_inline c.args.classes.now c.slot_of-slot.result.shape.class d c.slot_of-slot.ensures.sound q
+slot_end-requires-clause-room g c = λ o d q m. sound_inline c.args.classes.now c.args.slot.now.shape.class d c.requires.sound q
 
 pub returns : goal.returns
 unfolding value_format
 returns g c = record {
-  exact = c.slot_end.ensures.exact ∙ ap (λ s. seen (run (value_format c.args.classes.now s) c.args.bytes.now c.args.end c.args.at)) c.slot_of-slot.ensures.shape;
-  sound = c.slot_of-slot.ensures.sound;
-  visited = subst (λ s. TakesRead (g.V.Visit.takes c.args.with.now) (run (value_format c.args.classes.now s) c.args.bytes.now c.args.end c.args.at) c.args.visitor.now c.slot_end.new.visitor) c.slot_of-slot.ensures.shape c.slot_end.ensures.visited;
+  exact = c.slot_end.ensures.exact;
+  visited = c.slot_end.ensures.visited;
   ready = c.slot_end.ensures.ready;
 }
