@@ -4,7 +4,7 @@ ghost use Rattle.jfr_base.specs.Formats.{run, seen};
 ghost use Rattle.jfr_header.specs.Fronts.{Whole};
 ghost use Rattle.jfr_header.specs.Headers.{header_of};
 ghost use Rattle.jfr_frame.specs.Records.{AreRecords, IsRecord, record_end, record_there};
-ghost use Rattle.jfr_layout.specs.Classes.{is_event_class};
+ghost use Rattle.jfr_layout.specs.Classes.{IsEventSlot, Sound};
 ghost use Rattle.jfr_meta.specs.Answers.{IfFlawed};
 ghost use Rattle.jfr_value.specs.Nodes.{node_at};
 ghost use Rattle.jfr_value.specs.Reading.{value_format};
@@ -21,7 +21,7 @@ use crate::notes::{Notes, short};
 use jfr_base::{Flaw, ReadFault};
 use jfr_frame::{Framed, Frames};
 use jfr_header::{Header, read_header};
-use jfr_layout::{Classes, Shape};
+use jfr_layout::{Classes, Slot};
 use jfr_outside::NoMemory;
 use jfr_pool::Pools;
 use jfr_value::end_visiting;
@@ -101,10 +101,10 @@ pub(crate) fn read_events(
     let mut notes = Notes::new(room.numbers);
     for number in 0..frames.len() {
         let frame = record_at(frames, number);
-        if !classes.is_event(frame.type_id) {
+        let Some(slot) = classes.event_slot(frame.type_id) else {
             continue;
-        }
-        let end = fields_end(chunk, classes, pools, frame, &mut notes)?;
+        };
+        let end = fields_end(chunk, classes, pools, &slot, frame, &mut notes)?;
         if notes.lacks {
             return Err(ReadFault::Memory);
         }
@@ -156,19 +156,16 @@ fn fields_end(
     chunk: &[u8],
     classes: &Classes,
     pools: &Pools,
+    slot: &Slot,
     frame: Framed,
     notes: &mut Notes,
 ) -> Result<usize, Flaw>
-    requires event { is_event_class classes.now frame.type_id ≡ true }
+    requires sound { Sound classes.now }
+    requires event { IsEventSlot classes.now frame.type_id slot.now }
     requires record { IsRecord chunk.now frame }
     ensures exact { result ≡ seen (run (value_format classes.now (inline frame.type_id)) chunk.now (record_end frame) frame.body) }
     ensures noted { IfOk result (λ end. Noted (node_entries pools.now classes.now chunk.now (node_at (inline frame.type_id) frame.body end)) notes.old notes.new) }
 {
-    let shape = Shape {
-        class: frame.type_id,
-        constant: false,
-        array: false,
-    };
     let end = frame.at + frame.size;
-    end_visiting(classes, shape, chunk, frame.body, end, notes, pools)
+    end_visiting(classes, slot, chunk, frame.body, end, notes, pools)
 }

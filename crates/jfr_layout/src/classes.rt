@@ -101,7 +101,8 @@ impl Classes {
     /// events.
     #[inline]
     pub fn event_slot(&self, id: u64) -> Option<Slot>
-        ensures { MatchOption result (is_event_class self.now id ≡ false) (IsEventSlot self.now id) }
+        ensures exact { MatchOption result (is_event_class self.now id ≡ false) (IsEventSlot self.now id) }
+        ensures sound { IfSome result (λ _. Sound self.now) }
     {
         if id <= LAST_OWN_TYPE {
             return None;

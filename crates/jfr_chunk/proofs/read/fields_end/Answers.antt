@@ -1,12 +1,18 @@
+use Rattle.std.proofs.Common.{◌≡◌, ◌∙◌, ap, subst}
+use Rattle.std.specs.Prelude.{IfOk}
+use Rattle.jfr_base.specs.Formats.{run, seen}
+use Rattle.jfr_frame.specs.Records.{record_end}
 use Rattle.jfr_value.specs.Nodes.{node_at, targets}
-use Rattle.jfr_pool.specs.Entries.{inline}
-use Rattle.jfr_chunk.proofs.EventReading.{event_known}
+use Rattle.jfr_value.specs.Reading.{value_format}
+use Rattle.jfr_chunk.specs.Notes.{Noted}
+use Rattle.jfr_chunk.specs.Reach.{node_entries}
 use Rattle.jfr_chunk.proofs.NotedLaws.{all_noted}
 use Rattle.jfr_chunk.proofs.read.fields_end.Goals as goal
 
-pub end_visiting-requires-clause-known : goal.end_visiting-requires-clause-known
-end_visiting-requires-clause-known c = event_known c.args.classes.now c.args.frame.type_id c.requires.event
+pub returns-clause-exact : goal.returns-clause-exact
+returns-clause-exact c = c.end_visiting.ensures.exact ∙ ap (λ s. seen (run (value_format c.args.classes.now s) c.args.chunk.now (record_end c.args.frame) c.args.frame.body)) c.requires.event.shape
 
 pub returns-clause-noted : goal.returns-clause-noted
 returns-clause-noted c =
-    all_noted c.args.pools.now (λ to. targets c.args.classes.now c.args.chunk.now (node_at (inline c.args.frame.type_id) c.args.frame.body to)) c.args.notes.now c.end_visiting.new.visitor c.end_visiting.result c.end_visiting.ensures.visited
+    subst (λ s. IfOk c.end_visiting.result (λ end. Noted (node_entries c.args.pools.now c.args.classes.now c.args.chunk.now (node_at s c.args.frame.body end)) c.args.notes.now c.end_visiting.new.visitor)) c.requires.event.shape
+    (all_noted c.args.pools.now (λ to. targets c.args.classes.now c.args.chunk.now (node_at c.args.slot.now.shape c.args.frame.body to)) c.args.notes.now c.end_visiting.new.visitor c.end_visiting.result c.end_visiting.ensures.visited)

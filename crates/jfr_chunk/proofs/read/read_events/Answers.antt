@@ -16,9 +16,9 @@ loop-number-init c = record {
   noted = subst (λ z. AreNoted (due c.args.pools.now c.args.classes.now c.args.chunk.now c.args.frames.now) 0 z c.new-notes.result.numbers.items) (sym c.in_ok-fields.ensures) c.new-notes.ensures.numbers;
 }
 
-pub loop-number-preserved-then-not-is_event : goal.loop-number-preserved-then-not-is_event
-loop-number-preserved-then-not-is_event c = record {
-  read = read_other c.args.chunk.now c.args.classes.now c.args.frames.now c.loop-number.number c.loop-number.fields.items c.record_at-frame.result c.record_at-frame.ensures (sym c.is_event.ensures ∙ c.if-not-is_event.true) c.loop-number.invariant.read;
+pub loop-number-preserved-in_default : goal.loop-number-preserved-in_default
+loop-number-preserved-in_default c = record {
+  read = read_other c.args.chunk.now c.args.classes.now c.args.frames.now c.loop-number.number c.loop-number.fields.items c.record_at-frame.result c.record_at-frame.ensures c.in_default.ensures.exact c.loop-number.invariant.read;
   lacks_none = c.loop-number.invariant.lacks_none;
   noted = c.loop-number.invariant.noted;
 }
@@ -27,7 +27,7 @@ pub loop-number-preserved : goal.loop-number-preserved
 loop-number-preserved c = record {
   read =
       subst (ReadTo c.args.chunk.now c.args.classes.now c.args.frames.now (c.loop-number.number + 1)) (sym (c.in_ok-push.ensures.items ∙ ap (λ (z : FieldsAt). c.loop-number.fields.items ++ z ∷ []) c.in_ok-kept_short.ensures))
-      (read_event c.args.chunk.now c.args.classes.now c.args.frames.now c.loop-number.number c.loop-number.fields.items c.record_at-frame.result c.in_ok-end.end c.len-in-loop-number.result c.record_at-frame.ensures (sym c.is_event.ensures ∙ c.if-not-is_event.false) (sym c.in_ok-end.was ∙ c.fields_end.ensures.exact) c.loop-number.invariant.read);
+      (read_event c.args.chunk.now c.args.classes.now c.args.frames.now c.loop-number.number c.loop-number.fields.items c.record_at-frame.result c.in_ok-end.end c.len-in-loop-number.result c.record_at-frame.ensures c.in-Some.ensures.exact.event (sym c.in_ok-end.was ∙ c.fields_end.ensures.exact) c.loop-number.invariant.read);
   lacks_none = c.if-notes.false;
   noted =
       subst (λ z. AreNoted (due c.args.pools.now c.args.classes.now c.args.chunk.now c.args.frames.now) 0 z c.fields_end.new.notes.numbers.items) (sym (c.in_ok-push.ensures.items ∙ ap (λ (z : FieldsAt). c.loop-number.fields.items ++ z ∷ []) c.in_ok-kept_short.ensures))
@@ -38,7 +38,7 @@ loop-number-preserved c = record {
 pub returns-in_err-end-clause-refused : goal.returns-in_err-end-clause-refused
 returns-in_err-end-clause-refused c =
     let p = err_from_is_err_and c.from_residual-in_err-end.result c.from_residual-in_err-end.ensures.1 in
-    rw (p.1, p.2) (read_stops c.args.chunk.now c.args.classes.now c.args.frames.now c.loop-number.number c.loop-number.fields.items c.record_at-frame.result c.in_err-end.field-0.0 c.requires c.record_at-frame.ensures (sym c.is_event.ensures ∙ c.if-not-is_event.false) (sym c.in_err-end.was ∙ c.fields_end.ensures.exact) c.loop-number.invariant.read)
+    rw (p.1, p.2) (read_stops c.args.chunk.now c.args.classes.now c.args.frames.now c.loop-number.number c.loop-number.fields.items c.record_at-frame.result c.in_err-end.field-0.0 c.requires c.record_at-frame.ensures c.in-Some.ensures.exact.event (sym c.in_err-end.was ∙ c.fields_end.ensures.exact) c.loop-number.invariant.read)
 
 pub returns-clause-ok : goal.returns-clause-ok
 returns-clause-ok c = read_all c.args.chunk.now c.args.classes.now c.args.frames.now c.loop-number.number c.loop-number.fields.items c.requires (omega (arith, c.loop-number-test.false, c.len-number-end.ensures)) c.loop-number.invariant.read
