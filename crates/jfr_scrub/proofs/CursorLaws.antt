@@ -1,5 +1,5 @@
 -- A cursor over the records, the events and the chained checkpoints of a chunk.
-use Rattle.std.specs.Prelude.{◌≡◌, ℕ, zero, suc, ◌+◌, ◌≤◌, Bool, true, false, ◌&&◌, ◌==◌, List, [], ◌∷◌, length, drop, slice_get, reverse, Option, Some, None, Ok, Err, is_some, MatchOption, option_map, option_and_then, unwrap_or, cond, if◌then◌else◌}
+use Rattle.std.specs.Prelude.{◌≡◌, ℕ, zero, suc, ◌+◌, ◌≤◌, Bool, true, false, ◌&&◌, ◌==◌, List, [], ◌∷◌, length, drop, slice_get, reverse, Option, Some, None, Ok, Err, is_some, IfSome, MatchOption, option_map, option_and_then, unwrap_or, cond, if◌then◌else◌}
 use Rattle.std.specs.List.{filter_map, cons_option, list_any, enumerate_from}
 use Rattle.std.specs.Option.{option_map_or}
 use Rattle.std.proofs.Common.{ap, arith, refl, sym, ◌∙◌, subst, inl, inr, add-one}
@@ -177,6 +177,26 @@ cursor_passed p flags c r i e =
       v.here,
     )
 
+-- a cursor behind the record that starts at a place
+abbrev Behind : Parts → List Bool → Cursor → Framed → ℕ → Type 0
+Behind p flags c r at =
+    IsCursor p flags (record { frame = c.frame + 1; event = event_behind (events_of p) c.event at; link = link_behind (reverse p.chain) c.link at })
+    × (is_kept_at (events_of p) flags c.event at ≡ list_any (λ e. e.record_of.at == r.at) (kept_by p flags))
+    × (linked_at (reverse p.chain) c.link at ≡ link_there p r)
+
+pub record PlacePassed (p : Parts) (flags : List Bool) (c : Cursor) (at : ℕ) : Type 0 where
+  pub frame : Framed
+  pub there : slice_get p.records c.frame ≡ Some frame
+  pub place : frame.at ≡ at
+  pub behind : Behind p flags c frame at
+
+pub place_passed : (p : Parts) (flags : List Bool) (c : Cursor) (at : ℕ) → IsCursor p flags c → option_map (λ r. r.at) (slice_get p.records c.frame) ≡ Some at → PlacePassed p flags c at
+place_passed p flags c at i h = by_record (slice_get p.records c.frame) refl h
+  where
+    by_record : (o : Option Framed) → slice_get p.records c.frame ≡ o → option_map (λ r. r.at) o ≡ Some at → PlacePassed p flags c at
+    by_record None e h = cc
+    by_record (Some r) e h = let q : r.at ≡ at = cc in record { frame = r; there = e; place = q; behind = subst (Behind p flags c r) q (cursor_passed p flags c r i e) }
+
 -- what stays from a record on
 pub stays_at : (p : Parts) (flags : List Bool) (c : Cursor) (r : Framed) → slice_get p.records c.frame ≡ Some r →
     still_stays p flags c ≡ cons_option (stay_of p (kept_by p flags) r) (filter_map (stay_of p (kept_by p flags)) (drop (c.frame + 1) p.records))
@@ -185,10 +205,13 @@ stays_at p flags c r e = ap (filter_map (stay_of p (kept_by p flags))) (drop_at 
 pub stays_none : (p : Parts) (flags : List Bool) (c : Cursor) → length p.records ≤ c.frame → still_stays p flags c ≡ []
 stays_none p flags c h = ap (filter_map (stay_of p (kept_by p flags))) (drop_all c.frame p.records h)
 
-pub stay_next : (p : Parts) (flags : List Bool) (c d : Cursor) (r : Framed) (o : Option Staying) → slice_get p.records c.frame ≡ Some r → d.frame ≡ c.frame + 1 → option_map stay_as o ≡ stay_of p (kept_by p flags) r →
-    still_stays p flags c ≡ cons_option (option_map stay_as o) (still_stays p flags d)
-stay_next p flags c d r o e f g =
-    stays_at p flags c r e ∙ (λ i. cons_option (sym g i) (filter_map (stay_of p (kept_by p flags)) (drop (sym f i) p.records)))
+pub stay_next : (p : Parts) (flags : List Bool) (c d : Cursor) (frames : List Framed) (at : ℕ) (o : Option Staying) → frames ≡ p.records → option_map (λ r. r.at) (slice_get frames c.frame) ≡ Some at → d.frame ≡ c.frame + 1 →
+    IfSome (slice_get p.records c.frame) (λ r. option_map stay_as o ≡ stay_of p (kept_by p flags) r) → still_stays p flags c ≡ cons_option (option_map stay_as o) (still_stays p flags d)
+stay_next p flags c d frames at o e h f g = by_record (slice_get p.records c.frame) refl (ap (λ rs. option_map (λ r. r.at) (slice_get rs c.frame)) (sym e) ∙ h) g
+  where
+    by_record : (x : Option Framed) → slice_get p.records c.frame ≡ x → option_map (λ r. r.at) x ≡ Some at → IfSome x (λ r. option_map stay_as o ≡ stay_of p (kept_by p flags) r) → still_stays p flags c ≡ cons_option (option_map stay_as o) (still_stays p flags d)
+    by_record None e h g = cc
+    by_record (Some r) e h g = stays_at p flags c r e ∙ (λ i. cons_option (sym g i) (filter_map (stay_of p (kept_by p flags)) (drop (sym f i) p.records)))
 
 pub told_some : (before rest : List Stay) (o : Option Staying) → before ≡ cons_option (option_map stay_as o) rest → is_some o ≡ true → MatchOption o (before ≡ []) (λ s. before ≡ stay_as s ∷ rest)
 told_some before rest None e h = cc

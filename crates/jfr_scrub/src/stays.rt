@@ -1,5 +1,5 @@
 // What stays of the records of a chunk.
-ghost use Rattle.std.specs.Prelude.{◌≡◌, ◌||◌, ◌+◌, ◌-◌, ◌^◌, ◌<◌, [], ◌∷◌, length, slice_get, option_map, MatchOption, Some};
+ghost use Rattle.std.specs.Prelude.{◌≡◌, ◌||◌, ◌+◌, ◌-◌, ◌^◌, ◌<◌, [], ◌∷◌, length, slice_get, option_map, IfSome, MatchOption, Some};
 ghost use Rattle.jfr_chunk.specs.Parts.{AreParts, events_of};
 ghost use Rattle.jfr_chunk.specs.Reach.{kept_by};
 ghost use Rattle.jfr_chunk.specs.Scrub.{stay_by, stay_of};
@@ -25,7 +25,7 @@ pub(crate) struct Cursor {
     pub(crate) link: usize,
 }
 
-/// What stays next, if anything does.
+/// What stays next, if anything does. A record is read only where the whole of it stays.
 #[inline(always)]
 pub(crate) fn next_stay(chunk: &Chunk, kept: &Kept, cursor: &mut Cursor) -> Option<Staying>
     requires { IsCursor chunk.now kept.now cursor.old }
@@ -34,8 +34,8 @@ pub(crate) fn next_stay(chunk: &Chunk, kept: &Kept, cursor: &mut Cursor) -> Opti
 {
     let frames = chunk.frames();
     'records: while cursor.frame < frames.len() {
-        let record = record_at(frames, cursor.frame);
-        let stay = pass_record(chunk, kept, cursor, record);
+        let at = place_of(frames, cursor.frame);
+        let stay = pass_record(chunk, kept, cursor, at);
         if stay.is_some() {
             return stay;
         }
@@ -43,50 +43,53 @@ pub(crate) fn next_stay(chunk: &Chunk, kept: &Kept, cursor: &mut Cursor) -> Opti
     None
 }
 
-// The record of a number.
+// Where the record of a number starts.
 #[inline(always)]
-fn record_at(frames: &Frames, number: usize) -> Framed
+fn place_of(frames: &Frames, number: usize) -> usize
     requires { number < length frames.now }
-    ensures { slice_get frames.now number ≡ Some result }
+    ensures { option_map (λ r. r.at) (slice_get frames.now number) ≡ Some result }
 {
-    match frames.get(number) {
-        Some(record) => record,
+    match frames.place(number) {
+        Some(at) => at,
         None => unreachable!(),
     }
 }
 
-// What stays of a record, behind which the cursor moves.
+// What stays of the cursor's record, which starts at a place. The cursor moves behind it.
 #[inline(always)]
-fn pass_record(chunk: &Chunk, kept: &Kept, cursor: &mut Cursor, frame: Framed) -> Option<Staying>
+fn pass_record(chunk: &Chunk, kept: &Kept, cursor: &mut Cursor, at: usize) -> Option<Staying>
     requires cursor { IsCursor chunk.now kept.now cursor.old }
-    requires there { slice_get chunk.now.records cursor.old.frame ≡ Some frame }
+    requires there { option_map (λ r. r.at) (slice_get chunk.now.records cursor.old.frame) ≡ Some at }
     requires more { cursor.old.frame < 2 ^ 64 - 1 }
     ensures cursor { IsCursor chunk.now kept.now cursor.new }
     ensures next { cursor.new.frame ≡ cursor.old.frame + 1 }
-    ensures exact { option_map stay_as result ≡ stay_of chunk.now (kept_by chunk.now kept.now) frame }
+    ensures exact { IfSome (slice_get chunk.now.records cursor.old.frame) (λ r. option_map stay_as result ≡ stay_of chunk.now (kept_by chunk.now kept.now) r) }
 {
-    cursor.frame += 1;
-    let is_kept = pass_event(chunk, kept, &mut cursor.event, frame.at);
-    let link = pass_link(chunk.chain(), &mut cursor.link, frame.at);
-    let is_metadata = frame.at as u64 == chunk.header().metadata;
-    chosen(link, is_kept, is_metadata, frame)
+    let number = cursor.frame;
+    cursor.frame = number + 1;
+    let is_kept = pass_event(chunk, kept, &mut cursor.event, at);
+    let link = pass_link(chunk.chain(), &mut cursor.link, at);
+    let is_metadata = at as u64 == chunk.header().metadata;
+    chosen(link, is_kept, is_metadata, chunk.frames(), number)
 }
 
-// A chained checkpoint stays as one, and another record whole or not at all.
+// What stays of the record of a number: a chained checkpoint as one, and another record whole or not
+// at all.
 #[inline(always)]
 fn chosen(
     link: Option<(usize, Link)>,
     is_kept: bool,
     is_metadata: bool,
-    frame: Framed,
+    frames: &Frames,
+    number: usize,
 ) -> Option<Staying>
-    ensures { option_map stay_as result ≡ stay_by link (is_kept || is_metadata) frame }
+    ensures { IfSome (slice_get frames.now number) (λ r. option_map stay_as result ≡ stay_by link (is_kept || is_metadata) r) }
 {
     match link {
         Some((number, link)) => Some(Staying::Chained(number, link)),
         None => {
             if is_kept || is_metadata {
-                Some(Staying::Whole(frame))
+                Some(Staying::Whole(frames.get(number)?))
             } else {
                 None
             }

@@ -1,6 +1,5 @@
-use Rattle.std.proofs.Common.{arith, ap, refl, ◌<◌, length, subst}
-use Rattle.jfr_scrub.specs.Runs.{IsRun}
-use Rattle.jfr_scrub.proofs.RunLaws.{next_event, passes_run, run_next, run_none, run_small, starts_there}
+use Rattle.std.proofs.Common.{arith, ap, refl, length}
+use Rattle.jfr_scrub.proofs.RunLaws.{passes_run, run_next, run_none, run_small, starts_there}
 use Rattle.jfr_scrub.proofs.run.pass_run.Goals as goal
 
 pub run-init : goal.run-init

@@ -1,13 +1,13 @@
-use Rattle.std.proofs.Common.{ap, sym, ◌∙◌, slice_get}
+use Rattle.std.proofs.Common.{sym, ◌∙◌}
 use Rattle.jfr_scrub.proofs.CursorLaws.{stay_next, told_some, told_none}
 use Rattle.jfr_scrub.proofs.stays.next_stay.Goals as goal
 
 pub returns-then-is_some-clause-exact : goal.returns-then-is_some-clause-exact
 returns-then-is_some-clause-exact c =
-    let n = stay_next c.args.chunk.now c.args.kept.now c.records.cursor c.pass_record-stay.new.cursor c.record_at-record.result c.pass_record-stay.result (ap (λ rs. slice_get rs c.records.cursor.frame) (sym c.frames-frames.ensures) ∙ c.record_at-record.ensures) c.pass_record-stay.ensures.next c.pass_record-stay.ensures.exact in
+    let n = stay_next c.args.chunk.now c.args.kept.now c.records.cursor c.pass_record-stay.new.cursor _ c.place_of-at.result c.pass_record-stay.result c.frames-frames.ensures c.place_of-at.ensures c.pass_record-stay.ensures.next c.pass_record-stay.ensures.exact in
     told_some _ _ _ (c.records.invariant.same ∙ n) (sym c.is_some.ensures ∙ c.if-is_some.true)
 
 pub records-preserved : goal.records-preserved
 records-preserved c =
-    let n = stay_next c.args.chunk.now c.args.kept.now c.records.cursor c.pass_record-stay.new.cursor c.record_at-record.result c.pass_record-stay.result (ap (λ rs. slice_get rs c.records.cursor.frame) (sym c.frames-frames.ensures) ∙ c.record_at-record.ensures) c.pass_record-stay.ensures.next c.pass_record-stay.ensures.exact in
+    let n = stay_next c.args.chunk.now c.args.kept.now c.records.cursor c.pass_record-stay.new.cursor _ c.place_of-at.result c.pass_record-stay.result c.frames-frames.ensures c.place_of-at.ensures c.pass_record-stay.ensures.next c.pass_record-stay.ensures.exact in
     record { cursor = c.pass_record-stay.ensures.cursor; same = told_none _ _ _ (c.records.invariant.same ∙ n) (sym c.is_some.ensures ∙ c.if-is_some.false) }
