@@ -164,7 +164,7 @@ fn integer_end(bytes: &[u8], at: usize, end: usize) -> Result<usize, Flaw>
     ensures range { IfOk result (λ to. (at ≤ to) × (to ≤ end)) }
 {
     if at >= bytes.len().saturating_sub(SHORT_GROUPS) {
-        return last_integer_end(bytes, at, end);
+        return Ok(last_integer_end(bytes, at, end)?);
     }
     let to = groups_end(bytes, at);
     if to > end {
@@ -337,12 +337,20 @@ pub(crate) fn slot_end<C, V: Visit<C>>(
         Form::Integer => integer_end(bytes, at, end),
         Form::Raw(count) => run_end(usize::from(count), at, end),
         Form::Key => key_end(slot.shape.class, bytes, at, end, visitor, with),
-        Form::Text => text_end(slot.shape.class, bytes, at, end, visitor, with),
+        // A call's own result would lie in memory, and with it that of the other forms: take it apart.
+        Form::Text => {
+            let to = text_end(slot.shape.class, bytes, at, end, visitor, with)?;
+            Ok(to)
+        }
         Form::Fields => {
             let fields = classes.slots(slot.place);
-            fields_end(classes, fields, bytes, at, end, levels - 1, visitor, with)
+            let to = fields_end(classes, fields, bytes, at, end, levels - 1, visitor, with)?;
+            Ok(to)
         }
-        Form::Array => array_end(classes, slot, bytes, at, end, levels, visitor, with),
+        Form::Array => {
+            let to = array_end(classes, slot, bytes, at, end, levels, visitor, with)?;
+            Ok(to)
+        }
     }
 }
 
