@@ -61,7 +61,8 @@ fn var_within(bytes: &[u8], at: usize, end: usize) -> Result<Var, Flaw>
     ensures exact { MatchResult result (λ v. int_at bytes.now at end ≡ Some v) (λ e. (int_at bytes.now at end ≡ None) × (e ≡ record { offset = at; reason = Reason.Short })) }
 {
     if at >= bytes.len().saturating_sub(LONGEST - 1) {
-        return read_near_end(bytes, at, end);
+        // Taken apart, so that the result of the other way needn't lie in memory.
+        return Ok(read_near_end(bytes, at, end)?);
     }
     // An integer ends in any nine bytes: the loop has a fixed length.
     let var = read_groups(bytes, at, at + LONGEST)?;
