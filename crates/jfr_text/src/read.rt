@@ -164,7 +164,36 @@ fn skip_integers(count: u64, bytes: &[u8], at: usize, end: usize) -> Result<usiz
 {
     let mut place = at;
     for _ in 0..count {
-        place = read_within(bytes, place, end)?.end;
+        place = integer_end(bytes, place, end)?;
     }
     Ok(place)
+}
+
+/// The place after an integer, of which most have one byte.
+#[inline(always)]
+fn integer_end(bytes: &[u8], at: usize, end: usize) -> Result<usize, Flaw>
+    requires order { at ≤ end }
+    requires within { end ≤ length bytes.now }
+    ensures range { IfOk result (λ to. (at ≤ to) × (to ≤ end)) }
+    ensures exact { result ≡ seen (run integer bytes.now end at) }
+{
+    if at < end && bytes[at] < 128 {
+        return Ok(at + 1);
+    }
+    long_integer_end(bytes, at, end)
+}
+
+/// The same, where it has more bytes, or does not end in time.
+#[tactic(auto, using(jfr_base::proofs::SeenLaws::ends), unfolding(jfr_base::specs::Formats::run))]
+#[inline(never)]
+fn long_integer_end(bytes: &[u8], at: usize, end: usize) -> Result<usize, Flaw>
+    requires order { at ≤ end }
+    requires within { end ≤ length bytes.now }
+    ensures range { IfOk result (λ to. (at ≤ to) × (to ≤ end)) }
+    ensures exact { result ≡ seen (run integer bytes.now end at) }
+{
+    match read_within(bytes, at, end) {
+        Ok(integer) => Ok(integer.end),
+        Err(flaw) => Err(flaw),
+    }
 }
