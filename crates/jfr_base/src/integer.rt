@@ -1,5 +1,5 @@
 // Compressed integers.
-ghost use Rattle.std.specs.Prelude.{◌≡◌, ℕ, ◌<◌, ◌≤◌, IfOk, length, MatchResult, None, OnErr, Some, take};
+ghost use Rattle.std.specs.Prelude.{◌≡◌, ℕ, ◌+◌, ◌<◌, ◌≤◌, IfOk, length, MatchResult, None, OnErr, Some, take};
 ghost use Rattle.std.specs.Int.{cast_signed, w64};
 ghost use Rattle.jfr_base.specs.Formats.{int_at};
 ghost use Rattle.jfr_base.specs.Integer.{FitsIn, IntAt, spell, spell_in, Spells};
@@ -18,8 +18,8 @@ pub struct Var {
 #[derive(Clone, Copy, Debug, PartialEq, Eq)]
 pub struct Short;
 
-/// So many bytes has the longest spelling.
-const LONGEST: usize = 9;
+/// So many groups of an integer have seven bits. Behind them comes one of eight.
+const SHORT_GROUPS: usize = 8;
 
 /// Where the ninth byte's eight bits stand in the value.
 const NINTH_SHIFT: u32 = 56;
@@ -60,34 +60,48 @@ fn var_within(bytes: &[u8], at: usize, end: usize) -> Result<Var, Flaw>
     ensures range { IfOk result (λ v. (at < v.end) × (v.end ≤ end)) }
     ensures exact { MatchResult result (λ v. int_at bytes.now at end ≡ Some v) (λ e. (int_at bytes.now at end ≡ None) × (e ≡ record { offset = at; reason = Reason.Short })) }
 {
-    if at >= bytes.len().saturating_sub(LONGEST - 1) {
+    if at >= bytes.len().saturating_sub(SHORT_GROUPS) {
         // Taken apart, so that the result of the other way needn't lie in memory.
-        return Ok(read_near_end(bytes, at, end)?);
+        return Ok(read_last(bytes, at, end)?);
     }
-    // An integer ends in any nine bytes: the loop has a fixed length.
-    let var = read_groups(bytes, at, at + LONGEST)?;
+    let var = read_groups(bytes, at);
     if var.end > end {
         return Err(ends_early(at));
     }
     Ok(var)
 }
 
-/// The same, where fewer bytes are left than the longest spelling has.
-#[cold]
-fn read_near_end(bytes: &[u8], at: usize, end: usize) -> Result<Var, Flaw>
-    requires order { at ≤ end }
-    requires within { end ≤ length bytes.now }
-    ensures range { IfOk result (λ v. (at < v.end) × (v.end ≤ end)) }
-    ensures exact { MatchResult result (λ v. int_at bytes.now at end ≡ Some v) (λ e. (int_at bytes.now at end ≡ None) × (e ≡ record { offset = at; reason = Reason.Short })) }
+/// The same, where there is room for all groups, by a loop of a fixed length.
+#[inline(always)]
+fn read_groups(bytes: &[u8], at: usize) -> Var
+    requires room { at + 8 < length bytes.now }
+    ensures further { at < result.end }
+    ensures exact { int_at bytes.now at (length bytes.now) ≡ Some result }
 {
-    read_groups(bytes, at, end)
+    let mut value: u64 = 0;
+    for group in 0..SHORT_GROUPS {
+        let byte = bytes[at + group];
+        let shift = 7 * group as u32;
+        if byte < 128 {
+            return Var {
+                value: value + (u64::from(byte) << shift),
+                end: at + group + 1,
+            };
+        }
+        value += u64::from(byte % 128) << shift;
+    }
+    Var {
+        value: value + (u64::from(bytes[at + SHORT_GROUPS]) << NINTH_SHIFT),
+        end: at + SHORT_GROUPS + 1,
+    }
 }
 
-/// The same, by a loop over the groups.
-#[inline(always)]
-fn read_groups(bytes: &[u8], at: usize, end: usize) -> Result<Var, Flaw>
+/// The same among the last eight bytes, where no ninth group has room.
+#[cold]
+fn read_last(bytes: &[u8], at: usize, end: usize) -> Result<Var, Flaw>
     requires order { at ≤ end }
     requires within { end ≤ length bytes.now }
+    requires last { length bytes.now ≤ at + 8 }
     ensures range { IfOk result (λ v. (at < v.end) × (v.end ≤ end)) }
     ensures exact { MatchResult result (λ v. int_at bytes.now at end ≡ Some v) (λ e. (int_at bytes.now at end ≡ None) × (e ≡ record { offset = at; reason = Reason.Short })) }
 {
@@ -95,7 +109,7 @@ fn read_groups(bytes: &[u8], at: usize, end: usize) -> Result<Var, Flaw>
     let mut shift: u32 = 0;
     for place in at..end {
         let byte = bytes[place];
-        if byte < 128 || shift == NINTH_SHIFT {
+        if byte < 128 {
             return Ok(Var {
                 value: value + (u64::from(byte) << shift),
                 end: place + 1,

@@ -1,5 +1,6 @@
+use Rattle.std.proofs.Common.{◌+◌, ◌*◌, length}
 use Rattle.jfr_base.proofs.Groups.{Reading}
 use Rattle.jfr_base.proofs.integer.read_groups.Given as goal
 
-abbrev pub invariant-loop-place : goal.invariant-loop-place
-invariant-loop-place l = Reading l.bytes l.fn.at l.fn.end l.place l.value l.shift
+abbrev pub invariant-loop-group : goal.invariant-loop-group
+invariant-loop-group l = Reading l.bytes l.fn.at (length l.bytes) (l.fn.at + l.group) l.value (7 * l.group)
