@@ -1,9 +1,10 @@
 // Where values end.
-ghost use Rattle.std.specs.Prelude.{◌≡◌, ℕ, ◌+◌, ◌≤◌, ◌<◌, length, IfOk, IfErr, Ok, IfSome, IsSome, IsTrue, ◌↔◌, option_map, option_to_list, slice_get, true};
+ghost use Rattle.std.specs.Prelude.{◌≡◌, ◌⊎◌, ℕ, ◌+◌, ◌≤◌, ◌<◌, length, IfOk, IfErr, Ok, IfSome, IsSome, IsTrue, ◌↔◌, option_map, option_to_list, slice_get, true};
 ghost use Rattle.std.specs.List.{AllByRecursion};
 ghost use Rattle.jfr_base.specs.Formats.{for_each, integer, run, seen};
 ghost use Rattle.jfr_text.specs.Strings.{string_format};
 ghost use Rattle.jfr_layout.specs.Classes.{IsSlot, Sound, find_class, form_of, item_of, slot_with};
+ghost use Rattle.jfr_layout.specs.declared.form.Form.TheVariants as forms;
 ghost use Rattle.jfr_layout.specs.declared.kind.Kind.TheVariants as kinds;
 ghost use Rattle.jfr_value.specs.Nodes.{EndsAt, IsRefused, IsValueReason, node_at, targets};
 ghost use Rattle.jfr_value.specs.Values.{IsHollow, IsHollowArray, IsPlaced, key_of};
@@ -164,7 +165,7 @@ fn integer_end(bytes: &[u8], at: usize, end: usize) -> Result<usize, Flaw>
     ensures range { IfOk result (λ to. (at ≤ to) × (to ≤ end)) }
 {
     if at >= bytes.len().saturating_sub(SHORT_GROUPS) {
-        return Ok(last_integer_end(bytes, at, end)?);
+        return near_end(bytes, at, end);
     }
     let to = groups_end(bytes, at);
     if to > end {
@@ -186,6 +187,20 @@ fn groups_end(bytes: &[u8], at: usize) -> usize
         }
     }
     at + SHORT_GROUPS + 1
+}
+
+/// Where an integer ends that may lack room. What the call answers is taken apart here, as in
+/// `compound_end`.
+#[inline(always)]
+fn near_end(bytes: &[u8], at: usize, end: usize) -> Result<usize, Flaw>
+    requires order { at ≤ end }
+    requires within { end ≤ length bytes.now }
+    requires last { length bytes.now ≤ at + 8 }
+    ensures exact { result ≡ seen (run integer bytes.now end at) }
+    ensures range { IfOk result (λ to. (at ≤ to) × (to ≤ end)) }
+{
+    let to = last_integer_end(bytes, at, end)?;
+    Ok(to)
 }
 
 /// Where an integer ends among the last eight bytes.
@@ -337,7 +352,39 @@ pub(crate) fn slot_end<C, V: Visit<C>>(
         Form::Integer => integer_end(bytes, at, end),
         Form::Raw(count) => run_end(usize::from(count), at, end),
         Form::Key => key_end(slot.shape.class, bytes, at, end, visitor, with),
-        // A call's own result would lie in memory, and with it that of the other forms: take it apart.
+        Form::Text | Form::Fields | Form::Array => {
+            compound_end(classes, slot, bytes, at, end, levels, visitor, with)
+        }
+    }
+}
+
+/// Where a string, an inline value of a composite class or an array ends. What the calls answer is taken
+/// apart here, since it lies in memory, and with it would the answers of `slot_end` for other forms.
+#[cycle(ends)]
+#[tactic(auto, using(jfr_base::proofs::SeenLaws::ends), unfolding(jfr_base::specs::Formats::run, crate::specs::Reading::class_format))]
+#[inline(always)]
+fn compound_end<C, V: Visit<C>>(
+    classes: &Classes,
+    slot: &Slot,
+    bytes: &[u8],
+    at: usize,
+    end: usize,
+    levels: u32,
+    visitor: &mut V,
+    with: &C,
+) -> Result<usize, Flaw>
+    requires compound { (slot.now.form ≡ forms.Text) ⊎ ((slot.now.form ≡ forms.Fields) ⊎ (slot.now.form ≡ forms.Array)) }
+    requires placed { IsPlaced classes.now slot.now }
+    requires room { Room classes.now levels slot.now.shape }
+    requires order { at ≤ end }
+    requires within { end ≤ length bytes.now }
+    requires ready { V.ready visitor.old with.now }
+    ensures exact { result ≡ seen (run (shape_format (class_format (levels + 1) classes.now) slot.now.shape) bytes.now end at) }
+    ensures range { IfOk result (λ to. (at ≤ to) × (to ≤ end)) }
+    ensures visited { TakesRead (V.takes with.now) (run (shape_format (class_format (levels + 1) classes.now) slot.now.shape) bytes.now end at) visitor.old visitor.new }
+    ensures ready { V.ready visitor.new with.now }
+{
+    match slot.form {
         Form::Text => {
             let to = text_end(slot.shape.class, bytes, at, end, visitor, with)?;
             Ok(to)
@@ -347,7 +394,7 @@ pub(crate) fn slot_end<C, V: Visit<C>>(
             let to = fields_end(classes, fields, bytes, at, end, levels - 1, visitor, with)?;
             Ok(to)
         }
-        Form::Array => {
+        _ => {
             let to = array_end(classes, slot, bytes, at, end, levels, visitor, with)?;
             Ok(to)
         }

@@ -15,39 +15,39 @@ use Rattle.jfr_value.proofs.SlotLaws.{no_slot, slot_there}
 use Rattle.jfr_value.proofs.TakingLaws.{each_goes, items_end, items_go, items_taken, no_value}
 use Rattle.jfr_value.proofs.extent.+ends.Goals as goal
 
-pub slot_end-fields_end-requires : goal.slot_end-fields_end-requires
-slot_end-fields_end-requires g t c κs within =
+pub compound_end-fields_end-requires : goal.compound_end-fields_end-requires
+compound_end-fields_end-requires g t c κs within =
     let left = room_left c.args.classes.now c.args.slot.now c.args.levels c.args.bytes.now c.args.end c.args.at c.requires.placed c.in-Fields.is c.requires.room in
     let there = fields_there c.args.classes.now c.args.slot.now c.args.levels c.args.bytes.now c.args.end c.args.at c.requires.placed c.in-Fields.is in
     let slots : AllByRecursion (IsSlot c.args.classes.now) c.slots-fields.result.now = slots_there c.args.classes.now c.args.slot.now c.slots-fields.result.now there.of_class c.slots-fields.ensures.exact in
     let room : AllByRecursion (λ s. Room c.args.classes.now (c.args.levels - 1) s.shape) c.slots-fields.result.now = room_within c.args.classes.now c.args.slot.now c.args.levels c.slots-fields.result.now c.requires.placed c.in-Fields.is c.requires.room c.slots-fields.ensures.exact in
     search (rules, slots, room, left)
 
-pub slot_end-returns-in_err-to-in-Text : goal.slot_end-returns-in_err-to-in-Text
-slot_end-returns-in_err-to-in-Text g t c =
+pub compound_end-returns-in_err-to-in-Text : goal.compound_end-returns-in_err-to-in-Text
+compound_end-returns-in_err-to-in-Text g t c =
     let p = err_from_is_err_and c.from_residual.result c.from_residual.ensures.1 in
     let e = sym c.in_err-to-in-Text.was ∙ (c.text_end.ensures.exact ∙ text_ends c.args.classes.now c.args.slot.now c.args.levels c.args.bytes.now c.args.end c.args.at c.requires.placed c.in-Text.is) in
     record { exact = rw (p.1, p.2) e; range = rw (p.1) tt; visited = no_value _ _ _ e; ready = c.text_end.ensures.ready }
 
-pub slot_end-returns-in_ok-to-in-Text-clause-exact : goal.slot_end-returns-in_ok-to-in-Text-clause-exact
-slot_end-returns-in_ok-to-in-Text-clause-exact g t c = sym c.in_ok-to-in-Text.was ∙ (c.text_end.ensures.exact ∙ text_ends c.args.classes.now c.args.slot.now c.args.levels c.args.bytes.now c.args.end c.args.at c.requires.placed c.in-Text.is)
+pub compound_end-returns-in_ok-to-in-Text-clause-exact : goal.compound_end-returns-in_ok-to-in-Text-clause-exact
+compound_end-returns-in_ok-to-in-Text-clause-exact g t c = sym c.in_ok-to-in-Text.was ∙ (c.text_end.ensures.exact ∙ text_ends c.args.classes.now c.args.slot.now c.args.levels c.args.bytes.now c.args.end c.args.at c.requires.placed c.in-Text.is)
 
-pub slot_end-returns-in_ok-to-in-Text-clause-visited : goal.slot_end-returns-in_ok-to-in-Text-clause-visited
-slot_end-returns-in_ok-to-in-Text-clause-visited g t c =
+pub compound_end-returns-in_ok-to-in-Text-clause-visited : goal.compound_end-returns-in_ok-to-in-Text-clause-visited
+compound_end-returns-in_ok-to-in-Text-clause-visited g t c =
     text_taken c.args.classes.now c.args.slot.now c.args.levels c.args.bytes.now c.args.end c.args.at c.requires.placed (g.V.Visit.takes c.args.with.now) c.args.visitor.now c.text_end.new.visitor c.in-Text.is c.text_end.ensures.visited
 
-pub slot_end-returns-in_err-to-in-Fields : goal.slot_end-returns-in_err-to-in-Fields
-slot_end-returns-in_err-to-in-Fields g t c =
+pub compound_end-returns-in_err-to-in-Fields : goal.compound_end-returns-in_err-to-in-Fields
+compound_end-returns-in_err-to-in-Fields g t c =
     let p = err_from_is_err_and c.from_residual-in_err-to-in-Fields.result c.from_residual-in_err-to-in-Fields.ensures.1 in
     let e = sym c.in_err-to-in-Fields.was ∙ (c.fields_end.ensures.exact ∙ fields_end c.args.classes.now c.args.slot.now c.args.levels c.args.bytes.now c.args.end c.args.at c.requires.placed c.slots-fields.result.now c.in-Fields.is c.requires.room c.slots-fields.ensures.exact) in
     record { exact = rw (p.1, p.2) e; range = rw (p.1) tt; visited = no_value _ _ _ e; ready = c.fields_end.ensures.ready }
 
-pub slot_end-returns-in_ok-to-in-Fields-clause-exact : goal.slot_end-returns-in_ok-to-in-Fields-clause-exact
-slot_end-returns-in_ok-to-in-Fields-clause-exact g t c =
+pub compound_end-returns-in_ok-to-in-Fields-clause-exact : goal.compound_end-returns-in_ok-to-in-Fields-clause-exact
+compound_end-returns-in_ok-to-in-Fields-clause-exact g t c =
     sym c.in_ok-to-in-Fields.was ∙ (c.fields_end.ensures.exact ∙ fields_end c.args.classes.now c.args.slot.now c.args.levels c.args.bytes.now c.args.end c.args.at c.requires.placed c.slots-fields.result.now c.in-Fields.is c.requires.room c.slots-fields.ensures.exact)
 
-pub slot_end-returns-in_ok-to-in-Fields-clause-visited : goal.slot_end-returns-in_ok-to-in-Fields-clause-visited
-slot_end-returns-in_ok-to-in-Fields-clause-visited g t c =
+pub compound_end-returns-in_ok-to-in-Fields-clause-visited : goal.compound_end-returns-in_ok-to-in-Fields-clause-visited
+compound_end-returns-in_ok-to-in-Fields-clause-visited g t c =
     fields_go c.args.classes.now c.args.slot.now c.args.levels c.args.bytes.now c.args.end c.args.at c.requires.placed (g.V.Visit.takes c.args.with.now) c.args.visitor.now c.fields_end.new.visitor c.slots-fields.result.now c.in-Fields.is c.requires.room c.slots-fields.ensures.exact c.fields_end.ensures.visited
 
 pub fields_end-returns-in_err-to : goal.fields_end-returns-in_err-to
