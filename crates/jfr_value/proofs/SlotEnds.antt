@@ -1,11 +1,8 @@
 -- Where a value of a slot ends, and what is taken of it, by the slot's form.
-use Rattle.std.specs.Prelude.{◌≡◌, ◌≢◌, ℕ, ◌+◌, ◌-◌, ◌<◌, ◌≤◌, Bool, true, false, List, [], ◌∷◌, map, slice_get, Option, Some, None, Result, Ok, Err, IfOk, IfErr, IfSome, nat_le, option_map, option_to_list, if◌then◌else◌}
+use Rattle.std.specs.Prelude.{◌≡◌, ◌≢◌, ℕ, ◌+◌, ◌-◌, ◌≤◌, Bool, true, false, List, [], ◌∷◌, map, slice_get, Some, IfOk, IfSome, option_map, option_to_list, if◌then◌else◌}
 use Rattle.std.specs.List.{AllByRecursion}
 use Rattle.std.proofs.Common.{ap, arith, refl, subst, sym, ◌∙◌}
-use Rattle.jfr_base.specs.declared.flaw.Flaw.{Flaw}
-use Rattle.jfr_base.specs.declared.integer.Var.{Var}
-use Rattle.jfr_base.specs.declared.reason.Reason.TheVariants.{Short}
-use Rattle.jfr_base.specs.Formats.{Answer, Format, Done, Int, Run, after_int, for_each, int_at, integer, run, seen, unchecked}
+use Rattle.jfr_base.specs.Formats.{Answer, Format, Done, Int, for_each, run, seen, unchecked}
 use Rattle.jfr_layout.specs.Classes.{AreSlots, Classes, Field, IsSlot, item_of, slot_with}
 use Rattle.jfr_layout.specs.declared.form.Form.{Form}
 use Rattle.jfr_layout.specs.declared.form.Form.TheVariants as forms
@@ -15,15 +12,14 @@ use Rattle.jfr_layout.specs.declared.slot.Slot.{Slot}
 use Rattle.jfr_text.specs.Strings.{string_format}
 use Rattle.jfr_value.specs.declared.leaf.LeafKind.TheVariants as leaf_kinds
 use Rattle.jfr_value.specs.Values.{IsPlaced, Value, Single, key_of}
-use Rattle.jfr_value.specs.Reading.{array_format, base_format, class_format, item_format, shape_format}
+use Rattle.jfr_value.specs.Reading.{base_format, class_format, shape_format}
 use Rattle.jfr_value.specs.Visits.{TakesAll, TakesRead, TakesReadAll}
 use Rattle.jfr_value.specs.Walks.{Room}
-use Rattle.jfr_value.proofs.EndLaws.{key_ends, shape_item, slot_base, slot_fields}
-use Rattle.jfr_value.proofs.FormLaws.{Inline, IsInline, fields_kind, inline_there, integer_kind, key_there, other_kind, raw_kind, text_kind}
-use Rattle.jfr_value.proofs.SkipLaws.{int_made}
+use Rattle.jfr_value.proofs.EndLaws.{shape_item, slot_base, slot_fields}
+use Rattle.jfr_value.proofs.FormLaws.{Inline, fields_kind, inline_there, other_kind, text_kind}
 use Rattle.jfr_value.proofs.SlotLaws.{slot_class}
 use Rattle.jfr_value.proofs.StackLaws.{inner_room}
-use Rattle.jfr_value.proofs.TakingLaws.{fields_taken, item_taken, plain_taken, string_taken}
+use Rattle.jfr_value.proofs.TakingLaws.{fields_taken, item_taken, string_taken}
 
 -- an inline value by its class
 abbrev item : (Shape → Format Value) → Shape → Bool → Format Value

@@ -5,7 +5,7 @@ use Rattle.std.specs.List.{AllByRecursion}
 use Rattle.jfr_base.specs.Formats.{Format, run, seen}
 use Rattle.jfr_layout.specs.Classes.{IsSlot, item_of}
 use Rattle.jfr_layout.specs.declared.slot.Slot.{Slot}
-use Rattle.jfr_value.specs.Values.{IsPlaced, Value}
+use Rattle.jfr_value.specs.Values.{Value}
 use Rattle.jfr_value.specs.Reading.{class_format, item_format, shape_format}
 use Rattle.jfr_value.specs.Visits.{TakesRead}
 use Rattle.jfr_value.specs.Walks.{Room}
