@@ -20,13 +20,18 @@ use Rattle.jfr_scrub.specs.declared.run.Run.{Run}
 use Rattle.jfr_scrub.specs.declared.stays.Cursor.{Cursor}
 use Rattle.jfr_scrub.specs.Bodies.{body_with, place_seen}
 use Rattle.jfr_scrub.specs.Pieces.{Laying, more}
-use Rattle.jfr_scrub.specs.Runs.{IsRun, body_with_run, is_in_run, link_start, record_start}
+use Rattle.jfr_scrub.specs.Runs.{IsRun, body_with_run, is_in_run, link_start}
 use Rattle.jfr_scrub.specs.Staying.{IsCursor, event_behind, is_kept_at, link_behind, linked_at, still_stays}
 use Rattle.jfr_scrub.proofs.BodyLaws.{Going, going_next}
 use Rattle.jfr_scrub.proofs.CheckpointLaws.{more_more}
 use Rattle.jfr_scrub.proofs.CursorLaws.{cursor_passed, event_in, events_given, stays_at}
 use Rattle.jfr_scrub.proofs.FitLaws.{some_written}
 
+-- where the record of a number starts; behind the last one, the chunk's end
+abbrev pub record_start : Parts → ℕ → ℕ
+record_start p n = option_map_or (λ r. r.at) (slice_get p.records n) (length p.bytes)
+
+-- the cursor behind its event
 abbrev pub next_event : Cursor → Cursor
 next_event c = record { frame = c.frame + 1; event = c.event + 1; link = c.link }
 
@@ -114,12 +119,12 @@ tells_run p flags c frames link metadata at here keep f m o h l n k = by_record 
         let v : (r.at == metadata_at p.bytes) ≡ false = differs r.at (metadata_at p.bytes) (λ d. n (q ∙ (d ∙ sym m))) in
         k ∙ (ap (is_kept_at (events_of p) flags c.event) q ∙ sym (ap (λ b. if b then false else is_kept_at (events_of p) flags c.event r.at) (λ i. u i || v i)))
 
-pub passes_run : (p : Parts) (flags : List Bool) (c d : Cursor) (chain : List Link) (bytes : List ℕ) (link : ℕ) (b : Bool) → IsCursor p flags d → d.link ≡ c.link → reverse chain ≡ p.chain → bytes ≡ p.bytes → link ≡ link_start chain (length bytes) c.link →
-    b ≡ is_in_run p flags d link → b ≡ true → AtRun p flags d
-passes_run p flags c d chain bytes link b i e r f l h t =
-    at_run p flags d link i (l ∙ λ j. link_start ((sym (reverse-reverse chain) ∙ ap reverse r) j) (length (f j)) (sym e j)) (sym h ∙ t)
+pub passes_run : (p : Parts) (flags : List Bool) (c : Cursor) (chain : List Link) (bytes : List ℕ) (number link : ℕ) (b : Bool) → IsCursor p flags c → c.link ≡ number → reverse chain ≡ p.chain → bytes ≡ p.bytes → link ≡ link_start chain (length bytes) number →
+    b ≡ is_in_run p flags c link → b ≡ true → AtRun p flags c
+passes_run p flags c chain bytes number link b i e r f l h t =
+    at_run p flags c link i (l ∙ λ j. link_start ((sym (reverse-reverse chain) ∙ ap reverse r) j) (length (f j)) (sym e j)) (sym h ∙ t)
 
--- where a record starts
+-- what is computed of a record's place
 pub starts_there : (p : Parts) (frames : List Framed) (bytes : List ℕ) (n : ℕ) (here : Option ℕ) (at : ℕ) → frames ≡ p.records → bytes ≡ p.bytes → here ≡ option_map (λ r. r.at) (slice_get frames n) → at ≡ unwrap_or here (length bytes) → at ≡ record_start p n
 starts_there p frames bytes n here at f b h a = a ∙ ((λ i. unwrap_or ((h ∙ ap (λ rs. option_map (λ r. r.at) (slice_get rs n)) f) i) (length (b i))) ∙ by_record (slice_get p.records n))
   where
@@ -223,9 +228,11 @@ laid_run p left all ss (r ∷ rs) from to b g t o =
     let e = first_of_range b r left m to o.0 (subst (λ c. IsRecord c r) (sym g.chunk) t.1) (tiles_order p.bytes (record_end r) to rs t.2) in
     subst (Going p left all ss) (e ∙ ap (λ n. with_range b n to) t.0) rest
 
-pub going_run : (p : Parts) (flags : List Bool) (left : List EntryAt) (all : List Stay) (c d : Cursor) (run : Run) (b next : Body) → IsRun p flags c d run.from run.to → Going p left all (still_stays p flags c) b → next ≡ body_with_run b run → Going p left all (still_stays p flags d) next
-going_run p flags left all c d run b next u g n =
-    subst (Going p left all (still_stays p flags d)) (sym n) (laid_run p left all (still_stays p flags d) u.records run.from run.to b (subst (λ ss. Going p left all ss b) u.stays g) u.tiles u.others)
+-- what is left to lay out behind a run
+pub going_run : (p : Parts) (flags : List Bool) (left : List EntryAt) (all rest : List Stay) (c d : Cursor) (run : Run) (b next : Body) → IsRun p flags c d run.from run.to → Going p left all (still_stays p flags c) b → next ≡ body_with_run b run → still_stays p flags d ≡ rest → Going p left all rest next
+going_run p flags left all rest c d run b next u g n e =
+    let laid = laid_run p left all (still_stays p flags d) u.records run.from run.to b (subst (λ ss. Going p left all ss b) u.stays g) u.tiles u.others in
+    subst (λ ss. Going p left all ss next) e (subst (Going p left all (still_stays p flags d)) (sym n) laid)
 
 -- what is laid out is no longer than the chunk
 pub going_within : (p : Parts) (left : List EntryAt) (all ss : List Stay) (b : Body) → Going p left all ss b → b.at ≤ length p.bytes

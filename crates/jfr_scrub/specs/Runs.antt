@@ -13,10 +13,6 @@ use Rattle.jfr_scrub.specs.declared.stays.Cursor.{Cursor}
 use Rattle.jfr_scrub.specs.Pieces.{more}
 use Rattle.jfr_scrub.specs.Staying.{is_kept_at, still_stays}
 
--- Where the record of a number starts; behind the last one, the chunk's end.
-abbrev pub record_start : Parts → ℕ → ℕ
-record_start p n = option_map_or (λ r. r.at) (slice_get p.records n) (length p.bytes)
-
 -- Where the chained checkpoint of a number starts; behind the last one, the chunk's end.
 abbrev pub link_start : List Link → ℕ → ℕ → ℕ
 link_start ls end n = option_map_or (λ l. l.frame.at) (slice_get ls n) end

@@ -36,22 +36,15 @@ lay_run-requires-clause-within c = subst (λ (z : List _). c.pass_run.result.to 
 
 pub lay_run-requires-clause-room : goal.lay_run-requires-clause-room
 lay_run-requires-clause-room c =
-    let p = c.args.chunk.now in
-    let g = going_run p c.args.kept.now c.args.left.now (stays p (kept_by p c.args.kept.now)) _ _ _ _ _ c.pass_run.ensures.run c.stays.invariant.body refl in
-    subst (λ (z : List _). c.stays.body.at + (c.pass_run.result.to - c.pass_run.result.from) ≤ length z) (sym c.stays.invariant.body.chunk) (going_within p _ _ _ _ g)
+    let g = going_run _ _ _ _ _ _ _ _ _ _ c.pass_run.ensures.run c.stays.invariant.body refl refl in
+    subst (λ (z : List _). c.stays.body.at + (c.pass_run.result.to - c.pass_run.result.from) ≤ length z) (sym c.stays.invariant.body.chunk) (going_within _ _ _ _ _ g)
 
 pub returns-in_default-clause-ok : goal.returns-in_default-clause-ok
-returns-in_default-clause-ok c =
-    let p = c.args.chunk.now in
-    let run = going_run p c.args.kept.now c.args.left.now (stays p (kept_by p c.args.kept.now)) _ _ _ _ _ c.pass_run.ensures.run c.stays.invariant.body c.in_ok-lay_run.ensures.ok in
-    going_all p _ _ _ _ run c.in_default.ensures.exact
+returns-in_default-clause-ok c = going_all _ _ _ _ _ (going_run _ _ _ _ _ _ _ _ _ _ c.pass_run.ensures.run c.stays.invariant.body c.in_ok-lay_run.ensures.ok c.in_default.ensures.exact) refl
 
 pub lay_stay-requires-clause-fits : goal.lay_stay-requires-clause-fits
 lay_stay-requires-clause-fits c =
-    let p = c.args.chunk.now in
-    let all = stays p (kept_by p c.args.kept.now) in
-    let run = going_run p c.args.kept.now c.args.left.now all _ _ _ _ _ c.pass_run.ensures.run c.stays.invariant.body c.in_ok-lay_run.ensures.ok in
-    let g = subst (λ ss. Going p c.args.left.now all ss c.lay_run.new.body) c.in-Some.ensures.exact run in
+    let g = going_run _ _ _ _ _ _ _ _ _ _ c.pass_run.ensures.run c.stays.invariant.body c.in_ok-lay_run.ensures.ok c.in-Some.ensures.exact in
     subst (λ (z : List _). StayFits z c.args.left.now (stay_as c.in-Some.stay) c.lay_run.new.body.at c.lay_run.new.body.older) (sym g.chunk) g.fits.0
 
 pub lay_stay-requires-clause-order : goal.lay_stay-requires-clause-order
@@ -60,25 +53,19 @@ lay_stay-requires-clause-order c = subst (NotFalling 0) (sym c.requires) (left_o
 pub lay_stay-requires-clause-ranges : goal.lay_stay-requires-clause-ranges
 lay_stay-requires-clause-ranges c =
     let p = c.args.chunk.now in
-    let g = going_run p c.args.kept.now c.args.left.now (stays p (kept_by p c.args.kept.now)) _ _ _ _ _ c.pass_run.ensures.run c.stays.invariant.body c.in_ok-lay_run.ensures.ok in
+    let g = going_run _ _ _ _ _ _ _ _ _ _ c.pass_run.ensures.run c.stays.invariant.body c.in_ok-lay_run.ensures.ok c.in-Some.ensures.exact in
     subst (λ (z : List _). AllByRecursion (HasRange (length z)) c.args.left.now) (sym g.chunk)
     (subst (AllByRecursion (HasRange (length p.bytes))) (sym c.requires) (left_ranges p c.bytes.ensures.parts (kept_by p c.args.kept.now)))
 
 pub lay_stay-requires-clause-room : goal.lay_stay-requires-clause-room
 lay_stay-requires-clause-room c =
-    let p = c.args.chunk.now in
-    let all = stays p (kept_by p c.args.kept.now) in
-    let run = going_run p c.args.kept.now c.args.left.now all _ _ _ _ _ c.pass_run.ensures.run c.stays.invariant.body c.in_ok-lay_run.ensures.ok in
-    let g = subst (λ ss. Going p c.args.left.now all ss c.lay_run.new.body) c.in-Some.ensures.exact run in
-    subst (λ (z : List _). c.lay_run.new.body.at + length (bytes_of z c.args.left.now (stay_as c.in-Some.stay) c.lay_run.new.body.at c.lay_run.new.body.older) ≤ length z) (sym g.chunk) (going_room p _ _ _ _ _ g)
+    let g = going_run _ _ _ _ _ _ _ _ _ _ c.pass_run.ensures.run c.stays.invariant.body c.in_ok-lay_run.ensures.ok c.in-Some.ensures.exact in
+    subst (λ (z : List _). c.lay_run.new.body.at + length (bytes_of z c.args.left.now (stay_as c.in-Some.stay) c.lay_run.new.body.at c.lay_run.new.body.older) ≤ length z) (sym g.chunk) (going_room _ _ _ _ _ _ g)
 
 pub stays-preserved : goal.stays-preserved
 stays-preserved c =
-    let p = c.args.chunk.now in
-    let all = stays p (kept_by p c.args.kept.now) in
-    let run = going_run p c.args.kept.now c.args.left.now all _ _ _ _ _ c.pass_run.ensures.run c.stays.invariant.body c.in_ok-lay_run.ensures.ok in
-    let g = subst (λ ss. Going p c.args.left.now all ss c.lay_run.new.body) c.in-Some.ensures.exact run in
+    let g = going_run _ _ _ _ _ _ _ _ _ _ c.pass_run.ensures.run c.stays.invariant.body c.in_ok-lay_run.ensures.ok c.in-Some.ensures.exact in
     record {
       cursor = c.in-Some.ensures.cursor;
-      body = going_next p _ _ _ _ _ _ _ g (ap (λ (h : Header). h.metadata) c.header.ensures) c.in_ok-lay_stay.ensures.ok (some_written p.bytes c.args.left.now (stay_as c.in-Some.stay) c.lay_run.new.body.at c.lay_run.new.body.older g.fits.0);
+      body = going_next _ _ _ _ _ _ _ _ g (ap (λ (h : Header). h.metadata) c.header.ensures) c.in_ok-lay_stay.ensures.ok (some_written c.args.chunk.now.bytes c.args.left.now (stay_as c.in-Some.stay) c.lay_run.new.body.at c.lay_run.new.body.older g.fits.0);
     }

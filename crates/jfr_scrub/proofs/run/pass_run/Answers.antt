@@ -6,28 +6,27 @@ pub run-init : goal.run-init
 run-init c = record {
   cursor = c.requires;
   link = refl;
-  run = run_none c.args.chunk.now c.args.kept.now c.args.cursor.now _ c.requires (starts_there c.args.chunk.now _ _ _ _ _ c.frames-frames.ensures c.bytes-end.ensures.exact c.place.ensures c.unwrap_or-from.ensures);
+  run = run_none _ _ _ _ c.requires (starts_there c.args.chunk.now _ _ _ _ _ c.frames-frames.ensures c.bytes-end.ensures.exact c.place.ensures c.unwrap_or-from.ensures);
 }
 
 pub overflow_add-cursor : goal.overflow_add-cursor
 overflow_add-cursor c =
-    let a = passes_run c.args.chunk.now c.args.kept.now c.args.cursor.now c.run.cursor _ _ _ _ c.run.invariant.cursor c.run.invariant.link c.chain.ensures c.bytes-end.ensures.exact c.link_start-link.ensures c.is_in_run.ensures c.run-test.true in
-    let s = run_small c.args.chunk.now c.args.kept.now c.run.cursor a in
+    let a = passes_run _ _ _ _ _ _ _ _ c.run.invariant.cursor c.run.invariant.link c.chain.ensures c.bytes-end.ensures.exact c.link_start-link.ensures c.is_in_run.ensures c.run-test.true in
+    let s = run_small _ _ _ a in
     omega (arith, s.0, ap length c.bytes-end.ensures.exact)
 
 pub overflow_add-cursor-in-run : goal.overflow_add-cursor-in-run
 overflow_add-cursor-in-run c =
-    let a = passes_run c.args.chunk.now c.args.kept.now c.args.cursor.now c.run.cursor _ _ _ _ c.run.invariant.cursor c.run.invariant.link c.chain.ensures c.bytes-end.ensures.exact c.link_start-link.ensures c.is_in_run.ensures c.run-test.true in
-    let s = run_small c.args.chunk.now c.args.kept.now c.run.cursor a in
+    let a = passes_run _ _ _ _ _ _ _ _ c.run.invariant.cursor c.run.invariant.link c.chain.ensures c.bytes-end.ensures.exact c.link_start-link.ensures c.is_in_run.ensures c.run-test.true in
+    let s = run_small _ _ _ a in
     omega (arith, s.1, ap length c.bytes-end.ensures.exact)
 
 pub run-smaller : goal.run-smaller
 run-smaller c =
-    let a = passes_run c.args.chunk.now c.args.kept.now c.args.cursor.now c.run.cursor _ _ _ _ c.run.invariant.cursor c.run.invariant.link c.chain.ensures c.bytes-end.ensures.exact c.link_start-link.ensures c.is_in_run.ensures c.run-test.true in
+    let a = passes_run _ _ _ _ _ _ _ _ c.run.invariant.cursor c.run.invariant.link c.chain.ensures c.bytes-end.ensures.exact c.link_start-link.ensures c.is_in_run.ensures c.run-test.true in
     omega (arith, a.more)
 
 pub run-preserved : goal.run-preserved
 run-preserved c =
-    let p = c.args.chunk.now in
-    let a = passes_run p c.args.kept.now c.args.cursor.now c.run.cursor _ _ _ _ c.run.invariant.cursor c.run.invariant.link c.chain.ensures c.bytes-end.ensures.exact c.link_start-link.ensures c.is_in_run.ensures c.run-test.true in
-    record { cursor = a.cursor; link = c.run.invariant.link; run = run_next p c.args.kept.now c.args.cursor.now c.run.cursor _ c.run.invariant.run a }
+    let a = passes_run _ _ _ _ _ _ _ _ c.run.invariant.cursor c.run.invariant.link c.chain.ensures c.bytes-end.ensures.exact c.link_start-link.ensures c.is_in_run.ensures c.run-test.true in
+    record { cursor = a.cursor; link = c.run.invariant.link; run = run_next _ _ _ _ _ c.run.invariant.run a }

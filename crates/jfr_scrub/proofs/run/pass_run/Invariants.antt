@@ -1,6 +1,7 @@
 use Rattle.std.proofs.Common.{◌≡◌, ◌-◌, length}
-use Rattle.jfr_scrub.specs.Runs.{IsRun, record_start}
+use Rattle.jfr_scrub.specs.Runs.{IsRun}
 use Rattle.jfr_scrub.specs.Staying.{IsCursor}
+use Rattle.jfr_scrub.proofs.RunLaws.{record_start}
 use Rattle.jfr_scrub.proofs.run.pass_run.Given as goal
 
 abbrev pub invariant-run : goal.invariant-run
