@@ -1,10 +1,10 @@
 -- Runs of kept events.
-use Rattle.std.specs.Prelude.{◌≡◌, ℕ, zero, suc, ◌+◌, ◌-◌, ◌<◌, ◌≤◌, Bool, true, false, ◌||◌, ◌&&◌, ◌==◌, List, [], ◌∷◌, ◌++◌, length, map, drop, reverse, slice_get, slice_range, Option, Some, None, option_map, option_and_then, unwrap_or, if◌then◌else◌}
+use Rattle.std.specs.Prelude.{◌≡◌, ◌⊎◌, ℕ, zero, suc, ◌+◌, ◌-◌, ◌<◌, ◌≤◌, Bool, true, false, ◌||◌, ◌&&◌, ◌==◌, List, [], ◌∷◌, ◌++◌, length, map, drop, reverse, slice_get, slice_range, Option, Some, None, option_map, option_and_then, unwrap_or, if◌then◌else◌}
 use Rattle.std.specs.List.{AllByRecursion, cons_option, filter_map, flat_map}
 use Rattle.std.specs.Option.{option_map_or}
-use Rattle.std.proofs.Common.{ap, arith, refl, sym, ◌∙◌, subst, add-one, length-append}
+use Rattle.std.proofs.Common.{ap, arith, refl, sym, ◌∙◌, subst, inl, inr, add-one, length-append}
 use Rattle.std.proofs.lemmas.Bool.Decides.{nat_tests}
-use Rattle.std.proofs.lemmas.List.{append-nil, reverse-reverse}
+use Rattle.std.proofs.lemmas.List.{append-nil}
 use Rattle.jfr_base.proofs.Ranges.{range_length, range_none, range_split}
 use Rattle.jfr_frame.specs.declared.framed.Framed.{Framed}
 use Rattle.jfr_frame.specs.Records.{IsRecord, Tiles, record_bytes, record_end}
@@ -61,7 +61,7 @@ kept_behind es flags n at h = by_event (slice_get es n) refl h
     by_event None q h = cc
     by_event (Some e) q h = (some_less es n e q, by_test (e.record_of.at == at) (unwrap_or (slice_get flags n) false) h)
 
-not_linked : (ls : List Link) (n at end : ℕ) → (at == link_start ls end n) ≡ false → (linked_at ls n at ≡ None) × (link_behind ls n at ≡ n)
+not_linked : (ls : List Link) (n at end : ℕ) → (at == option_map_or (λ l. l.frame.at) (slice_get ls n) end) ≡ false → (linked_at ls n at ≡ None) × (link_behind ls n at ≡ n)
 not_linked ls n at end h = by_link (slice_get ls n) h
   where
     by_link : (o : Option Link) → (at == option_map_or (λ l. l.frame.at) o end) ≡ false → (option_and_then {U = ℕ × Link} (λ l. if l.frame.at == at then Some (n, l) else None) o ≡ None) × (option_map_or (λ l. if l.frame.at == at then n + 1 else n) o n ≡ n)
@@ -71,13 +71,13 @@ not_linked ls n at end h = by_link (slice_get ls n) h
         let there : Option (ℕ × Link) = Some (n, l) in
         (ap (λ b. if b then there else None) e, ap (λ b. if b then n + 1 else n) e)
 
-pub at_run : (p : Parts) (flags : List Bool) (c : Cursor) (link : ℕ) → IsCursor p flags c → link ≡ link_start (reverse p.chain) (length p.bytes) c.link → is_in_run p flags c link ≡ true → AtRun p flags c
-at_run p flags c link i f h = by_record (slice_get p.records c.frame) refl h
+pub at_run : (p : Parts) (flags : List Bool) (c : Cursor) (b : Bool) → IsCursor p flags c → b ≡ is_in_run p flags c → b ≡ true → AtRun p flags c
+at_run p flags c b i t h = by_record (slice_get p.records c.frame) refl (sym t ∙ h)
   where
-    by_parts : (r : Framed) → slice_get p.records c.frame ≡ Some r → (r.at == link) ≡ false → (r.at == metadata_at p.bytes) ≡ false → is_kept_at (events_of p) flags c.event r.at ≡ true → AtRun p flags c
+    by_parts : (r : Framed) → slice_get p.records c.frame ≡ Some r → (r.at == link_start p c.link) ≡ false → (r.at == metadata_at p.bytes) ≡ false → is_kept_at (events_of p) flags c.event r.at ≡ true → AtRun p flags c
     by_parts r e l m k =
         let u = cursor_passed p flags c r i e in
-        let v = not_linked (reverse p.chain) c.link r.at (length p.bytes) (ap (λ n. r.at == n) (sym f) ∙ l) in
+        let v = not_linked (reverse p.chain) c.link r.at (length p.bytes) l in
         let w = kept_behind (events_of p) flags c.event r.at k in
         let s : stay_of p (kept_by p flags) r ≡ Some (Whole r) = λ j. stay_by ((sym u.2 ∙ v.0) j) ((sym u.1 ∙ k) j || (r.at == metadata_at p.bytes)) r in
         record {
@@ -90,14 +90,14 @@ at_run p flags c link i f h = by_record (slice_get p.records c.frame) refl h
           stays = stays_at p flags c r e ∙ ap (λ o. cons_option o (filter_map (stay_of p (kept_by p flags)) (drop (c.frame + 1) p.records))) s;
         }
 
-    by_tests : (r : Framed) → slice_get p.records c.frame ≡ Some r → (a : Bool) → (r.at == link) ≡ a → (b : Bool) → (r.at == metadata_at p.bytes) ≡ b → (if a || b then false else is_kept_at (events_of p) flags c.event r.at) ≡ true → AtRun p flags c
+    by_tests : (r : Framed) → slice_get p.records c.frame ≡ Some r → (a : Bool) → (r.at == link_start p c.link) ≡ a → (b : Bool) → (r.at == metadata_at p.bytes) ≡ b → (if a || b then false else is_kept_at (events_of p) flags c.event r.at) ≡ true → AtRun p flags c
     by_tests r e true l b m h = cc
     by_tests r e false l true m h = cc
     by_tests r e false l false m h = by_parts r e l m h
 
-    by_record : (o : Option Framed) → slice_get p.records c.frame ≡ o → option_map_or (λ r. if (r.at == link) || (r.at == metadata_at p.bytes) then false else is_kept_at (events_of p) flags c.event r.at) o false ≡ true → AtRun p flags c
+    by_record : (o : Option Framed) → slice_get p.records c.frame ≡ o → option_map_or (λ r. if (r.at == link_start p c.link) || (r.at == metadata_at p.bytes) then false else is_kept_at (events_of p) flags c.event r.at) o false ≡ true → AtRun p flags c
     by_record None e h = cc
-    by_record (Some r) e h = by_tests r e (r.at == link) refl (r.at == metadata_at p.bytes) refl h
+    by_record (Some r) e h = by_tests r e (r.at == link_start p c.link) refl (r.at == metadata_at p.bytes) refl h
 
 differs : (m n : ℕ) → (m ≡ n → ⊥) → (m == n) ≡ false
 differs m n h = by_test (m == n) refl
@@ -108,21 +108,32 @@ differs m n h = by_test (m == n) refl
 
 -- what is computed of the cursor's record
 pub tells_run : (p : Parts) (flags : List Bool) (c : Cursor) (frames : List Framed) (link metadata at : ℕ) (here : Option ℕ) (keep : Bool) → frames ≡ p.records → metadata ≡ metadata_at p.bytes → here ≡ option_map (λ r. r.at) (slice_get frames c.frame) → here ≡ Some at →
-    (at ≡ link → ⊥) → (at ≡ metadata → ⊥) → keep ≡ is_kept_at (events_of p) flags c.event at → keep ≡ is_in_run p flags c link
-tells_run p flags c frames link metadata at here keep f m o h l n k = by_record (slice_get p.records c.frame) (sym h ∙ (o ∙ ap (λ rs. option_map (λ r. r.at) (slice_get rs c.frame)) f))
+    link ≡ link_start p c.link → (at ≡ link → ⊥) → (at ≡ metadata → ⊥) → keep ≡ is_kept_at (events_of p) flags c.event at → keep ≡ is_in_run p flags c
+tells_run p flags c frames link metadata at here keep f m o h s l n k = by_record (slice_get p.records c.frame) (sym h ∙ (o ∙ ap (λ rs. option_map (λ r. r.at) (slice_get rs c.frame)) f))
   where
-    by_record : (o : Option Framed) → Some at ≡ option_map (λ r. r.at) o → keep ≡ option_map_or (λ r. if (r.at == link) || (r.at == metadata_at p.bytes) then false else is_kept_at (events_of p) flags c.event r.at) o false
+    by_record : (o : Option Framed) → Some at ≡ option_map (λ r. r.at) o → keep ≡ option_map_or (λ r. if (r.at == link_start p c.link) || (r.at == metadata_at p.bytes) then false else is_kept_at (events_of p) flags c.event r.at) o false
     by_record None e = cc
     by_record (Some r) e =
         let q : at ≡ r.at = ap (λ z. unwrap_or z 0) e in
-        let u : (r.at == link) ≡ false = differs r.at link (λ d. l (q ∙ d)) in
+        let u : (r.at == link_start p c.link) ≡ false = differs r.at (link_start p c.link) (λ d. l (q ∙ (d ∙ sym s))) in
         let v : (r.at == metadata_at p.bytes) ≡ false = differs r.at (metadata_at p.bytes) (λ d. n (q ∙ (d ∙ sym m))) in
         k ∙ (ap (is_kept_at (events_of p) flags c.event) q ∙ sym (ap (λ b. if b then false else is_kept_at (events_of p) flags c.event r.at) (λ i. u i || v i)))
 
-pub passes_run : (p : Parts) (flags : List Bool) (c : Cursor) (chain : List Link) (bytes : List ℕ) (number link : ℕ) (b : Bool) → IsCursor p flags c → c.link ≡ number → reverse chain ≡ p.chain → bytes ≡ p.bytes → link ≡ link_start chain (length bytes) number →
-    b ≡ is_in_run p flags c link → b ≡ true → AtRun p flags c
-passes_run p flags c chain bytes number link b i e r f l h t =
-    at_run p flags c link i (l ∙ λ j. link_start ((sym (reverse-reverse chain) ∙ ap reverse r) j) (length (f j)) (sym e j)) (sym h ∙ t)
+pub ends_run : (p : Parts) (flags : List Bool) (c : Cursor) (frames : List Framed) (at : ℕ) (here : Option ℕ) → frames ≡ p.records → here ≡ option_map (λ r. r.at) (slice_get frames c.frame) → here ≡ Some at → ((at ≡ link_start p c.link) ⊎ (at ≡ metadata_at p.bytes)) →
+    false ≡ is_in_run p flags c
+ends_run p flags c frames at here f o h e = by_record (slice_get p.records c.frame) (sym h ∙ (o ∙ ap (λ rs. option_map (λ r. r.at) (slice_get rs c.frame)) f))
+  where
+    by_place : (m link metadata : ℕ) (b : Bool) → ((m ≡ link) ⊎ (m ≡ metadata)) → false ≡ (if (m == link) || (m == metadata) then false else b)
+    by_place m link metadata b (inl e) = let t : (m == link) ≡ true = grind (arith, nat_tests) in rw t refl
+    by_place m link metadata b (inr e) = let t : (m == metadata) ≡ true = grind (arith, nat_tests) in rw t (either (m == link))
+      where
+        either : (x : Bool) → false ≡ (if x || true then false else b)
+        either true = refl
+        either false = refl
+
+    by_record : (o : Option Framed) → Some at ≡ option_map (λ r. r.at) o → false ≡ option_map_or (λ r. if (r.at == link_start p c.link) || (r.at == metadata_at p.bytes) then false else is_kept_at (events_of p) flags c.event r.at) o false
+    by_record None q = cc
+    by_record (Some r) q = subst (λ m. false ≡ (if (m == link_start p c.link) || (m == metadata_at p.bytes) then false else is_kept_at (events_of p) flags c.event m)) (ap (λ z. unwrap_or z 0) q) (by_place at (link_start p c.link) (metadata_at p.bytes) (is_kept_at (events_of p) flags c.event at) e)
 
 -- what is computed of a record's place
 pub starts_there : (p : Parts) (frames : List Framed) (bytes : List ℕ) (n : ℕ) (here : Option ℕ) (at : ℕ) → frames ≡ p.records → bytes ≡ p.bytes → here ≡ option_map (λ r. r.at) (slice_get frames n) → at ≡ unwrap_or here (length bytes) → at ≡ record_start p n

@@ -1,10 +1,9 @@
 -- Runs of kept events.
-use Rattle.std.specs.Prelude.{◌≡◌, ℕ, ◌+◌, ◌-◌, ◌≤◌, Bool, false, ◌||◌, ◌==◌, List, ◌++◌, length, map, slice_get, slice_range, if◌then◌else◌}
+use Rattle.std.specs.Prelude.{◌≡◌, ℕ, ◌+◌, ◌-◌, ◌≤◌, Bool, false, ◌||◌, ◌==◌, List, ◌++◌, length, map, reverse, slice_get, slice_range, if◌then◌else◌}
 use Rattle.std.specs.List.{AllByRecursion}
 use Rattle.std.specs.Option.{option_map_or}
 use Rattle.jfr_frame.specs.declared.framed.Framed.{Framed}
 use Rattle.jfr_frame.specs.Records.{Tiles}
-use Rattle.jfr_pool.specs.declared.link.Link.{Link}
 use Rattle.jfr_chunk.specs.Parts.{Parts, events_of, metadata_at}
 use Rattle.jfr_chunk.specs.Scrub.{Whole}
 use Rattle.jfr_scrub.specs.declared.body.Body.{Body}
@@ -14,13 +13,13 @@ use Rattle.jfr_scrub.specs.Pieces.{more}
 use Rattle.jfr_scrub.specs.Staying.{is_kept_at, still_stays}
 
 -- Where the chained checkpoint of a number starts; behind the last one, the chunk's end.
-abbrev pub link_start : List Link → ℕ → ℕ → ℕ
-link_start ls end n = option_map_or (λ l. l.frame.at) (slice_get ls n) end
+abbrev pub link_start : Parts → ℕ → ℕ
+link_start p n = option_map_or (λ l. l.frame.at) (slice_get (reverse p.chain) n) (length p.bytes)
 
--- The cursor's record is its event and is kept, and is neither the chained checkpoint that starts at a place nor the metadata record.
-abbrev pub is_in_run : Parts → List Bool → Cursor → ℕ → Bool
-is_in_run p flags c link =
-    option_map_or (λ r. if (r.at == link) || (r.at == metadata_at p.bytes) then false else is_kept_at (events_of p) flags c.event r.at) (slice_get p.records c.frame) false
+-- The cursor's record is its event and is kept, and is neither its chained checkpoint nor the metadata record.
+abbrev pub is_in_run : Parts → List Bool → Cursor → Bool
+is_in_run p flags c =
+    option_map_or (λ r. if (r.at == link_start p c.link) || (r.at == metadata_at p.bytes) then false else is_kept_at (events_of p) flags c.event r.at) (slice_get p.records c.frame) false
 
 -- Records that stay whole take a range of the chunk, one behind another, and none is the metadata record. What stays at one cursor are these, and then what stays at another.
 pub record IsRun (p : Parts) (flags : List Bool) (c d : Cursor) (from to : ℕ) : Type 0 where

@@ -1,12 +1,11 @@
 // Runs of kept events, which are copied as they stand.
-ghost use Rattle.std.specs.Prelude.{◌≡◌};
+ghost use Rattle.std.specs.Prelude.{◌≡◌, false};
 ghost use Rattle.jfr_chunk.specs.Parts.{events_of};
 ghost use Rattle.jfr_scrub.specs.Runs.{IsRun, is_in_run, link_start};
 ghost use Rattle.jfr_scrub.specs.Staying.{IsCursor, is_kept_at};
 
 use crate::stays::Cursor;
 use jfr_chunk::{Chunk, Kept};
-use jfr_pool::Chain;
 
 /// The range of the chunk that a run takes.
 #[derive(Clone, Copy, Debug)]
@@ -22,10 +21,11 @@ pub(crate) fn pass_run(chunk: &Chunk, kept: &Kept, cursor: &mut Cursor) -> Run
     requires { IsCursor chunk.now kept.now cursor.old }
     ensures cursor { IsCursor chunk.now kept.now cursor.new }
     ensures run { IsRun chunk.now kept.now cursor.old cursor.new result.from result.to }
+    ensures all { is_in_run chunk.now kept.now cursor.new ≡ false }
 {
     let frames = chunk.frames();
     let end = chunk.bytes().len();
-    let link = link_start(chunk.chain(), cursor.link, end);
+    let link = link_start(chunk, cursor.link);
     let from = frames.place(cursor.frame).unwrap_or(end);
     'run: while is_in_run(chunk, kept, cursor, link) {
         cursor.frame += 1;
@@ -37,20 +37,21 @@ pub(crate) fn pass_run(chunk: &Chunk, kept: &Kept, cursor: &mut Cursor) -> Run
 
 // Where the chained checkpoint of a number starts; behind the last one, the chunk's end.
 #[inline(always)]
-fn link_start(chain: &Chain, number: usize, end: usize) -> usize
-    ensures { result ≡ link_start chain.now end number }
+fn link_start(chunk: &Chunk, number: usize) -> usize
+    ensures { result ≡ link_start chunk.now number }
 {
-    match chain.get(number) {
+    match chunk.chain().get(number) {
         Some(link) => link.frame.at,
-        None => end,
+        None => chunk.bytes().len(),
     }
 }
 
 // Whether the cursor's record is its event and is kept, and is neither the metadata record nor its
-// chained checkpoint, which starts at a place.
+// chained checkpoint, of which the place is known.
 #[inline(always)]
 fn is_in_run(chunk: &Chunk, kept: &Kept, cursor: &Cursor, link: usize) -> bool
-    ensures { result ≡ is_in_run chunk.now kept.now cursor.now link }
+    requires { link ≡ link_start chunk.now cursor.now.link }
+    ensures { result ≡ is_in_run chunk.now kept.now cursor.now }
 {
     let Some(at) = chunk.frames().place(cursor.frame) else {
         return false;

@@ -8,7 +8,7 @@ use Rattle.jfr_chunk.specs.Scrub.{stays, bytes_of, written, written_bytes}
 use Rattle.jfr_scrub.specs.Bodies.{NotFalling, StayFits}
 use Rattle.jfr_scrub.specs.Left.{HasRange}
 use Rattle.jfr_scrub.specs.Staying.{stay_as}
-use Rattle.jfr_scrub.proofs.BodyLaws.{Going, WrittenFits, going_none, going_next, going_all, going_room}
+use Rattle.jfr_scrub.proofs.BodyLaws.{WrittenFits, going_none, going_next, going_all, going_room}
 use Rattle.jfr_scrub.proofs.CursorLaws.{cursor_first}
 use Rattle.jfr_scrub.proofs.RunLaws.{going_run, going_within}
 use Rattle.jfr_scrub.proofs.FitLaws.{all_fit, all_within, left_order, left_ranges, some_written}

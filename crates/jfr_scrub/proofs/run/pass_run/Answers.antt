@@ -1,5 +1,5 @@
 use Rattle.std.proofs.Common.{arith, ap, refl, length}
-use Rattle.jfr_scrub.proofs.RunLaws.{passes_run, run_next, run_none, run_small, starts_there}
+use Rattle.jfr_scrub.proofs.RunLaws.{at_run, run_next, run_none, run_small, starts_there}
 use Rattle.jfr_scrub.proofs.run.pass_run.Goals as goal
 
 pub run-init : goal.run-init
@@ -11,22 +11,22 @@ run-init c = record {
 
 pub overflow_add-cursor : goal.overflow_add-cursor
 overflow_add-cursor c =
-    let a = passes_run _ _ _ _ _ _ _ _ c.run.invariant.cursor c.run.invariant.link c.chain.ensures c.bytes-end.ensures.exact c.link_start-link.ensures c.is_in_run.ensures c.run-test.true in
+    let a = at_run _ _ _ _ c.run.invariant.cursor c.is_in_run.ensures c.run-test.true in
     let s = run_small _ _ _ a in
     omega (arith, s.0, ap length c.bytes-end.ensures.exact)
 
 pub overflow_add-cursor-in-run : goal.overflow_add-cursor-in-run
 overflow_add-cursor-in-run c =
-    let a = passes_run _ _ _ _ _ _ _ _ c.run.invariant.cursor c.run.invariant.link c.chain.ensures c.bytes-end.ensures.exact c.link_start-link.ensures c.is_in_run.ensures c.run-test.true in
+    let a = at_run _ _ _ _ c.run.invariant.cursor c.is_in_run.ensures c.run-test.true in
     let s = run_small _ _ _ a in
     omega (arith, s.1, ap length c.bytes-end.ensures.exact)
 
 pub run-smaller : goal.run-smaller
 run-smaller c =
-    let a = passes_run _ _ _ _ _ _ _ _ c.run.invariant.cursor c.run.invariant.link c.chain.ensures c.bytes-end.ensures.exact c.link_start-link.ensures c.is_in_run.ensures c.run-test.true in
+    let a = at_run _ _ _ _ c.run.invariant.cursor c.is_in_run.ensures c.run-test.true in
     omega (arith, a.more)
 
 pub run-preserved : goal.run-preserved
 run-preserved c =
-    let a = passes_run _ _ _ _ _ _ _ _ c.run.invariant.cursor c.run.invariant.link c.chain.ensures c.bytes-end.ensures.exact c.link_start-link.ensures c.is_in_run.ensures c.run-test.true in
+    let a = at_run _ _ _ _ c.run.invariant.cursor c.is_in_run.ensures c.run-test.true in
     record { cursor = a.cursor; link = c.run.invariant.link; run = run_next _ _ _ _ _ c.run.invariant.run a }
