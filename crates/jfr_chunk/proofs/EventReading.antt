@@ -40,7 +40,7 @@ drop_suc [] n x e = cc
 drop_suc (y ∷ ys) zero x e = let h : y ≡ x = cc in ap (λ z. z ∷ ys) h
 drop_suc (y ∷ ys) (suc n) x e = drop_suc ys n x e
 
-drop_at : {X : Type 0} (xs : List X) (n : ℕ) (x : X) → slice_get xs n ≡ Some x → drop n xs ≡ x ∷ drop (n + 1) xs
+pub drop_at : {X : Type 0} (xs : List X) (n : ℕ) (x : X) → slice_get xs n ≡ Some x → drop n xs ≡ x ∷ drop (n + 1) xs
 drop_at xs n x e = drop_suc xs n x e ∙ ap (λ m. x ∷ drop m xs) (sym (add-one n))
 
 drop_past : {X : Type 0} (xs : List X) (n : ℕ) → length xs ≤ n → drop n xs ≡ []

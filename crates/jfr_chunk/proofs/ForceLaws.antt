@@ -93,6 +93,9 @@ forced es t i q =
       is = ap (option_and_then (λ n. slice_get es n)) q ∙ g;
     }
 
+pub force_within : (es : List EntryAt) (t : ℕ × ℕ) (i : ℕ) → number_in_force es t ≡ Some i → i < length es
+force_within es t i q = (forced es t i q).within
+
 -- the number in force is that of the last entry of the class and key
 pub last_in_force : (es : List EntryAt) (t : ℕ × ℕ) (n : ℕ) → (number_in_force es t ≡ Some n) ↔ IsLast es t n
 unfolding number_in_force

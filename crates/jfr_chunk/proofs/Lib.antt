@@ -3,6 +3,8 @@ mod Chunks
 mod EventReading
 pub mod AllLaws
 pub mod AnswerLaws
+pub mod BoundLaws
+pub mod CountLaws
 pub mod ForceLaws
 mod InertLaws
 pub mod MeaningLaws

@@ -31,7 +31,8 @@ use Rattle.jfr_chunk.specs.Seen.{AreNoted, IsIndexed, due, parts_in}
 use Rattle.jfr_chunk.specs.Stages.{AreFields, IsRefusedEvents}
 use Rattle.jfr_chunk.proofs.Members.{contains_in}
 use Rattle.jfr_chunk.proofs.AllLaws.{all_in, all_reverse}
-use Rattle.jfr_chunk.proofs.StandingLaws.{tiles_each, links_each}
+use Rattle.jfr_chunk.proofs.BoundLaws.{entries_few}
+use Rattle.jfr_chunk.proofs.StandingLaws.{tiles_each, links_each, described_sound}
 use Rattle.jfr_chunk.proofs.PartsLaws.{links_record}
 use Rattle.jfr_chunk.proofs.StageLaws.{there_starts, none_starts, EntriesTell, entries_tell}
 use Rattle.jfr_chunk.proofs.AnswerLaws.{refused_read}
@@ -150,6 +151,10 @@ module _ (c : List ℕ) (h : Header) (rs : List Framed) (m : Framed) (n : Named 
           pub events_refused : (fault : ReadFault) → IfFlawed (IsRefusedEvents c k rs) fault → IfFlawed (Refused c) fault
           events_refused (Flawed flaw) w = events (record { described = described; entries = es; stand = there }) w
           events_refused Memory w = tt
+
+          -- there are no more entries than bytes
+          pub entries_within : length es ≤ length c
+          entries_within = entries_few c rs n.records (pools_at c) (reverse ls) links k (described_sound b k d.classes) es there
 
           pub indexed : (fields : List FieldsAt) (numbers : List ℕ) → Whole c → AreFields c k rs fields → AreNoted (due es k c rs) 0 fields numbers → IsIndexed (parts_in c rs ls b k es) h m fields numbers
           unfolding events_of

@@ -1,5 +1,5 @@
 // The stages of reading a chunk.
-ghost use Rattle.std.specs.Prelude.{◌≡◌, ◌<◌, [], length, take, slice_get, Some, IfOk, IfErr, true};
+ghost use Rattle.std.specs.Prelude.{◌≡◌, ◌<◌, ◌≤◌, ◌^◌, [], length, take, slice_get, Some, IfOk, IfErr, true};
 ghost use Rattle.jfr_base.specs.Formats.{run, seen};
 ghost use Rattle.jfr_header.specs.Fronts.{Whole};
 ghost use Rattle.jfr_header.specs.Headers.{header_of};
@@ -17,7 +17,7 @@ ghost use Rattle.jfr_chunk.specs.Seen.{AreNoted, due};
 ghost use Rattle.jfr_chunk.specs.Stages.{AreFields, IsRefusedEvents};
 
 use crate::chunk::FieldsAt;
-use crate::notes::{Notes, short};
+use crate::notes::Notes;
 use jfr_base::{Flaw, ReadFault};
 use jfr_frame::{Framed, Frames};
 use jfr_header::{Header, read_header};
@@ -92,7 +92,10 @@ pub(crate) fn read_events(
     classes: &Classes,
     pools: &Pools,
 ) -> Result<EventIndex, ReadFault>
-    requires { AreRecords chunk.now frames.now }
+    requires whole { Whole chunk.now }
+    requires records { AreRecords chunk.now frames.now }
+    requires sound { Sound classes.now }
+    requires entries { length pools.now ≤ length chunk.now }
     ensures ok { IfOk result (λ index. AreFields chunk.now classes.now frames.now index.fields.items) }
     ensures noted { IfOk result (λ index. AreNoted (due pools.now classes.now chunk.now frames.now) 0 index.fields.items index.numbers.items) }
     ensures refused { IfErr result (IfFlawed (IsRefusedEvents chunk.now classes.now frames.now)) }
@@ -108,7 +111,11 @@ pub(crate) fn read_events(
         if notes.lacks {
             return Err(ReadFault::Memory);
         }
-        fields.push(kept_short(number, end, notes.numbers.len())?)?;
+        fields.push(FieldsAt {
+            record: number as u32,
+            end: end as u32,
+            noted: notes.numbers.len() as u32,
+        })?;
     }
     Ok(EventIndex {
         fields,
@@ -124,18 +131,6 @@ fn emptied(list: Vec<FieldsAt>, count: usize) -> Result<Vec<FieldsAt>, NoMemory>
     emptied.clear();
     emptied.reserve(count)?;
     Ok(emptied)
-}
-
-/// The fields of an event, kept short.
-#[inline]
-fn kept_short(number: usize, end: usize, noted: usize) -> Result<FieldsAt, NoMemory>
-    ensures { IfOk result (λ fields. fields ≡ record { «record» = number; end = end; noted = noted }) }
-{
-    Ok(FieldsAt {
-        record: short(number)?,
-        end: short(end)?,
-        noted: short(noted)?,
-    })
 }
 
 /// The record of a number.
@@ -163,6 +158,7 @@ fn fields_end(
     requires sound { Sound classes.now }
     requires event { IsEventSlot classes.now frame.type_id slot.now }
     requires record { IsRecord chunk.now frame }
+    requires entries { length pools.now < 2 ^ 32 }
     ensures exact { result ≡ seen (run (value_format classes.now (inline frame.type_id)) chunk.now (record_end frame) frame.body) }
     ensures noted { IfOk result (λ end. Noted (node_entries pools.now classes.now chunk.now (node_at (inline frame.type_id) frame.body end)) notes.old notes.new) }
 {

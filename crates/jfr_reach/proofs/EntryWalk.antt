@@ -9,7 +9,7 @@ use Rattle.jfr_pool.specs.declared.entry.EntryAt.{EntryAt}
 use Rattle.jfr_pool.specs.Entries.{IsInForce, entry_node, in_force, number_in_force}
 use Rattle.jfr_chunk.specs.Parts.{Parts, EventAt, AreParts, events_of}
 use Rattle.jfr_chunk.specs.Reach.{IsMarked, Reached, all_targets, nodes_of, roots, next_entries, marked, kept_by, marked_at, swept, reached_marks, led_to}
-use Rattle.jfr_chunk.proofs.ForceLaws.{last_in_force}
+use Rattle.jfr_chunk.proofs.ForceLaws.{force_within, last_in_force}
 use Rattle.jfr_chunk.proofs.Members.{In, in_those}
 use Rattle.jfr_chunk.proofs.ReachedLaws.{reached_marked}
 use Rattle.jfr_chunk.proofs.StandingLaws.{standing, event_is}
@@ -17,7 +17,6 @@ use Rattle.jfr_chunk.proofs.SweepLaws.{Reach, root, more, AllBelow, marks_reach}
 use Rattle.jfr_reach.specs.Worklists.{ordered_all}
 use Rattle.jfr_reach.specs.Walks.{event_leaves, entry_leaves}
 use Rattle.jfr_reach.proofs.BoundLaws.{leaves_bound}
-use Rattle.jfr_reach.proofs.KeyLaws.{force_within}
 use Rattle.jfr_reach.proofs.WalkLaws.{Walking, all_size, listed_found, walking_ends, started, went_on}
 
 -- an entry that something refers to is in force

@@ -1,14 +1,13 @@
 -- The loop over the events.
 use Rattle.std.specs.Prelude.{◌≡◌, ℕ, zero, suc, ◌+◌, ◌<◌, ◌≤◌, Bool, true, false, List, [], ◌∷◌, ◌++◌, length, drop, slice_get, Option, Some, None, option_and_then, option_map, option_to_list, if◌then◌else◌}
-use Rattle.std.specs.List.{AllByRecursion, cons_option, filter_map, list_all}
+use Rattle.std.specs.List.{AllByRecursion, list_all}
 use Rattle.std.proofs.Common.{ap, arith, refl, sym, ◌∙◌, inl, inr, subst}
 use Rattle.std.proofs.lemmas.List.{append_assoc, append-nil, length-append}
-use Rattle.jfr_value.specs.Leaves.{leaf_target, leaves}
 use Rattle.jfr_value.specs.Nodes.{targets}
-use Rattle.jfr_value.proofs.TargetLaws.{refers_parts}
 use Rattle.jfr_pool.specs.Entries.{number_in_force}
 use Rattle.jfr_chunk.specs.Parts.{Parts, EventAt, AreParts, events_of}
-use Rattle.jfr_chunk.specs.Reach.{add, those, node_entries, all_targets, nodes_of, roots, marked, kept_by, marked_at}
+use Rattle.jfr_chunk.specs.Reach.{those, node_entries, all_targets, nodes_of, roots, marked, kept_by, marked_at}
+use Rattle.jfr_chunk.proofs.CountLaws.{references_few}
 use Rattle.jfr_chunk.proofs.Members.{In}
 use Rattle.jfr_chunk.proofs.NotedLaws.{those_append}
 use Rattle.jfr_chunk.proofs.StandingLaws.{event_is, standing}
@@ -32,30 +31,8 @@ kept_in keep es i e h = by_flag (slice_get keep i) h
     by_flag (Some true) h = get_in es i e h
     by_flag (Some false) h = cc
 
--- a node refers to at most as many entries as it has leaves
-those_length : {A B : Type 0} (f : A → Option B) (xs : List A) → length (those f xs) ≤ length xs
-those_length f [] = omega arith
-those_length {B = B} f (x ∷ xs) = by_value (f x) (those_length f xs)
-  where
-    by_value : (o : Option B) → length (those f xs) ≤ length xs → length (add o (those f xs)) ≤ suc (length xs)
-    by_value None h = omega arith
-    by_value (Some y) h = omega arith
-
-filter_length : {A B : Type 0} (f : A → Option B) (xs : List A) → length (filter_map f xs) ≤ length xs
-filter_length f [] = omega arith
-filter_length {B = B} f (x ∷ xs) = by_value (f x) (filter_length f xs)
-  where
-    by_value : (o : Option B) → length (filter_map f xs) ≤ length xs → length (cons_option o (filter_map f xs)) ≤ suc (length xs)
-    by_value None h = omega arith
-    by_value (Some y) h = omega arith
-
 entries_few : (p : Parts) → AreParts p → (e : EventAt) → In (events_of p) e → length (node_entries p.entries p.classes p.bytes e.node) ≤ node_leaves p e.node
-entries_few p parts e i =
-    let v = event_is p parts e i in
-    let t = ap length (refers_parts p.classes (standing p parts).sound p.bytes e.node v.value v.node).leaves_too in
-    let a = those_length (number_in_force p.entries) (targets p.classes p.bytes e.node) in
-    let b = filter_length leaf_target (leaves p.classes p.bytes e.node) in
-    omega arith
+entries_few p parts e i = let v = event_is p parts e i in references_few p.classes (standing p parts).sound p.bytes p.entries e.node v.value v.node
 
 -- the entries to which the event of a number refers where it is kept
 pub record KeptEntries (p : Parts) (keep : List Bool) (i : ℕ) (numbers : List ℕ) : Type 0 where

@@ -6,7 +6,6 @@ use Rattle.jfr_value.specs.Visits.{TakesAll}
 use Rattle.jfr_pool.specs.declared.entry.EntryAt.{EntryAt}
 use Rattle.jfr_pool.specs.Entries.{number_in_force}
 use Rattle.jfr_chunk.specs.Reach.{add, those, marked_at}
-use Rattle.jfr_chunk.proofs.ForceLaws.{forced}
 use Rattle.jfr_reach.specs.declared.worklist.Worklist.{Worklist}
 use Rattle.jfr_reach.specs.Worklists.{ordered, ordered_all}
 use Rattle.jfr_reach.specs.Walks.{Puts}
@@ -38,6 +37,3 @@ puts_all es (t ∷ ts) old new h = by_number (number_in_force es t) (those (numb
 -- one number more of a list
 pub puts_more : (xs : List ℕ) (n : ℕ) (a b c : Worklist) → n < length xs → Puts (take n xs) a b → c.flags.items ≡ slice_set b.flags.items (slice_index_or xs n 0) true → c.order.items ≡ ordered b.flags.items b.order.items (slice_index_or xs n 0) → Puts (take (n + 1) xs) a c
 puts_more xs n a b c h p x y = subst (λ z. Puts z a c) (sym (take_more xs n 0 h)) (puts_then (take n xs) (slice_index_or xs n 0 ∷ []) a b c p (record { marks = x; order = y }))
-
-pub force_within : (es : List EntryAt) (t : ℕ × ℕ) (i : ℕ) → number_in_force es t ≡ Some i → i < length es
-force_within es t i e = (forced es t i e).within

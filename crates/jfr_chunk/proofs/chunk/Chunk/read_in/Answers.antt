@@ -1,6 +1,6 @@
 use Rattle.std.proofs.Common.{refl, sym, ◌∙◌}
 use Rattle.std.proofs.lemmas.Result.{err_from_is_err_and}
-use Rattle.jfr_chunk.proofs.Reading.{named, told, told_of, parts_told, records_refused, metadata_refused, metadata_record, checkpoint_refused, checkpoint_starts, chain_refused, body_refused, entries_refused, events_refused, indexed}
+use Rattle.jfr_chunk.proofs.Reading.{named, told, told_of, parts_told, records_refused, metadata_refused, metadata_record, checkpoint_refused, checkpoint_starts, chain_refused, body_refused, entries_refused, entries_within, events_refused, indexed}
 use Rattle.jfr_chunk.proofs.chunk.Chunk.read_in.Goals as goal
 
 pub returns-in_err-frames-clause-exact : goal.returns-in_err-frames-clause-exact
@@ -53,6 +53,9 @@ returns-in_err-pools-clause-refused c =
 
 pub returns-in_err-pools-clause-exact : goal.returns-in_err-pools-clause-exact
 returns-in_err-pools-clause-exact c = told_of _ _ _ c.requires.long c.from_residual-in_err-pools.ensures.0 (returns-in_err-pools-clause-refused c)
+
+pub read_events-requires-clause-entries : goal.read_events-requires-clause-entries
+read_events-requires-clause-entries c = entries_within _ _ _ _ (named _ _ _ _ c.header_in-header.ensures c.in_ok-frames.ensures.ok (sym c.in_ok-metadata_frame.was ∙ c.record_named.ensures)) _ (sym c.in_ok-record_named.was ∙ c.record_named-2.ensures) c.in_ok-chain.chain c.in_ok-chain.ensures.ok _ _ c.in_ok-metadata.ensures.ok c.in_ok-pools.pools c.in_ok-pools.ensures.ok
 
 pub returns-in_err-index-clause-refused : goal.returns-in_err-index-clause-refused
 returns-in_err-index-clause-refused c =

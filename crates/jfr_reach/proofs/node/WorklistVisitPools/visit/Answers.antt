@@ -1,5 +1,5 @@
 use Rattle.std.proofs.Common.{◌≡◌, ◌<◌, length, arith, sym}
-use Rattle.jfr_reach.proofs.KeyLaws.{force_within}
+use Rattle.jfr_chunk.proofs.ForceLaws.{force_within}
 use Rattle.jfr_reach.proofs.node.WorklistVisitPools.visit.Goals as goal
 
 pub put-requires : goal.put-requires

@@ -1,0 +1,125 @@
+-- Records, and what events refer to, are no more than the bytes of a chunk up to them.
+use Rattle.std.specs.Prelude.{◌≡◌, ℕ, suc, ◌+◌, ◌^◌, ◌<◌, ◌≤◌, List, [], ◌∷◌, ◌++◌, drop, length, Option, Some, None, Ok, Err, slice_get}
+use Rattle.std.specs.List.{cons_option, filter_map}
+use Rattle.std.proofs.Common.{ap, arith, refl, ◌∙◌, subst}
+use Rattle.std.proofs.lemmas.List.{length-append}
+use Rattle.jfr_base.specs.Formats.{Answer, run, seen}
+use Rattle.jfr_base.proofs.Exact.{Says, run_says}
+use Rattle.jfr_header.specs.Fronts.{Whole}
+use Rattle.jfr_header.proofs.Steps.{size_bounds}
+use Rattle.jfr_layout.specs.Classes.{Classes, Sound}
+use Rattle.jfr_frame.specs.declared.framed.Framed.{Framed}
+use Rattle.jfr_frame.specs.Records.{AreRecords, IsRecord, Tiles, record_end}
+use Rattle.jfr_frame.proofs.RecordLaws.{some_bytes, tiles_order}
+use Rattle.jfr_value.specs.Values.{Value}
+use Rattle.jfr_value.specs.Leaves.{leaf_target, leaves}
+use Rattle.jfr_value.specs.Nodes.{IsNode, NodeAt, node_at, targets}
+use Rattle.jfr_value.specs.Reading.{value_format}
+use Rattle.jfr_value.proofs.NodeLaws.{read_node}
+use Rattle.jfr_value.proofs.TargetLaws.{node_leaves_within, refers_parts}
+use Rattle.jfr_pool.specs.declared.entry.EntryAt.{EntryAt}
+use Rattle.jfr_pool.specs.Entries.{inline, number_in_force}
+use Rattle.jfr_chunk.specs.Reach.{add, node_entries, those}
+use Rattle.jfr_chunk.proofs.EventReading.{drop_at, record_of}
+
+-- a whole chunk is below the size that is refused
+pub whole_small : (c : List ℕ) → Whole c → length c < 2 ^ 28
+whole_small c w = subst (λ n. n < 2 ^ 28) w.size (size_bounds _ w.flawless).1
+
+-- up to a record there are no more records, and no more numbers are noted, than there are bytes
+pub record Counted (c : List ℕ) (rs : List Framed) (n noted : ℕ) : Type 0 where
+  pub at : ℕ
+  pub left : Tiles c at (drop n rs) (length c)
+  pub records : n ≤ at
+  pub numbers : noted ≤ at
+
+pub record IsWithin (c : List ℕ) (n noted : ℕ) : Type 0 where
+  pub records : n ≤ length c
+  pub numbers : noted ≤ length c
+
+module _ (c : List ℕ) (rs : List Framed) where
+  pub counted_none : (noted : ℕ) → AreRecords c rs → noted ≡ 0 → Counted c rs 0 noted
+  counted_none noted t e = record { at = 68; left = t; records = omega arith; numbers = omega arith }
+
+  pub counted_next : (n noted more : ℕ) (r : Framed) → slice_get rs n ≡ Some r → more ≤ noted + r.size → Counted c rs n noted → Counted c rs (n + 1) more
+  counted_next n noted more r g m h =
+      let t : Tiles c h.at (r ∷ drop (n + 1) rs) (length c) = subst (λ z. Tiles c h.at z (length c)) (drop_at rs n r g) h.left in
+      let s : r.at < r.at + r.size = some_bytes c r t.1 in
+      let a : r.at ≡ h.at = t.0 in
+      let i = h.records in
+      let j = h.numbers in
+      record { at = record_end r; left = t.2; records = omega arith; numbers = omega arith }
+
+  pub counted_within : (n noted : ℕ) → Counted c rs n noted → IsWithin c n noted
+  counted_within n noted h =
+      let o = tiles_order c h.at (length c) (drop n rs) h.left in
+      let i = h.records in
+      let j = h.numbers in
+      record { records = omega arith; numbers = omega arith }
+
+-- a node refers to at most as many entries as it has leaves
+those_length : {A B : Type 0} (f : A → Option B) (xs : List A) → length (those f xs) ≤ length xs
+those_length f [] = omega arith
+those_length {B = B} f (x ∷ xs) = by_value (f x) (those_length f xs)
+  where
+    by_value : (o : Option B) → length (those f xs) ≤ length xs → length (add o (those f xs)) ≤ suc (length xs)
+    by_value None h = omega arith
+    by_value (Some y) h = omega arith
+
+filter_length : {A B : Type 0} (f : A → Option B) (xs : List A) → length (filter_map f xs) ≤ length xs
+filter_length f [] = omega arith
+filter_length {B = B} f (x ∷ xs) = by_value (f x) (filter_length f xs)
+  where
+    by_value : (o : Option B) → length (filter_map f xs) ≤ length xs → length (cons_option o (filter_map f xs)) ≤ suc (length xs)
+    by_value None h = omega arith
+    by_value (Some y) h = omega arith
+
+module _ (k : Classes) (sound : Sound k) (c : List ℕ) where
+  -- what begins at a record's body and ends in the record has at most as many leaves as that has bytes
+  pub leaves_few : (r : Framed) (n : NodeAt) (v : Value) → IsRecord c r → n.at ≡ r.body → n.end ≤ record_end r → IsNode k c n v → length (leaves k c n) ≤ r.size
+  leaves_few r n v i e w j =
+      let b = node_leaves_within k sound c n v j in
+      let o : r.at ≤ r.type_at = i.size_spelled.order in
+      let q : r.type_at ≤ r.body = i.type_spelled.order in
+      omega arith
+
+  module _ (es : List EntryAt) where
+    pub references_few : (n : NodeAt) (v : Value) → IsNode k c n v → length (node_entries es k c n) ≤ length (leaves k c n)
+    references_few n v i =
+        let t = ap length (refers_parts k sound c n v i).leaves_too in
+        let a = those_length (number_in_force es) (targets k c n) in
+        let b = filter_length leaf_target (leaves k c n) in
+        omega arith
+
+    -- the fields of an event end in its record, and refer to at most as many entries as that has bytes
+    record FieldsWithin (r : Framed) (end : ℕ) : Type 0 where
+      within : end ≤ length c
+      few : length (node_entries es k c (node_at (inline r.type_id) r.body end)) ≤ r.size
+
+    fields_within : (r : Framed) (end : ℕ) → IsRecord c r → Ok end ≡ seen (run (value_format k (inline r.type_id)) c (record_end r) r.body) → FieldsWithin r end
+    fields_within r end i e = by_answer (run (value_format k (inline r.type_id)) c (record_end r) r.body) (run_says (value_format k (inline r.type_id)) c (record_end r) r.body i.covers i.within) e
+      where
+        by_answer : (a : Answer Value) → Says (value_format k (inline r.type_id)) c (record_end r) r.body a → Ok end ≡ seen a → FieldsWithin r end
+        by_answer (Err flaw) s e = cc
+        by_answer (Ok g) s e =
+            let p : g.place ≡ end = cc in
+            let m = read_node k (inline r.type_id) c (record_end r) r.body g.place g.value i.within i.covers s in
+            let n = subst (λ z. IsNode k c (node_at (inline r.type_id) r.body z) g.value) p m.0 in
+            let w : end ≤ record_end r = subst (λ z. z ≤ record_end r) p m.1 in
+            let a = references_few (node_at (inline r.type_id) r.body end) g.value n in
+            let b = leaves_few r (node_at (inline r.type_id) r.body end) g.value i refl w n in
+            let x : record_end r ≤ length c = i.within in
+            record { within = omega arith; few = omega arith }
+
+    -- an event more: what is kept of it is no more than the bytes of the chunk
+    pub record CountedEvent (rs : List Framed) (n end : ℕ) (more : List ℕ) : Type 0 where
+      pub within : end ≤ length c
+      pub counted : Counted c rs (n + 1) (length more)
+
+    pub counted_event : (rs : List Framed) (n end : ℕ) (r : Framed) (numbers more : List ℕ) → AreRecords c rs → slice_get rs n ≡ Some r → Ok end ≡ seen (run (value_format k (inline r.type_id)) c (record_end r) r.body)
+        → more ≡ numbers ++ node_entries es k c (node_at (inline r.type_id) r.body end) → Counted c rs n (length numbers) → CountedEvent rs n end more
+    counted_event rs n end r numbers more t g e m h =
+        let f = fields_within r end (record_of c rs n r t g) e in
+        let x = f.few in
+        let l : length more ≡ length numbers + length (node_entries es k c (node_at (inline r.type_id) r.body end)) = ap length m ∙ length-append numbers (node_entries es k c (node_at (inline r.type_id) r.body end)) in
+        record { within = f.within; counted = counted_next c rs n (length numbers) (length more) r g (omega arith) h }
