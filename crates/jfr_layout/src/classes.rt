@@ -101,8 +101,7 @@ impl Classes {
     /// events.
     #[inline]
     pub fn event_slot(&self, id: u64) -> Option<Slot>
-        ensures exact { MatchOption result (is_event_class self.now id ≡ false) (IsEventSlot self.now id) }
-        ensures sound { IfSome result (λ _. Sound self.now) }
+        ensures { MatchOption result (is_event_class self.now id ≡ false) (IsEventSlot self.now id) }
     {
         if id <= LAST_OWN_TYPE {
             return None;

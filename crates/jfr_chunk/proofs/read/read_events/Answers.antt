@@ -20,7 +20,7 @@ loop-number-init c = record {
 
 pub loop-number-preserved-in_default : goal.loop-number-preserved-in_default
 loop-number-preserved-in_default c = record {
-  read = read_other c.args.chunk.now c.args.classes.now c.args.frames.now c.loop-number.number c.loop-number.fields.items c.record_at-frame.result c.record_at-frame.ensures c.in_default.ensures.exact c.loop-number.invariant.read;
+  read = read_other c.args.chunk.now c.args.classes.now c.args.frames.now c.loop-number.number c.loop-number.fields.items c.record_at-frame.result c.record_at-frame.ensures c.in_default.ensures c.loop-number.invariant.read;
   counted = counted_next c.args.chunk.now c.args.frames.now c.loop-number.number _ _ c.record_at-frame.result c.record_at-frame.ensures (omega arith) c.loop-number.invariant.counted;
   lacks_none = c.loop-number.invariant.lacks_none;
   noted = c.loop-number.invariant.noted;
@@ -61,7 +61,7 @@ pub loop-number-preserved : goal.loop-number-preserved
 loop-number-preserved c = record {
   read =
       subst (ReadTo c.args.chunk.now c.args.classes.now c.args.frames.now (c.loop-number.number + 1)) (sym (c.in_ok-push.ensures.items))
-      (read_event c.args.chunk.now c.args.classes.now c.args.frames.now c.loop-number.number c.loop-number.fields.items c.record_at-frame.result c.in_ok-end.end c.len-in-loop-number.result c.record_at-frame.ensures c.in-Some.ensures.exact.event (sym c.in_ok-end.was ∙ c.fields_end.ensures.exact) c.loop-number.invariant.read);
+      (read_event c.args.chunk.now c.args.classes.now c.args.frames.now c.loop-number.number c.loop-number.fields.items c.record_at-frame.result c.in_ok-end.end c.len-in-loop-number.result c.record_at-frame.ensures c.in-Some.ensures.event (sym c.in_ok-end.was ∙ c.fields_end.ensures.exact) c.loop-number.invariant.read);
   counted = (
       counted_event c.args.classes.now c.requires.sound c.args.chunk.now c.args.pools.now c.args.frames.now c.loop-number.number c.in_ok-end.end c.record_at-frame.result c.loop-number.notes.numbers.items c.fields_end.new.notes.numbers.items
       c.requires.records c.record_at-frame.ensures (sym c.in_ok-end.was ∙ c.fields_end.ensures.exact) (c.in_ok-end.ensures.noted.appended c.if-notes.false) c.loop-number.invariant.counted).counted;
@@ -75,7 +75,7 @@ loop-number-preserved c = record {
 pub returns-in_err-end-clause-refused : goal.returns-in_err-end-clause-refused
 returns-in_err-end-clause-refused c =
     let p = err_from_is_err_and c.from_residual-in_err-end.result c.from_residual-in_err-end.ensures.1 in
-    rw (p.1, p.2) (read_stops c.args.chunk.now c.args.classes.now c.args.frames.now c.loop-number.number c.loop-number.fields.items c.record_at-frame.result c.in_err-end.field-0.0 c.requires.records c.record_at-frame.ensures c.in-Some.ensures.exact.event (sym c.in_err-end.was ∙ c.fields_end.ensures.exact) c.loop-number.invariant.read)
+    rw (p.1, p.2) (read_stops c.args.chunk.now c.args.classes.now c.args.frames.now c.loop-number.number c.loop-number.fields.items c.record_at-frame.result c.in_err-end.field-0.0 c.requires.records c.record_at-frame.ensures c.in-Some.ensures.event (sym c.in_err-end.was ∙ c.fields_end.ensures.exact) c.loop-number.invariant.read)
 
 pub returns-clause-ok : goal.returns-clause-ok
 returns-clause-ok c = read_all c.args.chunk.now c.args.classes.now c.args.frames.now c.loop-number.number c.loop-number.fields.items c.requires.records (omega (arith, c.loop-number-test.false, c.len-number-end.ensures)) c.loop-number.invariant.read
