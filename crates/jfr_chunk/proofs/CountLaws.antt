@@ -33,9 +33,9 @@ pub record Counted (c : List ℕ) (rs : List Framed) (n noted : ℕ) : Type 0 wh
   pub records : n ≤ at
   pub numbers : noted ≤ at
 
-pub record IsWithin (c : List ℕ) (n noted : ℕ) : Type 0 where
-  pub records : n ≤ length c
-  pub numbers : noted ≤ length c
+record IsWithin (c : List ℕ) (n noted : ℕ) : Type 0 where
+  records : n ≤ length c
+  numbers : noted ≤ length c
 
 module _ (c : List ℕ) (rs : List Framed) where
   pub counted_none : (noted : ℕ) → AreRecords c rs → noted ≡ 0 → Counted c rs 0 noted
@@ -50,12 +50,15 @@ module _ (c : List ℕ) (rs : List Framed) where
       let j = h.numbers in
       record { at = record_end r; left = t.2; records = omega arith; numbers = omega arith }
 
-  pub counted_within : (n noted : ℕ) → Counted c rs n noted → IsWithin c n noted
+  counted_within : (n noted : ℕ) → Counted c rs n noted → IsWithin c n noted
   counted_within n noted h =
       let o = tiles_order c h.at (length c) (drop n rs) h.left in
       let i = h.records in
       let j = h.numbers in
       record { records = omega arith; numbers = omega arith }
+
+  pub number_fits : (n noted : ℕ) → Whole c → Counted c rs n noted → n < 2 ^ 32
+  number_fits n noted w h = let z = whole_small c w in let o = counted_within n noted h in omega (arith, o.records)
 
 -- a node refers to at most as many entries as it has leaves
 those_length : {A B : Type 0} (f : A → Option B) (xs : List A) → length (those f xs) ≤ length xs
@@ -111,15 +114,20 @@ module _ (k : Classes) (sound : Sound k) (c : List ℕ) where
             let x : record_end r ≤ length c = i.within in
             record { within = omega arith; few = omega arith }
 
-    -- an event more: what is kept of it is no more than the bytes of the chunk
+    -- what is kept of an event has 32 bits, and the next record is counted
     pub record CountedEvent (rs : List Framed) (n end : ℕ) (more : List ℕ) : Type 0 where
-      pub within : end ≤ length c
+      pub end_fits : end < 2 ^ 32
+      pub numbers_fit : length more < 2 ^ 32
       pub counted : Counted c rs (n + 1) (length more)
 
-    pub counted_event : (rs : List Framed) (n end : ℕ) (r : Framed) (numbers more : List ℕ) → AreRecords c rs → slice_get rs n ≡ Some r → Ok end ≡ seen (run (value_format k (inline r.type_id)) c (record_end r) r.body)
+    pub counted_event : (rs : List Framed) (n end : ℕ) (r : Framed) (numbers more : List ℕ) → Whole c → AreRecords c rs → slice_get rs n ≡ Some r → Ok end ≡ seen (run (value_format k (inline r.type_id)) c (record_end r) r.body)
         → more ≡ numbers ++ node_entries es k c (node_at (inline r.type_id) r.body end) → Counted c rs n (length numbers) → CountedEvent rs n end more
-    counted_event rs n end r numbers more t g e m h =
+    counted_event rs n end r numbers more w t g e m h =
         let f = fields_within r end (record_of c rs n r t g) e in
         let x = f.few in
+        let y = f.within in
+        let z = whole_small c w in
         let l : length more ≡ length numbers + length (node_entries es k c (node_at (inline r.type_id) r.body end)) = ap length m ∙ length-append numbers (node_entries es k c (node_at (inline r.type_id) r.body end)) in
-        record { within = f.within; counted = counted_next c rs n (length numbers) (length more) r g (omega arith) h }
+        let i : Counted c rs (n + 1) (length more) = counted_next c rs n (length numbers) (length more) r g (omega arith) h in
+        let o = counted_within c rs (n + 1) (length more) i in
+        record { end_fits = omega arith; numbers_fit = omega (arith, o.numbers); counted = i }

@@ -17,5 +17,5 @@ mod tests;
 pub use chunk::Chunk;
 pub use event::Event;
 pub use kept::Kept;
-pub use room::Room;
 pub use laws::{computed_answer, marked_by_paths, one_answer, one_in_force, one_parts, same_paths};
+pub use room::Room;

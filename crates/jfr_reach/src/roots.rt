@@ -30,12 +30,7 @@ pub(crate) fn put_roots<L: Ledger>(
 }
 
 /// The same, of one event after another.
-fn put_events<L: Ledger>(
-    list: &mut Worklist,
-    chunk: &Chunk<'_>,
-    kept: &Kept,
-    steps: &mut Steps<L>,
-)
+fn put_events<L: Ledger>(list: &mut Worklist, chunk: &Chunk<'_>, kept: &Kept, steps: &mut Steps<L>)
     requires size { length list.old.flags.items ≡ length chunk.now.entries }
     requires parts { AreParts chunk.now }
     ensures puts { Puts (roots chunk.now (kept_by chunk.now kept.now)) list.old list.new }

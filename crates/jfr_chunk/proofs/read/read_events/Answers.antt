@@ -1,8 +1,7 @@
-use Rattle.std.proofs.Common.{length, ◌+◌, ◌++◌, [], ◌∷◌, ap, sym, ◌∙◌, subst, arith}
+use Rattle.std.proofs.Common.{length, ◌+◌, ap, sym, ◌∙◌, subst, arith}
 use Rattle.std.proofs.lemmas.Result.{err_from_is_err_and}
-use Rattle.jfr_chunk.specs.declared.chunk.FieldsAt.{FieldsAt}
 use Rattle.jfr_chunk.specs.Seen.{AreNoted, due}
-use Rattle.jfr_chunk.proofs.CountLaws.{counted_none, counted_next, counted_within, counted_event, whole_small}
+use Rattle.jfr_chunk.proofs.CountLaws.{counted_none, counted_next, counted_event, number_fits, whole_small}
 use Rattle.jfr_chunk.proofs.EventReading.{ReadTo, record_of, read_none, read_other, read_event, read_stops, read_all}
 use Rattle.jfr_chunk.proofs.NotedLaws.{event_noted}
 use Rattle.jfr_chunk.proofs.read.read_events.Goals as goal
@@ -33,41 +32,31 @@ fields_end-requires-clause-entries c =
     omega arith
 
 pub overflow_cast-number : goal.overflow_cast-number
-overflow_cast-number c =
-    let w = whole_small c.args.chunk.now c.requires.whole in
-    let n = (counted_within c.args.chunk.now c.args.frames.now c.loop-number.number _ c.loop-number.invariant.counted).records in
-    omega arith
+overflow_cast-number c = let f = number_fits c.args.chunk.now c.args.frames.now c.loop-number.number _ c.requires.whole c.loop-number.invariant.counted in omega arith
 
 pub overflow_cast-end : goal.overflow_cast-end
 overflow_cast-end c =
-    let w = whole_small c.args.chunk.now c.requires.whole in
-    let n = (
-      counted_event c.args.classes.now c.requires.sound c.args.chunk.now c.args.pools.now c.args.frames.now c.loop-number.number c.in_ok-end.end c.record_at-frame.result c.loop-number.notes.numbers.items c.fields_end.new.notes.numbers.items
-      c.requires.records c.record_at-frame.ensures (sym c.in_ok-end.was ∙ c.fields_end.ensures.exact) (c.in_ok-end.ensures.noted.appended c.if-notes.false) c.loop-number.invariant.counted
-    ).within in
-    omega arith
+    let e = counted_event c.args.classes.now c.requires.sound c.args.chunk.now c.args.pools.now c.args.frames.now c.loop-number.number c.in_ok-end.end _ _ _ c.requires.whole c.requires.records
+    c.record_at-frame.ensures (sym c.in_ok-end.was ∙ c.fields_end.ensures.exact) (c.in_ok-end.ensures.noted.appended c.if-notes.false) c.loop-number.invariant.counted in
+    omega (arith, e.end_fits)
 
 pub overflow_cast-len : goal.overflow_cast-len
 overflow_cast-len c =
-    let w = whole_small c.args.chunk.now c.requires.whole in
-    let n = (
-      counted_event c.args.classes.now c.requires.sound c.args.chunk.now c.args.pools.now c.args.frames.now c.loop-number.number c.in_ok-end.end c.record_at-frame.result c.loop-number.notes.numbers.items c.fields_end.new.notes.numbers.items
-      c.requires.records c.record_at-frame.ensures (sym c.in_ok-end.was ∙ c.fields_end.ensures.exact) (c.in_ok-end.ensures.noted.appended c.if-notes.false) c.loop-number.invariant.counted
-    ).counted in
-    let l = (counted_within c.args.chunk.now c.args.frames.now (c.loop-number.number + 1) (length c.fields_end.new.notes.numbers.items) n).numbers in
-    omega (arith, c.len-in-loop-number.ensures)
+    let e = counted_event c.args.classes.now c.requires.sound c.args.chunk.now c.args.pools.now c.args.frames.now c.loop-number.number c.in_ok-end.end _ _ _ c.requires.whole c.requires.records
+    c.record_at-frame.ensures (sym c.in_ok-end.was ∙ c.fields_end.ensures.exact) (c.in_ok-end.ensures.noted.appended c.if-notes.false) c.loop-number.invariant.counted in
+    omega (arith, e.numbers_fit, c.len-in-loop-number.ensures)
 
 pub loop-number-preserved : goal.loop-number-preserved
 loop-number-preserved c = record {
   read =
-      subst (ReadTo c.args.chunk.now c.args.classes.now c.args.frames.now (c.loop-number.number + 1)) (sym (c.in_ok-push.ensures.items))
+      subst (ReadTo c.args.chunk.now c.args.classes.now c.args.frames.now (c.loop-number.number + 1)) (sym c.in_ok-push.ensures.items)
       (read_event c.args.chunk.now c.args.classes.now c.args.frames.now c.loop-number.number c.loop-number.fields.items c.record_at-frame.result c.in_ok-end.end c.len-in-loop-number.result c.record_at-frame.ensures c.in-Some.ensures.event (sym c.in_ok-end.was ∙ c.fields_end.ensures.exact) c.loop-number.invariant.read);
-  counted = (
-      counted_event c.args.classes.now c.requires.sound c.args.chunk.now c.args.pools.now c.args.frames.now c.loop-number.number c.in_ok-end.end c.record_at-frame.result c.loop-number.notes.numbers.items c.fields_end.new.notes.numbers.items
-      c.requires.records c.record_at-frame.ensures (sym c.in_ok-end.was ∙ c.fields_end.ensures.exact) (c.in_ok-end.ensures.noted.appended c.if-notes.false) c.loop-number.invariant.counted).counted;
+  counted =
+      (counted_event c.args.classes.now c.requires.sound c.args.chunk.now c.args.pools.now c.args.frames.now c.loop-number.number c.in_ok-end.end _ _ _ c.requires.whole c.requires.records
+      c.record_at-frame.ensures (sym c.in_ok-end.was ∙ c.fields_end.ensures.exact) (c.in_ok-end.ensures.noted.appended c.if-notes.false) c.loop-number.invariant.counted).counted;
   lacks_none = c.if-notes.false;
   noted =
-      subst (λ z. AreNoted (due c.args.pools.now c.args.classes.now c.args.chunk.now c.args.frames.now) 0 z c.fields_end.new.notes.numbers.items) (sym (c.in_ok-push.ensures.items))
+      subst (λ z. AreNoted (due c.args.pools.now c.args.classes.now c.args.chunk.now c.args.frames.now) 0 z c.fields_end.new.notes.numbers.items) (sym c.in_ok-push.ensures.items)
       (event_noted c.args.pools.now c.args.classes.now c.args.chunk.now c.args.frames.now c.loop-number.number c.in_ok-end.end c.len-in-loop-number.result c.record_at-frame.result c.loop-number.fields.items c.loop-number.notes.numbers.items c.fields_end.new.notes.numbers.items
       c.record_at-frame.ensures (c.in_ok-end.ensures.noted.appended c.if-notes.false) (omega (arith, c.len-in-loop-number.ensures)) c.loop-number.invariant.noted);
 }
