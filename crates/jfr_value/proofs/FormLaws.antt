@@ -1,14 +1,12 @@
 -- What the form of a slot says of its shape and its kind.
-use Rattle.std.specs.Prelude.{◌≡◌, ◌≢◌, ◌⊎◌, ℕ, Bool, true, false, None, ⊤, if◌then◌else◌}
+use Rattle.std.specs.Prelude.{◌≡◌, ◌≢◌, ◌⊎◌, ℕ, Bool, true, false, ⊤, if◌then◌else◌}
 use Rattle.std.proofs.Common.{ap, inl, inr, refl, subst, sym, ◌∙◌}
-use Rattle.jfr_base.specs.Formats.{Done, Int, Run, unchecked}
 use Rattle.jfr_layout.specs.Classes.{form_of, inline_form}
 use Rattle.jfr_layout.specs.declared.form.Form.{Form}
 use Rattle.jfr_layout.specs.declared.form.Form.TheVariants as forms
 use Rattle.jfr_layout.specs.declared.kind.Kind.{Kind}
 use Rattle.jfr_layout.specs.declared.kind.Kind.TheVariants as kinds
 use Rattle.jfr_layout.specs.declared.slot.Slot.{Slot}
-use Rattle.jfr_value.specs.Reading.{base_format}
 
 -- the form is that of an inline value
 abbrev pub IsInline : Form → Type 0
@@ -74,30 +72,6 @@ module _ (s : Slot) (h : s.form ≡ form_of s.shape s.kind) where
   plain_there (inr e) = plain_of s (forms.Raw e.0) (inline_there (forms.Raw e.0) e.1 tt) (λ q. cc) (λ q. cc)
 
 -- the kinds of a form
-pub integer_kind : (kind : Kind) → forms.Integer ≡ inline_form kind → base_format kind ≡ Int unchecked (λ v spelled. Done None)
-integer_kind kinds.Char e = refl
-integer_kind kinds.Short e = refl
-integer_kind kinds.Int e = refl
-integer_kind kinds.Long e = refl
-integer_kind kinds.Boolean e = cc
-integer_kind kinds.Byte e = cc
-integer_kind kinds.Float e = cc
-integer_kind kinds.Double e = cc
-integer_kind kinds.Text e = cc
-integer_kind kinds.Composite e = cc
-
-pub raw_kind : (n : ℕ) (kind : Kind) → forms.Raw n ≡ inline_form kind → base_format kind ≡ Run n (λ bytes. Done None)
-raw_kind n kinds.Boolean e = let h : n ≡ 1 = cc in ap (λ m. Run m (λ bytes. Done None)) (sym h)
-raw_kind n kinds.Byte e = let h : n ≡ 1 = cc in ap (λ m. Run m (λ bytes. Done None)) (sym h)
-raw_kind n kinds.Float e = let h : n ≡ 4 = cc in ap (λ m. Run m (λ bytes. Done None)) (sym h)
-raw_kind n kinds.Double e = let h : n ≡ 8 = cc in ap (λ m. Run m (λ bytes. Done None)) (sym h)
-raw_kind n kinds.Char e = cc
-raw_kind n kinds.Short e = cc
-raw_kind n kinds.Int e = cc
-raw_kind n kinds.Long e = cc
-raw_kind n kinds.Text e = cc
-raw_kind n kinds.Composite e = cc
-
 pub text_kind : (kind : Kind) → forms.Text ≡ inline_form kind → kind ≡ kinds.Text
 text_kind kinds.Text e = refl
 text_kind kinds.Boolean e = cc

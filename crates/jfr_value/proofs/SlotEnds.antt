@@ -1,9 +1,9 @@
 -- Where a value of a slot ends, and what is taken of it, by the slot's form.
 use Rattle.std.specs.Prelude.{◌≡◌, ◌≢◌, ℕ, ◌+◌, ◌-◌, ◌≤◌, Bool, true, false, List, [], ◌∷◌, map, slice_get, Some, IfOk, IfSome, option_map, option_to_list, if◌then◌else◌}
 use Rattle.std.specs.List.{AllByRecursion}
-use Rattle.std.proofs.Common.{ap, arith, refl, subst, sym, ◌∙◌}
+use Rattle.std.proofs.Common.{ap, arith, subst, sym, ◌∙◌}
 use Rattle.jfr_base.specs.Formats.{Answer, Format, Done, Int, for_each, run, seen, unchecked}
-use Rattle.jfr_layout.specs.Classes.{AreSlots, Classes, Field, IsSlot, item_of, slot_with}
+use Rattle.jfr_layout.specs.Classes.{AreSlots, Classes, Field, IsSlot, item_of}
 use Rattle.jfr_layout.specs.declared.form.Form.{Form}
 use Rattle.jfr_layout.specs.declared.form.Form.TheVariants as forms
 use Rattle.jfr_layout.specs.declared.kind.Kind.TheVariants as kinds
@@ -107,10 +107,3 @@ room_within k s levels ss p e r a =
     let c = slot_class k s (p.of_class i.constant) in
     room_each k (levels - 1) c.class.fields ss (subst (λ o. IfSome o (λ c. AreSlots k c.fields ss)) c.there a).shapes
     (inner_room k levels s.shape c.class r i.constant c.found (sym c.kind ∙ fields_kind s.kind i.form)).1
-
--- the slot of an array's items
-pub item_placed : (k : Classes) (s : Slot) → IsPlaced k s → IsPlaced k (slot_with (item_of s.shape) s.place s.kind)
-item_placed k s p = record {
-  form = refl;
-  of_class = λ o. (let i : IsSlot k s = p.of_class o in record { place = i.place; kind = i.kind; form = refl });
-}

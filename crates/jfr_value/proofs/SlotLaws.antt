@@ -54,13 +54,10 @@ no_slot = record { shape = record { class = 0; constant = false; array = false }
 pub slot_there : (ss : List Slot) (i : ℕ) → i < length ss → slice_get ss i ≡ Some (get_or ss i no_slot)
 slot_there ss i l = slice_get-get_or ss i no_slot l
 
-pub all_at : (P : Slot → Type 0) (ss : List Slot) (i : ℕ) → AllByRecursion P ss → i < length ss → P (get_or ss i no_slot)
-all_at P [] i a l = absurd (omega arith)
-all_at P (s ∷ ss) zero a l = a.0
-all_at P (s ∷ ss) (suc i) a l = all_at P ss i a.1 (omega arith)
-
 pub slots_at : (k : Classes) (ss : List Slot) (i : ℕ) → AllByRecursion (IsSlot k) ss → i < length ss → IsSlot k (get_or ss i no_slot)
-slots_at k ss i a l = all_at (IsSlot k) ss i a l
+slots_at k [] i a l = absurd (omega arith)
+slots_at k (s ∷ ss) zero a l = a.0
+slots_at k (s ∷ ss) (suc i) a l = slots_at k ss i a.1 (omega arith)
 
 pub placed_at : (k : Classes) (ss : List Slot) (i : ℕ) → AllByRecursion (IsSlot k) ss → i < length ss → IsPlaced k (get_or ss i no_slot)
 placed_at k ss i a l = let s : IsSlot k (get_or ss i no_slot) = slots_at k ss i a l in record { form = s.form; of_class = λ o. s }
