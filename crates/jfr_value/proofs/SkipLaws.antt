@@ -6,9 +6,7 @@ use Rattle.jfr_base.specs.declared.integer.Var.{Var}
 use Rattle.jfr_base.specs.declared.reason.Reason.TheVariants.{Short}
 use Rattle.jfr_base.specs.Integer.{worth_within}
 use Rattle.jfr_base.specs.Formats.{Done, Int, after_int, front_within, int_at, integer, run, seen, unchecked}
-use Rattle.jfr_base.proofs.Exact.{int_found}
-use Rattle.jfr_base.proofs.OneAnswer.{int_computed, none_computed}
-use Rattle.jfr_base.proofs.OneInt.{int_one}
+use Rattle.jfr_base.proofs.Ends.{ends_by, ends_past}
 use Rattle.jfr_base.proofs.Ranges.{range_cons, range_none}
 use Rattle.jfr_layout.specs.declared.kind.Kind.{Kind}
 use Rattle.jfr_layout.specs.declared.kind.Kind.TheVariants as kinds
@@ -45,21 +43,13 @@ unfolding run int_at
 int_short x end at e = ap (λ o. seen (after_int x at unchecked (λ v s p. run (Done v) x end p) (option_map (λ n. record { value = worth_within 8 (slice_range x at (at + n)); end = at + n }) o))) (sym e)
 
 -- an integer of the bytes ends by an end, too, that it doesn't pass, and by none that it passes
-ends_by : (x : List ℕ) (at end : ℕ) (v : Var) → at ≤ end → end ≤ length x → int_at x at (length x) ≡ Some v → v.end ≤ end → int_at x at end ≡ Some v
-ends_by x at end v h i e l = let w : at ≤ length x = omega arith in int_computed x at end v.end v.value h i (int_found x at (length x) v w (omega arith) e).0 l
-
-ends_past : (x : List ℕ) (at end : ℕ) (v : Var) → at ≤ end → end ≤ length x → int_at x at (length x) ≡ Some v → end < v.end → int_at x at end ≡ None
-ends_past x at end v h i e l =
-    let w : at ≤ length x = omega arith in
-    none_computed x at end h i (λ q u p m. (let f = int_one x at q v.end u v.value p (int_found x at (length x) v w (omega arith) e).0 in let g : q ≡ v.end = f.0 in omega arith))
-
 pub by_end : (x : List ℕ) (at end to : ℕ) → at ≤ end → end ≤ length x → Ok to ≡ seen (run integer x (length x) at) → to ≤ end → Ok to ≡ seen (run integer x end at)
 unfolding run
 by_end x at end to h i e l = by_int (int_at x at (length x)) refl e
   where
     by_int : (o : Option Var) → int_at x at (length x) ≡ o → Ok to ≡ seen (after_int x at unchecked (λ v s p. run (Done v) x (length x) p) o) → Ok to ≡ seen (after_int x at unchecked (λ v s p. run (Done v) x end p) (int_at x at end))
     by_int None q e = cc
-    by_int (Some v) q e = let g : to ≡ v.end = cc in e ∙ ap (λ o. seen (after_int x at unchecked (λ v s p. run (Done v) x end p) o)) (sym (ends_by x at end v h i q (omega arith)))
+    by_int (Some v) q e = let g : to ≡ v.end = cc in e ∙ ap (λ o. seen (after_int x at unchecked (λ v s p. run (Done v) x end p) o)) (sym (ends_by x at end (length x) v h i (omega arith) (omega arith) q (omega arith)))
 
 pub past_end : (x : List ℕ) (at end to : ℕ) → at ≤ end → end ≤ length x → Ok to ≡ seen (run integer x (length x) at) → end < to → Err (record { offset = at; reason = Short }) ≡ seen (run integer x end at)
 unfolding run
@@ -67,7 +57,7 @@ past_end x at end to h i e l = by_int (int_at x at (length x)) refl e
   where
     by_int : (o : Option Var) → int_at x at (length x) ≡ o → Ok to ≡ seen (after_int x at unchecked (λ v s p. run (Done v) x (length x) p) o) → Err (record { offset = at; reason = Short }) ≡ seen (after_int x at unchecked (λ v s p. run (Done v) x end p) (int_at x at end))
     by_int None q e = cc
-    by_int (Some v) q e = let g : to ≡ v.end = cc in ap (λ o. seen (after_int x at unchecked (λ v s p. run (Done v) x end p) o)) (sym (ends_past x at end v h i q (omega arith)))
+    by_int (Some v) q e = let g : to ≡ v.end = cc in ap (λ o. seen (after_int x at unchecked (λ v s p. run (Done v) x end p) o)) (sym (ends_past x at end (length x) v h i (omega arith) (omega arith) q (omega arith)))
 
 -- what is known between two groups, after so many of seven bits
 pub record Skipping (x : List ℕ) (at end passed : ℕ) : Type 0 where
