@@ -40,7 +40,7 @@ pub fn read_var(bytes: &[u8], at: usize) -> Result<Var, Short>
 
 /// Reads the integer that is spelled at a place and ends by `end`. Where none does, the flaw is
 /// `Short` at that place.
-#[inline]
+#[inline(always)]
 pub fn read_within(bytes: &[u8], at: usize, end: usize) -> Result<Var, Flaw>
     requires order { at ≤ end }
     requires within { end ≤ length bytes.now }
@@ -53,7 +53,7 @@ pub fn read_within(bytes: &[u8], at: usize, end: usize) -> Result<Var, Flaw>
 }
 
 /// The same, by computing.
-#[inline]
+#[inline(always)]
 fn var_within(bytes: &[u8], at: usize, end: usize) -> Result<Var, Flaw>
     requires order { at ≤ end }
     requires within { end ≤ length bytes.now }
