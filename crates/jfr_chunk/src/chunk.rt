@@ -41,7 +41,7 @@ const NO_CHECKPOINT: Flaw = Flaw {
 
 /// Where the fields of an event stand: the number of its record, and the place behind the last field;
 /// and how many numbers of entries are noted up to the last one to which it refers. A chunk has so many
-/// events that these are kept short.
+/// events that these are kept short: none is larger than the chunk.
 #[derive(Clone, Copy, Debug)]
 pub(crate) struct FieldsAt {
     pub record: u32,
