@@ -10,9 +10,8 @@ use Rattle.jfr_base.specs.declared.reason.Reason.TheVariants.{ClassBad, FieldBad
 use Rattle.jfr_base.specs.declared.flaw.Flaw.{Flaw}
 use Rattle.jfr_layout.specs.Classes.{Class, Classes, Field, ClassFlaw, class_faults}
 use Rattle.jfr_meta.specs.Trees.{Tree, Node, Trees, Nil, Cons, list_of, place_of, name_of, children_of}
-use Rattle.jfr_meta.specs.Body.{Body}
 use Rattle.jfr_meta.specs.Attributes.{text_at, attribute, named, values_of}
-use Rattle.jfr_meta.specs.Described.{class_elements, field_elements, class_head, shape_of, field_of, flaw_unless, field_flaws, class_flaws, heads, is_category, annotations_of, category_annotation, categories_of, class_of, classes_of, element_place, flaw_place, placed, list_flaws, tree_flaws, first_or, told, described}
+use Rattle.jfr_meta.specs.Described.{class_elements, field_elements, class_head, shape_of, field_of, flaw_unless, field_flaws, class_flaws, heads, is_category, annotations_of, categories_of, class_of, classes_of, element_place, flaw_place, placed, list_flaws, tree_flaws, first_or, told, described}
 use Rattle.jfr_meta.specs.Written.{bare, bares}
 
 -- Parts of a bare tree.

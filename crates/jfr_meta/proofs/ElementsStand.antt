@@ -1,16 +1,15 @@
 -- What the format of an element reads stands there, by cases on the tree.
-use Rattle.std.specs.Prelude.{◌≡◌, ℕ, zero, suc, ◌-◌, ◌<◌, ◌≤◌, List, [], ◌∷◌, length, Option, Some, None, Bool, true, false, nat_lt, if◌then◌else◌}
+use Rattle.std.specs.Prelude.{◌≡◌, ℕ, zero, suc, ◌-◌, ◌<◌, List, ◌∷◌, length, Some, None, Bool, true, false, nat_lt, if◌then◌else◌}
 use Rattle.std.proofs.Common.{ap, arith, refl, sym, ◌∙◌, subst}
 use Rattle.std.proofs.lemmas.Bool.{ltb-true}
-use Rattle.jfr_base.specs.declared.reason.Reason.{Reason}
 use Rattle.jfr_base.specs.declared.reason.Reason.TheVariants.{StringIndex}
 use Rattle.jfr_base.specs.Integer.{IntAt}
 use Rattle.jfr_base.specs.Formats.{Format, Done, Stop, ◌>>=◌, Reads, integer, times}
-use Rattle.jfr_base.proofs.ReadLaws.{Parted, reads_parted}
+use Rattle.jfr_base.proofs.ReadLaws.{reads_parted}
 use Rattle.jfr_frame.specs.declared.framed.Framed.{Framed}
 use Rattle.jfr_frame.specs.Records.{record_end}
 use Rattle.jfr_layout.specs.Classes.{Classes}
-use Rattle.jfr_meta.specs.Trees.{Tree, Node, Trees, Nil, Cons, tree, trees_of}
+use Rattle.jfr_meta.specs.Trees.{Tree, tree, trees_of}
 use Rattle.jfr_meta.specs.Body.{Body, table_string, index, index_check, pair, element_format, body_format, meta_format, ArePairs, IsElement, AreElements, how_many}
 use Rattle.jfr_meta.specs.Described.{IsMetadata}
 use Rattle.jfr_meta.specs.Heads.{head_format}

@@ -1,9 +1,7 @@
 -- A metadata record is read or refused, with one answer.
-use Rattle.std.specs.Prelude.{◌≡◌, ℕ, List, ◌⊎◌, Result, Ok, Err}
+use Rattle.std.specs.Prelude.{◌≡◌, ℕ, List, Ok, Err}
 use Rattle.std.proofs.Common.{ap, sym, ◌∙◌, inl, inr}
 use Rattle.jfr_base.specs.declared.flaw.Flaw.{Flaw}
-use Rattle.jfr_base.specs.declared.reason.Reason.{Reason}
-use Rattle.jfr_base.specs.Formats.{Reads, Fails}
 use Rattle.jfr_base.specs.Laws.{HasOneAnswer}
 use Rattle.jfr_base.proofs.OneAnswer.{has_one_answer}
 use Rattle.jfr_frame.specs.declared.framed.Framed.{Framed}

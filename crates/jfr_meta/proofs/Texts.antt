@@ -1,5 +1,5 @@
 -- Texts as lists of characters.
-use Rattle.std.proofs.Common.{◌≡◌, ℕ, List, [], sym, ◌∙◌, ap, arith, refl, eqb-true}
+use Rattle.std.proofs.Common.{◌≡◌, ℕ, List, [], ◌∙◌, ap, arith, refl, eqb-true}
 use Rattle.std.specs.Prelude.{Option, Some, None, unwrap_or, suc, Bool, true, false, ◌&&◌, ◌==◌, ◌∷◌, length}
 use Rattle.jfr_meta.specs.Attributes.{not_empty}
 use Rattle.std.specs.Borrow.{Bor}

@@ -154,9 +154,37 @@ fn read_integers<'a>(bytes: &'a [u8], at: usize, end: usize) -> Result<Counted<'
     })
 }
 
-/// The place after so many integers.
-#[tactic(auto, using(jfr_base::proofs::SeenLaws::ends), unfolding(jfr_base::specs::Formats::run))]
+/// The place after so many integers. In most strings each has one byte.
 fn skip_integers(count: u64, bytes: &[u8], at: usize, end: usize) -> Result<usize, Flaw>
+    requires order { at ≤ end }
+    requires within { end ≤ length bytes.now }
+    ensures range { IfOk result (λ to. (at ≤ to) × (to ≤ end)) }
+    ensures exact { result ≡ seen (run (times count integer) bytes.now end at) }
+{
+    let from = skip_short_integers(count, bytes, at, end);
+    skip_each_integer(count - (from - at) as u64, bytes, from, end)
+}
+
+/// The place after the integers of one byte, of so many.
+#[inline(always)]
+fn skip_short_integers(count: u64, bytes: &[u8], at: usize, end: usize) -> usize
+    requires order { at ≤ end }
+    requires within { end ≤ length bytes.now }
+    ensures range { (at ≤ result) × (result ≤ end) × (result - at ≤ count) }
+    ensures exact { seen (run (times (count - (result - at)) integer) bytes.now end result) ≡ seen (run (times count integer) bytes.now end at) }
+{
+    let most = count.min((end - at) as u64) as usize;
+    for passed in 0..most {
+        if bytes[at + passed] >= 128 {
+            return at + passed;
+        }
+    }
+    at + most
+}
+
+/// The place after so many integers, one by one.
+#[tactic(auto, using(jfr_base::proofs::SeenLaws::ends), unfolding(jfr_base::specs::Formats::run))]
+fn skip_each_integer(count: u64, bytes: &[u8], at: usize, end: usize) -> Result<usize, Flaw>
     requires order { at ≤ end }
     requires within { end ≤ length bytes.now }
     ensures range { IfOk result (λ to. (at ≤ to) × (to ≤ end)) }
@@ -164,36 +192,7 @@ fn skip_integers(count: u64, bytes: &[u8], at: usize, end: usize) -> Result<usiz
 {
     let mut place = at;
     for _ in 0..count {
-        place = integer_end(bytes, place, end)?;
+        place = read_within(bytes, place, end)?.end;
     }
     Ok(place)
-}
-
-/// The place after an integer, of which most have one byte.
-#[inline(always)]
-fn integer_end(bytes: &[u8], at: usize, end: usize) -> Result<usize, Flaw>
-    requires order { at ≤ end }
-    requires within { end ≤ length bytes.now }
-    ensures range { IfOk result (λ to. (at ≤ to) × (to ≤ end)) }
-    ensures exact { result ≡ seen (run integer bytes.now end at) }
-{
-    if at < end && bytes[at] < 128 {
-        return Ok(at + 1);
-    }
-    long_integer_end(bytes, at, end)
-}
-
-/// The same, where it has more bytes, or does not end in time.
-#[tactic(auto, using(jfr_base::proofs::SeenLaws::ends), unfolding(jfr_base::specs::Formats::run))]
-#[inline(never)]
-fn long_integer_end(bytes: &[u8], at: usize, end: usize) -> Result<usize, Flaw>
-    requires order { at ≤ end }
-    requires within { end ≤ length bytes.now }
-    ensures range { IfOk result (λ to. (at ≤ to) × (to ≤ end)) }
-    ensures exact { result ≡ seen (run integer bytes.now end at) }
-{
-    match read_within(bytes, at, end) {
-        Ok(integer) => Ok(integer.end),
-        Err(flaw) => Err(flaw),
-    }
 }

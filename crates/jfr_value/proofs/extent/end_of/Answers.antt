@@ -1,4 +1,4 @@
-use Rattle.std.proofs.Common.{◌≡◌, ◌∙◌, ap}
+use Rattle.std.proofs.Common.{◌∙◌, ap}
 use Rattle.jfr_base.specs.Formats.{run, seen}
 use Rattle.jfr_value.specs.Reading.{value_format}
 use Rattle.jfr_value.proofs.AnswerLaws.{end_ok, end_refused, end_reason}

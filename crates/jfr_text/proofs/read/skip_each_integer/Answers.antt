@@ -3,17 +3,17 @@ use Rattle.std.specs.Prelude.{Ok}
 use Rattle.jfr_base.specs.Formats.{Done, times, integer, run, seen}
 use Rattle.jfr_base.proofs.SeenLaws.{seen-times, then_at}
 use Rattle.jfr_text.proofs.ReadSteps.{int_there, done_there}
-use Rattle.jfr_text.proofs.read.skip_integers.Goals as goal
+use Rattle.jfr_text.proofs.read.skip_each_integer.Goals as goal
 
 pub loop-preserved : goal.loop-preserved
 loop-preserved c =
     let x = c.args.bytes.now in
     let end = c.args.end in
     let rest = c.args.count - (c.loop.counter + 1) in
-    let to = c.in_ok-place.place in
+    let v = c.in_ok-place.field-0 in
     let left : c.args.count - c.loop.counter ≡ suc rest = omega arith in
-    let ends : seen (run integer x end c.loop.place) ≡ Ok to = sym c.in_ok-place.ensures.exact in
-    let one : seen (run (times (c.args.count - c.loop.counter) integer) x end c.loop.place) ≡ seen (run (times rest integer) x end to) =
+    let ends : seen (run integer x end c.loop.place) ≡ Ok v.end = ap seen (int_there x end c.loop.place (λ w s. Done w) v c.in_ok-place.ensures.exact ∙ done_there x end v.end v.value) in
+    let one : seen (run (times (c.args.count - c.loop.counter) integer) x end c.loop.place) ≡ seen (run (times rest integer) x end v.end) =
     ap (λ n. seen (run (times n integer) x end c.loop.place)) left ∙ (seen-times rest integer x end c.loop.place ∙ ap (λ r. then_at r (λ p. seen (run (times rest integer) x end p))) ends) in
     record {
       from = omega (arith, c.in_ok-place.ensures.range, c.loop.invariant.from);

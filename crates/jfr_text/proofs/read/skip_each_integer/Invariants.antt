@@ -1,6 +1,6 @@
 use Rattle.std.proofs.Common.{◌≡◌, ◌-◌, ◌≤◌}
 use Rattle.jfr_base.specs.Formats.{times, integer, run, seen}
-use Rattle.jfr_text.proofs.read.skip_integers.Given as goal
+use Rattle.jfr_text.proofs.read.skip_each_integer.Given as goal
 
 abbrev pub invariant-loop : goal.invariant-loop
 invariant-loop l = record {
