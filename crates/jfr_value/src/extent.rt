@@ -47,7 +47,7 @@ pub fn end_of(
 /// Where a value of a slot ends, as `end_of` says it. On the way the class and the key of each reference,
 /// and of each string that is a key, are handed to a visitor, from left to right. After a flaw it has
 /// taken some of them.
-#[inline]
+#[inline(always)]
 pub fn end_visiting<C, V: Visit<C>>(
     classes: &Classes,
     slot: &Slot,
@@ -71,8 +71,37 @@ pub fn end_visiting<C, V: Visit<C>>(
 }
 
 /// The same, as the format computes it.
-#[inline]
+#[inline(always)]
 fn value_end<C, V: Visit<C>>(
+    classes: &Classes,
+    slot: &Slot,
+    bytes: &[u8],
+    at: usize,
+    end: usize,
+    visitor: &mut V,
+    with: &C,
+) -> Result<usize, Flaw>
+    requires sound { Sound classes.now }
+    requires slot { IsSlot classes.now slot.now }
+    requires order { at ≤ end }
+    requires within { end ≤ length bytes.now }
+    requires ready { V.ready visitor.old with.now }
+    ensures exact { result ≡ seen (run (value_format classes.now slot.now.shape) bytes.now end at) }
+    ensures visited { TakesRead (V.takes with.now) (run (value_format classes.now slot.now.shape) bytes.now end at) visitor.old visitor.new }
+    ensures ready { V.ready visitor.new with.now }
+{
+    match slot.form {
+        Form::Fields => {
+            let fields = classes.slots(slot.place);
+            row_end(classes, fields, bytes, at, end, STEPS - 1, visitor, with)
+        }
+        _ => other_end(classes, slot, bytes, at, end, visitor, with),
+    }
+}
+
+/// The same, of a value that is no row of fields.
+#[inline]
+fn other_end<C, V: Visit<C>>(
     classes: &Classes,
     slot: &Slot,
     bytes: &[u8],
@@ -404,8 +433,8 @@ fn compound_end<C, V: Visit<C>>(
 /// Where the values of slots end, one after another.
 #[cycle(ends)]
 #[tactic(auto, using(jfr_base::proofs::SeenLaws::ends), unfolding(jfr_base::specs::Formats::run, crate::specs::Reading::class_format))]
-#[inline(never)]
-fn fields_end<C, V: Visit<C>>(
+#[inline(always)]
+fn row_end<C, V: Visit<C>>(
     classes: &Classes,
     slots: &[Slot],
     bytes: &[u8],
@@ -430,6 +459,33 @@ fn fields_end<C, V: Visit<C>>(
         to = slot_end(classes, slot, bytes, to, end, levels, visitor, with)?;
     }
     Ok(to)
+}
+
+/// The same, apart from the walk over the value in which they stand.
+#[cycle(ends)]
+#[tactic(auto, using(jfr_base::proofs::SeenLaws::ends), unfolding(jfr_base::specs::Formats::run, crate::specs::Reading::class_format))]
+#[inline(never)]
+fn fields_end<C, V: Visit<C>>(
+    classes: &Classes,
+    slots: &[Slot],
+    bytes: &[u8],
+    at: usize,
+    end: usize,
+    levels: u32,
+    visitor: &mut V,
+    with: &C,
+) -> Result<usize, Flaw>
+    requires slots { AllByRecursion (IsSlot classes.now) slots.now }
+    requires room { AllByRecursion (λ s. Room classes.now levels s.shape) slots.now }
+    requires order { at ≤ end }
+    requires within { end ≤ length bytes.now }
+    requires ready { V.ready visitor.old with.now }
+    ensures exact { result ≡ seen (run (for_each slots.now (λ s. shape_format (class_format (levels + 1) classes.now) s.shape)) bytes.now end at) }
+    ensures range { IfOk result (λ to. (at ≤ to) × (to ≤ end)) }
+    ensures visited { TakesReadAll (V.takes with.now) (run (for_each slots.now (λ s. shape_format (class_format (levels + 1) classes.now) s.shape)) bytes.now end at) visitor.old visitor.new }
+    ensures ready { V.ready visitor.new with.now }
+{
+    row_end(classes, slots, bytes, at, end, levels, visitor, with)
 }
 
 /// Where an array ends.

@@ -50,15 +50,15 @@ pub compound_end-returns-in_ok-to-in-Fields-clause-visited : goal.compound_end-r
 compound_end-returns-in_ok-to-in-Fields-clause-visited g t c =
     fields_go c.args.classes.now c.args.slot.now c.args.levels c.args.bytes.now c.args.end c.args.at c.requires.placed (g.V.Visit.takes c.args.with.now) c.args.visitor.now c.fields_end.new.visitor c.slots-fields.result.now c.in-Fields.is c.requires.room c.slots-fields.ensures.exact c.fields_end.ensures.visited
 
-pub fields_end-returns-in_err-to : goal.fields_end-returns-in_err-to
-fields_end-returns-in_err-to g t c =
+pub row_end-returns-in_err-to : goal.row_end-returns-in_err-to
+row_end-returns-in_err-to g t c =
     let p = err_from_is_err_and c.from_residual.result c.from_residual.ensures.1 in
     let e = after_err _ _ _ _ _ (each_step (λ s. shape_format (class_format (c.args.levels + 1) c.args.classes.now) s.shape) c.args.slots.now c.loop-slot.slot-index (get_or c.args.slots.now c.loop-slot.slot-index no_slot) c.args.bytes.now c.args.end c.loop-slot.to (slot_there c.args.slots.now c.loop-slot.slot-index c.loop-slot-test.true))
     (sym c.slot_end.ensures.exact ∙ c.in_err-to.was) c.loop-slot.invariant.same in
     record { exact = rw (p.1, p.2) e; range = rw (p.1) tt; visited = no_value _ _ _ e; ready = c.slot_end.ensures.ready }
 
-pub fields_end-loop-slot-preserved : goal.fields_end-loop-slot-preserved
-fields_end-loop-slot-preserved g t c =
+pub row_end-loop-slot-preserved : goal.row_end-loop-slot-preserved
+row_end-loop-slot-preserved g t c =
     let f : Slot → Format Value = λ s. shape_format (class_format (c.args.levels + 1) c.args.classes.now) s.shape in
     let there = slot_there c.args.slots.now c.loop-slot.slot-index c.loop-slot-test.true in
     let ends = sym c.slot_end.ensures.exact ∙ c.in_ok-to.was in

@@ -6,19 +6,22 @@ use Rattle.jfr_value.proofs.TakingLaws.{TakesLeft}
 use Rattle.jfr_value.proofs.extent.+ends.Given as goal
 
 abbrev pub decreases-slot_end : goal.decreases-slot_end
-decreases-slot_end g l = 6 * l.levels + (if l.slot.now.shape.array then 4 else 1)
+decreases-slot_end g l = 7 * l.levels + (if l.slot.now.shape.array then 4 else 1)
 
 abbrev pub decreases-compound_end : goal.decreases-compound_end
-decreases-compound_end g l = 6 * l.levels + (if l.slot.now.shape.array then 3 else 0)
+decreases-compound_end g l = 7 * l.levels + (if l.slot.now.shape.array then 3 else 0)
 
 abbrev pub decreases-array_end : goal.decreases-array_end
-decreases-array_end g l = 6 * l.levels + 2
+decreases-array_end g l = 7 * l.levels + 2
+
+abbrev pub decreases-row_end : goal.decreases-row_end
+decreases-row_end g l = 7 * l.levels + 5
 
 abbrev pub decreases-fields_end : goal.decreases-fields_end
-decreases-fields_end g l = 6 * l.levels + 5
+decreases-fields_end g l = 7 * l.levels + 6
 
-abbrev pub invariant-fields_end-loop-slot : goal.invariant-fields_end-loop-slot
-invariant-fields_end-loop-slot g l = record {
+abbrev pub invariant-row_end-loop-slot : goal.invariant-row_end-loop-slot
+invariant-row_end-loop-slot g l = record {
   from : l.at ≤ l.to;
   upto : l.to ≤ l.end;
   same : seen (run (for_each (drop l.slot-index l.slots) (λ s. shape_format (class_format (l.levels + 1) l.classes) s.shape)) l.bytes l.end l.to)
