@@ -8,6 +8,8 @@ use Rattle.jfr_base.specs.Integer.{worth_within}
 use Rattle.jfr_base.specs.Formats.{Done, Int, after_int, front_within, int_at, integer, run, seen, unchecked}
 use Rattle.jfr_base.proofs.Ends.{ends_by, ends_past}
 use Rattle.jfr_base.proofs.Ranges.{range_cons, range_none}
+use Rattle.jfr_text.proofs.IntegerSteps.{one_byte}
+use Rattle.jfr_text.proofs.ReadSteps.{int_there, done_there}
 use Rattle.jfr_layout.specs.declared.kind.Kind.{Kind}
 use Rattle.jfr_layout.specs.declared.kind.Kind.TheVariants as kinds
 use Rattle.jfr_value.specs.Reading.{base_format}
@@ -105,3 +107,9 @@ skip_end x at end passed s l h t =
 
 pub skip_short : (x : List ℕ) (at end passed : ℕ) → Skipping x at end passed → end ≤ at + passed → Err (record { offset = at; reason = Short }) ≡ seen (run integer x end at)
 skip_short x at end passed s l = int_short x end at (s.same ∙ ap (λ y. option_map (λ n. passed + n) (front_within (8 - passed) y)) (range_none x (at + passed) end l))
+
+-- a key of one byte
+pub key_of_one_byte : (x : List ℕ) (at end byte : ℕ) → at < end → end ≤ length x → byte ≡ slice_index x at → slice_index x at < 128 → run integer x end at ≡ Ok (record { value = byte; place = at + 1 })
+key_of_one_byte x at end byte h i e j =
+    int_there x end at (λ v s. Done v) (record { value = slice_index x at; end = at + 1 }) (one_byte x at end h i j)
+    ∙ (done_there x end (at + 1) (slice_index x at) ∙ ap (λ v. Ok (record { value = v; place = at + 1 })) (sym e))

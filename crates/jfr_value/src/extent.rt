@@ -276,10 +276,36 @@ fn string_end(bytes: &[u8], at: usize, end: usize) -> Result<usize, Flaw>
     }
 }
 
-/// Where a reference of a class ends, whose key is handed on.
-#[tactic(auto, unfolding(jfr_base::specs::Formats::run))]
+/// Where a reference of a class ends, whose key is handed on. Most keys have one byte.
 #[inline(always)]
 fn key_end<C, V: Visit<C>>(
+    class: u64,
+    bytes: &[u8],
+    at: usize,
+    end: usize,
+    visitor: &mut V,
+    with: &C,
+) -> Result<usize, Flaw>
+    requires order { at ≤ end }
+    requires within { end ≤ length bytes.now }
+    requires ready { V.ready visitor.old with.now }
+    ensures exact { result ≡ seen (run integer bytes.now end at) }
+    ensures range { IfOk result (λ to. (at ≤ to) × (to ≤ end)) }
+    ensures visited { IfOk (run integer bytes.now end at) (λ key. V.takes with.now (class, key.value) visitor.old visitor.new) }
+    ensures ready { V.ready visitor.new with.now }
+{
+    if at < end && bytes[at] < 128 {
+        visitor.visit(with, class, u64::from(bytes[at]));
+        return Ok(at + 1);
+    }
+    let to = long_key_end(class, bytes, at, end, visitor, with)?;
+    Ok(to)
+}
+
+/// The same, where the key has more bytes, or does not end in time.
+#[tactic(auto, unfolding(jfr_base::specs::Formats::run))]
+#[inline(never)]
+fn long_key_end<C, V: Visit<C>>(
     class: u64,
     bytes: &[u8],
     at: usize,
