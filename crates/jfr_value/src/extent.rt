@@ -298,6 +298,28 @@ fn key_end<C, V: Visit<C>>(
         visitor.visit(with, class, u64::from(bytes[at]));
         return Ok(at + 1);
     }
+    far_key_end(class, bytes, at, end, visitor, with)
+}
+
+/// The same, of a key that may have more bytes. What the call answers is taken apart here, as in
+/// `compound_end`.
+#[inline(always)]
+fn far_key_end<C, V: Visit<C>>(
+    class: u64,
+    bytes: &[u8],
+    at: usize,
+    end: usize,
+    visitor: &mut V,
+    with: &C,
+) -> Result<usize, Flaw>
+    requires order { at ≤ end }
+    requires within { end ≤ length bytes.now }
+    requires ready { V.ready visitor.old with.now }
+    ensures exact { result ≡ seen (run integer bytes.now end at) }
+    ensures range { IfOk result (λ to. (at ≤ to) × (to ≤ end)) }
+    ensures visited { IfOk (run integer bytes.now end at) (λ key. V.takes with.now (class, key.value) visitor.old visitor.new) }
+    ensures ready { V.ready visitor.new with.now }
+{
     let to = long_key_end(class, bytes, at, end, visitor, with)?;
     Ok(to)
 }
@@ -361,6 +383,29 @@ fn text_end<C, V: Visit<C>>(
     }
 }
 
+/// The same, where what the call answers is taken apart, as in `compound_end`.
+#[inline(always)]
+fn string_key_end<C, V: Visit<C>>(
+    class: u64,
+    bytes: &[u8],
+    at: usize,
+    end: usize,
+    visitor: &mut V,
+    with: &C,
+) -> Result<usize, Flaw>
+    requires order { at ≤ end }
+    requires within { end ≤ length bytes.now }
+    requires ready { V.ready visitor.old with.now }
+    ensures exact { result ≡ seen (run (base_format kinds.Text) bytes.now end at) }
+    ensures range { IfOk result (λ to. (at ≤ to) × (to ≤ end)) }
+    ensures visited { IfOk (run (string_format true) bytes.now end at) (λ got.
+        TakesAll (V.takes with.now) (option_to_list (option_map (λ key. (class, key)) (key_of got.value))) visitor.old visitor.new) }
+    ensures ready { V.ready visitor.new with.now }
+{
+    let to = text_end(class, bytes, at, end, visitor, with)?;
+    Ok(to)
+}
+
 /// Where a value of a base name ends.
 #[tactic(auto, unfolding(jfr_base::specs::Formats::run))]
 pub(crate) fn base_end(kind: Kind, bytes: &[u8], at: usize, end: usize) -> Result<usize, Flaw>
@@ -407,14 +452,15 @@ pub(crate) fn slot_end<C, V: Visit<C>>(
         Form::Integer => integer_end(bytes, at, end),
         Form::Raw(count) => run_end(usize::from(count), at, end),
         Form::Key => key_end(slot.shape.class, bytes, at, end, visitor, with),
-        Form::Text | Form::Fields | Form::Array => {
+        Form::Text => string_key_end(slot.shape.class, bytes, at, end, visitor, with),
+        Form::Fields | Form::Array => {
             compound_end(classes, slot, bytes, at, end, levels, visitor, with)
         }
     }
 }
 
-/// Where a string, an inline value of a composite class or an array ends. What the calls answer is taken
-/// apart here, since it lies in memory, and with it would the answers of `slot_end` for other forms.
+/// Where an inline value of a composite class or an array ends. What the calls answer is taken apart here,
+/// since it lies in memory, and with it would the answers of `slot_end` for other forms.
 #[cycle(ends)]
 #[tactic(auto, using(jfr_base::proofs::SeenLaws::ends), unfolding(jfr_base::specs::Formats::run, crate::specs::Reading::class_format))]
 #[inline(always)]
@@ -428,7 +474,7 @@ fn compound_end<C, V: Visit<C>>(
     visitor: &mut V,
     with: &C,
 ) -> Result<usize, Flaw>
-    requires compound { (slot.now.form ≡ forms.Text) ⊎ ((slot.now.form ≡ forms.Fields) ⊎ (slot.now.form ≡ forms.Array)) }
+    requires compound { (slot.now.form ≡ forms.Fields) ⊎ (slot.now.form ≡ forms.Array) }
     requires placed { IsPlaced classes.now slot.now }
     requires room { Room classes.now levels slot.now.shape }
     requires order { at ≤ end }
@@ -440,10 +486,6 @@ fn compound_end<C, V: Visit<C>>(
     ensures ready { V.ready visitor.new with.now }
 {
     match slot.form {
-        Form::Text => {
-            let to = text_end(slot.shape.class, bytes, at, end, visitor, with)?;
-            Ok(to)
-        }
         Form::Fields => {
             let fields = classes.slots(slot.place);
             let to = fields_end(classes, fields, bytes, at, end, levels - 1, visitor, with)?;

@@ -23,22 +23,16 @@ compound_end-fields_end-requires g t c κs within =
     let room : AllByRecursion (λ s. Room c.args.classes.now (c.args.levels - 1) s.shape) c.slots-fields.result.now = room_within c.args.classes.now c.args.slot.now c.args.levels c.slots-fields.result.now c.requires.placed c.in-Fields.is c.requires.room c.slots-fields.ensures.exact in
     search (rules, slots, room, left)
 
-pub compound_end-returns-in_err-to-in-Text : goal.compound_end-returns-in_err-to-in-Text
-compound_end-returns-in_err-to-in-Text g t c =
-    let p = err_from_is_err_and c.from_residual.result c.from_residual.ensures.1 in
-    let e = sym c.in_err-to-in-Text.was ∙ (c.text_end.ensures.exact ∙ text_ends c.args.classes.now c.args.slot.now c.args.levels c.args.bytes.now c.args.end c.args.at c.requires.placed c.in-Text.is) in
-    record { exact = rw (p.1, p.2) e; range = rw (p.1) tt; visited = no_value _ _ _ e; ready = c.text_end.ensures.ready }
+pub slot_end-returns-in-Text-clause-exact : goal.slot_end-returns-in-Text-clause-exact
+slot_end-returns-in-Text-clause-exact g t c = c.string_key_end.ensures.exact ∙ text_ends c.args.classes.now c.args.slot.now c.args.levels c.args.bytes.now c.args.end c.args.at c.requires.placed c.in-Text.is
 
-pub compound_end-returns-in_ok-to-in-Text-clause-exact : goal.compound_end-returns-in_ok-to-in-Text-clause-exact
-compound_end-returns-in_ok-to-in-Text-clause-exact g t c = sym c.in_ok-to-in-Text.was ∙ (c.text_end.ensures.exact ∙ text_ends c.args.classes.now c.args.slot.now c.args.levels c.args.bytes.now c.args.end c.args.at c.requires.placed c.in-Text.is)
-
-pub compound_end-returns-in_ok-to-in-Text-clause-visited : goal.compound_end-returns-in_ok-to-in-Text-clause-visited
-compound_end-returns-in_ok-to-in-Text-clause-visited g t c =
-    text_taken c.args.classes.now c.args.slot.now c.args.levels c.args.bytes.now c.args.end c.args.at c.requires.placed (g.V.Visit.takes c.args.with.now) c.args.visitor.now c.text_end.new.visitor c.in-Text.is c.text_end.ensures.visited
+pub slot_end-returns-in-Text-clause-visited : goal.slot_end-returns-in-Text-clause-visited
+slot_end-returns-in-Text-clause-visited g t c =
+    text_taken c.args.classes.now c.args.slot.now c.args.levels c.args.bytes.now c.args.end c.args.at c.requires.placed (g.V.Visit.takes c.args.with.now) c.args.visitor.now c.string_key_end.new.visitor c.in-Text.is c.string_key_end.ensures.visited
 
 pub compound_end-returns-in_err-to-in-Fields : goal.compound_end-returns-in_err-to-in-Fields
 compound_end-returns-in_err-to-in-Fields g t c =
-    let p = err_from_is_err_and c.from_residual-in_err-to-in-Fields.result c.from_residual-in_err-to-in-Fields.ensures.1 in
+    let p = err_from_is_err_and c.from_residual.result c.from_residual.ensures.1 in
     let e = sym c.in_err-to-in-Fields.was ∙ (c.fields_end.ensures.exact ∙ fields_end c.args.classes.now c.args.slot.now c.args.levels c.args.bytes.now c.args.end c.args.at c.requires.placed c.slots-fields.result.now c.in-Fields.is c.requires.room c.slots-fields.ensures.exact) in
     record { exact = rw (p.1, p.2) e; range = rw (p.1) tt; visited = no_value _ _ _ e; ready = c.fields_end.ensures.ready }
 
