@@ -1,5 +1,6 @@
 -- What stands outside, and how each call changes it.
 use Rattle.std.specs.Prelude.{◌≡◌, ℕ, Bool, List, [], ◌++◌, take, drop, Option, None, Some, unwrap_or, option_map, Result, Ok, Err}
+use Rattle.std.specs.List.{flat_map}
 use Rattle.std.specs.Borrow.{Bor}
 use Rattle.std.specs.Ordering.{nat_cmp}
 use Rattle.std.specs.Cmp.Lexicographic.{slice_cmp}
@@ -71,6 +72,10 @@ empty_world = record { files = map.empty; input = None; output = None }
 -- bytes after others
 abbrev pub added : List ℕ → List ℕ → List ℕ
 added bytes before = before ++ bytes
+
+-- the bytes of pieces, one behind another
+abbrev pub bytes_in : List (Bor (List ℕ)) → List ℕ
+bytes_in pieces = flat_map (λ p. p.now) pieces
 
 -- the bytes that a reference points to
 abbrev pub slice_of : Option (Bor (List ℕ)) → Option (List ℕ)

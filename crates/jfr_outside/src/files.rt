@@ -1,8 +1,8 @@
 // Files in memory.
-ghost use Rattle.std.specs.Prelude.{◌≡◌, ◌++◌, ℕ, List, [], OnOk, OnErr, unwrap_or};
+ghost use Rattle.std.specs.Prelude.{◌≡◌, ◌++◌, ℕ, List, [], IfOk, OnOk, OnErr, unwrap_or};
 ghost use Rattle.std.specs.FinMap as map;
 ghost use Rattle.jfr_outside.specs.Held.{files_of, IsHeld};
-ghost use Rattle.jfr_outside.specs.World.{slice_of};
+ghost use Rattle.jfr_outside.specs.World.{bytes_in, slice_of};
 
 use std::alloc::{AllocError, Global};
 use std::collections::BTreeMap;
@@ -49,4 +49,15 @@ pub fn set_file(
     let value = Vec::from_slice(alloc, bytes)?;
     files.insert(key, value)?;
     Ok(())
+}
+
+/// The bytes of pieces, one behind another.
+pub fn join(alloc: Global, pieces: &[&[u8]]) -> Result<Vec<u8>, AllocError>
+    ensures { IfOk result (λ joined. joined.items ≡ bytes_in pieces.now) }
+{
+    let mut joined = Vec::new(alloc);
+    for piece in pieces {
+        joined.extend_from_slice(piece)?;
+    }
+    Ok(joined)
 }

@@ -1,7 +1,7 @@
 // A place in memory, some of whose calls may be set to fail.
 ghost use Rattle.std.specs.Prelude.{◌≡◌, ◌≤◌, ◌<◌, ◌↔◌, ◌⊎◌, [], ◌∷◌, ◌++◌, length, take, Some, None, true, false, IsTrue, IsSome, IfSome, IfOk, OnOk, OnErr, IsErrOf, option_map};
 ghost use Rattle.jfr_outside.specs.MemoryPlace.{state_of, scripts_of, most_of};
-ghost use Rattle.jfr_outside.specs.World.{file, put, empty_world, slice_of, opened, taken, shut, created, appended, finished, unchanged, Leaves, LeavesPrefix};
+ghost use Rattle.jfr_outside.specs.World.{file, put, empty_world, bytes_in, slice_of, opened, taken, shut, created, appended, finished, unchanged, Leaves, LeavesPrefix};
 ghost use Rattle.jfr_outside.specs.Calls.{CountsRead, CountsWrite, KeepsPrefix};
 ghost use Rattle.jfr_outside.specs.Scripts.{kept, after_call, IsDue};
 ghost use Rattle.jfr_outside.specs.declared.fault.Fault.TheVariants.{Failed};
@@ -162,6 +162,24 @@ impl Place for MemoryPlace {
         match self.scripts.pass(Call::Append) {
             Some(keep) => Err(self.place.refuse_append(bytes, keep)),
             None => self.place.append(bytes),
+        }
+    }
+
+    fn append_pieces(&mut self, pieces: &[&[u8]]) -> Result<(), Fault>
+        ensures told { LeavesPrefix result (state_of self.old).told (state_of self.new).told (bytes_in pieces.now) appended }
+        ensures open { OnOk result (IfSome (state_of self.old).told (λ w. IsSome w.output)) }
+        ensures counted { CountsWrite result (state_of self.old) (state_of self.new) }
+        ensures steady { IsTrue (state_of self.old).steady → IsErrOf result Failed → IfSome (state_of self.old).told (λ w. w.output ≡ None) }
+
+        ensures keeps { IfSome (kept Append (scripts_of self.old)) (λ keep. KeepsPrefix keep (state_of self.old).told (state_of self.new).told (bytes_in pieces.now) appended) }
+        ensures due { IsDue Append (scripts_of self.old) → IsErrOf result Failed }
+        ensures cause { IsErrOf result Failed → IsDue Append (scripts_of self.old) ⊎ IfSome (state_of self.old).told (λ w. w.output ≡ None) }
+        ensures scripts { scripts_of self.new ≡ after_call Append (scripts_of self.old) }
+        ensures most { most_of self.new ≡ most_of self.old }
+    {
+        match self.scripts.pass(Call::Append) {
+            Some(keep) => Err(self.place.refuse_pieces(pieces, keep)),
+            None => self.place.append_pieces(pieces),
         }
     }
 

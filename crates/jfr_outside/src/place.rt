@@ -1,6 +1,6 @@
 // Files, one open input and one open output.
 ghost use Rattle.std.specs.Prelude.{◌≡◌, ◌<◌, ◌≤◌, ◌↔◌, ℕ, [], length, take, None, IsTrue, IsSome, IfSome, IfOk, OnOk, IsErrOf, option_map};
-ghost use Rattle.jfr_outside.specs.World.{State, file, opened, shut, taken, created, appended, finished, unchanged, Leaves, LeavesPrefix};
+ghost use Rattle.jfr_outside.specs.World.{State, file, bytes_in, opened, shut, taken, created, appended, finished, unchanged, Leaves, LeavesPrefix};
 ghost use Rattle.jfr_outside.specs.Counts.{Counts};
 ghost use Rattle.jfr_outside.specs.declared.fault.Fault.TheVariants.{Failed};
 
@@ -59,6 +59,17 @@ pub trait Place {
     /// Adds bytes at the end of the output; where it fails, a prefix of them.
     fn append(&mut self, bytes: &[u8]) -> Result<(), Fault>
         ensures told { LeavesPrefix result (state self.old).told (state self.new).told bytes.now appended }
+        ensures open { OnOk result (IfSome (state self.old).told (λ w. IsSome w.output)) }
+
+        ensures reads { (state self.new).read_faults ≡ (state self.old).read_faults }
+        ensures writes { Counts result (state self.old).write_faults (state self.new).write_faults }
+        ensures same { (state self.new).steady ≡ (state self.old).steady }
+        ensures steady { IsTrue (state self.old).steady → IsErrOf result Failed → IfSome (state self.old).told (λ w. w.output ≡ None) };
+
+    /// Adds pieces at the end of the output, one behind another, as one: where it fails, a prefix of all
+    /// their bytes.
+    fn append_pieces(&mut self, pieces: &[&[u8]]) -> Result<(), Fault>
+        ensures told { LeavesPrefix result (state self.old).told (state self.new).told (bytes_in pieces.now) appended }
         ensures open { OnOk result (IfSome (state self.old).told (λ w. IsSome w.output)) }
 
         ensures reads { (state self.new).read_faults ≡ (state self.old).read_faults }

@@ -2,12 +2,12 @@
 ghost use Rattle.std.specs.Prelude.{◌≡◌, ◌≤◌, ◌<◌, ◌↔◌, [], length, take, Some, None, true, IsSome, IfSome, IfOk, OnOk, OnErr, IsErrOf, option_map, string_bytes};
 ghost use Rattle.std.specs.Option.{ForSome};
 ghost use Rattle.jfr_outside.specs.Held.{files_of, IsHeld};
-ghost use Rattle.jfr_outside.specs.World.{file, put, empty_world, slice_of, opened, taken, shut, created, appended, finished, unchanged, Leaves, LeavesPrefix};
+ghost use Rattle.jfr_outside.specs.World.{file, put, empty_world, bytes_in, slice_of, opened, taken, shut, created, appended, finished, unchanged, Leaves, LeavesPrefix};
 ghost use Rattle.jfr_outside.specs.Calls.{CountsRead, CountsWrite, KeepsPrefix};
 ghost use Rattle.jfr_outside.specs.Counts.{Rose};
 ghost use Rattle.jfr_outside.specs.declared.fault.Fault.TheVariants.{Failed};
 
-use crate::files::{FileMap, file_in, grow_file, set_file};
+use crate::files::{FileMap, file_in, grow_file, join, set_file};
 use crate::source::Source;
 use crate::{Fault, NoMemory, Place};
 use std::alloc::Global;
@@ -131,6 +131,22 @@ impl SteadyPlace {
         }
         Fault::Failed
     }
+
+    // An append of pieces fails: the output keeps at most so many of their bytes, and none where memory is
+    // wanting.
+    pub(crate) fn refuse_pieces(&mut self, pieces: &[&[u8]], keep: usize) -> Fault
+        ensures failed { result ≡ Failed }
+        ensures told { KeepsPrefix keep (state_of self.old).told (state_of self.new).told (bytes_in pieces.now) appended }
+        ensures reads { (state_of self.new).read_faults ≡ (state_of self.old).read_faults }
+        ensures rose { Rose (state_of self.old).write_faults (state_of self.new).write_faults }
+        ensures writes { (state_of self.old).write_faults ≤ (state_of self.new).write_faults }
+        ensures most { most_of self.new ≡ most_of self.old }
+    {
+        match join(self.alloc, pieces) {
+            Ok(bytes) => self.refuse_append(&bytes, keep),
+            Err(_) => self.refuse_append(&[], 0),
+        }
+    }
 }
 
 impl Place for SteadyPlace {
@@ -210,6 +226,17 @@ impl Place for SteadyPlace {
             Some(name) => Ok(grow_file(&mut self.files, name.as_str(), bytes)?),
             None => Err(self.refuse_append(bytes, 0)),
         }
+    }
+
+    fn append_pieces(&mut self, pieces: &[&[u8]]) -> Result<(), Fault>
+        ensures told { LeavesPrefix result (state_of self.old).told (state_of self.new).told (bytes_in pieces.now) appended }
+        ensures open { OnOk result (IfSome (state_of self.old).told (λ w. IsSome w.output)) }
+        ensures counted { CountsWrite result (state_of self.old) (state_of self.new) }
+        ensures steady { IsErrOf result Failed → IfSome (state_of self.old).told (λ w. w.output ≡ None) }
+        ensures most { most_of self.new ≡ most_of self.old }
+    {
+        let bytes = join(self.alloc, pieces)?;
+        self.append(&bytes)
     }
 
     fn finish_output(&mut self) -> Result<(), Fault>

@@ -5,14 +5,17 @@ use crate::{
 use std::process::Abort;
 use std::test::Fail;
 
-// Copies the file a to a new file b, by four bytes a time.
+// Copies the file a to a new file b, by four bytes a time, which are appended whole or as two pieces by turns.
 fn copy<P: Place>(place: &mut P) -> Result<(), Fault> {
-    let mut piece = [0; 4];
+    let mut bytes = [0; 4];
     place.open_input("a")?;
     place.create_output("b")?;
-    for _ in 0..8 {
-        let count = place.read(&mut piece)?;
-        place.append(&piece[..count])?;
+    for _ in 0..4 {
+        let count = place.read(&mut bytes)?;
+        place.append(&bytes[..count])?;
+        let count = place.read(&mut bytes)?;
+        let (front, back) = bytes[..count].split_at(count / 2);
+        place.append_pieces(&[front, back])?;
     }
     place.shut_input();
     place.finish_output()
@@ -29,6 +32,7 @@ fn misuse<P: Place>(rt: &impl Abort, place: &mut P) {
     assert_eq!(rt; place.open_input("c"), Err(Fault::Failed));
     assert_eq!(rt; place.read(&mut [0; 4]), Err(Fault::Failed));
     assert_eq!(rt; place.append(b"x"), Err(Fault::Failed));
+    assert_eq!(rt; place.append_pieces(&[b"x"]), Err(Fault::Failed));
     assert_eq!(rt; place.finish_output(), Err(Fault::Failed));
     assert_eq!(rt; place.create_output("a"), Err(Fault::Failed));
     assert_eq!(rt; place.create_output("b"), Ok(()));

@@ -1,10 +1,12 @@
 // What a command makes of each chunk.
-ghost use Rattle.std.specs.Prelude.{◌≡◌, ℕ, List, Option, None, OnOk, IfErr};
+ghost use Rattle.std.specs.Prelude.{◌≡◌, ℕ, List, Option, None, OnOk, IfOk, IfErr};
 ghost use Rattle.jfr_base.specs.declared.flaw.Flaw.{Flaw};
 ghost use Rattle.jfr_header.specs.Fronts.{Whole};
+ghost use Rattle.jfr_outside.specs.World.{bytes_in};
 ghost use Rattle.jfr_plan.specs.Makes.{IsFlawOf};
 
 use jfr_base::ReadFault;
+use jfr_outside::NoMemory;
 use std::alloc::Global;
 
 /// Makes an output chunk of a chunk, or refuses the chunk.
@@ -15,17 +17,22 @@ pub trait Make: Drop {
     // The output chunk of a chunk that isn't refused.
     ghost becomes: { Self → List ℕ → List ℕ };
 
-    // The output chunk that was made last.
-    ghost last: { Self → List ℕ };
+    // Whether the last output chunk can be told, given this chunk, and which it is.
+    ghost holds: { Self → List ℕ → Type 0 };
 
-    /// Makes the output chunk of a whole chunk, and keeps it until the next call.
+    ghost last: { Self → List ℕ → List ℕ };
+
+    /// Makes the output chunk of a whole chunk.
     fn make(&mut self, alloc: Global, chunk: &[u8]) -> Result<(), ReadFault>
         requires { Whole chunk.now }
-        ensures ok { OnOk result ((refusal self.old chunk.now ≡ None) × (last self.new ≡ becomes self.old chunk.now)) }
+        ensures ok { OnOk result (refusal self.old chunk.now ≡ None) }
+        ensures held { OnOk result (holds self.new chunk.now) }
+        ensures made { OnOk result (last self.new chunk.now ≡ becomes self.old chunk.now) }
         ensures refused { IfErr result (IsFlawOf (refusal self.old chunk.now)) }
         ensures same { (refusal self.new ≡ refusal self.old) × (becomes self.new ≡ becomes self.old) };
 
-    /// The output chunk that was made last.
-    fn made(&self) -> &[u8]
-        ensures { result.now ≡ last self.now };
+    /// The pieces of the output chunk that was made last, of this chunk.
+    fn pieces<'c>(&'c self, alloc: Global, chunk: &'c [u8]) -> Result<Vec<&'c [u8]>, NoMemory>
+        requires { holds self.now chunk.now }
+        ensures { IfOk result (λ pieces. bytes_in pieces.items ≡ last self.now chunk.now) };
 }

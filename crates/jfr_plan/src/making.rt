@@ -56,7 +56,10 @@ impl<M: Make> Stage for Making<'_, M> {
             }
             Err(ReadFault::Memory) => return Err(Ending::Memory),
         }
-        match place.append(self.make.made()) {
+        let Ok(pieces) = self.make.pieces(self.alloc, chunk) else {
+            return Err(Ending::Memory);
+        };
+        match place.append_pieces(&pieces) {
             Ok(()) => Ok(()),
             Err(Fault::Failed) => Err(Ending::WriteFault),
             Err(Fault::Memory) => Err(Ending::Memory),

@@ -2,7 +2,7 @@
 use crate::{Make, make_stream};
 use jfr_base::{Flaw, ReadFault, Reason, Refusal};
 use jfr_header::Ending;
-use jfr_outside::{Call, MemoryPlace, Place, SteadyPlace};
+use jfr_outside::{Call, MemoryPlace, NoMemory, Place, SteadyPlace};
 use std::alloc::{AllocError, Global};
 use std::test::Fail;
 
@@ -19,11 +19,10 @@ const PLAIN: [u8; 103] = [
     0x07, 0x01, 0x00, 0x00, 0x00, 0x00, 0x00,
 ];
 
-// Makes of each chunk the chunk itself, and refuses every chunk where it is strict.
+// Makes of each chunk the chunk itself, in two pieces, and refuses every chunk where it is strict.
 #[derive(Drop)]
 struct Copying {
     strict: bool,
-    bytes: Vec<u8>,
 }
 
 impl Make for Copying {
@@ -34,34 +33,32 @@ impl Make for Copying {
 
     ghost becomes = { λ m c. c };
 
-    ghost last = { λ m. m.bytes.items };
+    ghost holds = { λ m c. Unit {0} };
 
-    fn make(&mut self, _alloc: Global, chunk: &[u8]) -> Result<(), ReadFault> {
+    ghost last = { λ m c. c };
+
+    fn make(&mut self, _alloc: Global, _chunk: &[u8]) -> Result<(), ReadFault> {
         if self.strict {
             return Err(ReadFault::Flawed(Flaw {
                 offset: 100,
                 reason: Reason::ChainDelta,
             }));
         }
-        self.bytes.clear();
-        match self.bytes.extend_from_slice(chunk) {
-            Ok(()) => Ok(()),
-            Err(_) => Err(ReadFault::Memory),
-        }
+        Ok(())
     }
 
-    fn made(&self) -> &[u8] {
-        self.bytes.as_slice()
+    fn pieces<'c>(&'c self, alloc: Global, chunk: &'c [u8]) -> Result<Vec<&'c [u8]>, NoMemory> {
+        let mut pieces = Vec::new(alloc);
+        let (front, back) = chunk.split_at(chunk.len() / 2);
+        pieces.push(front)?;
+        pieces.push(back)?;
+        Ok(pieces)
     }
 }
 
 // Copies the file a to a new file b.
 fn copy<P: Place>(alloc: Global, place: &mut P, strict: bool) -> Ending {
-    let make = Copying {
-        strict,
-        bytes: Vec::new(alloc),
-    };
-    make_stream(alloc, place, make, "a", "b")
+    make_stream(alloc, place, Copying { strict }, "a", "b")
 }
 
 // As many plain chunks, and the first bytes of another one.
