@@ -4,15 +4,20 @@ ghost use Rattle.jfr.specs.Edges.{untold};
 
 use crate::counts::raise;
 use jfr_outside::{Fault, Place};
+use std::alloc::Global;
 use std::fs;
 use std::fs::{Files, OpenOptions};
-use std::io::{Read, Write};
+use std::io::{BufWriter, Read, Write};
+
+/// So many bytes of small pieces are gathered for one write.
+const GATHERED: usize = 65536;
 
 /// The files of the system, with one open input and one open output. Outputs are created new, and
 /// every error raises the count.
 #[derive(Drop)]
 pub struct FilePlace<'a, R: Files> {
     rt: &'a R,
+    alloc: Global,
     input: Option<R::File>,
     output: Option<R::File>,
     read_faults: u64,
@@ -21,16 +26,34 @@ pub struct FilePlace<'a, R: Files> {
 
 impl<'a, R: Files> FilePlace<'a, R> {
     /// Nothing is open, and no call has failed.
-    pub fn new(rt: &'a R) -> FilePlace<'a, R>
+    pub fn new(rt: &'a R, alloc: Global) -> FilePlace<'a, R>
         ensures none_failed { untold result.read_faults result.write_faults ≡ untold 0 0 }
     {
         FilePlace {
             rt,
+            alloc,
             input: None,
             output: None,
             read_faults: 0,
             write_faults: 0,
         }
+    }
+}
+
+/// Writes pieces to a file, one behind another. Small ones are gathered. Without memory for that nothing
+/// is written.
+fn write_pieces<W: Write>(alloc: Global, file: &mut W, pieces: &[&[u8]]) -> Result<(), Fault> {
+    let Ok(mut writer) = BufWriter::with_capacity(alloc, GATHERED, file) else {
+        return Err(Fault::Memory);
+    };
+    for piece in pieces {
+        if writer.write_all(piece).is_err() {
+            return Err(Fault::Failed);
+        }
+    }
+    match writer.flush() {
+        Ok(()) => Ok(()),
+        Err(_) => Err(Fault::Failed),
     }
 }
 
@@ -105,6 +128,24 @@ impl<'a, R: Files> Place for FilePlace<'a, R> {
         match written {
             Ok(()) => Ok(()),
             Err(_) => {
+                raise(&mut self.write_faults);
+                Err(Fault::Failed)
+            }
+        }
+    }
+
+    fn append_pieces(&mut self, pieces: &[&[u8]]) -> Result<(), Fault> {
+        let written = match &mut self.output {
+            Some(file) => write_pieces(self.alloc, file, pieces),
+            None => {
+                raise(&mut self.write_faults);
+                return Err(Fault::Failed);
+            }
+        };
+        match written {
+            Ok(()) => Ok(()),
+            Err(Fault::Memory) => Err(Fault::Memory),
+            Err(Fault::Failed) => {
                 raise(&mut self.write_faults);
                 Err(Fault::Failed)
             }

@@ -40,7 +40,7 @@ fn main(rt: HostRuntime) -> ExitCode {
         // A word that isn't UTF-8 is a usage fault, as no words are.
         Err(_) => Words::new(alloc),
     };
-    let mut place = FilePlace::new(&rt);
+    let mut place = FilePlace::new(&rt, alloc);
     let mut out = StreamSink::new(rt.stdout());
     let mut err = StreamSink::new(rt.stderr());
     ExitCode::from(run(alloc, &words, &mut place, &mut out, &mut err))

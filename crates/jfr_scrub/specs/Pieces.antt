@@ -1,10 +1,11 @@
 -- The pieces of an output: ranges of the chunk, and ranges of the bytes that are made.
 use Rattle.std.specs.Prelude.{◌≡◌, ℕ, ◌+◌, ◌≤◌, List, ◌++◌, length, slice_range, ⊤}
-use Rattle.std.specs.List.{flat_map}
+use Rattle.std.specs.List.{AllByRecursion, flat_map}
 use Rattle.jfr_scrub.specs.declared.piece.Part.{Part}
 use Rattle.jfr_scrub.specs.declared.piece.Part.TheVariants as parts
 use Rattle.jfr_scrub.specs.declared.piece.Piece.{Piece}
 use Rattle.jfr_scrub.specs.declared.piece.Piece.TheVariants as pieces
+use Rattle.jfr_scrub.specs.declared.ranges.Ranges.{Ranges}
 
 -- A chunk, the bytes that are made, and the pieces in order.
 pub record Laid : Type 0 where
@@ -25,6 +26,14 @@ joined l = flat_map (part_bytes l.chunk l.made) l.pieces
 abbrev pub Lies : ℕ → ℕ → Part → Type 0
 Lies n m (parts.Copied from to) = (from ≤ to) × (to ≤ n)
 Lies n m (parts.Made from to) = (from ≤ to) × (to ≤ m)
+
+-- The pieces lie in the chunk and in the made bytes.
+abbrev pub LieIn : Laid → Type 0
+LieIn l = AllByRecursion (Lies (length l.chunk) (length l.made)) l.pieces
+
+-- Ranges of a chunk.
+abbrev pub laid_in : List ℕ → Ranges → Laid
+laid_in c r = record { chunk = c; made = r.made.items; pieces = r.parts.items }
 
 -- The range that a piece is.
 abbrev pub part_of : Piece → Part

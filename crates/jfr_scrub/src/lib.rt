@@ -10,6 +10,7 @@ mod left;
 mod output;
 mod piece;
 mod pieces;
+mod ranges;
 mod run;
 mod scrub;
 mod scrubber;

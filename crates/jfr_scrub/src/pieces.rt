@@ -1,9 +1,10 @@
 // The pieces of an output, in order.
 ghost use Rattle.std.specs.Prelude.{◌≡◌, ℕ, ◌≤◌, ◌+◌, ◌++◌, [], length, slice_get, slice_range, option_map, vec_len, vec_capacity, IfSome, OnOk};
 ghost use Rattle.std.specs.List.{AllByRecursion, flat_map};
-ghost use Rattle.jfr_scrub.specs.Pieces.{IsOfChunk, joined, Lies, part_bytes, part_of};
+ghost use Rattle.jfr_scrub.specs.Pieces.{IsOfChunk, joined, laid_in, LieIn, Lies, part_bytes, part_of};
 
 use crate::piece::{Part, Piece};
+use crate::ranges::{Ranges, bytes_of};
 use jfr_outside::NoMemory;
 use std::alloc::Global;
 use std::marker::Model;
@@ -17,15 +18,13 @@ pub(crate) struct Pieces<'a> {
 }
 
 impl<'a> Model for Pieces<'a> {
-    ghost use Rattle.std.specs.Prelude.{length};
-    ghost use Rattle.std.specs.List.{AllByRecursion};
-    ghost use Rattle.jfr_scrub.specs.Pieces.{Laid, Lies};
+    ghost use Rattle.jfr_scrub.specs.Pieces.{Laid, LieIn};
 
     ghost Value = { Laid };
 
     ghost view = { λ p. record { chunk = p.chunk.now; made = p.made.items; pieces = p.parts.items } };
 
-    ghost invariant = { λ p. AllByRecursion (Lies (length p.chunk.now) (length p.made.items)) p.parts.items };
+    ghost invariant = { λ p. LieIn (record { chunk = p.chunk.now; made = p.made.items; pieces = p.parts.items }) };
 }
 
 impl<'a> Pieces<'a> {
@@ -108,6 +107,17 @@ impl<'a> Pieces<'a> {
         Some(piece_of(self.chunk, part))
     }
 
+    /// The ranges, apart from the chunk.
+    pub(crate) fn into_ranges(self) -> Ranges
+        ensures same { laid_in self.entry.chunk result ≡ self.entry }
+        ensures lie { LieIn (laid_in self.entry.chunk result) }
+    {
+        Ranges {
+            made: self.made,
+            parts: self.parts,
+        }
+    }
+
     /// Writes the pieces behind what was written, into room that is there.
     pub(crate) fn write(&self, out: &mut Vec<u8>)
         requires { vec_len out.old + length (joined self.now) ≤ vec_capacity out.old }
@@ -151,20 +161,7 @@ fn write_part(out: &mut Vec<u8>, chunk: &[u8], made: &[u8], part: Part)
     ensures len { vec_len out.new ≡ vec_len out.old + length (part_bytes chunk.now made.now part) }
     ensures capacity { vec_capacity out.old ≤ vec_capacity out.new }
 {
-    match part {
-        Part::Copied { from, to } => write_within(out, &chunk[from..to]),
-        Part::Made { from, to } => write_within(out, &made[from..to]),
-    }
-}
-
-// Writes bytes into room that is there.
-fn write_within(out: &mut Vec<u8>, bytes: &[u8])
-    requires { vec_len out.old + length bytes.now ≤ vec_capacity out.old }
-    ensures items { out.new.items ≡ out.old.items ++ bytes.now }
-    ensures len { vec_len out.new ≡ vec_len out.old + length bytes.now }
-    ensures capacity { vec_capacity out.old ≤ vec_capacity out.new }
-{
-    match out.extend_from_slice(bytes) {
+    match out.extend_from_slice(bytes_of(chunk, made, part)) {
         Ok(()) => {}
         Err(_) => unreachable!(),
     }

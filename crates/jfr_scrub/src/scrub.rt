@@ -13,47 +13,50 @@ ghost use Rattle.jfr_scrub.specs.Headline.{IsByPlan, IsScrubbed, Scrubs};
 ghost use Rattle.jfr_scrub.specs.Scrubs.{scrubbed, scrubbing};
 
 use crate::Scrubber;
+use crate::ranges::Ranges;
 use jfr_base::ReadFault;
 use jfr_chunk::{Chunk, Room};
 use jfr_filter::Filter;
 use jfr_header::Ending;
-use jfr_outside::Place;
+use jfr_outside::{NoMemory, Place};
 use jfr_plan::{Make, make_stream};
 use std::alloc::Global;
 use std::mem;
 
-/// Makes of each chunk what it becomes under a filter. The room of one chunk is used again for the next.
+/// Makes of each chunk what it becomes under a filter. The indexes of a chunk are kept in the room of the
+/// one before.
 #[derive(Drop)]
 struct Scrub<'f> {
     filter: &'f Filter,
     room: Room,
-    out: Vec<u8>,
+    ranges: Ranges,
 }
 
 impl<'f> Make for Scrub<'f> {
     ghost use Rattle.std.specs.Prelude.{ℕ, List};
     ghost use Rattle.jfr_chunk.specs.Refusal.{refusal_of};
+    ghost use Rattle.jfr_scrub.specs.Pieces.{LieIn, joined, laid_in};
     ghost use Rattle.jfr_scrub.specs.Scrubs.{scrubbed};
 
     ghost refusal = { λ _ chunk. refusal_of chunk };
 
     ghost becomes = { λ s chunk. scrubbed s.filter.now chunk };
 
-    ghost last = { λ s. s.out.items };
+    ghost holds = { λ s chunk. LieIn (laid_in chunk s.ranges) };
+
+    ghost last = { λ s chunk. joined (laid_in chunk s.ranges) };
 
     fn make(&mut self, alloc: Global, chunk: &[u8]) -> Result<(), ReadFault> {
         let room = mem::replace(&mut self.room, Room::new(alloc));
         let chunk = Chunk::read_in(alloc, room, chunk)?;
-        let out = mem::replace(&mut self.out, Vec::new(alloc));
-        let mut scrubber = Scrubber::prepare_in(alloc, out, &chunk, self.filter)?;
-        scrubber.write();
-        self.out = scrubber.into_bytes();
+        let scrubber = Scrubber::prepare(alloc, &chunk, self.filter)?;
+        self.ranges = scrubber.into_ranges();
         self.room = chunk.into_room();
         Ok(())
     }
 
-    fn made(&self) -> &[u8] {
-        self.out.as_slice()
+    fn pieces<'c>(&'c self, alloc: Global, chunk: &'c [u8]) -> Result<Vec<&'c [u8]>, NoMemory> {
+        self.ranges.pieces(alloc, chunk)
     }
 }
 
@@ -100,7 +103,7 @@ pub fn scrub_stream<P: Place>(
         Scrub {
             filter,
             room: Room::new(alloc),
-            out: Vec::new(alloc),
+            ranges: Ranges::new(alloc),
         },
         input,
         output,

@@ -7,13 +7,14 @@ ghost use Rattle.jfr_chunk.specs.Reach.{kept_by, marked, reached_marks, remain};
 ghost use Rattle.jfr_chunk.specs.Scrub.{header_with, scrub_of, stays};
 ghost use Rattle.jfr_laws.specs.Laws.{IsSettled};
 ghost use Rattle.jfr_scrub.specs.Bodies.{IsBody};
-ghost use Rattle.jfr_scrub.specs.Pieces.{IsOfChunk, joined, part_of};
+ghost use Rattle.jfr_scrub.specs.Pieces.{IsOfChunk, joined, laid_in, LieIn, part_of};
 ghost use Rattle.jfr_scrub.specs.Scrubbing.{IsAccepted, all_written};
 
 use crate::Piece;
 use crate::body::{Body, lay_body};
 use crate::left::remaining;
 use crate::pieces::Pieces;
+use crate::ranges::Ranges;
 use jfr_chunk::{Chunk, Kept};
 use jfr_filter::Filter;
 use jfr_header::{Header, write_header};
@@ -69,26 +70,9 @@ impl<'a> Scrubber<'a> {
         ensures events { IfOk result (λ s. s.events ≡ length (kept_of filter.now chunk.now)) }
         ensures entries { IfOk result (λ s. s.entries ≡ length (remain chunk.now (kept_of filter.now chunk.now))) }
     {
-        Scrubber::prepare_in(alloc, Vec::new(alloc), chunk, filter)
-    }
-
-    /// The same, with room for the output that was used before. What stands in it is given up.
-    pub fn prepare_in(
-        alloc: Global,
-        room: Vec<u8>,
-        chunk: &Chunk<'a>,
-        filter: &Filter,
-    ) -> Result<Scrubber<'a>, NoMemory>
-        ensures joined { IfOk result (λ s. joined s.laid ≡ scrub_of chunk.now (kept_of filter.now chunk.now)) }
-        ensures chunk { IfOk result (λ s. s.laid.chunk ≡ chunk.now.bytes) }
-        ensures empty { IfOk result (λ s. s.written ≡ []) }
-        ensures settled { IfOk result (λ s. IsSettled filter.now chunk.now) }
-        ensures events { IfOk result (λ s. s.events ≡ length (kept_of filter.now chunk.now)) }
-        ensures entries { IfOk result (λ s. s.entries ≡ length (remain chunk.now (kept_of filter.now chunk.now))) }
-    {
         let kept = choose(alloc, chunk, filter)?;
         let marks = marks_of::<Brand>(alloc, Blank::new(1), chunk, &kept)?;
-        lay_out(alloc, room, chunk, &kept, &marks)
+        lay_out(alloc, chunk, &kept, &marks)
     }
 
     /// Writes the pieces. It takes no memory.
@@ -106,11 +90,12 @@ impl<'a> Scrubber<'a> {
         self.out.as_slice()
     }
 
-    /// The bytes that are written, handed over.
-    pub fn into_bytes(self) -> Vec<u8>
-        ensures { result.items ≡ self.entry.written }
+    /// The ranges that the pieces are, apart from the chunk.
+    pub(crate) fn into_ranges(self) -> Ranges
+        ensures same { laid_in self.entry.laid.chunk result ≡ self.entry.laid }
+        ensures lie { LieIn (laid_in self.entry.laid.chunk result) }
     {
-        self.out
+        self.pieces.into_ranges()
     }
 
     /// How many events are kept.
@@ -153,7 +138,6 @@ impl<'a> Scrubber<'a> {
 // Lays out what a chunk becomes where these events are kept and these entries are reached.
 fn lay_out<'a>(
     alloc: Global,
-    room: Vec<u8>,
     chunk: &Chunk<'a>,
     kept: &Kept,
     marks: &Marks,
@@ -171,12 +155,9 @@ fn lay_out<'a>(
     let size = body.at;
     let front = front_of(chunk.header(), &body);
     let pieces = body.output.finish(&front)?;
-    let mut out = room;
-    out.clear();
-    out.reserve(size)?;
     Ok(Scrubber {
         pieces,
-        out,
+        out: Vec::with_capacity(alloc, size)?,
         kept_events: count_kept(kept, chunk.event_count()),
         kept_entries: left.len(),
     })

@@ -1,0 +1,56 @@
+// Ranges of a chunk, apart from it.
+ghost use Rattle.std.specs.Prelude.{◌≡◌, [], length, IfOk};
+ghost use Rattle.jfr_outside.specs.World.{bytes_in};
+ghost use Rattle.jfr_scrub.specs.Pieces.{joined, laid_in, LieIn, Lies, part_bytes};
+
+use crate::piece::Part;
+use jfr_outside::NoMemory;
+use std::alloc::Global;
+
+/// Ranges of a chunk and of made bytes, one behind another. The chunk isn't held: it is given again
+/// where its bytes are asked for.
+#[derive(Drop)]
+pub(crate) struct Ranges {
+    pub(crate) made: Vec<u8>,
+    pub(crate) parts: Vec<Part>,
+}
+
+impl Ranges {
+    /// No ranges. They take no memory.
+    pub(crate) fn new(alloc: Global) -> Ranges
+        ensures made { result.made.items ≡ [] }
+        ensures parts { result.parts.items ≡ [] }
+    {
+        Ranges {
+            made: Vec::new(alloc),
+            parts: Vec::new(alloc),
+        }
+    }
+
+    /// The bytes of the ranges, one behind another.
+    pub(crate) fn pieces<'c>(
+        &'c self,
+        alloc: Global,
+        chunk: &'c [u8],
+    ) -> Result<Vec<&'c [u8]>, NoMemory>
+        requires { LieIn (laid_in chunk.now self.now) }
+        ensures { IfOk result (λ pieces. bytes_in pieces.items ≡ joined (laid_in chunk.now self.now)) }
+    {
+        let mut pieces = Vec::with_capacity(alloc, self.parts.len())?;
+        for part in &self.parts {
+            pieces.push(bytes_of(chunk, &self.made, *part))?;
+        }
+        Ok(pieces)
+    }
+}
+
+/// The bytes of a range.
+pub(crate) fn bytes_of<'c>(chunk: &'c [u8], made: &'c [u8], part: Part) -> &'c [u8]
+    requires { Lies (length chunk.now) (length made.now) part }
+    ensures { result.now ≡ part_bytes chunk.now made.now part }
+{
+    match part {
+        Part::Copied { from, to } => &chunk[from..to],
+        Part::Made { from, to } => &made[from..to],
+    }
+}
