@@ -3,7 +3,7 @@ ghost use Rattle.std.specs.Prelude.{◌≡◌, ◌<◌, ◌≤◌, ◌+◌, ◌^
 ghost use Rattle.jfr_header.specs.Taking.{Took, Takes, Tells, IfLeft, IsKept};
 ghost use Rattle.jfr_header.specs.Nexts.{NextOf, CutOf, Counted, IsDue, IfRefused, answer_to, ahead_of, is_header};
 
-use crate::fill::fill;
+use crate::buffer::Buffer;
 use crate::judge::{Verdict, judge};
 use jfr_base::{Reason, Refusal};
 use jfr_outside::{Fault, Place};
@@ -28,7 +28,7 @@ pub enum Cut {
 /// Reads a recording from the open input of a place, chunk by chunk.
 #[derive(Drop)]
 pub struct ChunkCutter {
-    bytes: Vec<u8>,
+    bytes: Buffer,
     start: u64,
     number: u64,
     given: bool,
@@ -40,7 +40,7 @@ impl Model for ChunkCutter {
 
     ghost Value = { Cutter };
 
-    ghost view = { λ c. record { bytes = c.bytes.items; start = c.start; number = c.number; given = c.given; live = c.live } };
+    ghost view = { λ c. record { bytes = c.bytes; start = c.start; number = c.number; given = c.given; live = c.live } };
 
     ghost invariant = { λ c. IsInRange c.start c.number c.given };
 }
@@ -58,7 +58,7 @@ impl ChunkCutter {
         ensures live { result.live ≡ true }
     {
         ChunkCutter {
-            bytes: Vec::new(alloc),
+            bytes: Buffer::new(alloc),
             start,
             number,
             given: false,
@@ -107,12 +107,12 @@ impl ChunkCutter {
     {
         self.live = false;
         self.bytes.clear();
-        match fill(place, &mut self.bytes, 68) {
+        match self.bytes.fill(place, 68) {
             Ok(()) => {}
             Err(Fault::Failed) => return Cut::Failed,
             Err(Fault::Memory) => return Cut::Memory,
         }
-        let size = match judge(&self.bytes, self.start, self.given) {
+        let size = match judge(self.bytes.as_slice(), self.start, self.given) {
             Verdict::End => return Cut::End,
             Verdict::Bad(flaw) => return Cut::Refused(Refusal {
                 chunk: self.number,
@@ -121,7 +121,7 @@ impl ChunkCutter {
             }),
             Verdict::Sized(size) => size,
         };
-        match fill(place, &mut self.bytes, size) {
+        match self.bytes.fill(place, size) {
             Ok(()) => {}
             Err(Fault::Failed) => return Cut::Failed,
             Err(Fault::Memory) => return Cut::Memory,

@@ -5,9 +5,9 @@
 //! `specs/Nexts.antt`.
 #![tactic(auto)]
 
+mod buffer;
 mod cutter;
 mod ending;
-mod fill;
 mod header;
 mod judge;
 pub mod laws;

@@ -1,0 +1,132 @@
+// Bytes in hand, taken from the open input.
+ghost use Rattle.std.specs.Prelude.{take, ◌≡◌, ◌≤◌, ◌<◌, ◌+◌, [], length, vec_len, Some, None, IfOk, OnOk, OnErr, IsErrOf, IsTrue, IfSome, IsSome};
+ghost use Rattle.jfr_outside.specs.Counts.{Counts};
+ghost use Rattle.jfr_header.specs.Taking.{Moved, MovedWithin, Tells};
+
+use jfr_outside::{Fault, Place};
+use std::alloc::{AllocError, Global};
+use std::marker::Model;
+
+/// A room that grows has room for so many bytes more at least, where so many are wanted.
+const PIECE: usize = 65536;
+
+/// Bytes in hand. Their room only grows: what comes next is read straight into it.
+#[derive(Drop)]
+pub struct Buffer {
+    room: Vec<u8>,
+    count: usize,
+}
+
+impl Model for Buffer {
+    ghost use Rattle.std.specs.Prelude.{ℕ, List, take, ◌≤◌, vec_len};
+
+    ghost Value = { List ℕ };
+
+    ghost view = { λ b. take b.count b.room.items };
+
+    ghost invariant = { λ b. b.count ≤ vec_len b.room };
+}
+
+// Makes room behind so many bytes, where none is left. It grows to at most twice what they take, or by
+// a piece, and no further than is wanted.
+fn make_room(room: &mut Vec<u8>, count: usize, until: usize) -> Result<(), AllocError>
+    requires count { count ≤ vec_len room.old }
+    requires wanted { count < until }
+    ensures kept { take count room.new.items ≡ take count room.old.items }
+    ensures within { count ≤ vec_len room.new }
+    ensures more { OnOk result (count < vec_len room.new) }
+{
+    if count < room.len() {
+        return Ok(());
+    }
+    let more = count.max(PIECE).min(until - count);
+    room.reserve_exact(more)?;
+    room.resize(count + more, 0)
+}
+
+impl Buffer {
+    /// No bytes. It takes no memory.
+    pub fn new(alloc: Global) -> Buffer
+        ensures { result ≡ [] }
+    {
+        Buffer {
+            room: Vec::new(alloc),
+            count: 0,
+        }
+    }
+
+    /// How many bytes are in hand.
+    pub fn len(&self) -> usize
+        ensures { result ≡ length self.now }
+    {
+        self.count
+    }
+
+    /// The bytes in hand.
+    pub fn as_slice(&self) -> &[u8]
+        ensures { result.now ≡ self.now }
+    {
+        &self.room[..self.count]
+    }
+
+    /// Lets the bytes go, and keeps their room.
+    pub fn clear(&mut self)
+        ensures { self.new ≡ [] }
+    {
+        self.count = 0;
+    }
+
+    // Reads once, and says how many bytes came.
+    fn read<P: Place>(&mut self, place: &mut P, until: usize) -> Result<usize, Fault>
+        requires { length self.old < until }
+        ensures moved { Tells (P.state place.old) (P.state place.new) (Moved self.old self.new) }
+        ensures prefix { take (length self.old) self.new ≡ self.old }
+        ensures bound { length self.new ≤ until }
+        ensures len { IfOk result (λ n. length self.new ≡ length self.old + n) }
+        ensures err { OnErr result (self.new ≡ self.old) }
+        ensures end { IfOk result (λ n. n ≡ 0 → IfSome (P.state place.new).told (λ v. v.input ≡ Some [])) }
+        ensures opened { OnOk result (IfSome (P.state place.new).told (λ v. IsSome v.input)) }
+        ensures fails { IsTrue ((P.state place.old).steady) → IsErrOf result Fault.Failed → IfSome (P.state place.old).told (λ w. w.input ≡ None) }
+        ensures cause { Counts result (P.state place.old).read_faults (P.state place.new).read_faults }
+        ensures writes { (P.state place.new).write_faults ≡ (P.state place.old).write_faults }
+        ensures steady { (P.state place.new).steady ≡ (P.state place.old).steady }
+    {
+        match make_room(&mut self.room, self.count, until) {
+            Ok(()) => {}
+            Err(_) => return Err(Fault::Memory),
+        }
+        let most = self.room.len().min(until);
+        let count = match place.read(&mut self.room[self.count..most]) {
+            Ok(count) => count,
+            Err(fault) => return Err(fault),
+        };
+        self.count += count;
+        Ok(count)
+    }
+
+    /// Reads until so many bytes are in hand, or the input ends. It fails where a read fails and where
+    /// memory is wanting.
+    pub fn fill<P: Place>(&mut self, place: &mut P, until: usize) -> Result<(), Fault>
+        requires { length self.old ≤ until }
+        ensures ok { OnOk result (Tells (P.state place.old) (P.state place.new) (Moved self.old self.new)) }
+        ensures prefix { take (length self.old) self.new ≡ self.old }
+        ensures bound { OnOk result (length self.new ≤ until) }
+        ensures end { OnOk result (length self.new < until → IfSome (P.state place.new).told (λ v. v.input ≡ Some [])) }
+        ensures opened { OnOk result (length self.old < until → IfSome (P.state place.new).told (λ v. IsSome v.input)) }
+        ensures failed { IsErrOf result Fault.Failed → (length self.new < until) × Tells (P.state place.old) (P.state place.new) (Moved self.old self.new) }
+        ensures fails { IsTrue ((P.state place.old).steady) → IsErrOf result Fault.Failed → IfSome (P.state place.old).told (λ w. w.input ≡ None) }
+        ensures memory { IsErrOf result Fault.Memory → Tells (P.state place.old) (P.state place.new) (MovedWithin self.old until) }
+        ensures cause { Counts result (P.state place.old).read_faults (P.state place.new).read_faults }
+        ensures writes { (P.state place.new).write_faults ≡ (P.state place.old).write_faults }
+        ensures steady { (P.state place.new).steady ≡ (P.state place.old).steady }
+    {
+        'reads: while self.len() < until {
+            match self.read(place, until) {
+                Ok(0) => return Ok(()),
+                Ok(_) => {}
+                Err(fault) => return Err(fault),
+            }
+        }
+        Ok(())
+    }
+}
