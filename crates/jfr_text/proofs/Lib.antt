@@ -8,3 +8,4 @@ pub mod ReadSteps
 pub mod Rows
 pub mod SpellLaws
 pub mod StringLaws
+pub mod TopBits

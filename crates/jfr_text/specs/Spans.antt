@@ -1,5 +1,5 @@
 -- A string in the bytes that it was read from.
-use Rattle.std.specs.Prelude.{◌≡◌, ℕ, zero, suc, ◌-◌, List, [], ◌∷◌, length, drop, slice_range, Result, Ok, Err}
+use Rattle.std.specs.Prelude.{◌≡◌, ℕ, zero, suc, ◌-◌, ◌<◌, ◌≤◌, List, [], ◌∷◌, length, drop, slice_index, slice_range, Result, Ok, Err}
 use Rattle.std.specs.Option.{option_map_or}
 use Rattle.jfr_base.specs.declared.flaw.Flaw.{Flaw}
 use Rattle.jfr_base.specs.Formats.{Answer, int_at}
@@ -12,6 +12,10 @@ use Rattle.jfr_text.specs.Strings.{Content, Null, Empty, Key, Utf8, Units, Latin
 unfoldable pub first_integers : ℕ → List ℕ → List ℕ
 first_integers zero bytes = []
 first_integers (suc n) bytes = option_map_or (λ v. v.value ∷ first_integers n (drop v.end bytes)) (int_at bytes 0 (length bytes)) []
+
+-- Each byte from one place up to another is below 128, so that it is an integer of its own.
+abbrev pub AreShort : List ℕ → ℕ → ℕ → Type 0
+AreShort bytes from to = (place : ℕ) → from ≤ place → place < to → slice_index bytes place < 128
 
 -- What the string holds, by its kind.
 abbrev pub content_by : StringKind → StringSpan → Content

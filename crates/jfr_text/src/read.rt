@@ -1,11 +1,14 @@
 // Reading a string where it stands.
-ghost use Rattle.std.specs.Prelude.{◌≡◌, ◌+◌, ◌-◌, ◌<◌, ◌≤◌, ◌^◌, [], length, IfOk, IfErr, MatchResult, Ok, Err, slice_range, true};
+ghost use Rattle.std.specs.Prelude.{◌≡◌, ◌↔◌, ◌+◌, ◌-◌, ◌<◌, ◌≤◌, ◌^◌, [], length, IfOk, IfErr, IsTrue, MatchResult, Ok, Err, slice_index, slice_range, true};
 ghost use Rattle.jfr_base.specs.Formats.{Reads, Fails, times, integer, checked, run, seen};
-ghost use Rattle.jfr_text.specs.Spans.{content_of, first_integers, answer_of, IsSpanAt};
+ghost use Rattle.jfr_text.specs.Spans.{content_of, first_integers, answer_of, AreShort, IsSpanAt};
 ghost use Rattle.jfr_text.specs.Strings.{SpellAll, IsString, kind_fault, counted_bytes, counted_integers, after_kind, string_format};
 
 use crate::{StringKind, StringSpan};
 use jfr_base::{Flaw, Reason, read_within};
+
+/// The top bits of eight bytes.
+const TOP_BITS: u64 = 0x8080_8080_8080_8080;
 
 /// Reads the string that begins at a place and ends by `end`: a kind byte, and what follows it. The
 /// flaw is `Short` at the kind byte, the integer or the run of bytes that doesn't end by `end`, or
@@ -165,21 +168,65 @@ fn skip_integers(count: u64, bytes: &[u8], at: usize, end: usize) -> Result<usiz
     skip_each_integer(count - (from - at) as u64, bytes, from, end)
 }
 
-/// The place after the integers of one byte, of so many.
+/// The place after the integers of one byte at the front of so many: where the first longer one
+/// stands, the end, or behind them all.
 #[inline(always)]
 fn skip_short_integers(count: u64, bytes: &[u8], at: usize, end: usize) -> usize
     requires order { at ≤ end }
     requires within { end ≤ length bytes.now }
     ensures range { (at ≤ result) × (result ≤ end) × (result - at ≤ count) }
-    ensures exact { seen (run (times (count - (result - at)) integer) bytes.now end result) ≡ seen (run (times count integer) bytes.now end at) }
+    ensures short { AreShort bytes.now at result }
+    ensures longest { result < end → result - at < count → 128 ≤ slice_index bytes.now result }
 {
-    let most = count.min((end - at) as u64) as usize;
-    for passed in 0..most {
-        if bytes[at + passed] >= 128 {
-            return at + passed;
+    let to = at + count.min((end - at) as u64) as usize;
+    let from = skip_short_eights(bytes, at, to);
+    skip_short_bytes(bytes, from, to)
+}
+
+/// The place after the integers of one byte at the front, as far as they come in eights.
+#[inline(always)]
+fn skip_short_eights(bytes: &[u8], at: usize, end: usize) -> usize
+    requires order { at ≤ end }
+    requires within { end ≤ length bytes.now }
+    ensures range { (at ≤ result) × (result ≤ end) }
+    ensures short { AreShort bytes.now at result }
+    ensures longest { result + 8 ≤ end → ¬ AreShort bytes.now result (result + 8) }
+{
+    let mut place = at;
+    while end - place >= 8 && are_eight_short(bytes, place) {
+        place += 8;
+    }
+    place
+}
+
+/// Whether the eight bytes from a place on are integers of one byte each. They are tested as one
+/// word, which has none of the top bits then.
+#[inline(always)]
+fn are_eight_short(bytes: &[u8], at: usize) -> bool
+    requires { at + 8 ≤ length bytes.now }
+    ensures { IsTrue result ↔ AreShort bytes.now at (at + 8) }
+{
+    let Some(eight) = bytes[at..at + 8].first_chunk::<8>() else {
+        return false;
+    };
+    u64::from_le_bytes(*eight) & TOP_BITS == 0
+}
+
+/// The place of the first longer integer, or the end.
+#[inline(always)]
+fn skip_short_bytes(bytes: &[u8], at: usize, end: usize) -> usize
+    requires order { at ≤ end }
+    requires within { end ≤ length bytes.now }
+    ensures range { (at ≤ result) × (result ≤ end) }
+    ensures short { AreShort bytes.now at result }
+    ensures longest { result < end → 128 ≤ slice_index bytes.now result }
+{
+    for place in at..end {
+        if bytes[place] >= 128 {
+            return place;
         }
     }
-    at + most
+    end
 }
 
 /// The place after so many integers, one by one.

@@ -40,6 +40,19 @@ fn texts(rt: HostRuntime) -> Result<(), Fail> {
     // A count in two bytes, and a unit in three.
     has_text(&rt, alloc, b"\x03\x82\x00hi", Some("hi"))?;
     has_text(&rt, alloc, b"\x04\x81\x00\xC1\x80\x00", Some("A"))?;
+    // A longer unit behind eight of one byte, and one among the first eight.
+    has_text(
+        &rt,
+        alloc,
+        b"\x04\x0Aabcdefgh\xE9\x01j",
+        Some("abcdefgh\u{E9}j"),
+    )?;
+    has_text(
+        &rt,
+        alloc,
+        b"\x04\x09abcdefg\xE9\x01i",
+        Some("abcdefg\u{E9}i"),
+    )?;
     // A high surrogate before a unit that isn't its partner.
     has_text(&rt, alloc, b"\x04\x02\xBD\xB0\x03\x41", Some("\u{FFFD}A"))?;
     Ok(())
