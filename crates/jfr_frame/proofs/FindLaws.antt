@@ -1,26 +1,17 @@
 -- The record of a number, and the one that a place and a type find.
-use Rattle.std.specs.Prelude.{◌≡◌, ℕ, zero, suc, ◌+◌, ◌<◌, ◌≤◌, List, [], ◌∷◌, length, slice_get, Option, None, Some, Ok, Err, option_and_then, option_map, is_some, ◌==◌, ◌&&◌, Bool, true, false, if◌then◌else◌}
-use Rattle.std.proofs.Common.{ap, arith, refl, sym, ◌∙◌, subst, get_or, inl, inr, ◌⊎◌}
+use Rattle.std.specs.Prelude.{◌≡◌, ℕ, zero, suc, ◌+◌, ◌<◌, ◌≤◌, List, [], ◌∷◌, length, slice_get, Option, None, Some, Result, Ok, Err, MatchResult, option_and_then, is_some, ◌==◌, ◌&&◌, Bool, true, false, if◌then◌else◌}
+use Rattle.std.proofs.Common.{ap, arith, refl, sym, ◌∙◌, subst, get_or, inl, inr, ◌⊎◌, Ordering, Less, Equal, Greater}
 use Rattle.std.proofs.lemmas.Bool.{cases_lt}
 use Rattle.std.proofs.lemmas.List.Sorted.{searched}
-use Rattle.std.specs.List.Sorted.{IsBinarySearchResult}
-use Rattle.std.specs.Ordering.{nat_cmp}
+use Rattle.std.proofs.lemmas.List.{length-map}
+use Rattle.std.proofs.Math.ListN.{get_or-map}
+use Rattle.std.specs.List.Sorted.{IsBinarySearchResult, IsNonDecreasingBy}
+use Rattle.std.specs.Ordering.{nat_cmp, ordering_index}
 use Rattle.jfr_frame.specs.declared.framed.Framed.{Framed}
-use Rattle.jfr_frame.specs.Records.{ArePlaces, AreRecords, Rising, Tiles, places_of, record_at, record_end, record_there, records_at, starts_at}
-use Rattle.jfr_frame.proofs.RecordLaws.{record_found, rising_of, rising_places, some_bytes}
-
--- the record of a number is read at its place
-record_read : (c : List ℕ) (p q : ℕ) (rs : List Framed) (n at : ℕ) → Tiles c p rs q → option_map (λ (r : Framed). r.at) (slice_get rs n) ≡ Some at → (at < length c) × (record_at c at ≡ slice_get rs n)
-record_read c p q [] n at t e = cc
-record_read c p q (r ∷ rs) zero at t e =
-    let a : r.at ≡ at = cc in
-    let b = some_bytes c r t.1 in
-    let w : record_end r ≤ length c = t.1.within in
-    (omega arith, record_found c at r a t.1)
-record_read c p q (r ∷ rs) (suc n) at t e = record_read c (record_end r) q rs n at t.2 e
-
-pub record_got : (c places : List ℕ) (all : List Framed) (n at : ℕ) → ArePlaces c places → records_at c places ≡ all → option_map (λ (r : Framed). r.at) (slice_get all n) ≡ Some at → (at < length c) × (record_at c at ≡ slice_get all n)
-record_got c places all n at h v e = record_read c 68 (length c) all n at (subst (λ (z : List Framed). AreRecords c z) v h.cover) e
+use Rattle.jfr_frame.specs.declared.start.Start.{Start}
+use Rattle.jfr_frame.specs.Records.{AreRecords, Rising, places_of, record_there, starts_at}
+use Rattle.jfr_frame.specs.Starts.{AreStarts, kept_places, records_at}
+use Rattle.jfr_frame.proofs.RecordLaws.{rising_of, rising_places}
 
 -- a record, if it has the type
 abbrev pub if_type : ℕ → Framed → Option Framed
@@ -54,22 +45,45 @@ there_at p (x ∷ rs) (suc n) at t h i e =
     let f : (x.at == at) ≡ false = grind (arith, l.0) in
     rw f (there_at (x.at + 1) rs n at t h.1 (omega arith) e)
 
--- what a binary search over the places finds
-pub there_found : (c places searched_in : List ℕ) (all : List Framed) (at t n : ℕ) (o : Option Framed) → ArePlaces c places → records_at c places ≡ all → searched_in ≡ places → IsBinarySearchResult (λ y. nat_cmp y at) searched_in (Ok n) → o ≡ slice_get all n → record_there all at t ≡ option_and_then (if_type t) o
-there_found c places xs all at t n o h v e s g =
-    let rs = records_at c places in
-    let rising : Rising 0 rs = rising_of c 0 68 (length c) rs (omega arith) h.cover in
-    let same : xs ≡ places_of rs = e ∙ h.starts in
-    let m = searched (places_of rs) at (Ok n) (subst (λ z. IsBinarySearchResult (λ y. nat_cmp y at) z (Ok n)) same s) (λ i j k l. (rising_places 0 rs rising i j k l).1) in
-    subst (λ (z : List Framed). record_there z at t ≡ option_and_then (if_type t) (slice_get z n)) v (there_at 0 rs n at t rising m.0 m.1) ∙ ap (option_and_then (if_type t)) (sym g)
+-- a search among starts by their places is one among the places
+pub by_places : (starts : List Start) (at : ℕ) (r : Result ℕ ℕ) → IsBinarySearchResult (λ (s : Start). nat_cmp s.at at) starts r → IsBinarySearchResult (λ place. nat_cmp place at) (kept_places starts) r
+by_places starts at r h = by_answer r h
+  where
+    start_at : ℕ → Start
+    start_at d = record { at = d; type_id = 0; type_at = 0; body = 0 }
 
-pub there_not_found : (c places searched_in : List ℕ) (at t n : ℕ) → ArePlaces c places → searched_in ≡ places → IsBinarySearchResult (λ y. nat_cmp y at) searched_in (Err n) → record_there (records_at c places) at t ≡ None
-there_not_found c places xs at t n h e s =
-    let rs = records_at c places in
-    let rising : Rising 0 rs = rising_of c 0 68 (length c) rs (omega arith) h.cover in
-    let same : xs ≡ places_of rs = e ∙ h.starts in
-    let m = searched (places_of rs) at (Err n) (subst (λ z. IsBinarySearchResult (λ y. nat_cmp y at) z (Err n)) same s) (λ i j k l. (rising_places 0 rs rising i j k l).1) in
-    there_nowhere rs at t (λ k i is. other rs k i is (cases_lt k n) m)
+    same : (k : ℕ) (s : Start) → get_or (kept_places starts) k s.at ≡ (get_or starts k s).at
+    same k s = get_or-map (λ (z : Start). z.at) starts k s
+
+    stays : (o : Ordering) (k d : ℕ) → nat_cmp (get_or starts k (start_at d)).at at ≡ o → nat_cmp (get_or (kept_places starts) k d) at ≡ o
+    stays o k d e = ap (λ p. nat_cmp p at) (same k (start_at d)) ∙ e
+
+    rising : IsNonDecreasingBy (λ place. ordering_index (nat_cmp place at)) (kept_places starts) → IsNonDecreasingBy (λ (s : Start). ordering_index (nat_cmp s.at at)) starts
+    rising g i j d le lt = rw (← same i d, ← same j d) (g i j d.at le (rw (length-map starts (λ (z : Start). z.at)) lt))
+
+    by_answer : (r : Result ℕ ℕ) → IsBinarySearchResult (λ (s : Start). nat_cmp s.at at) starts r → IsBinarySearchResult (λ place. nat_cmp place at) (kept_places starts) r
+    by_answer (Ok i) f = λ d. stays Equal i d (f (start_at d))
+    by_answer (Err i) f = λ g.
+        let p = f (rising g) in
+        (λ k d low high. stays Less k d (p.0 k (start_at d) low high), λ k d low high. stays Greater k d (p.1 k (start_at d) low (rw (← length-map starts (λ (z : Start). z.at)) high)))
+
+-- what a binary search over the places finds
+found_in : (all : List Framed) (at : ℕ) (r : Result ℕ ℕ) → Rising 68 all → IsBinarySearchResult (λ place. nat_cmp place at) (places_of all) r
+    → MatchResult r (λ i. (i < length (places_of all)) × (get_or (places_of all) i 0 ≡ at)) (λ i. (i ≤ length (places_of all)) × ((k : ℕ) → k < i → get_or (places_of all) k 0 < at) × ((k : ℕ) → i ≤ k → k < length (places_of all) → at < get_or (places_of all) k 0))
+found_in all at r rising s = searched (places_of all) at r s (λ i j k l. (rising_places 68 all rising i j k l).1)
+
+pub records_rise : (c : List ℕ) (starts : List Start) (all : List Framed) → AreStarts c starts → records_at c starts ≡ all → Rising 68 all
+records_rise c starts all h v = rising_of c 68 68 (length c) all (omega arith) (subst (AreRecords c) v h.cover)
+
+pub there_found : (all : List Framed) (at t n : ℕ) (o : Option Framed) → Rising 68 all → IsBinarySearchResult (λ place. nat_cmp place at) (places_of all) (Ok n) → o ≡ slice_get all n → record_there all at t ≡ option_and_then (if_type t) o
+there_found all at t n o rising s g =
+    let m = found_in all at (Ok n) rising s in
+    there_at 68 all n at t rising m.0 m.1 ∙ ap (option_and_then (if_type t)) (sym g)
+
+pub there_not_found : (all : List Framed) (at t n : ℕ) → Rising 68 all → IsBinarySearchResult (λ place. nat_cmp place at) (places_of all) (Err n) → record_there all at t ≡ None
+there_not_found all at t n rising s =
+    let m = found_in all at (Err n) rising s in
+    there_nowhere all at t (λ k i is. other all k i is (cases_lt k n) m)
   where
     other : (rs : List Framed) (k : ℕ) → k < length (places_of rs) → get_or (places_of rs) k 0 ≡ at → ((k < n) ⊎ (n ≤ k)) → (n ≤ length (places_of rs)) × ((k : ℕ) → k < n → get_or (places_of rs) k 0 < at) × ((k : ℕ) → n ≤ k → k < length (places_of rs) → at < get_or (places_of rs) k 0) → ⊥
     other rs k i is (inl l) m = let a : get_or (places_of rs) k 0 < at = m.1 k l in omega arith

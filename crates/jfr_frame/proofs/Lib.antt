@@ -3,3 +3,4 @@ pub mod FramingLaws
 pub mod Reading
 pub mod RecordLaws
 pub mod Rows
+pub mod StartLaws

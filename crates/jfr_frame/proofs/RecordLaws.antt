@@ -12,7 +12,7 @@ use Rattle.jfr_base.proofs.Ranges.{range_length}
 use Rattle.jfr_frame.specs.declared.framed.Framed.{Framed}
 use Rattle.jfr_frame.specs.Records.{IsRecord, record_end, Tiles, AreRecords, NoRecord, Rising, places_of, record_at, with_size, with_type, covering, before_records, records_within, records_of}
 
-framed_path : (r s : Framed) → r.at ≡ s.at → r.size ≡ s.size → r.type_at ≡ s.type_at → r.type_id ≡ s.type_id → r.body ≡ s.body → r ≡ s
+pub framed_path : (r s : Framed) → r.at ≡ s.at → r.size ≡ s.size → r.type_at ≡ s.type_at → r.type_id ≡ s.type_id → r.body ≡ s.body → r ≡ s
 framed_path r s a b c d e = λ i. record { at = a i; size = b i; type_at = c i; type_id = d i; body = e i }
 
 -- at one place stands one record

@@ -1,6 +1,6 @@
 -- The records of a chunk: a size, a type and a body each, one after another from byte 68 to the end.
 use Rattle.std.specs.Prelude.{◌≡◌, ℕ, zero, suc, ◌+◌, ◌<◌, ◌≤◌, List, [], ◌∷◌, length, Bool, ◌==◌, ◌&&◌, nat_le, Option, None, Some, Result, Ok, Err, slice_range, if◌then◌else◌, ⊤, map, find}
-use Rattle.std.specs.List.{filter_map, list_any}
+use Rattle.std.specs.List.{list_any}
 use Rattle.jfr_base.specs.Integer.{IntAt}
 use Rattle.jfr_base.specs.Formats.{int_at}
 use Rattle.jfr_base.specs.declared.flaw.Flaw.{Flaw}
@@ -80,15 +80,6 @@ with_size c at (Some size) = with_type c at size (int_at c size.end (length c))
 
 unfoldable pub record_at : List ℕ → ℕ → Option Framed
 record_at c at = with_size c at (int_at c at (length c))
-
--- The records that start at these places, if each has one.
-abbrev pub records_at : List ℕ → List ℕ → List Framed
-records_at c places = filter_map (record_at c) places
-
--- A record starts at each of these places, and together they are the records of the chunk.
-pub record ArePlaces (c : List ℕ) (places : List ℕ) : Type 0 where
-  pub cover : AreRecords c (records_at c places)
-  pub starts : places ≡ places_of (records_at c places)
 
 -- The record before others, if these are records.
 abbrev pub before_records : Framed → Result (List Framed) Flaw → Result (List Framed) Flaw

@@ -47,7 +47,7 @@ pub fn next_record(chunk: &[u8], at: usize) -> Result<Option<Framed>, Flaw>
 /// The record that starts there, if one does.
 #[inline(always)]
 #[tactic(auto, unfolding(crate::specs::Records::record_at))]
-pub(crate) fn framed_at(chunk: &[u8], at: usize) -> Option<Framed>
+fn framed_at(chunk: &[u8], at: usize) -> Option<Framed>
     requires { at < length chunk.now }
     ensures { result ≡ record_at chunk.now at }
 {
@@ -74,4 +74,14 @@ pub(crate) fn framed_at(chunk: &[u8], at: usize) -> Option<Framed>
         type_id: type_id.value,
         body,
     })
+}
+
+/// The same, out of line, for the rare record whose type is too wide to be kept.
+#[cold]
+#[inline(never)]
+pub(crate) fn wide_framed_at(chunk: &[u8], at: usize) -> Option<Framed>
+    requires { at < length chunk.now }
+    ensures { result ≡ record_at chunk.now at }
+{
+    framed_at(chunk, at)
 }

@@ -1,32 +1,36 @@
 // All records of a chunk.
-ghost use Rattle.std.specs.Prelude.{◌≡◌, ◌≤◌, length, option_map, slice_get, Ok, IfOk, IfErr};
-ghost use Rattle.jfr_frame.specs.Records.{AreRecords, places_of, starts_at, record_there, records_of};
+ghost use Rattle.std.specs.Prelude.{◌≡◌, ◌<◌, ◌≤◌, length, option_map, slice_get, Ok, Some, IfOk, IfErr};
+ghost use Rattle.std.specs.List.Sorted.{IsBinarySearchResult};
+ghost use Rattle.std.specs.Ordering.{nat_cmp};
+ghost use Rattle.jfr_frame.specs.Records.{AreRecords, Rising, places_of, record_end, starts_at, record_there, records_of};
 ghost use Rattle.jfr_frame.specs.Refused.{RefusedAt};
+ghost use Rattle.jfr_frame.specs.Starts.{start_of};
 
-use crate::framed::framed_at;
-use crate::{Framed, next_record};
+use crate::framed::wide_framed_at;
+use crate::start::{Start, WIDE};
+use crate::{FrameRoom, Framed, next_record};
 use jfr_base::ReadFault;
 use std::alloc::Global;
 use std::marker::Model;
 
-/// The records of a chunk, in order. Only their places are kept: a record is read from the chunk's
-/// bytes where it is asked for.
+/// The records of a chunk, in order. Of each only its start is kept, which says all of it but the size:
+/// a record ends where the next one starts, or at the chunk's end.
 #[derive(Drop)]
 pub struct Frames<'a> {
     chunk: &'a [u8],
-    places: Vec<usize>,
+    starts: Vec<Start>,
 }
 
 impl<'a> Model for Frames<'a> {
     ghost use Rattle.std.specs.Prelude.{List};
     ghost use Rattle.jfr_frame.specs.declared.framed.Framed.{Framed};
-    ghost use Rattle.jfr_frame.specs.Records.{ArePlaces, records_at};
+    ghost use Rattle.jfr_frame.specs.Starts.{AreStarts, records_at};
 
     ghost Value = { List Framed };
 
-    ghost view = { λ frames. records_at frames.chunk.now frames.places.items };
+    ghost view = { λ frames. records_at frames.chunk.now frames.starts.items };
 
-    ghost invariant = { λ frames. ArePlaces frames.chunk.now frames.places.items };
+    ghost invariant = { λ frames. AreStarts frames.chunk.now frames.starts.items };
 }
 
 impl<'a> Frames<'a> {
@@ -40,38 +44,40 @@ impl<'a> Frames<'a> {
         // The same by computing.
         ensures exact { IfOk result (λ rs. records_of chunk.now ≡ Ok rs) }
     {
-        Frames::read_in(Vec::new(alloc), chunk)
+        Frames::read_in(FrameRoom::new(alloc), chunk)
     }
 
-    /// The same, where the places are kept in this room, whose content is given up.
-    pub fn read_in(room: Vec<usize>, chunk: &'a [u8]) -> Result<Frames<'a>, ReadFault>
+    /// The same, where the starts are kept in this room, whose content is given up.
+    pub fn read_in(room: FrameRoom, chunk: &'a [u8]) -> Result<Frames<'a>, ReadFault>
         requires { 68 ≤ length chunk.now }
         ensures ok { IfOk result (λ rs. AreRecords chunk.now rs) }
         ensures refused { IfErr result (λ fault. RefusedAt chunk.now fault) }
         ensures exact { IfOk result (λ rs. records_of chunk.now ≡ Ok rs) }
     {
-        let mut places = room;
-        places.clear();
+        let mut starts = room.starts;
+        starts.clear();
         let mut at = 68;
         'records: while let Some(record) = next_record(chunk, at)? {
-            places.push(record.at)?;
+            starts.push(Start::of(record))?;
             at = record.at + record.size;
         }
-        Ok(Frames { chunk, places })
+        Ok(Frames { chunk, starts })
     }
 
-    /// The room of the places, to be used again.
-    pub fn into_room(self) -> Vec<usize>
-        ensures { result.items ≡ places_of self.entry }
+    /// The room of the starts, to be used again.
+    pub fn into_room(self) -> FrameRoom
+        ensures { result ≡ places_of self.entry }
     {
-        self.places
+        FrameRoom {
+            starts: self.starts,
+        }
     }
 
     /// How many records there are.
     pub fn len(&self) -> usize
         ensures { result ≡ length self.now }
     {
-        self.places.len()
+        self.starts.len()
     }
 
     /// The record of a number, from 0; `None` exactly past the end.
@@ -79,8 +85,38 @@ impl<'a> Frames<'a> {
     pub fn get(&self, number: usize) -> Option<Framed>
         ensures { result ≡ slice_get self.now number }
     {
-        let at = self.place(number)?;
-        framed_at(self.chunk, at)
+        let start = self.start(number)?;
+        if start.type_id == WIDE {
+            return wide_framed_at(self.chunk, start.at);
+        }
+        Some(Framed {
+            at: start.at,
+            size: self.end(number) - start.at,
+            type_at: start.at + usize::from(start.type_at),
+            type_id: u64::from(start.type_id),
+            body: start.at + usize::from(start.body),
+        })
+    }
+
+    /// What is kept of the record of a number; `None` exactly past the end.
+    #[inline(always)]
+    fn start(&self, number: usize) -> Option<Start>
+        ensures { result ≡ option_map start_of (slice_get self.now number) }
+    {
+        self.starts.get(number).copied()
+    }
+
+    /// The place after the record of a number.
+    #[inline(always)]
+    fn end(&self, number: usize) -> usize
+        requires { number < length self.now }
+        ensures { option_map record_end (slice_get self.now number) ≡ Some result }
+    {
+        let last = self.chunk.len();
+        match self.start(number + 1) {
+            Some(next) => next.at,
+            None => last,
+        }
     }
 
     /// Where the record of a number starts; `None` exactly past the end. The record is not read.
@@ -88,14 +124,22 @@ impl<'a> Frames<'a> {
     pub fn place(&self, number: usize) -> Option<usize>
         ensures { result ≡ option_map (λ r. r.at) (slice_get self.now number) }
     {
-        self.places.get(number).copied()
+        Some(self.start(number)?.at)
+    }
+
+    /// The number of the record that starts there, or of the first one past it.
+    fn number_at(&self, at: usize) -> Result<usize, usize>
+        ensures position { IsBinarySearchResult (λ place. nat_cmp place at) (places_of self.now) result }
+        ensures order { Rising 68 self.now }
+    {
+        self.starts.binary_search_by_key(&at, |start| start.at)
     }
 
     /// The record of that type that starts there; `None` exactly where none does.
     pub fn find(&self, at: u64, type_id: u64) -> Option<Framed>
         ensures { result ≡ record_there self.now at type_id }
     {
-        let number = match self.places.binary_search(&(at as usize)) {
+        let number = match self.number_at(at as usize) {
             Ok(number) => number,
             Err(_) => return None,
         };

@@ -6,6 +6,9 @@
 mod framed;
 mod frames;
 pub mod laws;
+mod room;
+mod start;
 
 pub use framed::{Framed, next_record};
 pub use frames::Frames;
+pub use room::FrameRoom;

@@ -1,6 +1,7 @@
-use Rattle.std.proofs.Common.{refl}
+use Rattle.std.proofs.Common.{arith, refl}
 use Rattle.std.proofs.lemmas.Result.{err_from_is_err_and}
 use Rattle.jfr_frame.proofs.Reading.{read_more, read_all, read_computed, read_stops}
+use Rattle.jfr_frame.proofs.StartLaws.{head_short}
 use Rattle.jfr_frame.proofs.frames.Frames.read_in.Goals as goal
 
 pub returns-in_err-record-clause-refused : goal.returns-in_err-record-clause-refused
@@ -8,9 +9,14 @@ returns-in_err-record-clause-refused c =
     let p = err_from_is_err_and c.from_residual.result c.from_residual.ensures.1 in
     rw (p.1, p.2) (read_stops _ _ _ _ c.requires c.records.invariant c.in_err-record.ensures.refused (c.in_err-record.ensures.exact c.in_err-record.ensures.refused.1))
 
+pub of-requires-clause-short : goal.of-requires-clause-short
+of-requires-clause-short c =
+    let found = rw c.in-Some.is at c.in_ok-record.ensures.ok in
+    omega (arith, (head_short _ _ found.1).2)
+
 pub records-preserved : goal.records-preserved
 records-preserved c =
-    read_more _ _ _ _ _ c.records.invariant (rw c.in-Some.is at c.in_ok-record.ensures.ok) c.in_ok-push.ensures.items
+    read_more _ _ _ _ _ _ c.records.invariant (rw c.in-Some.is at c.in_ok-record.ensures.ok) c.of.ensures c.in_ok-push.ensures.items
 
 pub invariant_of-result : goal.invariant_of-result
 invariant_of-result c = read_all _ _ _ c.records.invariant (c.in_ok-record.ensures.end.0 (rw c.in_default.is refl))
