@@ -10,5 +10,5 @@ pub record HasNoEvents (index : EventIndex) : Type 0 where
 
 -- Nothing is left in the room.
 pub record IsEmpty (room : Room) : Type 0 where
-  pub places : room.places.items ≡ []
+  pub frames : room.frames ≡ []
   pub events : HasNoEvents room.events

@@ -101,7 +101,7 @@ impl<'a> Chunk<'a> {
         ensures exact { MatchResult result (λ chunk. read_parts bytes.now ≡ Ok chunk) (TellsFlaw (read_parts bytes.now)) }
     {
         let header = header_in(bytes);
-        let frames = Frames::read_in(room.places, bytes)?;
+        let frames = Frames::read_in(room.frames, bytes)?;
         let metadata_frame = record_named(&frames, header.metadata, METADATA, NO_METADATA)?;
         record_named(&frames, header.pools, CHECKPOINT, NO_CHECKPOINT)?;
         let chain = Chain::read(alloc, bytes, &frames, header.pools)?;

@@ -4,12 +4,13 @@ ghost use Rattle.jfr_chunk.specs.Rooms.{IsEmpty};
 
 use crate::chunk::FieldsAt;
 use crate::read::EventIndex;
+use jfr_frame::FrameRoom;
 use std::alloc::Global;
 
 /// The room that the indexes of a chunk took, to be used again for those of the next one.
 #[derive(Drop)]
 pub struct Room {
-    pub(crate) places: Vec<usize>,
+    pub(crate) frames: FrameRoom,
     pub(crate) events: EventIndex,
 }
 
@@ -19,20 +20,20 @@ impl Room {
         ensures { IsEmpty result }
     {
         Room {
-            places: Vec::new(alloc),
+            frames: FrameRoom::new(alloc),
             events: EventIndex::new(alloc),
         }
     }
 
     /// The room of indexes, which are given up.
-    pub(crate) fn of(places: Vec<usize>, fields: Vec<FieldsAt>, numbers: Vec<u32>) -> Room
+    pub(crate) fn of(frames: FrameRoom, fields: Vec<FieldsAt>, numbers: Vec<u32>) -> Room
         ensures { IsEmpty result }
     {
         let mut room = Room {
-            places,
+            frames,
             events: EventIndex { fields, numbers },
         };
-        room.places.clear();
+        room.frames.clear();
         room.events.clear();
         room
     }
