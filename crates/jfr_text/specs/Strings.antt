@@ -66,12 +66,16 @@ counted_bytes = Int unchecked (λ n spelled. Run n (λ bytes. Done bytes))
 abbrev pub counted_integers : Format (List ℕ)
 counted_integers = Int unchecked (λ n spelled. times n integer)
 
+-- The format of a key, behind its kind byte.
+abbrev pub key_format : Format Content
+key_format = integer >>= λ key. Done (Key key)
+
 -- The format of what follows a kind byte.
 abbrev pub after_kind : ℕ → Format Content
 after_kind kind =
     if kind == 0 then Done Null
     else if kind == 1 then Done Empty
-    else if kind == 2 then (integer >>= λ key. Done (Key key))
+    else if kind == 2 then key_format
     else if kind == 3 then (counted_bytes >>= λ bytes. Done (Utf8 bytes))
     else if kind == 4 then (counted_integers >>= λ units. Done (Units units))
     else (counted_bytes >>= λ bytes. Done (Latin bytes))

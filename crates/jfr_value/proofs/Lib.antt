@@ -21,6 +21,7 @@ pub mod SlotLaws
 pub mod StringLaws
 pub mod TakingLaws
 pub mod TargetLaws
+pub mod TextKeys
 pub mod TreeLaws
 pub mod VisitLaws
 pub mod WalkLaws

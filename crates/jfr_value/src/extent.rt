@@ -17,7 +17,7 @@ use crate::part::item_of;
 use crate::walk::STEPS;
 use jfr_base::{Flaw, Reason, read_within};
 use jfr_layout::{Classes, Form, Kind, Shape, Slot};
-use jfr_text::{StringKind, read_string};
+use jfr_text::{StringKind, is_key, read_string};
 
 /// So many groups of an integer have seven bits. Behind them comes one of eight.
 const SHORT_GROUPS: usize = 8;
@@ -352,9 +352,58 @@ fn long_key_end<C, V: Visit<C>>(
     }
 }
 
-/// Where a string of a class ends, whose key is handed on if it is one.
-#[inline(never)]
+/// Where a string of a class ends, whose key is handed on if it is one. Most strings are.
+#[inline(always)]
 fn text_end<C, V: Visit<C>>(
+    class: u64,
+    bytes: &[u8],
+    at: usize,
+    end: usize,
+    visitor: &mut V,
+    with: &C,
+) -> Result<usize, Flaw>
+    requires order { at ≤ end }
+    requires within { end ≤ length bytes.now }
+    requires ready { V.ready visitor.old with.now }
+    ensures exact { result ≡ seen (run (base_format kinds.Text) bytes.now end at) }
+    ensures range { IfOk result (λ to. (at ≤ to) × (to ≤ end)) }
+    ensures visited { IfOk (run (string_format true) bytes.now end at) (λ got.
+        TakesAll (V.takes with.now) (option_to_list (option_map (λ key. (class, key)) (key_of got.value))) visitor.old visitor.new) }
+    ensures ready { V.ready visitor.new with.now }
+{
+    if is_key(bytes, at, end) {
+        return key_end(class, bytes, at + 1, end, visitor, with);
+    }
+    far_text_end(class, bytes, at, end, visitor, with)
+}
+
+/// The same, of a string that may be no key. What the call answers is taken apart here, as in
+/// `compound_end`.
+#[inline(always)]
+fn far_text_end<C, V: Visit<C>>(
+    class: u64,
+    bytes: &[u8],
+    at: usize,
+    end: usize,
+    visitor: &mut V,
+    with: &C,
+) -> Result<usize, Flaw>
+    requires order { at ≤ end }
+    requires within { end ≤ length bytes.now }
+    requires ready { V.ready visitor.old with.now }
+    ensures exact { result ≡ seen (run (base_format kinds.Text) bytes.now end at) }
+    ensures range { IfOk result (λ to. (at ≤ to) × (to ≤ end)) }
+    ensures visited { IfOk (run (string_format true) bytes.now end at) (λ got.
+        TakesAll (V.takes with.now) (option_to_list (option_map (λ key. (class, key)) (key_of got.value))) visitor.old visitor.new) }
+    ensures ready { V.ready visitor.new with.now }
+{
+    let to = long_text_end(class, bytes, at, end, visitor, with)?;
+    Ok(to)
+}
+
+/// The same, read whole.
+#[inline(never)]
+fn long_text_end<C, V: Visit<C>>(
     class: u64,
     bytes: &[u8],
     at: usize,
@@ -381,29 +430,6 @@ fn text_end<C, V: Visit<C>>(
         }
         Err(flaw) => Err(flaw),
     }
-}
-
-/// The same, where what the call answers is taken apart, as in `compound_end`.
-#[inline(always)]
-fn string_key_end<C, V: Visit<C>>(
-    class: u64,
-    bytes: &[u8],
-    at: usize,
-    end: usize,
-    visitor: &mut V,
-    with: &C,
-) -> Result<usize, Flaw>
-    requires order { at ≤ end }
-    requires within { end ≤ length bytes.now }
-    requires ready { V.ready visitor.old with.now }
-    ensures exact { result ≡ seen (run (base_format kinds.Text) bytes.now end at) }
-    ensures range { IfOk result (λ to. (at ≤ to) × (to ≤ end)) }
-    ensures visited { IfOk (run (string_format true) bytes.now end at) (λ got.
-        TakesAll (V.takes with.now) (option_to_list (option_map (λ key. (class, key)) (key_of got.value))) visitor.old visitor.new) }
-    ensures ready { V.ready visitor.new with.now }
-{
-    let to = text_end(class, bytes, at, end, visitor, with)?;
-    Ok(to)
 }
 
 /// Where a value of a base name ends.
@@ -452,7 +478,7 @@ pub(crate) fn slot_end<C, V: Visit<C>>(
         Form::Integer => integer_end(bytes, at, end),
         Form::Raw(count) => run_end(usize::from(count), at, end),
         Form::Key => key_end(slot.shape.class, bytes, at, end, visitor, with),
-        Form::Text => string_key_end(slot.shape.class, bytes, at, end, visitor, with),
+        Form::Text => text_end(slot.shape.class, bytes, at, end, visitor, with),
         Form::Fields | Form::Array => {
             compound_end(classes, slot, bytes, at, end, levels, visitor, with)
         }

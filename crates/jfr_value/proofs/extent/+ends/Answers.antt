@@ -24,11 +24,11 @@ compound_end-fields_end-requires g t c κs within =
     search (rules, slots, room, left)
 
 pub slot_end-returns-in-Text-clause-exact : goal.slot_end-returns-in-Text-clause-exact
-slot_end-returns-in-Text-clause-exact g t c = c.string_key_end.ensures.exact ∙ text_ends c.args.classes.now c.args.slot.now c.args.levels c.args.bytes.now c.args.end c.args.at c.requires.placed c.in-Text.is
+slot_end-returns-in-Text-clause-exact g t c = c.text_end.ensures.exact ∙ text_ends c.args.classes.now c.args.slot.now c.args.levels c.args.bytes.now c.args.end c.args.at c.requires.placed c.in-Text.is
 
 pub slot_end-returns-in-Text-clause-visited : goal.slot_end-returns-in-Text-clause-visited
 slot_end-returns-in-Text-clause-visited g t c =
-    text_taken c.args.classes.now c.args.slot.now c.args.levels c.args.bytes.now c.args.end c.args.at c.requires.placed (g.V.Visit.takes c.args.with.now) c.args.visitor.now c.string_key_end.new.visitor c.in-Text.is c.string_key_end.ensures.visited
+    text_taken c.args.classes.now c.args.slot.now c.args.levels c.args.bytes.now c.args.end c.args.at c.requires.placed (g.V.Visit.takes c.args.with.now) c.args.visitor.now c.text_end.new.visitor c.in-Text.is c.text_end.ensures.visited
 
 pub compound_end-returns-in_err-to-in-Fields : goal.compound_end-returns-in_err-to-in-Fields
 compound_end-returns-in_err-to-in-Fields g t c =

@@ -1,11 +1,10 @@
-use Rattle.jfr_value.proofs.EndLaws.{text_seen}
+use Rattle.std.proofs.Common.{◌∙◌}
+use Rattle.jfr_value.proofs.TextKeys.{key_ends, key_taken}
 use Rattle.jfr_value.proofs.extent.text_end.Goals as goal
 
-pub returns-in-Key-clause-exact : goal.returns-in-Key-clause-exact
-returns-in-Key-clause-exact g c = text_seen c.args.bytes.now c.args.end c.args.at _ c.in-Ok.ensures.exact
+pub returns-then-is_key-clause-exact : goal.returns-then-is_key-clause-exact
+returns-then-is_key-clause-exact g c = c.key_end.ensures.exact ∙ key_ends c.args.bytes.now c.args.end c.args.at (c.is_key.ensures.key c.if-is_key.true)
 
-pub returns-in_default-clause-exact : goal.returns-in_default-clause-exact
-returns-in_default-clause-exact g c = text_seen c.args.bytes.now c.args.end c.args.at _ c.in-Ok.ensures.exact
-
-pub returns-in-Err-clause-exact : goal.returns-in-Err-clause-exact
-returns-in-Err-clause-exact g c = text_seen c.args.bytes.now c.args.end c.args.at _ c.in-Err.ensures.exact
+pub returns-then-is_key-clause-visited : goal.returns-then-is_key-clause-visited
+returns-then-is_key-clause-visited g c =
+    key_taken c.args.bytes.now c.args.end c.args.at (c.is_key.ensures.key c.if-is_key.true) (g.V.Visit.takes c.args.with.now) c.args.class c.args.visitor.now c.key_end.new.visitor c.key_end.ensures.visited

@@ -1,0 +1,29 @@
+-- A string that is a key, by the integer behind its kind byte.
+use Rattle.std.specs.Prelude.{◌≡◌, ℕ, ◌+◌, List, [], ◌∷◌, Ok, Err, IfOk, option_map, option_to_list, true}
+use Rattle.std.proofs.Common.{ap, refl, sym, ◌∙◌, subst}
+use Rattle.jfr_base.specs.Formats.{Answer, Done, integer, on, run, seen}
+use Rattle.jfr_base.proofs.FormatLaws.{run-bind}
+use Rattle.jfr_base.proofs.SeenLaws.{seen-made}
+use Rattle.jfr_layout.specs.declared.kind.Kind.TheVariants as kinds
+use Rattle.jfr_text.specs.Strings.{Content, Key, key_format, string_format}
+use Rattle.jfr_value.specs.Values.{key_of}
+use Rattle.jfr_value.specs.Reading.{base_format}
+use Rattle.jfr_value.specs.Visits.{TakesAll}
+
+module _ (x : List ℕ) (end at : ℕ) (is_key : run (string_format true) x end at ≡ run key_format x end (at + 1)) where
+  -- it ends where the integer does
+  pub key_ends : seen (run integer x end (at + 1)) ≡ seen (run (base_format kinds.Text) x end at)
+  key_ends = sym (seen-made (string_format true) key_of x end at ∙ (ap seen is_key ∙ seen-made integer (λ key. Key key) x end (at + 1)))
+
+  -- and what is handed on is the integer
+  module _ {A : Type 0} (takes : ℕ × ℕ → A → A → Type 0) (class : ℕ) (old new : A) where
+    abbrev Taken : Answer Content → Type 0
+    Taken r = IfOk r (λ got. TakesAll takes (option_to_list (option_map (λ key. (class, key)) (key_of got.value))) old new)
+
+    taken_by : (r : Answer ℕ) → IfOk r (λ key. takes (class, key.value) old new) → Taken (on r (λ key p. run (Done (Key key)) x end p))
+    unfolding run
+    taken_by (Ok r) h = (new, h, refl)
+    taken_by (Err flaw) h = tt
+
+    pub key_taken : IfOk (run integer x end (at + 1)) (λ key. takes (class, key.value) old new) → Taken (run (string_format true) x end at)
+    key_taken h = subst Taken (sym (is_key ∙ run-bind integer (λ key. Done (Key key)) x end (at + 1))) (taken_by (run integer x end (at + 1)) h)
