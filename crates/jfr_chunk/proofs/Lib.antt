@@ -7,6 +7,7 @@ pub mod BoundLaws
 pub mod CountLaws
 pub mod ForceLaws
 mod InertLaws
+mod KeptLaws
 pub mod MeaningLaws
 pub mod Members
 pub mod NotedLaws

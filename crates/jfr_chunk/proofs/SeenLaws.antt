@@ -90,3 +90,14 @@ all_due p from (f ∷ fs) (x ∷ es) numbers e a =
     let d : due p.entries p.classes p.bytes p.records f ≡ node_entries p.entries p.classes p.bytes x.node = ap (λ o. option_map_or (λ (e : EventAt). node_entries p.entries p.classes p.bytes e.node) o []) h in
     let r : a.0 ≡ roots p es = all_due p f.noted fs es a.0 t a.3 in
     a.1 ∙ (ap (λ z. z ++ a.0) d ∙ (ap (λ z. node_entries p.entries p.classes p.bytes x.node ++ z) r ∙ sym (those_append (number_in_force p.entries) (targets p.classes p.bytes x.node) (all_targets p (nodes_of es)))))
+
+-- the record of the fields of a number is that of the event of that number
+pub event_recorded : (p : Parts) (fs : List FieldsAt) (n : ℕ) (f : FieldsAt) → map (event_kept p.records) fs ≡ map Some (events_of p) → slice_get fs n ≡ Some f
+    → Some (slice_get p.records f.record) ≡ option_map (λ (e : EventAt). Some e.record_of) (slice_get (events_of p) n)
+event_recorded p fs n f e g =
+    let m = each_some (event_kept p.records) fs (events_of p) n f e g in
+    ap (λ o. Some o) (by_record m.0 (slice_get p.records f.record) m.1) ∙ ap (option_map (λ (e : EventAt). Some e.record_of)) (sym m.2)
+  where
+    by_record : (x : EventAt) (o : Option Framed) → option_map (event_with f.end) o ≡ Some x → o ≡ Some x.record_of
+    by_record x None q = cc
+    by_record x (Some r) q = let h : event_with f.end r ≡ x = cc in ap (λ (z : EventAt). Some z.record_of) h

@@ -238,6 +238,15 @@ impl<'a> Chunk<'a> {
         self.frames.place(fields.record as usize)
     }
 
+    /// The number of the record of the event of a number; `None` exactly past the end. Neither is read.
+    #[inline]
+    pub fn event_record(&self, number: usize) -> Option<usize>
+        ensures { option_map (slice_get self.now.records) result ≡ option_map (λ e. Some e.record_of) (slice_get (events_of self.now) number) }
+    {
+        let fields = fields_at(&self.events, number)?;
+        Some(fields.record as usize)
+    }
+
     /// The numbers of the entries in force to which the events refer, of one event after another.
     pub fn all_entries(&self) -> &[u32]
         ensures { result.now ≡ roots self.now (events_of self.now) }

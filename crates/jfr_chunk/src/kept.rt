@@ -1,23 +1,27 @@
 // Which events are kept.
 ghost use Rattle.std.specs.Prelude.{◌≡◌, ◌<◌, length, replicate, slice_get, slice_set, false, true, IfOk};
-ghost use Rattle.std.specs.List.{list_all};
+ghost use Rattle.std.specs.List.{count_by, list_all};
 
 use jfr_outside::NoMemory;
 use std::alloc::Global;
 use std::marker::Model;
 
-/// Which events of a chunk are kept: a truth value for each, in the order of the file.
+/// Which events of a chunk are kept: a truth value for each, in the order of the file; and how many are.
 #[derive(Drop)]
 pub struct Kept {
     flags: Vec<bool>,
+    total: usize,
 }
 
 impl Model for Kept {
-    ghost use Rattle.std.specs.Prelude.{List, Bool};
+    ghost use Rattle.std.specs.Prelude.{◌≡◌, List, Bool};
+    ghost use Rattle.std.specs.List.{count_by};
 
     ghost Value = { List Bool };
 
     ghost view = { λ kept. kept.flags.items };
+
+    ghost invariant = { λ kept. kept.total ≡ count_by (λ keep. keep) kept.flags.items };
 }
 
 impl Kept {
@@ -27,7 +31,7 @@ impl Kept {
     {
         let mut flags = Vec::new(alloc);
         flags.resize(count, false)?;
-        Ok(Kept { flags })
+        Ok(Kept { flags, total: 0 })
     }
 
     /// So many events, all of which are kept.
@@ -36,7 +40,10 @@ impl Kept {
     {
         let mut flags = Vec::new(alloc);
         flags.resize(count, true)?;
-        Ok(Kept { flags })
+        Ok(Kept {
+            flags,
+            total: count,
+        })
     }
 
     /// Says of an event, by its number, whether it is kept.
@@ -44,6 +51,8 @@ impl Kept {
         requires { at < length self.old }
         ensures { self.new ≡ slice_set self.old at keep }
     {
+        let before = self.flags[at];
+        self.total = self.total - usize::from(before) + usize::from(keep);
         self.flags[at] = keep;
     }
 
@@ -58,7 +67,14 @@ impl Kept {
     pub fn are_all(&self) -> bool
         ensures { result ≡ list_all (λ keep. keep) self.now }
     {
-        self.flags.iter().all(|keep| *keep)
+        self.total == self.flags.len()
+    }
+
+    /// How many events are kept.
+    pub fn kept_count(&self) -> usize
+        ensures { result ≡ count_by (λ keep. keep) self.now }
+    {
+        self.total
     }
 
     /// How many events there are.

@@ -142,6 +142,8 @@ fn events_end_with_their_last_field(rt: HostRuntime) -> Result<(), Fail> {
         .map(|e| (e.frame.at, e.node.at, e.node.end, e.frame.size));
     assert_eq!(rt; places, Some((330, 332, 333, 4)));
     assert!(rt; chunk.event(2).is_none());
+    assert_eq!(rt; chunk.event_record(1), Some(2));
+    assert!(rt; chunk.event_record(2).is_none());
     Ok(())
 }
 
