@@ -6,6 +6,7 @@ pub mod StayLaws
 pub mod CursorLaws
 pub mod BodyLaws
 pub mod FitLaws
+pub mod AheadLaws
 pub mod RunLaws
 pub mod CountLaws
 pub mod HeadlineLaws

@@ -1,10 +1,12 @@
 -- Runs of kept events.
-use Rattle.std.specs.Prelude.{◌≡◌, ◌⊎◌, ℕ, zero, suc, ◌+◌, ◌-◌, ◌<◌, ◌≤◌, Bool, true, false, ◌||◌, ◌&&◌, ◌==◌, List, [], ◌∷◌, ◌++◌, length, map, drop, reverse, slice_get, slice_range, Option, Some, None, option_map, option_and_then, unwrap_or, if◌then◌else◌}
-use Rattle.std.specs.List.{AllByRecursion, cons_option, filter_map, flat_map}
+use Rattle.std.specs.Prelude.{◌≡◌, ℕ, zero, suc, ◌+◌, ◌-◌, ◌<◌, ◌≤◌, Bool, true, false, ◌||◌, ◌&&◌, ◌==◌, List, [], ◌∷◌, ◌++◌, length, map, drop, reverse, slice_get, slice_range, Option, Some, None, option_map, option_and_then, unwrap_or, if◌then◌else◌}
+use Rattle.std.specs.List.{AllByRecursion, cons_option, filter_map, flat_map, list_all}
 use Rattle.std.specs.Option.{option_map_or}
-use Rattle.std.proofs.Common.{ap, arith, refl, sym, ◌∙◌, subst, inl, inr, add-one, length-append}
+use Rattle.std.proofs.Common.{ap, arith, refl, sym, ◌∙◌, subst, add-one, length-append}
 use Rattle.std.proofs.lemmas.Bool.Decides.{nat_tests}
 use Rattle.std.proofs.lemmas.List.{append-nil}
+use Rattle.std.proofs.lemmas.Option.{slice_get_within}
+use Rattle.jfr_layout.specs.Classes.{is_event_class}
 use Rattle.jfr_base.proofs.Ranges.{range_length, range_none, range_split}
 use Rattle.jfr_frame.specs.declared.framed.Framed.{Framed}
 use Rattle.jfr_frame.specs.Records.{IsRecord, Tiles, record_bytes, record_end}
@@ -14,22 +16,20 @@ use Rattle.jfr_pool.specs.declared.link.Link.{Link}
 use Rattle.jfr_chunk.specs.Parts.{Parts, EventAt, AreParts, events_of, metadata_at}
 use Rattle.jfr_chunk.specs.Reach.{kept_by}
 use Rattle.jfr_chunk.specs.Scrub.{Stay, Whole, stay_by, stay_of, written, written_bytes}
-use Rattle.jfr_chunk.proofs.AllLaws.{all_append}
+use Rattle.jfr_chunk.proofs.AllLaws.{all_append, all_get}
+use Rattle.jfr_laws.proofs.Quiet.{IsQuiet, quiet_records}
 use Rattle.jfr_scrub.specs.declared.body.Body.{Body}
 use Rattle.jfr_scrub.specs.declared.run.Run.{Run}
 use Rattle.jfr_scrub.specs.declared.stays.Cursor.{Cursor}
 use Rattle.jfr_scrub.specs.Bodies.{body_with, place_seen}
 use Rattle.jfr_scrub.specs.Pieces.{Laying, more}
-use Rattle.jfr_scrub.specs.Runs.{IsRun, body_with_run, is_in_run, link_start}
-use Rattle.jfr_scrub.specs.Staying.{IsCursor, event_behind, is_kept_at, link_behind, linked_at, still_stays}
+use Rattle.jfr_scrub.specs.Runs.{HasEventAt, IsRun, Passes, body_with_run, is_in_run, record_start}
+use Rattle.jfr_scrub.specs.Staying.{IsCursor, is_kept_at, link_behind, link_there, linked_at, still_stays}
+use Rattle.jfr_scrub.proofs.AheadLaws.{event_recorded, in_run}
 use Rattle.jfr_scrub.proofs.BodyLaws.{Going, going_next}
 use Rattle.jfr_scrub.proofs.CheckpointLaws.{more_more}
-use Rattle.jfr_scrub.proofs.CursorLaws.{cursor_passed, event_in, events_given, stays_at}
+use Rattle.jfr_scrub.proofs.CursorLaws.{cursor_passed, stays_at}
 use Rattle.jfr_scrub.proofs.FitLaws.{some_written}
-
--- where the record of a number starts; behind the last one, the chunk's end
-abbrev pub record_start : Parts → ℕ → ℕ
-record_start p n = option_map_or (λ r. r.at) (slice_get p.records n) (length p.bytes)
 
 -- the cursor behind its event
 abbrev pub next_event : Cursor → Cursor
@@ -45,97 +45,63 @@ pub record AtRun (p : Parts) (flags : List Bool) (c : Cursor) : Type 0 where
   pub cursor : IsCursor p flags (next_event c)
   pub stays : still_stays p flags c ≡ Whole frame ∷ still_stays p flags (next_event c)
 
-some_less : {X : Type 0} (xs : List X) (n : ℕ) (x : X) → slice_get xs n ≡ Some x → n < length xs
-some_less [] n x e = cc
-some_less (y ∷ xs) zero x e = omega arith
-some_less (y ∷ xs) (suc n) x e = let i = some_less xs n x e in omega arith
-
-kept_behind : (es : List EventAt) (flags : List Bool) (n at : ℕ) → is_kept_at es flags n at ≡ true → (n < length es) × (event_behind es n at ≡ n + 1)
-kept_behind es flags n at h = by_event (slice_get es n) refl h
+unlinked : (ls : List Link) (n at : ℕ) → linked_at ls n at ≡ None → link_behind ls n at ≡ n
+unlinked ls n at e = by_link (slice_get ls n) e
   where
-    by_test : (b f : Bool) → b && f ≡ true → (if b then n + 1 else n) ≡ n + 1
-    by_test true f h = refl
-    by_test false f h = cc
+    there : Link → Option (ℕ × Link)
+    there l = Some (n, l)
 
-    by_event : (o : Option EventAt) → slice_get es n ≡ o → option_map_or (λ e. (e.record_of.at == at) && unwrap_or (slice_get flags n) false) o false ≡ true → (n < length es) × (option_map_or (λ e. if e.record_of.at == at then n + 1 else n) o n ≡ n + 1)
-    by_event None q h = cc
-    by_event (Some e) q h = (some_less es n e q, by_test (e.record_of.at == at) (unwrap_or (slice_get flags n) false) h)
+    by_test : (l : Link) (b : Bool) → (if b then there l else None) ≡ None → (if b then n + 1 else n) ≡ n
+    by_test l true e = cc
+    by_test l false e = refl
 
-not_linked : (ls : List Link) (n at end : ℕ) → (at == option_map_or (λ l. l.frame.at) (slice_get ls n) end) ≡ false → (linked_at ls n at ≡ None) × (link_behind ls n at ≡ n)
-not_linked ls n at end h = by_link (slice_get ls n) h
+    by_link : (o : Option Link) → option_and_then (λ l. if l.frame.at == at then there l else None) o ≡ None → option_map_or (λ l. if l.frame.at == at then n + 1 else n) o n ≡ n
+    by_link None e = refl
+    by_link (Some l) e = by_test l (l.frame.at == at) e
+
+-- an event is neither the metadata record nor a chained checkpoint
+event_alone : (p : Parts) (a : AreParts p) (n : ℕ) (r : Framed) → slice_get p.records n ≡ Some r → is_event_class p.classes r.type_id ≡ true → ((r.at == metadata_at p.bytes) ≡ false) × (link_there p r ≡ None)
+event_alone p a n r e t = (by_test (r.at == metadata_at p.bytes) q.on_metadata, by_link (link_there p r) q.on_chained)
   where
-    by_link : (o : Option Link) → (at == option_map_or (λ l. l.frame.at) o end) ≡ false → (option_and_then {U = ℕ × Link} (λ l. if l.frame.at == at then Some (n, l) else None) o ≡ None) × (option_map_or (λ l. if l.frame.at == at then n + 1 else n) o n ≡ n)
-    by_link None h = (refl, refl)
-    by_link (Some l) h =
-        let e : (l.frame.at == at) ≡ false = grind (arith, nat_tests, h) in
-        let there : Option (ℕ × Link) = Some (n, l) in
-        (ap (λ b. if b then there else None) e, ap (λ b. if b then n + 1 else n) e)
+    q : IsQuiet p a r
+    q = all_get (IsQuiet p a) p.records n r (quiet_records p a) e
 
-pub at_run : (p : Parts) (flags : List Bool) (c : Cursor) (b : Bool) → IsCursor p flags c → b ≡ is_in_run p flags c → b ≡ true → AtRun p flags c
-at_run p flags c b i t h = by_record (slice_get p.records c.frame) refl (sym t ∙ h)
-  where
-    by_parts : (r : Framed) → slice_get p.records c.frame ≡ Some r → (r.at == link_start p c.link) ≡ false → (r.at == metadata_at p.bytes) ≡ false → is_kept_at (events_of p) flags c.event r.at ≡ true → AtRun p flags c
-    by_parts r e l m k =
-        let u = cursor_passed p flags c r i e in
-        let v = not_linked (reverse p.chain) c.link r.at (length p.bytes) l in
-        let w = kept_behind (events_of p) flags c.event r.at k in
-        let s : stay_of p (kept_by p flags) r ≡ Some (Whole r) = λ j. stay_by ((sym u.2 ∙ v.0) j) ((sym u.1 ∙ k) j || (r.at == metadata_at p.bytes)) r in
-        record {
-          frame = r;
-          there = e;
-          more = some_less p.records c.frame r e;
-          event = w.0;
-          other = m;
-          cursor = subst (IsCursor p flags) (λ j. record { frame = c.frame + 1; event = w.1 j; link = v.1 j }) u.0;
-          stays = stays_at p flags c r e ∙ ap (λ o. cons_option o (filter_map (stay_of p (kept_by p flags)) (drop (c.frame + 1) p.records))) s;
-        }
+    no_event : is_event_class p.classes r.type_id ≡ false → ⊥
+    no_event f = let g : true ≡ false = sym t ∙ f in cc
 
-    by_tests : (r : Framed) → slice_get p.records c.frame ≡ Some r → (a : Bool) → (r.at == link_start p c.link) ≡ a → (b : Bool) → (r.at == metadata_at p.bytes) ≡ b → (if a || b then false else is_kept_at (events_of p) flags c.event r.at) ≡ true → AtRun p flags c
-    by_tests r e true l b m h = cc
-    by_tests r e false l true m h = cc
-    by_tests r e false l false m h = by_parts r e l m h
+    by_test : (b : Bool) → (b ≡ true → is_event_class p.classes r.type_id ≡ false) → b ≡ false
+    by_test true h = absurd (no_event (h refl))
+    by_test false h = refl
 
-    by_record : (o : Option Framed) → slice_get p.records c.frame ≡ o → option_map_or (λ r. if (r.at == link_start p c.link) || (r.at == metadata_at p.bytes) then false else is_kept_at (events_of p) flags c.event r.at) o false ≡ true → AtRun p flags c
-    by_record None e h = cc
-    by_record (Some r) e h = by_tests r e (r.at == link_start p c.link) refl (r.at == metadata_at p.bytes) refl h
+    by_link : (o : Option (ℕ × Link)) → ((l : ℕ × Link) → o ≡ Some l → (is_event_class p.classes r.type_id ≡ false) × (is_event_class p.classes l.1.frame.type_id ≡ false)) → o ≡ None
+    by_link None h = refl
+    by_link (Some l) h = absurd (no_event ((h l refl).0))
 
-differs : (m n : ℕ) → (m ≡ n → ⊥) → (m == n) ≡ false
-differs m n h = by_test (m == n) refl
-  where
-    by_test : (b : Bool) → (m == n) ≡ b → b ≡ false
-    by_test true t = absurd (h (grind (arith, t)))
-    by_test false t = refl
-
--- what is computed of the cursor's record
-pub tells_run : (p : Parts) (flags : List Bool) (c : Cursor) (frames : List Framed) (link metadata at : ℕ) (here : Option ℕ) (keep : Bool) → frames ≡ p.records → metadata ≡ metadata_at p.bytes → here ≡ option_map (λ r. r.at) (slice_get frames c.frame) → here ≡ Some at →
-    link ≡ link_start p c.link → (at ≡ link → ⊥) → (at ≡ metadata → ⊥) → keep ≡ is_kept_at (events_of p) flags c.event at → keep ≡ is_in_run p flags c
-tells_run p flags c frames link metadata at here keep f m o h s l n k = by_record (slice_get p.records c.frame) (sym h ∙ (o ∙ ap (λ rs. option_map (λ r. r.at) (slice_get rs c.frame)) f))
-  where
-    by_record : (o : Option Framed) → Some at ≡ option_map (λ r. r.at) o → keep ≡ option_map_or (λ r. if (r.at == link_start p c.link) || (r.at == metadata_at p.bytes) then false else is_kept_at (events_of p) flags c.event r.at) o false
-    by_record None e = cc
-    by_record (Some r) e =
-        let q : at ≡ r.at = ap (λ z. unwrap_or z 0) e in
-        let u : (r.at == link_start p c.link) ≡ false = differs r.at (link_start p c.link) (λ d. l (q ∙ (d ∙ sym s))) in
-        let v : (r.at == metadata_at p.bytes) ≡ false = differs r.at (metadata_at p.bytes) (λ d. n (q ∙ (d ∙ sym m))) in
-        k ∙ (ap (is_kept_at (events_of p) flags c.event) q ∙ sym (ap (λ b. if b then false else is_kept_at (events_of p) flags c.event r.at) (λ i. u i || v i)))
-
-pub ends_run : (p : Parts) (flags : List Bool) (c : Cursor) (frames : List Framed) (at : ℕ) (here : Option ℕ) → frames ≡ p.records → here ≡ option_map (λ r. r.at) (slice_get frames c.frame) → here ≡ Some at → ((at ≡ link_start p c.link) ⊎ (at ≡ metadata_at p.bytes)) →
-    false ≡ is_in_run p flags c
-ends_run p flags c frames at here f o h e = by_record (slice_get p.records c.frame) (sym h ∙ (o ∙ ap (λ rs. option_map (λ r. r.at) (slice_get rs c.frame)) f))
-  where
-    by_place : (m link metadata : ℕ) (b : Bool) → ((m ≡ link) ⊎ (m ≡ metadata)) → false ≡ (if (m == link) || (m == metadata) then false else b)
-    by_place m link metadata b (inl e) = let t : (m == link) ≡ true = grind (arith, nat_tests) in rw t refl
-    by_place m link metadata b (inr e) = let t : (m == metadata) ≡ true = grind (arith, nat_tests) in rw t (either (m == link))
-      where
-        either : (x : Bool) → false ≡ (if x || true then false else b)
-        either true = refl
-        either false = refl
-
-    by_record : (o : Option Framed) → Some at ≡ option_map (λ r. r.at) o → false ≡ option_map_or (λ r. if (r.at == link_start p c.link) || (r.at == metadata_at p.bytes) then false else is_kept_at (events_of p) flags c.event r.at) o false
-    by_record None q = cc
-    by_record (Some r) q = subst (λ m. false ≡ (if (m == link_start p c.link) || (m == metadata_at p.bytes) then false else is_kept_at (events_of p) flags c.event m)) (ap (λ z. unwrap_or z 0) q) (by_place at (link_start p c.link) (metadata_at p.bytes) (is_kept_at (events_of p) flags c.event at) e)
+pub at_run : (p : Parts) (flags : List Bool) (c : Cursor) → IsCursor p flags c → is_in_run p flags c ≡ true → AtRun p flags c
+at_run p flags c i h =
+    let x = in_run p flags c i h in
+    let u = cursor_passed p flags c x.frame i x.framed in
+    let w = event_alone p i.parts c.frame x.frame x.framed ((event_recorded p x.frame x.event x.given).1) in
+    let l : link_behind (reverse p.chain) c.link x.frame.at ≡ c.link = unlinked (reverse p.chain) c.link x.frame.at (u.2 ∙ w.1) in
+    let s : stay_of p (kept_by p flags) x.frame ≡ Some (Whole x.frame) = λ j. stay_by (w.1 j) ((sym u.1 ∙ x.keep) j || (x.frame.at == metadata_at p.bytes)) x.frame in
+    record {
+      frame = x.frame;
+      there = x.framed;
+      more = slice_get_within p.records c.frame x.frame x.framed;
+      event = slice_get_within (events_of p) c.event x.event x.there;
+      other = w.0;
+      cursor = subst (IsCursor p flags) (λ j. record { frame = c.frame + 1; event = x.behind j; link = l j }) u.0;
+      stays = stays_at p flags c x.frame x.framed ∙ ap (λ o. cons_option o (filter_map (stay_of p (kept_by p flags)) (drop (c.frame + 1) p.records))) s;
+    }
 
 -- what is computed of a record's place
+pub tells_run : (p : Parts) (flags : List Bool) (c : Cursor) (frames : List Framed) (here : Option ℕ) → frames ≡ p.records → here ≡ option_map (λ r. r.at) (slice_get frames c.frame) → option_map_or (is_kept_at (events_of p) flags c.event) here false ≡ is_in_run p flags c
+tells_run p flags c frames here f e = ap (λ o. option_map_or (is_kept_at (events_of p) flags c.event) o false) (e ∙ ap (λ rs. option_map (λ r. r.at) (slice_get rs c.frame)) f) ∙ by_record (slice_get p.records c.frame)
+  where
+    by_record : (o : Option Framed) → option_map_or (is_kept_at (events_of p) flags c.event) (option_map (λ r. r.at) o) false ≡ option_map_or (λ r. is_kept_at (events_of p) flags c.event r.at) o false
+    by_record None = refl
+    by_record (Some r) = refl
+
 pub starts_there : (p : Parts) (frames : List Framed) (bytes : List ℕ) (n : ℕ) (here : Option ℕ) (at : ℕ) → frames ≡ p.records → bytes ≡ p.bytes → here ≡ option_map (λ r. r.at) (slice_get frames n) → at ≡ unwrap_or here (length bytes) → at ≡ record_start p n
 starts_there p frames bytes n here at f b h a = a ∙ ((λ i. unwrap_or ((h ∙ ap (λ rs. option_map (λ r. r.at) (slice_get rs n)) f) i) (length (b i))) ∙ by_record (slice_get p.records n))
   where
@@ -180,28 +146,51 @@ run_next p flags c d from u a =
       stays = u.stays ∙ (ap (λ ss. map (λ r. Whole r) u.records ++ ss) a.stays ∙ more_stays u.records a.frame (still_stays p flags (next_event d)));
     }
 
--- there are no more records than bytes, and no more events than records
-few_records : (c : List ℕ) (p q : ℕ) (rs : List Framed) → Tiles c p rs q → p + length rs ≤ q
-few_records c p q [] t = let e : p ≡ q = t in omega arith
-few_records c p q (r ∷ rs) t = let e : r.at ≡ p = t.0 in let b = some_bytes c r t.1 in let i = few_records c (record_end r) q rs t.2 in omega arith
+-- where all events are kept, those that stand one behind another are a run
+all_flags : (flags : List Bool) (n : ℕ) → list_all (λ keep. keep) flags ≡ true → n < length flags → unwrap_or (slice_get flags n) false ≡ true
+all_flags [] n a l = absurd (omega (arith, l))
+all_flags (false ∷ flags) n a l = cc
+all_flags (true ∷ flags) zero a l = refl
+all_flags (true ∷ flags) (suc n) a l = all_flags flags n a (omega (arith, l))
 
-few_given : (f : Framed → Option EventAt) (rs : List Framed) → length (filter_map f rs) ≤ length rs
-few_given f [] = omega arith
-few_given f (r ∷ rs) = by_value (f r) (few_given f rs)
+-- which events are kept: all
+pub record AllKept (p : Parts) (flags : List Bool) : Type 0 where
+  pub set : list_all (λ keep. keep) flags ≡ true
+  pub each : length flags ≡ length (events_of p)
+
+kept_there : (p : Parts) (flags : List Bool) (d : Cursor) (x : EventAt) → AllKept p flags → slice_get (events_of p) d.event ≡ Some x → slice_get p.records d.frame ≡ Some x.record_of → is_in_run p flags d ≡ true
+kept_there p flags d x a t f =
+    let l : d.event < length flags = omega (arith, a.each, slice_get_within (events_of p) d.event x t) in
+    let k : (x.record_of.at == x.record_of.at) ≡ true = grind (arith, nat_tests) in
+    ap (λ o. option_map_or (λ r. is_kept_at (events_of p) flags d.event r.at) o false) f
+    ∙ (ap (λ o. option_map_or (λ e. (e.record_of.at == x.record_of.at) && unwrap_or (slice_get flags d.event) false) o false) t
+    ∙ (λ j. k j && all_flags flags d.event a.set l j))
+
+-- the cursor behind so many events
+abbrev pub behind : Cursor → ℕ → Cursor
+behind c n = record { frame = c.frame + n; event = c.event + n; link = c.link }
+
+pub passes_none : (p : Parts) (flags : List Bool) (c : Cursor) → IsCursor p flags c → Passes p flags c c
+passes_none p flags c i = record { cursor = i; run = run_none p flags c (record_start p c.frame) i refl }
+
+pub passes_next : (p : Parts) (flags : List Bool) (c d : Cursor) → Passes p flags c d → is_in_run p flags d ≡ true → Passes p flags c (next_event d)
+passes_next p flags c d u h = let a = at_run p flags d u.cursor h in record { cursor = a.cursor; run = run_next p flags c d (record_start p c.frame) u.run a }
+
+pub passes_events : (p : Parts) (flags : List Bool) (c : Cursor) → IsCursor p flags c → AllKept p flags → (n : ℕ) → ((offset : ℕ) → offset < n → HasEventAt p c offset) → Passes p flags c (behind c n)
+passes_events p flags c i a zero h = subst (Passes p flags c) (λ j. let e : (m : ℕ) → m ≡ m + 0 = λ m. omega arith in record { frame = e c.frame j; event = e c.event j; link = c.link }) (passes_none p flags c i)
+passes_events p flags c i a (suc n) h =
+    let u = passes_events p flags c i a n (λ k l. h k (omega (arith, l))) in
+    let x = h n (omega arith) in
+    let e : (m : ℕ) → (m + n) + 1 ≡ m + suc n = λ m. omega arith in
+    subst (Passes p flags c) (λ j. record { frame = e c.frame j; event = e c.event j; link = c.link }) (passes_next p flags c (behind c n) u (kept_there p flags (behind c n) x.event a x.there x.framed))
+
+-- and it ends where the next record isn't the next event
+pub ends_events : (p : Parts) (flags : List Bool) (c : Cursor) (n : ℕ) → IsCursor p flags (behind c n) → (HasEventAt p c n → ⊥) → is_in_run p flags (behind c n) ≡ false
+ends_events p flags c n i h = by_test (is_in_run p flags (behind c n)) refl
   where
-    by_value : (o : Option EventAt) → length (filter_map f rs) ≤ length rs → length (cons_option o (filter_map f rs)) ≤ suc (length rs)
-    by_value None h = omega arith
-    by_value (Some e) h = omega arith
-
-few_events : (p : Parts) → length (events_of p) ≤ length p.records
-unfolding events_of
-few_events p = subst (λ es. length es ≤ length p.records) (sym (events_given p p.records)) (few_given (event_in p) p.records)
-
-pub run_small : (p : Parts) (flags : List Bool) (c : Cursor) → AtRun p flags c → (c.frame < length p.bytes) × (c.event < length p.bytes)
-run_small p flags c a =
-    let i = few_records p.bytes 68 (length p.bytes) p.records a.cursor.parts.records in
-    let j = few_events p in
-    (omega (arith, a.more), omega (arith, a.event))
+    by_test : (b : Bool) → is_in_run p flags (behind c n) ≡ b → b ≡ false
+    by_test true t = let x = in_run p flags (behind c n) i t in absurd (h (record { event = x.event; there = x.there; framed = x.framed ∙ ap (λ r. Some r) (sym ((event_recorded p x.frame x.event x.given).0)) }))
+    by_test false t = refl
 
 -- a run is laid out as its records are, one behind another
 seen_before : (before : Option ℕ) (at : ℕ) → place_seen before false at ≡ before

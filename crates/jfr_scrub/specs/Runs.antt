@@ -1,25 +1,41 @@
 -- Runs of kept events.
-use Rattle.std.specs.Prelude.{◌≡◌, ℕ, ◌+◌, ◌-◌, ◌≤◌, Bool, false, ◌||◌, ◌==◌, List, ◌++◌, length, map, reverse, slice_get, slice_range, if◌then◌else◌}
+use Rattle.std.specs.Prelude.{◌≡◌, ℕ, ◌+◌, ◌-◌, ◌^◌, ◌<◌, ◌≤◌, Bool, false, ◌==◌, List, ◌++◌, length, map, drop, slice_get, slice_range, Some}
 use Rattle.std.specs.List.{AllByRecursion}
 use Rattle.std.specs.Option.{option_map_or}
 use Rattle.jfr_frame.specs.declared.framed.Framed.{Framed}
 use Rattle.jfr_frame.specs.Records.{Tiles}
-use Rattle.jfr_chunk.specs.Parts.{Parts, events_of, metadata_at}
+use Rattle.jfr_chunk.specs.Parts.{Parts, EventAt, events_of, metadata_at}
 use Rattle.jfr_chunk.specs.Scrub.{Whole}
 use Rattle.jfr_scrub.specs.declared.body.Body.{Body}
 use Rattle.jfr_scrub.specs.declared.run.Run.{Run}
 use Rattle.jfr_scrub.specs.declared.stays.Cursor.{Cursor}
 use Rattle.jfr_scrub.specs.Pieces.{more}
-use Rattle.jfr_scrub.specs.Staying.{is_kept_at, still_stays}
+use Rattle.jfr_scrub.specs.Scrubbing.{IsAccepted}
+use Rattle.jfr_scrub.specs.Staying.{IsCursor, events_from, is_kept_at, still_stays}
 
--- Where the chained checkpoint of a number starts; behind the last one, the chunk's end.
-abbrev pub link_start : Parts → ℕ → ℕ
-link_start p n = option_map_or (λ l. l.frame.at) (slice_get (reverse p.chain) n) (length p.bytes)
+-- Where the record of a number starts; behind the last one, the chunk's end.
+abbrev pub record_start : Parts → ℕ → ℕ
+record_start p n = option_map_or (λ r. r.at) (slice_get p.records n) (length p.bytes)
 
--- The cursor's record is its event and is kept, and is neither its chained checkpoint nor the metadata record.
+-- The cursor's record is its event and is kept.
 abbrev pub is_in_run : Parts → List Bool → Cursor → Bool
-is_in_run p flags c =
-    option_map_or (λ r. if (r.at == link_start p c.link) || (r.at == metadata_at p.bytes) then false else is_kept_at (events_of p) flags c.event r.at) (slice_get p.records c.frame) false
+is_in_run p flags c = option_map_or (λ r. is_kept_at (events_of p) flags c.event r.at) (slice_get p.records c.frame) false
+
+-- The parts stand in a whole chunk, and the cursor's events are those of the records from its record on.
+pub record IsAtEvents (p : Parts) (c : Cursor) : Type 0 where
+  pub accepted : IsAccepted p
+  pub events : drop c.event (events_of p) ≡ events_from p (drop c.frame p.records)
+
+-- The record so far behind the cursor's is that of the event as far behind the cursor's.
+pub record HasEventAt (p : Parts) (c : Cursor) (offset : ℕ) : Type 0 where
+  pub event : EventAt
+  pub there : slice_get (events_of p) (c.event + offset) ≡ Some event
+  pub framed : slice_get p.records (c.frame + offset) ≡ Some event.record_of
+
+-- The numbers so far behind the cursor's have 64 bits.
+pub record HasRoom (c : Cursor) (offset : ℕ) : Type 0 where
+  pub event : c.event + offset < 2 ^ 64
+  pub frame : c.frame + offset < 2 ^ 64
 
 -- Records that stay whole take a range of the chunk, one behind another, and none is the metadata record. What stays at one cursor are these, and then what stays at another.
 pub record IsRun (p : Parts) (flags : List Bool) (c d : Cursor) (from to : ℕ) : Type 0 where
@@ -28,6 +44,11 @@ pub record IsRun (p : Parts) (flags : List Bool) (c d : Cursor) (from to : ℕ) 
   pub within : to ≤ length p.bytes
   pub others : AllByRecursion (λ r. (r.at == metadata_at p.bytes) ≡ false) records
   pub stays : still_stays p flags c ≡ map (λ r. Whole r) records ++ still_stays p flags d
+
+-- The cursor moves from its record behind a run.
+pub record Passes (p : Parts) (flags : List Bool) (c d : Cursor) : Type 0 where
+  pub cursor : IsCursor p flags d
+  pub run : IsRun p flags c d (record_start p c.frame) (record_start p d.frame)
 
 -- The body with a range of the chunk more.
 abbrev pub body_with_run : Body → Run → Body

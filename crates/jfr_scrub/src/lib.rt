@@ -4,6 +4,7 @@
 //! `specs/Headline.antt` and `specs/Pieces.antt` first.
 #![tactic(auto)]
 
+mod ahead;
 mod body;
 mod checkpoint;
 mod left;

@@ -1,9 +1,11 @@
 // Runs of kept events, which are copied as they stand.
 ghost use Rattle.std.specs.Prelude.{◌≡◌, false};
 ghost use Rattle.jfr_chunk.specs.Parts.{events_of};
-ghost use Rattle.jfr_scrub.specs.Runs.{IsRun, is_in_run, link_start};
+ghost use Rattle.jfr_scrub.specs.Runs.{IsRun, Passes, is_in_run};
+ghost use Rattle.jfr_scrub.specs.Scrubbing.{IsAccepted};
 ghost use Rattle.jfr_scrub.specs.Staying.{IsCursor, is_kept_at};
 
+use crate::ahead::events_ahead;
 use crate::stays::Cursor;
 use jfr_chunk::{Chunk, Kept};
 
@@ -14,8 +16,8 @@ pub(crate) struct Run {
     pub(crate) to: usize,
 }
 
-/// The kept events that stand from the cursor on, one behind another: up to another record, the
-/// metadata record or a chained checkpoint. The cursor moves behind them. No record is read.
+/// The kept events that stand from the cursor on, one behind another, up to another record. The cursor
+/// moves behind them. No record is read.
 #[inline(always)]
 pub(crate) fn pass_run(chunk: &Chunk, kept: &Kept, cursor: &mut Cursor) -> Run
     requires { IsCursor chunk.now kept.now cursor.old }
@@ -25,41 +27,50 @@ pub(crate) fn pass_run(chunk: &Chunk, kept: &Kept, cursor: &mut Cursor) -> Run
 {
     let frames = chunk.frames();
     let end = chunk.bytes().len();
-    let link = link_start(chunk, cursor.link);
     let from = frames.place(cursor.frame).unwrap_or(end);
-    'run: while is_in_run(chunk, kept, cursor, link) {
-        cursor.frame += 1;
-        cursor.event += 1;
-    }
+    pass_kept(chunk, kept, cursor);
     let to = frames.place(cursor.frame).unwrap_or(end);
     Run { from, to }
 }
 
-// Where the chained checkpoint of a number starts; behind the last one, the chunk's end.
-#[inline(always)]
-fn link_start(chunk: &Chunk, number: usize) -> usize
-    ensures { result ≡ link_start chunk.now number }
+// Moves the cursor behind the run.
+fn pass_kept(chunk: &Chunk, kept: &Kept, cursor: &mut Cursor)
+    requires accepted { IsAccepted chunk.now }
+    requires cursor { IsCursor chunk.now kept.now cursor.old }
+    ensures passed { Passes chunk.now kept.now cursor.old cursor.new }
+    ensures all { is_in_run chunk.now kept.now cursor.new ≡ false }
 {
-    match chunk.chain().get(number) {
-        Some(link) => link.frame.at,
-        None => chunk.bytes().len(),
+    if kept.are_all() && kept.len() == chunk.event_count() {
+        let count = events_ahead(chunk, cursor);
+        cursor.frame += count;
+        cursor.event += count;
+        return;
+    }
+    pass_each(chunk, kept, cursor);
+}
+
+// The same, of one record after another.
+fn pass_each(chunk: &Chunk, kept: &Kept, cursor: &mut Cursor)
+    requires accepted { IsAccepted chunk.now }
+    requires cursor { IsCursor chunk.now kept.now cursor.old }
+    ensures passed { Passes chunk.now kept.now cursor.old cursor.new }
+    ensures all { is_in_run chunk.now kept.now cursor.new ≡ false }
+{
+    'run: while is_in_run(chunk, kept, cursor) {
+        cursor.frame += 1;
+        cursor.event += 1;
     }
 }
 
-// Whether the cursor's record is its event and is kept, and is neither the metadata record nor its
-// chained checkpoint, of which the place is known.
+// Whether the cursor's record is its event and is kept.
 #[inline(always)]
-fn is_in_run(chunk: &Chunk, kept: &Kept, cursor: &Cursor, link: usize) -> bool
-    requires { link ≡ link_start chunk.now cursor.now.link }
+fn is_in_run(chunk: &Chunk, kept: &Kept, cursor: &Cursor) -> bool
     ensures { result ≡ is_in_run chunk.now kept.now cursor.now }
 {
-    let Some(at) = chunk.frames().place(cursor.frame) else {
-        return false;
-    };
-    if at == link || at as u64 == chunk.header().metadata {
-        return false;
+    match chunk.frames().place(cursor.frame) {
+        Some(at) => is_kept_at(chunk, kept, cursor.event, at),
+        None => false,
     }
-    is_kept_at(chunk, kept, cursor.event, at)
 }
 
 // Whether the event of a number starts at a place and is kept.

@@ -2,8 +2,8 @@
 ghost use Rattle.std.specs.Prelude.{◌≡◌, ◌<◌, ◌≤◌, ◌+◌, ◌++◌, List, [], length, slice_get, take, option_map, unwrap_or, IfOk, IfSome};
 ghost use Rattle.jfr_header.specs.Headers.{header_bytes, header_of};
 ghost use Rattle.jfr_chunk.specs.Chosen.{kept_of};
-ghost use Rattle.jfr_chunk.specs.Parts.{EventAt, events_of};
-ghost use Rattle.jfr_chunk.specs.Reach.{kept_by, marked, reached_marks, remain};
+ghost use Rattle.jfr_chunk.specs.Parts.{events_of};
+ghost use Rattle.jfr_chunk.specs.Reach.{kept_by, reached_marks, remain};
 ghost use Rattle.jfr_chunk.specs.Scrub.{header_with, scrub_of, stays};
 ghost use Rattle.jfr_laws.specs.Laws.{IsSettled};
 ghost use Rattle.jfr_scrub.specs.Bodies.{IsBody};
@@ -142,7 +142,8 @@ fn lay_out<'a>(
     kept: &Kept,
     marks: &Marks,
 ) -> Result<Scrubber<'a>, NoMemory>
-    requires { marks.now ≡ reached_marks chunk.now (kept_by chunk.now kept.now) }
+    requires marks { marks.now ≡ reached_marks chunk.now (kept_by chunk.now kept.now) }
+    requires kept { length kept.now ≡ length (events_of chunk.now) }
     ensures joined { IfOk result (λ s. joined s.laid ≡ scrub_of chunk.now (kept_by chunk.now kept.now)) }
     ensures chunk { IfOk result (λ s. s.laid.chunk ≡ chunk.now.bytes) }
     ensures empty { IfOk result (λ s. s.written ≡ []) }
@@ -158,7 +159,7 @@ fn lay_out<'a>(
     Ok(Scrubber {
         pieces,
         out: Vec::with_capacity(alloc, size)?,
-        kept_events: count_kept(kept, chunk.event_count()),
+        kept_events: kept.kept_count(),
         kept_entries: left.len(),
     })
 }
@@ -195,15 +196,4 @@ fn front_of(header: &Header, body: &Body) -> [u8; 68]
     let mut front = [0; 68];
     write_header(&moved, &mut front);
     front
-}
-
-// How many of so many events are kept.
-fn count_kept(kept: &Kept, count: usize) -> usize
-    ensures { (es : List EventAt) → length es ≡ count → result ≡ length (marked kept.now es) }
-{
-    let mut number: usize = 0;
-    for at in 0..count {
-        number += usize::from(kept.get(at).unwrap_or(false));
-    }
-    number
 }
