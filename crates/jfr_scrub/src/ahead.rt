@@ -6,9 +6,9 @@ ghost use Rattle.jfr_scrub.specs.Runs.{HasEventAt, HasRoom, IsAtEvents};
 use crate::stays::Cursor;
 use jfr_chunk::Chunk;
 
-/// How many records from the cursor's on are events. The numbers of their records rise, so where a
-/// record is the event of the same number from the cursor on, all records before it are events: few of
-/// them are looked at.
+/// How many records from the cursor's on are events, one behind another. The numbers of the events'
+/// records rise: where the record so far behind the cursor's is the event as far behind the cursor's, all
+/// records before it are events too. So few are looked at, by steps that double and then halve.
 pub(crate) fn events_ahead(chunk: &Chunk, cursor: &Cursor) -> usize
     requires { IsAtEvents chunk.now cursor.now }
     ensures each { (offset : ℕ) → offset < result → HasEventAt chunk.now cursor.now offset }
