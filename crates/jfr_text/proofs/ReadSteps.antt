@@ -1,12 +1,12 @@
 -- What a format computes, unit by unit.
-use Rattle.std.specs.Prelude.{◌≡◌, ℕ, ◌+◌, ◌<◌, ◌≤◌, List, slice_range, slice_index, Some, None, Ok, Err, nat_le, nat_lt, true, false}
+use Rattle.std.specs.Prelude.{◌≡◌, ℕ, zero, suc, ◌+◌, ◌<◌, ◌≤◌, List, slice_range, slice_index, Some, None, Ok, Err, nat_le, nat_lt, true, false}
 use Rattle.std.proofs.Common.{ap, refl, sym, ◌∙◌, arith}
 use Rattle.jfr_base.specs.declared.reason.Reason.TheVariants.{Short}
 use Rattle.jfr_base.specs.declared.integer.Var.{Var}
 use Rattle.jfr_base.specs.declared.flaw.Flaw.{Flaw}
 use Rattle.jfr_base.specs.Formats.{Format, Done, Int, Run, unchecked, ◌>>=◌, on, checked, int_at, after_int, run}
 use Rattle.jfr_base.proofs.FormatLaws.{run-bind}
-use Rattle.jfr_text.specs.Strings.{kind_fault, after_kind, key_format, string_format}
+use Rattle.jfr_text.specs.Strings.{kind_fault, after_kind, bare_content, key_format, string_format}
 
 module _ {A : Type 0} (x : List ℕ) (end at : ℕ) where
   pub int_missing : (next : ℕ → List ℕ → Format A) (e : Flaw) → (int_at x at end ≡ None) × (e ≡ record { offset = at; reason = Short }) → run (Int unchecked next) x end at ≡ Err e
@@ -46,6 +46,15 @@ module _ (x : List ℕ) (end at : ℕ) where
   pub kind_there : at < end → run (string_format true) x end at ≡ checked at (kind_fault true (slice_index x at)) (run (after_kind (slice_index x at)) x end (at + 1))
   unfolding run string_format
   kind_there h = let t : nat_lt at end ≡ true = grind arith in rw t refl
+
+  pub bare_there : at < end → slice_index x at < 2 → run (string_format true) x end at ≡ Ok (record { value = bare_content (slice_index x at); place = at + 1 })
+  unfolding run
+  bare_there h i = kind_there h ∙ by_kind (slice_index x at) i
+    where
+      by_kind : (kind : ℕ) → kind < 2 → checked at (kind_fault true kind) (run (after_kind kind) x end (at + 1)) ≡ Ok (record { value = bare_content kind; place = at + 1 })
+      by_kind zero i = refl
+      by_kind (suc zero) i = refl
+      by_kind (suc (suc n)) i = absurd (omega arith)
 
   pub key_there : at < end → slice_index x at ≡ 2 → run (string_format true) x end at ≡ run key_format x end (at + 1)
   key_there h e = kind_there h ∙ ap (λ k. checked at (kind_fault true k) (run (after_kind k) x end (at + 1))) e

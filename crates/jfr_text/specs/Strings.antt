@@ -66,6 +66,10 @@ counted_bytes = Int unchecked (λ n spelled. Run n (λ bytes. Done bytes))
 abbrev pub counted_integers : Format (List ℕ)
 counted_integers = Int unchecked (λ n spelled. times n integer)
 
+-- What a string holds that is its kind byte alone, 0 or 1.
+abbrev pub bare_content : ℕ → Content
+bare_content kind = if kind == 0 then Null else Empty
+
 -- The format of a key, behind its kind byte.
 abbrev pub key_format : Format Content
 key_format = integer >>= λ key. Done (Key key)

@@ -2,7 +2,7 @@
 ghost use Rattle.std.specs.Prelude.{◌≡◌, ◌↔◌, ◌+◌, ◌-◌, ◌<◌, ◌≤◌, ◌^◌, [], length, IfOk, IfErr, IsTrue, MatchResult, Ok, Err, slice_index, slice_range, true};
 ghost use Rattle.jfr_base.specs.Formats.{Reads, Fails, times, integer, checked, run, seen};
 ghost use Rattle.jfr_text.specs.Spans.{content_of, first_integers, answer_of, AreShort, IsSpanAt};
-ghost use Rattle.jfr_text.specs.Strings.{SpellAll, IsString, kind_fault, counted_bytes, counted_integers, after_kind, key_format, string_format};
+ghost use Rattle.jfr_text.specs.Strings.{SpellAll, IsString, kind_fault, counted_bytes, counted_integers, after_kind, bare_content, key_format, string_format};
 
 use crate::{StringKind, StringSpan};
 use jfr_base::{Flaw, Reason, read_within};
@@ -36,6 +36,17 @@ pub fn read_string<'a>(bytes: &'a [u8], at: usize, end: usize) -> Result<StringS
         });
     }
     read_kind(bytes[at], bytes, at, end)
+}
+
+/// Whether the string that begins at a place is its kind byte alone: the null string, or the empty one.
+#[inline(always)]
+pub fn is_bare(bytes: &[u8], at: usize, end: usize) -> bool
+    requires order { at ≤ end }
+    requires within { end ≤ length bytes.now }
+    ensures exact { IsTrue result ↔ ((at < end) × (slice_index bytes.now at < 2)) }
+    ensures bare { IsTrue result → run (string_format true) bytes.now end at ≡ Ok (record { value = bare_content (slice_index bytes.now at); place = at + 1 }) }
+{
+    at < end && bytes[at] < 2
 }
 
 /// Whether the string that begins at a place is a key, which is the integer behind its kind byte.

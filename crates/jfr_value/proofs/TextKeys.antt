@@ -1,11 +1,11 @@
--- A string that is a key, by the integer behind its kind byte.
-use Rattle.std.specs.Prelude.{◌≡◌, ℕ, ◌+◌, List, [], ◌∷◌, Ok, Err, IfOk, option_map, option_to_list, true}
+-- Strings that are keys, by the integer behind their kind byte, and those that have no characters.
+use Rattle.std.specs.Prelude.{◌≡◌, ℕ, ◌+◌, ◌==◌, List, Ok, Err, None, IfOk, option_map, option_to_list, true, false, if◌then◌else◌}
 use Rattle.std.proofs.Common.{ap, refl, sym, ◌∙◌, subst}
 use Rattle.jfr_base.specs.Formats.{Answer, Done, integer, on, run, seen}
 use Rattle.jfr_base.proofs.FormatLaws.{run-bind}
 use Rattle.jfr_base.proofs.SeenLaws.{seen-made}
 use Rattle.jfr_layout.specs.declared.kind.Kind.TheVariants as kinds
-use Rattle.jfr_text.specs.Strings.{Content, Key, key_format, string_format}
+use Rattle.jfr_text.specs.Strings.{Content, Null, Empty, Key, bare_content, key_format, string_format}
 use Rattle.jfr_value.specs.Values.{key_of}
 use Rattle.jfr_value.specs.Reading.{base_format}
 use Rattle.jfr_value.specs.Visits.{TakesAll}
@@ -27,3 +27,18 @@ module _ (x : List ℕ) (end at : ℕ) (is_key : run (string_format true) x end 
 
     pub key_taken : IfOk (run integer x end (at + 1)) (λ key. takes (class, key.value) old new) → Taken (run (string_format true) x end at)
     key_taken h = subst Taken (sym (is_key ∙ run-bind integer (λ key. Done (Key key)) x end (at + 1))) (taken_by (run integer x end (at + 1)) h)
+
+-- A string that is its kind byte alone ends behind it, and nothing is handed on.
+module _ (x : List ℕ) (end at kind : ℕ) (is_bare : run (string_format true) x end at ≡ Ok (record { value = bare_content kind; place = at + 1 })) where
+  pub bare_ends : Ok (at + 1) ≡ seen (run (base_format kinds.Text) x end at)
+  bare_ends = sym (seen-made (string_format true) key_of x end at ∙ ap seen is_bare)
+
+  module _ {A : Type 0} (takes : ℕ × ℕ → A → A → Type 0) (class : ℕ) (state : A) where
+    abbrev AllTaken : Answer Content → Type 0
+    AllTaken r = IfOk r (λ got. TakesAll takes (option_to_list (option_map (λ key. (class, key)) (key_of got.value))) state state)
+
+    no_key : key_of (bare_content kind) ≡ None
+    no_key = elim (kind == 0) as (λ b. key_of (if b then Null else Empty) ≡ None) [ true ↦ refl | false ↦ refl ]
+
+    pub bare_taken : AllTaken (run (string_format true) x end at)
+    bare_taken = subst AllTaken (sym is_bare) (subst (λ o. TakesAll takes (option_to_list (option_map (λ key. (class, key)) o)) state state) (sym no_key) refl)

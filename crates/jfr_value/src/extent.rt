@@ -13,11 +13,12 @@ ghost use Rattle.jfr_value.specs.Visits.{TakesAll, TakesRead, TakesReadAll};
 ghost use Rattle.jfr_value.specs.Walks.{Room};
 
 use crate::Visit;
+use crate::keys::{key_end, text_end};
 use crate::part::item_of;
 use crate::walk::STEPS;
 use jfr_base::{Flaw, Reason, read_within};
 use jfr_layout::{Classes, Form, Kind, Shape, Slot};
-use jfr_text::{StringKind, is_key, read_string};
+use jfr_text::read_string;
 
 /// So many groups of an integer have seven bits. Behind them comes one of eight.
 const SHORT_GROUPS: usize = 8;
@@ -272,162 +273,6 @@ fn string_end(bytes: &[u8], at: usize, end: usize) -> Result<usize, Flaw>
 {
     match read_string(bytes, at, end) {
         Ok(string) => Ok(string.end),
-        Err(flaw) => Err(flaw),
-    }
-}
-
-/// Where a reference of a class ends, whose key is handed on. Most keys have one byte.
-#[inline(always)]
-fn key_end<C, V: Visit<C>>(
-    class: u64,
-    bytes: &[u8],
-    at: usize,
-    end: usize,
-    visitor: &mut V,
-    with: &C,
-) -> Result<usize, Flaw>
-    requires order { at ≤ end }
-    requires within { end ≤ length bytes.now }
-    requires ready { V.ready visitor.old with.now }
-    ensures exact { result ≡ seen (run integer bytes.now end at) }
-    ensures range { IfOk result (λ to. (at ≤ to) × (to ≤ end)) }
-    ensures visited { IfOk (run integer bytes.now end at) (λ key. V.takes with.now (class, key.value) visitor.old visitor.new) }
-    ensures ready { V.ready visitor.new with.now }
-{
-    if at < end && bytes[at] < 128 {
-        visitor.visit(with, class, u64::from(bytes[at]));
-        return Ok(at + 1);
-    }
-    far_key_end(class, bytes, at, end, visitor, with)
-}
-
-/// The same, of a key that may have more bytes. What the call answers is taken apart here, as in
-/// `compound_end`.
-#[inline(always)]
-fn far_key_end<C, V: Visit<C>>(
-    class: u64,
-    bytes: &[u8],
-    at: usize,
-    end: usize,
-    visitor: &mut V,
-    with: &C,
-) -> Result<usize, Flaw>
-    requires order { at ≤ end }
-    requires within { end ≤ length bytes.now }
-    requires ready { V.ready visitor.old with.now }
-    ensures exact { result ≡ seen (run integer bytes.now end at) }
-    ensures range { IfOk result (λ to. (at ≤ to) × (to ≤ end)) }
-    ensures visited { IfOk (run integer bytes.now end at) (λ key. V.takes with.now (class, key.value) visitor.old visitor.new) }
-    ensures ready { V.ready visitor.new with.now }
-{
-    let to = long_key_end(class, bytes, at, end, visitor, with)?;
-    Ok(to)
-}
-
-/// The same, where the key has more bytes, or does not end in time.
-#[tactic(auto, unfolding(jfr_base::specs::Formats::run))]
-#[inline(never)]
-fn long_key_end<C, V: Visit<C>>(
-    class: u64,
-    bytes: &[u8],
-    at: usize,
-    end: usize,
-    visitor: &mut V,
-    with: &C,
-) -> Result<usize, Flaw>
-    requires order { at ≤ end }
-    requires within { end ≤ length bytes.now }
-    requires ready { V.ready visitor.old with.now }
-    ensures exact { result ≡ seen (run integer bytes.now end at) }
-    ensures range { IfOk result (λ to. (at ≤ to) × (to ≤ end)) }
-    ensures visited { IfOk (run integer bytes.now end at) (λ key. V.takes with.now (class, key.value) visitor.old visitor.new) }
-    ensures ready { V.ready visitor.new with.now }
-{
-    match read_within(bytes, at, end) {
-        Ok(key) => {
-            visitor.visit(with, class, key.value);
-            Ok(key.end)
-        }
-        Err(flaw) => Err(flaw),
-    }
-}
-
-/// Where a string of a class ends, whose key is handed on if it is one. Most strings are.
-#[inline(always)]
-fn text_end<C, V: Visit<C>>(
-    class: u64,
-    bytes: &[u8],
-    at: usize,
-    end: usize,
-    visitor: &mut V,
-    with: &C,
-) -> Result<usize, Flaw>
-    requires order { at ≤ end }
-    requires within { end ≤ length bytes.now }
-    requires ready { V.ready visitor.old with.now }
-    ensures exact { result ≡ seen (run (base_format kinds.Text) bytes.now end at) }
-    ensures range { IfOk result (λ to. (at ≤ to) × (to ≤ end)) }
-    ensures visited { IfOk (run (string_format true) bytes.now end at) (λ got.
-        TakesAll (V.takes with.now) (option_to_list (option_map (λ key. (class, key)) (key_of got.value))) visitor.old visitor.new) }
-    ensures ready { V.ready visitor.new with.now }
-{
-    if is_key(bytes, at, end) {
-        return key_end(class, bytes, at + 1, end, visitor, with);
-    }
-    far_text_end(class, bytes, at, end, visitor, with)
-}
-
-/// The same, of a string that may be no key. What the call answers is taken apart here, as in
-/// `compound_end`.
-#[inline(always)]
-fn far_text_end<C, V: Visit<C>>(
-    class: u64,
-    bytes: &[u8],
-    at: usize,
-    end: usize,
-    visitor: &mut V,
-    with: &C,
-) -> Result<usize, Flaw>
-    requires order { at ≤ end }
-    requires within { end ≤ length bytes.now }
-    requires ready { V.ready visitor.old with.now }
-    ensures exact { result ≡ seen (run (base_format kinds.Text) bytes.now end at) }
-    ensures range { IfOk result (λ to. (at ≤ to) × (to ≤ end)) }
-    ensures visited { IfOk (run (string_format true) bytes.now end at) (λ got.
-        TakesAll (V.takes with.now) (option_to_list (option_map (λ key. (class, key)) (key_of got.value))) visitor.old visitor.new) }
-    ensures ready { V.ready visitor.new with.now }
-{
-    let to = long_text_end(class, bytes, at, end, visitor, with)?;
-    Ok(to)
-}
-
-/// The same, read whole.
-#[inline(never)]
-fn long_text_end<C, V: Visit<C>>(
-    class: u64,
-    bytes: &[u8],
-    at: usize,
-    end: usize,
-    visitor: &mut V,
-    with: &C,
-) -> Result<usize, Flaw>
-    requires order { at ≤ end }
-    requires within { end ≤ length bytes.now }
-    requires ready { V.ready visitor.old with.now }
-    ensures exact { result ≡ seen (run (base_format kinds.Text) bytes.now end at) }
-    ensures range { IfOk result (λ to. (at ≤ to) × (to ≤ end)) }
-    ensures visited { IfOk (run (string_format true) bytes.now end at) (λ got.
-        TakesAll (V.takes with.now) (option_to_list (option_map (λ key. (class, key)) (key_of got.value))) visitor.old visitor.new) }
-    ensures ready { V.ready visitor.new with.now }
-{
-    match read_string(bytes, at, end) {
-        Ok(string) => {
-            match string.kind {
-                StringKind::Key => visitor.visit(with, class, string.key),
-                _ => {}
-            }
-            Ok(string.end)
-        }
         Err(flaw) => Err(flaw),
     }
 }

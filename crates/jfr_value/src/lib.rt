@@ -8,6 +8,7 @@
 #![tactic(auto)]
 
 mod extent;
+mod keys;
 mod laws;
 mod leaf;
 mod leaves;

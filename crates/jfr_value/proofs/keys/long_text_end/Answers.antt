@@ -1,5 +1,5 @@
 use Rattle.jfr_value.proofs.EndLaws.{text_seen}
-use Rattle.jfr_value.proofs.extent.long_text_end.Goals as goal
+use Rattle.jfr_value.proofs.keys.long_text_end.Goals as goal
 
 pub returns-in-Key-clause-exact : goal.returns-in-Key-clause-exact
 returns-in-Key-clause-exact g c = text_seen c.args.bytes.now c.args.end c.args.at _ c.in-Ok.ensures.exact

@@ -1,0 +1,205 @@
+// Where keys end, which are handed on.
+ghost use Rattle.std.specs.Prelude.{◌≡◌, ◌≤◌, length, IfOk, IfSome, Ok, option_map, option_to_list, true};
+ghost use Rattle.jfr_base.specs.Formats.{integer, run, seen};
+ghost use Rattle.jfr_text.specs.Strings.{string_format};
+ghost use Rattle.jfr_layout.specs.declared.kind.Kind.TheVariants as kinds;
+ghost use Rattle.jfr_value.specs.Values.{key_of};
+ghost use Rattle.jfr_value.specs.Reading.{base_format};
+ghost use Rattle.jfr_value.specs.Visits.{TakesAll};
+
+use crate::Visit;
+use jfr_base::{Flaw, Var, read_within};
+use jfr_text::{StringKind, is_bare, is_key, read_string};
+
+/// Where a reference of a class ends, whose key is handed on. Most keys have one byte or two.
+#[inline(always)]
+pub(crate) fn key_end<C, V: Visit<C>>(
+    class: u64,
+    bytes: &[u8],
+    at: usize,
+    end: usize,
+    visitor: &mut V,
+    with: &C,
+) -> Result<usize, Flaw>
+    requires order { at ≤ end }
+    requires within { end ≤ length bytes.now }
+    requires ready { V.ready visitor.old with.now }
+    ensures exact { result ≡ seen (run integer bytes.now end at) }
+    ensures range { IfOk result (λ to. (at ≤ to) × (to ≤ end)) }
+    ensures visited { IfOk (run integer bytes.now end at) (λ key. V.takes with.now (class, key.value) visitor.old visitor.new) }
+    ensures ready { V.ready visitor.new with.now }
+{
+    match short_key(bytes, at, end) {
+        Some(key) => {
+            visitor.visit(with, class, key.value);
+            Ok(key.end)
+        }
+        None => far_key_end(class, bytes, at, end, visitor, with),
+    }
+}
+
+/// The key at a place, where it has one byte or two.
+#[inline(always)]
+fn short_key(bytes: &[u8], at: usize, end: usize) -> Option<Var>
+    requires order { at ≤ end }
+    requires within { end ≤ length bytes.now }
+    ensures exact { IfSome result (λ key. run integer bytes.now end at ≡ Ok (record { value = key.value; place = key.end })) }
+    ensures range { IfSome result (λ key. (at ≤ key.end) × (key.end ≤ end)) }
+{
+    if at >= end {
+        return None;
+    }
+    let first = u64::from(bytes[at]);
+    if first < 128 {
+        return Some(Var {
+            value: first,
+            end: at + 1,
+        });
+    }
+    if at + 1 >= end {
+        return None;
+    }
+    let second = u64::from(bytes[at + 1]);
+    if second < 128 {
+        return Some(Var {
+            value: first - 128 + 128 * second,
+            end: at + 2,
+        });
+    }
+    None
+}
+
+/// The same, of a key that may have more bytes. What the call answers is taken apart here, as in
+/// `compound_end`.
+#[inline(always)]
+fn far_key_end<C, V: Visit<C>>(
+    class: u64,
+    bytes: &[u8],
+    at: usize,
+    end: usize,
+    visitor: &mut V,
+    with: &C,
+) -> Result<usize, Flaw>
+    requires order { at ≤ end }
+    requires within { end ≤ length bytes.now }
+    requires ready { V.ready visitor.old with.now }
+    ensures exact { result ≡ seen (run integer bytes.now end at) }
+    ensures range { IfOk result (λ to. (at ≤ to) × (to ≤ end)) }
+    ensures visited { IfOk (run integer bytes.now end at) (λ key. V.takes with.now (class, key.value) visitor.old visitor.new) }
+    ensures ready { V.ready visitor.new with.now }
+{
+    let to = long_key_end(class, bytes, at, end, visitor, with)?;
+    Ok(to)
+}
+
+/// The same, where the key has more bytes, or does not end in time.
+#[tactic(auto, unfolding(jfr_base::specs::Formats::run))]
+#[inline(never)]
+fn long_key_end<C, V: Visit<C>>(
+    class: u64,
+    bytes: &[u8],
+    at: usize,
+    end: usize,
+    visitor: &mut V,
+    with: &C,
+) -> Result<usize, Flaw>
+    requires order { at ≤ end }
+    requires within { end ≤ length bytes.now }
+    requires ready { V.ready visitor.old with.now }
+    ensures exact { result ≡ seen (run integer bytes.now end at) }
+    ensures range { IfOk result (λ to. (at ≤ to) × (to ≤ end)) }
+    ensures visited { IfOk (run integer bytes.now end at) (λ key. V.takes with.now (class, key.value) visitor.old visitor.new) }
+    ensures ready { V.ready visitor.new with.now }
+{
+    match read_within(bytes, at, end) {
+        Ok(key) => {
+            visitor.visit(with, class, key.value);
+            Ok(key.end)
+        }
+        Err(flaw) => Err(flaw),
+    }
+}
+
+/// Where a string of a class ends, whose key is handed on if it is one. Most strings are, or have no
+/// characters.
+#[inline(always)]
+pub(crate) fn text_end<C, V: Visit<C>>(
+    class: u64,
+    bytes: &[u8],
+    at: usize,
+    end: usize,
+    visitor: &mut V,
+    with: &C,
+) -> Result<usize, Flaw>
+    requires order { at ≤ end }
+    requires within { end ≤ length bytes.now }
+    requires ready { V.ready visitor.old with.now }
+    ensures exact { result ≡ seen (run (base_format kinds.Text) bytes.now end at) }
+    ensures range { IfOk result (λ to. (at ≤ to) × (to ≤ end)) }
+    ensures visited { IfOk (run (string_format true) bytes.now end at) (λ got.
+        TakesAll (V.takes with.now) (option_to_list (option_map (λ key. (class, key)) (key_of got.value))) visitor.old visitor.new) }
+    ensures ready { V.ready visitor.new with.now }
+{
+    if is_bare(bytes, at, end) {
+        return Ok(at + 1);
+    }
+    if is_key(bytes, at, end) {
+        return key_end(class, bytes, at + 1, end, visitor, with);
+    }
+    far_text_end(class, bytes, at, end, visitor, with)
+}
+
+/// The same, of a string that may be no key. What the call answers is taken apart here, as in
+/// `compound_end`.
+#[inline(always)]
+fn far_text_end<C, V: Visit<C>>(
+    class: u64,
+    bytes: &[u8],
+    at: usize,
+    end: usize,
+    visitor: &mut V,
+    with: &C,
+) -> Result<usize, Flaw>
+    requires order { at ≤ end }
+    requires within { end ≤ length bytes.now }
+    requires ready { V.ready visitor.old with.now }
+    ensures exact { result ≡ seen (run (base_format kinds.Text) bytes.now end at) }
+    ensures range { IfOk result (λ to. (at ≤ to) × (to ≤ end)) }
+    ensures visited { IfOk (run (string_format true) bytes.now end at) (λ got.
+        TakesAll (V.takes with.now) (option_to_list (option_map (λ key. (class, key)) (key_of got.value))) visitor.old visitor.new) }
+    ensures ready { V.ready visitor.new with.now }
+{
+    let to = long_text_end(class, bytes, at, end, visitor, with)?;
+    Ok(to)
+}
+
+/// The same, read whole.
+#[inline(never)]
+fn long_text_end<C, V: Visit<C>>(
+    class: u64,
+    bytes: &[u8],
+    at: usize,
+    end: usize,
+    visitor: &mut V,
+    with: &C,
+) -> Result<usize, Flaw>
+    requires order { at ≤ end }
+    requires within { end ≤ length bytes.now }
+    requires ready { V.ready visitor.old with.now }
+    ensures exact { result ≡ seen (run (base_format kinds.Text) bytes.now end at) }
+    ensures range { IfOk result (λ to. (at ≤ to) × (to ≤ end)) }
+    ensures visited { IfOk (run (string_format true) bytes.now end at) (λ got.
+        TakesAll (V.takes with.now) (option_to_list (option_map (λ key. (class, key)) (key_of got.value))) visitor.old visitor.new) }
+    ensures ready { V.ready visitor.new with.now }
+{
+    match read_string(bytes, at, end) {
+        Ok(string) => {
+            match string.kind {
+                StringKind::Key => visitor.visit(with, class, string.key),
+                _ => {}
+            }
+            Ok(string.end)
+        }
+        Err(flaw) => Err(flaw),
+    }
+}
