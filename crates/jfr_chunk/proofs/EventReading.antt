@@ -22,16 +22,6 @@ use Rattle.jfr_chunk.proofs.AllLaws.{all_get, filter_all}
 use Rattle.jfr_chunk.proofs.StandingLaws.{tiles_each}
 use Rattle.jfr_chunk.proofs.StageLaws.{EventsTell, events_tell}
 
--- the class of an event is known
-pub event_known : (k : Classes) (id : ℕ) → is_event_class k id ≡ true → IsSome (find_class k id)
-unfolding is_event_class
-event_known k id e = by_class (find_class k id) (nat_lt 1 id) e
-  where
-    by_class : (o : Option Class) (b : Bool) → (b && option_map_or extends_event o false) ≡ true → IsSome o
-    by_class (Some c) b h = refl
-    by_class None true h = cc
-    by_class None false h = cc
-
 pub record_of : (c : List ℕ) (rs : List Framed) (n : ℕ) (r : Framed) → AreRecords c rs → slice_get rs n ≡ Some r → IsRecord c r
 record_of c rs n r t e = all_get (IsRecord c) rs n r (tiles_each c 68 (length c) rs t) e
 
