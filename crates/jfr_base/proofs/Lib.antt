@@ -17,6 +17,7 @@ pub mod ReadLaws
 pub mod Rows
 pub mod RunLaws
 pub mod SeenLaws
+pub mod Shorts
 pub mod Spelling
 pub mod UnitLaws
 pub mod Writing

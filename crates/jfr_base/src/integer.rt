@@ -1,5 +1,5 @@
 // Compressed integers.
-ghost use Rattle.std.specs.Prelude.{◌≡◌, ℕ, ◌+◌, ◌<◌, ◌≤◌, IfOk, length, MatchResult, None, OnErr, Some, take};
+ghost use Rattle.std.specs.Prelude.{◌≡◌, ℕ, ◌+◌, ◌<◌, ◌≤◌, IfOk, IfSome, length, MatchResult, None, OnErr, Some, take};
 ghost use Rattle.std.specs.Int.{cast_signed, w64};
 ghost use Rattle.jfr_base.specs.Formats.{int_at};
 ghost use Rattle.jfr_base.specs.Integer.{FitsIn, IntAt, spell, spell_in, Spells};
@@ -60,6 +60,9 @@ fn var_within(bytes: &[u8], at: usize, end: usize) -> Result<Var, Flaw>
     ensures range { IfOk result (λ v. (at < v.end) × (v.end ≤ end)) }
     ensures exact { MatchResult result (λ v. int_at bytes.now at end ≡ Some v) (λ e. (int_at bytes.now at end ≡ None) × (e ≡ record { offset = at; reason = Reason.Short })) }
 {
+    if let Some(var) = read_short(bytes, at, end) {
+        return Ok(var);
+    }
     if at >= bytes.len().saturating_sub(SHORT_GROUPS) {
         // Taken apart, so that the result of the other way needn't lie in memory.
         return Ok(read_last(bytes, at, end)?);
@@ -69,6 +72,39 @@ fn var_within(bytes: &[u8], at: usize, end: usize) -> Result<Var, Flaw>
         return Err(ends_early(at));
     }
     Ok(var)
+}
+
+/// The integer that is spelled at a place and ends by `end`, where it has one byte or two, as most
+/// have.
+#[inline(always)]
+pub fn read_short(bytes: &[u8], at: usize, end: usize) -> Option<Var>
+    requires order { at ≤ end }
+    requires within { end ≤ length bytes.now }
+    ensures range { IfSome result (λ v. (at < v.end) × (v.end ≤ end)) }
+    ensures exact { IfSome result (λ v. int_at bytes.now at end ≡ Some v) }
+    ensures longer { result ≡ None → IfSome (int_at bytes.now at end) (λ v. at + 2 < v.end) }
+{
+    if at >= end {
+        return None;
+    }
+    let first = u64::from(bytes[at]);
+    if first < 128 {
+        return Some(Var {
+            value: first,
+            end: at + 1,
+        });
+    }
+    if at + 1 >= end {
+        return None;
+    }
+    let second = u64::from(bytes[at + 1]);
+    if second < 128 {
+        return Some(Var {
+            value: first - 128 + 128 * second,
+            end: at + 2,
+        });
+    }
+    None
 }
 
 /// The same, where there is room for all groups, by a loop of a fixed length.

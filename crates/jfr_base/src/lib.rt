@@ -12,5 +12,7 @@ mod reason;
 mod tests;
 
 pub use flaw::{Flaw, ReadFault, Refusal};
-pub use integer::{Short, Var, read_var, read_within, signed, var_len, write_in, write_var};
+pub use integer::{
+    Short, Var, read_short, read_var, read_within, signed, var_len, write_in, write_var,
+};
 pub use reason::Reason;

@@ -87,7 +87,8 @@ impl<'a> Frames<'a> {
     {
         let start = self.start(number)?;
         if start.type_id == WIDE {
-            return wide_framed_at(self.chunk, start.at);
+            // Taken apart, so that the result of the other way needn't lie in memory.
+            return Some(wide_framed_at(self.chunk, start.at)?);
         }
         Some(Framed {
             at: start.at,

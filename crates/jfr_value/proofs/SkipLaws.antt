@@ -1,5 +1,5 @@
 -- Where an integer ends, whatever it says.
-use Rattle.std.specs.Prelude.{◌≡◌, ℕ, zero, suc, ◌+◌, ◌-◌, ◌*◌, ◌%◌, ◌<◌, ◌≤◌, ◌⊎◌, List, ◌∷◌, length, slice_range, slice_index, Option, Some, None, Ok, Err, nat_lt, true, false}
+use Rattle.std.specs.Prelude.{◌≡◌, ℕ, zero, suc, ◌+◌, ◌-◌, ◌<◌, ◌≤◌, ◌⊎◌, List, ◌∷◌, length, slice_range, slice_index, Option, Some, None, Ok, Err, nat_lt, true, false}
 use Rattle.std.specs.Option.{option_map}
 use Rattle.std.proofs.Common.{ap, arith, refl, sym, ◌∙◌, inl, inr}
 use Rattle.jfr_base.specs.declared.integer.Var.{Var}
@@ -8,8 +8,6 @@ use Rattle.jfr_base.specs.Integer.{worth_within}
 use Rattle.jfr_base.specs.Formats.{Done, Int, after_int, front_within, int_at, integer, run, seen, unchecked}
 use Rattle.jfr_base.proofs.Ends.{ends_by, ends_past}
 use Rattle.jfr_base.proofs.Ranges.{range_cons, range_none}
-use Rattle.jfr_base.proofs.Groups.{reading_start, going_last, going_next, going_on}
-use Rattle.jfr_text.proofs.IntegerSteps.{one_byte}
 use Rattle.jfr_text.proofs.ReadSteps.{int_there, done_there}
 use Rattle.jfr_layout.specs.declared.kind.Kind.{Kind}
 use Rattle.jfr_layout.specs.declared.kind.Kind.TheVariants as kinds
@@ -109,29 +107,6 @@ skip_end x at end passed s l h t =
 pub skip_short : (x : List ℕ) (at end passed : ℕ) → Skipping x at end passed → end ≤ at + passed → Err (record { offset = at; reason = Short }) ≡ seen (run integer x end at)
 skip_short x at end passed s l = int_short x end at (s.same ∙ ap (λ y. option_map (λ n. passed + n) (front_within (8 - passed) y)) (range_none x (at + passed) end l))
 
--- a key of one byte
-pub key_of_one_byte : (x : List ℕ) (at end byte : ℕ) → at < end → end ≤ length x → byte ≡ slice_index x at → slice_index x at < 128 → run integer x end at ≡ Ok (record { value = byte; place = at + 1 })
-key_of_one_byte x at end byte h i e j =
-    int_there x end at (λ v s. Done v) (record { value = slice_index x at; end = at + 1 }) (one_byte x at end h i j)
-    ∙ (done_there x end (at + 1) (slice_index x at) ∙ ap (λ v. Ok (record { value = v; place = at + 1 })) (sym e))
-
--- an integer of two bytes
-two_bytes : (x : List ℕ) (at end : ℕ) → at + 1 < end → end ≤ length x → 128 ≤ slice_index x at → slice_index x (at + 1) < 128
-    → int_at x at end ≡ Some (record { value = (0 + 1 * (slice_index x at % 128)) + (1 * 128) * slice_index x (at + 1); end = (at + 1) + 1 })
-two_bytes x at end h i j k =
-    let r = reading_start x at end in
-    let seven : r.groups ≡ suc 7 = omega (arith, r.room) in
-    r.same ∙ (ap (λ g. going_on g x at end 0 1) seven
-    ∙ (going_next 7 x at end 0 1 (omega arith) i j
-    ∙ going_last 7 x (at + 1) end (0 + 1 * (slice_index x at % 128)) (1 * 128) h i k))
-
--- a key of two bytes
-pub key_of_two_bytes : (x : List ℕ) (at end first second : ℕ) → at + 1 < end → end ≤ length x → first ≡ slice_index x at → 128 ≤ first → first < 256 → second ≡ slice_index x (at + 1) → second < 128
-    → run integer x end at ≡ Ok (record { value = first - 128 + 128 * second; place = at + 2 })
-key_of_two_bytes x at end first second h i e low high f j =
-    let worth : (0 + 1 * (slice_index x at % 128)) + (1 * 128) * slice_index x (at + 1) ≡ first - 128 + 128 * second = omega (arith, e, f) in
-    let behind : (at + 1) + 1 ≡ at + 2 = omega arith in
-    let stands : int_at x at end ≡ Some (record { value = first - 128 + 128 * second; end = at + 2 }) =
-    two_bytes x at end (omega arith) i (omega (arith, e)) (omega (arith, f))
-    ∙ (ap (λ v. Some (record { value = v; end = (at + 1) + 1 })) worth ∙ ap (λ p. Some (record { value = first - 128 + 128 * second; end = p })) behind) in
-    int_there x end at (λ v s. Done v) _ stands ∙ done_there x end (at + 2) (first - 128 + 128 * second)
+-- a key by its integer
+pub key_is : (x : List ℕ) (at end : ℕ) (v : Var) → int_at x at end ≡ Some v → run integer x end at ≡ Ok (record { value = v.value; place = v.end })
+key_is x at end v e = int_there x end at (λ w s. Done w) v e ∙ done_there x end v.end v.value

@@ -1,5 +1,5 @@
 // Where keys end, which are handed on.
-ghost use Rattle.std.specs.Prelude.{◌≡◌, ◌≤◌, length, IfOk, IfSome, Ok, option_map, option_to_list, true};
+ghost use Rattle.std.specs.Prelude.{◌≡◌, ◌≤◌, length, IfOk, option_map, option_to_list, true};
 ghost use Rattle.jfr_base.specs.Formats.{integer, run, seen};
 ghost use Rattle.jfr_text.specs.Strings.{string_format};
 ghost use Rattle.jfr_layout.specs.declared.kind.Kind.TheVariants as kinds;
@@ -8,7 +8,7 @@ ghost use Rattle.jfr_value.specs.Reading.{base_format};
 ghost use Rattle.jfr_value.specs.Visits.{TakesAll};
 
 use crate::Visit;
-use jfr_base::{Flaw, Var, read_within};
+use jfr_base::{Flaw, read_short, read_within};
 use jfr_text::{StringKind, is_bare, is_key, read_string};
 
 /// Where a reference of a class ends, whose key is handed on. Most keys have one byte or two.
@@ -29,44 +29,13 @@ pub(crate) fn key_end<C, V: Visit<C>>(
     ensures visited { IfOk (run integer bytes.now end at) (λ key. V.takes with.now (class, key.value) visitor.old visitor.new) }
     ensures ready { V.ready visitor.new with.now }
 {
-    match short_key(bytes, at, end) {
+    match read_short(bytes, at, end) {
         Some(key) => {
             visitor.visit(with, class, key.value);
             Ok(key.end)
         }
         None => far_key_end(class, bytes, at, end, visitor, with),
     }
-}
-
-/// The key at a place, where it has one byte or two.
-#[inline(always)]
-fn short_key(bytes: &[u8], at: usize, end: usize) -> Option<Var>
-    requires order { at ≤ end }
-    requires within { end ≤ length bytes.now }
-    ensures exact { IfSome result (λ key. run integer bytes.now end at ≡ Ok (record { value = key.value; place = key.end })) }
-    ensures range { IfSome result (λ key. (at ≤ key.end) × (key.end ≤ end)) }
-{
-    if at >= end {
-        return None;
-    }
-    let first = u64::from(bytes[at]);
-    if first < 128 {
-        return Some(Var {
-            value: first,
-            end: at + 1,
-        });
-    }
-    if at + 1 >= end {
-        return None;
-    }
-    let second = u64::from(bytes[at + 1]);
-    if second < 128 {
-        return Some(Var {
-            value: first - 128 + 128 * second,
-            end: at + 2,
-        });
-    }
-    None
 }
 
 /// The same, of a key that may have more bytes. What the call answers is taken apart here, as in

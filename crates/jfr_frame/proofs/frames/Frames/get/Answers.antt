@@ -10,7 +10,12 @@ wide_framed_at-requires c =
 pub returns-then-start : goal.returns-then-start
 returns-then-start c =
     let k = kept_record _ _ _ _ _ c.self.invariant c.self.view_is (sym c.start.ensures ∙ c.in_ok-start.was) in
-    c.wide_framed_at.ensures ∙ (read_again _ _ _ _ _ k.1).1
+    sym c.in_ok-wide_framed_at.was ∙ (c.wide_framed_at.ensures ∙ (read_again _ _ _ _ _ k.1).1)
+
+pub returns-in_err-wide_framed_at : goal.returns-in_err-wide_framed_at
+returns-in_err-wide_framed_at c =
+    let k = kept_record _ _ _ _ _ c.self.invariant c.self.view_is (sym c.start.ensures ∙ c.in_ok-start.was) in
+    c.from_residual-in_err-wide_framed_at.ensures ∙ (sym c.in_err-wide_framed_at.was ∙ (c.wide_framed_at.ensures ∙ (read_again _ _ _ _ _ k.1).1))
 
 pub end-requires : goal.end-requires
 end-requires c =
