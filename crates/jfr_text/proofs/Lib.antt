@@ -6,6 +6,7 @@ pub mod KeylessLaws
 pub mod ListSteps
 pub mod ReadSteps
 pub mod Rows
+pub mod ShortUnits
 pub mod SpellLaws
 pub mod StringLaws
 pub mod TopBits

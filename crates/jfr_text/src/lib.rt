@@ -16,6 +16,6 @@ mod units;
 mod utf16;
 
 pub use laws::{format_reads_strings, one_content, spelled_integers};
-pub use read::{is_bare, is_key, read_string};
+pub use read::{is_bare, is_key, read_string, short_units_end};
 pub use span::{StringKind, StringSpan};
 pub use text::{same_text, text_of};

@@ -1,8 +1,8 @@
 // Reading a string where it stands.
-ghost use Rattle.std.specs.Prelude.{◌≡◌, ◌↔◌, ◌+◌, ◌-◌, ◌<◌, ◌≤◌, ◌^◌, [], length, IfOk, IfErr, IsTrue, MatchResult, Ok, Err, slice_index, slice_range, true};
+ghost use Rattle.std.specs.Prelude.{◌≡◌, ◌↔◌, ℕ, ◌+◌, ◌-◌, ◌<◌, ◌≤◌, ◌^◌, List, [], length, IfOk, IfErr, IfSome, IsTrue, MatchResult, Ok, Err, slice_index, slice_range, true};
 ghost use Rattle.jfr_base.specs.Formats.{Reads, Fails, times, integer, checked, run, seen};
 ghost use Rattle.jfr_text.specs.Spans.{content_of, first_integers, answer_of, AreShort, IsSpanAt};
-ghost use Rattle.jfr_text.specs.Strings.{SpellAll, IsString, kind_fault, counted_bytes, counted_integers, after_kind, bare_content, key_format, string_format};
+ghost use Rattle.jfr_text.specs.Strings.{Units, SpellAll, IsString, kind_fault, counted_bytes, counted_integers, after_kind, bare_content, key_format, string_format};
 
 use crate::{StringKind, StringSpan};
 use jfr_base::{Flaw, Reason, read_within};
@@ -58,6 +58,31 @@ pub fn is_key(bytes: &[u8], at: usize, end: usize) -> bool
     ensures key { IsTrue result → run (string_format true) bytes.now end at ≡ run key_format bytes.now end (at + 1) }
 {
     at < end && bytes[at] == 2
+}
+
+/// Where the string that begins at a place ends, if it is one of short characters: its kind byte is 4,
+/// its count has one byte, and so has each of its integers. `None` also where it doesn't end by `end`.
+#[inline(never)]
+pub fn short_units_end(bytes: &[u8], at: usize, end: usize) -> Option<usize>
+    requires order { at ≤ end }
+    requires within { end ≤ length bytes.now }
+    ensures range { IfSome result (λ to. (at ≤ to) × (to ≤ end)) }
+    ensures units { IfSome result (λ to. (units : List ℕ) × (run (string_format true) bytes.now end at ≡ Ok (record { value = Units units; place = to }))) }
+{
+    if end - at < 2 || bytes[at] != 4 {
+        return None;
+    }
+    let from = at + 2;
+    let count = bytes[at + 1] as usize;
+    if count >= 128 || count > end - from {
+        return None;
+    }
+    let to = from + count;
+    if are_short(bytes, from, to) {
+        Some(to)
+    } else {
+        None
+    }
 }
 
 /// Reads what follows the kind byte at a place.
@@ -203,6 +228,22 @@ fn skip_short_integers(count: u64, bytes: &[u8], at: usize, end: usize) -> usize
     let to = at + count.min((end - at) as u64) as usize;
     let from = skip_short_eights(bytes, at, to);
     skip_short_bytes(bytes, from, to)
+}
+
+/// Whether the bytes from one place up to another are integers of one byte each. Where there are
+/// eight or more, the last eight are tested as a group too, which covers what the groups from the
+/// front leave.
+#[inline(always)]
+fn are_short(bytes: &[u8], from: usize, to: usize) -> bool
+    requires order { from ≤ to }
+    requires within { to ≤ length bytes.now }
+    ensures { IsTrue result ↔ AreShort bytes.now from to }
+{
+    if to - from < 8 {
+        return skip_short_bytes(bytes, from, to) == to;
+    }
+    let rest = skip_short_eights(bytes, from, to);
+    to - rest < 8 && are_eight_short(bytes, to - 8)
 }
 
 /// The place after the integers of one byte at the front, as far as they come in eights.

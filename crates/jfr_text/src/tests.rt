@@ -1,5 +1,5 @@
 // Strings from outside: their bytes, and their texts or flaws.
-use crate::{read_string, same_text, text_of};
+use crate::{read_string, same_text, short_units_end, text_of};
 use jfr_base::{Flaw, Reason};
 use std::alloc::Global;
 use std::process::Abort;
@@ -77,4 +77,35 @@ fn refusals(rt: HostRuntime) {
         10,
         Reason::Short,
     );
+}
+
+/// The string of short characters is the bytes, to the last one.
+fn are_short_units(rt: &impl Abort, bytes: &[u8]) {
+    assert_eq!(rt; short_units_end(bytes, 0, bytes.len()), Some(bytes.len()));
+}
+
+/// The bytes aren't taken for a string of short characters.
+fn no_short_units(rt: &impl Abort, bytes: &[u8]) {
+    assert_eq!(rt; short_units_end(bytes, 0, bytes.len()), None);
+}
+
+#[test]
+fn short_units(rt: HostRuntime) {
+    are_short_units(&rt, b"\x04\x00");
+    are_short_units(&rt, b"\x04\x07abcdefg");
+    are_short_units(&rt, b"\x04\x08abcdefgh");
+    are_short_units(&rt, b"\x04\x09abcdefghi");
+    are_short_units(&rt, b"\x04\x10abcdefghijklmnop");
+    are_short_units(&rt, b"\x04\x11abcdefghijklmnopq");
+    // The last integer, or one before it, has two bytes.
+    no_short_units(&rt, b"\x04\x07abcdef\xE9\x01");
+    no_short_units(&rt, b"\x04\x08abcdefg\xE9\x01");
+    no_short_units(&rt, b"\x04\x09abcdefgh\xE9\x01");
+    no_short_units(&rt, b"\x04\x11abcdefg\xE9\x01ijklmnopq");
+    // A count in two bytes, another kind, and strings that don't end in time.
+    no_short_units(&rt, b"\x04\x81\x00A");
+    no_short_units(&rt, b"\x05\x01A");
+    no_short_units(&rt, b"\x04\x02A");
+    no_short_units(&rt, b"\x04");
+    no_short_units(&rt, b"");
 }

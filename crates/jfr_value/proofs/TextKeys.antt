@@ -1,4 +1,4 @@
--- Strings that are keys, by the integer behind their kind byte, and those that have no characters.
+-- Strings that are keys, by the integer behind their kind byte, and those that are none.
 use Rattle.std.specs.Prelude.{◌≡◌, ℕ, ◌+◌, ◌==◌, List, Ok, Err, None, IfOk, option_map, option_to_list, true, false, if◌then◌else◌}
 use Rattle.std.proofs.Common.{ap, refl, sym, ◌∙◌, subst}
 use Rattle.jfr_base.specs.Formats.{Answer, Done, integer, on, run, seen}
@@ -28,17 +28,18 @@ module _ (x : List ℕ) (end at : ℕ) (is_key : run (string_format true) x end 
     pub key_taken : IfOk (run integer x end (at + 1)) (λ key. takes (class, key.value) old new) → Taken (run (string_format true) x end at)
     key_taken h = subst Taken (sym (is_key ∙ run-bind integer (λ key. Done (Key key)) x end (at + 1))) (taken_by (run integer x end (at + 1)) h)
 
--- A string that is its kind byte alone ends behind it, and nothing is handed on.
-module _ (x : List ℕ) (end at kind : ℕ) (is_bare : run (string_format true) x end at ≡ Ok (record { value = bare_content kind; place = at + 1 })) where
-  pub bare_ends : Ok (at + 1) ≡ seen (run (base_format kinds.Text) x end at)
-  bare_ends = sym (seen-made (string_format true) key_of x end at ∙ ap seen is_bare)
+-- A string that is no key ends where its content does, and nothing is handed on.
+module _ (x : List ℕ) (end at to : ℕ) (content : Content) (reads : run (string_format true) x end at ≡ Ok (record { value = content; place = to })) where
+  pub keyless_ends : Ok to ≡ seen (run (base_format kinds.Text) x end at)
+  keyless_ends = sym (seen-made (string_format true) key_of x end at ∙ ap seen reads)
 
-  module _ {A : Type 0} (takes : ℕ × ℕ → A → A → Type 0) (class : ℕ) (state : A) where
+  module _ {A : Type 0} (takes : ℕ × ℕ → A → A → Type 0) (class : ℕ) (state : A) (no_key : key_of content ≡ None) where
     abbrev AllTaken : Answer Content → Type 0
     AllTaken r = IfOk r (λ got. TakesAll takes (option_to_list (option_map (λ key. (class, key)) (key_of got.value))) state state)
 
-    no_key : key_of (bare_content kind) ≡ None
-    no_key = elim (kind == 0) as (λ b. key_of (if b then Null else Empty) ≡ None) [ true ↦ refl | false ↦ refl ]
+    pub keyless_taken : AllTaken (run (string_format true) x end at)
+    keyless_taken = subst AllTaken (sym reads) (subst (λ o. TakesAll takes (option_to_list (option_map (λ key. (class, key)) o)) state state) (sym no_key) refl)
 
-    pub bare_taken : AllTaken (run (string_format true) x end at)
-    bare_taken = subst AllTaken (sym is_bare) (subst (λ o. TakesAll takes (option_to_list (option_map (λ key. (class, key)) o)) state state) (sym no_key) refl)
+-- A string that is its kind byte alone is no key.
+pub bare_keyless : (kind : ℕ) → key_of (bare_content kind) ≡ None
+bare_keyless kind = elim (kind == 0) as (λ b. key_of (if b then Null else Empty) ≡ None) [ true ↦ refl | false ↦ refl ]

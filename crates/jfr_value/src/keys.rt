@@ -9,7 +9,7 @@ ghost use Rattle.jfr_value.specs.Visits.{TakesAll};
 
 use crate::Visit;
 use jfr_base::{Flaw, read_short, read_within};
-use jfr_text::{StringKind, is_bare, is_key, read_string};
+use jfr_text::{StringKind, is_bare, is_key, read_string, short_units_end};
 
 /// Where a reference of a class ends, whose key is handed on. Most keys have one byte or two.
 #[inline(always)]
@@ -90,7 +90,7 @@ fn long_key_end<C, V: Visit<C>>(
 }
 
 /// Where a string of a class ends, whose key is handed on if it is one. Most strings are, or have no
-/// characters.
+/// characters, or short ones.
 #[inline(always)]
 pub(crate) fn text_end<C, V: Visit<C>>(
     class: u64,
@@ -114,6 +114,9 @@ pub(crate) fn text_end<C, V: Visit<C>>(
     }
     if is_key(bytes, at, end) {
         return key_end(class, bytes, at + 1, end, visitor, with);
+    }
+    if let Some(to) = short_units_end(bytes, at, end) {
+        return Ok(to);
     }
     far_text_end(class, bytes, at, end, visitor, with)
 }
