@@ -1,11 +1,11 @@
 -- The integers at the front of some bytes, one by one.
-use Rattle.std.specs.Prelude.{◌≡◌, ℕ, zero, suc, ◌+◌, ◌-◌, ◌*◌, ◌<◌, ◌≤◌, List, [], ◌∷◌, length, drop, slice_index, Some, None, Ok}
+use Rattle.std.specs.Prelude.{◌≡◌, ℕ, zero, suc, ◌+◌, ◌-◌, ◌≤◌, List, [], ◌∷◌, length, drop, Some, None, Ok}
 use Rattle.std.specs.Option.{option_map_or}
 use Rattle.std.proofs.Common.{ap, refl, sym, arith, ◌∙◌}
 use Rattle.jfr_base.specs.declared.integer.Var.{Var}
 use Rattle.jfr_base.specs.Formats.{Done, int_at, integer, times, run, seen}
-use Rattle.jfr_base.proofs.Groups.{reading_start, going_last}
 use Rattle.jfr_base.proofs.SeenLaws.{seen-times, then_at}
+use Rattle.jfr_base.proofs.Shorts.{one_byte}
 use Rattle.jfr_text.specs.Spans.{AreShort, first_integers}
 use Rattle.jfr_text.proofs.ReadSteps.{int_there, done_there}
 
@@ -25,13 +25,6 @@ one_stands zero bytes v h e = absurd (h refl)
 one_stands (suc n) bytes v h e =
     let k : suc n - 1 ≡ n = omega arith in
     ap (λ o. option_map_or (λ (v : Var). v.value ∷ first_integers n (drop v.end bytes)) o []) e ∙ ap (λ m. v.value ∷ first_integers m (drop v.end bytes)) (rw k)
-
--- an integer of one byte
-pub one_byte : (x : List ℕ) (at end : ℕ) → at < end → end ≤ length x → slice_index x at < 128 → int_at x at end ≡ Some (record { value = slice_index x at; end = at + 1 })
-one_byte x at end h i j =
-    let r = reading_start x at end in
-    let s : 0 + 1 * slice_index x at ≡ slice_index x at = omega arith in
-    r.same ∙ (going_last r.groups x at end 0 1 h i j ∙ ap (λ v. Some (record { value = v; end = at + 1 })) s)
 
 -- so many integers of one byte, one after another
 pub short_passed : (n count : ℕ) (x : List ℕ) (at to end : ℕ) → to ≡ at + n → n ≤ count → to ≤ end → end ≤ length x → AreShort x at to

@@ -4,7 +4,8 @@ use Rattle.std.proofs.Common.{ap, refl, sym, arith, ◌∙◌}
 use Rattle.jfr_base.specs.Formats.{Answer, Done, checked, integer, times, run, seen}
 use Rattle.jfr_text.specs.Spans.{AreShort}
 use Rattle.jfr_text.specs.Strings.{Units, after_kind, counted_integers, kind_fault, string_format}
-use Rattle.jfr_text.proofs.IntegerSteps.{one_byte, short_passed}
+use Rattle.jfr_base.proofs.Shorts.{one_byte}
+use Rattle.jfr_text.proofs.IntegerSteps.{short_passed}
 use Rattle.jfr_text.proofs.ReadSteps.{int_there, done_there, made_of_value, kind_there}
 
 -- an answer that ends at a place has a value
