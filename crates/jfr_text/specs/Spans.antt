@@ -1,5 +1,5 @@
 -- A string in the bytes that it was read from.
-use Rattle.std.specs.Prelude.{◌≡◌, ℕ, zero, suc, ◌-◌, ◌<◌, ◌≤◌, List, [], ◌∷◌, length, drop, slice_index, slice_range, Result, Ok, Err}
+use Rattle.std.specs.Prelude.{◌≡◌, ℕ, zero, suc, ◌+◌, ◌-◌, ◌<◌, ◌≤◌, List, [], ◌∷◌, length, drop, slice_index, slice_range, Result, Ok, Err}
 use Rattle.std.specs.Option.{option_map_or}
 use Rattle.jfr_base.specs.declared.flaw.Flaw.{Flaw}
 use Rattle.jfr_base.specs.Formats.{Answer, int_at}
@@ -16,6 +16,13 @@ first_integers (suc n) bytes = option_map_or (λ v. v.value ∷ first_integers n
 -- Each byte from one place up to another is below 128, so that it is an integer of its own.
 abbrev pub AreShort : List ℕ → ℕ → ℕ → Type 0
 AreShort bytes from to = (place : ℕ) → from ≤ place → place < to → slice_index bytes place < 128
+
+-- A string of short characters stands from one place up to another: its kind byte is 4, its count has one byte, and so has each of its integers.
+pub record IsShortUnits (bytes : List ℕ) (at to : ℕ) : Type 0 where
+  pub kind : slice_index bytes at ≡ 4
+  pub count : slice_index bytes (at + 1) < 128
+  pub ends : to ≡ at + 2 + slice_index bytes (at + 1)
+  pub short : AreShort bytes (at + 2) to
 
 -- What the string holds, by its kind.
 abbrev pub content_by : StringKind → StringSpan → Content

@@ -1,7 +1,7 @@
 // Reading a string where it stands.
-ghost use Rattle.std.specs.Prelude.{◌≡◌, ◌↔◌, ℕ, ◌+◌, ◌-◌, ◌<◌, ◌≤◌, ◌^◌, List, [], length, IfOk, IfErr, IfSome, IsTrue, MatchResult, Ok, Err, slice_index, slice_range, true};
+ghost use Rattle.std.specs.Prelude.{◌≡◌, ◌↔◌, ℕ, ◌+◌, ◌-◌, ◌<◌, ◌≤◌, ◌^◌, List, [], length, IfOk, IfErr, IfSome, IsTrue, MatchOption, MatchResult, Ok, Err, slice_index, slice_range, true};
 ghost use Rattle.jfr_base.specs.Formats.{Reads, Fails, times, integer, checked, run, seen};
-ghost use Rattle.jfr_text.specs.Spans.{content_of, first_integers, answer_of, AreShort, IsSpanAt};
+ghost use Rattle.jfr_text.specs.Spans.{content_of, first_integers, answer_of, AreShort, IsShortUnits, IsSpanAt};
 ghost use Rattle.jfr_text.specs.Strings.{Units, SpellAll, IsString, kind_fault, counted_bytes, counted_integers, after_kind, bare_content, key_format, string_format};
 
 use crate::{StringKind, StringSpan};
@@ -67,6 +67,7 @@ pub fn short_units_end(bytes: &[u8], at: usize, end: usize) -> Option<usize>
     requires order { at ≤ end }
     requires within { end ≤ length bytes.now }
     ensures range { IfSome result (λ to. (at ≤ to) × (to ≤ end)) }
+    ensures exact { MatchOption result ((to : ℕ) → to ≤ end → ¬ IsShortUnits bytes.now at to) (IsShortUnits bytes.now at) }
     ensures units { IfSome result (λ to. (units : List ℕ) × (run (string_format true) bytes.now end at ≡ Ok (record { value = Units units; place = to }))) }
 {
     if end - at < 2 || bytes[at] != 4 {
