@@ -12,7 +12,7 @@ use Rattle.jfr_pool.specs.declared.index.Slot.{Slot}
 use Rattle.jfr_pool.specs.declared.index.TheConstants.{REACH}
 use Rattle.jfr_pool.specs.Entries.{number_in_force}
 use Rattle.jfr_pool.specs.Index.{target_cmp, Placed, held, number_in, is_open, slot_at, seat_from, home, seat, number_at, number_of, Indexes}
-use Rattle.jfr_pool.proofs.Targets.{hits, same_target, target_same, eq_target, force_push, force_none, some_push}
+use Rattle.jfr_pool.proofs.Targets.{clash, hits, same_target, target_same, eq_target, force_push, force_none, some_push}
 use Rattle.jfr_pool.proofs.Seats.{home_same, seat_found, held_counted, none_of}
 
 abbrev empty : Slot
@@ -21,9 +21,6 @@ empty = record { key = 0; class = 0; count = 0 }
 no_some : (o : Option ℕ) → o ≡ None → IsSome o → ⊥
 no_some None q h = cc
 no_some (Some m) q h = cc
-
-clash : (b : Bool) → b ≡ true → b ≡ false → ⊥
-clash b p q = cc
 
 get_replicate : {X : Type 0} (n i : ℕ) (x : X) → get_or (replicate n x) i x ≡ x
 get_replicate zero i x = refl

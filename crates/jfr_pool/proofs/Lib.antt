@@ -1,6 +1,7 @@
 pub mod Among
 pub mod ChainLaws
 mod ChainReading
+mod CountLaws
 mod EntryLaws
 mod IndexLaws
 mod Listings

@@ -8,6 +8,9 @@ use Rattle.jfr_pool.specs.declared.entry.EntryAt.{EntryAt}
 use Rattle.jfr_pool.specs.Entries.{or_later, last_from, number_in_force}
 use Rattle.jfr_pool.specs.Index.{target_cmp}
 
+pub clash : (b : Bool) → b ≡ true → b ≡ false → ⊥
+clash b p q = cc
+
 abbrev pub hits : EntryAt → ℕ × ℕ → Bool
 hits e t = (e.class == t.0) && (e.key == t.1)
 

@@ -1,4 +1,5 @@
 pub mod Chains
+pub mod Counts
 pub mod Entries
 pub mod Faults
 pub mod Index

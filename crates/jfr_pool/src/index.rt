@@ -1,5 +1,5 @@
 // The numbers of the entries in force, by class and key.
-ghost use Rattle.std.specs.Prelude.{None, ◌≡◌, false, ◌+◌, ◌-◌, ◌<◌, ◌≤◌, ◌^◌, [], ◌∷◌, ◌++◌, length, vec_len, IfOk, IfSome, IsTrue, OnOk};
+ghost use Rattle.std.specs.Prelude.{None, ◌≡◌, false, ◌+◌, ◌-◌, ◌<◌, ◌≤◌, ◌^◌, [], ◌∷◌, ◌++◌, length, vec_len, IfOk, IsOk, IfSome, IsTrue, OnOk};
 ghost use Rattle.jfr_pool.specs.declared.index.TheConstants.{REACH};
 
 use crate::EntryAt;
@@ -74,7 +74,8 @@ impl Index {
     /// The index of entries. `NoMemory` also for 2 ^ 32 and more, which a slot can't count; a chunk is far
     /// below that size.
     pub fn of(alloc: Global, entries: &[EntryAt]) -> Result<Index, NoMemory>
-        ensures { IfOk result (λ index. Indexes index entries.now) }
+        ensures ok { IfOk result (λ index. Indexes index entries.now) }
+        ensures counted { IsOk result → length entries.now < 2 ^ 32 }
     {
         if entries.len() > u32::MAX as usize {
             return Err(NoMemory);

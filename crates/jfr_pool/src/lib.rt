@@ -6,6 +6,7 @@
 
 mod chain;
 mod checkpoint;
+mod counts;
 mod entry;
 mod index;
 pub mod laws;

@@ -5,6 +5,7 @@ ghost use Rattle.jfr_pool.specs.Entries.{AreEntries, IsInForce, IsRefusedEntries
 ghost use Rattle.jfr_pool.specs.Faults.{TellsFlaw};
 
 use crate::checkpoint::read_checkpoint;
+use crate::counts::Counts;
 use crate::index::Index;
 use crate::{Chain, EntryAt};
 use jfr_base::ReadFault;
@@ -17,18 +18,20 @@ use std::marker::Model;
 pub struct Pools {
     entries: Vec<EntryAt>,
     index: Index,
+    counts: Counts,
 }
 
 impl Model for Pools {
     ghost use Rattle.std.specs.Prelude.{List};
     ghost use Rattle.jfr_pool.specs.declared.entry.EntryAt.{EntryAt};
     ghost use Rattle.jfr_pool.specs.Index.{Indexes};
+    ghost use Rattle.jfr_pool.specs.Counts.{AreCounts};
 
     ghost Value = { List EntryAt };
 
     ghost view = { λ pools. pools.entries.items };
 
-    ghost invariant = { λ pools. Indexes pools.index pools.entries.items };
+    ghost invariant = { λ pools. Indexes pools.index pools.entries.items × AreCounts pools.counts pools.entries.items };
 }
 
 impl Pools {
@@ -54,7 +57,12 @@ impl Pools {
             read_checkpoint(chunk, classes, number, frame, &mut entries)?;
         }
         let index = Index::of(alloc, &entries)?;
-        Ok(Pools { entries, index })
+        let counts = Counts::of(alloc, &entries)?;
+        Ok(Pools {
+            entries,
+            index,
+            counts,
+        })
     }
 
     /// How many entries there are.
@@ -75,6 +83,17 @@ impl Pools {
     /// last. `None` exactly where there is none.
     #[inline]
     pub fn entry(&self, class: u64, key: u64) -> Option<usize>
+        ensures { result ≡ number_in_force self.now (class, key) }
+    {
+        match self.counts.count(class, key) {
+            Some(count) => (count as usize).checked_sub(1),
+            None => self.indexed(class, key),
+        }
+    }
+
+    /// The same, of a class and a key that have no place in a row.
+    #[inline(never)]
+    fn indexed(&self, class: u64, key: u64) -> Option<usize>
         ensures { result ≡ number_in_force self.now (class, key) }
     {
         self.index.number(class, key)

@@ -1,4 +1,5 @@
 // Chains and entries of small chunks: 68 bytes, and the records.
+use crate::counts::Counts;
 use crate::index::Index;
 use crate::{Chain, EntryAt, Pools};
 use jfr_base::{Flaw, ReadFault, Reason};
@@ -203,5 +204,34 @@ fn keys_of_one_home_are_told_apart(rt: HostRuntime) -> Result<(), Fail> {
     }
     assert_eq!(rt; index.number(8, 0), None);
     assert_eq!(rt; index.number(1 << 32, 1), None);
+    Ok(())
+}
+
+#[test]
+fn small_keys_have_a_place(rt: HostRuntime) -> Result<(), Fail> {
+    let alloc = rt.alloc();
+    // The first key is too large for a row, until there are more entries.
+    let mut entries = vec![in alloc; entry(7, 1000); 1]?;
+    for key in 1..300 {
+        entries.push(entry(7, key))?;
+    }
+    for (class, key) in [(7, 1001), (7, 5), (7, u64::MAX), (4096, 0)] {
+        entries.push(entry(class, key))?;
+    }
+    let counts = Counts::of(alloc, &entries)?;
+    let table = [
+        (7, 0, Some(0)),
+        (7, 5, Some(302)),
+        (7, 300, Some(0)),
+        (7, 1000, Some(1)),
+        (7, 1001, Some(301)),
+        (7, 1002, None),
+        (7, u64::MAX, None),
+        (6, 0, None),
+        (4096, 0, None),
+    ];
+    for (class, key, expected) in table {
+        assert_eq!(rt; counts.count(class, key), expected);
+    }
     Ok(())
 }

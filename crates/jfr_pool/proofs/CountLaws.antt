@@ -1,0 +1,120 @@
+-- At each place stands the count of the entry in force.
+use Rattle.std.specs.Prelude.{◌≡◌, ◌≢◌, ◌⊎◌, ℕ, zero, suc, ◌+◌, ◌-◌, ◌<◌, ◌≤◌, Bool, true, false, cond, List, [], ◌∷◌, ◌++◌, length, Option, Some, None, option_and_then, slice_get, replicate, Vec}
+use Rattle.std.specs.Global.{Global}
+use Rattle.std.specs.Option.{SomeIff}
+use Rattle.std.proofs.Common.{ap, arith, refl, sym, ◌∙◌, inl, inr, set}
+use Rattle.std.proofs.lemmas.Bool.{cases_eq}
+use Rattle.std.proofs.lemmas.Option.{slice_get_past, slice_get_within}
+use Rattle.jfr_pool.specs.declared.entry.EntryAt.{EntryAt}
+use Rattle.jfr_pool.specs.declared.counts.Counts.{Counts}
+use Rattle.jfr_pool.specs.Entries.{number_in_force}
+use Rattle.jfr_pool.specs.Counts.{last_number, count_at, AreCounts}
+use Rattle.jfr_pool.proofs.Targets.{clash, hits, same_target, target_same, force_push, force_none}
+
+abbrev pub Row : Type 0
+Row = Vec ℕ Global
+
+abbrev in_row : ℕ → Row → Option ℕ
+in_row key row = slice_get row.items key
+
+no_some : {X : Type 0} (o : Option X) (x : X) → o ≡ None → o ≡ Some x → ⊥
+no_some o x p q = cc
+
+get_set_same : {X : Type 0} (xs : List X) (i : ℕ) (y : X) → i < length xs → slice_get (set xs i y) i ≡ Some y
+get_set_same [] i y h = absurd (omega (arith, h))
+get_set_same (x ∷ xs) zero y h = refl
+get_set_same (x ∷ xs) (suc i) y h = get_set_same xs i y (omega (arith, h))
+
+get_set_other : {X : Type 0} (xs : List X) (i j : ℕ) (y : X) → j ≢ i → slice_get (set xs i y) j ≡ slice_get xs j
+get_set_other [] i j y h = refl
+get_set_other (x ∷ xs) zero zero y h = absurd (h refl)
+get_set_other (x ∷ xs) zero (suc j) y h = refl
+get_set_other (x ∷ xs) (suc i) zero y h = refl
+get_set_other (x ∷ xs) (suc i) (suc j) y h = get_set_other xs i j y (λ q. h (ap suc q))
+
+get_push : {X : Type 0} (xs : List X) (x : X) (i : ℕ) (y : X) → slice_get (xs ++ x ∷ []) i ≡ Some y → (slice_get xs i ≡ Some y) ⊎ (x ≡ y)
+get_push [] x zero y h = inr cc
+get_push [] x (suc i) y h = absurd (no_some None y refl h)
+get_push (z ∷ xs) x zero y h = inl h
+get_push (z ∷ xs) x (suc i) y h = get_push xs x i y h
+
+get_zeros : (k i n : ℕ) → slice_get (replicate k 0) i ≡ Some n → 0 ≡ n
+get_zeros zero i n h = absurd (no_some None n refl h)
+get_zeros (suc k) zero n h = cc
+get_zeros (suc k) (suc i) n h = get_zeros k i n h
+
+last_of : (n : ℕ) → last_number (n + 1) ≡ Some n
+last_of n = let q : n + 1 ≡ suc n = omega arith in ap last_number q
+
+-- at each place of the rows stands 0
+abbrev pub AreZero : List Row → Type 0
+AreZero rows = (t : ℕ × ℕ) (n : ℕ) → count_at rows t ≡ Some n → 0 ≡ n
+
+pub zero_none : AreZero []
+zero_none t n h = absurd (no_some None n refl h)
+
+pub zero_push : (rows : List Row) (row : Row) (k : ℕ) → row.items ≡ replicate k 0 → AreZero rows → AreZero (rows ++ row ∷ [])
+zero_push rows row k zeros h t n at = by_row (slice_get (rows ++ row ∷ []) t.0) refl at
+  where
+    by_row : (o : Option Row) → slice_get (rows ++ row ∷ []) t.0 ≡ o → option_and_then (in_row t.1) o ≡ Some n → 0 ≡ n
+    by_row None q g = absurd (no_some None n refl g)
+    by_row (Some r) q g = by_place (get_push rows row t.0 r q)
+      where
+        by_place : ((slice_get rows t.0 ≡ Some r) ⊎ (row ≡ r)) → 0 ≡ n
+        by_place (inl p) = h t n (ap (option_and_then (in_row t.1)) p ∙ g)
+        by_place (inr p) = get_zeros k t.1 n (ap (λ z. slice_get z t.1) (sym zeros) ∙ ap (in_row t.1) p ∙ g)
+
+pub zero_counts : (counts : Counts) → AreZero counts.rows.items → AreCounts counts []
+zero_counts counts h = record { all = λ t n at. ap last_number (sym (h t n at)) ∙ sym (force_none t) }
+
+-- an entry without a place
+pub passed : (counts : Counts) (e : EntryAt) (es : List EntryAt) → count_at counts.rows.items (e.class, e.key) ≡ None → AreCounts counts es → AreCounts counts (es ++ e ∷ [])
+passed counts e es none h = record { all = λ t n at. by_test t n at (hits e t) refl ∙ sym (force_push es e t) }
+  where
+    by_test : (t : ℕ × ℕ) (n : ℕ) → count_at counts.rows.items t ≡ Some n → (b : Bool) → hits e t ≡ b → last_number n ≡ cond b (Some (length es)) (number_in_force es t)
+    by_test t n at true f = absurd (no_some (count_at counts.rows.items t) n (ap (count_at counts.rows.items) (sym (same_target e.class e.key t f)) ∙ none) at)
+    by_test t n at false f = h.all t n at
+
+pub no_row : (rows : List Row) (t : ℕ × ℕ) → length rows ≤ t.0 → count_at rows t ≡ None
+no_row rows t h = ap (option_and_then (in_row t.1)) (slice_get_past rows t.0 h)
+
+pub past_row : (rows : List Row) (row : Row) (t : ℕ × ℕ) → slice_get rows t.0 ≡ Some row → length row.items ≤ t.1 → count_at rows t ≡ None
+past_row rows row t stands h = ap (option_and_then (in_row t.1)) stands ∙ slice_get_past row.items t.1 h
+
+-- an entry whose place is set
+module _ (old new : Counts) (row new_row : Row) (e : EntryAt) (number : ℕ) (stands : slice_get old.rows.items e.class ≡ Some row) (within : e.key < length row.items) (outer : new.rows.items ≡ set old.rows.items e.class new_row) (inner : new_row.items ≡ set row.items e.key (number + 1)) where
+  row_set : slice_get new.rows.items e.class ≡ Some new_row
+  row_set = ap (λ z. slice_get z e.class) outer ∙ get_set_same old.rows.items e.class new_row (slice_get_within old.rows.items e.class row stands)
+
+  here : count_at new.rows.items (e.class, e.key) ≡ Some (number + 1)
+  here = ap (option_and_then (in_row e.key)) row_set ∙ ap (λ z. slice_get z e.key) inner ∙ get_set_same row.items e.key (number + 1) within
+
+  elsewhere : (t : ℕ × ℕ) → hits e t ≡ false → count_at new.rows.items t ≡ count_at old.rows.items t
+  elsewhere t f = by_class (cases_eq t.0 e.class)
+    where
+      apart : t.0 ≡ e.class → t.1 ≢ e.key
+      apart q r = clash (hits e t) (target_same e.class e.key t (ap (λ z. (z, e.key)) (sym q) ∙ ap (λ z. (t.0, z)) (sym r))) f
+
+      by_class : ((t.0 ≡ e.class) ⊎ (t.0 ≢ e.class)) → count_at new.rows.items t ≡ count_at old.rows.items t
+      by_class (inl q) =
+          ap (λ z. option_and_then (in_row t.1) (slice_get new.rows.items z)) q ∙ ap (option_and_then (in_row t.1)) row_set
+          ∙ ap (λ z. slice_get z t.1) inner ∙ get_set_other row.items e.key t.1 (number + 1) (apart q)
+          ∙ sym (ap (λ z. option_and_then (in_row t.1) (slice_get old.rows.items z)) q ∙ ap (option_and_then (in_row t.1)) stands)
+      by_class (inr q) = ap (λ z. count_at z t) outer ∙ ap (option_and_then (in_row t.1)) (get_set_other old.rows.items e.class t.0 new_row q)
+
+  pub placed : (es : List EntryAt) → AreCounts old es → length es ≡ number → AreCounts new (es ++ e ∷ [])
+  placed es h count = record { all = λ t n at. by_test t n at (hits e t) refl ∙ sym (force_push es e t) }
+    where
+      by_test : (t : ℕ × ℕ) (n : ℕ) → count_at new.rows.items t ≡ Some n → (b : Bool) → hits e t ≡ b → last_number n ≡ cond b (Some (length es)) (number_in_force es t)
+      by_test t n at true f =
+          let s : Some (number + 1) ≡ Some n = sym here ∙ ap (count_at new.rows.items) (same_target e.class e.key t f) ∙ at in
+          let m : number + 1 ≡ n = cc in
+          ap last_number (sym m) ∙ last_of number ∙ ap (λ z. Some z) (sym count)
+      by_test t n at false f = h.all t n (sym (elsewhere t f) ∙ at)
+
+-- a count less one is the number that it stands for
+pub counted : (n : ℕ) (o : Option ℕ) → SomeIff o (1 ≤ n) (n - 1) → o ≡ last_number n
+counted zero None h = refl
+counted zero (Some m) h = absurd (omega (arith, h.0))
+counted (suc n) None h = absurd (h (omega arith))
+counted (suc n) (Some m) h = let q : m ≡ n = omega (arith, h.1) in ap (λ z. Some z) q
