@@ -20,7 +20,7 @@ timed() {
     for _ in 1 2 3; do
         rm -f "$made"
         from=$(date +%s.%N); "$@" >"$work/said" 2>&1; status=$?; to=$(date +%s.%N)
-        seconds=$(awk "BEGIN { s = $to - $from; printf \"%.2f\", (\"$seconds\" == \"\" || s < 0 + \"$seconds\") ? s : \"$seconds\" }")
+        seconds=$(awk "BEGIN { s = $to - $from; printf \"%.3f\", (\"$seconds\" == \"\" || s < 0 + \"$seconds\") ? s : \"$seconds\" }")
     done
 }
 
@@ -57,9 +57,9 @@ for file in "$@"; do
     fi
     if [ -n "$has_scrub" ]; then
         timed "$work/jdk.jfr" "$jdk" scrub "$file" "$work/jdk.jfr"; scrub=$seconds
-        times=$(awk "BEGIN { printf \"%.1f\", $scrub / ($ours > 0 ? $ours : 0.01) }")
+        times=$(awk "BEGIN { printf \"%.1f\", $scrub / ($ours > 0 ? $ours : 0.001) }")
     fi
     in=$(stat -c %s "$file"); size=$(stat -c %s "$out")
-    echo "| $name | $in | $size | $ours | $(awk "BEGIN { printf \"%.0f\", $in / 1000000 / ($ours > 0 ? $ours : 0.01) }") | $peak | $one | $copy | $summary | $scrub | $times |"
+    echo "| $name | $in | $size | $ours | $(awk "BEGIN { printf \"%.0f\", $in / 1000000 / ($ours > 0 ? $ours : 0.001) }") | $peak | $one | $copy | $summary | $scrub | $times |"
 done
 exit $bad
