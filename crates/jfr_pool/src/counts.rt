@@ -8,6 +8,9 @@ use std::alloc::Global;
 // Classes below this may have a row.
 const ROWS: u64 = 4096;
 
+// So many of them have a row in any case.
+const FEW: usize = 1024;
+
 // A row may have so many places in any case.
 const PLACES: usize = 64;
 
@@ -20,6 +23,12 @@ struct Need {
     entries: usize,
     length: usize,
 }
+
+// What a class without entries needs: a place for the key 0, which refers to nothing mostly.
+const NONE: Need = Need {
+    entries: 0,
+    length: 1,
+};
 
 /// The numbers of the entries in force of small keys. A small class has a row, and in it each key
 /// below the row's length has a place: how many entries there are up to the one in force, and 0 where
@@ -86,7 +95,7 @@ impl Counts {
 
 /// What each class needs, up to the largest that may have a row.
 fn needs(alloc: Global, entries: &[EntryAt]) -> Result<Vec<Need>, NoMemory> {
-    let mut needs = Vec::new(alloc);
+    let mut needs = vec![in alloc; NONE; FEW]?;
     for entry in entries {
         if entry.class < ROWS {
             note(&mut needs, entry.class as usize, entry.key)?;
@@ -101,11 +110,7 @@ fn note(needs: &mut Vec<Need>, class: usize, key: u64) -> Result<(), NoMemory>
     requires { class < 2 ^ 32 }
 {
     if class >= needs.len() {
-        let none = Need {
-            entries: 0,
-            length: 0,
-        };
-        needs.resize(class + 1, none)?;
+        needs.resize(class + 1, NONE)?;
     }
     let need = &mut needs[class];
     need.entries = need.entries.saturating_add(1);

@@ -227,7 +227,8 @@ fn small_keys_have_a_place(rt: HostRuntime) -> Result<(), Fail> {
         (7, 1001, Some(301)),
         (7, 1002, None),
         (7, u64::MAX, None),
-        (6, 0, None),
+        (6, 0, Some(0)),
+        (6, 1, None),
         (4096, 0, None),
     ];
     for (class, key, expected) in table {
