@@ -218,6 +218,7 @@ fn small_keys_have_a_place(rt: HostRuntime) -> Result<(), Fail> {
     for (class, key) in [(7, 1001), (7, 5), (7, u64::MAX), (4096, 0)] {
         entries.push(entry(class, key))?;
     }
+    assert!(rt; entries.len() == 304);
     let counts = Counts::of(alloc, &entries)?;
     let table = [
         (7, 0, Some(0)),
