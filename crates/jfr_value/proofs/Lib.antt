@@ -3,6 +3,7 @@ pub mod AnswerLaws
 pub mod ByteLaws
 pub mod ChildLaws
 pub mod DepthLaws
+mod EightBytes
 pub mod EndLaws
 pub mod FitLaws
 pub mod FlawLaws

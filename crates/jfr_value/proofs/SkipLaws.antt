@@ -1,7 +1,7 @@
 -- Where an integer ends, whatever it says.
 use Rattle.std.specs.Prelude.{◌≡◌, ℕ, zero, suc, ◌+◌, ◌-◌, ◌<◌, ◌≤◌, ◌⊎◌, List, ◌∷◌, length, slice_range, slice_index, Option, Some, None, Ok, Err, nat_lt, true, false}
 use Rattle.std.specs.Option.{option_map}
-use Rattle.std.proofs.Common.{ap, arith, refl, sym, ◌∙◌, inl, inr}
+use Rattle.std.proofs.Common.{ap, arith, refl, subst, sym, ◌∙◌, inl, inr}
 use Rattle.jfr_base.specs.declared.integer.Var.{Var}
 use Rattle.jfr_base.specs.declared.reason.Reason.TheVariants.{Short}
 use Rattle.jfr_base.specs.Integer.{worth_within}
@@ -93,6 +93,13 @@ skip_next x at end passed s m l h b =
     by_front : (o : Option ℕ) → option_map (λ n. passed + n) (option_map (λ n. suc n) o) ≡ option_map (λ n. passed + 1 + n) o
     by_front None = refl
     by_front (Some n) = ap (λ z. Some z) (omega arith)
+
+-- after so many bytes with more to come
+pub skip_all : (x : List ℕ) (at end passed : ℕ) → passed ≤ 8 → at + 8 ≤ end → end ≤ length x → ((k : ℕ) → k < passed → 128 ≤ slice_index x (at + k)) → Skipping x at end passed
+skip_all x at end zero m l h more = skip_start x at end
+skip_all x at end (suc n) m l h more =
+    let z : n + 1 ≡ suc n = omega arith in
+    subst (Skipping x at end) z (skip_next x at end n (skip_all x at end n (omega arith) l h (λ k i. more k (omega arith))) (omega arith) (omega arith) h (more n (omega arith)))
 
 pub skip_end : (x : List ℕ) (at end passed : ℕ) → Skipping x at end passed → at + passed < end → end ≤ length x → (slice_index x (at + passed) < 128) ⊎ (passed ≡ 8) → Ok (at + passed + 1) ≡ seen (run integer x end at)
 skip_end x at end passed s l h t =

@@ -13,15 +13,13 @@ ghost use Rattle.jfr_value.specs.Visits.{TakesAll, TakesRead, TakesReadAll};
 ghost use Rattle.jfr_value.specs.Walks.{Room};
 
 use crate::Visit;
+use crate::integers::integer_end;
 use crate::keys::{key_end, text_end};
 use crate::part::item_of;
 use crate::walk::STEPS;
 use jfr_base::{Flaw, Reason, read_within};
 use jfr_layout::{Classes, Form, Kind, Shape, Slot};
 use jfr_text::read_string;
-
-/// So many groups of an integer have seven bits. Behind them comes one of eight.
-const SHORT_GROUPS: usize = 8;
 
 /// Where a value ends. The class must be known. Where no value stands, the flaw is of the first leaf
 /// from the left that doesn't stand by `end`: `Short`, or `StringKind` for a string of an unknown kind.
@@ -177,78 +175,13 @@ pub(crate) fn is_hollow(classes: &Classes, place: usize) -> bool
 }
 
 /// The flaw of a place where a value doesn't end in time.
-fn ends_early(at: usize) -> Flaw
+pub(crate) fn ends_early(at: usize) -> Flaw
     ensures { result ≡ record { offset = at; reason = Reason.Short } }
 {
     Flaw {
         offset: at as u64,
         reason: Reason::Short,
     }
-}
-
-/// Where an integer ends.
-#[inline(always)]
-fn integer_end(bytes: &[u8], at: usize, end: usize) -> Result<usize, Flaw>
-    requires order { at ≤ end }
-    requires within { end ≤ length bytes.now }
-    ensures exact { result ≡ seen (run integer bytes.now end at) }
-    ensures range { IfOk result (λ to. (at ≤ to) × (to ≤ end)) }
-{
-    if at >= bytes.len().saturating_sub(SHORT_GROUPS) {
-        return near_end(bytes, at, end);
-    }
-    let to = groups_end(bytes, at);
-    if to > end {
-        return Err(ends_early(at));
-    }
-    Ok(to)
-}
-
-/// Where an integer ends that has room for all of its groups, by a loop of a fixed length.
-#[inline(always)]
-fn groups_end(bytes: &[u8], at: usize) -> usize
-    requires room { at + 8 < length bytes.now }
-    ensures exact { Ok result ≡ seen (run integer bytes.now (length bytes.now) at) }
-    ensures range { at ≤ result }
-{
-    for passed in 0..SHORT_GROUPS {
-        if bytes[at + passed] < 128 {
-            return at + passed + 1;
-        }
-    }
-    at + SHORT_GROUPS + 1
-}
-
-/// Where an integer ends that may lack room. What the call answers is taken apart here, as in
-/// `compound_end`.
-#[inline(always)]
-fn near_end(bytes: &[u8], at: usize, end: usize) -> Result<usize, Flaw>
-    requires order { at ≤ end }
-    requires within { end ≤ length bytes.now }
-    requires last { length bytes.now ≤ at + 8 }
-    ensures exact { result ≡ seen (run integer bytes.now end at) }
-    ensures range { IfOk result (λ to. (at ≤ to) × (to ≤ end)) }
-{
-    let to = last_integer_end(bytes, at, end)?;
-    Ok(to)
-}
-
-/// Where an integer ends among the last eight bytes.
-#[cold]
-#[inline(never)]
-fn last_integer_end(bytes: &[u8], at: usize, end: usize) -> Result<usize, Flaw>
-    requires order { at ≤ end }
-    requires within { end ≤ length bytes.now }
-    requires last { length bytes.now ≤ at + 8 }
-    ensures exact { result ≡ seen (run integer bytes.now end at) }
-    ensures range { IfOk result (λ to. (at ≤ to) × (to ≤ end)) }
-{
-    for passed in 0..end - at {
-        if bytes[at + passed] < 128 {
-            return Ok(at + passed + 1);
-        }
-    }
-    Err(ends_early(at))
 }
 
 /// Where a run of so many bytes ends.

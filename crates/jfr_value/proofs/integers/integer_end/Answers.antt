@@ -1,6 +1,6 @@
 use Rattle.std.proofs.Common.{Err, ap, arith, ◌∙◌}
 use Rattle.jfr_value.proofs.SkipLaws.{by_end, past_end}
-use Rattle.jfr_value.proofs.extent.integer_end.Goals as goal
+use Rattle.jfr_value.proofs.integers.integer_end.Goals as goal
 
 pub returns-then-to-end-clause-exact : goal.returns-then-to-end-clause-exact
 returns-then-to-end-clause-exact c =

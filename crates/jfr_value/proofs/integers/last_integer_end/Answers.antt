@@ -1,6 +1,6 @@
 use Rattle.std.proofs.Common.{Err, ap, arith, inl, ◌∙◌}
 use Rattle.jfr_value.proofs.SkipLaws.{skip_start, skip_next, skip_end, skip_short}
-use Rattle.jfr_value.proofs.extent.last_integer_end.Goals as goal
+use Rattle.jfr_value.proofs.integers.last_integer_end.Goals as goal
 
 pub loop-passed-init : goal.loop-passed-init
 loop-passed-init c = skip_start c.args.bytes.now c.args.at c.args.end
