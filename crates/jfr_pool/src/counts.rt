@@ -1,7 +1,8 @@
-// The numbers of the entries in force of small keys, by class and key.
-ghost use Rattle.std.specs.Prelude.{◌≡◌, ◌+◌, ◌<◌, ◌^◌, [], ◌∷◌, ◌++◌, length, IfOk};
+// The numbers of the entries in force of small classes, by class and key.
+ghost use Rattle.std.specs.Prelude.{◌≡◌, ◌+◌, ◌<◌, ◌≤◌, ◌^◌, [], ◌∷◌, ◌++◌, length, IfOk};
 
 use crate::EntryAt;
+use crate::row::Row;
 use jfr_outside::NoMemory;
 use std::alloc::Global;
 
@@ -11,31 +12,42 @@ const ROWS: u64 = 4096;
 // So many of them have a row in any case.
 const FEW: usize = 1024;
 
-// A row may have so many places in any case.
-const PLACES: usize = 64;
+// All rows of a chunk may have so many places in any case.
+const PLACES: usize = 65_536;
 
-// And so many more for each entry of its class.
+// And so many more for each entry.
 const MORE: usize = 4;
 
-/// How many entries a class has, and how long its row has to be.
+/// The keys above 0 of a class.
 #[derive(Clone, Copy)]
-struct Need {
-    entries: usize,
-    length: usize,
+struct KeyRange {
+    least: u64,
+    greatest: u64,
 }
 
-// What a class without entries needs: a place for the key 0, which refers to nothing mostly.
-const NONE: Need = Need {
-    entries: 0,
-    length: 1,
+const NO_KEYS: KeyRange = KeyRange {
+    least: u64::MAX,
+    greatest: 0,
 };
 
-/// The numbers of the entries in force of small keys. A small class has a row, and in it each key
-/// below the row's length has a place: how many entries there are up to the one in force, and 0 where
-/// there is none.
+impl KeyRange {
+    /// How many places the keys take from the least to the greatest: 0 where there are no keys, and
+    /// where that is more than so many.
+    fn places(self, most: usize) -> usize
+        ensures { result ≤ most }
+    {
+        match self.greatest.checked_sub(self.least) {
+            Some(behind) if behind < most as u64 => behind as usize + 1,
+            _ => 0,
+        }
+    }
+}
+
+/// The numbers of the entries in force of small classes, in a row for each: how many entries there are
+/// up to the one in force, and 0 where there is none.
 #[derive(Drop)]
 pub(crate) struct Counts {
-    pub rows: Vec<Vec<u32>>,
+    pub rows: Vec<Row>,
 }
 
 impl Counts {
@@ -48,7 +60,8 @@ impl Counts {
         requires { length entries.now < 2 ^ 32 }
         ensures { IfOk result (λ counts. AreCounts counts entries.now) }
     {
-        let mut counts = Counts::empty(alloc, &needs(alloc, entries)?)?;
+        let ranges = key_ranges(alloc, entries)?;
+        let mut counts = Counts::empty(alloc, &ranges, PLACES + MORE * entries.len())?;
         for (number, entry) in entries.iter().enumerate() {
             counts.put(entry, number);
         }
@@ -63,16 +76,19 @@ impl Counts {
         let Some(row) = self.rows.get(class as usize) else {
             return None;
         };
-        row.get(key as usize).copied()
+        row.count(key)
     }
 
-    /// The rows of no entries, of the lengths that are needed.
-    fn empty(alloc: Global, needs: &[Need]) -> Result<Counts, NoMemory>
+    /// The rows of no entries, with places for these keys, as far as so many reach.
+    fn empty(alloc: Global, ranges: &[KeyRange], places: usize) -> Result<Counts, NoMemory>
         ensures { IfOk result (λ counts. AreCounts counts []) }
     {
         let mut rows = Vec::new(alloc);
-        for need in needs {
-            rows.push(vec![in alloc; 0u32; need.length]?)?;
+        let mut left = places;
+        for range in ranges {
+            let taken = range.places(left);
+            left -= taken;
+            rows.push(Row::of(alloc, range.least, taken)?)?;
         }
         Ok(Counts { rows })
     }
@@ -82,41 +98,36 @@ impl Counts {
         requires { number + 1 < 2 ^ 32 }
         ensures { (es : List EntryAt) → AreCounts self.old es → length es ≡ number → AreCounts self.new (es ++ entry.now ∷ []) }
     {
-        let (class, key) = (entry.class as usize, entry.key as usize);
+        let class = entry.class as usize;
         if class >= self.rows.len() {
             return;
         }
-        if key >= self.rows[class].len() {
-            return;
-        }
-        self.rows[class][key] = number as u32 + 1;
+        self.rows[class].put(entry.key, number as u32 + 1);
     }
 }
 
-/// What each class needs, up to the largest that may have a row.
-fn needs(alloc: Global, entries: &[EntryAt]) -> Result<Vec<Need>, NoMemory> {
-    let mut needs = vec![in alloc; NONE; FEW]?;
+/// The keys of each class, up to the largest that may have a row.
+fn key_ranges(alloc: Global, entries: &[EntryAt]) -> Result<Vec<KeyRange>, NoMemory> {
+    let mut ranges = vec![in alloc; NO_KEYS; FEW]?;
     for entry in entries {
         if entry.class < ROWS {
-            note(&mut needs, entry.class as usize, entry.key)?;
+            note(&mut ranges, entry.class as usize, entry.key)?;
         }
     }
-    Ok(needs)
+    Ok(ranges)
 }
 
-/// Notes an entry of a class and a key. A key that is too large for the entries noted so far doesn't
-/// make the row longer.
-fn note(needs: &mut Vec<Need>, class: usize, key: u64) -> Result<(), NoMemory>
+/// Notes a key of a class.
+fn note(ranges: &mut Vec<KeyRange>, class: usize, key: u64) -> Result<(), NoMemory>
     requires { class < 2 ^ 32 }
 {
-    if class >= needs.len() {
-        needs.resize(class + 1, NONE)?;
+    if class >= ranges.len() {
+        ranges.resize(class + 1, NO_KEYS)?;
     }
-    let need = &mut needs[class];
-    need.entries = need.entries.saturating_add(1);
-    let most = need.entries.saturating_mul(MORE).saturating_add(PLACES);
-    if key < most as u64 {
-        need.length = need.length.max(key as usize + 1);
+    if key > 0 {
+        let range = &mut ranges[class];
+        range.least = range.least.min(key);
+        range.greatest = range.greatest.max(key);
     }
     Ok(())
 }

@@ -12,6 +12,7 @@ mod index;
 pub mod laws;
 mod link;
 mod pools;
+mod row;
 #[cfg(test)]
 mod tests;
 

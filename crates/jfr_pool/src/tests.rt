@@ -208,29 +208,37 @@ fn keys_of_one_home_are_told_apart(rt: HostRuntime) -> Result<(), Fail> {
 }
 
 #[test]
-fn small_keys_have_a_place(rt: HostRuntime) -> Result<(), Fail> {
+fn keys_of_small_classes_have_a_place(rt: HostRuntime) -> Result<(), Fail> {
     let alloc = rt.alloc();
-    // The first key is too large for a row, until there are more entries.
-    let mut entries = vec![in alloc; entry(7, 1000); 1]?;
-    for key in 1..300 {
-        entries.push(entry(7, key))?;
-    }
-    for (class, key) in [(7, 1001), (7, 5), (7, u64::MAX), (4096, 0)] {
-        entries.push(entry(class, key))?;
-    }
-    assert!(rt; entries.len() == 304);
+    // The keys of class 8 lie too far apart for a row, and class 4096 is too large for one.
+    let entries = [
+        entry(7, 5000),
+        entry(7, 5002),
+        entry(7, 5000),
+        entry(8, 1),
+        entry(8, 70_000),
+        entry(9, 0),
+        entry(10, u64::MAX),
+        entry(4096, 1),
+    ];
     let counts = Counts::of(alloc, &entries)?;
     let table = [
-        (7, 0, Some(0)),
-        (7, 5, Some(302)),
-        (7, 300, Some(0)),
-        (7, 1000, Some(1)),
-        (7, 1001, Some(301)),
-        (7, 1002, None),
-        (7, u64::MAX, None),
         (6, 0, Some(0)),
         (6, 1, None),
-        (4096, 0, None),
+        (7, 0, Some(0)),
+        (7, 4999, None),
+        (7, 5000, Some(3)),
+        (7, 5001, Some(0)),
+        (7, 5002, Some(2)),
+        (7, 5003, None),
+        (8, 0, Some(0)),
+        (8, 1, None),
+        (8, 70_000, None),
+        (9, 0, Some(6)),
+        (9, 1, None),
+        (10, 0, Some(0)),
+        (10, u64::MAX, Some(7)),
+        (4096, 1, None),
     ];
     for (class, key, expected) in table {
         assert_eq!(rt; counts.count(class, key), expected);

@@ -1,0 +1,60 @@
+// The row of a class: what stands for each of its keys.
+ghost use Rattle.std.specs.Prelude.{◌≡◌, ◌≢◌, ℕ, Some, option_map, IfOk};
+
+use jfr_outside::NoMemory;
+use std::alloc::Global;
+
+/// The row of a class: a count for the key 0, and one for each key from the first on, up to the row's end.
+/// The others have none.
+#[derive(Drop)]
+pub(crate) struct Row {
+    pub first: u64,
+    pub zero: u32,
+    pub counts: Vec<u32>,
+}
+
+impl Row {
+    ghost use Rattle.jfr_pool.specs.Counts.{in_row};
+
+    /// A row of zeros, with places for so many keys from the first on.
+    pub fn of(alloc: Global, first: u64, places: usize) -> Result<Row, NoMemory>
+        ensures { IfOk result (λ row. (key n : ℕ) → in_row key row ≡ Some n → 0 ≡ n) }
+    {
+        Ok(Row {
+            first,
+            zero: 0,
+            counts: vec![in alloc; 0u32; places]?,
+        })
+    }
+
+    /// What stands for a key; `None` exactly where it has no place.
+    #[inline(always)]
+    pub fn count(&self, key: u64) -> Option<u32>
+        ensures { result ≡ in_row key self.now }
+    {
+        match key.checked_sub(self.first) {
+            Some(place) => self.counts.get(place as usize).copied(),
+            None if key == 0 => Some(self.zero),
+            None => None,
+        }
+    }
+
+    /// Puts a count in a key's place, if it has one.
+    pub fn put(&mut self, key: u64, count: u32)
+        ensures here { in_row key self.new ≡ option_map (λ _. count) (in_row key self.old) }
+        ensures others { (other : ℕ) → other ≢ key → in_row other self.new ≡ in_row other self.old }
+    {
+        match key.checked_sub(self.first) {
+            Some(place) => {
+                if place < self.counts.len() as u64 {
+                    self.counts[place as usize] = count;
+                }
+            }
+            None => {
+                if key == 0 {
+                    self.zero = count;
+                }
+            }
+        }
+    }
+}
