@@ -45,16 +45,11 @@ impl Row {
         ensures others { (other : ℕ) → other ≢ key → in_row other self.new ≡ in_row other self.old }
     {
         match key.checked_sub(self.first) {
-            Some(place) => {
-                if place < self.counts.len() as u64 {
-                    self.counts[place as usize] = count;
-                }
+            Some(place) if place < self.counts.len() as u64 => {
+                self.counts[place as usize] = count;
             }
-            None => {
-                if key == 0 {
-                    self.zero = count;
-                }
-            }
+            None if key == 0 => self.zero = count,
+            _ => {}
         }
     }
 }
