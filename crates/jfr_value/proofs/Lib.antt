@@ -3,12 +3,12 @@ pub mod AnswerLaws
 pub mod ByteLaws
 pub mod ChildLaws
 pub mod DepthLaws
-mod EightBytes
 pub mod EndLaws
 pub mod FitLaws
 pub mod FlawLaws
 pub mod FormLaws
 pub mod InsideLaws
+mod LastGroups
 pub mod LeafLaws
 pub mod NodeLaws
 pub mod PartLaws
