@@ -1,5 +1,5 @@
 // The row of a class: what stands for each of its keys.
-ghost use Rattle.std.specs.Prelude.{◌≡◌, ◌≢◌, ℕ, Some, option_map, IfOk};
+ghost use Rattle.std.specs.Prelude.{◌≡◌, ◌≢◌, ℕ, option_map, replicate, IfOk};
 
 use jfr_outside::NoMemory;
 use std::alloc::Global;
@@ -18,7 +18,7 @@ impl Row {
 
     /// A row of zeros, with places for so many keys from the first on.
     pub fn of(alloc: Global, first: u64, places: usize) -> Result<Row, NoMemory>
-        ensures { IfOk result (λ row. (key n : ℕ) → in_row key row ≡ Some n → 0 ≡ n) }
+        ensures { IfOk result (λ row. (row.first ≡ first) × (row.zero ≡ 0) × (row.counts.items ≡ replicate places 0)) }
     {
         Ok(Row {
             first,
