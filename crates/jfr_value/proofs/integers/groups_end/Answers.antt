@@ -1,5 +1,5 @@
 use Rattle.std.specs.Prelude.{length}
-use Rattle.std.proofs.Common.{arith, inl, inr, ◌∙◌}
+use Rattle.std.proofs.Common.{arith, inl, inr}
 use Rattle.std.proofs.lemmas.Bool.{cases_lt}
 use Rattle.jfr_value.proofs.SkipLaws.{skip_all, skip_end}
 use Rattle.jfr_value.proofs.integers.groups_end.Goals as goal
