@@ -1,6 +1,10 @@
-// Real files. Nothing is told of their content: no clause can say what a file holds.
-ghost use Rattle.std.specs.Prelude.{◌≡◌};
-ghost use Rattle.jfr.specs.Edges.{untold};
+// Real files. A place tells what names hold, and no clause can say that of the system's files; what a call
+// does to the file that is open stands as a clause of its own.
+ghost use Rattle.std.specs.Prelude.{◌≡◌, ◌≤◌, length, IfOk, IsSome, None, OnOk};
+ghost use Rattle.std.specs.Io.KnownBytes.{Appends};
+ghost use Rattle.jfr_outside.specs.Counts.{Counts};
+ghost use Rattle.jfr_outside.specs.World.{bytes_in};
+ghost use Rattle.jfr.specs.Edges.{untold, Grew, Took};
 
 use crate::counts::raise;
 use jfr_outside::{Fault, Place};
@@ -40,27 +44,42 @@ impl<'a, R: Files> FilePlace<'a, R> {
     }
 }
 
-/// Writes pieces to a file, one behind another. Small ones are gathered. Without memory for that nothing
-/// is written.
-fn write_pieces<W: Write>(alloc: Global, file: &mut W, pieces: &[&[u8]]) -> Result<(), Fault> {
+/// Writes pieces to a file, one behind another, and hands it back. Small ones are gathered. Without memory
+/// for that nothing is written.
+fn write_pieces<W: Write + Drop>(alloc: Global, file: W, pieces: &[&[u8]]) -> Result<W, Fault>
+    ensures grew { IfOk result (λ new. Appends (W.contents file) (W.contents new) (bytes_in pieces.now)) }
+{
     let Ok(mut writer) = BufWriter::with_capacity(alloc, GATHERED, file) else {
         return Err(Fault::Memory);
     };
-    for piece in pieces {
-        if writer.write_all(piece).is_err() {
-            return Err(Fault::Failed);
-        }
-    }
-    match writer.flush() {
-        Ok(()) => Ok(()),
+    write_each(&mut writer, pieces)?;
+    match writer.into_inner() {
+        Ok(file) => Ok(file),
         Err(_) => Err(Fault::Failed),
     }
+}
+
+/// Writes pieces, one behind another.
+fn write_each<W: Write>(writer: &mut W, pieces: &[&[u8]]) -> Result<(), Fault>
+    ensures grew { OnOk result (Appends (W.contents writer.old) (W.contents writer.new) (bytes_in pieces.now)) }
+{
+    for piece in pieces {
+        match writer.write_all(piece) {
+            Ok(()) => {}
+            Err(_) => return Err(Fault::Failed),
+        }
+    }
+    Ok(())
 }
 
 impl<'a, R: Files> Place for FilePlace<'a, R> {
     ghost state = { λ p. untold p.read_faults p.write_faults };
 
-    fn open_input(&mut self, name: &str) -> Result<(), Fault> {
+    fn open_input(&mut self, name: &str) -> Result<(), Fault>
+        ensures open { OnOk result (IsSome self.new.input) }
+        ensures reads { Counts result self.old.read_faults self.new.read_faults }
+        ensures writes { self.new.write_faults ≡ self.old.write_faults }
+    {
         self.input = None;
         match fs::open(self.rt, name) {
             Ok(file) => {
@@ -74,7 +93,12 @@ impl<'a, R: Files> Place for FilePlace<'a, R> {
         }
     }
 
-    fn read(&mut self, into: &mut [u8]) -> Result<usize, Fault> {
+    fn read(&mut self, into: &mut [u8]) -> Result<usize, Fault>
+        ensures bound { IfOk result (λ n. n ≤ length into.new) }
+        ensures took { Took R.File.remaining self.old.input self.new.input result into.new }
+        ensures reads { Counts result self.old.read_faults self.new.read_faults }
+        ensures writes { self.new.write_faults ≡ self.old.write_faults }
+    {
         let count = match &mut self.input {
             Some(file) => file.read(into),
             None => {
@@ -91,11 +115,19 @@ impl<'a, R: Files> Place for FilePlace<'a, R> {
         }
     }
 
-    fn shut_input(&mut self) {
+    fn shut_input(&mut self)
+        ensures shut { self.new.input ≡ None }
+        ensures reads { self.new.read_faults ≡ self.old.read_faults }
+        ensures writes { self.new.write_faults ≡ self.old.write_faults }
+    {
         self.input = None;
     }
 
-    fn create_output(&mut self, name: &str) -> Result<(), Fault> {
+    fn create_output(&mut self, name: &str) -> Result<(), Fault>
+        ensures open { OnOk result ((self.old.output ≡ None) × IsSome self.new.output) }
+        ensures reads { self.new.read_faults ≡ self.old.read_faults }
+        ensures writes { Counts result self.old.write_faults self.new.write_faults }
+    {
         if self.output.is_some() {
             self.output = None;
             raise(&mut self.write_faults);
@@ -117,7 +149,11 @@ impl<'a, R: Files> Place for FilePlace<'a, R> {
         }
     }
 
-    fn append(&mut self, bytes: &[u8]) -> Result<(), Fault> {
+    fn append(&mut self, bytes: &[u8]) -> Result<(), Fault>
+        ensures grew { OnOk result (Grew R.File.contents self.old.output self.new.output bytes.now) }
+        ensures reads { self.new.read_faults ≡ self.old.read_faults }
+        ensures writes { Counts result self.old.write_faults self.new.write_faults }
+    {
         let written = match &mut self.output {
             Some(file) => file.write_all(bytes),
             None => {
@@ -134,16 +170,21 @@ impl<'a, R: Files> Place for FilePlace<'a, R> {
         }
     }
 
-    fn append_pieces(&mut self, pieces: &[&[u8]]) -> Result<(), Fault> {
-        let written = match &mut self.output {
-            Some(file) => write_pieces(self.alloc, file, pieces),
-            None => {
-                raise(&mut self.write_faults);
-                return Err(Fault::Failed);
-            }
+    /// Where it fails, the file is closed.
+    fn append_pieces(&mut self, pieces: &[&[u8]]) -> Result<(), Fault>
+        ensures grew { OnOk result (Grew R.File.contents self.old.output self.new.output (bytes_in pieces.now)) }
+        ensures reads { self.new.read_faults ≡ self.old.read_faults }
+        ensures writes { Counts result self.old.write_faults self.new.write_faults }
+    {
+        let Some(file) = self.output.take() else {
+            raise(&mut self.write_faults);
+            return Err(Fault::Failed);
         };
-        match written {
-            Ok(()) => Ok(()),
+        match write_pieces(self.alloc, file, pieces) {
+            Ok(file) => {
+                self.output = Some(file);
+                Ok(())
+            }
             Err(Fault::Memory) => Err(Fault::Memory),
             Err(Fault::Failed) => {
                 raise(&mut self.write_faults);
@@ -152,7 +193,12 @@ impl<'a, R: Files> Place for FilePlace<'a, R> {
         }
     }
 
-    fn finish_output(&mut self) -> Result<(), Fault> {
+    fn finish_output(&mut self) -> Result<(), Fault>
+        ensures shut { self.new.output ≡ None }
+        ensures open { OnOk result (IsSome self.old.output) }
+        ensures reads { self.new.read_faults ≡ self.old.read_faults }
+        ensures writes { Counts result self.old.write_faults self.new.write_faults }
+    {
         let flushed = match &mut self.output {
             Some(file) => file.flush(),
             None => {

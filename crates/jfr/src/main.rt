@@ -6,6 +6,8 @@
 mod counts;
 mod file_place;
 mod stream_sink;
+#[cfg(test)]
+mod tests;
 
 use file_place::FilePlace;
 use jfr_cli::run;

@@ -1,5 +1,7 @@
-// A real stream. Nothing is told of its bytes.
-ghost use Rattle.std.specs.Prelude.{◌≡◌};
+// A real stream. No clause can say what it holds; what a call hands to it stands as a clause of its own.
+ghost use Rattle.std.specs.Prelude.{◌≡◌, OnOk};
+ghost use Rattle.std.specs.Io.KnownBytes.{Appends};
+ghost use Rattle.jfr_outside.specs.Counts.{Counts};
 ghost use Rattle.jfr.specs.Edges.{unseen};
 
 use crate::counts::raise;
@@ -25,7 +27,10 @@ impl<W: Write + Drop> StreamSink<W> {
 impl<W: Write + Drop> Sink for StreamSink<W> {
     ghost state = { λ s. unseen s.faults };
 
-    fn write(&mut self, bytes: &[u8]) -> Result<(), Fault> {
+    fn write(&mut self, bytes: &[u8]) -> Result<(), Fault>
+        ensures grew { OnOk result (Appends (W.contents self.old.stream) (W.contents self.new.stream) bytes.now) }
+        ensures faults { Counts result self.old.faults self.new.faults }
+    {
         if self.stream.write_all(bytes).is_err() {
             raise(&mut self.faults);
             return Err(Fault::Failed);

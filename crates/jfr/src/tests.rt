@@ -1,0 +1,38 @@
+// Real files: what no clause can say of a name.
+use crate::file_place::FilePlace;
+use jfr_outside::Place;
+use std::fs;
+use std::test::Fail;
+
+const NAME: &str = "jfr_file_place_test";
+
+#[test]
+fn what_is_written_is_read_back(rt: HostRuntime) -> Result<(), Fail> {
+    let alloc = rt.alloc();
+    let _ = fs::remove_file(&rt, NAME);
+    let large = vec![in alloc; 7u8; 70_000]?;
+    let mut place = FilePlace::new(&rt, alloc);
+    assert!(rt; place.open_input(NAME).is_err());
+    assert!(rt; place.append(b"a").is_err());
+    assert!(rt; place.create_output(NAME).is_ok());
+    assert!(rt; place.append(b"ab").is_ok());
+    assert!(rt;
+        place
+            .append_pieces(&[b"cd".as_slice(), &large, b"".as_slice(), b"e".as_slice()])
+            .is_ok()
+    );
+    assert!(rt; place.append(b"f").is_ok());
+    assert!(rt; place.finish_output().is_ok());
+    assert!(rt; place.append_pieces(&[b"g".as_slice()]).is_err());
+    assert!(rt; place.create_output(NAME).is_err());
+    assert_eq!(rt; fs::metadata(&rt, NAME)?.len(), 70_006);
+
+    let mut front = [0; 5];
+    assert!(rt; place.open_input(NAME).is_ok());
+    assert!(rt; place.read(&mut front) == Ok(5));
+    assert_eq!(rt; front, *b"abcd\x07");
+    place.shut_input();
+    assert!(rt; place.read(&mut front).is_err());
+    fs::remove_file(&rt, NAME)?;
+    Ok(())
+}
