@@ -1,4 +1,4 @@
--- What is told of real files and streams: their counts of faults, and nothing of their content.
+-- What is told of real files and streams, their counts of faults and nothing that a name holds; and what a call does to the file that is open.
 use Rattle.std.specs.Prelude.{ℕ, List, Option, Some, None, Result, IsErr, false}
 use Rattle.std.specs.Io.KnownBytes.{Appends, ReadConsumes}
 use Rattle.jfr_outside.specs.declared.fault.Fault.{Fault}

@@ -9,6 +9,7 @@ const NAME: &str = "jfr_file_place_test";
 #[test]
 fn what_is_written_is_read_back(rt: HostRuntime) -> Result<(), Fail> {
     let alloc = rt.alloc();
+    // A run that was stopped may have left it.
     let _ = fs::remove_file(&rt, NAME);
     let large = vec![in alloc; 7u8; 70_000]?;
     let mut place = FilePlace::new(&rt, alloc);
