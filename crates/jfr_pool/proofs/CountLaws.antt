@@ -117,8 +117,6 @@ module _ (old new : Counts) (row new_row : Row) (e : EntryAt) (number : ℕ) (st
       by_test t n at false f = h.all t n (sym (elsewhere t f) ∙ at)
 
 -- a count less one is the number that it stands for
-pub counted : (n : ℕ) (o : Option ℕ) → SomeIff o (1 ≤ n) (n - 1) → o ≡ last_number n
-counted zero None h = refl
-counted zero (Some m) h = absurd (omega (arith, h.0))
-counted (suc n) None h = absurd (h (omega arith))
-counted (suc n) (Some m) h = let q : m ≡ n = omega (arith, h.1) in ap (λ z. Some z) q
+pub less_one : (n : ℕ) → n ≢ 0 → Some (n - 1) ≡ last_number n
+less_one zero h = absurd (h refl)
+less_one (suc n) h = ap (λ z. Some z) (omega arith)

@@ -86,7 +86,8 @@ impl Pools {
         ensures { result ≡ number_in_force self.now (class, key) }
     {
         match self.counts.count(class, key) {
-            Some(count) => (count as usize).checked_sub(1),
+            Some(0) => None,
+            Some(count) => Some(count as usize - 1),
             None => self.indexed(class, key),
         }
     }

@@ -8,6 +8,7 @@ pub mod FitLaws
 pub mod FlawLaws
 pub mod FormLaws
 pub mod InsideLaws
+mod FrontLaws
 mod LastGroups
 pub mod LeafLaws
 pub mod NodeLaws

@@ -32,7 +32,7 @@ module _ (k : Classes) (s : Slot) (levels : ℕ) (x : List ℕ) (end at : ℕ) (
   abbrev reading : Answer Value
   reading = run (shape_format (class_format (levels + 1) k) s.shape) x end at
 
-  base_ends : (f : Form) → Inline s f → f ≢ forms.Fields → seen (run (base_format s.kind) x end at) ≡ seen reading
+  pub base_ends : (f : Form) → Inline s f → f ≢ forms.Fields → seen (run (base_format s.kind) x end at) ≡ seen reading
   base_ends f i n =
       sym (slot_base (levels + 1) k s x end at (omega arith) (p.of_class i.constant) (other_kind f s.kind kinds.Composite i.form n))
       ∙ inline_ends (class_format (levels + 1) k) s.shape x end at i.array i.constant
@@ -72,7 +72,7 @@ module _ (k : Classes) (s : Slot) (levels : ℕ) (x : List ℕ) (end at : ℕ) (
       ∙ inline_ends (class_format (levels + 1) k) s.shape x end at f.array f.constant)
 
   module _ {A : Type 0} (takes : ℕ × ℕ → A → A → Type 0) (old new : A) where
-    inline_taken : s.shape.array ≡ false → s.shape.constant ≡ false → TakesRead takes (run (class_format (levels + 1) k (item_of s.shape)) x end at) old new → TakesRead takes reading old new
+    pub inline_taken : s.shape.array ≡ false → s.shape.constant ≡ false → TakesRead takes (run (class_format (levels + 1) k (item_of s.shape)) x end at) old new → TakesRead takes reading old new
     inline_taken a o h =
         item_taken takes x end at (class_format (levels + 1) k) s.shape old new a
         (subst (λ t. TakesRead takes (run (item (class_format (levels + 1) k) s.shape t) x end at) old new) (sym o) h)

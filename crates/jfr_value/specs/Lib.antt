@@ -5,4 +5,6 @@ pub mod Leaves
 pub mod Stacks
 pub mod Walks
 pub mod Visits
+pub mod Groups
+pub mod Fronts
 pub mod Laws

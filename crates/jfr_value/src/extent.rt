@@ -9,10 +9,12 @@ ghost use Rattle.jfr_layout.specs.declared.kind.Kind.TheVariants as kinds;
 ghost use Rattle.jfr_value.specs.Nodes.{EndsAt, IsRefused, IsValueReason, node_at, targets};
 ghost use Rattle.jfr_value.specs.Values.{IsHollow, IsHollowArray, IsPlaced, key_of};
 ghost use Rattle.jfr_value.specs.Reading.{base_format, class_format, shape_format, value_format};
+ghost use Rattle.jfr_value.specs.Fronts.{row_format};
 ghost use Rattle.jfr_value.specs.Visits.{TakesAll, TakesRead, TakesReadAll};
 ghost use Rattle.jfr_value.specs.Walks.{Room};
 
 use crate::Visit;
+use crate::front::pass_front;
 use crate::integers::integer_end;
 use crate::keys::{key_end, text_end};
 use crate::part::item_of;
@@ -92,10 +94,38 @@ fn value_end<C, V: Visit<C>>(
     match slot.form {
         Form::Fields => {
             let fields = classes.slots(slot.place);
-            row_end(classes, fields, bytes, at, end, STEPS - 1, visitor, with)
+            whole_row_end(classes, fields, bytes, at, end, STEPS - 1, visitor, with)
         }
         _ => other_end(classes, slot, bytes, at, end, visitor, with),
     }
+}
+
+/// Where the values of slots end, one after another, as `row_end` says it. If the row begins as those of
+/// most events do, its front is passed without a look at each form.
+#[inline(always)]
+fn whole_row_end<C, V: Visit<C>>(
+    classes: &Classes,
+    slots: &[Slot],
+    bytes: &[u8],
+    at: usize,
+    end: usize,
+    levels: u32,
+    visitor: &mut V,
+    with: &C,
+) -> Result<usize, Flaw>
+    requires slots { AllByRecursion (IsSlot classes.now) slots.now }
+    requires room { AllByRecursion (λ s. Room classes.now levels s.shape) slots.now }
+    requires order { at ≤ end }
+    requires within { end ≤ length bytes.now }
+    requires ready { V.ready visitor.old with.now }
+    ensures exact { result ≡ seen (run (row_format (levels + 1) classes.now slots.now) bytes.now end at) }
+    ensures range { IfOk result (λ to. (at ≤ to) × (to ≤ end)) }
+    ensures visited { TakesReadAll (V.takes with.now) (run (row_format (levels + 1) classes.now slots.now) bytes.now end at) visitor.old visitor.new }
+    ensures ready { V.ready visitor.new with.now }
+{
+    let passed = pass_front(slots, bytes, at, end, visitor, with)?;
+    let (_, rest) = slots.split_at(passed.fields);
+    row_end(classes, rest, bytes, passed.end, end, levels, visitor, with)
 }
 
 /// The same, of a value that is no row of fields.

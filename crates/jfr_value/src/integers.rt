@@ -1,6 +1,8 @@
 // Where integers end, whatever they say.
-ghost use Rattle.std.specs.Prelude.{◌≡◌, ℕ, ◌+◌, ◌≤◌, ◌<◌, length, slice_index, IfOk, Ok};
+ghost use Rattle.std.specs.Prelude.{◌≡◌, ℕ, ◌+◌, ◌≤◌, ◌<◌, length, IfOk, IfSome, Ok};
+ghost use Rattle.std.specs.Int.{bit_at};
 ghost use Rattle.jfr_base.specs.Formats.{integer, run, seen};
+ghost use Rattle.jfr_value.specs.Groups.{AreLastGroups, integer_pair};
 
 use crate::extent::ends_early;
 use jfr_base::Flaw;
@@ -40,24 +42,92 @@ fn groups_end(bytes: &[u8], at: usize) -> usize
     ensures exact { Ok result ≡ seen (run integer bytes.now (length bytes.now) at) }
     ensures range { at ≤ result }
 {
-    at + groups_with_more(bytes, at) + 1
+    at + groups_with_more(last_groups(bytes, at), 0) + 1
 }
 
-/// How many groups of an integer have their top bit, and so more to come, up to the last. The bytes are
-/// looked at in one step, all of a vector of sixteen.
+/// Where the second of two integers ends that stand one behind the other.
 #[inline(always)]
-fn groups_with_more(bytes: &[u8], at: usize) -> usize
+pub(crate) fn pair_end(bytes: &[u8], at: usize, end: usize) -> Result<usize, Flaw>
+    requires order { at ≤ end }
+    requires within { end ≤ length bytes.now }
+    ensures exact { result ≡ seen (run integer_pair bytes.now end at) }
+    ensures range { IfOk result (λ to. (at ≤ to) × (to ≤ end)) }
+{
+    match short_pair_end(bytes, at, end) {
+        Some(to) => Ok(to),
+        None => far_pair_end(bytes, at, end),
+    }
+}
+
+/// The same, where one look shows the last groups of both.
+#[inline(always)]
+fn short_pair_end(bytes: &[u8], at: usize, end: usize) -> Option<usize>
+    requires order { at ≤ end }
+    requires within { end ≤ length bytes.now }
+    ensures exact { IfSome result (λ to. Ok to ≡ seen (run integer_pair bytes.now end at)) }
+    ensures range { IfSome result (λ to. (at ≤ to) × (to ≤ end)) }
+{
+    if at >= bytes.len().saturating_sub(VECTOR - 1) {
+        return None;
+    }
+    let lasts = last_groups(bytes, at);
+    let first = groups_with_more(lasts, 0) + 1;
+    let both = first + groups_with_more(lasts, first) + 1;
+    if both > VECTOR.min(end - at) {
+        return None;
+    }
+    Some(at + both)
+}
+
+/// The same, one integer after the other. What the call answers is taken apart here, as in
+/// `compound_end`.
+#[inline(always)]
+fn far_pair_end(bytes: &[u8], at: usize, end: usize) -> Result<usize, Flaw>
+    requires order { at ≤ end }
+    requires within { end ≤ length bytes.now }
+    ensures exact { result ≡ seen (run integer_pair bytes.now end at) }
+    ensures range { IfOk result (λ to. (at ≤ to) × (to ≤ end)) }
+{
+    let to = long_pair_end(bytes, at, end)?;
+    Ok(to)
+}
+
+/// The same.
+#[inline(never)]
+fn long_pair_end(bytes: &[u8], at: usize, end: usize) -> Result<usize, Flaw>
+    requires order { at ≤ end }
+    requires within { end ≤ length bytes.now }
+    ensures exact { result ≡ seen (run integer_pair bytes.now end at) }
+    ensures range { IfOk result (λ to. (at ≤ to) × (to ≤ end)) }
+{
+    let second = integer_end(bytes, at, end)?;
+    integer_end(bytes, second, end)
+}
+
+/// Which of the bytes of a vector have no top bit, and so are the last groups of integers: a bit for each.
+#[inline(always)]
+fn last_groups(bytes: &[u8], at: usize) -> u64
     requires room { at + 16 ≤ length bytes.now }
-    ensures range { result ≤ 8 }
-    ensures more { (k : ℕ) → k < result → 128 ≤ slice_index bytes.now (at + k) }
-    ensures last { result < 8 → slice_index bytes.now (at + result) < 128 }
+    ensures { AreLastGroups bytes.now at result }
 {
     let sixteen = u8x16::from_slice(&bytes[at..]);
-    let last = sixteen.simd_lt(u8x16::splat(128)).to_bitmask() | NINTH_GROUP;
-    last.trailing_zeros() as usize
+    sixteen.simd_lt(u8x16::splat(128)).to_bitmask()
 }
 
-/// The same, near the end of the bytes. What the call answers is taken apart here, as in `compound_end`.
+/// How many groups of the integer at a byte of a vector have their top bit, and so more to come, by the bits
+/// of the last groups. There are at most as many as an integer has of seven bits.
+#[inline(always)]
+fn groups_with_more(lasts: u64, from: usize) -> usize
+    requires from { from ≤ 9 }
+    ensures range { result ≤ 8 }
+    ensures more { (k : ℕ) → k < result → bit_at lasts (from + k) ≡ 0 }
+    ensures last { result < 8 → bit_at lasts (from + result) ≡ 1 }
+{
+    ((lasts >> from) | NINTH_GROUP).trailing_zeros() as usize
+}
+
+/// The same as `integer_end`, near the end of the bytes. What the call answers is taken apart here, as in
+/// `compound_end`.
 #[inline(always)]
 fn near_end(bytes: &[u8], at: usize, end: usize) -> Result<usize, Flaw>
     requires order { at ≤ end }

@@ -8,6 +8,7 @@
 #![tactic(auto)]
 
 mod extent;
+mod front;
 mod integers;
 mod keys;
 mod laws;
