@@ -4,3 +4,4 @@ pub mod Reading
 pub mod RecordLaws
 pub mod Rows
 pub mod StartLaws
+pub mod UsualHeads

@@ -7,9 +7,9 @@ use Rattle.jfr_base.specs.Integer.{IntAt, IsSpellingWithin}
 use Rattle.jfr_base.proofs.Ranges.{range_length}
 use Rattle.jfr_frame.specs.declared.framed.Framed.{Framed}
 use Rattle.jfr_frame.specs.declared.start.Start.{Start}
-use Rattle.jfr_frame.specs.Records.{AreRecords, IsRecord, Tiles, places_of, record_at, record_end}
+use Rattle.jfr_frame.specs.Records.{AreRecords, IsRecord, Tiles, places_of, record_end}
 use Rattle.jfr_frame.specs.Starts.{AreStarts, kept_places, records_at, start_of}
-use Rattle.jfr_frame.proofs.RecordLaws.{framed_path, record_found, some_bytes}
+use Rattle.jfr_frame.proofs.RecordLaws.{framed_path, some_bytes}
 
 spelling_short : (k : ℕ) (b : List ℕ) → IsSpellingWithin k b → length b ≤ suc k
 spelling_short k [] h = absurd h
@@ -48,14 +48,6 @@ kept_among c p q (r ∷ rs) (suc n) s t e =
 pub kept_record : (c : List ℕ) (starts : List Start) (all : List Framed) (n : ℕ) (s : Start) → AreStarts c starts → records_at c starts ≡ all → option_map start_of (slice_get all n) ≡ Some s → (r : Framed) × Keeps c all n s r
 kept_record c starts all n s h v e = kept_among c 68 (length c) all n s (subst (AreRecords c) v h.cover) e
 
--- it is read anew at its place
-pub read_again : (c : List ℕ) (all : List Framed) (n : ℕ) (s : Start) (r : Framed) → Keeps c all n s r → (s.at < length c) × (record_at c s.at ≡ slice_get all n)
-read_again c all n s r k =
-    let b = some_bytes c r k.stands in
-    let w : record_end r ≤ length c = k.stands.within in
-    let a : s.at ≡ r.at = ap (λ (z : Start). z.at) k.start in
-    (omega arith, record_found c s.at r (sym a) k.stands ∙ sym k.got)
-
 -- what is kept says all but its end
 kept_parts : (c : List ℕ) (all : List Framed) (n : ℕ) (s : Start) (r : Framed) → Keeps c all n s r → (s.at ≡ r.at) × (s.at + s.type_at ≡ r.type_at) × (s.at + s.body ≡ r.body) × (s.type_id ≡ min r.type_id (2 ^ 32 - 1))
 kept_parts c all n s r k =
@@ -72,22 +64,26 @@ parts_fit c all n s r k =
     (omega (arith, p.1, h.1), omega (arith, p.2))
 
 -- a type that is kept below the largest number is the record's
-narrow_type : (t u : ℕ) → u ≡ min t (2 ^ 32 - 1) → (u ≡ 2 ^ 32 - 1 → ⊥) → u ≡ t
-narrow_type t u e narrow = by_size (cases_lt t (2 ^ 32 - 1))
+pub narrow_type : (c : List ℕ) (all : List Framed) (n : ℕ) (s : Start) (r : Framed) → Keeps c all n s r → (s.type_id ≡ 2 ^ 32 - 1 → ⊥) → s.type_id ≡ r.type_id
+narrow_type c all n s r k narrow = by_size (kept_parts c all n s r k).3 (cases_lt r.type_id (2 ^ 32 - 1))
   where
-    by_size : ((t < 2 ^ 32 - 1) ⊎ (2 ^ 32 - 1 ≤ t)) → u ≡ t
-    by_size (inl i) = let m : min t (2 ^ 32 - 1) ≡ t = grind arith in e ∙ m
-    by_size (inr i) = let m : min t (2 ^ 32 - 1) ≡ 2 ^ 32 - 1 = grind arith in absurd (narrow (e ∙ m))
+    by_size : s.type_id ≡ min r.type_id (2 ^ 32 - 1) → ((r.type_id < 2 ^ 32 - 1) ⊎ (2 ^ 32 - 1 ≤ r.type_id)) → s.type_id ≡ r.type_id
+    by_size e (inl i) = let m : min r.type_id (2 ^ 32 - 1) ≡ r.type_id = grind arith in e ∙ m
+    by_size e (inr i) = let m : min r.type_id (2 ^ 32 - 1) ≡ 2 ^ 32 - 1 = grind arith in absurd (narrow (e ∙ m))
 
--- it is made of what is kept and of its end
-pub rebuilt : (c : List ℕ) (all : List Framed) (n : ℕ) (s : Start) (r : Framed) (end : ℕ) → Keeps c all n s r → option_map record_end (slice_get all n) ≡ Some end → (s.type_id ≡ 2 ^ 32 - 1 → ⊥)
-    → (s.at ≤ end) × (Some (record { at = s.at; size = end - s.at; type_at = s.at + s.type_at; type_id = s.type_id; body = s.at + s.body }) ≡ slice_get all n)
-rebuilt c all n s r end k e narrow =
+-- its type is spelled where its place is kept
+pub type_there : (c : List ℕ) (all : List Framed) (n : ℕ) (s : Start) (r : Framed) → Keeps c all n s r → IntAt c (s.at + s.type_at) r.body r.type_id
+type_there c all n s r k = subst (λ p. IntAt c p r.body r.type_id) (sym (kept_parts c all n s r k).1) k.stands.type_spelled
+
+-- it is made of what is kept, of its type and of its end
+pub rebuilt : (c : List ℕ) (all : List Framed) (n : ℕ) (s : Start) (r : Framed) (end type_id : ℕ) → Keeps c all n s r → option_map record_end (slice_get all n) ≡ Some end → type_id ≡ r.type_id
+    → (s.at ≤ end) × (Some (record { at = s.at; size = end - s.at; type_at = s.at + s.type_at; type_id = type_id; body = s.at + s.body }) ≡ slice_get all n)
+rebuilt c all n s r end type_id k e t =
     let p = kept_parts c all n s r k in
     let x : Some (record_end r) ≡ Some end = sym (ap (option_map record_end) k.got) ∙ e in
     let y : record_end r ≡ end = cc in
-    let made : Framed = record { at = s.at; size = end - s.at; type_at = s.at + s.type_at; type_id = s.type_id; body = s.at + s.body } in
-    let same : made ≡ r = framed_path made r p.0 (omega (arith, p.0, y)) p.1 (narrow_type r.type_id s.type_id p.3 narrow) p.2 in
+    let made : Framed = record { at = s.at; size = end - s.at; type_at = s.at + s.type_at; type_id = type_id; body = s.at + s.body } in
+    let same : made ≡ r = framed_path made r p.0 (omega (arith, p.0, y)) p.1 t p.2 in
     (omega (arith, p.0, y), ap Some same ∙ sym k.got)
 
 -- the place after a record: the next start, or the end of all

@@ -1,8 +1,10 @@
 // One record of a chunk.
-ghost use Rattle.std.specs.Prelude.{◌≡◌, ◌≢◌, ◌<◌, ◌≤◌, ◌↔◌, length, None, Some, Ok, IfOk, IfErr, IfSome, MatchResult};
+ghost use Rattle.std.specs.Prelude.{ℕ, ◌≡◌, ◌≢◌, ◌+◌, ◌<◌, ◌≤◌, ◌↔◌, length, None, Some, Ok, IfOk, IfErr, IfSome, MatchResult};
+ghost use Rattle.jfr_base.specs.Formats.{int_at};
+ghost use Rattle.jfr_base.specs.Integer.{IntAt};
 ghost use Rattle.jfr_base.specs.declared.reason.Reason.TheVariants as reasons;
 
-use jfr_base::{Flaw, Reason, read_within};
+use jfr_base::{Flaw, Reason, Var, read_var, read_within};
 
 /// A record: where it starts, how many bytes it has, where its type stands, its type, and where its
 /// body starts. All places count from the chunk's first byte.
@@ -17,7 +19,11 @@ pub struct Framed {
     pub body: usize,
 }
 
-ghost use Rattle.jfr_frame.specs.Records.{IsRecord, NoRecord, record_at};
+ghost use Rattle.jfr_frame.specs.Records.{covering, IsRecord, NoRecord, record_at};
+
+/// So many bytes the size and the type of a usual record have at most. The JDK writes a size in one
+/// byte or pads it to four, and most types take one or two.
+const USUAL_HEAD: usize = 6;
 
 /// The record that starts at a place: `None` exactly at the chunk's end. It is refused as
 /// `RecordSize`, at its start, exactly where its size or its type doesn't end within the chunk, or
@@ -51,6 +57,93 @@ fn framed_at(chunk: &[u8], at: usize) -> Option<Framed>
     requires { at < length chunk.now }
     ensures { result ≡ record_at chunk.now at }
 {
+    match usual_head(chunk, at) {
+        Some(head) => framed_by(chunk, at, head),
+        // Taken apart, so that the result of the usual way needn't lie in memory.
+        None => Some(rare_framed_at(chunk, at)?),
+    }
+}
+
+/// The size and the type at the front of a record.
+#[derive(Clone, Copy)]
+struct Head {
+    size: Var,
+    type_id: Var,
+}
+
+/// The usual size and type that are spelled there. The chunk's end is asked for once.
+#[inline(always)]
+fn usual_head(chunk: &[u8], at: usize) -> Option<Head>
+    requires { at < length chunk.now }
+    ensures size { IfSome result (λ head. int_at chunk.now at (length chunk.now) ≡ Some head.size) }
+    ensures type_id { IfSome result (λ head. int_at chunk.now head.size.end (length chunk.now) ≡ Some head.type_id) }
+{
+    if chunk.len() - at < USUAL_HEAD {
+        return None;
+    }
+    let size = usual_size(chunk, at)?;
+    let type_id = usual_type(chunk, size.end)?;
+    Some(Head { size, type_id })
+}
+
+/// The size that is spelled there, where it has one byte or is padded to four.
+#[inline(always)]
+fn usual_size(chunk: &[u8], at: usize) -> Option<Var>
+    requires room { at + 4 ≤ length chunk.now }
+    ensures range { IfSome result (λ v. (at < v.end) × (v.end ≤ at + 4)) }
+    ensures exact { IfSome result (λ v. int_at chunk.now at (length chunk.now) ≡ Some v) }
+{
+    let first = u64::from(chunk[at]);
+    if first < 128 {
+        return Some(Var {
+            value: first,
+            end: at + 1,
+        });
+    }
+    let second = u64::from(chunk[at + 1]);
+    let third = u64::from(chunk[at + 2]);
+    let fourth = u64::from(chunk[at + 3]);
+    if second < 128 || third < 128 || fourth >= 128 {
+        return None;
+    }
+    Some(Var {
+        value: first - 128 + 128 * (second - 128) + 16_384 * (third - 128) + 2_097_152 * fourth,
+        end: at + 4,
+    })
+}
+
+/// The type that is spelled there, where it has one byte or two.
+#[inline(always)]
+fn usual_type(chunk: &[u8], at: usize) -> Option<Var>
+    requires room { at + 2 ≤ length chunk.now }
+    ensures range { IfSome result (λ v. (at < v.end) × (v.end ≤ at + 2)) }
+    ensures exact { IfSome result (λ v. int_at chunk.now at (length chunk.now) ≡ Some v) }
+{
+    let first = u64::from(chunk[at]);
+    if first < 128 {
+        return Some(Var {
+            value: first,
+            end: at + 1,
+        });
+    }
+    let second = u64::from(chunk[at + 1]);
+    if second >= 128 {
+        return None;
+    }
+    Some(Var {
+        value: first - 128 + 128 * second,
+        end: at + 2,
+    })
+}
+
+/// The record that starts there, if one does, whatever its size and its type are spelled in.
+#[cold]
+#[inline(never)]
+#[tactic(auto, unfolding(crate::specs::Records::record_at))]
+fn rare_framed_at(chunk: &[u8], at: usize) -> Option<Framed>
+    requires { at < length chunk.now }
+    ensures { result ≡ record_at chunk.now at }
+{
     let size = match read_within(chunk, at, chunk.len()) {
         Ok(size) => size,
         Err(_) => return None,
@@ -59,11 +152,21 @@ fn framed_at(chunk: &[u8], at: usize) -> Option<Framed>
         Ok(type_id) => type_id,
         Err(_) => return None,
     };
-    let body = type_id.end;
+    framed_by(chunk, at, Head { size, type_id })
+}
+
+/// The record of this size and type, if it covers both and ends within the chunk.
+#[inline(always)]
+fn framed_by(chunk: &[u8], at: usize, head: Head) -> Option<Framed>
+    requires { at < length chunk.now }
+    ensures { result ≡ covering chunk.now at head.size head.type_id }
+{
+    let Head { size, type_id } = head;
     if size.value > (chunk.len() - at) as u64 {
         return None;
     }
     let count = size.value as usize;
+    let body = type_id.end;
     if body > at + count {
         return None;
     }
@@ -76,12 +179,16 @@ fn framed_at(chunk: &[u8], at: usize) -> Option<Framed>
     })
 }
 
-/// The same, out of line, for the rare record whose type is too wide to be kept.
+/// The type that is spelled there, out of line, for the rare one that is too large to be kept.
 #[cold]
 #[inline(never)]
-pub(crate) fn wide_framed_at(chunk: &[u8], at: usize) -> Option<Framed>
-    requires { at < length chunk.now }
-    ensures { result ≡ record_at chunk.now at }
+pub(crate) fn wide_type(chunk: &[u8], type_at: usize) -> u64
+    requires order { type_at ≤ length chunk.now }
+    requires spelled { (q : ℕ) × (v : ℕ) × IntAt chunk.now type_at q v }
+    ensures { (q v : ℕ) → IntAt chunk.now type_at q v → result ≡ v }
 {
-    framed_at(chunk, at)
+    let Ok(type_id) = read_var(chunk, type_at) else {
+        unreachable!()
+    };
+    type_id.value
 }

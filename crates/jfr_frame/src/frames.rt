@@ -6,7 +6,7 @@ ghost use Rattle.jfr_frame.specs.Records.{AreRecords, Rising, places_of, record_
 ghost use Rattle.jfr_frame.specs.Refused.{RefusedAt};
 ghost use Rattle.jfr_frame.specs.Starts.{start_of};
 
-use crate::framed::wide_framed_at;
+use crate::framed::wide_type;
 use crate::start::{Start, WIDE};
 use crate::{FrameRoom, Framed, next_record};
 use jfr_base::ReadFault;
@@ -86,15 +86,18 @@ impl<'a> Frames<'a> {
         ensures { result ≡ slice_get self.now number }
     {
         let start = self.start(number)?;
-        if start.type_id == WIDE {
-            // Taken apart, so that the result of the other way needn't lie in memory.
-            return Some(wide_framed_at(self.chunk, start.at)?);
-        }
+        let chunk = self.chunk;
+        let type_at = start.at + usize::from(start.type_at);
+        let type_id = if start.type_id == WIDE {
+            wide_type(chunk, type_at)
+        } else {
+            u64::from(start.type_id)
+        };
         Some(Framed {
             at: start.at,
             size: self.end(number) - start.at,
-            type_at: start.at + usize::from(start.type_at),
-            type_id: u64::from(start.type_id),
+            type_at,
+            type_id,
             body: start.at + usize::from(start.body),
         })
     }
