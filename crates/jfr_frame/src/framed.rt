@@ -21,8 +21,8 @@ pub struct Framed {
 
 ghost use Rattle.jfr_frame.specs.Records.{covering, IsRecord, NoRecord, record_at};
 
-/// So many bytes the size and the type of a usual record have at most. The JDK writes a size in one
-/// byte or pads it to four, and most types take one or two.
+/// So many bytes the size and the type of a usual record take at most. The JDK writes a size in one byte
+/// or pads it to four, and nearly all types take one or two.
 const USUAL_HEAD: usize = 6;
 
 /// The record that starts at a place: `None` exactly at the chunk's end. It is refused as
@@ -50,6 +50,13 @@ pub fn next_record(chunk: &[u8], at: usize) -> Result<Option<Framed>, Flaw>
     }
 }
 
+/// The size and the type at the front of a record.
+#[derive(Clone, Copy)]
+struct Head {
+    size: Var,
+    type_id: Var,
+}
+
 /// The record that starts there, if one does.
 #[inline(always)]
 #[tactic(auto, unfolding(crate::specs::Records::record_at))]
@@ -59,19 +66,41 @@ fn framed_at(chunk: &[u8], at: usize) -> Option<Framed>
 {
     match usual_head(chunk, at) {
         Some(head) => framed_by(chunk, at, head),
-        // Taken apart, so that the result of the usual way needn't lie in memory.
-        None => Some(rare_framed_at(chunk, at)?),
+        None => unusual_at(chunk, at),
     }
 }
 
-/// The size and the type at the front of a record.
-#[derive(Clone, Copy)]
-struct Head {
-    size: Var,
-    type_id: Var,
+/// The same, whatever the size and the type are spelled in. What the call out of line gives is taken
+/// apart in a function of its own: else the usual way would write zeros where it is to lie.
+#[inline(always)]
+fn unusual_at(chunk: &[u8], at: usize) -> Option<Framed>
+    requires { at < length chunk.now }
+    ensures { result ≡ record_at chunk.now at }
+{
+    Some(unusual_out_of_line(chunk, at)?)
 }
 
-/// The usual size and type that are spelled there. The chunk's end is asked for once.
+/// The same, out of line, with integers of any length.
+#[cold]
+#[inline(never)]
+#[tactic(auto, unfolding(crate::specs::Records::record_at))]
+fn unusual_out_of_line(chunk: &[u8], at: usize) -> Option<Framed>
+    requires { at < length chunk.now }
+    ensures { result ≡ record_at chunk.now at }
+{
+    let size = match read_within(chunk, at, chunk.len()) {
+        Ok(size) => size,
+        Err(_) => return None,
+    };
+    let type_id = match read_within(chunk, size.end, chunk.len()) {
+        Ok(type_id) => type_id,
+        Err(_) => return None,
+    };
+    framed_by(chunk, at, Head { size, type_id })
+}
+
+/// The size and the type that are spelled there, where both are usual and have room. So the chunk's end
+/// is asked for once, and not at each byte.
 #[inline(always)]
 fn usual_head(chunk: &[u8], at: usize) -> Option<Head>
     requires { at < length chunk.now }
@@ -86,7 +115,7 @@ fn usual_head(chunk: &[u8], at: usize) -> Option<Head>
     Some(Head { size, type_id })
 }
 
-/// The size that is spelled there, where it has one byte or is padded to four.
+/// The size that is spelled there, where it has one byte or four.
 #[inline(always)]
 fn usual_size(chunk: &[u8], at: usize) -> Option<Var>
     requires room { at + 4 ≤ length chunk.now }
@@ -134,25 +163,6 @@ fn usual_type(chunk: &[u8], at: usize) -> Option<Var>
         value: first - 128 + 128 * second,
         end: at + 2,
     })
-}
-
-/// The record that starts there, if one does, whatever its size and its type are spelled in.
-#[cold]
-#[inline(never)]
-#[tactic(auto, unfolding(crate::specs::Records::record_at))]
-fn rare_framed_at(chunk: &[u8], at: usize) -> Option<Framed>
-    requires { at < length chunk.now }
-    ensures { result ≡ record_at chunk.now at }
-{
-    let size = match read_within(chunk, at, chunk.len()) {
-        Ok(size) => size,
-        Err(_) => return None,
-    };
-    let type_id = match read_within(chunk, size.end, chunk.len()) {
-        Ok(type_id) => type_id,
-        Err(_) => return None,
-    };
-    framed_by(chunk, at, Head { size, type_id })
 }
 
 /// The record of this size and type, if it covers both and ends within the chunk.

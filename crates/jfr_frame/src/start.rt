@@ -11,8 +11,8 @@ pub(crate) struct Start {
     pub at: usize,
     /// `WIDE` where the type is that large or larger.
     pub type_id: u32,
-    pub type_at: u8,
-    pub body: u8,
+    pub type_at: u16,
+    pub body: u16,
 }
 
 /// Is kept in place of a type of that much or more, which has to be read from the bytes.
@@ -23,14 +23,14 @@ impl Start {
     #[inline(always)]
     pub fn of(framed: Framed) -> Start
         requires order { (framed.at ≤ framed.type_at) × (framed.type_at ≤ framed.body) }
-        requires short { framed.body < framed.at + 256 }
+        requires short { framed.body < framed.at + 65536 }
         ensures { result ≡ start_of framed }
     {
         Start {
             at: framed.at,
             type_id: framed.type_id.min(u64::from(WIDE)) as u32,
-            type_at: (framed.type_at - framed.at) as u8,
-            body: (framed.body - framed.at) as u8,
+            type_at: (framed.type_at - framed.at) as u16,
+            body: (framed.body - framed.at) as u16,
         }
     }
 }

@@ -38,6 +38,7 @@ pub returns : goal.returns
 returns c =
     let k = kept_record _ _ _ _ _ c.self.invariant c.self.view_is (sym c.start.ensures ∙ c.in_ok-start.was) in
     let type_id : c.if-start.type_id ≡ k.0.type_id = elim c.if-start.branch [
-      then-start w ↦ w.type_id-is ∙ w.wide_type-type_id.ensures k.0.body k.0.type_id (rw c.from.ensures (type_there _ _ _ _ _ k.1))
-    | else-start w ↦ w.type_id-is ∙ (w.from-type_id.ensures ∙ narrow_type _ _ _ _ _ k.1 w.if-start.false) ] in
+      | then-start w ↦ w.type_id-is ∙ w.wide_type-type_id.ensures k.0.body k.0.type_id (rw c.from.ensures (type_there _ _ _ _ _ k.1))
+      | else-start w ↦ w.type_id-is ∙ (w.from-type_id.ensures ∙ narrow_type _ _ _ _ _ k.1 w.if-start.false)
+    ] in
     rw (c.from.ensures, c.from-2.ensures) (rebuilt _ _ _ _ _ _ _ k.1 c.end.ensures type_id).1
