@@ -50,7 +50,7 @@ impl Visit<Pools> for Notes {
     ghost takes = { λ pools target old new. Noted (those (number_in_force pools) (target ∷ [])) old new };
 
     /// Notes the number of the entry in force to which a target refers, where there is one.
-    #[inline]
+    #[inline(always)]
     fn visit(&mut self, pools: &Pools, class: u64, key: u64) {
         if let Some(number) = pools.entry(class, key) {
             self.note(number);

@@ -73,10 +73,11 @@ fn short_pair_end(bytes: &[u8], at: usize, end: usize) -> Option<usize>
     let lasts = last_groups(bytes, at);
     let first = groups_with_more(lasts, 0) + 1;
     let both = first + groups_with_more(lasts, first) + 1;
-    if both > VECTOR.min(end - at) {
+    let to = at + both;
+    if both > VECTOR || to > end {
         return None;
     }
-    Some(at + both)
+    Some(to)
 }
 
 /// The same, one integer after the other. What the call answers is taken apart here, as in
