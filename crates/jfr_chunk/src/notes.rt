@@ -28,6 +28,7 @@ impl Notes {
     }
 
     /// Notes a number.
+    #[inline(always)]
     fn note(&mut self, number: usize)
         requires { number < 2 ^ 32 }
         ensures { Noted (number ∷ []) self.old self.new }

@@ -81,7 +81,7 @@ impl Pools {
 
     /// The number of the entry in force for a class and a key: of those with both, the one that stands
     /// last. `None` exactly where there is none.
-    #[inline]
+    #[inline(always)]
     pub fn entry(&self, class: u64, key: u64) -> Option<usize>
         ensures { result ≡ number_in_force self.now (class, key) }
     {
