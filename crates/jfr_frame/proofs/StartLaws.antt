@@ -49,10 +49,10 @@ pub kept_record : (c : List ℕ) (starts : List Start) (all : List Framed) (n : 
 kept_record c starts all n s h v e = kept_among c 68 (length c) all n s (subst (AreRecords c) v h.cover) e
 
 -- what is kept says all but its end
-kept_parts : (c : List ℕ) (all : List Framed) (n : ℕ) (s : Start) (r : Framed) → Keeps c all n s r → (s.at ≡ r.at) × (s.at + s.type_at ≡ r.type_at) × (s.at + s.body ≡ r.body) × (s.type_id ≡ min r.type_id (2 ^ 32 - 1))
+kept_parts : (c : List ℕ) (all : List Framed) (n : ℕ) (s : Start) (r : Framed) → Keeps c all n s r → (s.at ≡ r.at) × (s.at + s.type_at ≡ r.type_at) × (s.at + s.body ≡ r.body) × (s.type_id ≡ min r.type_id (2 ^ 16 - 1))
 kept_parts c all n s r k =
     let h = head_short c r k.stands in
-    subst (λ (z : Start). (z.at ≡ r.at) × (z.at + z.type_at ≡ r.type_at) × (z.at + z.body ≡ r.body) × (z.type_id ≡ min r.type_id (2 ^ 32 - 1))) (sym k.start) (refl, omega (arith, h.0), omega (arith, h.0, h.1), refl)
+    subst (λ (z : Start). (z.at ≡ r.at) × (z.at + z.type_at ≡ r.type_at) × (z.at + z.body ≡ r.body) × (z.type_id ≡ min r.type_id (2 ^ 16 - 1))) (sym k.start) (refl, omega (arith, h.0), omega (arith, h.0, h.1), refl)
 
 -- so its type and its body stand in the chunk
 pub parts_fit : (c : List ℕ) (all : List Framed) (n : ℕ) (s : Start) (r : Framed) → Keeps c all n s r → (s.at + s.type_at ≤ length c) × (s.at + s.body ≤ length c)
@@ -64,12 +64,12 @@ parts_fit c all n s r k =
     (omega (arith, p.1, h.1), omega (arith, p.2))
 
 -- a type that is kept below the largest number is the record's
-pub narrow_type : (c : List ℕ) (all : List Framed) (n : ℕ) (s : Start) (r : Framed) → Keeps c all n s r → (s.type_id ≡ 2 ^ 32 - 1 → ⊥) → s.type_id ≡ r.type_id
-narrow_type c all n s r k narrow = by_size (kept_parts c all n s r k).3 (cases_lt r.type_id (2 ^ 32 - 1))
+pub narrow_type : (c : List ℕ) (all : List Framed) (n : ℕ) (s : Start) (r : Framed) → Keeps c all n s r → (s.type_id ≡ 2 ^ 16 - 1 → ⊥) → s.type_id ≡ r.type_id
+narrow_type c all n s r k narrow = by_size (kept_parts c all n s r k).3 (cases_lt r.type_id (2 ^ 16 - 1))
   where
-    by_size : s.type_id ≡ min r.type_id (2 ^ 32 - 1) → ((r.type_id < 2 ^ 32 - 1) ⊎ (2 ^ 32 - 1 ≤ r.type_id)) → s.type_id ≡ r.type_id
-    by_size e (inl i) = let m : min r.type_id (2 ^ 32 - 1) ≡ r.type_id = grind arith in e ∙ m
-    by_size e (inr i) = let m : min r.type_id (2 ^ 32 - 1) ≡ 2 ^ 32 - 1 = grind arith in absurd (narrow (e ∙ m))
+    by_size : s.type_id ≡ min r.type_id (2 ^ 16 - 1) → ((r.type_id < 2 ^ 16 - 1) ⊎ (2 ^ 16 - 1 ≤ r.type_id)) → s.type_id ≡ r.type_id
+    by_size e (inl i) = let m : min r.type_id (2 ^ 16 - 1) ≡ r.type_id = grind arith in e ∙ m
+    by_size e (inr i) = let m : min r.type_id (2 ^ 16 - 1) ≡ 2 ^ 16 - 1 = grind arith in absurd (narrow (e ∙ m))
 
 -- its type is spelled where its place is kept
 pub type_there : (c : List ℕ) (all : List Framed) (n : ℕ) (s : Start) (r : Framed) → Keeps c all n s r → IntAt c (s.at + s.type_at) r.body r.type_id

@@ -35,7 +35,8 @@ impl<'a> Model for Frames<'a> {
 
 impl<'a> Frames<'a> {
     /// Reads the records of a chunk. It is refused as `RecordSize` at the first place where none
-    /// stands.
+    /// stands. `Memory` also for 2 ^ 32 bytes and more, whose places a start can't hold; a chunk is far
+    /// below that size.
     pub fn read(alloc: Global, chunk: &'a [u8]) -> Result<Frames<'a>, ReadFault>
         requires { 68 ≤ length chunk.now }
         ensures ok { IfOk result (λ rs. AreRecords chunk.now rs) }
@@ -47,13 +48,17 @@ impl<'a> Frames<'a> {
         Frames::read_in(FrameRoom::new(alloc), chunk)
     }
 
-    /// The same, where the starts are kept in this room, whose content is given up.
+    /// The same, where the starts are kept in this room, whose content is given up. `Memory` also for
+    /// 2 ^ 32 bytes and more, as there.
     pub fn read_in(room: FrameRoom, chunk: &'a [u8]) -> Result<Frames<'a>, ReadFault>
         requires { 68 ≤ length chunk.now }
         ensures ok { IfOk result (λ rs. AreRecords chunk.now rs) }
         ensures refused { IfErr result (λ fault. RefusedAt chunk.now fault) }
         ensures exact { IfOk result (λ rs. records_of chunk.now ≡ Ok rs) }
     {
+        if chunk.len() > u32::MAX as usize {
+            return Err(ReadFault::Memory);
+        }
         let mut starts = room.starts;
         starts.clear();
         let mut at = 68;
@@ -87,18 +92,19 @@ impl<'a> Frames<'a> {
     {
         let start = self.start(number)?;
         let chunk = self.chunk;
-        let type_at = start.at + usize::from(start.type_at);
+        let at = start.at as usize;
+        let type_at = at + usize::from(start.type_at);
         let type_id = if start.type_id == WIDE {
             wide_type(chunk, type_at)
         } else {
             u64::from(start.type_id)
         };
         Some(Framed {
-            at: start.at,
-            size: self.end(number) - start.at,
+            at,
+            size: self.end(number) - at,
             type_at,
             type_id,
-            body: start.at + usize::from(start.body),
+            body: at + usize::from(start.body),
         })
     }
 
@@ -118,7 +124,7 @@ impl<'a> Frames<'a> {
     {
         let last = self.chunk.len();
         match self.start(number + 1) {
-            Some(next) => next.at,
+            Some(next) => next.at as usize,
             None => last,
         }
     }
@@ -128,7 +134,7 @@ impl<'a> Frames<'a> {
     pub fn place(&self, number: usize) -> Option<usize>
         ensures { result ≡ option_map (λ r. r.at) (slice_get self.now number) }
     {
-        Some(self.start(number)?.at)
+        Some(self.start(number)?.at as usize)
     }
 
     /// The number of the record that starts there, or of the first one past it.
@@ -136,7 +142,8 @@ impl<'a> Frames<'a> {
         ensures position { IsBinarySearchResult (λ place. nat_cmp place at) (places_of self.now) result }
         ensures order { Rising 68 self.now }
     {
-        self.starts.binary_search_by_key(&at, |start| start.at)
+        self.starts
+            .binary_search_by_key(&at, |start| start.at as usize)
     }
 
     /// The record of that type that starts there; `None` exactly where none does.

@@ -1,36 +1,39 @@
 // What is kept of a record.
-ghost use Rattle.std.specs.Prelude.{◌≡◌, ◌+◌, ◌<◌, ◌≤◌};
+ghost use Rattle.std.specs.Prelude.{◌≡◌, ◌+◌, ◌^◌, ◌<◌, ◌≤◌};
 ghost use Rattle.jfr_frame.specs.Starts.{start_of};
 
 use crate::Framed;
 
 /// What is kept of a record: where it starts, its type, and how far behind its start its type and its
-/// body stand. A chunk has so many records that these are kept short.
+/// body stand. A chunk has so many records that this is kept short: in eight bytes.
 #[derive(Clone, Copy, Debug)]
 pub(crate) struct Start {
-    pub at: usize,
+    /// Any place has room here, as a chunk of 2 ^ 32 bytes or more isn't read.
+    pub at: u32,
     /// `WIDE` where the type is that large or larger.
-    pub type_id: u32,
-    pub type_at: u16,
-    pub body: u16,
+    pub type_id: u16,
+    pub type_at: u8,
+    /// At most 18, as the size and the type have at most nine bytes each.
+    pub body: u8,
 }
 
 /// Is kept in place of a type of that much or more, which has to be read from the bytes.
-pub(crate) const WIDE: u32 = u32::MAX;
+pub(crate) const WIDE: u16 = u16::MAX;
 
 impl Start {
     /// What is kept of this record.
     #[inline(always)]
     pub fn of(framed: Framed) -> Start
         requires order { (framed.at ≤ framed.type_at) × (framed.type_at ≤ framed.body) }
-        requires short { framed.body < framed.at + 65536 }
+        requires low { framed.at < 2 ^ 32 }
+        requires short { framed.body < framed.at + 256 }
         ensures { result ≡ start_of framed }
     {
         Start {
-            at: framed.at,
-            type_id: framed.type_id.min(u64::from(WIDE)) as u32,
-            type_at: (framed.type_at - framed.at) as u16,
-            body: (framed.body - framed.at) as u16,
+            at: framed.at as u32,
+            type_id: framed.type_id.min(u64::from(WIDE)) as u16,
+            type_at: (framed.type_at - framed.at) as u8,
+            body: (framed.body - framed.at) as u8,
         }
     }
 }
