@@ -1,6 +1,5 @@
 -- At each place stands the count of the entry in force.
 use Rattle.std.specs.Prelude.{◌≡◌, ◌≢◌, ◌⊎◌, ℕ, zero, suc, ◌+◌, ◌-◌, ◌<◌, ◌≤◌, Bool, true, false, cond, List, [], ◌∷◌, ◌++◌, length, Option, Some, None, option_and_then, option_map, slice_get, replicate, nat_lt, nat_eq, if◌then◌else◌}
-use Rattle.std.specs.Option.{SomeIff}
 use Rattle.std.proofs.Common.{ap, arith, refl, sym, ◌∙◌, inl, inr, set}
 use Rattle.std.proofs.lemmas.Bool.{cases_eq}
 use Rattle.std.proofs.lemmas.Option.{slice_get_past, slice_get_within}

@@ -1,7 +1,7 @@
 -- Rows that begin with two integers and two references.
-use Rattle.std.specs.Prelude.{◌≡◌, ◌⊎◌, ℕ, ◌+◌, ◌<◌, ◌≤◌, drop, length, List, Ok, Err, Option, Some, None, IfOk, IfSome, true, slice_get, if◌then◌else◌}
+use Rattle.std.specs.Prelude.{◌≡◌, ◌⊎◌, ℕ, ◌+◌, ◌<◌, drop, length, List, Ok, Err, Option, Some, None, IfOk, IfSome, true, if◌then◌else◌}
 use Rattle.std.specs.List.{AllByRecursion}
-use Rattle.std.proofs.Common.{ap, arith, get_or, inl, inr, refl, subst, sym, ◌∙◌}
+use Rattle.std.proofs.Common.{arith, get_or, inl, inr, refl, subst, sym, ◌∙◌}
 use Rattle.jfr_base.specs.declared.flaw.Flaw.{Flaw}
 use Rattle.jfr_base.specs.declared.integer.Var.{Var}
 use Rattle.jfr_base.specs.Formats.{Answer, Format, Done, Int, int_at, after_int, integer, unchecked, run, seen}
@@ -17,7 +17,7 @@ use Rattle.jfr_value.specs.Values.{Value, Single, targets_of}
 use Rattle.jfr_value.specs.Fronts.{HasFront, IsFormAt, row_format}
 use Rattle.jfr_value.specs.Groups.{integer_pair}
 use Rattle.jfr_value.specs.Reading.{class_format, item_format, shape_format}
-use Rattle.jfr_value.specs.Visits.{TakesAll, TakesRead, TakesReadAll}
+use Rattle.jfr_value.specs.Visits.{TakesAll, TakesRead}
 use Rattle.jfr_value.proofs.EndLaws.{after_err, after_ok, each_step, key_ends, shape_item}
 use Rattle.jfr_value.proofs.FormLaws.{inline_there, key_there, plain_there}
 use Rattle.jfr_value.proofs.SkipLaws.{base_skipped, pair_flaw, pair_parts}

@@ -100,34 +100,6 @@ fn value_end<C, V: Visit<C>>(
     }
 }
 
-/// Where the values of slots end, one after another, as `row_end` says it. If the row begins as those of
-/// most events do, its front is passed without a look at each form.
-#[inline(always)]
-fn whole_row_end<C, V: Visit<C>>(
-    classes: &Classes,
-    slots: &[Slot],
-    bytes: &[u8],
-    at: usize,
-    end: usize,
-    levels: u32,
-    visitor: &mut V,
-    with: &C,
-) -> Result<usize, Flaw>
-    requires slots { AllByRecursion (IsSlot classes.now) slots.now }
-    requires room { AllByRecursion (λ s. Room classes.now levels s.shape) slots.now }
-    requires order { at ≤ end }
-    requires within { end ≤ length bytes.now }
-    requires ready { V.ready visitor.old with.now }
-    ensures exact { result ≡ seen (run (row_format (levels + 1) classes.now slots.now) bytes.now end at) }
-    ensures range { IfOk result (λ to. (at ≤ to) × (to ≤ end)) }
-    ensures visited { TakesReadAll (V.takes with.now) (run (row_format (levels + 1) classes.now slots.now) bytes.now end at) visitor.old visitor.new }
-    ensures ready { V.ready visitor.new with.now }
-{
-    let passed = pass_front(slots, bytes, at, end, visitor, with)?;
-    let (_, rest) = slots.split_at(passed.fields);
-    row_end(classes, rest, bytes, passed.end, end, levels, visitor, with)
-}
-
 /// The same, of a value that is no row of fields.
 #[inline]
 fn other_end<C, V: Visit<C>>(
@@ -388,6 +360,34 @@ fn fields_end<C, V: Visit<C>>(
     ensures ready { V.ready visitor.new with.now }
 {
     row_end(classes, slots, bytes, at, end, levels, visitor, with)
+}
+
+/// The same of the row of an event or of another value that stands by itself: its front is passed at
+/// once, if it has one.
+#[inline(always)]
+fn whole_row_end<C, V: Visit<C>>(
+    classes: &Classes,
+    slots: &[Slot],
+    bytes: &[u8],
+    at: usize,
+    end: usize,
+    levels: u32,
+    visitor: &mut V,
+    with: &C,
+) -> Result<usize, Flaw>
+    requires slots { AllByRecursion (IsSlot classes.now) slots.now }
+    requires room { AllByRecursion (λ s. Room classes.now levels s.shape) slots.now }
+    requires order { at ≤ end }
+    requires within { end ≤ length bytes.now }
+    requires ready { V.ready visitor.old with.now }
+    ensures exact { result ≡ seen (run (row_format (levels + 1) classes.now slots.now) bytes.now end at) }
+    ensures range { IfOk result (λ to. (at ≤ to) × (to ≤ end)) }
+    ensures visited { TakesReadAll (V.takes with.now) (run (row_format (levels + 1) classes.now slots.now) bytes.now end at) visitor.old visitor.new }
+    ensures ready { V.ready visitor.new with.now }
+{
+    let passed = pass_front(slots, bytes, at, end, visitor, with)?;
+    let (_, rest) = slots.split_at(passed.fields);
+    row_end(classes, rest, bytes, passed.end, end, levels, visitor, with)
 }
 
 /// Where an array ends.

@@ -1,5 +1,5 @@
 // The fields with which most events begin.
-ghost use Rattle.std.specs.Prelude.{◌≡◌, ℕ, ◌+◌, ◌≤◌, drop, length, true, Err, IfOk, MatchResult};
+ghost use Rattle.std.specs.Prelude.{◌≡◌, ℕ, ◌+◌, ◌≤◌, ◌↔◌, drop, length, Err, IfOk, IsTrue, MatchResult};
 ghost use Rattle.std.specs.List.{AllByRecursion};
 ghost use Rattle.jfr_base.specs.Formats.{run, seen};
 ghost use Rattle.jfr_layout.specs.Classes.{Classes, IsSlot};
@@ -60,7 +60,7 @@ pub(crate) fn pass_front<C, V: Visit<C>>(
 /// Whether the row begins with two integers and two references.
 #[inline(always)]
 fn has_front(slots: &[Slot]) -> bool
-    ensures { result ≡ true → HasFront slots.now }
+    ensures { IsTrue result ↔ HasFront slots.now }
 {
     if slots.len() < FRONT {
         return false;
