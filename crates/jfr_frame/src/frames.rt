@@ -1,5 +1,5 @@
 // All records of a chunk.
-ghost use Rattle.std.specs.Prelude.{◌≡◌, ◌<◌, ◌≤◌, length, option_copied, option_map, slice_get, Ok, Some, IfOk, IfErr};
+ghost use Rattle.std.specs.Prelude.{◌≡◌, ◌<◌, ◌≤◌, length, option_map, slice_get, Ok, Some, IfOk, IfErr};
 ghost use Rattle.std.specs.List.Sorted.{IsBinarySearchResult};
 ghost use Rattle.std.specs.Ordering.{nat_cmp};
 ghost use Rattle.jfr_frame.specs.Records.{AreRecords, Rising, places_of, record_end, starts_at, record_there, records_of};
@@ -110,10 +110,10 @@ impl<'a> Frames<'a> {
 
     /// What is kept of the record of a number; `None` exactly past the end.
     #[inline(always)]
-    fn start(&self, number: usize) -> Option<&Start>
-        ensures { option_copied result ≡ option_map start_of (slice_get self.now number) }
+    fn start(&self, number: usize) -> Option<Start>
+        ensures { result ≡ option_map start_of (slice_get self.now number) }
     {
-        self.starts.get(number)
+        self.starts.get(number).copied()
     }
 
     /// The place after the record of a number.
