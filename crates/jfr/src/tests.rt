@@ -11,7 +11,8 @@ fn what_is_written_is_read_back(rt: HostRuntime) -> Result<(), Fail> {
     let alloc = rt.alloc();
     // A run that was stopped may have left it.
     let _ = fs::remove_file(&rt, NAME);
-    let large = vec![in alloc; 7u8; 70_000]?;
+    // More than the system is handed by one call.
+    let large = vec![in alloc; 7u8; 1_100_000]?;
     let mut place = FilePlace::new(&rt, alloc);
     assert!(rt; place.open_input(NAME).is_err());
     assert!(rt; place.append(b"a").is_err());
@@ -26,7 +27,7 @@ fn what_is_written_is_read_back(rt: HostRuntime) -> Result<(), Fail> {
     assert!(rt; place.finish_output().is_ok());
     assert!(rt; place.append_pieces(&[b"g".as_slice()]).is_err());
     assert!(rt; place.create_output(NAME).is_err());
-    assert_eq!(rt; fs::metadata(&rt, NAME)?.len(), 70_006);
+    assert_eq!(rt; fs::metadata(&rt, NAME)?.len(), 1_100_006);
 
     let mut front = [0; 5];
     assert!(rt; place.open_input(NAME).is_ok());
