@@ -7,9 +7,10 @@ use Rattle.std.proofs.lemmas.List.{length-map, map_push}
 use Rattle.std.proofs.lemmas.Option.{get_or_from_slice_get, same_Some, slice_get-get_or, slice_get-map, slice_get_within}
 use Rattle.jfr_layout.specs.declared.kind.Kind.{Kind}
 use Rattle.jfr_layout.specs.declared.shape.Shape.{Shape}
+use Rattle.jfr_layout.specs.declared.row.Row.{Row}
 use Rattle.jfr_layout.specs.declared.slot.Slot.{Slot}
 use Rattle.jfr_layout.specs.Classes.{Class, Classes, Field, IsSlot, AreSlots, class_place, field_at, kind_of, slot_with}
-use Rattle.jfr_layout.specs.Resolved.{AreRows}
+use Rattle.jfr_layout.specs.Resolved.{AreRows, IsRow}
 use Rattle.jfr_layout.proofs.Lists.{all_at, all_push, chained, mapped_at, present, value_in, zip_at}
 use Rattle.jfr_layout.proofs.Places.{place_within, stands}
 
@@ -57,20 +58,19 @@ field_slot k place number row d i a =
       of_class = all_at (IsSlot k) row number (get_or row number d) h.each g;
     }
 
--- the rows, each kept as a list of its own
-pub rows_within : {X : Type 0} (items : X → List Slot) (k : Classes) (rows : List X) (i : ℕ) → AreRows k k (map items rows) → i < length k → i < length rows
-rows_within items k rows i a l =
+-- the row of the class at a place
+pub rows_within : (k : Classes) (rows : List Row) (i : ℕ) → AreRows k k rows → i < length k → i < length rows
+rows_within k rows i a l =
     let c = present k i l in
-    let y = zip_at (λ (d : Class) ss. AreSlots k d.fields ss) k (map items rows) i c.0 a c.1 in
-    omega (arith, slice_get_within (map items rows) i y.0 y.1, length-map rows items)
+    let y = zip_at (IsRow k) k rows i c.0 a c.1 in
+    slice_get_within rows i y.0 y.1
 
-pub row_at : {X : Type 0} (items : X → List Slot) (k : Classes) (rows : List X) (i : ℕ) (row : X) → AreRows k k (map items rows) → i < length k → row ≡ get_or rows i row → IfSome (slice_get k i) (λ c. AreSlots k c.fields (items row))
-row_at items k rows i row a l r =
+pub row_at : (k : Classes) (rows : List Row) (i : ℕ) (row : Row) → AreRows k k rows → i < length k → row ≡ get_or rows i row → IfSome (slice_get k i) (λ c. IsRow k c row)
+row_at k rows i row a l r =
     let c = present k i l in
-    let y = zip_at (λ (d : Class) ss. AreSlots k d.fields ss) k (map items rows) i c.0 a c.1 in
-    let e : slice_get rows i ≡ Some row = slice_get-get_or rows i row (rows_within items k rows i a l) ∙ ap Some (sym r) in
-    let q : y.0 ≡ items row = same_Some y.0 (items row) (sym y.1 ∙ (slice_get-map items rows i ∙ ap (option_map items) e)) in
-    rw c.1 (subst (AreSlots k c.0.fields) q y.2)
+    let y = zip_at (IsRow k) k rows i c.0 a c.1 in
+    let e : slice_get rows i ≡ Some row = slice_get-get_or rows i row (rows_within k rows i a l) ∙ ap Some (sym r) in
+    rw c.1 (subst (IsRow k c.0) (same_Some y.0 row (sym y.1 ∙ e)) y.2)
 
 -- the place of a field is within the list
 pub field_within : (k : Classes) (place number : ℕ) → IsSome (field_at k place number) → place < length k

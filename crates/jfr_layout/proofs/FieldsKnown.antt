@@ -9,9 +9,10 @@ use Rattle.jfr_layout.specs.declared.fault.ClassFault.{ClassFault}
 use Rattle.jfr_layout.specs.declared.fault.ClassFault.TheVariants.{Flawed}
 use Rattle.jfr_layout.specs.declared.index.Index.{Index}
 use Rattle.jfr_layout.specs.declared.kind.Kind.{Kind}
+use Rattle.jfr_layout.specs.declared.row.Row.{Row}
 use Rattle.jfr_layout.specs.declared.slot.Slot.{Slot}
 use Rattle.jfr_layout.specs.Classes.{Class, Classes, Field, ClassFlaw, TellsFirst, AreSlots, flaw_if, flaws_in, unknown, is_unknown, find_class, kind_of, slot_with}
-use Rattle.jfr_layout.specs.Resolved.{IsIndex, AreRows, place_in}
+use Rattle.jfr_layout.specs.Resolved.{AreRows, IsIndex, IsRow, place_in}
 use Rattle.jfr_layout.proofs.FieldSlots.{slots_push, slot_at}
 use Rattle.jfr_layout.proofs.Lists.{present, take_next, zip_push}
 use Rattle.jfr_layout.proofs.Places.{is_some-find}
@@ -57,26 +58,26 @@ abbrev pub found_unknowns : Classes → ℕ → Class → List ClassFlaw
 found_unknowns k i c = flaws_in UnknownType (is_unknown k) i c.fields
 
 -- the same of the classes before a place
-pub record ClassesKnown (k : Classes) (n : ℕ) (all : List (List Slot)) : Type 0 where
+pub record ClassesKnown (k : Classes) (n : ℕ) (all : List Row) : Type 0 where
   pub left : unknown k ≡ rest (found_unknowns k) k n
   pub found : AreRows k (take n k) all
 
-pub classes_next : (k : Classes) (n : ℕ) (all more : List (List Slot)) (slots : List Slot) → ClassesKnown k n all → n < length k
-    → IfSome (slice_get k n) (λ c. flaws_in UnknownType (is_unknown k) n c.fields ≡ []) → IfSome (slice_get k n) (λ c. AreSlots k c.fields slots) → more ≡ all ++ slots ∷ []
+pub classes_next : (k : Classes) (n : ℕ) (all more : List Row) (row : Row) → ClassesKnown k n all → n < length k
+    → IfSome (slice_get k n) (λ c. flaws_in UnknownType (is_unknown k) n c.fields ≡ []) → IfSome (slice_get k n) (λ c. IsRow k c row) → more ≡ all ++ row ∷ []
     → ClassesKnown k (n + 1) more
-classes_next k n all more slots s l none p m =
+classes_next k n all more row s l none p m =
     let h = present k n l in
     record {
       left = stage_next (found_unknowns k) k n h.0 (unknown k) s.left h.1 (rw h.1 at none);
-      found = rw (take_next k n h.0 h.1, m) (zip_push (λ (c : Class) ss. AreSlots k c.fields ss) (take n k) all h.0 slots s.found (rw h.1 at p));
+      found = rw (take_next k n h.0 h.1, m) (zip_push (IsRow k) (take n k) all h.0 row s.found (rw h.1 at p));
     }
 
-pub classes_tell : (k : Classes) (n : ℕ) (all : List (List Slot)) (fault : ClassFault) → ClassesKnown k n all → n < length k
+pub classes_tell : (k : Classes) (n : ℕ) (all : List Row) (fault : ClassFault) → ClassesKnown k n all → n < length k
     → IfSome (slice_get k n) (λ c. TellsFirst (flaws_in UnknownType (is_unknown k) n c.fields) fault) → TellsFirst (unknown k) fault
 classes_tell k n all fault s l t = let h = present k n l in stage_tells (found_unknowns k) k n h.0 (unknown k) fault s.left h.1 (rw h.1 at t)
 
-pub classes_end : (k : Classes) (n : ℕ) (all : List (List Slot)) → ClassesKnown k n all → length k ≤ n → unknown k ≡ []
+pub classes_end : (k : Classes) (n : ℕ) (all : List Row) → ClassesKnown k n all → length k ≤ n → unknown k ≡ []
 classes_end k n all s l = stage_none (found_unknowns k) k n (unknown k) s.left l
 
-pub classes_all : (k : Classes) (n : ℕ) (all : List (List Slot)) → ClassesKnown k n all → length k ≤ n → AreRows k k all
+pub classes_all : (k : Classes) (n : ℕ) (all : List Row) → ClassesKnown k n all → length k ≤ n → AreRows k k all
 classes_all k n all s l = subst (λ z. AreRows k z all) (take_all n k l) s.found

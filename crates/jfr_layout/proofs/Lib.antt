@@ -6,6 +6,7 @@ mod IdsSeen
 mod FieldsKnown
 mod FieldPlaces
 mod FieldSlots
+mod LeapLaws
 mod Steps
 mod Filled
 mod Depth

@@ -1,3 +1,4 @@
 pub mod Classes
+pub mod Leaps
 pub mod Resolved
 pub mod Laws

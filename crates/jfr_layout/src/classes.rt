@@ -3,10 +3,11 @@ ghost use Rattle.std.specs.Prelude.{◌≡◌, ◌<◌, length, false, OnOk, IfO
 ghost use Rattle.std.specs.Option.{option_copied};
 ghost use Rattle.std.specs.Str.{chars};
 ghost use Rattle.jfr_layout.specs.Classes.{class_faults, Sound, TellsFirst, find_class, class_place, kind_of, field_number, is_event_class, AreSlots, IsEventSlot};
+ghost use Rattle.jfr_layout.specs.Resolved.{IsRow};
 
 use crate::inline::{check_depth, check_filled};
 use crate::resolved::Resolved;
-use crate::{ClassFault, ClassInfo, ClassList, Kind, Shape, Slot};
+use crate::{ClassFault, ClassInfo, ClassList, Kind, Row, Shape, Slot};
 use std::alloc::Global;
 use std::marker::Model;
 
@@ -142,6 +143,14 @@ impl Classes {
         ensures { IfSome (slice_get self.now place) (λ c. result ≡ kind_of c.name) }
     {
         self.resolved.kind_at(place)
+    }
+
+    /// The row of the class at a place: how the values of its fields are spelled, and the leaps over them.
+    pub fn row(&self, place: usize) -> &Row
+        requires { place < length self.now }
+        ensures { IfSome (slice_get self.now place) (λ c. IsRow self.now c result.now) }
+    {
+        self.resolved.row(place)
     }
 
     /// How the values of each field of the class at a place are spelled, in order.

@@ -15,8 +15,10 @@ mod index;
 mod inline;
 mod kind;
 mod laws;
+mod leap;
 mod name;
 mod resolved;
+mod row;
 mod shape;
 mod slot;
 
@@ -26,7 +28,9 @@ pub use fault::ClassFault;
 pub use form::Form;
 pub use kind::Kind;
 pub use laws::{classes_are_known, fields_agree, ids_stand_once, values_end};
+pub use leap::{Leap, Over};
 pub use name::is_text;
+pub use row::Row;
 pub use shape::Shape;
 pub use slot::Slot;
 

@@ -3,10 +3,11 @@ ghost use Rattle.std.specs.Prelude.{◌≡◌, ◌<◌, ◌++◌, length, map, I
 ghost use Rattle.std.specs.Option.{option_copied};
 ghost use Rattle.jfr_base.specs.declared.reason.Reason.TheVariants.{UnknownType};
 ghost use Rattle.jfr_layout.specs.Classes.{Judges, repeats, unknown, flaws_in, is_unknown, field_at, find_class, class_place, kind_of, step_class, extends_event, AreSlots};
-ghost use Rattle.jfr_layout.specs.Resolved.{IsIndex, AreRows};
+ghost use Rattle.jfr_layout.specs.Resolved.{AreRows, IsIndex, IsRow};
 
 use crate::index::{Index, index_of};
-use crate::{ClassFault, ClassInfo, ClassList, Kind, Slot, is_text};
+use crate::leap::leaps_of;
+use crate::{ClassFault, ClassInfo, ClassList, Kind, Row, Slot, is_text};
 use jfr_base::Reason;
 use jfr_outside::NoMemory;
 use std::alloc::Global;
@@ -18,12 +19,11 @@ pub struct Resolved {
     list: ClassList,
     index: Index,
     kinds: Vec<Kind>,
-    events: Vec<bool>,
-    slots: Vec<Vec<Slot>>,
+    rows: Vec<Row>,
 }
 
 impl Model for Resolved {
-    ghost use Rattle.std.specs.Prelude.{List, map};
+    ghost use Rattle.std.specs.Prelude.{List};
     ghost use Rattle.jfr_layout.specs.declared.class.ClassInfo.{ClassInfo};
     ghost use Rattle.jfr_layout.specs.Resolved.{IsResolved};
 
@@ -31,7 +31,7 @@ impl Model for Resolved {
 
     ghost view = { λ r. r.list };
 
-    ghost invariant = { λ r. IsResolved r.list r.index r.kinds.items r.events.items (map (λ v. v.items) r.slots.items) };
+    ghost invariant = { λ r. IsResolved r.list r.index r.kinds.items r.rows.items };
 }
 
 // The kind of each class.
@@ -57,17 +57,6 @@ fn extends_event(class: &ClassInfo) -> bool
         Some(name) => is_text(name, "jdk.jfr.Event"),
         None => false,
     }
-}
-
-// Which classes are composite and have the super type of events.
-fn events_of(alloc: Global, list: &ClassList) -> Result<Vec<bool>, NoMemory>
-    ensures exact { IfOk result (λ events. events.items ≡ map extends_event list.now) }
-{
-    let mut events = Vec::new(alloc);
-    for at in 0..list.len() {
-        events.push(extends_event(list.at(at)))?;
-    }
-    Ok(events)
 }
 
 // The slots of the fields of one class. A field's class that isn't defined is a fault.
@@ -102,23 +91,46 @@ fn slots_of(
     Ok(slots)
 }
 
-// The slots of all fields, class by class.
-fn all_slots(
+// The row of one class. A field's class that isn't defined is a fault.
+fn row_of(
     alloc: Global,
     list: &ClassList,
     index: &Index,
     kinds: &[Kind],
-) -> Result<Vec<Vec<Slot>>, ClassFault>
+    class: usize,
+) -> Result<Row, ClassFault>
     requires indexed { IsIndex list.now index.now }
     requires kinds { kinds.now ≡ map (λ c. kind_of c.name) list.now }
-    ensures exact { IfOk result (λ all. AreRows list.now list.now (map (λ v. v.items) all.items)) }
+    requires within { class < length list.now }
+    ensures exact { IfSome (slice_get list.now class) (λ c. IfOk result (IsRow list.now c)) }
+    ensures judged { IfSome (slice_get list.now class) (λ c. Judges (flaws_in UnknownType (is_unknown list.now) class c.fields) result) }
+{
+    let slots = slots_of(alloc, list, index, kinds, class)?;
+    let leaps = leaps_of(alloc, &slots)?;
+    Ok(Row {
+        slots,
+        leaps,
+        is_event: extends_event(list.at(class)),
+    })
+}
+
+// The rows of all classes, in order.
+fn rows_of(
+    alloc: Global,
+    list: &ClassList,
+    index: &Index,
+    kinds: &[Kind],
+) -> Result<Vec<Row>, ClassFault>
+    requires indexed { IsIndex list.now index.now }
+    requires kinds { kinds.now ≡ map (λ c. kind_of c.name) list.now }
+    ensures exact { IfOk result (λ rows. AreRows list.now list.now rows.items) }
     ensures judged { Judges (unknown list.now) result }
 {
-    let mut all = Vec::new(alloc);
+    let mut rows = Vec::new(alloc);
     for at in 0..list.len() {
-        all.push(slots_of(alloc, list, index, kinds, at)?)?;
+        rows.push(row_of(alloc, list, index, kinds, at)?)?;
     }
-    Ok(all)
+    Ok(rows)
 }
 
 impl Resolved {
@@ -129,14 +141,12 @@ impl Resolved {
     {
         let index = index_of(alloc, &list)?;
         let kinds = kinds_of(alloc, &list)?;
-        let slots = all_slots(alloc, &list, &index, &kinds)?;
-        let events = events_of(alloc, &list)?;
+        let rows = rows_of(alloc, &list, &index, &kinds)?;
         Ok(Resolved {
             list,
             index,
             kinds,
-            events,
-            slots,
+            rows,
         })
     }
 
@@ -179,12 +189,20 @@ impl Resolved {
         self.kinds[place]
     }
 
+    /// The row of the class at a place.
+    pub fn row(&self, place: usize) -> &Row
+        requires { place < length self.now }
+        ensures { IfSome (slice_get self.now place) (λ c. IsRow self.now c result.now) }
+    {
+        &self.rows[place]
+    }
+
     /// Whether the class at a place is composite and has the super type of events.
     pub fn extends_event(&self, place: usize) -> bool
         requires { place < length self.now }
         ensures { IfSome (slice_get self.now place) (λ c. result ≡ extends_event c) }
     {
-        self.events[place]
+        self.row(place).is_event
     }
 
     /// The slots of the fields of the class at a place, in order.
@@ -192,7 +210,7 @@ impl Resolved {
         requires { place < length self.now }
         ensures { IfSome (slice_get self.now place) (λ c. AreSlots self.now c.fields result.now) }
     {
-        &self.slots[place]
+        &self.row(place).slots
     }
 
     /// The place of the class that an inline step by a field goes to.

@@ -1,6 +1,6 @@
 // Lists of classes, made from lines.
 
-use crate::{ClassFault, ClassInfo, ClassList, Classes, FieldInfo, Fields, Kind, Shape};
+use crate::{ClassFault, ClassInfo, ClassList, Classes, FieldInfo, Fields, Kind, Leap, Over, Shape};
 use jfr_base::Reason;
 use jfr_outside::{Text, Words};
 use std::alloc::Global;
@@ -181,5 +181,60 @@ fn knows_event_classes(rt: HostRuntime) -> Result<(), Fail> {
     assert!(rt; !classes.is_event(0), "the id of metadata");
     assert!(rt; classes.event_slot(8).is_some());
     assert!(rt; classes.event_slot(7).is_none(), "a base name");
+    Ok(())
+}
+
+// An event whose row begins as that of most events do, then raw bytes, a string, an integer, an array and
+// five integers.
+fn long_row(alloc: Global) -> Result<Classes, ClassFault> {
+    let mut list = ClassList::new(alloc);
+    add(&mut list, alloc, 2, "long", None, &[])?;
+    add(&mut list, alloc, 3, "double", None, &[])?;
+    add(&mut list, alloc, 4, "boolean", None, &[])?;
+    add(&mut list, alloc, 5, "java.lang.String", None, &[])?;
+    add(&mut list, alloc, 6, "t.Thread", None, &[("n", inline(2))])?;
+    let fields = [
+        ("start", inline(2)),
+        ("duration", inline(2)),
+        ("thread", reference(6)),
+        ("trace", reference(5)),
+        ("weight", inline(3)),
+        ("flag", inline(4)),
+        ("text", inline(5)),
+        ("n", inline(2)),
+        ("many", items(2)),
+        ("a", inline(2)),
+        ("b", inline(2)),
+        ("c", inline(2)),
+        ("d", inline(2)),
+        ("e", inline(2)),
+    ];
+    add(&mut list, alloc, 7, "t.Event", EVENT, &fields)?;
+    Classes::make(alloc, list)
+}
+
+#[test]
+fn leaps_over_rows(rt: HostRuntime) -> Result<(), Fail> {
+    let classes = long_row(rt.alloc())?;
+    let leap = |first, fields, over| Leap {
+        first,
+        fields,
+        over,
+    };
+    let row = classes.row(5);
+    assert_eq!(rt; row.slots.len(), 14);
+    assert!(rt; row.is_event);
+    assert_eq!(rt;
+        row.leaps.as_slice(),
+        &[
+            leap(0, 4, Over::Front { thread: 6, trace: 5 }),
+            leap(4, 2, Over::Raw(9)),
+            leap(6, 1, Over::Text(5)),
+            leap(7, 1, Over::Integers),
+            leap(8, 1, Over::Any),
+            leap(9, 4, Over::Integers),
+            leap(13, 1, Over::Integers),
+        ]
+    );
     Ok(())
 }

@@ -8,7 +8,8 @@ pub mod FitLaws
 pub mod FlawLaws
 pub mod FormLaws
 pub mod InsideLaws
-mod FrontLaws
+mod AppendLaws
+mod LeapLaws
 mod LastGroups
 pub mod LeafLaws
 pub mod NodeLaws

@@ -1,19 +1,16 @@
 -- Where an integer ends, whatever it says.
-use Rattle.std.specs.Prelude.{◌≡◌, ℕ, zero, suc, ◌+◌, ◌-◌, ◌<◌, ◌≤◌, ◌⊎◌, List, ◌∷◌, length, slice_range, slice_index, Option, Some, None, Result, Ok, Err, nat_lt, true, false}
+use Rattle.std.specs.Prelude.{◌≡◌, ℕ, zero, suc, ◌+◌, ◌-◌, ◌<◌, ◌≤◌, ◌⊎◌, List, ◌∷◌, length, slice_range, slice_index, Option, Some, None, Ok, Err, nat_lt, true, false}
 use Rattle.std.specs.Option.{option_map}
 use Rattle.std.proofs.Common.{ap, arith, refl, subst, sym, ◌∙◌, inl, inr}
-use Rattle.jfr_base.specs.declared.flaw.Flaw.{Flaw}
 use Rattle.jfr_base.specs.declared.integer.Var.{Var}
 use Rattle.jfr_base.specs.declared.reason.Reason.TheVariants.{Short}
 use Rattle.jfr_base.specs.Integer.{worth_within}
 use Rattle.jfr_base.specs.Formats.{Done, Int, after_int, front_within, int_at, integer, run, seen, unchecked}
 use Rattle.jfr_base.proofs.Ends.{ends_by, ends_past}
 use Rattle.jfr_base.proofs.Ranges.{range_cons, range_none}
-use Rattle.jfr_base.proofs.SeenLaws.{seen-bind, then_at}
 use Rattle.jfr_text.proofs.ReadSteps.{int_there, done_there}
 use Rattle.jfr_layout.specs.declared.kind.Kind.{Kind}
 use Rattle.jfr_layout.specs.declared.kind.Kind.TheVariants as kinds
-use Rattle.jfr_value.specs.Groups.{integer_pair}
 use Rattle.jfr_value.specs.Reading.{base_format}
 
 -- what is made of an integer doesn't change where it ends
@@ -120,29 +117,3 @@ skip_short x at end passed s l = int_short x end at (s.same ∙ ap (λ y. option
 -- a key by its integer
 pub key_is : (x : List ℕ) (at end : ℕ) (v : Var) → int_at x at end ≡ Some v → run integer x end at ≡ Ok (record { value = v.value; place = v.end })
 key_is x at end v e = int_there x end at (λ w s. Done w) v e ∙ done_there x end v.end v.value
-
--- two integers, one behind the other
-pair_seen : (x : List ℕ) (end at : ℕ) → seen (run integer_pair x end at) ≡ then_at (seen (run integer x end at)) (λ p. seen (run integer x end p))
-pair_seen x end at = seen-bind integer (λ first. integer) (λ p. seen (run integer x end p)) x end at (λ first p. refl)
-
-pub pair_ends : (x : List ℕ) (end at middle : ℕ) (r : Result ℕ Flaw) → Ok middle ≡ seen (run integer x end at) → r ≡ seen (run integer x end middle) → r ≡ seen (run integer_pair x end at)
-pair_ends x end at middle r e h = h ∙ (ap (λ z. then_at z (λ p. seen (run integer x end p))) e ∙ sym (pair_seen x end at))
-
-pub pair_fails : (x : List ℕ) (end at : ℕ) (flaw : Flaw) → Err flaw ≡ seen (run integer x end at) → Err flaw ≡ seen (run integer_pair x end at)
-pair_fails x end at flaw e = ap (λ z. then_at z (λ p. seen (run integer x end p))) e ∙ sym (pair_seen x end at)
-
-pub pair_parts : (x : List ℕ) (end at to : ℕ) → Ok to ≡ seen (run integer_pair x end at) → (middle : ℕ) × (Ok middle ≡ seen (run integer x end at)) × (Ok to ≡ seen (run integer x end middle))
-pair_parts x end at to e = by_first (seen (run integer x end at)) refl (e ∙ pair_seen x end at)
-  where
-    by_first : (r : Result ℕ Flaw) → r ≡ seen (run integer x end at) → Ok to ≡ then_at r (λ p. seen (run integer x end p)) → (middle : ℕ) × (Ok middle ≡ seen (run integer x end at)) × (Ok to ≡ seen (run integer x end middle))
-    by_first (Ok middle) h e = (middle, h, e)
-    by_first (Err w) h e = cc
-
-pub pair_flaw : (x : List ℕ) (end at : ℕ) (w : Flaw) → Err w ≡ seen (run integer_pair x end at)
-    → (Err w ≡ seen (run integer x end at)) ⊎ ((middle : ℕ) × (Ok middle ≡ seen (run integer x end at)) × (Err w ≡ seen (run integer x end middle)))
-pair_flaw x end at w e = by_first (seen (run integer x end at)) refl (e ∙ pair_seen x end at)
-  where
-    by_first : (r : Result ℕ Flaw) → r ≡ seen (run integer x end at) → Err w ≡ then_at r (λ p. seen (run integer x end p))
-        → (Err w ≡ seen (run integer x end at)) ⊎ ((middle : ℕ) × (Ok middle ≡ seen (run integer x end at)) × (Err w ≡ seen (run integer x end middle)))
-    by_first (Ok middle) h e = inr (middle, h, e)
-    by_first (Err v) h e = inl (e ∙ h)

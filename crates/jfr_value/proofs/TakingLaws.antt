@@ -178,7 +178,7 @@ module _ {A : Type 0} (takes : ℕ × ℕ → A → A → Type 0) (x : List ℕ)
       (if_made (times v.value (item_format inline (item_of s))) (λ vs. Group s (slice_range x at v.end) (values_of vs)) (λ vs. TakesAll takes (targets_of_all (values_of vs)) old new) (λ v. TakesAll takes (targets_of v) old new) x end v.end (λ vs p. p) h))
 
   -- a value and those behind it
-  cons_taken : (f : Format Value) (g : Format (List Value)) (to : ℕ) (old now new : A) → seen (run f x end at) ≡ Ok to → TakesRead takes (run f x end at) old now → TakesReadAll takes (run g x end to) now new
+  pub cons_taken : (f : Format Value) (g : Format (List Value)) (to : ℕ) (old now new : A) → seen (run f x end at) ≡ Ok to → TakesRead takes (run f x end at) old now → TakesReadAll takes (run g x end to) now new
       → TakesReadAll takes (run (f >>= λ v. g >>= λ vs. Done (v ∷ vs)) x end at) old new
   cons_taken f g to old now new e h t =
       subst (λ (r : Answer (List Value)). TakesReadAll takes r old new) (sym (run-bind f (λ v. g >>= λ vs. Done (v ∷ vs)) x end at)) (by_answer (run f x end at) e h)

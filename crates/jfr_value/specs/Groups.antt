@@ -1,12 +1,7 @@
 -- The groups of compressed integers, looked at in sixteen bytes at once.
 use Rattle.std.specs.Prelude.{◌≡◌, ℕ, ◌+◌, ◌<◌, List, slice_index, nat_lt, if◌then◌else◌}
 use Rattle.std.specs.Int.{bit_at}
-use Rattle.jfr_base.specs.Formats.{Format, ◌>>=◌, integer}
 
 -- a bit for each of sixteen bytes, which is set where the byte has no top bit: an integer's group of seven bits is then the last
 abbrev pub AreLastGroups : List ℕ → ℕ → ℕ → Type 0
 AreLastGroups x at lasts = (k : ℕ) → k < 16 → bit_at lasts k ≡ (if nat_lt (slice_index x (at + k)) 128 then 1 else 0)
-
--- two integers, one behind the other
-abbrev pub integer_pair : Format ℕ
-integer_pair = integer >>= λ first. integer

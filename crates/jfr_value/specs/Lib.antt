@@ -6,5 +6,4 @@ pub mod Stacks
 pub mod Walks
 pub mod Visits
 pub mod Groups
-pub mod Fronts
 pub mod Laws

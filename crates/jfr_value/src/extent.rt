@@ -4,23 +4,23 @@ ghost use Rattle.std.specs.List.{AllByRecursion};
 ghost use Rattle.jfr_base.specs.Formats.{for_each, integer, run, seen};
 ghost use Rattle.jfr_text.specs.Strings.{string_format};
 ghost use Rattle.jfr_layout.specs.Classes.{IsSlot, Sound, find_class, form_of, item_of, slot_with};
+ghost use Rattle.jfr_layout.specs.Leaps.{AreLeaps};
 ghost use Rattle.jfr_layout.specs.declared.form.Form.TheVariants as forms;
 ghost use Rattle.jfr_layout.specs.declared.kind.Kind.TheVariants as kinds;
 ghost use Rattle.jfr_value.specs.Nodes.{EndsAt, IsRefused, IsValueReason, node_at, targets};
 ghost use Rattle.jfr_value.specs.Values.{IsHollow, IsHollowArray, IsPlaced, key_of};
-ghost use Rattle.jfr_value.specs.Reading.{base_format, class_format, shape_format, value_format};
-ghost use Rattle.jfr_value.specs.Fronts.{row_format};
+ghost use Rattle.jfr_value.specs.Reading.{base_format, class_format, row_format, shape_format, value_format};
 ghost use Rattle.jfr_value.specs.Visits.{TakesAll, TakesRead, TakesReadAll};
 ghost use Rattle.jfr_value.specs.Walks.{Room};
 
 use crate::Visit;
-use crate::front::pass_front;
 use crate::integers::integer_end;
 use crate::keys::{key_end, text_end};
+use crate::leap::leap_end;
 use crate::part::item_of;
 use crate::walk::STEPS;
 use jfr_base::{Flaw, Reason, read_within};
-use jfr_layout::{Classes, Form, Kind, Shape, Slot};
+use jfr_layout::{Classes, Form, Kind, Row, Shape, Slot};
 use jfr_text::read_string;
 
 /// Where a value ends. The class must be known. Where no value stands, the flaw is of the first leaf
@@ -93,8 +93,8 @@ fn value_end<C, V: Visit<C>>(
 {
     match slot.form {
         Form::Fields => {
-            let fields = classes.slots(slot.place);
-            whole_row_end(classes, fields, bytes, at, end, STEPS - 1, visitor, with)
+            let row = classes.row(slot.place);
+            whole_row_end(classes, row, bytes, at, end, STEPS - 1, visitor, with)
         }
         _ => other_end(classes, slot, bytes, at, end, visitor, with),
     }
@@ -323,9 +323,9 @@ fn row_end<C, V: Visit<C>>(
     requires order { at ≤ end }
     requires within { end ≤ length bytes.now }
     requires ready { V.ready visitor.old with.now }
-    ensures exact { result ≡ seen (run (for_each slots.now (λ s. shape_format (class_format (levels + 1) classes.now) s.shape)) bytes.now end at) }
+    ensures exact { result ≡ seen (run (row_format (levels + 1) classes.now slots.now) bytes.now end at) }
     ensures range { IfOk result (λ to. (at ≤ to) × (to ≤ end)) }
-    ensures visited { TakesReadAll (V.takes with.now) (run (for_each slots.now (λ s. shape_format (class_format (levels + 1) classes.now) s.shape)) bytes.now end at) visitor.old visitor.new }
+    ensures visited { TakesReadAll (V.takes with.now) (run (row_format (levels + 1) classes.now slots.now) bytes.now end at) visitor.old visitor.new }
     ensures ready { V.ready visitor.new with.now }
 {
     let mut to = at;
@@ -339,33 +339,7 @@ fn row_end<C, V: Visit<C>>(
 #[cycle(ends)]
 #[tactic(auto, using(jfr_base::proofs::SeenLaws::ends), unfolding(jfr_base::specs::Formats::run, crate::specs::Reading::class_format))]
 #[inline(never)]
-fn fields_end<C, V: Visit<C>>(
-    classes: &Classes,
-    slots: &[Slot],
-    bytes: &[u8],
-    at: usize,
-    end: usize,
-    levels: u32,
-    visitor: &mut V,
-    with: &C,
-) -> Result<usize, Flaw>
-    requires slots { AllByRecursion (IsSlot classes.now) slots.now }
-    requires room { AllByRecursion (λ s. Room classes.now levels s.shape) slots.now }
-    requires order { at ≤ end }
-    requires within { end ≤ length bytes.now }
-    requires ready { V.ready visitor.old with.now }
-    ensures exact { result ≡ seen (run (for_each slots.now (λ s. shape_format (class_format (levels + 1) classes.now) s.shape)) bytes.now end at) }
-    ensures range { IfOk result (λ to. (at ≤ to) × (to ≤ end)) }
-    ensures visited { TakesReadAll (V.takes with.now) (run (for_each slots.now (λ s. shape_format (class_format (levels + 1) classes.now) s.shape)) bytes.now end at) visitor.old visitor.new }
-    ensures ready { V.ready visitor.new with.now }
-{
-    row_end(classes, slots, bytes, at, end, levels, visitor, with)
-}
-
-/// The same of the row of an event or of another value that stands by itself: its front is passed at
-/// once, if it has one.
-#[inline(always)]
-fn whole_row_end<C, V: Visit<C>>(
+pub(crate) fn fields_end<C, V: Visit<C>>(
     classes: &Classes,
     slots: &[Slot],
     bytes: &[u8],
@@ -385,9 +359,37 @@ fn whole_row_end<C, V: Visit<C>>(
     ensures visited { TakesReadAll (V.takes with.now) (run (row_format (levels + 1) classes.now slots.now) bytes.now end at) visitor.old visitor.new }
     ensures ready { V.ready visitor.new with.now }
 {
-    let passed = pass_front(slots, bytes, at, end, visitor, with)?;
-    let (_, rest) = slots.split_at(passed.fields);
-    row_end(classes, rest, bytes, passed.end, end, levels, visitor, with)
+    row_end(classes, slots, bytes, at, end, levels, visitor, with)
+}
+
+/// The same of the row of an event or of another value that stands by itself, leap by leap.
+#[inline(always)]
+fn whole_row_end<C, V: Visit<C>>(
+    classes: &Classes,
+    row: &Row,
+    bytes: &[u8],
+    at: usize,
+    end: usize,
+    levels: u32,
+    visitor: &mut V,
+    with: &C,
+) -> Result<usize, Flaw>
+    requires slots { AllByRecursion (IsSlot classes.now) row.now.slots.items }
+    requires room { AllByRecursion (λ s. Room classes.now levels s.shape) row.now.slots.items }
+    requires leaps { AreLeaps row.now.slots.items row.now.leaps.items }
+    requires order { at ≤ end }
+    requires within { end ≤ length bytes.now }
+    requires ready { V.ready visitor.old with.now }
+    ensures exact { result ≡ seen (run (row_format (levels + 1) classes.now row.now.slots.items) bytes.now end at) }
+    ensures range { IfOk result (λ to. (at ≤ to) × (to ≤ end)) }
+    ensures visited { TakesReadAll (V.takes with.now) (run (row_format (levels + 1) classes.now row.now.slots.items) bytes.now end at) visitor.old visitor.new }
+    ensures ready { V.ready visitor.new with.now }
+{
+    let mut to = at;
+    for leap in &row.leaps {
+        to = leap_end(classes, row, leap, bytes, to, end, levels, visitor, with)?;
+    }
+    Ok(to)
 }
 
 /// Where an array ends.

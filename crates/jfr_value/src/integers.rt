@@ -1,8 +1,8 @@
 // Where integers end, whatever they say.
 ghost use Rattle.std.specs.Prelude.{◌≡◌, ℕ, ◌+◌, ◌≤◌, ◌<◌, length, IfOk, IfSome, Ok};
 ghost use Rattle.std.specs.Int.{bit_at};
-ghost use Rattle.jfr_base.specs.Formats.{integer, run, seen};
-ghost use Rattle.jfr_value.specs.Groups.{AreLastGroups, integer_pair};
+ghost use Rattle.jfr_base.specs.Formats.{integer, run, seen, times};
+ghost use Rattle.jfr_value.specs.Groups.{AreLastGroups};
 
 use crate::extent::ends_early;
 use jfr_base::Flaw;
@@ -45,64 +45,69 @@ fn groups_end(bytes: &[u8], at: usize) -> usize
     at + groups_with_more(last_groups(bytes, at), 0) + 1
 }
 
-/// Where the second of two integers ends that stand one behind the other.
+/// Where so many integers end that stand one behind another.
 #[inline(always)]
-pub(crate) fn pair_end(bytes: &[u8], at: usize, end: usize) -> Result<usize, Flaw>
+pub(crate) fn integers_end(bytes: &[u8], at: usize, end: usize, count: usize) -> Result<usize, Flaw>
     requires order { at ≤ end }
     requires within { end ≤ length bytes.now }
-    ensures exact { result ≡ seen (run integer_pair bytes.now end at) }
+    ensures exact { result ≡ seen (run (times count integer) bytes.now end at) }
     ensures range { IfOk result (λ to. (at ≤ to) × (to ≤ end)) }
 {
-    match short_pair_end(bytes, at, end) {
+    match integers_at_once(bytes, at, end, count) {
         Some(to) => Ok(to),
-        None => far_pair_end(bytes, at, end),
+        None => far_integers_end(bytes, at, end, count),
     }
 }
 
-/// The same, where one look shows the last groups of both.
+/// The same, where one look shows the last groups of all.
 #[inline(always)]
-fn short_pair_end(bytes: &[u8], at: usize, end: usize) -> Option<usize>
+fn integers_at_once(bytes: &[u8], at: usize, end: usize, count: usize) -> Option<usize>
     requires order { at ≤ end }
     requires within { end ≤ length bytes.now }
-    ensures exact { IfSome result (λ to. Ok to ≡ seen (run integer_pair bytes.now end at)) }
+    ensures exact { IfSome result (λ to. Ok to ≡ seen (run (times count integer) bytes.now end at)) }
     ensures range { IfSome result (λ to. (at ≤ to) × (to ≤ end)) }
 {
     if at >= bytes.len().saturating_sub(VECTOR - 1) {
         return None;
     }
+    let room = (end - at).min(VECTOR);
     let lasts = last_groups(bytes, at);
-    let first = groups_with_more(lasts, 0) + 1;
-    let both = first + groups_with_more(lasts, first) + 1;
-    let to = at + both;
-    if both > VECTOR || to > end {
-        return None;
+    let mut passed = 0;
+    for _ in 0..count {
+        passed += groups_with_more(lasts, passed) + 1;
+        if passed > room {
+            return None;
+        }
     }
-    Some(to)
+    Some(at + passed)
 }
 
-/// The same, one integer after the other. What the call answers is taken apart here, as in
+/// The same, one integer after another. What the call answers is taken apart here, as in
 /// `compound_end`.
 #[inline(always)]
-fn far_pair_end(bytes: &[u8], at: usize, end: usize) -> Result<usize, Flaw>
+fn far_integers_end(bytes: &[u8], at: usize, end: usize, count: usize) -> Result<usize, Flaw>
     requires order { at ≤ end }
     requires within { end ≤ length bytes.now }
-    ensures exact { result ≡ seen (run integer_pair bytes.now end at) }
+    ensures exact { result ≡ seen (run (times count integer) bytes.now end at) }
     ensures range { IfOk result (λ to. (at ≤ to) × (to ≤ end)) }
 {
-    let to = long_pair_end(bytes, at, end)?;
+    let to = each_integer_end(bytes, at, end, count)?;
     Ok(to)
 }
 
-/// The same.
+/// The same, out of line.
 #[inline(never)]
-fn long_pair_end(bytes: &[u8], at: usize, end: usize) -> Result<usize, Flaw>
+fn each_integer_end(bytes: &[u8], at: usize, end: usize, count: usize) -> Result<usize, Flaw>
     requires order { at ≤ end }
     requires within { end ≤ length bytes.now }
-    ensures exact { result ≡ seen (run integer_pair bytes.now end at) }
+    ensures exact { result ≡ seen (run (times count integer) bytes.now end at) }
     ensures range { IfOk result (λ to. (at ≤ to) × (to ≤ end)) }
 {
-    let second = integer_end(bytes, at, end)?;
-    integer_end(bytes, second, end)
+    let mut to = at;
+    for _ in 0..count {
+        to = integer_end(bytes, to, end)?;
+    }
+    Ok(to)
 }
 
 /// Which of the bytes of a vector have no top bit, and so are the last groups of integers: a bit for each.
@@ -119,7 +124,7 @@ fn last_groups(bytes: &[u8], at: usize) -> u64
 /// of the last groups. There are at most as many as an integer has of seven bits.
 #[inline(always)]
 fn groups_with_more(lasts: u64, from: usize) -> usize
-    requires from { from ≤ 9 }
+    requires from { from ≤ 16 }
     ensures range { result ≤ 8 }
     ensures more { (k : ℕ) → k < result → bit_at lasts (from + k) ≡ 0 }
     ensures last { result < 8 → bit_at lasts (from + result) ≡ 1 }

@@ -8,11 +8,11 @@
 #![tactic(auto)]
 
 mod extent;
-mod front;
 mod integers;
 mod keys;
 mod laws;
 mod leaf;
+mod leap;
 mod leaves;
 mod node;
 mod part;
