@@ -38,13 +38,13 @@ module _ (slots : List Slot) (first : ℕ) where
   pub begins : (fields : ℕ) (over : Over) → 0 < fields → first + fields ≤ length slots → Passes over (range fields) → BeginsAt slots first (leap fields over)
   begins fields over some within passes = record { first_is = refl; some = some; leap = record { within = within; passes = passes } }
 
-  abbrev pub AreIntegers : ℕ → Type 0
-  AreIntegers fields = AllByRecursion (λ s. s.form ≡ forms.Integer) (range fields)
+  abbrev pub IntegersTo : ℕ → Type 0
+  IntegersTo fields = AllByRecursion (λ s. s.form ≡ forms.Integer) (range fields)
 
-  pub integer_alone : first < length slots → IfSome (slice_get slots first) (λ s. s.form ≡ forms.Integer) → AreIntegers 1
+  pub integer_alone : first < length slots → IfSome (slice_get slots first) (λ s. s.form ≡ forms.Integer) → IntegersTo 1
   integer_alone l h = let s = present slots first l in subst (AllByRecursion (λ s. s.form ≡ forms.Integer)) (sym (range_alone slots first s.0 s.1)) (rw s.1 at h, tt)
 
-  pub integer_next : (fields : ℕ) (s : Slot) → slice_get slots (first + fields) ≡ Some s → s.form ≡ forms.Integer → AreIntegers fields → AreIntegers (fields + 1)
+  pub integer_next : (fields : ℕ) (s : Slot) → slice_get slots (first + fields) ≡ Some s → s.form ≡ forms.Integer → IntegersTo fields → IntegersTo (fields + 1)
   integer_next fields s e f a = subst (AllByRecursion (λ s. s.form ≡ forms.Integer)) (sym (next_is fields s e)) (all_push (λ s. s.form ≡ forms.Integer) (range fields) s a f)
 
   raw_push : (count more : ℕ) (ss : List Slot) (s : Slot) → AreRaw count ss → s.form ≡ forms.Raw more → AreRaw (count + more) (ss ++ s ∷ [])

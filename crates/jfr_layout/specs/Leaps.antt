@@ -33,10 +33,17 @@ abbrev pub AreRaw : ℕ → List Slot → Type 0
 AreRaw count [] = count ≡ 0
 AreRaw count (s ∷ ss) = (bytes rest : ℕ) × (s.form ≡ forms.Raw bytes) × (count ≡ bytes + rest) × AreRaw rest ss
 
+-- so many integers
+abbrev pub AreIntegers : ℕ → List Slot → Type 0
+AreIntegers count slots = (length slots ≡ count) × AllByRecursion (λ s. s.form ≡ forms.Integer) slots
+
 -- the slots have the forms that a leap passes
 abbrev pub Passes : Over → List Slot → Type 0
 Passes (overs.Front thread trace) slots = IsFront thread trace slots
-Passes overs.Integers slots = AllByRecursion (λ s. s.form ≡ forms.Integer) slots
+Passes overs.OneInteger slots = AreIntegers 1 slots
+Passes overs.TwoIntegers slots = AreIntegers 2 slots
+Passes overs.ThreeIntegers slots = AreIntegers 3 slots
+Passes overs.FourIntegers slots = AreIntegers 4 slots
 Passes (overs.Raw count) slots = AreRaw count slots
 Passes (overs.Key class) slots = (s : Slot) × (slots ≡ s ∷ []) × IsOf forms.Key class s
 Passes (overs.Text class) slots = (s : Slot) × (slots ≡ s ∷ []) × IsOf forms.Text class s

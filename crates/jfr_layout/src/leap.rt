@@ -1,7 +1,8 @@
 // Fields that a walk passes at once.
-ghost use Rattle.std.specs.Prelude.{◌≡◌, ℕ, ◌+◌, ◌<◌, length, slice_get, IfOk, IfSome};
+ghost use Rattle.std.specs.Prelude.{◌≡◌, ℕ, ◌+◌, ◌<◌, ◌≤◌, List, length, slice_get, IfOk, IfSome};
 ghost use Rattle.jfr_layout.specs.declared.form.Form.TheVariants as forms;
-ghost use Rattle.jfr_layout.specs.Leaps.{AreLeaps, BeginsAt};
+ghost use Rattle.jfr_layout.specs.declared.slot.Slot.{Slot};
+ghost use Rattle.jfr_layout.specs.Leaps.{AreIntegers, AreLeaps, BeginsAt, Passes};
 
 use crate::{Form, Slot};
 use jfr_outside::NoMemory;
@@ -25,9 +26,12 @@ pub struct Leap {
 pub enum Over {
     /// Two integers and two references, of these classes: when most events began, how long they took,
     /// their thread, and their stack trace.
-    Front { thread: u64, trace: u64 },
+    Front { thread: u32, trace: u32 },
     /// Compressed integers, one in each field.
-    Integers,
+    OneInteger,
+    TwoIntegers,
+    ThreeIntegers,
+    FourIntegers,
     /// So many raw bytes in all.
     Raw(u8),
     /// A key into the constant pool of a class.
@@ -81,7 +85,8 @@ fn over_one(first: usize, over: Over) -> Leap
     }
 }
 
-/// The leap over the front of most events, if it begins at the field of a number.
+/// The leap over the front of most events, if it begins at the field of a number. Ids of classes have
+/// room in it up to 32 bits.
 fn front_from(slots: &[Slot], first: usize) -> Option<Leap>
     requires { first < length slots.now }
     ensures { IfSome result (BeginsAt slots.now first) }
@@ -89,21 +94,25 @@ fn front_from(slots: &[Slot], first: usize) -> Option<Leap>
     if slots.len() - first < MOST {
         return None;
     }
-    let start = slots[first];
-    let duration = slots[first + 1];
     let thread = slots[first + 2];
     let trace = slots[first + 3];
-    match (start.form, duration.form, thread.form, trace.form) {
-        (Form::Integer, Form::Integer, Form::Key, Form::Key) => Some(Leap {
-            first,
-            fields: MOST,
-            over: Over::Front {
-                thread: thread.shape.class,
-                trace: trace.shape.class,
-            },
-        }),
-        _ => None,
+    match (
+        slots[first].form,
+        slots[first + 1].form,
+        thread.form,
+        trace.form,
+    ) {
+        (Form::Integer, Form::Integer, Form::Key, Form::Key) => {}
+        _ => return None,
     }
+    Some(Leap {
+        first,
+        fields: MOST,
+        over: Over::Front {
+            thread: u32::try_from(thread.shape.class).ok()?,
+            trace: u32::try_from(trace.shape.class).ok()?,
+        },
+    })
 }
 
 /// The leap over the integers from the field of a number on.
@@ -123,7 +132,20 @@ fn integers_from(slots: &[Slot], first: usize) -> Leap
     Leap {
         first,
         fields,
-        over: Over::Integers,
+        over: over_integers(fields),
+    }
+}
+
+/// What a leap over so many integers passes.
+fn over_integers(count: usize) -> Over
+    requires { (1 ≤ count) × (count ≤ 4) }
+    ensures { (slots : List Slot) → AreIntegers count slots → Passes result slots }
+{
+    match count {
+        1 => Over::OneInteger,
+        2 => Over::TwoIntegers,
+        3 => Over::ThreeIntegers,
+        _ => Over::FourIntegers,
     }
 }
 

@@ -1,6 +1,8 @@
 // Lists of classes, made from lines.
 
-use crate::{ClassFault, ClassInfo, ClassList, Classes, FieldInfo, Fields, Kind, Leap, Over, Shape};
+use crate::{
+    ClassFault, ClassInfo, ClassList, Classes, FieldInfo, Fields, Kind, Leap, Over, Shape,
+};
 use jfr_base::Reason;
 use jfr_outside::{Text, Words};
 use std::alloc::Global;
@@ -226,15 +228,23 @@ fn leaps_over_rows(rt: HostRuntime) -> Result<(), Fail> {
     assert!(rt; row.is_event);
     assert_eq!(rt;
         row.leaps.as_slice(),
-        &[
-            leap(0, 4, Over::Front { thread: 6, trace: 5 }),
+        [
+            leap(
+                0,
+                4,
+                Over::Front {
+                    thread: 6,
+                    trace: 5
+                }
+            ),
             leap(4, 2, Over::Raw(9)),
             leap(6, 1, Over::Text(5)),
-            leap(7, 1, Over::Integers),
+            leap(7, 1, Over::OneInteger),
             leap(8, 1, Over::Any),
-            leap(9, 4, Over::Integers),
-            leap(13, 1, Over::Integers),
+            leap(9, 4, Over::FourIntegers),
+            leap(13, 1, Over::OneInteger),
         ]
+        .as_slice()
     );
     Ok(())
 }

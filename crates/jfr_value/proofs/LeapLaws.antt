@@ -7,10 +7,9 @@ use Rattle.jfr_base.specs.declared.flaw.Flaw.{Flaw}
 use Rattle.jfr_base.specs.declared.integer.Var.{Var}
 use Rattle.jfr_base.specs.Formats.{Answer, Format, Done, Int, int_at, after_int, integer, unchecked, refused, run, seen, times}
 use Rattle.jfr_base.specs.declared.reason.Reason.TheVariants.{Short}
-use Rattle.jfr_base.proofs.Ranges.{range_length}
 use Rattle.jfr_base.proofs.SeenLaws.{then_at, then_at_ok, seen-for_each, seen-times}
 use Rattle.jfr_layout.specs.Classes.{AreSlots, Class, Classes, IsSlot, inline_form, item_of}
-use Rattle.jfr_layout.specs.Leaps.{AreLeaps, AreRaw, IsFront, IsLeap, IsOf, passed_by}
+use Rattle.jfr_layout.specs.Leaps.{AreIntegers, AreLeaps, AreRaw, IsFront, IsLeap, IsOf, passed_by}
 use Rattle.jfr_layout.specs.Resolved.{IsRow}
 use Rattle.jfr_layout.specs.declared.row.Row.{Row}
 use Rattle.jfr_layout.specs.declared.leap.Leap.{Leap}
@@ -44,9 +43,6 @@ all_drop P (suc n) (x ∷ xs) a = all_drop P n xs a.1
 
 pub all_passed : (P : Slot → Type 0) (ss : List Slot) (l : Leap) → AllByRecursion P ss → AllByRecursion P (passed_by ss l)
 all_passed P ss l a = all_take P (l.first + l.fields - l.first) (drop l.first ss) (all_drop P l.first ss a)
-
-pub count_passed : (ss : List Slot) (l : Leap) → l.first + l.fields ≤ length ss → length (passed_by ss l) ≡ l.fields
-count_passed ss l h = omega (arith, range_length ss l.first (l.first + l.fields) h)
 
 integer_kind : (kind : Kind) → forms.Integer ≡ inline_form kind → (kind ≡ kinds.Char) ⊎ ((kind ≡ kinds.Short) ⊎ ((kind ≡ kinds.Int) ⊎ (kind ≡ kinds.Long)))
 integer_kind kinds.Char e = inl refl
@@ -105,13 +101,20 @@ module _ (k : Classes) (levels : ℕ) (x : List ℕ) (end : ℕ) where
       let m = inline_there s i.form forms.Integer e tt in
       base_skipped s.kind x end at (integer_kind s.kind m.form) ∙ base_ends k s levels x end at (placed s i) forms.Integer m (λ q. cc)
 
-  pub integers_seen : (ss : List Slot) (at : ℕ) → AllByRecursion (IsSlot k) ss → AllByRecursion (λ s. s.form ≡ forms.Integer) ss → seen (run (times (length ss) integer) x end at) ≡ seen (row ss at)
+  each_integer_seen : (ss : List Slot) (at : ℕ) → AllByRecursion (IsSlot k) ss → AllByRecursion (λ s. s.form ≡ forms.Integer) ss → seen (run (times (length ss) integer) x end at) ≡ seen (row ss at)
   unfolding run
-  integers_seen [] at i e = refl
-  integers_seen (s ∷ ss) at i e =
+  each_integer_seen [] at i e = refl
+  each_integer_seen (s ∷ ss) at i e =
       seen-times (length ss) integer x end at
-      ∙ (then_same (seen (run integer x end at)) (seen (run (one s) x end at)) (λ p. seen (run (times (length ss) integer) x end p)) (λ p. seen (row ss p)) (integer_seen s at i.0 e.0) (λ p. integers_seen ss p i.1 e.1)
+      ∙ (then_same (seen (run integer x end at)) (seen (run (one s) x end at)) (λ p. seen (run (times (length ss) integer) x end p)) (λ p. seen (row ss p)) (integer_seen s at i.0 e.0) (λ p. each_integer_seen ss p i.1 e.1)
       ∙ sym (seen-for_each s ss one x end at))
+
+  pub integers_seen : (count : ℕ) (ss : List Slot) (at : ℕ) → AllByRecursion (IsSlot k) ss → AreIntegers count ss → seen (run (times count integer) x end at) ≡ seen (row ss at)
+  integers_seen count ss at i e = ap (λ n. seen (run (times n integer) x end at)) (sym e.0) ∙ each_integer_seen ss at i e.1
+
+  pub integer_alone : (ss : List Slot) (at : ℕ) → AllByRecursion (IsSlot k) ss → AreIntegers 1 ss → seen (run integer x end at) ≡ seen (row ss at)
+  unfolding run
+  integer_alone ss at i e = sym (seen-times 0 integer x end at ∙ then_at_ok (seen (run integer x end at))) ∙ integers_seen 1 ss at i e
 
   raw_one : (s : Slot) (count at : ℕ) → IsSlot k s → s.form ≡ forms.Raw count → at + count ≤ end → Ok (at + count) ≡ seen (run (one s) x end at)
   raw_one s count at i e l =
@@ -179,8 +182,8 @@ module _ (k : Classes) (levels : ℕ) (x : List ℕ) (end : ℕ) where
     all_raw [] count a = tt
     all_raw (s ∷ ss) count a = (inr (a.0, a.2), all_raw ss a.1 a.4)
 
-    pub integers_taken : (ss : List Slot) (at : ℕ) (a : A) → AllByRecursion (IsSlot k) ss → AllByRecursion (λ s. s.form ≡ forms.Integer) ss → TakesReadAll takes (row ss at) a a
-    integers_taken ss at a i e = plain_all ss at a i (all_integers ss e)
+    pub integers_taken : (count : ℕ) (ss : List Slot) (at : ℕ) (a : A) → AllByRecursion (IsSlot k) ss → AreIntegers count ss → TakesReadAll takes (row ss at) a a
+    integers_taken count ss at a i e = plain_all ss at a i (all_integers ss e.1)
 
     pub raw_taken : (ss : List Slot) (count at : ℕ) (a : A) → AllByRecursion (IsSlot k) ss → AreRaw count ss → TakesReadAll takes (row ss at) a a
     raw_taken ss count at a i e = plain_all ss at a i (all_raw ss count e)
@@ -221,7 +224,7 @@ module _ (k : Classes) (levels : ℕ) (x : List ℕ) (end : ℕ) where
     each = subst (AllByRecursion (IsSlot k)) f.all i
 
     begun_seen : (at : ℕ) → seen (run (times 2 integer) x end at) ≡ seen (row begun at)
-    begun_seen at = integers_seen begun at (each.0, (each.1.0, tt)) (f.start_is, (f.duration_is, tt))
+    begun_seen at = integers_seen 2 begun at (each.0, (each.1.0, tt)) (refl, (f.start_is, (f.duration_is, tt)))
 
     thread_seen : (at : ℕ) → seen (run integer x end at) ≡ seen (row (f.threads ∷ []) at)
     thread_seen at = key_seen thread (f.threads ∷ []) at (each.1.1.0, tt) (f.threads, refl, f.thread_is)
@@ -261,7 +264,7 @@ module _ (k : Classes) (levels : ℕ) (x : List ℕ) (end : ℕ) where
         → IfOk (run integer x end threads) (λ key. takes (thread, key.value) old now) → IfOk (run integer x end traces) (λ key. takes (trace, key.value) now new) → TakesReadAll takes (row ss at) old new
     front_taken takes at threads traces old now new p q h t =
         subst (λ z. TakesReadAll takes (row z at) old new) (sym f.all)
-        (both_taken one x end takes begun (f.threads ∷ f.traces ∷ []) at threads old old new (p ∙ begun_seen at) (integers_taken takes begun at old (each.0, (each.1.0, tt)) (f.start_is, (f.duration_is, tt)))
+        (both_taken one x end takes begun (f.threads ∷ f.traces ∷ []) at threads old old new (p ∙ begun_seen at) (integers_taken takes 2 begun at old (each.0, (each.1.0, tt)) (refl, (f.start_is, (f.duration_is, tt))))
         (both_taken one x end takes (f.threads ∷ []) (f.traces ∷ []) threads traces old now new (q ∙ thread_seen threads)
         (key_taken takes thread (f.threads ∷ []) threads old now (each.1.1.0, tt) (f.threads, refl, f.thread_is) h)
         (key_taken takes trace (f.traces ∷ []) traces now new (each.1.1.1.0, tt) (f.traces, refl, f.trace_is) t)))

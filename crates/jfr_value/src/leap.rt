@@ -11,7 +11,7 @@ ghost use Rattle.jfr_value.specs.Walks.{Room};
 
 use crate::Visit;
 use crate::extent::fields_end;
-use crate::integers::integers_end;
+use crate::integers::{integer_end, integers_end};
 use crate::keys::{key_end, text_end};
 use jfr_base::Flaw;
 use jfr_layout::{Classes, Leap, Over, Row};
@@ -42,8 +42,21 @@ pub(crate) fn leap_end<C, V: Visit<C>>(
     ensures ready { V.ready visitor.new with.now }
 {
     match leap.over {
-        Over::Front { thread, trace } => front_end(thread, trace, bytes, at, end, visitor, with),
-        Over::Integers => integers_end(bytes, at, end, leap.fields),
+        Over::Front { thread, trace } => {
+            front_end(
+                u64::from(thread),
+                u64::from(trace),
+                bytes,
+                at,
+                end,
+                visitor,
+                with,
+            )
+        }
+        Over::OneInteger => integer_end(bytes, at, end),
+        Over::TwoIntegers => integers_end(bytes, at, end, 2),
+        Over::ThreeIntegers => integers_end(bytes, at, end, 3),
+        Over::FourIntegers => integers_end(bytes, at, end, 4),
         Over::Raw(count) if usize::from(count) <= end - at => Ok(at + usize::from(count)),
         Over::Key(class) => key_end(class, bytes, at, end, visitor, with),
         Over::Text(class) => text_end(class, bytes, at, end, visitor, with),

@@ -1,25 +1,61 @@
-use Rattle.std.proofs.Common.{ap, arith, sym, ◌∙◌, ◌+◌}
+use Rattle.std.proofs.Common.{ap, arith, ◌∙◌, ◌+◌}
 use Rattle.std.specs.Prelude.{Ok}
-use Rattle.jfr_base.specs.Formats.{integer, run, seen, times}
 use Rattle.jfr_layout.specs.Classes.{IsSlot}
 use Rattle.jfr_layout.specs.Leaps.{passed_by}
-use Rattle.jfr_value.proofs.LeapLaws.{all_passed, count_passed, integers_seen, integers_taken, key_seen, key_taken, raw_seen, raw_taken, text_seen, text_taken_all}
+use Rattle.jfr_value.proofs.LeapLaws.{all_passed, integer_alone, integers_seen, integers_taken, key_seen, key_taken, raw_seen, raw_taken, text_seen, text_taken_all}
 use Rattle.jfr_value.proofs.leap.leap_end.Goals as goal
 
-pub returns-in-Integers-clause-exact : goal.returns-in-Integers-clause-exact
-returns-in-Integers-clause-exact g c =
+pub returns-in-OneInteger-clause-exact : goal.returns-in-OneInteger-clause-exact
+returns-in-OneInteger-clause-exact g c =
     let slots = c.args.row.now.slots.items in
     let leap = c.args.leap.now in
-    c.integers_end.ensures.exact
-    ∙ (ap (λ n. seen (run (times n integer) c.args.bytes.now c.args.end c.args.at)) (sym (count_passed slots leap c.requires.leap.within))
-    ∙ integers_seen c.args.classes.now c.args.levels c.args.bytes.now c.args.end (passed_by slots leap) c.args.at (all_passed (IsSlot c.args.classes.now) slots leap c.requires.slots) (rw c.in-Integers.is at c.requires.leap.passes))
+    c.integer_end.ensures.exact ∙ integer_alone c.args.classes.now c.args.levels c.args.bytes.now c.args.end (passed_by slots leap) c.args.at (all_passed (IsSlot c.args.classes.now) slots leap c.requires.slots) (rw c.in-OneInteger.is at c.requires.leap.passes)
 
-pub returns-in-Integers-clause-visited : goal.returns-in-Integers-clause-visited
-returns-in-Integers-clause-visited g c =
+pub returns-in-OneInteger-clause-visited : goal.returns-in-OneInteger-clause-visited
+returns-in-OneInteger-clause-visited g c =
     let slots = c.args.row.now.slots.items in
     let leap = c.args.leap.now in
-    integers_taken c.args.classes.now c.args.levels c.args.bytes.now c.args.end (g.V.Visit.takes c.args.with.now) (passed_by slots leap) c.args.at c.args.visitor.now
-    (all_passed (IsSlot c.args.classes.now) slots leap c.requires.slots) (rw c.in-Integers.is at c.requires.leap.passes)
+    integers_taken c.args.classes.now c.args.levels c.args.bytes.now c.args.end (g.V.Visit.takes c.args.with.now) 1 (passed_by slots leap) c.args.at c.args.visitor.now
+    (all_passed (IsSlot c.args.classes.now) slots leap c.requires.slots) (rw c.in-OneInteger.is at c.requires.leap.passes)
+
+pub returns-in-TwoIntegers-clause-exact : goal.returns-in-TwoIntegers-clause-exact
+returns-in-TwoIntegers-clause-exact g c =
+    let slots = c.args.row.now.slots.items in
+    let leap = c.args.leap.now in
+    c.integers_end.ensures.exact ∙ integers_seen c.args.classes.now c.args.levels c.args.bytes.now c.args.end 2 (passed_by slots leap) c.args.at (all_passed (IsSlot c.args.classes.now) slots leap c.requires.slots) (rw c.in-TwoIntegers.is at c.requires.leap.passes)
+
+pub returns-in-TwoIntegers-clause-visited : goal.returns-in-TwoIntegers-clause-visited
+returns-in-TwoIntegers-clause-visited g c =
+    let slots = c.args.row.now.slots.items in
+    let leap = c.args.leap.now in
+    integers_taken c.args.classes.now c.args.levels c.args.bytes.now c.args.end (g.V.Visit.takes c.args.with.now) 2 (passed_by slots leap) c.args.at c.args.visitor.now
+    (all_passed (IsSlot c.args.classes.now) slots leap c.requires.slots) (rw c.in-TwoIntegers.is at c.requires.leap.passes)
+
+pub returns-in-ThreeIntegers-clause-exact : goal.returns-in-ThreeIntegers-clause-exact
+returns-in-ThreeIntegers-clause-exact g c =
+    let slots = c.args.row.now.slots.items in
+    let leap = c.args.leap.now in
+    c.integers_end-in-ThreeIntegers.ensures.exact ∙ integers_seen c.args.classes.now c.args.levels c.args.bytes.now c.args.end 3 (passed_by slots leap) c.args.at (all_passed (IsSlot c.args.classes.now) slots leap c.requires.slots) (rw c.in-ThreeIntegers.is at c.requires.leap.passes)
+
+pub returns-in-ThreeIntegers-clause-visited : goal.returns-in-ThreeIntegers-clause-visited
+returns-in-ThreeIntegers-clause-visited g c =
+    let slots = c.args.row.now.slots.items in
+    let leap = c.args.leap.now in
+    integers_taken c.args.classes.now c.args.levels c.args.bytes.now c.args.end (g.V.Visit.takes c.args.with.now) 3 (passed_by slots leap) c.args.at c.args.visitor.now
+    (all_passed (IsSlot c.args.classes.now) slots leap c.requires.slots) (rw c.in-ThreeIntegers.is at c.requires.leap.passes)
+
+pub returns-in-FourIntegers-clause-exact : goal.returns-in-FourIntegers-clause-exact
+returns-in-FourIntegers-clause-exact g c =
+    let slots = c.args.row.now.slots.items in
+    let leap = c.args.leap.now in
+    c.integers_end-in-FourIntegers.ensures.exact ∙ integers_seen c.args.classes.now c.args.levels c.args.bytes.now c.args.end 4 (passed_by slots leap) c.args.at (all_passed (IsSlot c.args.classes.now) slots leap c.requires.slots) (rw c.in-FourIntegers.is at c.requires.leap.passes)
+
+pub returns-in-FourIntegers-clause-visited : goal.returns-in-FourIntegers-clause-visited
+returns-in-FourIntegers-clause-visited g c =
+    let slots = c.args.row.now.slots.items in
+    let leap = c.args.leap.now in
+    integers_taken c.args.classes.now c.args.levels c.args.bytes.now c.args.end (g.V.Visit.takes c.args.with.now) 4 (passed_by slots leap) c.args.at c.args.visitor.now
+    (all_passed (IsSlot c.args.classes.now) slots leap c.requires.slots) (rw c.in-FourIntegers.is at c.requires.leap.passes)
 
 pub returns-in-Raw-clause-exact : goal.returns-in-Raw-clause-exact
 returns-in-Raw-clause-exact g c =
@@ -27,7 +63,7 @@ returns-in-Raw-clause-exact g c =
     let leap = c.args.leap.now in
     ap (λ n. Ok (c.args.at + n)) c.from-in-Raw.ensures
     ∙ raw_seen c.args.classes.now c.args.levels c.args.bytes.now c.args.end (passed_by slots leap) c.in-Raw.count c.args.at (all_passed (IsSlot c.args.classes.now) slots leap c.requires.slots) (rw c.in-Raw.is at c.requires.leap.passes)
-    (omega (arith, c.if-from-end.true, c.from.ensures, c.requires.order))
+    (omega (arith, c.if-from-end.true, c.from-in-Raw-1.ensures, c.requires.order))
 
 pub returns-in-Raw-clause-visited : goal.returns-in-Raw-clause-visited
 returns-in-Raw-clause-visited g c =
