@@ -50,6 +50,7 @@ fn groups_end(bytes: &[u8], at: usize) -> usize
 pub(crate) fn integers_end(bytes: &[u8], at: usize, end: usize, count: usize) -> Result<usize, Flaw>
     requires order { at ≤ end }
     requires within { end ≤ length bytes.now }
+    requires few { count ≤ 4 }
     ensures exact { result ≡ seen (run (times count integer) bytes.now end at) }
     ensures range { IfOk result (λ to. (at ≤ to) × (to ≤ end)) }
 {
@@ -59,27 +60,29 @@ pub(crate) fn integers_end(bytes: &[u8], at: usize, end: usize, count: usize) ->
     }
 }
 
-/// The same, where one look shows the last groups of all.
+/// The same, where one look shows the last groups of all. Whether it showed them is tested once, behind
+/// the last integer: until then one may seem to end past the vector.
 #[inline(always)]
 fn integers_at_once(bytes: &[u8], at: usize, end: usize, count: usize) -> Option<usize>
     requires order { at ≤ end }
     requires within { end ≤ length bytes.now }
+    requires few { count ≤ 4 }
     ensures exact { IfSome result (λ to. Ok to ≡ seen (run (times count integer) bytes.now end at)) }
     ensures range { IfSome result (λ to. (at ≤ to) × (to ≤ end)) }
 {
     if at >= bytes.len().saturating_sub(VECTOR - 1) {
         return None;
     }
-    let room = (end - at).min(VECTOR);
     let lasts = last_groups(bytes, at);
     let mut passed = 0;
     for _ in 0..count {
         passed += groups_with_more(lasts, passed) + 1;
-        if passed > room {
-            return None;
-        }
     }
-    Some(at + passed)
+    let to = at + passed;
+    if passed > VECTOR || to > end {
+        return None;
+    }
+    Some(to)
 }
 
 /// The same, one integer after another. What the call answers is taken apart here, as in
@@ -124,7 +127,7 @@ fn last_groups(bytes: &[u8], at: usize) -> u64
 /// of the last groups. There are at most as many as an integer has of seven bits.
 #[inline(always)]
 fn groups_with_more(lasts: u64, from: usize) -> usize
-    requires from { from ≤ 16 }
+    requires from { from < 64 }
     ensures range { result ≤ 8 }
     ensures more { (k : ℕ) → k < result → bit_at lasts (from + k) ≡ 0 }
     ensures last { result < 8 → bit_at lasts (from + result) ≡ 1 }
