@@ -1,8 +1,7 @@
 -- Records, and what events refer to, are no more than the bytes of a chunk up to them.
-use Rattle.std.specs.Prelude.{◌≡◌, ℕ, suc, ◌+◌, ◌^◌, ◌<◌, ◌≤◌, List, [], ◌∷◌, ◌++◌, drop, length, Option, Some, None, Ok, Err, slice_get}
+use Rattle.std.specs.Prelude.{◌≡◌, ℕ, suc, ◌+◌, ◌^◌, ◌<◌, ◌≤◌, List, [], ◌∷◌, drop, length, Option, Some, None, Ok, Err, slice_get}
 use Rattle.std.specs.List.{cons_option, filter_map}
-use Rattle.std.proofs.Common.{ap, arith, refl, ◌∙◌, subst}
-use Rattle.std.proofs.lemmas.List.{length-append}
+use Rattle.std.proofs.Common.{ap, arith, refl, subst}
 use Rattle.jfr_base.specs.Formats.{Answer, run, seen}
 use Rattle.jfr_base.proofs.Exact.{Says, run_says}
 use Rattle.jfr_header.specs.Fronts.{Whole}
@@ -96,7 +95,7 @@ module _ (k : Classes) (sound : Sound k) (c : List ℕ) where
 
     -- the fields of an event end in its record, and refer to at most as many entries as that has bytes
     record FieldsWithin (r : Framed) (end : ℕ) : Type 0 where
-      within : end ≤ length c
+      within : end ≤ record_end r
       few : length (node_entries es k c (node_at (inline r.type_id) r.body end)) ≤ r.size
 
     fields_within : (r : Framed) (end : ℕ) → IsRecord c r → Ok end ≡ seen (run (value_format k (inline r.type_id)) c (record_end r) r.body) → FieldsWithin r end
@@ -111,23 +110,20 @@ module _ (k : Classes) (sound : Sound k) (c : List ℕ) where
             let w : end ≤ record_end r = subst (λ z. z ≤ record_end r) p m.1 in
             let a = references_few (node_at (inline r.type_id) r.body end) g.value n in
             let b = leaves_few r (node_at (inline r.type_id) r.body end) g.value i refl w n in
-            let x : record_end r ≤ length c = i.within in
-            record { within = omega arith; few = omega arith }
+            record { within = w; few = omega arith }
 
-    -- what is kept of an event has 32 bits, and the next record is counted
-    pub record CountedEvent (rs : List Framed) (n end : ℕ) (more : List ℕ) : Type 0 where
-      pub end_fits : end < 2 ^ 32
+    -- the fields of an event end in its record, and what is noted up to it has 32 bits; the next record is counted
+    pub record CountedEvent (rs : List Framed) (n end : ℕ) (r : Framed) (more : List ℕ) : Type 0 where
+      pub within : end ≤ record_end r
       pub numbers_fit : length more < 2 ^ 32
       pub counted : Counted c rs (n + 1) (length more)
 
     pub counted_event : (rs : List Framed) (n end : ℕ) (r : Framed) (numbers more : List ℕ) → Whole c → AreRecords c rs → slice_get rs n ≡ Some r → Ok end ≡ seen (run (value_format k (inline r.type_id)) c (record_end r) r.body)
-        → more ≡ numbers ++ node_entries es k c (node_at (inline r.type_id) r.body end) → Counted c rs n (length numbers) → CountedEvent rs n end more
+        → length more ≤ length numbers + length (node_entries es k c (node_at (inline r.type_id) r.body end)) → Counted c rs n (length numbers) → CountedEvent rs n end r more
     counted_event rs n end r numbers more w t g e m h =
         let f = fields_within r end (record_of c rs n r t g) e in
         let x = f.few in
-        let y = f.within in
         let z = whole_small c w in
-        let l : length more ≡ length numbers + length (node_entries es k c (node_at (inline r.type_id) r.body end)) = ap length m ∙ length-append numbers (node_entries es k c (node_at (inline r.type_id) r.body end)) in
         let i : Counted c rs (n + 1) (length more) = counted_next c rs n (length numbers) (length more) r g (omega arith) h in
         let o = counted_within c rs (n + 1) (length more) i in
-        record { end_fits = omega arith; numbers_fit = omega (arith, o.numbers); counted = i }
+        record { within = f.within; numbers_fit = omega (arith, o.numbers); counted = i }

@@ -1,13 +1,14 @@
 -- The events of a chunk, read one after another.
-use Rattle.std.specs.Prelude.{◌≡◌, ℕ, zero, suc, ◌+◌, ◌≤◌, Bool, true, false, List, [], ◌∷◌, ◌++◌, length, map, drop, slice_get, Option, Some, None, Ok, Err, IsSome, cond, nat_lt, ◌&&◌, option_map}
+use Rattle.std.specs.Prelude.{◌≡◌, ℕ, zero, suc, ◌+◌, ◌≤◌, true, false, List, [], ◌∷◌, ◌++◌, length, map, drop, slice_get, Some, Ok, Err, cond}
 use Rattle.std.specs.List.{AllByRecursion, filter_map, cons_option}
-use Rattle.std.specs.Option.{option_map_or}
+use Rattle.std.specs.BTreeMap as tree
+use Rattle.std.specs.BTreeMap.{BTreeMap}
 use Rattle.std.proofs.Common.{ap, arith, refl, sym, ◌∙◌, subst, append_assoc, add-one}
 use Rattle.std.proofs.lemmas.List.{map-append, append-nil}
 use Rattle.std.proofs.lemmas.List.Elements.{All-from_recursion}
 use Rattle.jfr_base.specs.declared.flaw.Flaw.{Flaw}
 use Rattle.jfr_base.specs.Formats.{Answer, run, seen}
-use Rattle.jfr_layout.specs.Classes.{Class, Classes, find_class, extends_event, is_event_class}
+use Rattle.jfr_layout.specs.Classes.{Classes, is_event_class}
 use Rattle.jfr_frame.specs.declared.framed.Framed.{Framed}
 use Rattle.jfr_frame.specs.Records.{IsRecord, AreRecords, record_end}
 use Rattle.jfr_value.specs.Values.{Value}
@@ -19,6 +20,7 @@ use Rattle.jfr_chunk.specs.Refusal.{fields_by, events_checked}
 use Rattle.jfr_chunk.specs.Seen.{event_with, event_kept}
 use Rattle.jfr_chunk.specs.Stages.{AreFields, IsRefusedEvents}
 use Rattle.jfr_chunk.proofs.AllLaws.{all_get, filter_all}
+use Rattle.jfr_chunk.proofs.EndLaws.{AreBefore, EndIs, before_none, before_other, before_event, same_events, this_event}
 use Rattle.jfr_chunk.proofs.StandingLaws.{tiles_each}
 use Rattle.jfr_chunk.proofs.StageLaws.{EventsTell, events_tell}
 
@@ -44,15 +46,17 @@ module _ (c : List ℕ) (k : Classes) (rs : List Framed) where
   all = event_records k rs
 
   -- the events up to a record are read: the flaw and the events are those of the rest behind these
-  pub record Pending (left : List Framed) (fields : List FieldsAt) : Type 0 where
+  pub record Pending (left : List Framed) (early : BTreeMap ℕ ℕ) (fields : List FieldsAt) : Type 0 where
     pub checked : events_checked c k all left ≡ events_checked c k all all
-    pub listed : map (event_kept rs) fields ++ map Some (filter_map (event_of c k) left) ≡ map Some (filter_map (event_of c k) all)
+    pub listed : map (event_kept rs early) fields ++ map Some (filter_map (event_of c k) left) ≡ map Some (filter_map (event_of c k) all)
 
-  abbrev pub ReadTo : ℕ → List FieldsAt → Type 0
-  ReadTo n fields = Pending (event_records k (drop n rs)) fields
+  -- those of the records before a number are read, and nothing is kept of the others
+  pub record ReadTo (n : ℕ) (early : BTreeMap ℕ ℕ) (fields : List FieldsAt) : Type 0 where
+    pub pending : Pending (event_records k (drop n rs)) early fields
+    pub before : AreBefore n early fields
 
-  pub read_none : (fields : List FieldsAt) → fields ≡ [] → ReadTo 0 fields
-  read_none fields e = subst (Pending all) (sym e) (record { checked = refl; listed = refl })
+  pub read_none : (early : BTreeMap ℕ ℕ) (fields : List FieldsAt) → tree.IsEmpty early → fields ≡ [] → ReadTo 0 early fields
+  read_none early fields h e = record { pending = subst (Pending all early) (sym e) (record { checked = refl; listed = refl }); before = before_none early fields h e }
 
   left_at : (n : ℕ) (r : Framed) → slice_get rs n ≡ Some r → event_records k (drop n rs) ≡ cond (is_event_class k r.type_id) (r ∷ event_records k (drop (n + 1) rs)) (event_records k (drop (n + 1) rs))
   left_at n r e = ap (event_records k) (drop_at rs n r e)
@@ -64,33 +68,39 @@ module _ (c : List ℕ) (k : Classes) (rs : List Framed) where
   left_event n r e f = left_at n r e ∙ ap (λ b. cond b (r ∷ event_records k (drop (n + 1) rs)) (event_records k (drop (n + 1) rs))) f
 
   -- a record that is no event
-  pub read_other : (n : ℕ) (fields : List FieldsAt) (r : Framed) → slice_get rs n ≡ Some r → is_event_class k r.type_id ≡ false → ReadTo n fields → ReadTo (n + 1) fields
-  read_other n fields r e f p = subst (λ left. Pending left fields) (left_other n r e f) p
+  pub read_other : (n : ℕ) (early : BTreeMap ℕ ℕ) (fields : List FieldsAt) (r : Framed) → slice_get rs n ≡ Some r → is_event_class k r.type_id ≡ false → ReadTo n early fields → ReadTo (n + 1) early fields
+  read_other n early fields r e f p = record { pending = subst (λ left. Pending left early fields) (left_other n r e f) p.pending; before = before_other n early fields p.before }
 
   abbrev answer : Framed → Answer Value
   answer r = run (value_format k (inline r.type_id)) c (record_end r) r.body
 
   -- an event whose fields stand
-  pub read_event : (n : ℕ) (fields : List FieldsAt) (r : Framed) (end noted : ℕ) → slice_get rs n ≡ Some r → is_event_class k r.type_id ≡ true → Ok end ≡ seen (answer r) → ReadTo n fields
-      → ReadTo (n + 1) (fields ++ record { «record» = n; end = end; noted = noted } ∷ [])
-  read_event n fields r end noted e f s p = by_answer (answer r) refl s (subst (λ left. Pending left fields) (left_event n r e f) p)
+  pub read_event : (n : ℕ) (early later : BTreeMap ℕ ℕ) (fields : List FieldsAt) (r : Framed) (end noted : ℕ) → slice_get rs n ≡ Some r → is_event_class k r.type_id ≡ true → Ok end ≡ seen (answer r) → EndIs early later n r end → ReadTo n early fields
+      → ReadTo (n + 1) later (fields ++ record { «record» = n; noted = noted } ∷ [])
+  read_event n early later fields r end noted e f s i p = record {
+    pending = by_answer (answer r) refl s p.before (subst (λ left. Pending left early fields) (left_event n r e f) p.pending);
+    before = before_event n end early later fields this r refl i p.before;
+  }
     where
       rest : List Framed
       rest = event_records k (drop (n + 1) rs)
 
-      by_answer : (a : Answer Value) → answer r ≡ a → Ok end ≡ seen a → Pending (r ∷ rest) fields → Pending rest (fields ++ record { «record» = n; end = end; noted = noted } ∷ [])
-      by_answer (Err flaw) q s p = cc
-      by_answer (Ok g) q s p =
+      this : FieldsAt
+      this = record { «record» = n; noted = noted }
+
+      by_answer : (a : Answer Value) → answer r ≡ a → Ok end ≡ seen a → AreBefore n early fields → Pending (r ∷ rest) early fields → Pending rest later (fields ++ this ∷ [])
+      by_answer (Err flaw) q s b p = cc
+      by_answer (Ok g) q s b p =
           let t : end ≡ g.place = cc in
-          let m : option_map (event_with end) (slice_get rs n) ≡ event_by r (Ok g) = ap (option_map (event_with end)) e ∙ ap (λ z. Some (event_with z r)) t in
           let o : event_of c k r ≡ Some (event_with end r) = ap (event_by r) q ∙ ap (λ z. Some (event_with z r)) (sym t) in
           record {
             checked = sym (ap (λ a. fields_by a (events_checked c k all rest)) q) ∙ p.checked;
             listed =
-                ap (λ z. z ++ map Some (filter_map (event_of c k) rest)) (map-append (event_kept rs) fields (record { «record» = n; end = end; noted = noted } ∷ []))
-                ∙ append_assoc (map (event_kept rs) fields) (event_kept rs (record { «record» = n; end = end; noted = noted }) ∷ []) (map Some (filter_map (event_of c k) rest))
-                ∙ ap (λ z. map (event_kept rs) fields ++ z ∷ map Some (filter_map (event_of c k) rest)) (ap (option_map (event_with end)) e)
-                ∙ ap (λ z. map (event_kept rs) fields ++ map Some (cons_option z (filter_map (event_of c k) rest))) (sym o)
+                ap (λ z. z ++ map Some (filter_map (event_of c k) rest)) (map-append (event_kept rs later) fields (this ∷ []))
+                ∙ append_assoc (map (event_kept rs later) fields) (event_kept rs later this ∷ []) (map Some (filter_map (event_of c k) rest))
+                ∙ ap (λ z. z ++ event_kept rs later this ∷ map Some (filter_map (event_of c k) rest)) (same_events rs early later n end r i fields b.each)
+                ∙ ap (λ z. map (event_kept rs early) fields ++ z ∷ map Some (filter_map (event_of c k) rest)) (this_event rs early later n end r i this refl e)
+                ∙ ap (λ z. map (event_kept rs early) fields ++ map Some (cons_option z (filter_map (event_of c k) rest))) (sym o)
                 ∙ p.listed;
           }
 
@@ -98,21 +108,21 @@ module _ (c : List ℕ) (k : Classes) (rs : List Framed) where
   each t = filter_all (IsRecord c) (λ r. is_event_class k r.type_id) rs (tiles_each c 68 (length c) rs t)
 
   -- an event whose fields don't stand
-  pub read_stops : (n : ℕ) (fields : List FieldsAt) (r : Framed) (flaw : Flaw) → AreRecords c rs → slice_get rs n ≡ Some r → is_event_class k r.type_id ≡ true → Err flaw ≡ seen (answer r) → ReadTo n fields → IsRefusedEvents c k rs flaw
-  read_stops n fields r flaw t e f s p = subst (EventsTell c k all all) (by_answer (answer r) refl s (subst (λ left. Pending left fields) (left_event n r e f) p)) (events_tell c k all all (each t))
+  pub read_stops : (n : ℕ) (early : BTreeMap ℕ ℕ) (fields : List FieldsAt) (r : Framed) (flaw : Flaw) → AreRecords c rs → slice_get rs n ≡ Some r → is_event_class k r.type_id ≡ true → Err flaw ≡ seen (answer r) → ReadTo n early fields → IsRefusedEvents c k rs flaw
+  read_stops n early fields r flaw t e f s p = subst (EventsTell c k all all) (by_answer (answer r) refl s (subst (λ left. Pending left early fields) (left_event n r e f) p.pending)) (events_tell c k all all (each t))
     where
       rest : List Framed
       rest = event_records k (drop (n + 1) rs)
 
-      by_answer : (a : Answer Value) → answer r ≡ a → Err flaw ≡ seen a → Pending (r ∷ rest) fields → events_checked c k all all ≡ Err flaw
+      by_answer : (a : Answer Value) → answer r ≡ a → Err flaw ≡ seen a → Pending (r ∷ rest) early fields → events_checked c k all all ≡ Err flaw
       by_answer (Ok g) q s p = cc
       by_answer (Err other) q s p = let h : other ≡ flaw = cc in sym p.checked ∙ (ap (λ a. fields_by a (events_checked c k all rest)) q ∙ ap (λ z. Err z) h)
 
   -- all are read
-  pub read_all : (n : ℕ) (fields : List FieldsAt) → AreRecords c rs → length rs ≤ n → ReadTo n fields → AreFields c k rs fields
-  read_all n fields t h p =
-      let q : Pending [] fields = subst (λ left. Pending left fields) (ap (event_records k) (drop_past rs n h)) p in
+  pub read_all : (n : ℕ) (early : BTreeMap ℕ ℕ) (fields : List FieldsAt) → AreRecords c rs → length rs ≤ n → ReadTo n early fields → AreFields c k rs fields early
+  read_all n early fields t h p =
+      let q : Pending [] early fields = subst (λ left. Pending left early fields) (ap (event_records k) (drop_past rs n h)) p.pending in
       record {
         stand = All-from_recursion (HasFields c k) all (subst (EventsTell c k all all) (sym q.checked) (events_tell c k all all (each t)));
-        listed = sym (append-nil (map (event_kept rs) fields)) ∙ q.listed;
+        listed = sym (append-nil (map (event_kept rs early) fields)) ∙ q.listed;
       }

@@ -2,6 +2,7 @@
 use Rattle.std.specs.Prelude.{◌≡◌, ℕ, suc, ◌+◌, ◌<◌, ◌≤◌, Bool, true, false, not, ◌||◌, ◌&&◌, ◌==◌, nat_lt, List, [], ◌∷◌, length, filter, map, reverse, Some, cond, ◌⊎◌}
 use Rattle.std.specs.List.{AllByRecursion, filter_map, cons_option, list_any}
 use Rattle.std.specs.Option.{option_map_or}
+use Rattle.std.specs.BTreeMap.{BTreeMap}
 use Rattle.std.proofs.Common.{ap, arith, refl, sym, ◌∙◌, inl, inr}
 use Rattle.std.proofs.lemmas.List.{length-reverse}
 use Rattle.std.proofs.lemmas.List.Elements.{recursion_from_All}
@@ -143,16 +144,16 @@ count_events c k (r ∷ rs) a h =
     ∙ ap suc (count_events c k rs a.1 h.1)
 
 -- what is left when the events, the metadata record and the chained checkpoints are taken away
-pub inert_counted : (p : Parts) (fields : List FieldsAt) (ls : List Link) → AreParts p → p.chain ≡ reverse ls → map (event_kept p.records) fields ≡ map Some (events_of p) → length (filter (is_inert p) p.records) + (length fields + (1 + length ls)) ≡ length p.records
+pub inert_counted : (p : Parts) (early : BTreeMap ℕ ℕ) (fields : List FieldsAt) (ls : List Link) → AreParts p → p.chain ≡ reverse ls → map (event_kept p.records early) fields ≡ map Some (events_of p) → length (filter (is_inert p) p.records) + (length fields + (1 + length ls)) ≡ length p.records
 unfolding events_of
-inert_counted p fields ls a r e =
+inert_counted p early fields ls a r e =
     let n : length p.chain ≡ length ls = ap length r ∙ length-reverse ls in
     let left : length (filter (is_inert p) p.records) + count (λ r. is_named r || linked p.chain r) p.records ≡ length p.records = count_not (λ r. is_named r || linked p.chain r) p.records in
     let both = count_or is_named (linked p.chain) p.records named_linked in
     let named = count_or is_event is_metadata p.records event_metadata in
     let m : count is_metadata p.records ≡ 1 = count_place is_metadata (metadata_at p.bytes) (λ r e. starts r.at (metadata_at p.bytes) e) (λ r e. is_eq r.at (metadata_at p.bytes) e) 0 p.records a.metadata_record rising (contains_in p.records a.metadata_record a.metadata_there.listed) a.metadata_there.place in
     let l : count (linked p.chain) p.records ≡ length p.chain = count_chain p.bytes p.records each rising (pools_at p.bytes) p.chain a.chain in
-    let f : length fields ≡ length (filter_map (event_of p.bytes p.classes) (event_records p.classes p.records)) = each_length (event_kept p.records) fields (filter_map (event_of p.bytes p.classes) (event_records p.classes p.records)) e in
+    let f : length fields ≡ length (filter_map (event_of p.bytes p.classes) (event_records p.classes p.records)) = each_length (event_kept p.records early) fields (filter_map (event_of p.bytes p.classes) (event_records p.classes p.records)) e in
     let v : length (filter_map (event_of p.bytes p.classes) (event_records p.classes p.records)) ≡ count is_event p.records = count_events p.bytes p.classes (event_records p.classes p.records) (filter_all (IsRecord p.bytes) is_event p.records each) (recursion_from_All (HasFields p.bytes p.classes) (event_records p.classes p.records) a.events) in
     omega (arith, left, both, named, m, l, f, v, n)
   where

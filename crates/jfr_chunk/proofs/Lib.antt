@@ -5,6 +5,7 @@ pub mod AllLaws
 pub mod AnswerLaws
 pub mod BoundLaws
 pub mod CountLaws
+mod EndLaws
 pub mod ForceLaws
 mod InertLaws
 mod KeptLaws

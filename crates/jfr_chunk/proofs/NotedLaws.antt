@@ -1,6 +1,8 @@
 -- Numbers that are noted one after another, and those of one event among them.
 use Rattle.std.specs.Prelude.{◌≡◌, ℕ, zero, suc, ◌+◌, ◌-◌, ◌<◌, ◌≤◌, ◌⊎◌, List, [], ◌∷◌, ◌++◌, length, take, drop, slice_get, slice_range, Option, Some, None, option_map, Result, Ok, Err, IfOk, MatchOption}
 use Rattle.std.specs.Option.{option_map_or}
+use Rattle.std.specs.List.{AllByRecursion}
+use Rattle.std.specs.BTreeMap.{BTreeMap}
 use Rattle.std.proofs.Common.{ap, arith, refl, sym, ◌∙◌, subst, append_assoc, inl, inr, Bor}
 use Rattle.std.proofs.Math.Seq.{drop-append_seam, take-append_seam}
 use Rattle.std.proofs.lemmas.List.{append-nil, length-append}
@@ -16,7 +18,8 @@ use Rattle.jfr_chunk.specs.declared.notes.Notes.{Notes}
 use Rattle.jfr_chunk.specs.Notes.{Noted}
 use Rattle.jfr_chunk.specs.Parts.{EventAt}
 use Rattle.jfr_chunk.specs.Reach.{add, node_entries, those}
-use Rattle.jfr_chunk.specs.Seen.{AreNoted, due, event_with}
+use Rattle.jfr_chunk.specs.Seen.{AreNoted, due}
+use Rattle.jfr_chunk.proofs.EndLaws.{EndIs, same_event, this_event}
 
 -- what lists have, one behind another
 pub those_append : {A B : Type 0} (f : A → Option B) (xs ys : List A) → those f (xs ++ ys) ≡ those f xs ++ those f ys
@@ -28,12 +31,13 @@ those_append {B = B} f (x ∷ xs) ys = by_value (f x) (those_append f xs ys)
     by_value (Some y) e = ap (λ z. y ∷ z) e
 
 noted_none : (a : Notes) → Noted [] a a
-noted_none a = record { lacked_none = λ h. h; appended = λ h. sym (append-nil a.numbers.items) }
+noted_none a = record { lacked_none = λ h. h; appended = λ h. sym (append-nil a.numbers.items); few = omega arith }
 
 noted_then : (xs ys : List ℕ) (a b c : Notes) → Noted xs a b → Noted ys b c → Noted (xs ++ ys) a c
 noted_then xs ys a b c p q = record {
   lacked_none = λ h. p.lacked_none (q.lacked_none h);
   appended = λ h. q.appended h ∙ (ap (λ z. z ++ ys) (p.appended (q.lacked_none h)) ∙ append_assoc a.numbers.items xs ys);
+  few = let l = length-append xs ys in let m = p.few in let n = q.few in omega arith;
 }
 
 -- targets that are taken note the numbers of their entries
@@ -127,13 +131,22 @@ pub all_noted : (es : List EntryAt) (ts : ℕ → List (ℕ × ℕ)) (old new : 
 all_noted es ts old new (Ok to) h = takes_noted es (ts to) old new h
 all_noted es ts old new (Err flaw) h = h
 
+-- numbers that are due by another count are the same
+due_same : (due other : FieldsAt → List ℕ) (P : FieldsAt → Type 0) → ((f : FieldsAt) → P f → other f ≡ due f) → (from : ℕ) (fs : List FieldsAt) (numbers : List ℕ) → AllByRecursion P fs → AreNoted due from fs numbers → AreNoted other from fs numbers
+due_same due other P same from [] numbers p a = a
+due_same due other P same from (f ∷ fs) numbers p a =
+    let e = sym (same f p.0) in
+    (a.0, a.1 ∙ ap (λ z. z ++ a.0) e, a.2 ∙ ap (λ z. from + length z) e, due_same due other P same f.noted fs a.0 p.1 a.3)
+
 -- the fields of an event are read, and what they refer to is noted
-pub event_noted : (es : List EntryAt) (k : Classes) (c : List ℕ) (rs : List Framed) (n end noted : ℕ) (r : Framed) (fields : List FieldsAt) (numbers more : List ℕ) → slice_get rs n ≡ Some r
-    → more ≡ numbers ++ node_entries es k c (node_at (inline r.type_id) r.body end) → noted ≡ length more → AreNoted (due es k c rs) 0 fields numbers
-    → AreNoted (due es k c rs) 0 (fields ++ record { «record» = n; end = end; noted = noted } ∷ []) more
-event_noted es k c rs n end noted r fields numbers more e x y a =
-    let f : FieldsAt = record { «record» = n; end = end; noted = noted } in
-    let d : due es k c rs f ≡ node_entries es k c (node_at (inline r.type_id) r.body end) = ap (λ o. option_map_or (λ (e : EventAt). node_entries es k c e.node) (option_map (event_with end) o) []) e in
-    let m : more ≡ numbers ++ due es k c rs f = x ∙ ap (λ z. numbers ++ z) (sym d) in
-    let l : noted ≡ 0 + length (numbers ++ due es k c rs f) = (let l = ap length m in omega arith) in
-    subst (AreNoted (due es k c rs) 0 (fields ++ f ∷ [])) (sym m) (noted_more (due es k c rs) 0 fields numbers f a l)
+pub event_noted : (es : List EntryAt) (k : Classes) (c : List ℕ) (rs : List Framed) (early later : BTreeMap ℕ ℕ) (n end noted : ℕ) (r : Framed) (fields : List FieldsAt) (numbers more : List ℕ) → slice_get rs n ≡ Some r → EndIs early later n r end → AllByRecursion (λ (f : FieldsAt). f.record < n) fields
+    → more ≡ numbers ++ node_entries es k c (node_at (inline r.type_id) r.body end) → noted ≡ length more → AreNoted (due es k c rs early) 0 fields numbers
+    → AreNoted (due es k c rs later) 0 (fields ++ record { «record» = n; noted = noted } ∷ []) more
+event_noted es k c rs early later n end noted r fields numbers more e i before x y a =
+    let f : FieldsAt = record { «record» = n; noted = noted } in
+    let refers = λ (o : Option EventAt). option_map_or (λ (e : EventAt). node_entries es k c e.node) o [] in
+    let b = due_same (due es k c rs early) (due es k c rs later) (λ (f : FieldsAt). f.record < n) (λ f h. ap refers (same_event rs early later n end r i f h)) 0 fields numbers before a in
+    let d : due es k c rs later f ≡ node_entries es k c (node_at (inline r.type_id) r.body end) = ap refers (this_event rs early later n end r i f refl e) in
+    let m : more ≡ numbers ++ due es k c rs later f = x ∙ ap (λ z. numbers ++ z) (sym d) in
+    let l : noted ≡ 0 + length (numbers ++ due es k c rs later f) = (let l = ap length m in omega arith) in
+    subst (AreNoted (due es k c rs later) 0 (fields ++ f ∷ [])) (sym m) (noted_more (due es k c rs later) 0 fields numbers f b l)

@@ -1,6 +1,7 @@
 -- Reading a chunk, stage by stage: what each refuses refuses the chunk, and all together give its parts.
 use Rattle.std.specs.Prelude.{◌≡◌, ℕ, ◌≤◌, List, length, take, reverse, IsTrue, Option, Some, None, Result, Ok, Err, IfErr, MatchResult}
 use Rattle.std.specs.List.{AllByRecursion}
+use Rattle.std.specs.BTreeMap.{BTreeMap}
 use Rattle.std.specs.Result.{IsErr}
 use Rattle.std.proofs.Common.{ap, refl, sym, subst}
 use Rattle.std.proofs.lemmas.List.{reverse-reverse}
@@ -156,9 +157,9 @@ module _ (c : List ℕ) (h : Header) (rs : List Framed) (m : Framed) (n : Named 
           pub entries_within : length es ≤ length c
           entries_within = entries_few c rs n.records (pools_at c) (reverse ls) links k (described_sound b k d.classes) es there
 
-          pub indexed : (fields : List FieldsAt) (numbers : List ℕ) → Whole c → AreFields c k rs fields → AreNoted (due es k c rs) 0 fields numbers → IsIndexed (parts_in c rs ls b k es) h m fields numbers
+          pub indexed : (fields : List FieldsAt) (early : BTreeMap ℕ ℕ) (numbers : List ℕ) → Whole c → AreFields c k rs fields early → AreNoted (due es k c rs early) 0 fields numbers → IsIndexed (parts_in c rs ls b k es) h m fields early numbers
           unfolding events_of
-          indexed fields numbers whole f noted = record {
+          indexed fields early numbers whole f noted = record {
             whole = whole;
             parts = record { records = n.records; chain = links; metadata_record = m; metadata_there = metadata_there; metadata = d; entries = there; events = f.stand };
             header_is = n.header_is;

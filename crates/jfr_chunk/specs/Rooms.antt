@@ -1,11 +1,13 @@
 -- Room for the indexes of a chunk.
 use Rattle.std.specs.Prelude.{◌≡◌, []}
+use Rattle.std.specs.BTreeMap as tree
 use Rattle.jfr_chunk.specs.declared.read.EventIndex.{EventIndex}
 use Rattle.jfr_chunk.specs.declared.room.Room.{Room}
 
--- There are no events, and no numbers of entries.
+-- There are no events, no early ends, and no numbers of entries.
 pub record HasNoEvents (index : EventIndex) : Type 0 where
   pub fields : index.fields.items ≡ []
+  pub early : tree.IsEmpty index.early
   pub numbers : index.numbers.items ≡ []
 
 -- Nothing is left in the room.

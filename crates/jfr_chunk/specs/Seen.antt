@@ -1,10 +1,14 @@
 -- What a chunk keeps beside its bytes, and what its calls hand out.
-use Rattle.std.specs.Prelude.{◌≡◌, ℕ, ◌+◌, List, [], ◌∷◌, ◌++◌, Option, Some, length, map, take, reverse, slice_get, option_map}
+use Rattle.std.specs.Prelude.{◌≡◌, ℕ, ◌+◌, List, [], ◌∷◌, ◌++◌, Option, Some, length, map, take, reverse, slice_get, option_map, unwrap_or}
 use Rattle.std.specs.Option.{option_map_or}
+use Rattle.std.specs.BTreeMap as tree
+use Rattle.std.specs.BTreeMap.{BTreeMap}
+use Rattle.std.specs.Ordering.{nat_cmp}
 use Rattle.jfr_header.specs.declared.header.Header.{Header}
 use Rattle.jfr_header.specs.Headers.{header_of}
 use Rattle.jfr_header.specs.Fronts.{Whole}
 use Rattle.jfr_frame.specs.declared.framed.Framed.{Framed}
+use Rattle.jfr_frame.specs.Records.{record_end}
 use Rattle.jfr_layout.specs.Classes.{Classes}
 use Rattle.jfr_meta.specs.declared.metadata.Metadata.{Metadata}
 use Rattle.jfr_meta.specs.Body.{Body}
@@ -17,16 +21,21 @@ use Rattle.jfr_chunk.specs.declared.event.Event.{Event}
 use Rattle.jfr_chunk.specs.Parts.{Parts, EventAt, StartsAt, AreParts, events_of, metadata_at}
 use Rattle.jfr_chunk.specs.Reach.{node_entries}
 
--- The event whose record has this number, and whose fields end there.
+-- Where the fields of the event of a record end, by the record's number: where these early ends say, or else where the record does.
+abbrev pub end_in : BTreeMap ℕ ℕ → ℕ → Framed → ℕ
+end_in early number r = unwrap_or (tree.get nat_cmp early number) (record_end r)
+
+-- The event of this record, whose fields end there.
 abbrev pub event_with : ℕ → Framed → EventAt
 event_with end r = record { record_of = r; node = node_at (inline r.type_id) r.body end }
 
-abbrev pub event_kept : List Framed → FieldsAt → Option EventAt
-event_kept rs f = option_map (event_with f.end) (slice_get rs f.record)
+-- The event of the record of that number, whose fields end early or with the record.
+abbrev pub event_kept : List Framed → BTreeMap ℕ ℕ → FieldsAt → Option EventAt
+event_kept rs early f = option_map (λ r. event_with (end_in early f.record r) r) (slice_get rs f.record)
 
 -- The numbers of the entries in force to which the event of these fields refers.
-abbrev pub due : List EntryAt → Classes → List ℕ → List Framed → FieldsAt → List ℕ
-due es k c rs f = option_map_or (λ e. node_entries es k c e.node) (event_kept rs f) []
+abbrev pub due : List EntryAt → Classes → List ℕ → List Framed → BTreeMap ℕ ℕ → FieldsAt → List ℕ
+due es k c rs early f = option_map_or (λ e. node_entries es k c e.node) (event_kept rs early f) []
 
 -- The numbers are those that are due to the events, one event after another, and the count of each, from a number on, tells how many there are up to its last.
 abbrev pub AreNoted : (FieldsAt → List ℕ) → ℕ → List FieldsAt → List ℕ → Type 0
@@ -34,13 +43,13 @@ AreNoted due from [] numbers = numbers ≡ []
 AreNoted due from (f ∷ fs) numbers = (rest : List ℕ) × (numbers ≡ due f ++ rest) × (f.noted ≡ from + length (due f)) × AreNoted due f.noted fs rest
 
 -- The parts stand in a whole chunk; the header, the metadata record, the events and what they refer to are those of the parts.
-pub record IsIndexed (p : Parts) (header : Header) (metadata : Framed) (fields : List FieldsAt) (numbers : List ℕ) : Type 0 where
+pub record IsIndexed (p : Parts) (header : Header) (metadata : Framed) (fields : List FieldsAt) (early : BTreeMap ℕ ℕ) (numbers : List ℕ) : Type 0 where
   pub whole : Whole p.bytes
   pub parts : AreParts p
   pub header_is : header ≡ header_of (take 68 p.bytes)
   pub metadata_there : StartsAt p.records (metadata_at p.bytes) 0 metadata
-  pub events : map (event_kept p.records) fields ≡ map Some (events_of p)
-  pub noted : AreNoted (due p.entries p.classes p.bytes p.records) 0 fields numbers
+  pub events : map (event_kept p.records early) fields ≡ map Some (events_of p)
+  pub noted : AreNoted (due p.entries p.classes p.bytes p.records early) 0 fields numbers
 
 -- What a metadata record's body holds, as it was read.
 abbrev pub body_in : Metadata → Body

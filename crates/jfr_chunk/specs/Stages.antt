@@ -1,6 +1,7 @@
 -- What the stage of the events gives.
 use Rattle.std.specs.Prelude.{◌≡◌, ℕ, List, map, Some, All}
 use Rattle.std.specs.List.{filter_map}
+use Rattle.std.specs.BTreeMap.{BTreeMap}
 use Rattle.jfr_base.specs.declared.flaw.Flaw.{Flaw}
 use Rattle.jfr_base.specs.Formats.{Fails}
 use Rattle.jfr_layout.specs.Classes.{Classes}
@@ -13,10 +14,10 @@ use Rattle.jfr_chunk.specs.Parts.{HasFields, event_records, event_of}
 use Rattle.jfr_chunk.specs.Refusal.{FirstFails}
 use Rattle.jfr_chunk.specs.Seen.{event_kept}
 
--- The fields of each event stand, and these tell of which records they are and where they end.
-pub record AreFields (c : List ℕ) (k : Classes) (rs : List Framed) (fields : List FieldsAt) : Type 0 where
+-- The fields of each event stand; these tell of which records they are, and the early ends which of them end before their record, and where.
+pub record AreFields (c : List ℕ) (k : Classes) (rs : List Framed) (fields : List FieldsAt) (early : BTreeMap ℕ ℕ) : Type 0 where
   pub stand : All (HasFields c k) (event_records k rs)
-  pub listed : map (event_kept rs) fields ≡ map Some (filter_map (event_of c k) (event_records k rs))
+  pub listed : map (event_kept rs early) fields ≡ map Some (filter_map (event_of c k) (event_records k rs))
 
 -- The fields of an event are faulty, the first in file order.
 abbrev pub IsRefusedEvents : List ℕ → Classes → List Framed → Flaw → Type 0

@@ -1,5 +1,6 @@
 // A chunk inside the grammar.
-ghost use Rattle.std.specs.Prelude.{◌≡◌, ◌+◌, ◌<◌, ℕ, true, length, filter, replicate, reverse, slice_get, take, option_map, Ok, IfOk, IfErr, IfSome, MatchResult};
+ghost use Rattle.std.specs.Prelude.{◌≡◌, ◌+◌, ◌<◌, ◌^◌, ℕ, true, length, filter, replicate, reverse, slice_get, take, option_map, Ok, IfOk, IfErr, IfSome, MatchResult};
+ghost use Rattle.jfr_frame.specs.Records.{record_end};
 ghost use Rattle.jfr_header.specs.Fronts.{Whole};
 ghost use Rattle.jfr_header.specs.Headers.{header_of};
 ghost use Rattle.jfr_meta.specs.Answers.{IfFlawed};
@@ -8,7 +9,7 @@ ghost use Rattle.jfr_chunk.specs.Parts.{AreParts, StartsAt, events_of, is_inert,
 ghost use Rattle.jfr_chunk.specs.Reach.{node_entries, roots};
 ghost use Rattle.jfr_chunk.specs.Refusal.{Refused, read_parts};
 ghost use Rattle.jfr_chunk.specs.Rooms.{IsEmpty};
-ghost use Rattle.jfr_chunk.specs.Seen.{IsOfChunk, event_at};
+ghost use Rattle.jfr_chunk.specs.Seen.{IsOfChunk, end_in, event_at};
 
 use crate::read::{header_in, read_events, record_named};
 use crate::{Event, Kept, Room};
@@ -21,6 +22,7 @@ use jfr_outside::NoMemory;
 use jfr_pool::{Chain, Pools};
 use jfr_value::Node;
 use std::alloc::Global;
+use std::collections::BTreeMap;
 use std::marker::Model;
 
 // The types of metadata records and of checkpoints.
@@ -39,13 +41,12 @@ const NO_CHECKPOINT: Flaw = Flaw {
     reason: Reason::PoolPosition,
 };
 
-/// Where the fields of an event stand: the number of its record, and the place behind the last field;
-/// and how many numbers of entries are noted up to the last one to which it refers. A chunk has so many
-/// events that these are kept short: none is larger than the chunk.
+/// Where the fields of an event stand: the number of its record, with which nearly all end; and how many
+/// numbers of entries are noted up to the last one to which it refers. A chunk has so many events that
+/// these are kept short: none is larger than the chunk.
 #[derive(Clone, Copy, Debug)]
 pub(crate) struct FieldsAt {
     pub record: u32,
-    pub end: u32,
     pub noted: u32,
 }
 
@@ -60,6 +61,7 @@ pub struct Chunk<'a> {
     metadata: Metadata,
     pools: Pools,
     events: Vec<FieldsAt>,
+    early: BTreeMap<u32, u32>,
     numbers: Vec<u32>,
 }
 
@@ -75,7 +77,7 @@ impl<'a> Model for Chunk<'a> {
 
     ghost view = { λ c. parts_in c.bytes.now c.frames c.chain (body_in c.metadata) c.metadata.classes c.pools };
 
-    ghost invariant = { λ c. IsIndexed (parts_in c.bytes.now c.frames c.chain (body_in c.metadata) c.metadata.classes c.pools) c.header c.metadata_frame c.events.items c.numbers.items };
+    ghost invariant = { λ c. IsIndexed (parts_in c.bytes.now c.frames c.chain (body_in c.metadata) c.metadata.classes c.pools) c.header c.metadata_frame c.events.items c.early c.numbers.items };
 }
 
 impl<'a> Chunk<'a> {
@@ -117,6 +119,7 @@ impl<'a> Chunk<'a> {
             metadata,
             pools,
             events: index.fields,
+            early: index.early,
             numbers: index.numbers,
         })
     }
@@ -125,7 +128,12 @@ impl<'a> Chunk<'a> {
     pub fn into_room(self) -> Room
         ensures { IsEmpty result }
     {
-        Room::of(self.frames.into_room(), self.events, self.numbers)
+        Room::of(
+            self.frames.into_room(),
+            self.events,
+            self.early,
+            self.numbers,
+        )
     }
 
     /// The bytes of the chunk.
@@ -219,7 +227,7 @@ impl<'a> Chunk<'a> {
             shape,
             bytes: self.bytes,
             at: frame.body,
-            end: fields.end as usize,
+            end: end_of_fields(&self.early, fields.record, frame),
         };
         Some(Event {
             number,
@@ -271,6 +279,18 @@ fn fields_at(events: &[FieldsAt], number: usize) -> Option<FieldsAt>
     ensures { result ≡ slice_get events.now number }
 {
     events.get(number).copied()
+}
+
+// Where the fields of the event of a record end, by the record's number.
+#[inline]
+fn end_of_fields(early: &BTreeMap<u32, u32>, number: u32, frame: Framed) -> usize
+    requires { record_end frame < 2 ^ 64 }
+    ensures { result ≡ end_in early.now number frame }
+{
+    match early.get(&number) {
+        Some(end) => *end as usize,
+        None => frame.at + frame.size,
+    }
 }
 
 // How many numbers are noted of the events before the one of a number.

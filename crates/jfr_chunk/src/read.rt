@@ -1,5 +1,7 @@
 // The stages of reading a chunk.
-ghost use Rattle.std.specs.Prelude.{◌≡◌, ◌<◌, ◌≤◌, ◌^◌, [], length, take, slice_get, Some, IfOk, IfErr, true};
+ghost use Rattle.std.specs.Prelude.{◌≡◌, ◌<◌, ◌≤◌, ◌^◌, [], length, take, slice_get, Some, IfOk, IfErr, OnOk, true};
+ghost use Rattle.std.specs.BTreeMap as tree;
+ghost use Rattle.std.specs.Ordering.{nat_cmp};
 ghost use Rattle.jfr_base.specs.Formats.{run, seen};
 ghost use Rattle.jfr_header.specs.Fronts.{Whole};
 ghost use Rattle.jfr_header.specs.Headers.{header_of};
@@ -26,6 +28,7 @@ use jfr_outside::NoMemory;
 use jfr_pool::Pools;
 use jfr_value::end_visiting;
 use std::alloc::Global;
+use std::collections::BTreeMap;
 
 /// The header of a whole chunk.
 pub(crate) fn header_in(chunk: &[u8]) -> Header
@@ -61,6 +64,8 @@ pub(crate) fn record_named(
 #[derive(Drop)]
 pub(crate) struct EventIndex {
     pub fields: Vec<FieldsAt>,
+    /// Where the fields of the few events end that do so before their record, by its number.
+    pub early: BTreeMap<u32, u32>,
     pub numbers: Vec<u32>,
 }
 
@@ -71,6 +76,7 @@ impl EventIndex {
     {
         EventIndex {
             fields: Vec::new(alloc),
+            early: BTreeMap::new(alloc),
             numbers: Vec::new(alloc),
         }
     }
@@ -80,6 +86,7 @@ impl EventIndex {
         ensures { HasNoEvents self.new }
     {
         self.fields.clear();
+        self.early.clear();
         self.numbers.clear();
     }
 }
@@ -96,11 +103,13 @@ pub(crate) fn read_events(
     requires records { AreRecords chunk.now frames.now }
     requires sound { Sound classes.now }
     requires entries { length pools.now ≤ length chunk.now }
-    ensures ok { IfOk result (λ index. AreFields chunk.now classes.now frames.now index.fields.items) }
-    ensures noted { IfOk result (λ index. AreNoted (due pools.now classes.now chunk.now frames.now) 0 index.fields.items index.numbers.items) }
+    ensures ok { IfOk result (λ index. AreFields chunk.now classes.now frames.now index.fields.items index.early) }
+    ensures noted { IfOk result (λ index. AreNoted (due pools.now classes.now chunk.now frames.now index.early) 0 index.fields.items index.numbers.items) }
     ensures refused { IfErr result (IfFlawed (IsRefusedEvents chunk.now classes.now frames.now)) }
 {
     let mut fields = emptied(room.fields, frames.len())?;
+    let mut early = room.early;
+    early.clear();
     let mut notes = Notes::new(room.numbers);
     for number in 0..frames.len() {
         let frame = record_at(frames, number);
@@ -108,17 +117,21 @@ pub(crate) fn read_events(
             continue;
         };
         let end = fields_end(chunk, classes, pools, &slot, frame, &mut notes)?;
-        if notes.lacks {
-            return Err(ReadFault::Memory);
+        let record = number as u32;
+        if end < frame.at + frame.size {
+            note_early(&mut early, record, end as u32)?;
         }
         fields.push(FieldsAt {
-            record: number as u32,
-            end: end as u32,
+            record,
             noted: notes.numbers.len() as u32,
         })?;
     }
+    if notes.lacks {
+        return Err(ReadFault::Memory);
+    }
     Ok(EventIndex {
         fields,
+        early,
         numbers: notes.numbers,
     })
 }
@@ -143,6 +156,17 @@ fn record_at(frames: &Frames, number: usize) -> Framed
         Some(record) => record,
         None => unreachable!(),
     }
+}
+
+/// Notes where the fields of an event end, by the number of its record. This is out of line, since few
+/// end before their record.
+#[cold]
+#[inline(never)]
+fn note_early(early: &mut BTreeMap<u32, u32>, number: u32, end: u32) -> Result<(), NoMemory>
+    ensures { OnOk result (tree.Updates nat_cmp early.old early.new number (Some end)) }
+{
+    early.insert(number, end)?;
+    Ok(())
 }
 
 /// Where the fields of an event end. The entries to which they refer are noted.

@@ -6,6 +6,7 @@ use crate::chunk::FieldsAt;
 use crate::read::EventIndex;
 use jfr_frame::FrameRoom;
 use std::alloc::Global;
+use std::collections::BTreeMap;
 
 /// The room that the indexes of a chunk took, to be used again for those of the next one.
 #[derive(Drop)]
@@ -26,12 +27,21 @@ impl Room {
     }
 
     /// The room of indexes, which are given up.
-    pub(crate) fn of(frames: FrameRoom, fields: Vec<FieldsAt>, numbers: Vec<u32>) -> Room
+    pub(crate) fn of(
+        frames: FrameRoom,
+        fields: Vec<FieldsAt>,
+        early: BTreeMap<u32, u32>,
+        numbers: Vec<u32>,
+    ) -> Room
         ensures { IsEmpty result }
     {
         let mut room = Room {
             frames,
-            events: EventIndex { fields, numbers },
+            events: EventIndex {
+                fields,
+                early,
+                numbers,
+            },
         };
         room.frames.clear();
         room.events.clear();

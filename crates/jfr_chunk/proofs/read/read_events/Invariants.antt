@@ -6,8 +6,7 @@ use Rattle.jfr_chunk.proofs.read.read_events.Given as goal
 
 abbrev pub invariant-loop-number : goal.invariant-loop-number
 invariant-loop-number l = record {
-  read : ReadTo l.chunk l.classes l.frames l.number l.fields.items;
+  read : ReadTo l.chunk l.classes l.frames l.number l.early l.fields.items;
   counted : Counted l.chunk l.frames l.number (length l.notes.numbers.items);
-  lacks_none : l.notes.lacks ≡ false;
-  noted : AreNoted (due l.pools l.classes l.chunk l.frames) 0 l.fields.items l.notes.numbers.items;
+  noted : l.notes.lacks ≡ false → AreNoted (due l.pools l.classes l.chunk l.frames l.early) 0 l.fields.items l.notes.numbers.items;
 }

@@ -16,12 +16,12 @@ noted_before-start-requires c =
 
 pub returns : goal.returns
 returns c =
-    let e : map (event_kept c.args.self.now.records) c.self.inside.events.items ≡ map Some (events_of c.args.self.now) = search rules in
+    let e : map (event_kept c.args.self.now.records c.self.inside.early) c.self.inside.events.items ≡ map Some (events_of c.args.self.now) = search rules in
     let g : slice_get c.self.inside.events.items c.args.number ≡ Some c.in_ok-fields.fields = search rules in
-    let a = subst (λ (p : Parts). AreNoted (due p.entries p.classes p.bytes p.records) 0 c.self.inside.events.items c.self.inside.numbers.items) c.self.view_is c.self.invariant.noted in
-    let r = noted_range (due c.args.self.now.entries c.args.self.now.classes c.args.self.now.bytes c.args.self.now.records) c.self.inside.events.items c.self.inside.numbers.items c.args.number c.in_ok-fields.fields c.noted_before-start.result a g
+    let a = subst (λ (p : Parts). AreNoted (due p.entries p.classes p.bytes p.records c.self.inside.early) 0 c.self.inside.events.items c.self.inside.numbers.items) c.self.view_is c.self.invariant.noted in
+    let r = noted_range (due c.args.self.now.entries c.args.self.now.classes c.args.self.now.bytes c.args.self.now.records c.self.inside.early) c.self.inside.events.items c.self.inside.numbers.items c.args.number c.in_ok-fields.fields c.noted_before-start.result a g
     c.noted_before-start.ensures.first (λ b h. c.noted_before-start.ensures.later b h ∙ ap (λ z. option_map (λ (f : FieldsAt). f.noted) (slice_get z b)) c.deref-2.ensures.value) in
-    let d = event_due c.args.self.now c.self.inside.events.items c.args.number c.in_ok-fields.fields e g in
+    let d = event_due c.args.self.now c.self.inside.early c.self.inside.events.items c.args.number c.in_ok-fields.fields e g in
     let n = c.deref-3.ensures.value in
     let w : c.in_ok-fields.fields.noted ≤ length c.deref-3.result.now = subst (λ z. c.in_ok-fields.fields.noted ≤ length z) (sym n) r.within in
     range_got c.get.result c.deref-3.result.now c.noted_before-start.result c.in_ok-fields.fields.noted c.get.ensures.lookup.0 r.order w
