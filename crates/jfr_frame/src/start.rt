@@ -8,13 +8,13 @@ use crate::Framed;
 /// body stand. A chunk has so many records that this is kept short: in eight bytes.
 #[derive(Clone, Copy, Debug)]
 pub(crate) struct Start {
-    /// Any place has room here, as a chunk of 2 ^ 32 bytes or more isn't read.
-    pub at: u32,
     /// `WIDE` where the type is that large or larger.
     pub type_id: u16,
     pub type_at: u8,
     /// At most 18, as the size and the type have at most nine bytes each.
     pub body: u8,
+    /// Any place has room here, as a chunk of 2 ^ 32 bytes or more isn't read.
+    pub at: u32,
 }
 
 /// Is kept in place of a type of that much or more, which has to be read from the bytes.
@@ -30,10 +30,10 @@ impl Start {
         ensures { result ≡ start_of framed }
     {
         Start {
-            at: framed.at as u32,
             type_id: framed.type_id.min(u64::from(WIDE)) as u16,
             type_at: (framed.type_at - framed.at) as u8,
             body: (framed.body - framed.at) as u8,
+            at: framed.at as u32,
         }
     }
 }
