@@ -112,7 +112,7 @@ pub(crate) fn read_events(
     early.clear();
     let mut notes = Notes::new(room.numbers);
     for number in 0..frames.len() {
-        let frame = record_at(frames, number);
+        let frame = frames.at(number);
         let Some(slot) = classes.event_slot(frame.type_id) else {
             continue;
         };
@@ -144,18 +144,6 @@ fn emptied(list: Vec<FieldsAt>, count: usize) -> Result<Vec<FieldsAt>, NoMemory>
     emptied.clear();
     emptied.reserve(count)?;
     Ok(emptied)
-}
-
-/// The record of a number.
-#[inline]
-fn record_at(frames: &Frames, number: usize) -> Framed
-    requires { number < length frames.now }
-    ensures { slice_get frames.now number ≡ Some result }
-{
-    match frames.get(number) {
-        Some(record) => record,
-        None => unreachable!(),
-    }
 }
 
 /// Notes where the fields of an event end, by the number of its record. This is out of line, since few

@@ -1,6 +1,8 @@
 -- What is kept of a record is all of it but its end, and its end is kept with the next one.
 use Rattle.std.specs.Prelude.{◌≡◌, ℕ, zero, suc, ◌+◌, ◌-◌, ◌^◌, ◌<◌, ◌≤◌, List, [], ◌∷◌, length, slice_get, slice_range, Option, None, Some, option_map, map, min}
-use Rattle.std.proofs.Common.{ap, arith, refl, sym, ◌∙◌, subst, inl, inr, ◌⊎◌}
+use Rattle.std.proofs.Common.{ap, arith, get_or, refl, sym, ◌∙◌, subst, inl, inr, ◌⊎◌}
+use Rattle.std.proofs.lemmas.List.{length-map}
+use Rattle.std.proofs.lemmas.Option.{slice_get-get_or, slice_get-map}
 use Rattle.std.proofs.lemmas.Bool.{cases_lt}
 use Rattle.std.proofs.lemmas.Simd.{map-map}
 use Rattle.jfr_base.specs.Integer.{IntAt, IsSpellingWithin}
@@ -47,6 +49,15 @@ kept_among c p q (r ∷ rs) (suc n) s t e =
 
 pub kept_record : (c : List ℕ) (starts : List Start) (all : List Framed) (n : ℕ) (s : Start) → AreStarts c starts → records_at c starts ≡ all → option_map start_of (slice_get all n) ≡ Some s → (r : Framed) × Keeps c all n s r
 kept_record c starts all n s h v e = kept_among c 68 (length c) all n s (subst (AreRecords c) v h.cover) e
+
+-- as much is kept as there are records, and at each number what is kept of its record
+pub kept_count : (c : List ℕ) (starts : List Start) (all : List Framed) → AreStarts c starts → records_at c starts ≡ all → length starts ≡ length all
+kept_count c starts all h v = ap length (h.kept ∙ ap (map start_of) v) ∙ length-map all start_of
+
+pub kept_at : (c : List ℕ) (starts : List Start) (all : List Framed) (n : ℕ) (s : Start) → AreStarts c starts → records_at c starts ≡ all → n < length all → s ≡ get_or starts n s → option_map start_of (slice_get all n) ≡ Some s
+kept_at c starts all n s h v l e =
+    sym (slice_get-map start_of all n)
+    ∙ (ap (λ z. slice_get z n) (sym (h.kept ∙ ap (map start_of) v)) ∙ (slice_get-get_or starts n s (omega (arith, kept_count c starts all h v)) ∙ ap (λ z. Some z) (sym e)))
 
 -- what is kept says all but its end
 kept_parts : (c : List ℕ) (all : List Framed) (n : ℕ) (s : Start) (r : Framed) → Keeps c all n s r → (s.at ≡ r.at) × (s.at + s.type_at ≡ r.type_at) × (s.at + s.body ≡ r.body) × (s.type_id ≡ min r.type_id (2 ^ 16 - 1))

@@ -90,7 +90,20 @@ impl<'a> Frames<'a> {
     pub fn get(&self, number: usize) -> Option<Framed>
         ensures { result ≡ slice_get self.now number }
     {
-        let start = self.start(number)?;
+        if number < self.starts.len() {
+            Some(self.at(number))
+        } else {
+            None
+        }
+    }
+
+    /// The record of a number, from 0.
+    #[inline(always)]
+    pub fn at(&self, number: usize) -> Framed
+        requires { number < length self.now }
+        ensures { slice_get self.now number ≡ Some result }
+    {
+        let start = self.starts[number];
         let chunk = self.chunk;
         let at = start.at as usize;
         let type_at = at + usize::from(start.type_at);
@@ -99,13 +112,13 @@ impl<'a> Frames<'a> {
         } else {
             u64::from(start.type_id)
         };
-        Some(Framed {
+        Framed {
             at,
             size: self.end(number) - at,
             type_at,
             type_id,
             body: at + usize::from(start.body),
-        })
+        }
     }
 
     /// What is kept of the record of a number; `None` exactly past the end.

@@ -9,7 +9,7 @@ use Rattle.jfr_chunk.proofs.read.read_events.Goals as goal
 use Rattle.jfr_chunk.proofs.read.read_events.Goals.{then-end-frame+in_ok-note_early, else-end-frame}
 
 pub fields_end-requires-clause-record : goal.fields_end-requires-clause-record
-fields_end-requires-clause-record c = record_of c.args.chunk.now c.args.frames.now c.loop-number.number c.record_at-frame.result c.requires.records c.record_at-frame.ensures
+fields_end-requires-clause-record c = record_of c.args.chunk.now c.args.frames.now c.loop-number.number c.at-frame.result c.requires.records c.at-frame.ensures
 
 pub loop-number-init : goal.loop-number-init
 loop-number-init c = record {
@@ -20,8 +20,8 @@ loop-number-init c = record {
 
 pub loop-number-preserved-in_default : goal.loop-number-preserved-in_default
 loop-number-preserved-in_default c = record {
-  read = read_other c.args.chunk.now c.args.classes.now c.args.frames.now c.loop-number.number c.loop-number.early c.loop-number.fields.items c.record_at-frame.result c.record_at-frame.ensures c.in_default.ensures c.loop-number.invariant.read;
-  counted = counted_next c.args.chunk.now c.args.frames.now c.loop-number.number _ _ c.record_at-frame.result c.record_at-frame.ensures (omega arith) c.loop-number.invariant.counted;
+  read = read_other c.args.chunk.now c.args.classes.now c.args.frames.now c.loop-number.number c.loop-number.early c.loop-number.fields.items c.at-frame.result c.at-frame.ensures c.in_default.ensures c.loop-number.invariant.read;
+  counted = counted_next c.args.chunk.now c.args.frames.now c.loop-number.number _ _ c.at-frame.result c.at-frame.ensures (omega arith) c.loop-number.invariant.counted;
   noted = c.loop-number.invariant.noted;
 }
 
@@ -36,47 +36,47 @@ overflow_cast-record c = let f = number_fits c.args.chunk.now c.args.frames.now 
 
 pub overflow_add-frame : goal.overflow_add-frame
 overflow_add-frame c =
-    let i = record_of c.args.chunk.now c.args.frames.now c.loop-number.number c.record_at-frame.result c.requires.records c.record_at-frame.ensures in
+    let i = record_of c.args.chunk.now c.args.frames.now c.loop-number.number c.at-frame.result c.requires.records c.at-frame.ensures in
     let w = whole_small c.args.chunk.now c.requires.whole in
     omega (arith, i.within)
 
 pub overflow_cast-end : goal.overflow_cast-end
 overflow_cast-end c =
-    let i = record_of c.args.chunk.now c.args.frames.now c.loop-number.number c.record_at-frame.result c.requires.records c.record_at-frame.ensures in
+    let i = record_of c.args.chunk.now c.args.frames.now c.loop-number.number c.at-frame.result c.requires.records c.at-frame.ensures in
     let w = whole_small c.args.chunk.now c.requires.whole in
     omega (arith, i.within)
 
 pub overflow_cast-len : goal.overflow_cast-len
 overflow_cast-len c =
     let e = counted_event c.args.classes.now c.requires.sound c.args.chunk.now c.args.pools.now c.args.frames.now c.loop-number.number c.in_ok-end.end _ _ _ c.requires.whole c.requires.records
-    c.record_at-frame.ensures (sym c.in_ok-end.was ∙ c.fields_end.ensures.exact) c.in_ok-end.ensures.noted.few c.loop-number.invariant.counted in
+    c.at-frame.ensures (sym c.in_ok-end.was ∙ c.fields_end.ensures.exact) c.in_ok-end.ensures.noted.few c.loop-number.invariant.counted in
     omega (arith, e.numbers_fit, c.len-in-loop-number.ensures)
 
 pub loop-number-preserved : goal.loop-number-preserved
 loop-number-preserved c =
     let e = counted_event c.args.classes.now c.requires.sound c.args.chunk.now c.args.pools.now c.args.frames.now c.loop-number.number c.in_ok-end.end _ _ _ c.requires.whole c.requires.records
-    c.record_at-frame.ensures (sym c.in_ok-end.was ∙ c.fields_end.ensures.exact) c.in_ok-end.ensures.noted.few c.loop-number.invariant.counted in
+    c.at-frame.ensures (sym c.in_ok-end.was ∙ c.fields_end.ensures.exact) c.in_ok-end.ensures.noted.few c.loop-number.invariant.counted in
     let b = c.loop-number.invariant.read.before in
-    let i : EndIs c.loop-number.early c.if-end-frame.early c.loop-number.number c.record_at-frame.result c.in_ok-end.end =
+    let i : EndIs c.loop-number.early c.if-end-frame.early c.loop-number.number c.at-frame.result c.in_ok-end.end =
     elim c.if-end-frame.branch [
-      | then-end-frame+in_ok-note_early w ↦ subst (λ z. EndIs c.loop-number.early z c.loop-number.number c.record_at-frame.result c.in_ok-end.end) (sym w.early-is) (end_early _ _ _ _ _ w.in_ok-note_early.ensures)
-      | else-end-frame w ↦ subst (λ z. EndIs c.loop-number.early z c.loop-number.number c.record_at-frame.result c.in_ok-end.end) (sym w.early-is) (end_full _ _ _ _ (b.ahead c.loop-number.number (omega arith)) (omega (arith, e.within, w.if-end-frame.false)))
+      | then-end-frame+in_ok-note_early w ↦ subst (λ z. EndIs c.loop-number.early z c.loop-number.number c.at-frame.result c.in_ok-end.end) (sym w.early-is) (end_early _ _ _ _ _ w.in_ok-note_early.ensures)
+      | else-end-frame w ↦ subst (λ z. EndIs c.loop-number.early z c.loop-number.number c.at-frame.result c.in_ok-end.end) (sym w.early-is) (end_full _ _ _ _ (b.ahead c.loop-number.number (omega arith)) (omega (arith, e.within, w.if-end-frame.false)))
     ] in
     record {
       read =
           subst (ReadTo c.args.chunk.now c.args.classes.now c.args.frames.now (c.loop-number.number + 1) c.if-end-frame.early) (sym c.in_ok-push.ensures.items)
-          (read_event c.args.chunk.now c.args.classes.now c.args.frames.now c.loop-number.number c.loop-number.early c.if-end-frame.early c.loop-number.fields.items c.record_at-frame.result c.in_ok-end.end c.len-in-loop-number.result c.record_at-frame.ensures c.in-Some.ensures.event (sym c.in_ok-end.was ∙ c.fields_end.ensures.exact) i c.loop-number.invariant.read);
+          (read_event c.args.chunk.now c.args.classes.now c.args.frames.now c.loop-number.number c.loop-number.early c.if-end-frame.early c.loop-number.fields.items c.at-frame.result c.in_ok-end.end c.len-in-loop-number.result c.at-frame.ensures c.in-Some.ensures.event (sym c.in_ok-end.was ∙ c.fields_end.ensures.exact) i c.loop-number.invariant.read);
       counted = e.counted;
       noted = λ h.
           subst (λ z. AreNoted (due c.args.pools.now c.args.classes.now c.args.chunk.now c.args.frames.now c.if-end-frame.early) 0 z c.fields_end.new.notes.numbers.items) (sym c.in_ok-push.ensures.items)
-          (event_noted c.args.pools.now c.args.classes.now c.args.chunk.now c.args.frames.now c.loop-number.early c.if-end-frame.early c.loop-number.number c.in_ok-end.end c.len-in-loop-number.result c.record_at-frame.result c.loop-number.fields.items c.loop-number.notes.numbers.items c.fields_end.new.notes.numbers.items
-          c.record_at-frame.ensures i b.each (c.in_ok-end.ensures.noted.appended h) (omega (arith, c.len-in-loop-number.ensures)) (c.loop-number.invariant.noted (c.in_ok-end.ensures.noted.lacked_none h)));
+          (event_noted c.args.pools.now c.args.classes.now c.args.chunk.now c.args.frames.now c.loop-number.early c.if-end-frame.early c.loop-number.number c.in_ok-end.end c.len-in-loop-number.result c.at-frame.result c.loop-number.fields.items c.loop-number.notes.numbers.items c.fields_end.new.notes.numbers.items
+          c.at-frame.ensures i b.each (c.in_ok-end.ensures.noted.appended h) (omega (arith, c.len-in-loop-number.ensures)) (c.loop-number.invariant.noted (c.in_ok-end.ensures.noted.lacked_none h)));
     }
 
 pub returns-in_err-end-clause-refused : goal.returns-in_err-end-clause-refused
 returns-in_err-end-clause-refused c =
     let p = err_from_is_err_and c.from_residual-in_err-end.result c.from_residual-in_err-end.ensures.1 in
-    rw (p.1, p.2) (read_stops c.args.chunk.now c.args.classes.now c.args.frames.now c.loop-number.number c.loop-number.early c.loop-number.fields.items c.record_at-frame.result c.in_err-end.field-0.0 c.requires.records c.record_at-frame.ensures c.in-Some.ensures.event (sym c.in_err-end.was ∙ c.fields_end.ensures.exact) c.loop-number.invariant.read)
+    rw (p.1, p.2) (read_stops c.args.chunk.now c.args.classes.now c.args.frames.now c.loop-number.number c.loop-number.early c.loop-number.fields.items c.at-frame.result c.in_err-end.field-0.0 c.requires.records c.at-frame.ensures c.in-Some.ensures.event (sym c.in_err-end.was ∙ c.fields_end.ensures.exact) c.loop-number.invariant.read)
 
 pub returns-clause-ok : goal.returns-clause-ok
 returns-clause-ok c = read_all c.args.chunk.now c.args.classes.now c.args.frames.now c.loop-number.number c.loop-number.early c.loop-number.fields.items c.requires.records (omega (arith, c.loop-number-test.false, c.len-number-end.ensures)) c.loop-number.invariant.read
