@@ -223,7 +223,8 @@ fn leaps_over_rows(rt: HostRuntime) -> Result<(), Fail> {
         fields,
         over,
     };
-    let row = classes.row(5);
+    let place = classes.place(7).expect(&rt, "an event class");
+    let row = classes.row(place);
     assert_eq!(rt; row.slots.len(), 14);
     assert!(rt; row.is_event);
     assert_eq!(rt;
