@@ -62,6 +62,13 @@ pub all_push : {X : Type 0} (P : X → Type 0) (xs : List X) (x : X) → AllByRe
 all_push P [] x a p = (p, tt)
 all_push P (y ∷ xs) x a p = (a.0, all_push P xs x a.1 p)
 
+-- a list that has at each place what a function says of the place
+pub filled_push : {X : Type 0} (f : ℕ → X) (xs : List X) (x : X) → ((i : ℕ) → i < length xs → slice_get xs i ≡ Some (f i)) → x ≡ f (length xs) → (i : ℕ) → i < length (xs ++ x ∷ []) → slice_get (xs ++ x ∷ []) i ≡ Some (f i)
+filled_push f [] x a e zero l = ap Some e
+filled_push f [] x a e (suc i) l = absurd (omega arith)
+filled_push f (y ∷ xs) x a e zero l = a 0 (omega arith)
+filled_push f (y ∷ xs) x a e (suc i) l = filled_push (λ j. f (suc j)) xs x (λ j m. a (suc j) (omega arith)) e i (omega arith)
+
 -- two lists that are related place by place
 pub zip_at : {X Y : Type 0} (R : X → Y → Type 0) (xs : List X) (ys : List Y) (i : ℕ) (x : X) → AllZip R xs ys → slice_get xs i ≡ Some x → (y : Y) × (slice_get ys i ≡ Some y) × R x y
 zip_at R [] ys i x a e = cc

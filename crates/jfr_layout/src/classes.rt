@@ -3,34 +3,36 @@ ghost use Rattle.std.specs.Prelude.{◌≡◌, ◌<◌, length, false, OnOk, IfO
 ghost use Rattle.std.specs.Option.{option_copied};
 ghost use Rattle.std.specs.Str.{chars};
 ghost use Rattle.jfr_layout.specs.Classes.{class_faults, Sound, TellsFirst, find_class, class_place, kind_of, field_number, is_event_class, AreSlots, IsEventSlot};
+ghost use Rattle.jfr_layout.specs.Events.{event_place};
 ghost use Rattle.jfr_layout.specs.Resolved.{IsRow};
 
+use crate::event::{event_place, event_places};
 use crate::inline::{check_depth, check_filled};
 use crate::resolved::Resolved;
 use crate::{ClassFault, ClassInfo, ClassList, Kind, Row, Shape, Slot};
 use std::alloc::Global;
 use std::marker::Model;
 
-// Records of the types up to this one are metadata and checkpoints.
-const LAST_OWN_TYPE: u64 = 1;
-
 /// Classes that are sound: ids and names of fields are used once, each field's class is known, and no
 /// value stands within others without end.
 #[derive(Drop)]
 pub struct Classes {
     resolved: Resolved,
+    // the places of the classes of events, by the id
+    events: Vec<Option<usize>>,
 }
 
 impl Model for Classes {
     ghost use Rattle.std.specs.Prelude.{List};
     ghost use Rattle.jfr_layout.specs.declared.class.ClassInfo.{ClassInfo};
     ghost use Rattle.jfr_layout.specs.Classes.{Sound};
+    ghost use Rattle.jfr_layout.specs.Events.{AreEventPlaces};
 
     ghost Value = { List ClassInfo };
 
     ghost view = { λ c. c.resolved };
 
-    ghost invariant = { λ c. Sound c.resolved };
+    ghost invariant = { λ c. Sound c.resolved × AreEventPlaces c.resolved c.events.items };
 }
 
 impl Classes {
@@ -43,7 +45,8 @@ impl Classes {
         let resolved = Resolved::make(alloc, list)?;
         check_filled(&resolved)?;
         check_depth(alloc, &resolved)?;
-        Ok(Classes { resolved })
+        let events = event_places(alloc, &resolved, resolved.near_len())?;
+        Ok(Classes { resolved, events })
     }
 
     /// How many classes there are.
@@ -104,19 +107,33 @@ impl Classes {
     pub fn event_slot(&self, id: u64) -> Option<Slot>
         ensures { MatchOption result (is_event_class self.now id ≡ false) (IsEventSlot self.now id) }
     {
-        if id <= LAST_OWN_TYPE {
-            return None;
-        }
-        let place = self.resolved.place(id)?;
-        if !self.resolved.extends_event(place) {
-            return None;
-        }
+        let place = self.event_place(id)?;
         let shape = Shape {
             class: id,
             constant: false,
             array: false,
         };
         Some(Slot::new(shape, place, Kind::Composite))
+    }
+
+    // The place of the class of an id, where records of this type are events.
+    #[inline]
+    fn event_place(&self, id: u64) -> Option<usize>
+        ensures { result ≡ event_place self.now id }
+    {
+        match self.events.get(id as usize) {
+            Some(place) => *place,
+            None => self.far_event_place(id),
+        }
+    }
+
+    // The same for an id that the table doesn't have.
+    #[cold]
+    #[inline(never)]
+    fn far_event_place(&self, id: u64) -> Option<usize>
+        ensures { result ≡ event_place self.now id }
+    {
+        event_place(&self.resolved, id)
     }
 
     /// The place of the class of an id, for the calls that take a place.

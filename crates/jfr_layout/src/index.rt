@@ -49,6 +49,13 @@ impl Index {
         Ok(old.is_some())
     }
 
+    /// So many ids, from 0 on, have a place in the table.
+    pub fn near_len(&self) -> usize
+        ensures { result ≡ length self.now.near.items }
+    {
+        self.near.len()
+    }
+
     /// The place of the class of an id.
     #[inline]
     pub fn place(&self, id: u64) -> Option<usize>

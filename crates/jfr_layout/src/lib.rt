@@ -9,6 +9,7 @@
 
 mod class;
 mod classes;
+mod event;
 mod fault;
 mod form;
 mod index;

@@ -181,6 +181,11 @@ impl Resolved {
         self.index.place(id)
     }
 
+    /// So many ids, from 0 on, are found in the table of the index.
+    pub fn near_len(&self) -> usize {
+        self.index.near_len()
+    }
+
     /// The kind of the class at a place.
     pub fn kind_at(&self, place: usize) -> Kind
         requires { place < length self.now }

@@ -14,7 +14,10 @@ returns-in_err-check_depth-clause-refused c = let p = err_from_is_err_and c.from
     (told_deep c.args.list c.in_err-check_depth.field-0.0 c.in_ok-resolved.ensures.judged (rw c.in_ok-resolved.ensures.exact at c.in_ok-check_filled.ensures) (rw c.in_ok-resolved.ensures.exact at c.in_err-check_depth.ensures))
 
 pub invariant_of-result : goal.invariant_of-result
-invariant_of-result c = rw c.in_ok-resolved.ensures.exact (sound_from c.args.list c.in_ok-resolved.ensures.judged (rw c.in_ok-resolved.ensures.exact at c.in_ok-check_filled.ensures) (rw c.in_ok-resolved.ensures.exact at c.in_ok-check_depth.ensures))
+invariant_of-result c = rw c.in_ok-resolved.ensures.exact (
+  sound_from c.args.list c.in_ok-resolved.ensures.judged (rw c.in_ok-resolved.ensures.exact at c.in_ok-check_filled.ensures) (rw c.in_ok-resolved.ensures.exact at c.in_ok-check_depth.ensures),
+  rw c.in_ok-resolved.ensures.exact at c.in_ok-events.ensures.exact,
+)
 
 pub returns-clause-ok : goal.returns-clause-ok
 returns-clause-ok c = sound_from c.args.list c.in_ok-resolved.ensures.judged (rw c.in_ok-resolved.ensures.exact at c.in_ok-check_filled.ensures) (rw c.in_ok-resolved.ensures.exact at c.in_ok-check_depth.ensures)
