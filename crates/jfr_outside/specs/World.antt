@@ -1,16 +1,17 @@
 -- What stands outside, and how each call changes it.
-use Rattle.std.specs.Prelude.{◌≡◌, ℕ, Bool, List, [], ◌++◌, take, drop, Option, None, Some, unwrap_or, option_map, Result, Ok, Err}
-use Rattle.std.specs.List.{flat_map}
+use Rattle.std.specs.Prelude.{◌≡◌, ℕ, ◌+◌, ◌==◌, ◌&&◌, Bool, not, List, [], ◌∷◌, ◌++◌, length, take, drop, map, Option, None, Some, unwrap_or, option_map, Result, Ok, Err, IsPermutation, encode_utf8_all, if◌then◌else◌}
+use Rattle.std.specs.List.{flat_map, filter_map, list_all}
+use Rattle.std.specs.Str.{bytes_eq}
 use Rattle.std.specs.Borrow.{Bor}
 use Rattle.std.specs.Ordering.{nat_cmp}
 use Rattle.std.specs.Cmp.Lexicographic.{slice_cmp}
-use Rattle.std.specs.FinMap as map
+use Rattle.std.specs.FinMap as fin
 use Rattle.jfr_outside.specs.declared.fault.Fault.{Fault}
 use Rattle.jfr_outside.specs.declared.fault.Fault.TheVariants.{Failed, Memory}
 
 -- the bytes of each file, by the bytes of its name
 abbrev pub Files : Type 0
-Files = map.FinMap (slice_cmp nat_cmp) (List ℕ)
+Files = fin.FinMap (slice_cmp nat_cmp) (List ℕ)
 
 -- the files, what is left of the open input, and the name of the open output
 pub record World : Type 0 where
@@ -32,7 +33,7 @@ pub record SinkState : Type 0 where
 
 -- the bytes of a file, if it is there
 abbrev pub file : World → List ℕ → Option (List ℕ)
-file w name = map.get w.files name
+file w name = fin.get w.files name
 
 -- the file is the input, if it is there
 abbrev pub opened : List ℕ → World → World
@@ -47,12 +48,12 @@ taken n w = record w { input = option_map (drop n) w.input }
 
 -- the file is there, empty, and is the output
 abbrev pub created : List ℕ → World → World
-created name w = record w { files = map.insert w.files name []; output = Some name }
+created name w = record w { files = fin.insert w.files name []; output = Some name }
 
 -- the file of this name, if one is named, has these bytes more
 abbrev pub grown : Option (List ℕ) → List ℕ → Files → Files
 grown None bytes files = files
-grown (Some name) bytes files = map.insert files name (unwrap_or (map.get files name) [] ++ bytes)
+grown (Some name) bytes files = fin.insert files name (unwrap_or (fin.get files name) [] ++ bytes)
 
 -- the output has these bytes more
 abbrev pub appended : List ℕ → World → World
@@ -63,11 +64,11 @@ finished w = record w { output = None }
 
 -- the file is there with these bytes
 abbrev pub put : List ℕ → List ℕ → World → World
-put name bytes w = record w { files = map.insert w.files name bytes }
+put name bytes w = record w { files = fin.insert w.files name bytes }
 
 -- no files, nothing open
 abbrev pub empty_world : World
-empty_world = record { files = map.empty; input = None; output = None }
+empty_world = record { files = fin.empty; input = None; output = None }
 
 -- bytes after others
 abbrev pub added : List ℕ → List ℕ → List ℕ
@@ -83,6 +84,29 @@ slice_of o = option_map (λ x. x.now) o
 
 abbrev pub unchanged : World → World
 unchanged w = w
+
+-- the name of a file in a folder: the folder, a slash, and the rest
+abbrev pub in_folder : List ℕ → List ℕ → List ℕ
+in_folder folder rest = folder ++ 47 ∷ rest
+
+-- a name without a slash
+abbrev pub is_plain : List ℕ → Bool
+is_plain name = list_all (λ b. not (b == 47)) name
+
+-- the rest of a name, where the file stands in the folder itself and not deeper
+abbrev pub rest_in : List ℕ → List ℕ → Option (List ℕ)
+rest_in folder name =
+    if bytes_eq (take (length folder + 1) name) (in_folder folder []) && is_plain (drop (length folder + 1) name)
+    then Some (drop (length folder + 1) name)
+    else None
+
+-- the rests of the names of a folder's files, in byte order
+abbrev pub names_in : List ℕ → Files → List (List ℕ)
+names_in folder files = filter_map (rest_in folder) (fin.keys files)
+
+-- these texts are the names in the folder, each once, in any order
+abbrev pub IsListing : List ℕ → Files → List (List ℕ) → Type 0
+IsListing folder files names = IsPermutation (names_in folder files) (map encode_utf8_all names)
 
 -- what is told after a call, by its answer; want of memory changes nothing
 abbrev pub Leaves : {T : Type 0} → Result T Fault → Option World → Option World → (T → World → World) → (World → World) → Type 0

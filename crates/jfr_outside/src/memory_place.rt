@@ -1,14 +1,14 @@
 // A place in memory, some of whose calls may be set to fail.
 ghost use Rattle.std.specs.Prelude.{◌≡◌, ◌≤◌, ◌<◌, ◌↔◌, ◌⊎◌, [], ◌∷◌, ◌++◌, length, take, Some, None, true, false, IsTrue, IsSome, IfSome, IfOk, OnOk, OnErr, IsErrOf, option_map};
 ghost use Rattle.jfr_outside.specs.MemoryPlace.{state_of, scripts_of, most_of};
-ghost use Rattle.jfr_outside.specs.World.{file, put, empty_world, bytes_in, slice_of, opened, taken, shut, created, appended, finished, unchanged, Leaves, LeavesPrefix};
+ghost use Rattle.jfr_outside.specs.World.{file, put, empty_world, bytes_in, slice_of, opened, taken, shut, created, appended, finished, unchanged, IsListing, Leaves, LeavesPrefix};
 ghost use Rattle.jfr_outside.specs.Calls.{CountsRead, CountsWrite, KeepsPrefix};
 ghost use Rattle.jfr_outside.specs.Scripts.{kept, after_call, IsDue};
 ghost use Rattle.jfr_outside.specs.declared.fault.Fault.TheVariants.{Failed};
-ghost use Rattle.jfr_outside.specs.declared.script.Call.TheVariants.{Open, Read, Create, Append, Finish};
+ghost use Rattle.jfr_outside.specs.declared.script.Call.TheVariants.{Open, Read, Create, Append, Finish, List as Listing};
 
 use crate::script::Scripts;
-use crate::{Call, Fault, NoMemory, Place, SteadyPlace};
+use crate::{Call, Fault, NoMemory, Place, SteadyPlace, Words};
 use std::alloc::Global;
 
 /// A place in memory. It tells all of its state. It fails by its scripts, and else for the causes of a
@@ -197,6 +197,23 @@ impl Place for MemoryPlace {
         match self.scripts.pass(Call::Finish) {
             Some(_) => Err(self.place.refuse_output()),
             None => self.place.finish_output(),
+        }
+    }
+
+    fn list(&mut self, alloc: Global, folder: &str) -> Result<Words, Fault>
+        ensures told { Leaves result (state_of self.old).told (state_of self.new).told (λ _. unchanged) unchanged }
+        ensures names { IfOk result (λ names. IfSome (state_of self.old).told (λ w. IsListing folder.now w.files names)) }
+        ensures counted { CountsRead result (state_of self.old) (state_of self.new) }
+        ensures steady { IsTrue (state_of self.old).steady → IsErrOf result Failed → ⊥ }
+
+        ensures due { IsDue Listing (scripts_of self.old) → IsErrOf result Failed }
+        ensures cause { IsErrOf result Failed → IsDue Listing (scripts_of self.old) }
+        ensures scripts { scripts_of self.new ≡ after_call Listing (scripts_of self.old) }
+        ensures most { most_of self.new ≡ most_of self.old }
+    {
+        match self.scripts.pass(Call::List) {
+            Some(_) => Err(self.place.refuse_read()),
+            None => self.place.list(alloc, folder),
         }
     }
 }

@@ -1,10 +1,11 @@
 // Files, one open input and one open output.
 ghost use Rattle.std.specs.Prelude.{◌≡◌, ◌<◌, ◌≤◌, ◌↔◌, ℕ, [], length, take, None, IsTrue, IsSome, IfSome, IfOk, OnOk, IsErrOf, option_map};
-ghost use Rattle.jfr_outside.specs.World.{State, file, bytes_in, opened, shut, taken, created, appended, finished, unchanged, Leaves, LeavesPrefix};
+ghost use Rattle.jfr_outside.specs.World.{State, file, bytes_in, opened, shut, taken, created, appended, finished, unchanged, IsListing, Leaves, LeavesPrefix};
 ghost use Rattle.jfr_outside.specs.Counts.{Counts};
 ghost use Rattle.jfr_outside.specs.declared.fault.Fault.TheVariants.{Failed};
 
-use crate::Fault;
+use crate::{Fault, Words};
+use std::alloc::Global;
 
 /// Files by name, one open input and one open output.
 ///
@@ -86,4 +87,15 @@ pub trait Place {
         ensures writes { Counts result (state self.old).write_faults (state self.new).write_faults }
         ensures same { (state self.new).steady ≡ (state self.old).steady }
         ensures steady { IsTrue (state self.old).steady → IsErrOf result Failed → IfSome (state self.old).told (λ w. w.output ≡ None) };
+
+    /// The names of the files that stand in a folder itself, without the folder, each once and in any
+    /// order. A name that isn't UTF-8 is a fault.
+    fn list(&mut self, alloc: Global, folder: &str) -> Result<Words, Fault>
+        ensures told { Leaves result (state self.old).told (state self.new).told (λ _. unchanged) unchanged }
+        ensures names { IfOk result (λ names. IfSome (state self.old).told (λ w. IsListing folder.now w.files names)) }
+
+        ensures reads { Counts result (state self.old).read_faults (state self.new).read_faults }
+        ensures writes { (state self.new).write_faults ≡ (state self.old).write_faults }
+        ensures same { (state self.new).steady ≡ (state self.old).steady }
+        ensures steady { IsTrue (state self.old).steady → IsErrOf result Failed → ⊥ };
 }

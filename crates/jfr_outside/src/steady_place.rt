@@ -2,14 +2,14 @@
 ghost use Rattle.std.specs.Prelude.{◌≡◌, ◌≤◌, ◌<◌, ◌↔◌, [], length, take, Some, None, true, IsSome, IfSome, IfOk, OnOk, OnErr, IsErrOf, option_map, string_bytes};
 ghost use Rattle.std.specs.Option.{ForSome};
 ghost use Rattle.jfr_outside.specs.Held.{files_of, IsHeld};
-ghost use Rattle.jfr_outside.specs.World.{file, put, empty_world, bytes_in, slice_of, opened, taken, shut, created, appended, finished, unchanged, Leaves, LeavesPrefix};
+ghost use Rattle.jfr_outside.specs.World.{file, put, empty_world, bytes_in, slice_of, opened, taken, shut, created, appended, finished, unchanged, IsListing, Leaves, LeavesPrefix};
 ghost use Rattle.jfr_outside.specs.Calls.{CountsRead, CountsWrite, KeepsPrefix};
 ghost use Rattle.jfr_outside.specs.Counts.{Rose};
 ghost use Rattle.jfr_outside.specs.declared.fault.Fault.TheVariants.{Failed};
 
 use crate::files::{FileMap, file_in, grow_file, join, set_file};
 use crate::source::Source;
-use crate::{Fault, NoMemory, Place};
+use crate::{Fault, NoMemory, Place, Words};
 use std::alloc::Global;
 use std::collections::BTreeMap;
 
@@ -252,5 +252,15 @@ impl Place for SteadyPlace {
         } else {
             Err(self.refuse_output())
         }
+    }
+
+    fn list(&mut self, _alloc: Global, folder: &str) -> Result<Words, Fault>
+        ensures told { Leaves result (state_of self.old).told (state_of self.new).told (λ _. unchanged) unchanged }
+        ensures names { IfOk result (λ names. IfSome (state_of self.old).told (λ w. IsListing folder.now w.files names)) }
+        ensures counted { CountsRead result (state_of self.old) (state_of self.new) }
+        ensures steady { IsErrOf result Failed → ⊥ }
+        ensures most { most_of self.new ≡ most_of self.old }
+    {
+        Err(Fault::Memory)
     }
 }

@@ -44,7 +44,7 @@ rest_of r earlier input start number given o p w v g =
     subst (λ (y : Option (List ℕ)). FromHere r earlier y g.before (walk r (earlier ++ g.before) g.cuts.chunks g.cuts.flaw)) (sym g.file_is) (from_here r earlier g.x g.before g.cuts.chunks g.cuts.flaw g.chunks g.flaw g.go)
 
 pub took_stand : (bytes : List ℕ) (p : Option (List ℕ)) (v u : World) → Took bytes v u → stand u p ≡ stand v p
-took_stand bytes p v u t = λ i. record { files = t.files i; output = t.output i; text = p }
+took_stand bytes p v u t = λ i. record { files = t.files i; output = t.output i; text = p; sound = true }
 
 -- some effects of the plan are done
 pub partly : (st : Bool) (r : Rule) (earlier : List (List ℕ)) (input : List ℕ) (start number : ℕ) (given : Bool) (o p q : Option (List ℕ)) (w v u : World) → Going r earlier input start number given o p w v → stand u q ≡ stand v p → OutcomeOf st r earlier input o q NoRoom w u

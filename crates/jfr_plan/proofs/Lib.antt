@@ -5,3 +5,4 @@ pub mod Staging
 pub mod Failing
 pub mod Clauses
 mod Rows
+pub mod Sound

@@ -1,5 +1,5 @@
 -- What a command does outside, step by step.
-use Rattle.std.specs.Prelude.{◌≡◌, ℕ, Bool, true, false, nat_le, List, [], ◌∷◌, take, map, Option, None, Some, option_map, IsSome}
+use Rattle.std.specs.Prelude.{◌≡◌, ℕ, Bool, true, false, nat_le, List, [], ◌∷◌, take, map, Option, None, Some, option_map, IsSome, is_some, not, ◌&&◌}
 use Rattle.jfr_outside.specs.World.{World, State, SinkState, Files, added, grown}
 use Rattle.jfr_plan.specs.Ends.{End}
 use Rattle.std.specs.FinMap as fin
@@ -16,14 +16,15 @@ outside place sink = record { place = place; sink = sink }
 abbrev pub alone : State → Outside
 alone place = outside place (record { written = None; faults = 0 })
 
--- the files, the name of the open output, and the text on the output sink, where it tells it
+-- the files, the name of the open output, the text on the output sink, where it tells it, and whether each effect so far could be done
 pub record Stand : Type 0 where
   pub files : Files
   pub output : Option (List ℕ)
   pub text : Option (List ℕ)
+  pub sound : Bool
 
 abbrev pub stand : World → Option (List ℕ) → Stand
-stand w text = record { files = w.files; output = w.output; text = text }
+stand w text = record { files = w.files; output = w.output; text = text; sound = true }
 
 -- one thing done outside: a file is created as the output, the output grows, it is finished, or text is written
 pub data Effect : Type 0 where
@@ -34,9 +35,9 @@ pub data Effect : Type 0 where
 
 -- what stands after an effect
 abbrev pub apply : Effect → Stand → Stand
-apply (Create name) s = record s { files = fin.insert s.files name []; output = Some name }
-apply (Append bytes) s = record s { files = grown s.output bytes s.files }
-apply Finish s = record s { output = None }
+apply (Create name) s = record s { files = fin.insert s.files name []; output = Some name; sound = s.sound && not (is_some (fin.get s.files name)) && not (is_some s.output) }
+apply (Append bytes) s = record s { files = grown s.output bytes s.files; sound = s.sound && is_some s.output }
+apply Finish s = record s { output = None; sound = s.sound && is_some s.output }
 apply (Write bytes) s = record s { text = option_map (added bytes) s.text }
 
 -- what stands after effects, one after another
@@ -47,7 +48,7 @@ done (e ∷ es) s = done es (apply e s)
 -- what stands after an effect that failed: no open output, or the first k of its bytes
 abbrev pub broken : ℕ → Effect → Stand → Stand
 broken k (Create name) s = record s { output = None }
-broken k (Append bytes) s = apply (Append (take k bytes)) s
+broken k (Append bytes) s = record s { files = grown s.output (take k bytes) s.files }
 broken k Finish s = record s { output = None }
 broken k (Write bytes) s = apply (Write (take k bytes)) s
 

@@ -13,7 +13,7 @@ use std::slice;
 
 /// The characters that are left. Contracts see them as a list.
 #[derive(Drop)]
-pub(crate) struct Characters<'a> {
+pub struct Characters<'a> {
     source: Source<'a>,
 }
 
@@ -37,7 +37,7 @@ impl<'a> Model for Characters<'a> {
 
 impl<'a> Characters<'a> {
     /// The characters of the string's text; none exactly for the null string and a key.
-    pub(crate) fn of(span: &StringSpan<'a>) -> Option<Characters<'a>>
+    pub fn of(span: &StringSpan<'a>) -> Option<Characters<'a>>
         ensures { result ≡ text_of (content_of span.now) }
     {
         let source = match span.kind {

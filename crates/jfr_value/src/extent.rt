@@ -142,7 +142,7 @@ impl Visit<()> for NoVisit {
 }
 
 /// The slot of a shape. Where its class isn't known, only the shape says something.
-pub(crate) fn slot_of(classes: &Classes, shape: Shape) -> Slot
+pub fn slot_of(classes: &Classes, shape: Shape) -> Slot
     ensures shape { result.shape ≡ shape }
     ensures form { result.form ≡ form_of result.shape result.kind }
     ensures known { IsSome (find_class classes.now shape.class) → IsSlot classes.now result }
@@ -427,7 +427,7 @@ fn array_end<C, V: Visit<C>>(
 }
 
 /// The slot of an array's items.
-pub(crate) fn item_slot(array: &Slot) -> Slot
+pub fn item_slot(array: &Slot) -> Slot
     ensures { result ≡ slot_with (item_of array.now.shape) array.now.place array.now.kind }
 {
     Slot::new(item_of(array.shape), array.place, array.kind)

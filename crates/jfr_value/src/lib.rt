@@ -21,7 +21,7 @@ mod steps;
 mod visit;
 mod walk;
 
-pub use extent::{end_of, end_visiting};
+pub use extent::{end_of, end_visiting, item_slot, slot_of};
 pub use laws::{leaves_within_bytes, one_answer, refers_by_parts, same_bytes, values_are_read};
 pub use leaf::{Leaf, LeafKind};
 pub use leaves::Leaves;
