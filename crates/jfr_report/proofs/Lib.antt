@@ -1,0 +1,4 @@
+pub mod PageLaws
+pub mod PlanLaws
+pub mod PartsLaws
+pub mod KeptLaws

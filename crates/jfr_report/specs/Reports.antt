@@ -1,0 +1,63 @@
+-- What the commands that write text ask of each chunk.
+use Rattle.std.specs.Prelude.{ℕ, ◌+◌, Bool, true, false, List, [], ◌∷◌, length, map, Result, Ok, Err, encode_utf8_all}
+use Rattle.jfr_base.specs.declared.flaw.Flaw.{Flaw}
+use Rattle.jfr_filter.specs.Filters.{Given}
+use Rattle.jfr_value.specs.Nodes.{NodeAt}
+use Rattle.jfr_plan.specs.Ends.{refused}
+use Rattle.jfr_plan.specs.Effects.{Effect, Write}
+use Rattle.jfr_plan.specs.Walks.{Rule, Asked, Stops, Goes, Text}
+use Rattle.jfr_chunk.specs.Parts.{Parts, EventAt}
+use Rattle.jfr_chunk.specs.Chosen.{kept_of}
+use Rattle.jfr_chunk.specs.Refusal.{read_parts}
+use Rattle.jfr_show.specs.Shown.{event_shown}
+use Rattle.jfr_show.specs.Json.{event_json}
+use Rattle.jfr_show.specs.Summary.{totals_of, summary_shown}
+use Rattle.jfr_show.specs.Described.{metadata_shown}
+
+-- each text is written, one after another
+abbrev pub writes : List (List ℕ) → List Effect
+writes texts = map Write texts
+
+-- chunk number n is refused, or the texts of its parts are written
+abbrev pub asks_texts : ℕ → (Parts → List (List ℕ)) → Result Parts Flaw → Asked
+asks_texts n texts (Ok p) = Goes (writes (texts p))
+asks_texts n texts (Err flaw) = Stops (refused n flaw)
+
+-- a command that writes texts for each chunk, by its number and its parts, and then the last ones
+abbrev pub texting : (ℕ → Parts → List (List ℕ)) → (List (List ℕ) → List (List ℕ)) → Rule
+texting texts last = record {
+  opens = [];
+  asks = λ before c. asks_texts (length before + 1) (texts (length before + 1)) (read_parts c);
+  ends = λ before. writes (last before);
+  target = Text;
+}
+
+-- the text of an event, or its line of JSON, in UTF-8
+abbrev pub event_bytes : Bool → ℕ → Parts → NodeAt → List ℕ
+event_bytes true depth p n = event_json p depth n
+event_bytes false depth p n = encode_utf8_all (event_shown p depth n)
+
+-- those of some events, in order, and of the kept ones
+abbrev pub events_bytes : Bool → ℕ → Parts → List EventAt → List (List ℕ)
+events_bytes json depth p es = map (λ e. event_bytes json depth p e.node) es
+
+-- each event that a filter keeps is shown
+abbrev pub printing : Given → ℕ → Bool → Rule
+printing g depth json = texting (λ n p. events_bytes json depth p (kept_of g p)) (λ before. [])
+
+-- the classes of each chunk
+abbrev pub describing : Rule
+describing = texting (λ n p. encode_utf8_all (metadata_shown p n) ∷ []) (λ before. [])
+
+-- the parts of the chunks that are accepted
+abbrev pub parts_with : Result Parts Flaw → List Parts → List Parts
+parts_with (Ok p) ps = p ∷ ps
+parts_with (Err flaw) ps = ps
+
+abbrev pub all_parts : List (List ℕ) → List Parts
+all_parts [] = []
+all_parts (c ∷ cs) = parts_with (read_parts c) (all_parts cs)
+
+-- the totals of the recording, at its end
+abbrev pub summing : Rule
+summing = texting (λ n p. []) (λ before. encode_utf8_all (summary_shown (totals_of (all_parts before))) ∷ [])

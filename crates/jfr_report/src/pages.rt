@@ -1,0 +1,56 @@
+// Texts gathered to pages, and written a page at a time: a call of the system for each event would cost
+// more than its text does.
+ghost use Rattle.std.specs.Prelude.{◌≡◌, [], ◌∷◌, ℕ, List, Option, OnOk, encode_utf8_all};
+ghost use Rattle.jfr_report.specs.Gathered.{IsGathered, PageLeaves, TextLeaves, TextCounted};
+
+use jfr_header::Ending;
+use jfr_outside::{Fault, Sink};
+use jfr_show::TextBuilder;
+
+/// A page is written as soon as it has so many bytes.
+const PAGE: usize = 65536;
+
+/// Writes the page if it is full.
+pub(crate) fn write_full_page<O: Sink>(out: &mut O, page: &mut TextBuilder) -> Result<(), Ending>
+    ensures texts { (all rest : List (List ℕ)) (before : Option (List ℕ))
+        → IsGathered all before (O.state out.old).written (encode_utf8_all page.old) rest
+        → PageLeaves all before result (encode_utf8_all page.new) rest (O.state out.new).written }
+    ensures faults { TextCounted result (O.state out.old).faults (O.state out.new).faults }
+{
+    if page.as_bytes().len() < PAGE {
+        return Ok(());
+    }
+    write_page(out, page)
+}
+
+/// Writes what the page holds, if it holds anything, and begins a new one.
+pub(crate) fn write_page<O: Sink>(out: &mut O, page: &mut TextBuilder) -> Result<(), Ending>
+    ensures texts { (all rest : List (List ℕ)) (before : Option (List ℕ))
+        → IsGathered all before (O.state out.old).written (encode_utf8_all page.old) rest
+        → PageLeaves all before result (encode_utf8_all page.new) rest (O.state out.new).written }
+    ensures begun { OnOk result (encode_utf8_all page.new ≡ []) }
+    ensures faults { TextCounted result (O.state out.old).faults (O.state out.new).faults }
+{
+    if page.as_bytes().is_empty() {
+        return Ok(());
+    }
+    match out.write(page.as_bytes()) {
+        Ok(()) => {}
+        Err(Fault::Failed) => return Err(Ending::WriteFault),
+        Err(Fault::Memory) => return Err(Ending::Memory),
+    }
+    page.clear();
+    Ok(())
+}
+
+/// Writes one text.
+pub(crate) fn write_text<O: Sink>(out: &mut O, text: &TextBuilder) -> Result<(), Ending>
+    ensures texts { TextLeaves (encode_utf8_all text.now ∷ []) result (O.state out.old).written (O.state out.new).written }
+    ensures faults { TextCounted result (O.state out.old).faults (O.state out.new).faults }
+{
+    match out.write(text.as_bytes()) {
+        Ok(()) => Ok(()),
+        Err(Fault::Failed) => Err(Ending::WriteFault),
+        Err(Fault::Memory) => Err(Ending::Memory),
+    }
+}

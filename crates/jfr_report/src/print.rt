@@ -1,0 +1,177 @@
+// The command that shows the events of a recording.
+ghost use Rattle.std.specs.Prelude.{◌≡◌, ◌≤◌, ◌<◌, ◌+◌, [], ◌∷◌, ◌++◌, ℕ, List, Option, OnOk, Some, length, drop, slice_get, encode_utf8_all};
+ghost use Rattle.jfr_plan.specs.Ends.{way_of};
+ghost use Rattle.jfr_plan.specs.Effects.{outside};
+ghost use Rattle.jfr_plan.specs.Walks.{Text};
+ghost use Rattle.jfr_plan.specs.Outcomes.{After, Tallied};
+ghost use Rattle.jfr_value.specs.Nodes.{node_of};
+ghost use Rattle.jfr_chunk.specs.Parts.{events_of};
+ghost use Rattle.jfr_chunk.specs.Seen.{event_at};
+ghost use Rattle.jfr_chunk.specs.Reach.{kept_by, marked};
+ghost use Rattle.jfr_report.specs.Reports.{printing, event_bytes, events_bytes};
+ghost use Rattle.jfr_report.specs.Gathered.{IsGathered, PageLeaves, TextLeaves, TextCounted};
+
+use crate::pages::{write_full_page, write_page};
+use crate::report::{Report, report_stream};
+use jfr_chunk::{Chunk, Event, Kept};
+use jfr_filter::Filter;
+use jfr_header::Ending;
+use jfr_outside::{NoMemory, Place, Sink};
+use jfr_path::choose;
+use jfr_show::{TextBuilder, show_event, show_event_json};
+use std::alloc::Global;
+
+/// How events are shown: how many references deep, and as text or as lines of JSON.
+#[derive(Clone, Copy)]
+pub(crate) struct Style {
+    pub(crate) depth: u8,
+    pub(crate) json: bool,
+    ghost shallow: { depth ≤ 8 },
+}
+
+/// Shows the events that a filter keeps.
+#[derive(Drop)]
+struct Printing<'f> {
+    filter: &'f Filter,
+    style: Style,
+    page: TextBuilder,
+}
+
+impl Report for Printing<'_> {
+    ghost use Rattle.std.specs.Prelude.{[]};
+    ghost use Rattle.jfr_chunk.specs.Chosen.{kept_of};
+    ghost use Rattle.jfr_report.specs.Reports.{events_bytes};
+
+    ghost texts = { λ s number p. events_bytes s.style.json s.style.depth p (kept_of s.filter.now p) };
+
+    ghost last = { λ s ps. [] };
+
+    ghost seen = { λ s ps. Unit {0} };
+
+    fn chunk<O: Sink>(
+        &mut self,
+        alloc: Global,
+        out: &mut O,
+        chunk: &Chunk<'_>,
+        _number: u64,
+    ) -> Result<(), Ending> {
+        match choose(alloc, chunk, self.filter) {
+            Ok(kept) => print_kept(alloc, out, &mut self.page, chunk, &kept, self.style),
+            Err(NoMemory) => Err(Ending::Memory),
+        }
+    }
+
+    fn end<O: Sink>(&self, _alloc: Global, _out: &mut O) -> Result<(), Ending> {
+        Ok(())
+    }
+}
+
+/// Shows the kept events of a chunk.
+fn print_kept<O: Sink>(
+    alloc: Global,
+    out: &mut O,
+    page: &mut TextBuilder,
+    chunk: &Chunk<'_>,
+    kept: &Kept,
+    style: Style,
+) -> Result<(), Ending>
+    ensures texts { TextLeaves (events_bytes style.json style.depth chunk.now (kept_by chunk.now kept.now)) result (O.state out.old).written (O.state out.new).written }
+    ensures faults { TextCounted result (O.state out.old).faults (O.state out.new).faults }
+{
+    page.clear();
+    for number in 0..chunk.event_count() {
+        print_if_kept(alloc, out, page, chunk, kept, style, number)?;
+    }
+    write_page(out, page)
+}
+
+/// Shows the event of a number if it is kept.
+fn print_if_kept<O: Sink>(
+    alloc: Global,
+    out: &mut O,
+    page: &mut TextBuilder,
+    chunk: &Chunk<'_>,
+    kept: &Kept,
+    style: Style,
+    number: usize,
+) -> Result<(), Ending>
+    requires number { number < length (events_of chunk.now) }
+    ensures texts { (all : List (List ℕ)) (before : Option (List ℕ))
+        → IsGathered all before (O.state out.old).written (encode_utf8_all page.old)
+            (events_bytes style.json style.depth chunk.now (marked (drop number kept.now) (drop number (events_of chunk.now))))
+        → PageLeaves all before result (encode_utf8_all page.new)
+            (events_bytes style.json style.depth chunk.now (marked (drop (number + 1) kept.now) (drop (number + 1) (events_of chunk.now)))) (O.state out.new).written }
+    ensures faults { TextCounted result (O.state out.old).faults (O.state out.new).faults }
+{
+    let keep = kept.get(number).unwrap_or(false);
+    if !keep {
+        return Ok(());
+    }
+    let Some(event) = chunk.event(number) else {
+        unreachable!()
+    };
+    print_event(alloc, out, page, chunk, &event, style)
+}
+
+/// Shows an event to a page, which is written where it is full.
+fn print_event<O: Sink>(
+    alloc: Global,
+    out: &mut O,
+    page: &mut TextBuilder,
+    chunk: &Chunk<'_>,
+    event: &Event<'_>,
+    style: Style,
+) -> Result<(), Ending>
+    requires event { slice_get (events_of chunk.now) event.now.number ≡ Some (event_at event.now) }
+    ensures texts { (all rest : List (List ℕ)) (before : Option (List ℕ))
+        → IsGathered all before (O.state out.old).written (encode_utf8_all page.old) (event_bytes style.json style.depth chunk.now (node_of event.now.node) ∷ rest)
+        → PageLeaves all before result (encode_utf8_all page.new) rest (O.state out.new).written }
+    ensures faults { TextCounted result (O.state out.old).faults (O.state out.new).faults }
+{
+    match show(alloc, page, chunk, event, style) {
+        Ok(()) => write_full_page(out, page),
+        Err(NoMemory) => Err(Ending::Memory),
+    }
+}
+
+/// Adds an event to a page, in the style.
+fn show(
+    alloc: Global,
+    page: &mut TextBuilder,
+    chunk: &Chunk<'_>,
+    event: &Event<'_>,
+    style: Style,
+) -> Result<(), NoMemory>
+    requires event { slice_get (events_of chunk.now) event.now.number ≡ Some (event_at event.now) }
+    ensures ok { OnOk result (encode_utf8_all page.new ≡ encode_utf8_all page.old ++ event_bytes style.json style.depth chunk.now (node_of event.now.node)) }
+{
+    if style.json {
+        return show_event_json(alloc, chunk, event, style.depth, page);
+    }
+    show_event(alloc, chunk, event, style.depth, page)
+}
+
+/// Writes the events of a recording that the filter keeps, with references followed so many deep, as text
+/// or as lines of JSON.
+pub fn print_stream<P: Place, O: Sink>(
+    alloc: Global,
+    place: &mut P,
+    out: &mut O,
+    file: &str,
+    filter: &Filter,
+    depth: u8,
+    json: bool,
+) -> Ending
+    requires depth { depth ≤ 8 }
+    ensures told { After (printing filter.now depth json) [] file.now (way_of result)
+        (outside (P.state place.old) (O.state out.old)) (outside (P.state place.new) (O.state out.new)) }
+    ensures counts { Tallied Text (way_of result)
+        (outside (P.state place.old) (O.state out.old)) (outside (P.state place.new) (O.state out.new)) }
+{
+    let report = Printing {
+        filter,
+        style: Style { depth, json },
+        page: TextBuilder::new(alloc),
+    };
+    report_stream(alloc, place, out, report, file)
+}

@@ -1,0 +1,11 @@
+use Rattle.std.proofs.Common.{ap, sym, ◌∙◌}
+use Rattle.std.specs.Prelude.{encode_utf8_all}
+use Rattle.std.specs.Str.{chars}
+use Rattle.std.proofs.lemmas.Str.{encodes-chars}
+use Rattle.jfr_show.proofs.builder.TextBuilder.as_bytes.Goals as goal
+
+pub returns : goal.returns
+returns c =
+    c.as_bytes.ensures.value
+    ∙ (sym (encodes-chars c.as_str.result.now c.as_str.utf8)
+    ∙ ap encode_utf8_all (ap chars c.as_str.ensures.value ∙ c.self.view_is))
