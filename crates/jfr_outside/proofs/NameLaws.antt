@@ -66,7 +66,7 @@ no_rest : (folder name : List ℕ) → ((rest : List ℕ) → name ≢ folder ++
 no_rest folder name other =
     let n : ℕ = length folder + 1 in
     not_begun _ (is_plain (drop n name)) (drop n name) (λ same.
-        other (drop n name) (sym (take-append-drop n name) ∙ ap (λ (l : List ℕ). l ++ drop n name) ((bytes_eq-Decides (take n name) (in_folder folder [])).0 same) ∙ append_assoc folder (47 ∷ []) (drop n name)))
+    other (drop n name) (sym (take-append-drop n name) ∙ ap (λ (l : List ℕ). l ++ drop n name) ((bytes_eq-Decides (take n name) (in_folder folder [])).0 same) ∙ append_assoc folder (47 ∷ []) (drop n name)))
 
 -- a name without a slash
 pub is_plain_without : (rest : List ℕ) → ((k : ℕ) → k < length rest → get_or rest k 0 ≢ 47) → is_plain rest ≡ true
