@@ -7,11 +7,11 @@ ghost use Rattle.jfr_outside.specs.World.{bytes_in};
 ghost use Rattle.jfr.specs.Edges.{untold, Grew, Took};
 
 use crate::counts::raise;
-use jfr_outside::{Fault, Place};
-use std::alloc::Global;
-use std::fs;
+use jfr_outside::{Fault, Place, Words};
+use std::alloc::{Alloc, Global};
 use std::fs::{Files, OpenOptions};
-use std::io::{BufWriter, Read, Write};
+use std::io::{BufWriter, Error, ErrorKind, Read, Write};
+use std::{fs, io};
 
 /// So many bytes of small pieces are gathered for one write.
 const GATHERED: usize = 65536;
@@ -86,7 +86,33 @@ fn write_portions<W: Write>(writer: &mut W, bytes: &[u8]) -> Result<(), Fault>
     Ok(())
 }
 
-impl<'a, R: Files> Place for FilePlace<'a, R> {
+/// The names of the regular files in a folder, as the system gives them, which names each once.
+fn names_in<R: Files + Alloc + Clone + Drop>(
+    rt: &R,
+    alloc: Global,
+    folder: &str,
+) -> io::Result<Words> {
+    let mut names = Words::new(alloc);
+    for entry in fs::read_dir(rt, folder)? {
+        let entry = entry?;
+        if is_file(rt, entry.path().as_str())? && names.push(entry.file_name()).is_err() {
+            return Err(Error::from(ErrorKind::OutOfMemory));
+        }
+    }
+    Ok(names)
+}
+
+/// Whether a path leads to a regular file. A link that leads nowhere leads to none, and is passed over as a
+/// folder is, since no reader of the folder could open it.
+fn is_file<R: Files>(rt: &R, path: &str) -> io::Result<bool> {
+    match fs::metadata(rt, path) {
+        Ok(metadata) => Ok(metadata.is_file()),
+        Err(error) if error.kind() == ErrorKind::NotFound => Ok(false),
+        Err(error) => Err(error),
+    }
+}
+
+impl<'a, R: Files + Alloc + Clone + Drop> Place for FilePlace<'a, R> {
     ghost state = { λ p. untold p.read_faults p.write_faults };
 
     fn open_input(&mut self, name: &str) -> Result<(), Fault>
@@ -225,6 +251,24 @@ impl<'a, R: Files> Place for FilePlace<'a, R> {
             Ok(()) => Ok(()),
             Err(_) => {
                 raise(&mut self.write_faults);
+                Err(Fault::Failed)
+            }
+        }
+    }
+
+    /// The regular files, links followed. A folder that isn't there is a fault, and so is a name that isn't
+    /// UTF-8.
+    fn list(&mut self, alloc: Global, folder: &str) -> Result<Words, Fault>
+        ensures input { self.new.input ≡ self.old.input }
+        ensures output { self.new.output ≡ self.old.output }
+        ensures reads { Counts result self.old.read_faults self.new.read_faults }
+        ensures writes { self.new.write_faults ≡ self.old.write_faults }
+    {
+        match names_in(self.rt, alloc, folder) {
+            Ok(names) => Ok(names),
+            Err(error) if error.kind() == ErrorKind::OutOfMemory => Err(Fault::Memory),
+            Err(_) => {
+                raise(&mut self.read_faults);
                 Err(Fault::Failed)
             }
         }

@@ -8,8 +8,6 @@ mod flaw;
 mod integer;
 pub mod laws;
 mod reason;
-#[cfg(test)]
-mod tests;
 
 pub use flaw::{Flaw, ReadFault, Refusal};
 pub use integer::{

@@ -11,8 +11,6 @@ mod laws;
 mod notes;
 mod read;
 mod room;
-#[cfg(test)]
-mod tests;
 
 pub use chunk::Chunk;
 pub use event::Event;

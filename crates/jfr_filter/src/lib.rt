@@ -10,8 +10,6 @@ mod list;
 mod matching;
 mod pattern;
 mod side;
-#[cfg(test)]
-mod tests;
 
 pub use filter::Filter;
 pub use pattern::glob;

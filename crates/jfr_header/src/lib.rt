@@ -11,8 +11,6 @@ mod ending;
 mod header;
 mod judge;
 pub mod laws;
-#[cfg(test)]
-mod tests;
 
 pub use cutter::{ChunkCutter, Cut};
 pub use ending::Ending;

@@ -34,6 +34,3 @@ pub use name::is_text;
 pub use row::Row;
 pub use shape::Shape;
 pub use slot::Slot;
-
-#[cfg(test)]
-mod tests;

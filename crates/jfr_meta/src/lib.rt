@@ -16,8 +16,6 @@ mod laws;
 mod metadata;
 mod pairs;
 mod strings;
-#[cfg(test)]
-mod tests;
 mod values;
 mod write;
 

@@ -1,3 +1,4 @@
 pub mod HeldLaws
+pub mod NameLaws
 pub mod ScriptLaws
 pub mod TextLaws

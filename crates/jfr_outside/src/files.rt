@@ -1,9 +1,11 @@
 // Files in memory.
-ghost use Rattle.std.specs.Prelude.{◌≡◌, ◌++◌, ℕ, List, [], IfOk, OnOk, OnErr, unwrap_or};
-ghost use Rattle.std.specs.FinMap as map;
+ghost use Rattle.std.specs.Prelude.{◌≡◌, ◌++◌, ℕ, List, [], map, encode_utf8_all, IfOk, IfSome, OnOk, OnErr, unwrap_or};
+ghost use Rattle.std.specs.FinMap as fin;
+ghost use Rattle.std.specs.Str.{IsUtf8};
 ghost use Rattle.jfr_outside.specs.Held.{files_of, IsHeld};
-ghost use Rattle.jfr_outside.specs.World.{bytes_in, slice_of};
+ghost use Rattle.jfr_outside.specs.World.{bytes_in, slice_of, rest_in, names_in};
 
+use crate::{NoMemory, Words};
 use std::alloc::{AllocError, Global};
 use std::collections::BTreeMap;
 
@@ -12,7 +14,7 @@ pub type FileMap = BTreeMap<String, Vec<u8>>;
 
 /// The bytes of a file, if it is there.
 pub fn file_in<'a>(files: &'a FileMap, name: &str) -> Option<&'a [u8]>
-    ensures { slice_of result ≡ map.get (files_of files.now) name.now }
+    ensures { slice_of result ≡ fin.get (files_of files.now) name.now }
 {
     match files.get(name) {
         Some(bytes) => Some(bytes.as_slice()),
@@ -23,7 +25,7 @@ pub fn file_in<'a>(files: &'a FileMap, name: &str) -> Option<&'a [u8]>
 /// Adds bytes at the end of a file that is there.
 pub fn grow_file(files: &mut FileMap, name: &str, bytes: &[u8]) -> Result<(), AllocError>
     requires { IsHeld (files_of files.old) name.now }
-    ensures ok { OnOk result (files_of files.new ≡ map.insert (files_of files.old) name.now (unwrap_or (map.get (files_of files.old) name.now) [] ++ bytes.now)) }
+    ensures ok { OnOk result (files_of files.new ≡ fin.insert (files_of files.old) name.now (unwrap_or (fin.get (files_of files.old) name.now) [] ++ bytes.now)) }
     ensures unchanged { OnErr result (files_of files.new ≡ files_of files.old) }
     ensures holds { (other : List ℕ) → IsHeld (files_of files.old) other → IsHeld (files_of files.new) other }
 {
@@ -40,7 +42,7 @@ pub fn set_file(
     name: &str,
     bytes: &[u8],
 ) -> Result<(), AllocError>
-    ensures ok { OnOk result (files_of files.new ≡ map.insert (files_of files.old) name.now bytes.now) }
+    ensures ok { OnOk result (files_of files.new ≡ fin.insert (files_of files.old) name.now bytes.now) }
     ensures unchanged { OnErr result (files_of files.new ≡ files_of files.old) }
     ensures there { OnOk result (IsHeld (files_of files.new) name.now) }
     ensures holds { (other : List ℕ) → IsHeld (files_of files.old) other → IsHeld (files_of files.new) other }
@@ -60,4 +62,29 @@ pub fn join(alloc: Global, pieces: &[&[u8]]) -> Result<Vec<u8>, AllocError>
         joined.extend_from_slice(piece)?;
     }
     Ok(joined)
+}
+
+/// The names of the files that stand in a folder itself, without the folder, in byte order.
+pub fn names_in(alloc: Global, files: &FileMap, folder: &str) -> Result<Words, NoMemory>
+    ensures { IfOk result (λ names. map encode_utf8_all names ≡ names_in folder.now (files_of files.now)) }
+{
+    let mut names = Words::new(alloc);
+    for name in files.keys() {
+        if let Some(rest) = rest_in(folder, name.as_str()) {
+            names.push(rest)?;
+        }
+    }
+    Ok(names)
+}
+
+/// The rest of a name, where the file stands in the folder itself and not deeper.
+fn rest_in<'a>(folder: &str, name: &'a str) -> Option<&'a str>
+    ensures exact { slice_of result ≡ rest_in folder.now name.now }
+    ensures text { IfSome result (λ rest. IsUtf8 rest.now) }
+{
+    let rest = name.strip_prefix(folder)?.strip_prefix('/')?;
+    if rest.contains('/') {
+        return None;
+    }
+    Some(rest)
 }

@@ -13,8 +13,6 @@ mod sink;
 mod source;
 mod steady_place;
 mod steady_sink;
-#[cfg(test)]
-mod tests;
 mod text;
 
 pub use fault::{Fault, NoMemory};

@@ -7,7 +7,7 @@ ghost use Rattle.jfr_outside.specs.Calls.{CountsRead, CountsWrite, KeepsPrefix};
 ghost use Rattle.jfr_outside.specs.Counts.{Rose};
 ghost use Rattle.jfr_outside.specs.declared.fault.Fault.TheVariants.{Failed};
 
-use crate::files::{FileMap, file_in, grow_file, join, set_file};
+use crate::files::{FileMap, file_in, grow_file, join, names_in, set_file};
 use crate::source::Source;
 use crate::{Fault, NoMemory, Place, Words};
 use std::alloc::Global;
@@ -254,13 +254,16 @@ impl Place for SteadyPlace {
         }
     }
 
-    fn list(&mut self, _alloc: Global, folder: &str) -> Result<Words, Fault>
+    fn list(&mut self, alloc: Global, folder: &str) -> Result<Words, Fault>
         ensures told { Leaves result (state_of self.old).told (state_of self.new).told (λ _. unchanged) unchanged }
         ensures names { IfOk result (λ names. IfSome (state_of self.old).told (λ w. IsListing folder.now w.files names)) }
         ensures counted { CountsRead result (state_of self.old) (state_of self.new) }
         ensures steady { IsErrOf result Failed → ⊥ }
         ensures most { most_of self.new ≡ most_of self.old }
     {
-        Err(Fault::Memory)
+        match names_in(alloc, &self.files, folder) {
+            Ok(names) => Ok(names),
+            Err(_) => Err(Fault::Memory),
+        }
     }
 }

@@ -12,8 +12,6 @@ mod make;
 mod making;
 mod position;
 mod stage;
-#[cfg(test)]
-mod tests;
 
 pub use discard::Discard;
 pub use make::Make;

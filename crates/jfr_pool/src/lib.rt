@@ -13,8 +13,6 @@ pub mod laws;
 mod link;
 mod pools;
 mod row;
-#[cfg(test)]
-mod tests;
 
 pub use chain::Chain;
 pub use entry::EntryAt;

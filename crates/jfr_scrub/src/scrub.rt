@@ -1,10 +1,12 @@
 // The stream that scrubs a recording.
-ghost use Rattle.std.specs.Prelude.{◌≡◌, ◌≢◌, ◌<◌, ℕ, List, None};
+ghost use Rattle.std.specs.Prelude.{◌≡◌, ◌≢◌, ◌<◌, ℕ, List, [], None};
 ghost use Rattle.jfr_base.specs.declared.flaw.Refusal.{Refusal};
 ghost use Rattle.jfr_outside.specs.Counts.{Rose};
 ghost use Rattle.jfr_plan.specs.Ends.{Fine, Refused, way_of};
 ghost use Rattle.jfr_plan.specs.Effects.{alone};
 ghost use Rattle.jfr_plan.specs.Makes.{making};
+ghost use Rattle.jfr_plan.specs.Outcomes.{After, Tallied};
+ghost use Rattle.jfr_plan.specs.Walks.{File};
 ghost use Rattle.jfr_plan.specs.Clauses.{Ended, Halted, Broken, Partly, IsComplete, CanRead, CanCreate};
 ghost use Rattle.jfr_outside.specs.World.{Told};
 ghost use Rattle.jfr_header.specs.Fronts.{Whole};
@@ -74,6 +76,10 @@ pub fn scrub_stream<P: Place>(
     // and of the same meaning. `each` says it of every chunk of which the clauses below speak.
     ensures headline { IsByPlan result → Told (P.state place.old).told (P.state place.new).told (Scrubs filter.now input.now output.now) }
     ensures each { (c : List ℕ) → Whole c → refusal_of c ≡ None → IsScrubbed filter.now c (scrubbed filter.now c) }
+
+    // What stands after the call, and which counts rose, by the answer.
+    ensures told { After (scrubbing filter.now output.now) [] input.now (way_of result) (alone (P.state place.old)) (alone (P.state place.new)) }
+    ensures counts { Tallied File (way_of result) (alone (P.state place.old)) (alone (P.state place.new)) }
 
     // What stands after each answer, where the place tells its files.
     ensures done { result ≡ Ending.Done → Ended (scrubbing filter.now output.now) input.now Fine (alone (P.state place.old)) (alone (P.state place.new)) }

@@ -1,7 +1,6 @@
 // Scrubs with filters.
 use crate::calls::run_over_places;
-use crate::chunks::{JDK_LIKE, chunk, put};
-use crate::constants::{BYTES_LEFT, RINGS};
+use jfr_fixtures::{BYTES_LEFT, JDK_LIKE, NO_POOLS, RINGS, chunk_of, with_classes};
 use std::alloc::Global;
 use std::process::Abort;
 use std::test::Fail;
@@ -74,21 +73,16 @@ fn jdk_like(
     first: &[u8],
     records: &[(usize, usize)],
     last: &[u8],
-    last_at: usize,
-    metadata_at: usize,
+    last_at: u64,
+    metadata_at: u64,
 ) -> Result<Vec<u8>, Fail> {
-    let mut bytes = Vec::new(alloc);
-    bytes.extend_from_slice(JDK_LIKE.get(..68).ok_or("no header")?)?;
-    bytes.extend_from_slice(first)?;
+    let mut parts: Vec<&[u8]> = Vec::new(alloc);
+    parts.push(first)?;
     for (from, to) in records {
-        bytes.extend_from_slice(JDK_LIKE.get(*from..*to).ok_or("no record")?)?;
+        parts.push(JDK_LIKE.get(*from..*to).ok_or("no record")?)?;
     }
-    bytes.extend_from_slice(last)?;
-    let size = bytes.len();
-    put(&mut bytes, 12, size);
-    put(&mut bytes, 20, last_at);
-    put(&mut bytes, 28, metadata_at);
-    Ok(bytes)
+    parts.push(last)?;
+    Ok(chunk_of(alloc, &parts, last_at, metadata_at)?)
 }
 
 // Scrubs a recording with an option, and compares the output.
@@ -175,19 +169,17 @@ const SECOND_WITH_A_BYTE_LEFT: &[u8] = &[
     4, 9, 3, 0xFF, 0x13, 1, 0, 0, 0, 0, 1, 7, 2, 3, 4, 3, 1, 0x72, 4, 3, 3, 1, 0x73,
 ];
 
-const NO_RING: &[u8] = &[7, 1, 0, 0, 0, 0, 0];
-
 // A ring of constants stays whole, or goes whole.
 #[test]
 fn rings_stay_or_go(rt: HostRuntime) -> Result<(), Fail> {
     for (records, last, list, scrubbed, scrubbed_last) in [
         (RINGS, 333, "t.A", FIRST_RING, 330),
         (RINGS, 333, "t.B", SECOND_RING, 328),
-        (RINGS, 333, "t.C", NO_RING, 325),
+        (RINGS, 333, "t.C", NO_POOLS, 325),
         (BYTES_LEFT, 334, "B", SECOND_WITH_A_BYTE_LEFT, 329),
     ] {
-        let recording = chunk(rt.alloc(), records, last)?;
-        let expected = chunk(rt.alloc(), scrubbed, scrubbed_last)?;
+        let recording = with_classes(rt.alloc(), records, last)?;
+        let expected = with_classes(rt.alloc(), scrubbed, scrubbed_last)?;
         filtered(
             &rt,
             rt.alloc(),

@@ -1,7 +1,7 @@
 // Scrubs of the plain chunk.
 use crate::calls::{run_over_places, scrub, words};
-use crate::chunks::{INERT, PLAIN, plain_with};
 use jfr_cli::run;
+use jfr_fixtures::{NO_CLASSES, NO_POOLS, PLAIN, inert, plain_with};
 use jfr_outside::{Call, MemoryPlace, MemorySink, Place, SteadyPlace, SteadySink};
 use std::alloc::Global;
 use std::test::Fail;
@@ -36,7 +36,15 @@ fn plain_chunks_stay(rt: HostRuntime) -> Result<(), Fail> {
 // Records that belong to nothing go.
 #[test]
 fn inert_records_go(rt: HostRuntime) -> Result<(), Fail> {
-    run_over_places(&rt, rt.alloc(), &INERT, SCRUB, 0, "", Some(&PLAIN))
+    run_over_places(
+        &rt,
+        rt.alloc(),
+        &inert(rt.alloc())?,
+        SCRUB,
+        0,
+        "",
+        Some(&PLAIN),
+    )
 }
 
 // The plain chunk with some bytes changed.
@@ -80,13 +88,8 @@ fn changed_chunks_are_refused(rt: HostRuntime) -> Result<(), Fail> {
     Ok(())
 }
 
-// The metadata record of the plain chunk, and one with trees of 16 and of 17 levels, each behind its
-// strings; and checkpoints without pools.
-const METADATA: &[u8] = &[
-    0x1C, 0, 0, 0, 1, 2, 3, 4, 0x72, 0x6F, 0x6F, 0x74, 3, 8, 0x6D, 0x65, 0x74, 0x61, 0x64, 0x61,
-    0x74, 0x61, 0, 0, 1, 1, 0, 0,
-];
-
+// Metadata records with trees of 16 and of 17 levels, each behind its strings; and checkpoints that end
+// too early and too late.
 const SIXTEEN_LEVELS: &[u8] = &[
     0x46, 0, 0, 0, 1, 2, 3, 4, 0x72, 0x6F, 0x6F, 0x74, 3, 8, 0x6D, 0x65, 0x74, 0x61, 0x64, 0x61,
     0x74, 0x61, 1, 0, 1, 1, 0, 1, 1, 0, 1, 1, 0, 1, 1, 0, 1, 1, 0, 1, 1, 0, 1, 1, 0, 1, 1, 0, 1, 1,
@@ -99,8 +102,6 @@ const SEVENTEEN_LEVELS: &[u8] = &[
     0, 1, 1, 0, 1, 1, 0, 1, 1, 0, 1, 1, 0, 1, 1, 0, 1, 1, 0, 1, 1, 0, 0,
 ];
 
-const NO_POOLS: &[u8] = &[7, 1, 0, 0, 0, 0, 0];
-
 const NO_DELTA: &[u8] = &[4, 1, 0, 0];
 
 const BYTE_LEFT: &[u8] = &[8, 1, 0, 0, 0, 0, 0, 0];
@@ -109,9 +110,9 @@ const BYTE_LEFT: &[u8] = &[8, 1, 0, 0, 0, 0, 0, 0];
 #[test]
 fn other_records_are_refused(rt: HostRuntime) -> Result<(), Fail> {
     for (metadata, checkpoint, status, line) in [
-        (METADATA, NO_POOLS, 0u8, ""),
-        (METADATA, NO_DELTA, 2, "chunk 1 offset 100: Short\n"),
-        (METADATA, BYTE_LEFT, 2, "chunk 1 offset 103: Trailing\n"),
+        (NO_CLASSES, NO_POOLS, 0u8, ""),
+        (NO_CLASSES, NO_DELTA, 2, "chunk 1 offset 100: Short\n"),
+        (NO_CLASSES, BYTE_LEFT, 2, "chunk 1 offset 103: Trailing\n"),
         (
             SEVENTEEN_LEVELS,
             NO_POOLS,

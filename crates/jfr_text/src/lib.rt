@@ -9,8 +9,6 @@ mod characters;
 mod laws;
 mod read;
 mod span;
-#[cfg(test)]
-mod tests;
 mod text;
 mod units;
 mod utf16;

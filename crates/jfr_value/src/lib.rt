@@ -29,6 +29,3 @@ pub use node::{Node, Step};
 pub use part::child;
 pub use steps::Steps;
 pub use visit::{Visit, visit_targets};
-
-#[cfg(test)]
-mod tests;

@@ -19,3 +19,6 @@ append_pieces-tells g c = record { told = untold_prefix c.result _ _; «open» =
 
 pub finish_output-tells : goal.finish_output-tells
 finish_output-tells g c = record { told = untold_leaves c.result _ _; «open» = nothing_on_ok c.result; reads = c.ensures.reads; writes = c.ensures.writes; same = refl; steady = λ _ _. tt }
+
+pub list-tells : goal.list-tells
+list-tells g c = record { told = untold_leaves c.result _ _; names = nothing_if_ok c.result; reads = c.ensures.reads; writes = c.ensures.writes; same = refl; steady = λ no _. cc }

@@ -1,0 +1,74 @@
+// Whole chunks.
+use crate::records::{CLASSES, NO_CLASSES, NO_POOLS, UNKNOWN};
+use jfr_header::{Header, write_header};
+use std::alloc::{AllocError, Global};
+
+const HEADER: usize = 68;
+
+/// The plain chunk: a header, a metadata record without classes, and a checkpoint without pools.
+#[rattlefmt::skip]
+pub const PLAIN: [u8; 103] = [
+    0x46, 0x4C, 0x52, 0x00, 0x00, 0x02, 0x00, 0x01, 0, 0, 0, 0, 0, 0, 0, 103,
+    0, 0, 0, 0, 0, 0, 0, 96, 0, 0, 0, 0, 0, 0, 0, 68,
+    0, 0, 0, 0, 0, 0, 0x03, 0xE8, 0, 0, 0, 0, 0, 0, 0, 5,
+    0, 0, 0, 0, 0, 0, 0, 0, 0, 0, 0, 0, 0x3B, 0x9A, 0xCA, 0x00, 0, 0, 0, 1,
+    0x1C, 0x00, 0x00, 0x00, 0x01, 0x02, 0x03, 0x04, 0x72, 0x6F, 0x6F, 0x74,
+    0x03, 0x08, 0x6D, 0x65, 0x74, 0x61, 0x64, 0x61, 0x74, 0x61,
+    0x00, 0x00, 0x01, 0x01, 0x00, 0x00,
+    0x07, 0x01, 0x00, 0x00, 0x00, 0x00, 0x00,
+];
+
+/// A chunk of these records, by the places of its last checkpoint and of its metadata record. All else
+/// in its header is as in the plain chunk.
+pub fn chunk_of(
+    alloc: Global,
+    records: &[&[u8]],
+    pools: u64,
+    metadata: u64,
+) -> Result<Vec<u8>, AllocError> {
+    let mut bytes = Vec::from_slice(alloc, [0; HEADER].as_slice())?;
+    for record in records {
+        bytes.extend_from_slice(record)?;
+    }
+    let header = Header {
+        major: 2,
+        minor: 1,
+        size: bytes.len() as u64,
+        pools,
+        metadata,
+        start_nanos: 1000,
+        duration_nanos: 5,
+        start_ticks: 0,
+        ticks_per_second: 1_000_000_000,
+        state: 0,
+        padding: 0,
+        flags: 1,
+    };
+    if let Some(front) = bytes.first_chunk_mut::<HEADER>() {
+        write_header(&header, front);
+    }
+    Ok(bytes)
+}
+
+/// A chunk of the record of the classes at 68, and these records from 325 on, of which the one at `last`
+/// is the last checkpoint.
+pub fn with_classes(alloc: Global, records: &[u8], last: u64) -> Result<Vec<u8>, AllocError> {
+    chunk_of(alloc, &[CLASSES, records], last, 68)
+}
+
+/// The plain chunk with another metadata record and another checkpoint.
+pub fn plain_with(
+    alloc: Global,
+    metadata: &[u8],
+    checkpoint: &[u8],
+) -> Result<Vec<u8>, AllocError> {
+    let last = HEADER.saturating_add(metadata.len()) as u64;
+    chunk_of(alloc, &[metadata, checkpoint], last, 68)
+}
+
+/// The plain chunk with records that belong to nothing: a metadata record and a checkpoint that the header
+/// doesn't name, and between these and those that it names a record of no class.
+pub fn inert(alloc: Global) -> Result<Vec<u8>, AllocError> {
+    let records = [NO_CLASSES, NO_POOLS, UNKNOWN, NO_CLASSES, NO_POOLS];
+    chunk_of(alloc, &records, 134, 106)
+}

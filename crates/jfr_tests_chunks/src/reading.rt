@@ -1,0 +1,196 @@
+// Small chunks, and edits of them. Places count from the chunk's first byte.
+use jfr_base::{Flaw, ReadFault, Reason};
+use jfr_chunk::Chunk;
+use jfr_fixtures::{
+    BYTES_LEFT, NO_CLASSES, NO_NODES, NO_POOLS, RINGS, chunk_of, inert, plain_with, with_classes,
+};
+use jfr_header::is_cut;
+use std::alloc::{AllocError, Global};
+use std::test::Fail;
+
+// The plain chunk.
+fn plain(alloc: Global) -> Result<Vec<u8>, AllocError> {
+    plain_with(alloc, NO_CLASSES, NO_POOLS)
+}
+
+// Two events, and the nodes to which they refer.
+fn rings(alloc: Global) -> Result<Vec<u8>, AllocError> {
+    with_classes(alloc, RINGS, 333)
+}
+
+// The events alone.
+fn no_nodes(alloc: Global) -> Result<Vec<u8>, AllocError> {
+    with_classes(alloc, NO_NODES, 333)
+}
+
+/// Reads a whole chunk.
+pub(crate) fn read<'a>(alloc: Global, bytes: &'a [u8]) -> Result<Chunk<'a>, ReadFault> {
+    if !is_cut(bytes) {
+        return Err(ReadFault::Memory);
+    }
+    Chunk::read(alloc, bytes)
+}
+
+// How many events, chained checkpoints, entries and inert records a chunk has.
+fn counts(alloc: Global, bytes: &[u8]) -> Result<(usize, usize, usize, u64), ReadFault> {
+    let chunk = read(alloc, bytes)?;
+    Ok((
+        chunk.event_count(),
+        chunk.chain().len(),
+        chunk.pools().len(),
+        chunk.inert_count(),
+    ))
+}
+
+#[test]
+fn counts_what_a_chunk_has(rt: HostRuntime) -> Result<(), Fail> {
+    let alloc = rt.alloc();
+    assert_eq!(rt; counts(alloc, &plain(alloc)?)?, (0, 1, 0, 0));
+    assert_eq!(rt; counts(alloc, &rings(alloc)?)?, (2, 1, 4, 0));
+    assert_eq!(rt; counts(alloc, &no_nodes(alloc)?)?, (2, 1, 0, 0));
+    let older = &[
+        15, 1, 0, 0, 0xf9, 0xff, 0xff, 0xff, 0xff, 0xff, 0xff, 0xff, 0xff, 0, 0,
+    ];
+    let chained = chunk_of(alloc, &[NO_CLASSES, NO_POOLS, older], 103, 68)?;
+    assert_eq!(rt; counts(alloc, &chained)?, (0, 2, 0, 0));
+    assert_eq!(rt; counts(alloc, &inert(alloc)?)?, (0, 1, 0, 3));
+    Ok(())
+}
+
+#[test]
+fn events_end_with_their_last_field(rt: HostRuntime) -> Result<(), Fail> {
+    let alloc = rt.alloc();
+    let bytes = with_classes(alloc, BYTES_LEFT, 334)?;
+    let chunk = read(alloc, &bytes)?;
+    assert_eq!(rt; chunk.event_count(), 2);
+    let places = chunk
+        .event(1)
+        .map(|e| (e.frame.at, e.node.at, e.node.end, e.frame.size));
+    assert_eq!(rt; places, Some((330, 332, 333, 4)));
+    assert!(rt; chunk.event(2).is_none());
+    assert_eq!(rt; chunk.event_record(1), Some(2));
+    assert!(rt; chunk.event_record(2).is_none());
+    Ok(())
+}
+
+// The places of bytes and what they become, and the flaw.
+type Edit = (&'static [(usize, u8)], u64, Reason);
+
+const EDITS_OF_PLAIN: [Edit; 13] = [
+    (&[(96, 8)], 96, Reason::RecordSize),
+    (&[(96, 1)], 96, Reason::RecordSize),
+    (&[(31, 69)], 24, Reason::MetadataPosition),
+    (&[(23, 68)], 16, Reason::PoolPosition),
+    (&[(100, 1)], 100, Reason::ChainDelta),
+    (&[(74, 2)], 74, Reason::StringKind),
+    (&[(74, 6)], 74, Reason::StringKind),
+    (&[(90, 2)], 90, Reason::StringIndex),
+    (&[(93, 0)], 90, Reason::NoClasses),
+    (&[(31, 69), (96, 8)], 96, Reason::RecordSize),
+    (&[(23, 68), (31, 69)], 24, Reason::MetadataPosition),
+    (&[(23, 68), (100, 1)], 16, Reason::PoolPosition),
+    (&[(74, 2), (100, 1)], 100, Reason::ChainDelta),
+];
+
+const EDITS_OF_RINGS: [Edit; 11] = [
+    (&[(250, 9)], 245, Reason::ClassBad),
+    (&[(257, 15)], 252, Reason::ClassTwice),
+    (&[(280, 21)], 275, Reason::FieldBad),
+    (&[(278, 20)], 275, Reason::FieldTwice),
+    (&[(245, 6)], 291, Reason::UnknownType),
+    (&[(248, 13)], 291, Reason::EmptyInline),
+    (&[(272, 8)], 259, Reason::InlineDeep),
+    (&[(340, 10)], 340, Reason::PoolType),
+    (&[(332, 0x83)], 332, Reason::Short),
+    (&[(250, 9), (340, 10)], 245, Reason::ClassBad),
+    (&[(332, 0x83), (340, 10)], 340, Reason::PoolType),
+];
+
+const EDITS_OF_NO_NODES: [Edit; 1] = [(&[(332, 0x83)], 332, Reason::Short)];
+
+fn refusal_of(alloc: Global, bytes: &[u8]) -> Result<Option<Flaw>, ReadFault> {
+    match read(alloc, bytes) {
+        Ok(_) => Ok(None),
+        Err(ReadFault::Flawed(flaw)) => Ok(Some(flaw)),
+        Err(ReadFault::Memory) => Err(ReadFault::Memory),
+    }
+}
+
+// Why a chunk with some bytes edited is refused.
+fn refusal_of_edited(
+    alloc: Global,
+    chunk: &[u8],
+    edits: &[(usize, u8)],
+) -> Result<Option<Flaw>, ReadFault> {
+    let mut bytes = Vec::from_slice(alloc, chunk)?;
+    for (at, byte) in edits {
+        if let Some(edited) = bytes.get_mut(*at) {
+            *edited = *byte;
+        }
+    }
+    refusal_of(alloc, &bytes)
+}
+
+#[test]
+fn tells_the_first_flaw(rt: HostRuntime) -> Result<(), Fail> {
+    let alloc = rt.alloc();
+    for (edits, offset, reason) in EDITS_OF_PLAIN {
+        assert_eq!(rt;
+            refusal_of_edited(alloc, &plain(alloc)?, edits)?,
+            Some(Flaw { offset, reason })
+        );
+    }
+    for (edits, offset, reason) in EDITS_OF_RINGS {
+        assert_eq!(rt;
+            refusal_of_edited(alloc, &rings(alloc)?, edits)?,
+            Some(Flaw { offset, reason })
+        );
+    }
+    for (edits, offset, reason) in EDITS_OF_NO_NODES {
+        assert_eq!(rt;
+            refusal_of_edited(alloc, &no_nodes(alloc)?, edits)?,
+            Some(Flaw { offset, reason })
+        );
+    }
+    Ok(())
+}
+
+#[test]
+fn checkpoints_end_with_their_last_pool(rt: HostRuntime) -> Result<(), Fail> {
+    let alloc = rt.alloc();
+    let table: [(&[u8], u64, Reason); 2] = [
+        (&[4, 1, 0, 0], 100, Reason::Short),
+        (&[8, 1, 0, 0, 0, 0, 0, 0], 103, Reason::Trailing),
+    ];
+    for (checkpoint, offset, reason) in table {
+        let chunk = plain_with(alloc, NO_CLASSES, checkpoint)?;
+        assert_eq!(rt; refusal_of(alloc, &chunk)?, Some(Flaw { offset, reason }));
+    }
+    Ok(())
+}
+
+// A chunk whose elements stand so many levels deep.
+fn levels(alloc: Global, levels: u8) -> Result<Vec<u8>, AllocError> {
+    let (head, _) = NO_CLASSES.split_at(22);
+    let mut metadata = Vec::from_slice(alloc, head)?;
+    for _ in 1..levels {
+        metadata.extend_from_slice(&[1, 0, 1])?;
+    }
+    metadata.extend_from_slice(&[1, 0, 0])?;
+    if let Some(size) = metadata.get_mut(0) {
+        *size = 22u8.saturating_add(levels.saturating_mul(3));
+    }
+    plain_with(alloc, &metadata, NO_POOLS)
+}
+
+#[test]
+fn sixteen_levels_are_read(rt: HostRuntime) -> Result<(), Fail> {
+    let alloc = rt.alloc();
+    assert_eq!(rt; refusal_of(alloc, &levels(alloc, 16)?)?, None);
+    let flaw = Flaw {
+        offset: 138,
+        reason: Reason::TreeDeep,
+    };
+    assert_eq!(rt; refusal_of(alloc, &levels(alloc, 17)?)?, Some(flaw));
+    Ok(())
+}

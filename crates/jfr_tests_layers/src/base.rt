@@ -1,0 +1,48 @@
+// Integers, read and written.
+use jfr_base::{Short, Var, read_var, signed, var_len, write_in, write_var};
+use std::test::Fail;
+
+#[test]
+fn integers_are_read(rt: HostRuntime) {
+    let table: [(&[u8], Result<Var, Short>); 6] = [
+        (&[0xAC, 0x02], Ok(Var { value: 300, end: 2 })),
+        (&[0xAC, 0x82, 0x80, 0x00], Ok(Var { value: 300, end: 4 })),
+        (
+            &[0xFF; 9],
+            Ok(Var {
+                value: u64::MAX,
+                end: 9,
+            }),
+        ),
+        (
+            &[0x9C, 0xFF, 0xFF, 0xFF, 0xFF, 0xFF, 0xFF, 0xFF, 0xFF],
+            Ok(Var {
+                value: u64::MAX - 99,
+                end: 9,
+            }),
+        ),
+        (
+            &[0x80; 9],
+            Ok(Var {
+                value: 1 << 63,
+                end: 9,
+            }),
+        ),
+        (&[0x80], Err(Short)),
+    ];
+    for (bytes, read) in table {
+        assert_eq!(rt; read_var(bytes, 0), read, "of {bytes:?}");
+    }
+    assert_eq!(rt; signed(u64::MAX), -1);
+    assert_eq!(rt; signed(u64::MAX - 99), -100);
+}
+
+#[test]
+fn integers_are_written(rt: HostRuntime) {
+    let mut bytes = [0; 9];
+    assert_eq!(rt; write_var(300, &mut bytes), 2);
+    assert_eq!(rt; &bytes[..2], [0xAC, 0x02].as_slice());
+    assert_eq!(rt; var_len(300), 2);
+    write_in(300, 4, &mut bytes);
+    assert_eq!(rt; &bytes[..4], [0xAC, 0x82, 0x80, 0x00].as_slice());
+}

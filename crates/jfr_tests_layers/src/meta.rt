@@ -1,0 +1,133 @@
+// Metadata records with a byte edited, and trees of many levels. Places count from the record's
+// first byte.
+use jfr_base::{Flaw, ReadFault, Reason};
+use jfr_fixtures::{CLASSES, NO_CLASSES};
+use jfr_frame::next_record;
+use jfr_meta::{Element, Elements, Metadata, Pairs, metadata_len, read_metadata, write_metadata};
+use jfr_outside::Words;
+use std::alloc::Global;
+use std::test::Fail;
+
+// The place of a byte of the record, what it becomes, and the flaw.
+type Edit = (usize, u8, u64, Reason);
+
+const EDITS_OF_NO_CLASSES: [Edit; 4] = [
+    (6, 2, 6, Reason::StringKind),
+    (6, 6, 6, Reason::StringKind),
+    (22, 2, 22, Reason::StringIndex),
+    (25, 0, 22, Reason::NoClasses),
+];
+
+const EDITS_OF_CLASSES: [Edit; 7] = [
+    (182, 9, 177, Reason::ClassBad),
+    (189, 15, 184, Reason::ClassTwice),
+    (212, 21, 207, Reason::FieldBad),
+    (210, 20, 207, Reason::FieldTwice),
+    (177, 6, 223, Reason::UnknownType),
+    (180, 13, 223, Reason::EmptyInline),
+    (204, 8, 191, Reason::InlineDeep),
+];
+
+// The metadata of a record that stands alone.
+fn read(alloc: Global, record: &[u8]) -> Result<Metadata, ReadFault> {
+    match next_record(record, 0)? {
+        Some(frame) => read_metadata(alloc, record, &frame),
+        None => Err(ReadFault::Memory),
+    }
+}
+
+// Why a record with one byte edited is refused.
+fn fault_of(
+    alloc: Global,
+    record: &[u8],
+    at: usize,
+    byte: u8,
+) -> Result<Option<ReadFault>, ReadFault> {
+    let mut bytes = Vec::from_slice(alloc, record)?;
+    if let Some(edited) = bytes.get_mut(at) {
+        *edited = byte;
+    }
+    Ok(read(alloc, &bytes).err())
+}
+
+fn flawed(offset: u64, reason: Reason) -> Option<ReadFault> {
+    Some(ReadFault::Flawed(Flaw { offset, reason }))
+}
+
+#[test]
+fn reads_classes(rt: HostRuntime) -> Result<(), Fail> {
+    let alloc = rt.alloc();
+    let none = read(alloc, NO_CLASSES)?;
+    assert_eq!(rt; (none.start, none.duration, none.id), (0, 0, 1));
+    assert_eq!(rt; none.strings.get(1), Some("metadata"));
+    assert_eq!(rt; none.classes.len(), 0);
+    let some = read(alloc, CLASSES)?;
+    assert_eq!(rt; some.strings.len(), 24);
+    assert_eq!(rt; some.classes.len(), 5);
+    assert_eq!(rt; some.classes.field_named(8, "node"), Some(1));
+    assert!(rt; some.classes.is_event(9));
+    assert!(rt; !some.classes.is_event(7));
+    Ok(())
+}
+
+#[test]
+fn tells_the_flaws_of_edited_records(rt: HostRuntime) -> Result<(), Fail> {
+    let alloc = rt.alloc();
+    for (at, byte, offset, reason) in EDITS_OF_NO_CLASSES {
+        assert_eq!(rt;
+            fault_of(alloc, NO_CLASSES, at, byte)?,
+            flawed(offset, reason)
+        );
+    }
+    for (at, byte, offset, reason) in EDITS_OF_CLASSES {
+        assert_eq!(rt; fault_of(alloc, CLASSES, at, byte)?, flawed(offset, reason));
+    }
+    Ok(())
+}
+
+// Why a record with so many levels of elements is refused.
+fn fault_of_levels(alloc: Global, levels: u8) -> Result<Option<ReadFault>, ReadFault> {
+    let (head, _) = NO_CLASSES.split_at(22);
+    let mut bytes = Vec::from_slice(alloc, head)?;
+    for level in 1..levels {
+        let _ = level;
+        bytes.extend_from_slice(&[1, 0, 1])?;
+    }
+    bytes.extend_from_slice(&[1, 0, 0])?;
+    if let Some(size) = bytes.get_mut(0) {
+        *size = 22u8.saturating_add(levels.saturating_mul(3));
+    }
+    Ok(read(alloc, &bytes).err())
+}
+
+#[test]
+fn sixteen_levels_are_read(rt: HostRuntime) -> Result<(), Fail> {
+    let alloc = rt.alloc();
+    assert_eq!(rt; fault_of_levels(alloc, 16)?, None);
+    assert_eq!(rt; fault_of_levels(alloc, 17)?, flawed(70, Reason::TreeDeep));
+    Ok(())
+}
+
+// The record of a chunk without classes as it is written: its size takes four bytes.
+const WRITTEN: [u8; 31] = [
+    0x9f, 0x80, 0x80, 0x00, 0x00, 0x00, 0x00, 0x01, 0x02, 0x03, 0x04, 0x72, 0x6f, 0x6f, 0x74, 0x03,
+    0x08, 0x6d, 0x65, 0x74, 0x61, 0x64, 0x61, 0x74, 0x61, 0x00, 0x00, 0x01, 0x01, 0x00, 0x00,
+];
+
+#[test]
+fn writes_a_record(rt: HostRuntime) -> Result<(), Fail> {
+    let alloc = rt.alloc();
+    let mut strings = Words::new(alloc);
+    strings.push("root")?;
+    strings.push("metadata")?;
+    let mut children = Elements::new(alloc);
+    children.push(Element::new(0, 1, Pairs::new(alloc), Elements::new(alloc)))?;
+    let root = Element::new(0, 0, Pairs::new(alloc), children);
+    assert_eq!(rt; metadata_len(&strings, &root), 22);
+    let written = write_metadata(alloc, 0, 0, 1, &strings, &root)?;
+    assert_eq!(rt; written.as_slice(), WRITTEN.as_slice());
+    let again = read(alloc, &written)?;
+    assert_eq!(rt; again.root.children().len(), 1);
+    assert_eq!(rt; again.strings.get(0), Some("root"));
+    Ok(())
+}

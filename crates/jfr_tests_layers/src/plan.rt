@@ -1,0 +1,140 @@
+// Streams over places in memory, with a command that copies each chunk.
+use jfr_base::{Flaw, ReadFault, Reason, Refusal};
+use jfr_fixtures::PLAIN;
+use jfr_header::Ending;
+use jfr_outside::{Call, MemoryPlace, NoMemory, Place, SteadyPlace};
+use jfr_plan::{Make, make_stream};
+use std::alloc::{AllocError, Global};
+use std::test::Fail;
+
+// Makes of each chunk the chunk itself, in two pieces, and refuses every chunk where it is strict.
+#[derive(Drop)]
+struct Copying {
+    strict: bool,
+}
+
+impl Make for Copying {
+    ghost use Rattle.std.specs.Prelude.{Some, None, if◌then◌else◌};
+    ghost use Rattle.jfr_base.specs.declared.reason.Reason.TheVariants.{ChainDelta};
+
+    ghost refusal = { λ m c. if m.strict then Some (record { offset = 100; reason = ChainDelta }) else None };
+
+    ghost becomes = { λ m c. c };
+
+    ghost holds = { λ m c. Unit {0} };
+
+    ghost last = { λ m c. c };
+
+    fn make(&mut self, _alloc: Global, _chunk: &[u8]) -> Result<(), ReadFault> {
+        if self.strict {
+            return Err(ReadFault::Flawed(Flaw {
+                offset: 100,
+                reason: Reason::ChainDelta,
+            }));
+        }
+        Ok(())
+    }
+
+    fn pieces<'c>(&'c self, alloc: Global, chunk: &'c [u8]) -> Result<Vec<&'c [u8]>, NoMemory> {
+        let mut pieces = Vec::new(alloc);
+        let (front, back) = chunk.split_at(chunk.len() / 2);
+        pieces.push(front)?;
+        pieces.push(back)?;
+        Ok(pieces)
+    }
+}
+
+// Copies the file a to a new file b.
+fn copy<P: Place>(alloc: Global, place: &mut P, strict: bool) -> Ending {
+    make_stream(alloc, place, Copying { strict }, "a", "b")
+}
+
+// As many plain chunks, and the first bytes of another one.
+fn recording(alloc: Global, chunks: usize, more: usize) -> Result<Vec<u8>, AllocError> {
+    let mut bytes = Vec::new(alloc);
+    for _ in 0..chunks {
+        bytes.extend_from_slice(&PLAIN)?;
+    }
+    bytes.extend_from_slice(&PLAIN[..more.min(103)])?;
+    Ok(bytes)
+}
+
+// What is copied, the size of the reads, a script, the answer, and how many bytes the copy has.
+struct Row {
+    chunks: usize,
+    more: usize,
+    size: usize,
+    script: Option<(Call, u64, usize)>,
+    answer: Ending,
+    copied: Option<usize>,
+}
+
+#[rattlefmt::skip]
+static ROWS: [Row; 13] = [
+    Row { chunks: 0, more: 0, size: 999, script: None, answer: Ending::Refused(Refusal { chunk: 1, offset: 0, reason: Reason::NoChunk }), copied: Some(0) },
+    Row { chunks: 0, more: 67, size: 999, script: None, answer: Ending::Refused(Refusal { chunk: 1, offset: 67, reason: Reason::ShortHeader }), copied: Some(0) },
+    Row { chunks: 1, more: 0, size: 999, script: None, answer: Ending::Done, copied: Some(103) },
+    Row { chunks: 2, more: 0, size: 1, script: None, answer: Ending::Done, copied: Some(206) },
+    Row { chunks: 2, more: 0, size: 68, script: None, answer: Ending::Done, copied: Some(206) },
+    Row { chunks: 2, more: 0, size: 103, script: None, answer: Ending::Done, copied: Some(206) },
+    Row { chunks: 1, more: 100, size: 999, script: None, answer: Ending::Refused(Refusal { chunk: 2, offset: 100, reason: Reason::ShortChunk }), copied: Some(103) },
+    Row { chunks: 1, more: 0, size: 40, script: Some((Call::Read, 2, 0)), answer: Ending::ReadFault, copied: Some(0) },
+    Row { chunks: 2, more: 0, size: 40, script: Some((Call::Read, 6, 0)), answer: Ending::ReadFault, copied: Some(103) },
+    Row { chunks: 2, more: 0, size: 999, script: Some((Call::Open, 1, 0)), answer: Ending::ReadFault, copied: None },
+    Row { chunks: 2, more: 0, size: 999, script: Some((Call::Create, 1, 0)), answer: Ending::WriteFault, copied: None },
+    Row { chunks: 2, more: 0, size: 999, script: Some((Call::Append, 2, 10)), answer: Ending::WriteFault, copied: Some(113) },
+    Row { chunks: 2, more: 0, size: 999, script: Some((Call::Finish, 1, 0)), answer: Ending::WriteFault, copied: Some(206) },
+];
+
+#[test]
+fn copies_by_its_rows(rt: HostRuntime) -> Result<(), Fail> {
+    for row in ROWS.iter() {
+        let bytes = recording(rt.alloc(), row.chunks, row.more)?;
+        let mut place = MemoryPlace::new(rt.alloc());
+        place.put("a", &bytes)?;
+        if row.size > 0 {
+            place.cut(row.size);
+        }
+        if let Some((call, nth, keep)) = row.script {
+            place.fail(call, nth, keep)?;
+        }
+        assert_eq!(rt; copy(rt.alloc(), &mut place, false), row.answer);
+        match row.copied {
+            Some(count) => {
+                assert!(rt; count <= bytes.len());
+                assert_eq!(rt; place.file("b"), Some(&bytes[..count]));
+            }
+            None => assert_eq!(rt; place.file("b"), None),
+        }
+    }
+    Ok(())
+}
+
+#[test]
+fn copies_over_a_steady_place(rt: HostRuntime) -> Result<(), Fail> {
+    let alloc = rt.alloc();
+    let mut place = SteadyPlace::new(alloc);
+    assert_eq!(rt; copy(alloc, &mut place, false), Ending::ReadFault);
+    assert_eq!(rt; place.file("b"), None);
+
+    place.put("a", &PLAIN)?;
+    assert_eq!(rt; place.create_output("c"), Ok(()));
+    assert_eq!(rt; copy(alloc, &mut place, false), Ending::WriteFault);
+    assert_eq!(rt; place.file("b"), None);
+
+    assert_eq!(rt; copy(alloc, &mut place, false), Ending::Done);
+    assert_eq!(rt; place.file("b"), Some(PLAIN.as_slice()));
+    assert_eq!(rt; copy(alloc, &mut place, false), Ending::WriteFault);
+    assert_eq!(rt; place.file("b"), Some(PLAIN.as_slice()));
+
+    let refused = Ending::Refused(Refusal {
+        chunk: 1,
+        offset: 100,
+        reason: Reason::ChainDelta,
+    });
+    let mut place = SteadyPlace::new(alloc);
+    place.put("a", &PLAIN)?;
+    assert_eq!(rt; copy(alloc, &mut place, true), refused);
+    assert_eq!(rt; place.file("b"), Some(&PLAIN[..0]));
+    Ok(())
+}
