@@ -41,7 +41,8 @@ base_found bs ys i j h e l =
 pub base_whole : (bs : List ℕ) → NoCharPasses (λ d. d == 47) bs → bs ≡ base bs
 base_whole bs none = sym (last_at bs 0 (omega arith) (none_behind bs 0 none) (λ l. absurd (omega arith)))
 
-ends : (front : List ℕ) → is_recording (front ++ suffix) ≡ true
+-- what ends in `.jfr`
+pub ends : (front : List ℕ) → is_recording (front ++ suffix) ≡ true
 ends front = ap (pointwise nat_eq suffix) (end_rest (front ++ suffix) suffix front refl)
 
 no_end : (b : Bool) (name x : List ℕ) → is_recording name ≡ b → ((front : List ℕ) → name ≡ front ++ suffix → ⊥) → (if b && nat_lt 4 (length name) then x else name) ≡ name

@@ -5,10 +5,12 @@
 //! `specs/Names.antt` first, then `specs/Splits.antt` and `specs/Joins.antt`: what the two commands do.
 #![tactic(auto)]
 
+mod effects;
 mod joining;
 mod name;
 mod part;
 mod splitting;
+mod writing;
 
 pub use joining::assemble;
 pub use name::part_name;

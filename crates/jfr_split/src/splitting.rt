@@ -12,9 +12,73 @@ ghost use Rattle.jfr_split.specs.Splits.{splitting};
 ghost use Rattle.jfr_split.specs.Clauses.{CanCreateAll};
 
 use crate::SplitRule;
+use crate::part::{Part, next_part};
+use crate::writing::{close_part, write_chunk};
 use jfr_header::Ending;
-use jfr_outside::Place;
+use jfr_outside::{Place, Sink};
+use jfr_plan::{Discard, Position, Stage, run_stage};
 use std::alloc::Global;
+
+// Writes each chunk to its part.
+#[derive(Drop)]
+struct Splitting<'a> {
+    alloc: Global,
+    file: &'a str,
+    rule: &'a SplitRule,
+    part: Part,
+    ghost usable: { IsUsable rule.now },
+}
+
+impl Stage for Splitting<'_> {
+    ghost use Rattle.std.specs.Prelude.{◌≡◌};
+    ghost use Rattle.jfr_split.specs.Splits.{splitting};
+    ghost use Rattle.jfr_split.specs.Parts.{part_of};
+
+    ghost rule = { λ s. splitting s.rule.now s.file.now };
+
+    ghost seen = { λ s before. part_of s.rule.now before ≡ s.part };
+
+    fn opened<P: Place, O: Sink>(&self, _place: &mut P, _out: &mut O) -> Result<(), Ending> {
+        Ok(())
+    }
+
+    fn chunk<P: Place, O: Sink>(
+        &mut self,
+        place: &mut P,
+        _out: &mut O,
+        chunk: &[u8],
+        _number: u64,
+    ) -> Result<(), Ending> {
+        match write_chunk(self.alloc, place, self.rule, self.file, &self.part, chunk) {
+            Ok(()) => {}
+            Err(ending) => return Err(ending),
+        }
+        self.part = next_part(self.rule, &self.part, chunk);
+        Ok(())
+    }
+
+    fn end<P: Place, O: Sink>(&self, place: &mut P, _out: &mut O) -> Result<(), Ending> {
+        close_part(place, &self.part)
+    }
+}
+
+// Cuts a recording into parts.
+fn split_each<P: Place>(alloc: Global, place: &mut P, file: &str, rule: &SplitRule) -> Ending
+    requires { IsUsable rule.now }
+    ensures told { After (splitting rule.now file.now) [] file.now (way_of result)
+        (alone (P.state place.old)) (alone (P.state place.new)) }
+    ensures counts { Tallied Parts (way_of result)
+        (alone (P.state place.old)) (alone (P.state place.new)) }
+{
+    let mut stage = Splitting {
+        alloc,
+        file,
+        rule,
+        part: Part::none(),
+    };
+    let mut at = Position::first();
+    run_stage(alloc, place, &mut Discard, &mut stage, file, &mut at)
+}
 
 /// Cuts a recording into parts: opens the file, and writes each chunk that was read whole to its part,
 /// which the part's first chunk creates. The part before is finished then, and the last one at the
@@ -64,5 +128,5 @@ pub fn disassemble<P: Place>(alloc: Global, place: &mut P, file: &str, rule: &Sp
         → (result ≢ Ending.WriteFault) × ((P.state place.new).write_faults ≡ (P.state place.old).write_faults) }
     ensures same { (P.state place.new).steady ≡ (P.state place.old).steady }
 {
-    Ending::Memory
+    split_each(alloc, place, file, rule)
 }
