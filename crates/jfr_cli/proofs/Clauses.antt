@@ -1,167 +1,349 @@
 -- The separate clauses of the top call, from the one that has all cases.
-use Rattle.std.specs.Prelude.{◌≡◌, ◌⊎◌, ℕ, List, [], Option, None, Some, IfSome}
+use Rattle.std.specs.Prelude.{◌≡◌, ◌≢◌, ◌<◌, ◌≤◌, ◌⊎◌, ℕ, List, [], Option, None, Some, IfSome}
 use Rattle.std.proofs.Common.{ap, arith, refl, sym, ◌∙◌, subst, inl, inr}
 use Rattle.jfr_outside.specs.World.{World, State, SinkState, Told}
 use Rattle.jfr_outside.specs.Counts.{Rose}
+use Rattle.jfr_base.specs.declared.flaw.Refusal.{Refusal}
 use Rattle.jfr_header.specs.declared.ending.Ending.{Ending}
 use Rattle.jfr_header.specs.declared.ending.Ending.TheVariants.{Done, Refused, ReadFault, WriteFault, TooManyParts, Memory}
+use Rattle.jfr_filter.specs.Filters.{Given}
 use Rattle.jfr_plan.specs.Ends.{End, Fine, Way, Ends, NotRead, NotWritten, NoRoom, way_of}
 use Rattle.jfr_plan.specs.Ends as ends
-use Rattle.jfr_plan.specs.Effects.{alone, effects, stand}
-use Rattle.jfr_plan.specs.Walks.{Rule, plan_in}
-use Rattle.jfr_plan.specs.Outcomes.{SomeDone}
-use Rattle.jfr_plan.specs.Clauses.{Halted, Broken, IsPlanned, ByPlan, ForMemory}
+use Rattle.jfr_plan.specs.Effects.{Outside, effects, stand}
+use Rattle.jfr_plan.specs.Walks.{Target, File, Parts, Text}
+use Rattle.jfr_plan.specs.Outcomes.{SomeDone, AllDone, Outcome, Tallied}
+use Rattle.jfr_plan.specs.Clauses.{IsPlanned, ByPlan, ForMemory, write_count}
+use Rattle.jfr_plan.proofs.Clauses as plan
 use Rattle.jfr_scrub.specs.Headline.{IsByPlan, Scrubs}
-use Rattle.jfr_cli.specs.declared.words.Order.{Order}
-use Rattle.jfr_cli.specs.declared.words.Order.TheVariants.{Scrub}
-use Rattle.jfr_cli.specs.Words.{order_of, rule_of, filter_of, input_of, output_of}
-use Rattle.jfr_cli.specs.Answers.{status_of, line_of, usage_line, refusal_line, read_line, write_line, IsAnswered, Fully, IsSaid, IsPartlySaid}
+use Rattle.jfr_words.specs.declared.Order.{Order}
+use Rattle.jfr_words.specs.declared.Order.TheVariants as orders
+use Rattle.jfr_words.specs.Words.{order_of, file_name}
+use Rattle.jfr_cli.specs.Works.{Work, Over, Joins, Alone, work_of, plan_of, target_of, text_on, HaltsAs, Stands, Leaves, KeepsSink, KeepsPlace, CanReadAll, CanCreateFor}
+use Rattle.jfr_cli.specs.Answers.{status_of, line_of, usage_line, refusal_line, read_line, write_line, parts_line, IsAnswered, Fully, IsSaid, IsPartlySaid}
 use Rattle.jfr_cli.specs.Answers as answers
 use Rattle.jfr_cli.proofs.Lines.{all_said}
-use Rattle.jfr_cli.specs.Runs.{Carries, Answers, Usage, Unread, Carried, Under, StandsPartly, Prefix, Whole, Met, Torn, IsPlannedStatus, ByEnd, ByMemory, status_of_end, IsRefused}
+use Rattle.jfr_cli.proofs.Counting.{none_rose, tallied_once, steady_stays, place_passed, sink_passed, writes_stay}
+use Rattle.jfr_cli.specs.Runs.{Carries, Answers, Usage, Unread, Carried, Under, Ended, Halted, Broken, Partly, StandsPartly, Prefix, Whole, Met, Torn, CountsOnce, IsPlannedStatus, ByEnd, ByMemory, status_of_end, IsRefused}
+use Rattle.jfr_cli.specs.Runs as runs
 
 -- what stands after an ending, where memory was wanting for its line
-partly : (a b : State) (o : Order) (end : Ending) → Carries (rule_of o) (input_of o) (output_of o) end a b → StandsPartly (rule_of o) (input_of o) a b
-partly a b o Done c = Whole Fine (c.done refl)
-partly a b o (Refused x) c = Whole (ends.Refused x) (c.refused x refl)
-partly a b o ReadFault c = Met (c.halted refl)
-partly a b o WriteFault c = Torn (c.write_fault refl) (c.broken refl)
-partly a b o TooManyParts c = absurd (c.parts refl)
-partly a b o Memory c = Prefix (c.memory refl)
+partly : (k : Work) (end : Ending) (a b : Outside) → Leaves k (way_of end) a b → Tallied (target_of k) (way_of end) a b → StandsPartly k a b
+partly k Done a b l t = Whole Fine l
+partly k (Refused x) a b l t = Whole (ends.Refused x) l
+partly k TooManyParts a b l t = Whole ends.TooMany l
+partly k ReadFault a b l t = Met l
+partly k WriteFault a b l t = Torn (plan.write_rose (target_of k) WriteFault a b t refl) l
+partly k Memory a b l t = Prefix l
 
 -- nothing is done
-unchanged : (r : Rule) (input : List ℕ) (a : State) → StandsPartly r input a a
-unchanged r input a = Prefix (none a.told)
+unchanged : (k : Work) (a : Outside) → StandsPartly k a a
+unchanged k a = Prefix (none a.place.told)
   where
-    none : (t : Option World) → Told t t (λ w v. SomeDone (effects (plan_in r input w).steps) (stand w None) (stand v None))
+    none : (t : Option World) → Told t t (λ w v. SomeDone (effects (plan_of k w).steps) (stand w (text_on (target_of k) a.sink)) (stand v (text_on (target_of k) a.sink)))
     none None = tt
-    none (Some w) = record { first = []; rest = effects (plan_in r input w).steps; parts = refl; stands = refl }
+    none (Some w) = record { first = []; rest = effects (plan_of k w).steps; parts = refl; stands = refl }
 
 -- where memory was wanting, any end may be planned
 five : {r : ℕ} {e f : SinkState} {line : Option (List ℕ)} → IsAnswered 5 line r e f → r ≡ 5
 five (Fully p q) = p
 five (answers.ForMemory p q) = p
 
-any_end : {r : ℕ} (t : Option World) (rule : Rule) (input : List ℕ) → r ≡ 5 → IfSome t (λ w. IsPlannedStatus (plan_in rule input w).end r)
-any_end None rule input p = tt
-any_end (Some w) rule input p = ByMemory p
+any_end : {r : ℕ} (t : Option World) (k : Work) → r ≡ 5 → IfSome t (λ w. IsPlannedStatus (plan_of k w).end r)
+any_end None k p = tt
+any_end (Some w) k p = ByMemory p
 
--- the status of an ending is the one that the plan ends with, if the way is planned
-planned : (r : ℕ) (e f : SinkState) (end : Ending) (o : Option End) → IsAnswered (status_of end) (line_of end) r e f → IsPlanned (way_of end) o → IsPlannedStatus o r
-planned r e f end o (answers.ForMemory p q) s = ByMemory p
-planned r e f Done o (Fully p q) (ByPlan x u v) = let same : Fine ≡ x = cc in ByEnd x v (p ∙ ap status_of_end same)
-planned r e f (Refused y) o (Fully p q) (ByPlan x u v) = let same : ends.Refused y ≡ x = cc in ByEnd x v (p ∙ ap status_of_end same)
-planned r e f TooManyParts o (Fully p q) (ByPlan x u v) = let same : ends.TooMany ≡ x = cc in ByEnd x v (p ∙ ap status_of_end same)
-planned r e f ReadFault o (Fully p q) (ByPlan x u v) = cc
-planned r e f WriteFault o (Fully p q) (ByPlan x u v) = cc
-planned r e f Memory o (Fully p q) s = ByMemory p
-planned r e f Done o (Fully p q) (ForMemory u) = cc
-planned r e f (Refused y) o (Fully p q) (ForMemory u) = cc
-planned r e f TooManyParts o (Fully p q) (ForMemory u) = cc
-planned r e f ReadFault o (Fully p q) (ForMemory u) = cc
-planned r e f WriteFault o (Fully p q) (ForMemory u) = cc
+-- which endings have a status
+done_status : (e : Ending) → status_of e ≡ 0 → e ≡ Done
+done_status Done h = refl
+done_status (Refused x) h = absurd (omega (arith, h))
+done_status ReadFault h = absurd (omega (arith, h))
+done_status WriteFault h = absurd (omega (arith, h))
+done_status Memory h = absurd (omega (arith, h))
+done_status TooManyParts h = absurd (omega (arith, h))
 
-module _ {ws : List (List ℕ)} {r : ℕ} {a b : State} {e f : SinkState} where
+read_status : (e : Ending) → status_of e ≡ 3 → e ≡ ReadFault
+read_status Done h = absurd (omega (arith, h))
+read_status (Refused x) h = absurd (omega (arith, h))
+read_status ReadFault h = refl
+read_status WriteFault h = absurd (omega (arith, h))
+read_status Memory h = absurd (omega (arith, h))
+read_status TooManyParts h = absurd (omega (arith, h))
+
+write_status : (e : Ending) → status_of e ≡ 4 → e ≡ WriteFault
+write_status Done h = absurd (omega (arith, h))
+write_status (Refused x) h = absurd (omega (arith, h))
+write_status ReadFault h = absurd (omega (arith, h))
+write_status WriteFault h = refl
+write_status Memory h = absurd (omega (arith, h))
+write_status TooManyParts h = absurd (omega (arith, h))
+
+parts_status : (e : Ending) → status_of e ≡ 6 → e ≡ TooManyParts
+parts_status Done h = absurd (omega (arith, h))
+parts_status (Refused x) h = absurd (omega (arith, h))
+parts_status ReadFault h = absurd (omega (arith, h))
+parts_status WriteFault h = absurd (omega (arith, h))
+parts_status Memory h = absurd (omega (arith, h))
+parts_status TooManyParts h = refl
+
+refused_status : (e : Ending) → status_of e ≡ 2 → (r : Refusal) × (e ≡ Refused r)
+refused_status Done h = absurd (omega (arith, h))
+refused_status (Refused x) h = (x, refl)
+refused_status ReadFault h = absurd (omega (arith, h))
+refused_status WriteFault h = absurd (omega (arith, h))
+refused_status Memory h = absurd (omega (arith, h))
+refused_status TooManyParts h = absurd (omega (arith, h))
+
+-- what was carried out, where the status isn't that of a usage fault or of want of memory
+record Ran (ws : List (List ℕ)) (status : ℕ) (a b : Outside) (e f : SinkState) : Type 0 where
+  pub order : Order
+  pub is : order_of ws ≡ Some order
+  pub end : Ending
+  pub carries : Carries order end a b
+  pub status_is : status_of end ≡ status
+  pub said : answers.Said (line_of end) e f
+
+from_told : (t s : Option World) (P : World → World → Type 0) (Q : World → Type 0) → Told t s P → ((w v : World) → P w v → Q w) → IfSome t Q
+from_told None s P Q h f = tt
+from_told (Some w) None P Q h f = absurd h
+from_told (Some w) (Some v) P Q h f = f w v h
+
+-- the ending is the plan's, and its status is answered
+planned : (k : Work) (a b : Outside) (r : ℕ) (x : End) → r ≡ status_of_end x → Ended k x a b → IfSome a.place.told (λ w. IsPlannedStatus (plan_of k w).end r)
+planned k a b r x p h =
+    from_told a.place.told b.place.told (λ w v. AllDone (plan_of k w) x (stand w (text_on (target_of k) a.sink)) (stand v (text_on (target_of k) b.sink))) (λ w. IsPlannedStatus (plan_of k w).end r) h
+    (λ w v d. ByEnd x d.end p)
+
+complete_by : (k : Work) (end : Ending) (a b : Outside) (r : ℕ) (e f : SinkState) → IsAnswered (status_of end) (line_of end) r e f → Leaves k (way_of end) a b → Tallied (target_of k) (way_of end) a b
+    → (Rose a.place.read_faults b.place.read_faults → ⊥) → (Rose (write_count (target_of k) a) (write_count (target_of k) b) → ⊥) → IfSome a.place.told (λ w. IsPlannedStatus (plan_of k w).end r)
+complete_by k end a b r e f (answers.ForMemory p q) l t no_read no_write = any_end a.place.told k p
+complete_by k Done a b r e f (Fully p q) l t no_read no_write = planned k a b r Fine p l
+complete_by k (Refused x) a b r e f (Fully p q) l t no_read no_write = planned k a b r (ends.Refused x) p l
+complete_by k TooManyParts a b r e f (Fully p q) l t no_read no_write = planned k a b r ends.TooMany p l
+complete_by k ReadFault a b r e f (Fully p q) l t no_read no_write = absurd (no_read (plan.read_rose (target_of k) ReadFault a b t refl))
+complete_by k WriteFault a b r e f (Fully p q) l t no_read no_write = absurd (no_write (plan.write_rose (target_of k) WriteFault a b t refl))
+complete_by k Memory a b r e f (Fully p q) l t no_read no_write = any_end a.place.told k p
+
+-- the line of an ending with status 5 is the one for want of memory
+no_room_said : (end : Ending) (e f : SinkState) → status_of end ≡ 5 → answers.Said (line_of end) e f → IsPartlySaid e f
+no_room_said Done e f h q = absurd (omega (arith, h))
+no_room_said (Refused x) e f h q = absurd (omega (arith, h))
+no_room_said ReadFault e f h q = absurd (omega (arith, h))
+no_room_said WriteFault e f h q = absurd (omega (arith, h))
+no_room_said Memory e f h q = all_said _ e f answers.MemoryLine q
+no_room_said TooManyParts e f h q = absurd (omega (arith, h))
+
+order_same : (ws : List (List ℕ)) (o p : Order) → order_of ws ≡ Some o → order_of ws ≡ Some p → o ≡ p
+order_same ws o p e f = cc
+
+module _ (ws : List (List ℕ)) (n : ℕ) (a b : Outside) (e f : SinkState) (x : Ran ws n a b e f) (end : Ending) (is : x.end ≡ end) where
+  -- what it leaves, counts and says, where its ending is known
+  left : Leaves (work_of x.order) (way_of end) a b
+  left = subst (λ z. Leaves (work_of x.order) (way_of z) a b) is x.carries.leaves
+
+  counted : Tallied (target_of (work_of x.order)) (way_of end) a b
+  counted = subst (λ z. Tallied (target_of (work_of x.order)) (way_of z) a b) is x.carries.counts
+
+  said_by : answers.Said (line_of end) e f
+  said_by = subst (λ z. answers.Said (line_of z) e f) is x.said
+
+-- a fault that was counted ended the work, and its status is answered
+passed : (r n : ℕ) (end x : Ending) (e f : SinkState) → n ≡ status_of end → x ≡ end → IsAnswered (status_of x) (line_of x) r e f → (r ≡ n) ⊎ (r ≡ 5)
+passed r n end x e f m is (Fully p q) = inl (p ∙ (ap status_of is ∙ sym m))
+passed r n end x e f m is (answers.ForMemory p q) = inr p
+
+not_less : (n m : ℕ) → m ≡ n → n < m → ⊥
+not_less n m k l = omega (arith, k, l)
+
+-- an ending that isn't a fault isn't answered as one
+not_read : (r : ℕ) (e f : SinkState) (end : Ending) → (end ≡ ReadFault → ⊥) → IsAnswered (status_of end) (line_of end) r e f → r ≡ 3 → ⊥
+not_read r e f end n (Fully p q) h = n (read_status end (sym p ∙ h))
+not_read r e f end n (answers.ForMemory p q) h = omega (arith, p, h)
+
+not_write : (r : ℕ) (e f : SinkState) (end : Ending) → (end ≡ WriteFault → ⊥) → IsAnswered (status_of end) (line_of end) r e f → r ≡ 4 → ⊥
+not_write r e f end n (Fully p q) h = n (write_status end (sym p ∙ h))
+not_write r e f end n (answers.ForMemory p q) h = omega (arith, p, h)
+
+keeps_sink : (t : Target) (s z : SinkState) → z ≡ s → KeepsSink t s z
+keeps_sink Text s z h = tt
+keeps_sink File s z h = h
+keeps_sink Parts s z h = h
+
+keeps_place : (k : Work) (s z : State) → z ≡ s → KeepsPlace k s z
+keeps_place (Over rule input) s z h = tt
+keeps_place (Joins folder output) s z h = tt
+keeps_place (Alone p) s z h = h
+
+by_plan : (end : Ending) → (status_of end ≡ 0) ⊎ (status_of end ≡ 2) → IsByPlan end
+by_plan Done h = tt
+by_plan (Refused y) h = tt
+by_plan ReadFault (inl h) = absurd (omega (arith, h))
+by_plan ReadFault (inr h) = absurd (omega (arith, h))
+by_plan WriteFault (inl h) = absurd (omega (arith, h))
+by_plan WriteFault (inr h) = absurd (omega (arith, h))
+by_plan TooManyParts (inl h) = absurd (omega (arith, h))
+by_plan TooManyParts (inr h) = absurd (omega (arith, h))
+by_plan Memory (inl h) = absurd (omega (arith, h))
+by_plan Memory (inr h) = absurd (omega (arith, h))
+
+module _ {ws : List (List ℕ)} {r : ℕ} {a b : Outside} {e f : SinkState} where
+  ran : Answers ws r a b e f → (n : ℕ) → r ≡ n → (n ≡ 1 → ⊥) → (n ≡ 5 → ⊥) → Ran ws n a b e f
+  ran (Usage o s (Fully p q)) n h no_usage room = absurd (no_usage (sym h ∙ p))
+  ran (Usage o s (answers.ForMemory p q)) n h no_usage room = absurd (room (sym h ∙ p))
+  ran (Unread s t) n h no_usage room = absurd (room (sym h ∙ five t))
+  ran (Carried o is end c (answers.ForMemory p q)) n h no_usage room = absurd (room (sym h ∙ p))
+  ran (Carried o is end c (Fully p q)) n h no_usage room = record { order = o; is = is; end = end; carries = c; status_is = sym p ∙ h; said = q }
+
   pub usage_told : Answers ws r a b e f → r ≡ 1 → (order_of ws ≡ None) × IsSaid usage_line e f
   usage_told (Usage o s (Fully p q)) h = (o, q)
-  usage_told (Usage o s (answers.ForMemory p q)) h = absurd (omega arith)
-  usage_told (Unread s t) h = absurd (omega (arith, five t))
-  usage_told (Carried o is end c t (answers.ForMemory p q)) h = absurd (omega arith)
-  usage_told (Carried o is Done c t (Fully p q)) h = absurd (omega arith)
-  usage_told (Carried o is (Refused x) c t (Fully p q)) h = absurd (omega arith)
-  usage_told (Carried o is ReadFault c t (Fully p q)) h = absurd (omega arith)
-  usage_told (Carried o is WriteFault c t (Fully p q)) h = absurd (omega arith)
-  usage_told (Carried o is TooManyParts c t (Fully p q)) h = absurd (omega arith)
-  usage_told (Carried o is Memory c t (Fully p q)) h = absurd (omega arith)
+  usage_told (Usage o s (answers.ForMemory p q)) h = absurd (omega (arith, p, h))
+  usage_told (Unread s t) h = absurd (omega (arith, five t, h))
+  usage_told (Carried o is end c (answers.ForMemory p q)) h = absurd (omega (arith, p, h))
+  usage_told (Carried o is end c (Fully p q)) h = absurd (never end (sym p ∙ h))
+    where
+      never : (x : Ending) → status_of x ≡ 1 → ⊥
+      never Done k = omega (arith, k)
+      never (Refused x) k = omega (arith, k)
+      never ReadFault k = omega (arith, k)
+      never WriteFault k = omega (arith, k)
+      never Memory k = omega (arith, k)
+      never TooManyParts k = omega (arith, k)
 
-  pub refused_told : Answers ws r a b e f → r ≡ 2 → Under ws (λ o. IsRefused o a b e f)
-  refused_told (Usage o s (Fully p q)) h = absurd (omega arith)
-  refused_told (Usage o s (answers.ForMemory p q)) h = absurd (omega arith)
-  refused_told (Unread s t) h = absurd (omega (arith, five t))
-  refused_told (Carried o is end c t (answers.ForMemory p q)) h = absurd (omega arith)
-  refused_told (Carried o is Done c t (Fully p q)) h = absurd (omega arith)
-  refused_told (Carried o is (Refused x) c t (Fully p q)) h = (o, is, record { refusal = x; ended = c.refused x refl; said = q })
-  refused_told (Carried o is ReadFault c t (Fully p q)) h = absurd (omega arith)
-  refused_told (Carried o is WriteFault c t (Fully p q)) h = absurd (omega arith)
-  refused_told (Carried o is TooManyParts c t (Fully p q)) h = absurd (omega arith)
-  refused_told (Carried o is Memory c t (Fully p q)) h = absurd (omega arith)
+  pub usage_only : Answers ws r a b e f → order_of ws ≡ None → (r ≡ 1) ⊎ (r ≡ 5)
+  usage_only (Usage o s (Fully p q)) h = inl p
+  usage_only (Usage o s (answers.ForMemory p q)) h = inr p
+  usage_only (Unread s t) h = inr (five t)
+  usage_only (Carried o is end c t) h = cc
 
-  pub halted_told : Answers ws r a b e f → r ≡ 3 → Under ws (λ o. Halted (rule_of o) (input_of o) (alone a) (alone b)) × IsSaid read_line e f × Rose a.read_faults b.read_faults
-  halted_told (Usage o s (Fully p q)) h = absurd (omega arith)
-  halted_told (Usage o s (answers.ForMemory p q)) h = absurd (omega arith)
-  halted_told (Unread s t) h = absurd (omega (arith, five t))
-  halted_told (Carried o is end c t (answers.ForMemory p q)) h = absurd (omega arith)
-  halted_told (Carried o is Done c t (Fully p q)) h = absurd (omega arith)
-  halted_told (Carried o is (Refused x) c t (Fully p q)) h = absurd (omega arith)
-  halted_told (Carried o is ReadFault c t (Fully p q)) h = ((o, is, c.halted refl), q, c.read_fault refl)
-  halted_told (Carried o is WriteFault c t (Fully p q)) h = absurd (omega arith)
-  halted_told (Carried o is TooManyParts c t (Fully p q)) h = absurd (omega arith)
-  halted_told (Carried o is Memory c t (Fully p q)) h = absurd (omega arith)
+  pub untouched : Answers ws r a b e f → order_of ws ≡ None → b ≡ a
+  untouched (Usage o s t) h = s
+  untouched (Unread s t) h = s
+  untouched (Carried o is end c t) h = cc
 
-  pub broken_told : Answers ws r a b e f → r ≡ 4 → Under ws (λ o. Broken (rule_of o) (input_of o) (alone a) (alone b)) × IsSaid write_line e f × Rose a.write_faults b.write_faults
-  broken_told (Usage o s (Fully p q)) h = absurd (omega arith)
-  broken_told (Usage o s (answers.ForMemory p q)) h = absurd (omega arith)
-  broken_told (Unread s t) h = absurd (omega (arith, five t))
-  broken_told (Carried o is end c t (answers.ForMemory p q)) h = absurd (omega arith)
-  broken_told (Carried o is Done c t (Fully p q)) h = absurd (omega arith)
-  broken_told (Carried o is (Refused x) c t (Fully p q)) h = absurd (omega arith)
-  broken_told (Carried o is ReadFault c t (Fully p q)) h = absurd (omega arith)
-  broken_told (Carried o is WriteFault c t (Fully p q)) h = ((o, is, c.broken refl), q, c.write_fault refl)
-  broken_told (Carried o is TooManyParts c t (Fully p q)) h = absurd (omega arith)
-  broken_told (Carried o is Memory c t (Fully p q)) h = absurd (omega arith)
+  pub done_told : Answers ws r a b e f → r ≡ 0 → Under ws (λ o. Ended (work_of o) Fine a b) × (f ≡ e)
+  done_told x h =
+      let k = ran x 0 h (λ z. omega (arith, z)) (λ z. omega (arith, z)) in
+      let d = done_status k.end k.status_is in
+      ((k.order, k.is, left ws 0 a b e f k Done d), said_by ws 0 a b e f k Done d)
 
-  pub memory_told : Answers ws r a b e f → r ≡ 5 → (o : Order) → order_of ws ≡ Some o → StandsPartly (rule_of o) (input_of o) a b
+  pub refused_told : Answers ws r a b e f → r ≡ 2 → Under ws (λ o. IsRefused (work_of o) a b e f)
+  refused_told x h =
+      let k = ran x 2 h (λ z. omega (arith, z)) (λ z. omega (arith, z)) in
+      let d = refused_status k.end k.status_is in
+      (k.order, k.is, record { refusal = d.0; ended = left ws 2 a b e f k (Refused d.0) d.1; said = said_by ws 2 a b e f k (Refused d.0) d.1 })
+
+  pub halted_told : Answers ws r a b e f → r ≡ 3 → Under ws (λ o. Halted (work_of o) a b) × IsSaid read_line e f × Rose a.place.read_faults b.place.read_faults
+  halted_told x h =
+      let k = ran x 3 h (λ z. omega (arith, z)) (λ z. omega (arith, z)) in
+      let d = read_status k.end k.status_is in
+      ((k.order, k.is, left ws 3 a b e f k ReadFault d), said_by ws 3 a b e f k ReadFault d, plan.read_rose (target_of (work_of k.order)) ReadFault a b (counted ws 3 a b e f k ReadFault d) refl)
+
+  pub broken_told : Answers ws r a b e f → r ≡ 4 → Under ws (λ o. Broken (work_of o) a b) × IsSaid write_line e f × Under ws (λ o. Rose (write_count (target_of (work_of o)) a) (write_count (target_of (work_of o)) b))
+  broken_told x h =
+      let k = ran x 4 h (λ z. omega (arith, z)) (λ z. omega (arith, z)) in
+      let d = write_status k.end k.status_is in
+      ((k.order, k.is, left ws 4 a b e f k WriteFault d), said_by ws 4 a b e f k WriteFault d, (k.order, k.is, plan.write_rose (target_of (work_of k.order)) WriteFault a b (counted ws 4 a b e f k WriteFault d) refl))
+
+  pub parts_told : Answers ws r a b e f → r ≡ 6 → Under ws (λ o. Ended (work_of o) ends.TooMany a b) × IsSaid parts_line e f
+  parts_told x h =
+      let k = ran x 6 h (λ z. omega (arith, z)) (λ z. omega (arith, z)) in
+      let d = parts_status k.end k.status_is in
+      ((k.order, k.is, left ws 6 a b e f k TooManyParts d), said_by ws 6 a b e f k TooManyParts d)
+
+  pub memory_told : Answers ws r a b e f → r ≡ 5 → (o : Order) → order_of ws ≡ Some o → StandsPartly (work_of o) a b
   memory_told (Usage p s t) h o is = cc
-  memory_told (Unread s t) h o is = subst (λ z. StandsPartly (rule_of o) (input_of o) a z) (sym s) (unchanged (rule_of o) (input_of o) a)
-  memory_told (Carried p known end c t s) h o is = let same : p ≡ o = cc in subst (λ z. StandsPartly (rule_of z) (input_of z) a b) same (partly a b p end c)
+  memory_told (Unread s t) h o is = subst (λ z. StandsPartly (work_of o) a z) (sym s) (unchanged (work_of o) a)
+  memory_told (Carried p known end c t) h o is = subst (λ z. StandsPartly (work_of z) a b) (order_same ws p o known is) (partly (work_of p) end a b c.leaves c.counts)
 
   pub memory_said : Answers ws r a b e f → r ≡ 5 → IsPartlySaid e f
-  memory_said (Usage o s (Fully p q)) h = absurd (omega arith)
+  memory_said (Usage o s (Fully p q)) h = absurd (omega (arith, p, h))
   memory_said (Usage o s (answers.ForMemory p q)) h = q
-  memory_said (Unread s (Fully p q)) h = all_said _ e f q
+  memory_said (Unread s (Fully p q)) h = all_said _ e f answers.MemoryLine q
   memory_said (Unread s (answers.ForMemory p q)) h = q
-  memory_said (Carried o is end c t (answers.ForMemory p q)) h = q
-  memory_said (Carried o is Done c t (Fully p q)) h = absurd (omega arith)
-  memory_said (Carried o is (Refused x) c t (Fully p q)) h = absurd (omega arith)
-  memory_said (Carried o is ReadFault c t (Fully p q)) h = absurd (omega arith)
-  memory_said (Carried o is WriteFault c t (Fully p q)) h = absurd (omega arith)
-  memory_said (Carried o is TooManyParts c t (Fully p q)) h = absurd (omega arith)
-  memory_said (Carried o is Memory c t (Fully p q)) h = all_said _ e f q
+  memory_said (Carried o is end c (answers.ForMemory p q)) h = q
+  memory_said (Carried o is end c (Fully p q)) h = no_room_said end e f (sym p ∙ h) q
 
-  pub complete : Answers ws r a b e f → (o : Order) → order_of ws ≡ Some o → (Rose a.read_faults b.read_faults → ⊥) → (Rose a.write_faults b.write_faults → ⊥) → IfSome a.told (λ w. IsPlannedStatus (plan_in (rule_of o) (input_of o) w).end r)
+  pub statuses : Answers ws r a b e f → r ≤ 6
+  statuses (Usage o s (Fully p q)) = omega (arith, p)
+  statuses (Usage o s (answers.ForMemory p q)) = omega (arith, p)
+  statuses (Unread s t) = omega (arith, five t)
+  statuses (Carried o is end c (answers.ForMemory p q)) = omega (arith, p)
+  statuses (Carried o is end c (Fully p q)) = bound end p
+    where
+      bound : (x : Ending) → r ≡ status_of x → r ≤ 6
+      bound Done k = omega (arith, k)
+      bound (Refused x) k = omega (arith, k)
+      bound ReadFault k = omega (arith, k)
+      bound WriteFault k = omega (arith, k)
+      bound Memory k = omega (arith, k)
+      bound TooManyParts k = omega (arith, k)
+
+  pub no_read_passed : Answers ws r a b e f → a.place.read_faults < b.place.read_faults → (r ≡ 3) ⊎ (r ≡ 5)
+  no_read_passed (Usage o s t) l = absurd (not_less a.place.read_faults b.place.read_faults (ap (λ (z : Outside). z.place.read_faults) s) l)
+  no_read_passed (Unread s t) l = inr (five t)
+  no_read_passed (Carried o is end c t) l = passed r 3 ReadFault end e f refl (plan.no_read_passed (target_of (work_of o)) end a b c.counts l) t
+
+  pub no_write_passed : Answers ws r a b e f → a.place.write_faults < b.place.write_faults → (r ≡ 4) ⊎ (r ≡ 5)
+  no_write_passed (Usage o s t) l = absurd (not_less a.place.write_faults b.place.write_faults (ap (λ (z : Outside). z.place.write_faults) s) l)
+  no_write_passed (Unread s t) l = inr (five t)
+  no_write_passed (Carried o is end c t) l = passed r 4 WriteFault end e f refl (place_passed (target_of (work_of o)) end a b c.counts l) t
+
+  pub no_text_passed : Answers ws r a b e f → a.sink.faults < b.sink.faults → (r ≡ 4) ⊎ (r ≡ 5)
+  no_text_passed (Usage o s t) l = absurd (not_less a.sink.faults b.sink.faults (ap (λ (z : Outside). z.sink.faults) s) l)
+  no_text_passed (Unread s t) l = inr (five t)
+  no_text_passed (Carried o is end c t) l = passed r 4 WriteFault end e f refl (sink_passed (target_of (work_of o)) end a b c.counts l) t
+
+  pub one_count : Answers ws r a b e f → CountsOnce a b
+  one_count (Usage o s t) = runs.NoneRose (none_rose a b s)
+  one_count (Unread s t) = runs.NoneRose (none_rose a b s)
+  one_count (Carried o is end c t) = tallied_once (target_of (work_of o)) (way_of end) a b c.counts
+
+  pub same_told : Answers ws r a b e f → b.place.steady ≡ a.place.steady
+  same_told (Usage o s t) = ap (λ (z : Outside). z.place.steady) s
+  same_told (Unread s t) = ap (λ (z : Outside). z.place.steady) s
+  same_told (Carried o is end c t) = steady_stays (target_of (work_of o)) (way_of end) a b c.counts
+
+  pub complete : Answers ws r a b e f → (o : Order) → order_of ws ≡ Some o → (Rose a.place.read_faults b.place.read_faults → ⊥) → (Rose (write_count (target_of (work_of o)) a) (write_count (target_of (work_of o)) b) → ⊥) → IfSome a.place.told (λ w. IsPlannedStatus (plan_of (work_of o) w).end r)
   complete (Usage p s t) o is h i = cc
-  complete (Unread s t) o is h i = any_end a.told (rule_of o) (input_of o) (five t)
-  complete (Carried (Scrub g x y) known end c t s) o is h i =
-      let same : Scrub g x y ≡ o = cc in
-      subst (λ z. IfSome a.told (λ w. IsPlannedStatus (plan_in (rule_of z) (input_of z) w).end r)) same (each a.told (c.complete h i))
-    where
-      each : (t : Option World) → IfSome t (λ w. IsPlanned (way_of end) (plan_in (rule_of (Scrub g x y)) (input_of (Scrub g x y)) w).end) → IfSome t (λ w. IsPlannedStatus (plan_in (rule_of (Scrub g x y)) (input_of (Scrub g x y)) w).end r)
-      each None k = k
-      each (Some w) k = planned r e f end (plan_in (rule_of (Scrub g x y)) (input_of (Scrub g x y)) w).end s k
+  complete (Unread s t) o is h i = any_end a.place.told (work_of o) (five t)
+  complete (Carried p known end c t) o is h i =
+      let same = order_same ws p o known is in
+      subst (λ z. IfSome a.place.told (λ w. IsPlannedStatus (plan_of (work_of z) w).end r)) same
+      (complete_by (work_of p) end a b r e f t c.leaves c.counts h (subst (λ z. Rose (write_count (target_of (work_of z)) a) (write_count (target_of (work_of z)) b) → ⊥) (sym same) i))
 
-  pub headline_told : Answers ws r a b e f → (r ≡ 0) ⊎ (r ≡ 2) → Under ws (λ o. Told a.told b.told (Scrubs (filter_of o) (input_of o) (output_of o)))
-  headline_told (Usage o s (Fully p q)) (inl h) = absurd (omega arith)
-  headline_told (Usage o s (Fully p q)) (inr h) = absurd (omega arith)
-  headline_told (Usage o s (answers.ForMemory p q)) (inl h) = absurd (omega arith)
-  headline_told (Usage o s (answers.ForMemory p q)) (inr h) = absurd (omega arith)
-  headline_told (Unread s t) (inl h) = absurd (omega (arith, five t))
-  headline_told (Unread s t) (inr h) = absurd (omega (arith, five t))
-  headline_told (Carried o is end c t (answers.ForMemory p q)) (inl h) = absurd (omega arith)
-  headline_told (Carried o is end c t (answers.ForMemory p q)) (inr h) = absurd (omega arith)
-  headline_told (Carried (Scrub g x y) is end c t (Fully p q)) h = (Scrub g x y, is, t (by_status end (status_planned p h)))
-    where
-      status_planned : r ≡ status_of end → (r ≡ 0) ⊎ (r ≡ 2) → (status_of end ≡ 0) ⊎ (status_of end ≡ 2)
-      status_planned p (inl h) = inl (sym p ∙ h)
-      status_planned p (inr h) = inr (sym p ∙ h)
+  pub can_read : Answers ws r a b e f → (o : Order) → order_of ws ≡ Some o → CanReadAll (work_of o) a.place → (r ≡ 3 → ⊥) × (b.place.read_faults ≡ a.place.read_faults)
+  can_read (Usage p s t) o is can = cc
+  can_read (Unread s t) o is can = ((λ h. omega (arith, five t, h)), ap (λ (z : Outside). z.place.read_faults) s)
+  can_read (Carried p known end c t) o is can =
+      let n = c.can_read (subst (λ z. CanReadAll (work_of z) a.place) (sym (order_same ws p o known is)) can) in
+      (not_read r e f end n t, plan.reads_clause (target_of (work_of p)) end a b c.counts n)
 
-      by_status : (end : Ending) → (status_of end ≡ 0) ⊎ (status_of end ≡ 2) → IsByPlan end
-      by_status Done h = tt
-      by_status (Refused y) h = tt
-      by_status ReadFault (inl h) = absurd (omega arith)
-      by_status ReadFault (inr h) = absurd (omega arith)
-      by_status WriteFault (inl h) = absurd (omega arith)
-      by_status WriteFault (inr h) = absurd (omega arith)
-      by_status TooManyParts (inl h) = absurd (omega arith)
-      by_status TooManyParts (inr h) = absurd (omega arith)
-      by_status Memory (inl h) = absurd (omega arith)
-      by_status Memory (inr h) = absurd (omega arith)
+  pub can_create : Answers ws r a b e f → (o : Order) → order_of ws ≡ Some o → CanCreateFor o a.place → (r ≡ 4 → ⊥) × (b.place.write_faults ≡ a.place.write_faults)
+  can_create (Usage p s t) o is can = cc
+  can_create (Unread s t) o is can = ((λ h. omega (arith, five t, h)), ap (λ (z : Outside). z.place.write_faults) s)
+  can_create (Carried p known end c t) o is can =
+      let n = c.can_create (subst (λ z. CanCreateFor z a.place) (sym (order_same ws p o known is)) can) in
+      (not_write r e f end n t, writes_stay (target_of (work_of p)) end a b c.counts n)
+
+  pub sink_told : Answers ws r a b e f → (o : Order) → order_of ws ≡ Some o → KeepsSink (target_of (work_of o)) a.sink b.sink
+  sink_told (Usage p s t) o is = cc
+  sink_told (Unread s t) o is = keeps_sink (target_of (work_of o)) a.sink b.sink (ap (λ (z : Outside). z.sink) s)
+  sink_told (Carried p known end c t) o is = subst (λ z. KeepsSink (target_of (work_of z)) a.sink b.sink) (order_same ws p o known is) c.sink
+
+  pub place_told : Answers ws r a b e f → (o : Order) → order_of ws ≡ Some o → KeepsPlace (work_of o) a.place b.place
+  place_told (Usage p s t) o is = cc
+  place_told (Unread s t) o is = keeps_place (work_of o) a.place b.place (ap (λ (z : Outside). z.place) s)
+  place_told (Carried p known end c t) o is = subst (λ z. KeepsPlace (work_of z) a.place b.place) (order_same ws p o known is) c.place
+
+  pub headline_told : Answers ws r a b e f → (r ≡ 0) ⊎ (r ≡ 2) → (g : Given) (i o : List ℕ) → order_of ws ≡ Some (orders.Scrub g i o) → Told a.place.told b.place.told (Scrubs g (file_name i) (file_name o))
+  headline_told (Usage p s t) h g i o is = cc
+  headline_told (Unread s t) (inl h) g i o is = absurd (omega (arith, five t, h))
+  headline_told (Unread s t) (inr h) g i o is = absurd (omega (arith, five t, h))
+  headline_told (Carried p known end c (answers.ForMemory m q)) (inl h) g i o is = absurd (omega (arith, m, h))
+  headline_told (Carried p known end c (answers.ForMemory m q)) (inr h) g i o is = absurd (omega (arith, m, h))
+  headline_told (Carried p known end c (Fully m q)) h g i o is =
+      let w = subst (λ z. runs.Wrote z end a.place b.place) (order_same ws p (orders.Scrub g i o) known is) c.wrote in
+      w (by_plan end (planned_status m h))
+    where
+      planned_status : r ≡ status_of end → (r ≡ 0) ⊎ (r ≡ 2) → (status_of end ≡ 0) ⊎ (status_of end ≡ 2)
+      planned_status m (inl h) = inl (sym m ∙ h)
+      planned_status m (inr h) = inr (sym m ∙ h)

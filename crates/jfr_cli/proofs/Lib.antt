@@ -1,4 +1,5 @@
-pub mod Clauses
 pub mod Lines
 pub mod Orders
-pub mod WordLaws
+pub mod Counting
+pub mod Sampling
+pub mod Clauses

@@ -36,6 +36,9 @@ write_line = codes "write fault" ++ newline
 abbrev pub memory_line : List ℕ
 memory_line = codes "out of memory" ++ newline
 
+abbrev pub parts_line : List ℕ
+parts_line = codes "too many parts" ++ newline
+
 -- The line of an ending, if it has one.
 abbrev pub line_of : Ending → Option (List ℕ)
 line_of Done = None
@@ -43,16 +46,26 @@ line_of (Refused r) = Some (refusal_line r)
 line_of ReadFault = Some read_line
 line_of WriteFault = Some write_line
 line_of Memory = Some memory_line
-line_of TooManyParts = Some (codes "too many parts" ++ newline)
+line_of TooManyParts = Some parts_line
 
 -- The line stands on the sink; only where its count rose may it be a prefix of the line.
 pub data IsSaid (line : List ℕ) (a b : SinkState) : Type 0 where
   Whole : b ≡ record { written = option_map (added line) a.written; faults = a.faults } → IsSaid line a b
   Part : Rose a.faults b.faults → (k : ℕ) → b.written ≡ option_map (added (take k line)) a.written → IsSaid line a b
 
--- The first k bytes of a line stand on the sink.
+-- One of the lines of the program.
+pub data IsLine : List ℕ → Type 0 where
+  UsageLine : IsLine usage_line
+  RefusalLine : (r : Refusal) → IsLine (refusal_line r)
+  ReadLine : IsLine read_line
+  WriteLine : IsLine write_line
+  MemoryLine : IsLine memory_line
+  PartsLine : IsLine parts_line
+
+-- The first bytes of one of the lines stand on the sink.
 pub record IsPartlySaid (a b : SinkState) : Type 0 where
   pub line : List ℕ
+  pub is_line : IsLine line
   pub count : ℕ
   pub written : b.written ≡ option_map (added (take count line)) a.written
 

@@ -1,57 +1,80 @@
 -- What the program does and answers.
-use Rattle.std.specs.Prelude.{◌≡◌, ◌≢◌, ◌<◌, ℕ, List, Option, None, Some}
+use Rattle.std.specs.Prelude.{◌≡◌, ◌≢◌, ℕ, List, Option, None, Some, ⊤, IfSome}
 use Rattle.jfr_base.specs.declared.flaw.Refusal.{Refusal}
-use Rattle.jfr_outside.specs.World.{State, SinkState, Told}
+use Rattle.jfr_outside.specs.World.{World, State, SinkState, Told}
 use Rattle.jfr_outside.specs.Counts.{Rose}
 use Rattle.jfr_header.specs.declared.ending.Ending.{Ending}
 use Rattle.jfr_header.specs.declared.ending.Ending.TheVariants as ending
 use Rattle.jfr_plan.specs.Ends.{End, Fine, Refused, TooMany, way_of}
-use Rattle.jfr_plan.specs.Walks.{Rule}
-use Rattle.jfr_plan.specs.Effects.{alone}
-use Rattle.jfr_plan.specs.Clauses.{Ended, Halted, Broken, Partly, IsComplete, CanRead, CanCreate}
+use Rattle.jfr_plan.specs.Effects.{Outside, effects}
+use Rattle.jfr_plan.specs.Outcomes.{AllDone, SomeDone, Breaks, Kept, Rises, Counted, Tallied}
+use Rattle.jfr_plan.specs.Clauses.{write_count}
 use Rattle.jfr_scrub.specs.Headline.{IsByPlan, Scrubs}
-use Rattle.jfr_cli.specs.declared.words.Order.{Order}
-use Rattle.jfr_cli.specs.declared.words.Order.TheVariants.{Scrub}
-use Rattle.jfr_cli.specs.Words.{order_of, rule_of, input_of, output_of, file_name}
+use Rattle.jfr_words.specs.declared.Order.{Order}
+use Rattle.jfr_words.specs.declared.Order.TheVariants as orders
+use Rattle.jfr_words.specs.Words.{order_of, file_name}
+use Rattle.jfr_cli.specs.Works.{Work, work_of, plan_of, target_of, HaltsAs, Stands, Leaves, KeepsSink, KeepsPlace, CanReadAll, CanCreateFor}
 use Rattle.jfr_cli.specs.Answers.{status_of, line_of, usage_line, refusal_line, memory_line, IsAnswered, IsSaid}
 
--- What the command with this order of the work says of its ending.
-pub record Carries (r : Rule) (input output : List ℕ) (e : Ending) (a b : State) : Type 0 where
-  pub done : e ≡ ending.Done → Ended r input Fine (alone a) (alone b)
-  pub refused : (why : Refusal) → e ≡ ending.Refused why → Ended r input (Refused why) (alone a) (alone b)
-  pub halted : e ≡ ending.ReadFault → Halted r input (alone a) (alone b)
-  pub broken : e ≡ ending.WriteFault → Broken r input (alone a) (alone b)
-  pub memory : e ≡ ending.Memory → Partly r input (alone a) (alone b)
-  pub read_fault : e ≡ ending.ReadFault → Rose a.read_faults b.read_faults
-  pub write_fault : e ≡ ending.WriteFault → Rose a.write_faults b.write_faults
-  pub no_read_passed : a.read_faults < b.read_faults → e ≡ ending.ReadFault
-  pub no_write_passed : a.write_faults < b.write_faults → e ≡ ending.WriteFault
-  pub complete : IsComplete r input (way_of e) (alone a) (alone b)
-  pub parts : e ≢ ending.TooManyParts
-  pub can_read : CanRead input a → (e ≢ ending.ReadFault) × (b.read_faults ≡ a.read_faults)
-  pub can_create : CanCreate output a → (e ≢ ending.WriteFault) × (b.write_faults ≡ a.write_faults)
-  pub same : b.steady ≡ a.steady
-
--- A command whose answer is one that its plan ends with has written what it is for: a scrub, the scrub of its input.
+-- A scrub whose answer is one that its plan ends with has written the scrub of its input.
 abbrev pub Wrote : Order → Ending → State → State → Type 0
-Wrote (Scrub g input output) e a b = IsByPlan e → Told a.told b.told (Scrubs g (file_name input) (file_name output))
+Wrote (orders.Scrub g input output) e a b = IsByPlan e → Told a.told b.told (Scrubs g (file_name input) (file_name output))
+Wrote (orders.Print g depth json file) e a b = ⊤
+Wrote (orders.Summary file) e a b = ⊤
+Wrote (orders.Metadata file) e a b = ⊤
+Wrote (orders.Disassemble file rule) e a b = ⊤
+Wrote (orders.Assemble folder output) e a b = ⊤
+Wrote (orders.Sample seed events) e a b = ⊤
+
+-- What an order leaves and counts, by its ending.
+pub record Carries (o : Order) (e : Ending) (a b : Outside) : Type 0 where
+  pub leaves : Leaves (work_of o) (way_of e) a b
+  pub counts : Tallied (target_of (work_of o)) (way_of e) a b
+  pub sink : KeepsSink (target_of (work_of o)) a.sink b.sink
+  pub place : KeepsPlace (work_of o) a.place b.place
+  pub wrote : Wrote o e a.place b.place
+  pub can_read : CanReadAll (work_of o) a.place → e ≢ ending.ReadFault
+  pub can_create : CanCreateFor o a.place → e ≢ ending.WriteFault
 
 -- The words are a usage fault and nothing is done; or memory was wanting while they were read, and nothing is done; or they are an order, which is carried out and ends somehow. The status and its line are told.
-pub data Answers (words : List (List ℕ)) (answer : ℕ) (a b : State) (e f : SinkState) : Type 0 where
+pub data Answers (words : List (List ℕ)) (answer : ℕ) (a b : Outside) (e f : SinkState) : Type 0 where
   Usage : order_of words ≡ None → b ≡ a → IsAnswered 1 (Some usage_line) answer e f → Answers words answer a b e f
   Unread : b ≡ a → IsAnswered 5 (Some memory_line) answer e f → Answers words answer a b e f
-  Carried : (o : Order) → order_of words ≡ Some o → (end : Ending) → Carries (rule_of o) (input_of o) (output_of o) end a b → Wrote o end a b → IsAnswered (status_of end) (line_of end) answer e f → Answers words answer a b e f
+  Carried : (o : Order) → order_of words ≡ Some o → (end : Ending) → Carries o end a b → IsAnswered (status_of end) (line_of end) answer e f → Answers words answer a b e f
 
 -- The words are an order, and this holds of it.
 abbrev pub Under : List (List ℕ) → (Order → Type 0) → Type 0
 Under words P = (o : Order) × (order_of words ≡ Some o) × P o
 
--- What stands where memory was wanting: the first effects are done, and none where the words were not read; or exactly those whose need is met; or, where the count of write faults rose, the first ones and a prefix of the next one's bytes.
-pub data StandsPartly (r : Rule) (input : List ℕ) (a b : State) : Type 0 where
-  Prefix : Partly r input (alone a) (alone b) → StandsPartly r input a b
-  Whole : (e : End) → Ended r input e (alone a) (alone b) → StandsPartly r input a b
-  Met : Halted r input (alone a) (alone b) → StandsPartly r input a b
-  Torn : Rose a.write_faults b.write_faults → Broken r input (alone a) (alone b) → StandsPartly r input a b
+-- The plan ends so, and all its effects are done.
+abbrev pub Ended : Work → End → Outside → Outside → Type 0
+Ended k e a b = Stands k a b (λ w v s t. AllDone (plan_of k w) e s t)
+
+-- A read failed: of one recording exactly the effects are done whose need was met; of a folder's files the first effects.
+abbrev pub Halted : Work → Outside → Outside → Type 0
+Halted k a b = Stands k a b (λ w v s t. HaltsAs a.place.steady k w v s t)
+
+-- The first effects are done, and of the next one, which failed, a prefix of its bytes.
+abbrev pub Broken : Work → Outside → Outside → Type 0
+Broken k a b = Stands k a b (λ w v s t. Breaks a.place.steady (effects (plan_of k w).steps) s t)
+
+-- The first effects are done.
+abbrev pub Partly : Work → Outside → Outside → Type 0
+Partly k a b = Stands k a b (λ w v s t. SomeDone (effects (plan_of k w).steps) s t)
+
+-- What stands where memory was wanting: the first effects are done, and none where the words were not read; or all of them; or those that a read fault leaves; or, where the count of write faults rose, the first ones and a prefix of the next one's bytes.
+pub data StandsPartly (k : Work) (a b : Outside) : Type 0 where
+  Prefix : Partly k a b → StandsPartly k a b
+  Whole : (e : End) → Ended k e a b → StandsPartly k a b
+  Met : Halted k a b → StandsPartly k a b
+  Torn : Rose (write_count (target_of k) a) (write_count (target_of k) b) → Broken k a b → StandsPartly k a b
+
+-- At most one count rose: that of reads, that of writes to the place, or that of writes to the output sink.
+pub data CountsOnce (a b : Outside) : Type 0 where
+  NoneRose : Counted Kept Kept Kept a b → CountsOnce a b
+  ReadsRose : Counted Rises Kept Kept a b → CountsOnce a b
+  WritesRose : Counted Kept Rises Kept a b → CountsOnce a b
+  TextsRose : Counted Kept Kept Rises a b → CountsOnce a b
 
 -- The status of a plan's end.
 abbrev pub status_of_end : End → ℕ
@@ -65,7 +88,7 @@ pub data IsPlannedStatus (end : Option End) (answer : ℕ) : Type 0 where
   ByMemory : answer ≡ 5 → IsPlannedStatus end answer
 
 -- A chunk of the recording is refused: the plan ends so, all its effects are done, and the line says so.
-pub record IsRefused (o : Order) (a b : State) (e f : SinkState) : Type 0 where
+pub record IsRefused (k : Work) (a b : Outside) (e f : SinkState) : Type 0 where
   pub refusal : Refusal
-  pub ended : Ended (rule_of o) (input_of o) (Refused refusal) (alone a) (alone b)
+  pub ended : Ended k (Refused refusal) a b
   pub said : IsSaid (refusal_line refusal) e f

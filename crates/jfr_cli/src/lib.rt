@@ -1,12 +1,12 @@
-//! The program's top call: the words of the command line, the order that they give, and what the
-//! program answers.
+//! The program's top call: it carries out the order that the words of the command line give.
 //!
-//! `run` is the entry. Read `specs/Words.antt` first, and then `specs/Answers.antt`.
+//! `run` is the entry. Read `specs/Works.antt` first: what each order asks to be done; then
+//! `specs/Answers.antt`: the status and the line; then `specs/Runs.antt`: what stands after each.
 #![tactic(auto)]
 
-mod left;
+mod carry;
 mod say;
 mod top;
-mod words;
 
+pub use jfr_words::{Order, WordsFault, read_words};
 pub use top::run;

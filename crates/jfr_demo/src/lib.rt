@@ -1,7 +1,7 @@
 //! Stub of the sample's text.
 #![tactic(auto)]
 ghost use Rattle.std.specs.Prelude.{◌≡◌, ◌≤◌, Ok, MatchResult};
-ghost use Rattle.jfr_chunk.specs.Answers.{TellsFlaw};
+ghost use Rattle.jfr_pool.specs.Faults.{TellsFlaw};
 ghost use Rattle.jfr_demo.specs.Demo.{sampled};
 
 use jfr_base::ReadFault;

@@ -54,7 +54,7 @@ pub enum WordsFault {
 }
 
 pub fn read_words(_alloc: Global, words: &Words) -> Result<Order, WordsFault>
-    ensures { IsRead (order_of words.now) result (λ order. order) }
+    ensures read { IsRead (order_of words.now) result (λ order. order) }
     ensures usable { IfOk result IsUsableOrder }
 {
     Err(WordsFault::Memory)

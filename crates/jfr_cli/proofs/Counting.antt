@@ -1,0 +1,81 @@
+-- Which counts rose, over a place and the output sink.
+use Rattle.std.specs.Prelude.{◌≡◌, ◌≢◌, ◌<◌, ◌⊎◌, ℕ}
+use Rattle.std.proofs.Common.{ap, arith, refl, sym, ◌∙◌, subst, inl, inr}
+use Rattle.jfr_outside.specs.World.{State, SinkState}
+use Rattle.jfr_header.specs.declared.ending.Ending.{Ending}
+use Rattle.jfr_header.specs.declared.ending.Ending.TheVariants.{Done, Refused, ReadFault, WriteFault, TooManyParts, Memory}
+use Rattle.jfr_plan.specs.Ends.{Way, Ends, NotRead, NotWritten, NoRoom, way_of}
+use Rattle.jfr_plan.specs.Effects.{Outside, outside, alone}
+use Rattle.jfr_plan.specs.Walks.{Target, File, Parts, Text}
+use Rattle.jfr_plan.specs.Outcomes.{Kept, Counted, Tallied}
+use Rattle.jfr_plan.specs.Clauses.{write_count}
+use Rattle.jfr_cli.specs.Runs as runs
+use Rattle.jfr_cli.specs.Runs.{CountsOnce}
+
+-- a call that has no part in the sink leaves it
+pub lifted : (way : Way) (p q : State) (s : SinkState) → Tallied File way (alone p) (alone q) → Tallied File way (outside p s) (outside q s)
+lifted (Ends e) p q s h = (h.0, (h.1.0, h.1.1, refl, h.1.3))
+lifted NotRead p q s h = (h.0, h.1, refl, h.3)
+lifted NotWritten p q s h = (h.0, h.1, refl, h.3)
+lifted NoRoom p q s h = (h.0, h.1, refl, h.3)
+
+pub lifted_parts : (way : Way) (p q : State) (s : SinkState) → Tallied Parts way (alone p) (alone q) → Tallied Parts way (outside p s) (outside q s)
+lifted_parts (Ends e) p q s h = (h.0, (h.1.0, h.1.1, refl, h.1.3))
+lifted_parts NotRead p q s h = (h.0, h.1, refl, h.3)
+lifted_parts NotWritten p q s h = (h.0, h.1, refl, h.3)
+lifted_parts NoRoom p q s h = (h.0, h.1, refl, h.3)
+
+-- no count rose
+pub none_rose : (a b : Outside) → b ≡ a → Counted Kept Kept Kept a b
+none_rose a b e = (ap (λ (x : Outside). x.place.read_faults) e, ap (λ (x : Outside). x.place.write_faults) e, ap (λ (x : Outside). x.sink.faults) e, ap (λ (x : Outside). x.place.steady) e)
+
+-- at most one count rose
+written_once : (t : Target) (a b : Outside) → Tallied t NotWritten a b → CountsOnce a b
+written_once File a b h = runs.WritesRose h
+written_once Parts a b h = runs.WritesRose h
+written_once Text a b h = runs.TextsRose h
+
+pub tallied_once : (t : Target) (way : Way) (a b : Outside) → Tallied t way a b → CountsOnce a b
+tallied_once t (Ends e) a b h = runs.NoneRose h.1
+tallied_once t NotRead a b h = runs.ReadsRose h
+tallied_once t NotWritten a b h = written_once t a b h
+tallied_once t NoRoom a b h = runs.NoneRose h
+
+-- a place stays steady
+once_same : (a b : Outside) → CountsOnce a b → b.place.steady ≡ a.place.steady
+once_same a b (runs.NoneRose h) = h.3
+once_same a b (runs.ReadsRose h) = h.3
+once_same a b (runs.WritesRose h) = h.3
+once_same a b (runs.TextsRose h) = h.3
+
+pub steady_stays : (t : Target) (way : Way) (a b : Outside) → Tallied t way a b → b.place.steady ≡ a.place.steady
+steady_stays t way a b h = once_same a b (tallied_once t way a b h)
+
+no_less : (n m : ℕ) → m ≡ n → n < m → ⊥
+no_less n m e h = omega (arith, e, h)
+
+-- a write to the place, or to the sink, that failed isn't passed over
+pub place_passed : (t : Target) (e : Ending) (a b : Outside) → Tallied t (way_of e) a b → a.place.write_faults < b.place.write_faults → e ≡ WriteFault
+place_passed t Done a b h l = absurd (no_less a.place.write_faults b.place.write_faults h.1.1 l)
+place_passed t (Refused r) a b h l = absurd (no_less a.place.write_faults b.place.write_faults h.1.1 l)
+place_passed t TooManyParts a b h l = absurd (no_less a.place.write_faults b.place.write_faults h.1.1 l)
+place_passed t ReadFault a b h l = absurd (no_less a.place.write_faults b.place.write_faults h.1 l)
+place_passed t Memory a b h l = absurd (no_less a.place.write_faults b.place.write_faults h.1 l)
+place_passed t WriteFault a b h l = refl
+
+pub sink_passed : (t : Target) (e : Ending) (a b : Outside) → Tallied t (way_of e) a b → a.sink.faults < b.sink.faults → e ≡ WriteFault
+sink_passed t Done a b h l = absurd (no_less a.sink.faults b.sink.faults h.1.2 l)
+sink_passed t (Refused r) a b h l = absurd (no_less a.sink.faults b.sink.faults h.1.2 l)
+sink_passed t TooManyParts a b h l = absurd (no_less a.sink.faults b.sink.faults h.1.2 l)
+sink_passed t ReadFault a b h l = absurd (no_less a.sink.faults b.sink.faults h.2 l)
+sink_passed t Memory a b h l = absurd (no_less a.sink.faults b.sink.faults h.2 l)
+sink_passed t WriteFault a b h l = refl
+
+-- without a write fault the count of writes to the place stays
+pub writes_stay : (t : Target) (e : Ending) (a b : Outside) → Tallied t (way_of e) a b → e ≢ WriteFault → b.place.write_faults ≡ a.place.write_faults
+writes_stay t Done a b h n = h.1.1
+writes_stay t (Refused r) a b h n = h.1.1
+writes_stay t TooManyParts a b h n = h.1.1
+writes_stay t ReadFault a b h n = h.1
+writes_stay t Memory a b h n = h.1
+writes_stay t WriteFault a b h n = absurd (n refl)

@@ -1,0 +1,142 @@
+// Each order as a call.
+ghost use Rattle.jfr_plan.specs.Effects.{outside};
+ghost use Rattle.jfr_words.specs.Words.{IsUsableOrder};
+ghost use Rattle.jfr_words.specs.declared.Order.TheVariants as orders;
+ghost use Rattle.std.specs.Prelude.{◌≤◌};
+ghost use Rattle.jfr_split.specs.Parts.{IsUsable};
+ghost use Rattle.jfr_cli.specs.Runs.{Carries};
+
+use jfr_base::{ReadFault, Refusal};
+use jfr_demo::sample_text;
+use jfr_filter::Filter;
+use jfr_header::Ending;
+use jfr_outside::{Fault, Place, Sink, Text};
+use jfr_report::{metadata_stream, print_stream, summary_stream};
+use jfr_scrub::scrub_stream;
+use jfr_split::{SplitRule, assemble, disassemble};
+use jfr_words::Order;
+use std::alloc::Global;
+
+/// Carries out an order over a place and the output sink.
+pub(crate) fn carry_out<P: Place, O: Sink>(
+    alloc: Global,
+    place: &mut P,
+    out: &mut O,
+    order: &Order,
+) -> Ending
+    requires usable { IsUsableOrder order.now }
+    ensures { Carries order.now result (outside (P.state place.old) (O.state out.old)) (outside (P.state place.new) (O.state out.new)) }
+{
+    match order {
+        Order::Print {
+            filter,
+            depth,
+            json,
+            file,
+        } => print(alloc, place, out, filter, *depth, *json, file),
+        Order::Summary { file } => summary(alloc, place, out, file),
+        Order::Metadata { file } => metadata(alloc, place, out, file),
+        Order::Scrub {
+            filter,
+            input,
+            output,
+        } => scrub(alloc, place, out, filter, input, output),
+        Order::Disassemble { file, rule } => split(alloc, place, out, file, rule),
+        Order::Assemble { folder, output } => join(alloc, place, out, folder, output),
+        Order::Sample { seed, events } => say_sample(alloc, place, out, *seed, *events),
+    }
+}
+
+fn print<P: Place, O: Sink>(
+    alloc: Global,
+    place: &mut P,
+    out: &mut O,
+    filter: &Filter,
+    depth: u8,
+    json: bool,
+    file: &Text,
+) -> Ending
+    requires depth { depth ≤ 8 }
+    ensures { Carries (orders.Print filter.now depth json file.now) result (outside (P.state place.old) (O.state out.old)) (outside (P.state place.new) (O.state out.new)) }
+{
+    print_stream(alloc, place, out, file.as_str(), filter, depth, json)
+}
+
+fn summary<P: Place, O: Sink>(alloc: Global, place: &mut P, out: &mut O, file: &Text) -> Ending
+    ensures { Carries (orders.Summary file.now) result (outside (P.state place.old) (O.state out.old)) (outside (P.state place.new) (O.state out.new)) }
+{
+    summary_stream(alloc, place, out, file.as_str())
+}
+
+fn metadata<P: Place, O: Sink>(alloc: Global, place: &mut P, out: &mut O, file: &Text) -> Ending
+    ensures { Carries (orders.Metadata file.now) result (outside (P.state place.old) (O.state out.old)) (outside (P.state place.new) (O.state out.new)) }
+{
+    metadata_stream(alloc, place, out, file.as_str())
+}
+
+fn scrub<P: Place, O: Sink>(
+    alloc: Global,
+    place: &mut P,
+    _out: &mut O,
+    filter: &Filter,
+    input: &Text,
+    output: &Text,
+) -> Ending
+    ensures { Carries (orders.Scrub filter.now input.now output.now) result (outside (P.state place.old) (O.state _out.old)) (outside (P.state place.new) (O.state _out.new)) }
+{
+    scrub_stream(alloc, place, input.as_str(), output.as_str(), filter)
+}
+
+fn split<P: Place, O: Sink>(
+    alloc: Global,
+    place: &mut P,
+    _out: &mut O,
+    file: &Text,
+    rule: &SplitRule,
+) -> Ending
+    requires usable { IsUsable rule.now }
+    ensures { Carries (orders.Disassemble file.now rule.now) result (outside (P.state place.old) (O.state _out.old)) (outside (P.state place.new) (O.state _out.new)) }
+{
+    disassemble(alloc, place, file.as_str(), rule)
+}
+
+fn join<P: Place, O: Sink>(
+    alloc: Global,
+    place: &mut P,
+    _out: &mut O,
+    folder: &Text,
+    output: &Text,
+) -> Ending
+    ensures { Carries (orders.Assemble folder.now output.now) result (outside (P.state place.old) (O.state _out.old)) (outside (P.state place.new) (O.state _out.new)) }
+{
+    assemble(alloc, place, folder.as_str(), output.as_str())
+}
+
+fn say_sample<P: Place, O: Sink>(
+    alloc: Global,
+    _place: &mut P,
+    out: &mut O,
+    seed: u32,
+    events: u32,
+) -> Ending
+    requires some { 1 ≤ events }
+    requires most { events ≤ 1000000 }
+    ensures { Carries (orders.Sample seed events) result (outside (P.state _place.old) (O.state out.old)) (outside (P.state _place.new) (O.state out.new)) }
+{
+    let text = match sample_text(alloc, seed, events) {
+        Ok(text) => text,
+        Err(ReadFault::Flawed(flaw)) => {
+            return Ending::Refused(Refusal {
+                chunk: 1,
+                offset: flaw.offset,
+                reason: flaw.reason,
+            });
+        }
+        Err(ReadFault::Memory) => return Ending::Memory,
+    };
+    match out.write(text.as_str().as_bytes()) {
+        Ok(()) => Ending::Done,
+        Err(Fault::Failed) => Ending::WriteFault,
+        Err(Fault::Memory) => Ending::Memory,
+    }
+}
