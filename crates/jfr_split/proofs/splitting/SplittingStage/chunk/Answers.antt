@@ -1,0 +1,30 @@
+use Rattle.std.proofs.Common.{sym, ◌∙◌, ap, subst, Ok, Err}
+use Rattle.jfr_plan.specs.Effects.{outside}
+use Rattle.jfr_plan.specs.Parts.{PartLeaves}
+use Rattle.jfr_split.specs.Parts.{Part, folder_of, begins, part_with}
+use Rattle.jfr_split.specs.Names.{part_name}
+use Rattle.jfr_split.specs.Splits.{asks_part}
+use Rattle.jfr_split.proofs.Fold.{of_snoc}
+use Rattle.jfr_split.proofs.splitting.SplittingStage.chunk.Goals as goal
+
+pub returns-in-Err-clause-told : goal.returns-in-Err-clause-told
+returns-in-Err-clause-told g c = λ before seen number.
+    let rule = c.args.self.now.rule.now in
+    let x = c.args.chunk.now in
+    let sink = g.O.Sink.state c.args._out.now in
+    subst (λ (p : Part). PartLeaves (asks_part rule (part_name (folder_of rule) c.args.self.now.file.now) (begins rule p x) p x) (Err c.in-Err.ending) (outside (g.P.Place.state c.args.place.now) sink) (outside (g.P.Place.state c.write_chunk.new.place) sink)) (sym seen) (c.in-Err.ensures.told sink)
+
+pub returns-clause-seen : goal.returns-clause-seen
+returns-clause-seen g c = λ before seen number.
+    let rule = c.args.self.now.rule.now in
+    of_snoc rule before c.args.chunk.now ∙ ap (λ (p : Part). part_with rule p c.args.chunk.now) seen ∙ sym c.next_part-self.ensures
+
+pub returns-clause-told : goal.returns-clause-told
+returns-clause-told g c = λ before seen number.
+    let rule = c.args.self.now.rule.now in
+    let x = c.args.chunk.now in
+    let sink = g.O.Sink.state c.args._out.now in
+    subst (λ (p : Part). PartLeaves (asks_part rule (part_name (folder_of rule) c.args.self.now.file.now) (begins rule p x) p x) (Ok (tt {0})) (outside (g.P.Place.state c.args.place.now) sink) (outside (g.P.Place.state c.write_chunk.new.place) sink)) (sym seen) (c.in-Ok.ensures.told sink)
+
+pub returns-clause-counts : goal.returns-clause-counts
+returns-clause-counts g c = c.in-Ok.ensures.counts (g.O.Sink.state c.args._out.now)

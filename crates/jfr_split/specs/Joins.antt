@@ -1,0 +1,49 @@
+-- The command that joins the chunks of a folder's files.
+use Rattle.std.specs.Prelude.{ℕ, List, [], ◌∷◌, ◌++◌, Option, Some}
+use Rattle.std.specs.FinMap as fin
+use Rattle.jfr_base.specs.declared.reason.Reason.TheVariants.{NoChunk}
+use Rattle.jfr_outside.specs.World.{Files}
+use Rattle.jfr_header.specs.Fronts.{flaw_at}
+use Rattle.jfr_plan.specs.Ends.{End, Fine, refused}
+use Rattle.jfr_plan.specs.Effects.{Create, Append, Finish, Nothing, AtEnd, needing, Plan}
+use Rattle.jfr_plan.specs.Walks.{Rule, Goes, File, cut_after, plan_after}
+use Rattle.jfr_split.specs.Names.{is_joined}
+
+-- each chunk of a file is appended
+abbrev pub adding : Rule
+adding = record {
+  opens = [];
+  asks = λ before c. Goes (Append c ∷ []);
+  ends = λ before. [];
+  target = File;
+}
+
+-- a plan, and the next one where it ends well
+abbrev pub then_by : Option End → Plan → Plan → Plan
+then_by (Some Fine) p later = record { steps = p.steps ++ later.steps; end = later.end }
+then_by _ p later = p
+
+abbrev pub plan_then : Plan → Plan → Plan
+plan_then p later = then_by p.end p later
+
+-- The chunks of these files are appended, and the output is finished. Each file is cut by itself; its
+-- chunks come after those of the files before, over which their numbers and starts go on.
+abbrev pub joining : List (List ℕ) → List (List ℕ) → Plan
+joining earlier [] = record { steps = needing AtEnd (Finish ∷ []); end = Some Fine }
+joining earlier (x ∷ xs) = plan_then (plan_after adding earlier (Some x)) (joining (earlier ++ (cut_after earlier x).chunks) xs)
+
+-- no file at all is refused
+abbrev pub joining_all : List (List ℕ) → Plan
+joining_all [] = record { steps = []; end = Some (refused 1 (flaw_at 0 NoChunk)) }
+joining_all (x ∷ xs) = joining [] (x ∷ xs)
+
+-- the files of a folder whose names end in `.jfr`, in byte order of their names
+abbrev pub files_in : List ℕ → Files → Files
+files_in folder files = fin.retain_keys files (is_joined folder)
+
+-- the output is created, the chunks of each of the folder's files are appended, and the output is finished
+abbrev pub assembling : List ℕ → List ℕ → Files → Plan
+assembling folder output files = record {
+  steps = needing Nothing (Create output ∷ []) ++ (joining_all (fin.values (files_in folder files))).steps;
+  end = (joining_all (fin.values (files_in folder files))).end;
+}

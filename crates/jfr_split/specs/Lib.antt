@@ -1,0 +1,6 @@
+pub mod Names
+pub mod Parts
+pub mod Splits
+pub mod Joins
+pub mod Clauses
+pub mod Laws

@@ -1,0 +1,18 @@
+//! Recordings cut into parts, and parts joined again.
+//!
+//! `disassemble` writes the chunks of a recording to parts, each a file of its own; `assemble` joins the
+//! chunks of a folder's files in the order of their names. Read `specs/Parts.antt` and
+//! `specs/Names.antt` first, then `specs/Splits.antt` and `specs/Joins.antt`: what the two commands do.
+#![tactic(auto)]
+
+mod effects;
+mod joining;
+mod name;
+mod part;
+mod splitting;
+mod writing;
+
+pub use joining::assemble;
+pub use name::part_name;
+pub use part::SplitRule;
+pub use splitting::disassemble;

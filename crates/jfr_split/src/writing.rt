@@ -1,0 +1,105 @@
+// What is done with the place for a chunk.
+ghost use Rattle.std.specs.Prelude.{◌≡◌, ◌<◌, ◌+◌, ◌≤◌, ◌∷◌, [], ◌++◌, OnOk, true};
+ghost use Rattle.jfr_outside.specs.World.{SinkState};
+ghost use Rattle.jfr_plan.specs.Effects.{outside, Create};
+ghost use Rattle.jfr_plan.specs.Walks.{Goes, Parts};
+ghost use Rattle.jfr_plan.specs.Parts.{PartLeaves, PartTallied};
+ghost use Rattle.jfr_split.specs.Parts.{IsUsable, folder_of, begins};
+ghost use Rattle.jfr_split.specs.Names.{part_name};
+ghost use Rattle.jfr_split.specs.Splits.{closing, asks_new, asks_part};
+
+use crate::SplitRule;
+use crate::effects::{append_chunk, create_output, finish_output};
+use crate::name::part_string;
+use crate::part::{Part, folder_name, starts_part};
+use jfr_header::Ending;
+use jfr_outside::Place;
+use std::alloc::Global;
+
+/// Finishes the last part, if there is one.
+pub fn close_part<P: Place>(place: &mut P, part: &Part) -> Result<(), Ending>
+    ensures told { (sink : SinkState) → PartLeaves (Goes (closing part.now)) result
+        (outside (P.state place.old) sink) (outside (P.state place.new) sink) }
+    ensures counts { (sink : SinkState) → PartTallied Parts result
+        (outside (P.state place.old) sink) (outside (P.state place.new) sink) }
+{
+    if part.number == 0 {
+        return Ok(());
+    }
+    finish_output(place)
+}
+
+// Finishes the last part and creates the next one.
+fn open_part<P: Place>(
+    alloc: Global,
+    place: &mut P,
+    rule: &SplitRule,
+    file: &str,
+    part: &Part,
+) -> Result<(), Ending>
+    requires { part.now.number + 1 ≤ 999999 }
+    ensures told { (sink : SinkState) → PartLeaves
+        (Goes (closing part.now ++ Create (part_name (folder_of rule.now) file.now (part.now.number + 1)) ∷ [])) result
+        (outside (P.state place.old) sink) (outside (P.state place.new) sink) }
+    ensures counts { (sink : SinkState) → PartTallied Parts result
+        (outside (P.state place.old) sink) (outside (P.state place.new) sink) }
+{
+    match close_part(place, part) {
+        Ok(()) => {}
+        Err(ending) => return Err(ending),
+    }
+    let Ok(name) = part_string(alloc, folder_name(rule), file, part.number + 1) else {
+        return Err(Ending::Memory);
+    };
+    create_output(place, name.as_str())
+}
+
+// Begins a new part with the chunk, if there may be one more.
+fn begin_part<P: Place>(
+    alloc: Global,
+    place: &mut P,
+    rule: &SplitRule,
+    file: &str,
+    part: &Part,
+    chunk: &[u8],
+) -> Result<(), Ending>
+    requires { IsUsable rule.now }
+    ensures room { OnOk result (part.now.number < rule.now.max_parts) }
+    ensures told { (sink : SinkState) → PartLeaves
+        (asks_new rule.now (part_name (folder_of rule.now) file.now) part.now chunk.now) result
+        (outside (P.state place.old) sink) (outside (P.state place.new) sink) }
+    ensures counts { (sink : SinkState) → PartTallied Parts result
+        (outside (P.state place.old) sink) (outside (P.state place.new) sink) }
+{
+    if rule.max_parts <= part.number {
+        return Err(Ending::TooManyParts);
+    }
+    match open_part(alloc, place, rule, file, part) {
+        Ok(()) => {}
+        Err(ending) => return Err(ending),
+    }
+    append_chunk(place, chunk)
+}
+
+/// Appends the chunk to its part, which is created first where the chunk begins it.
+pub fn write_chunk<P: Place>(
+    alloc: Global,
+    place: &mut P,
+    rule: &SplitRule,
+    file: &str,
+    part: &Part,
+    chunk: &[u8],
+) -> Result<(), Ending>
+    requires { IsUsable rule.now }
+    ensures room { OnOk result (begins rule.now part.now chunk.now ≡ true → part.now.number < rule.now.max_parts) }
+    ensures told { (sink : SinkState) → PartLeaves
+        (asks_part rule.now (part_name (folder_of rule.now) file.now) (begins rule.now part.now chunk.now) part.now chunk.now) result
+        (outside (P.state place.old) sink) (outside (P.state place.new) sink) }
+    ensures counts { (sink : SinkState) → PartTallied Parts result
+        (outside (P.state place.old) sink) (outside (P.state place.new) sink) }
+{
+    if starts_part(rule, part, chunk) {
+        return begin_part(alloc, place, rule, file, part, chunk);
+    }
+    append_chunk(place, chunk)
+}
