@@ -1,0 +1,44 @@
+-- The words after `disassemble`.
+use Rattle.std.specs.Prelude.{ℕ, ◌^◌, List, [], ◌∷◌, Option, None, Some, option_map, option_and_then, unwrap_or, if◌then◌else◌, codes}
+use Rattle.std.specs.Option.{is_some, option_map_or}
+use Rattle.std.specs.Str.{bytes_eq}
+use Rattle.jfr_split.specs.declared.part.SplitRule.{SplitRule}
+use Rattle.jfr_words.specs.declared.order.Order.{Order}
+use Rattle.jfr_words.specs.declared.order.Order.TheVariants.{Disassemble}
+pub use Rattle.jfr_words.specs.declared.split.SplitOption.{SplitOption}
+use Rattle.jfr_words.specs.declared.split.SplitOption.TheVariants.{Output, MaxChunks, MaxSize}
+pub use Rattle.jfr_words.specs.declared.split.SplitGiven.{SplitGiven}
+use Rattle.jfr_words.specs.Names.{name_in, only_name}
+use Rattle.jfr_words.specs.Numbers.{number_in}
+
+-- The option of a disassembly that a word names.
+abbrev pub split_option_of : List ℕ → Option SplitOption
+split_option_of word =
+    if bytes_eq word (codes "--output") then Some Output else
+    if bytes_eq word (codes "--max-chunks") then Some MaxChunks else
+    if bytes_eq word (codes "--max-size") then Some MaxSize else
+    None
+
+-- No option is given.
+abbrev pub no_split_option : SplitGiven
+no_split_option = record { folder = None; max_chunks = None; max_size = None }
+
+-- An option is given with its value, unless it was given before or the word is no value of it.
+abbrev pub split_with : SplitOption → List ℕ → SplitGiven → Option SplitGiven
+split_with Output value g = if is_some g.folder then None else option_map (λ folder. record g { folder = Some folder }) (name_in value)
+split_with MaxChunks value g = if is_some g.max_chunks then None else option_map (λ n. record g { max_chunks = Some n }) (number_in 1 4294967295 value)
+split_with MaxSize value g = if is_some g.max_size then None else option_map (λ n. record g { max_size = Some n }) (number_in 1 (2 ^ 40) value)
+
+-- A part has at most 5 chunks and at most 2 ^ 40 bytes where nothing else is given, and there are at most 999,999 parts.
+abbrev pub split_rule : SplitGiven → SplitRule
+split_rule g = record { folder = g.folder; max_chunks = unwrap_or g.max_chunks 5; max_size = unwrap_or g.max_size (2 ^ 40); max_parts = 999999 }
+
+-- The file is left.
+abbrev pub split_named : SplitGiven → List (List ℕ) → Option Order
+split_named g words = option_map (λ file. Disassemble file (split_rule g)) (only_name words)
+
+-- The words after `disassemble`, where this is given so far: an option takes the next word as its value, whatever word
+-- that is; after the options the name is left.
+abbrev pub split_from : SplitGiven → List (List ℕ) → Option Order
+split_from g (word ∷ next ∷ rest) = option_map_or (λ option. option_and_then (λ h. split_from h rest) (split_with option next g)) (split_option_of word) (split_named g (word ∷ next ∷ rest))
+split_from g words = split_named g words

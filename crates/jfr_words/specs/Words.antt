@@ -1,0 +1,47 @@
+-- The order that the words of the command line give. It is a function of them, so every list of words has one answer:
+-- an order, or none, and then the words are a usage fault.
+use Rattle.std.specs.Prelude.{◌≡◌, ℕ, ◌≤◌, ◌<◌, ◌^◌, List, [], ◌∷◌, Option, None, Some, option_map, option_and_then, Result, Ok, Err, ⊤, if◌then◌else◌, codes}
+use Rattle.std.specs.Str.{bytes_eq}
+use Rattle.jfr_filter.specs.Filters.{nothing_given}
+use Rattle.jfr_split.specs.Parts.{IsUsable}
+use Rattle.jfr_words.specs.declared.order.Order.{Order}
+use Rattle.jfr_words.specs.declared.order.Order.TheVariants.{Print, Summary, Metadata, Scrub, Disassemble, Assemble, Sample}
+use Rattle.jfr_words.specs.declared.order.WordsFault.{WordsFault}
+use Rattle.jfr_words.specs.declared.order.WordsFault.TheVariants.{Usage, Memory}
+pub use Rattle.jfr_words.specs.Names.{is_name, file_name}
+use Rattle.jfr_words.specs.Names.{only_name, two_names}
+use Rattle.jfr_words.specs.Numbers.{number_in}
+use Rattle.jfr_words.specs.Prints.{no_print_option, print_from}
+use Rattle.jfr_words.specs.Scrubs.{scrub_from}
+use Rattle.jfr_words.specs.Splits.{no_split_option, split_from}
+
+-- The words after `sample`: the seed, and how many events.
+abbrev pub sample_of : List (List ℕ) → Option Order
+sample_of (seed ∷ events ∷ []) = option_and_then (λ s. option_map (λ e. Sample s e) (number_in 1 1000000 events)) (number_in 0 4294967295 seed)
+sample_of _ = None
+
+-- The order of the words. The first one is the command.
+unfoldable pub order_of : List (List ℕ) → Option Order
+order_of [] = None
+order_of (command ∷ rest) =
+    if bytes_eq command (codes "print") then print_from no_print_option rest else
+    if bytes_eq command (codes "summary") then option_map (λ file. Summary file) (only_name rest) else
+    if bytes_eq command (codes "metadata") then option_map (λ file. Metadata file) (only_name rest) else
+    if bytes_eq command (codes "scrub") then scrub_from nothing_given rest else
+    if bytes_eq command (codes "disassemble") then split_from no_split_option rest else
+    if bytes_eq command (codes "assemble") then option_map (λ names. Assemble names.0 names.1) (two_names rest) else
+    if bytes_eq command (codes "sample") then sample_of rest else
+    None
+
+-- What was read is this; a usage fault, exactly where there is none; where memory was wanting, nothing is said.
+abbrev pub IsRead : {T V : Type 0} → Option V → Result T WordsFault → (T → V) → Type 0
+IsRead o (Ok x) seen = o ≡ Some (seen x)
+IsRead o (Err Usage) seen = o ≡ None
+IsRead o (Err Memory) seen = ⊤
+
+-- The numbers of an order are in their ranges.
+abbrev pub IsUsableOrder : Order → Type 0
+IsUsableOrder (Print filter depth json file) = depth ≤ 8
+IsUsableOrder (Disassemble file rule) = IsUsable rule
+IsUsableOrder (Sample seed events) = (seed < 2 ^ 32) × (1 ≤ events) × (events ≤ 1000000)
+IsUsableOrder _ = ⊤

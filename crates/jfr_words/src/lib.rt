@@ -1,0 +1,12 @@
+//! What the words of the command line ask for.
+//!
+//! `read_words` reads an `Order`. Read `specs/Words.antt` first: the order that a list of words gives.
+#![tactic(auto)]
+
+mod order;
+mod print;
+mod split;
+mod words;
+
+pub use order::{Order, WordsFault};
+pub use words::read_words;
