@@ -2,7 +2,9 @@ mod Creating
 mod Ending
 mod Fold
 mod Leaving
+mod Listed
 mod Naming
 mod Ordered
 mod Over
+mod Sorting
 mod Stems

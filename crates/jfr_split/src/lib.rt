@@ -7,6 +7,7 @@
 
 mod effects;
 mod joining;
+mod listing;
 mod name;
 mod part;
 mod splitting;
