@@ -1,2 +1,3 @@
 mod TextLaws
 mod TallyLaws
+mod ListingLaws

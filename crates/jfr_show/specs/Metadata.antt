@@ -1,7 +1,6 @@
 -- How the metadata of a chunk is shown: its classes, in the order in which the metadata lists them.
-use Rattle.std.specs.Prelude.{ℕ, List, [], ◌∷◌, ◌++◌, codes, decimal, Option, if◌then◌else◌}
+use Rattle.std.specs.Prelude.{ℕ, List, [], ◌∷◌, ◌++◌, codes, decimal, Option, None, Some, if◌then◌else◌}
 use Rattle.std.specs.List.{flat_map, join_by}
-use Rattle.std.specs.Option.{option_map_or}
 use Rattle.jfr_layout.specs.Classes.{Class, Classes, Field}
 use Rattle.jfr_chunk.specs.Parts.{Parts}
 use Rattle.jfr_show.specs.Names.{class_name}
@@ -18,9 +17,14 @@ abbrev pub categories_line : List (List ℕ) → List ℕ
 categories_line [] = []
 categories_line (c ∷ cs) = codes "  category " ++ join_by quoted (codes ", ") (c ∷ cs) ++ newline
 
--- The line of a class: its name, its id and, where one is given, the name of its super type.
+-- The name of a super type, where one is given.
+abbrev pub super_part : Option (List ℕ) → List ℕ
+super_part None = []
+super_part (Some name) = codes " super " ++ name
+
+-- The line of a class: its name, its id, and its super type.
 abbrev pub class_line : Class → List ℕ
-class_line c = c.name ++ codes " id " ++ decimal c.id ++ option_map_or (λ name. codes " super " ++ name) c.super_name [] ++ newline
+class_line c = c.name ++ codes " id " ++ decimal c.id ++ super_part c.super_name ++ newline
 
 -- A class: its line, that of its categories, and one for each field.
 abbrev pub class_lines : Classes → Class → List ℕ
