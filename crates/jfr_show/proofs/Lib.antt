@@ -1,3 +1,7 @@
 mod TextLaws
-mod TallyLaws
 mod ListingLaws
+mod TallyLaws
+mod PlaceLaws
+mod ClassTallies
+mod SizeLaws
+mod RecordTallies

@@ -1,19 +1,9 @@
 -- The totals that a summary keeps, and how large they can be.
-use Rattle.std.specs.Prelude.{◌≡◌, ℕ, ◌*◌, ◌^◌, ◌≤◌, List, map, Some, String, string_bytes}
-use Rattle.std.specs.FinMap as fin
-use Rattle.std.specs.BTreeMap.{BTreeMap}
-use Rattle.std.specs.declared.alloc.Global.{Global}
+use Rattle.std.specs.Prelude.{◌*◌, ◌^◌, ◌≤◌}
 use Rattle.jfr_show.specs.declared.summary.Summary.TheInside.{Inside}
-use Rattle.jfr_show.specs.declared.tally.Tally.{Tally}
-use Rattle.jfr_show.specs.Totals.{Tallies, Totals}
-
--- The bytes of a name, and the tally under it.
-abbrev pub entry_of : String Global × Tally → List ℕ × Tally
-entry_of e = (string_bytes e.0, e.1)
-
--- The tallies that a map holds.
-abbrev pub tallies_in : BTreeMap (String Global) Tally → Tallies
-tallies_in m = fin.from_entries (map entry_of m.entries)
+use Rattle.jfr_show.specs.Counting.{AreBelow}
+use Rattle.jfr_show.specs.Held.{tallies_in}
+use Rattle.jfr_show.specs.Totals.{Totals}
 
 -- The totals that are kept.
 abbrev pub totals_in : Inside → Totals
@@ -38,4 +28,4 @@ pub record IsBounded (t : Totals) : Type 0 where
   pub checkpoints : t.checkpoints ≤ t.bytes
   pub constants : t.constants ≤ t.bytes
   pub inert : t.inert ≤ t.bytes
-  pub tallies : (name : List ℕ) (tally : Tally) → fin.get t.tallies name ≡ Some tally → (tally.events ≤ t.bytes) × (tally.bytes ≤ t.bytes)
+  pub tallies : AreBelow t.bytes t.tallies

@@ -5,6 +5,7 @@
 
 mod beginning;
 mod builder;
+mod counting;
 mod metadata;
 mod quoted;
 mod summary;

@@ -4,7 +4,7 @@ ghost use Rattle.jfr_chunk.specs.Parts.{Parts};
 ghost use Rattle.jfr_show.specs.Totals.{summary_shown, totals_of};
 
 use crate::beginning::Beginning;
-use crate::tally::Tally;
+use crate::tally::TallyMap;
 use jfr_chunk::Chunk;
 use jfr_outside::{NoMemory, Text};
 use std::alloc::Global;
@@ -23,7 +23,7 @@ pub struct Summary {
     checkpoints: u64,
     constants: u64,
     inert: u64,
-    tallies: BTreeMap<String, Tally>,
+    tallies: TallyMap,
 }
 
 impl Model for Summary {

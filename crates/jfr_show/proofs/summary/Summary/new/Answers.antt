@@ -1,7 +1,7 @@
 use Rattle.std.specs.Prelude.{map, None}
 use Rattle.std.specs.FinMap as fin
 use Rattle.std.proofs.Common.{ap, arith}
-use Rattle.jfr_show.specs.Summing.{entry_of}
+use Rattle.jfr_show.specs.Held.{entry_of}
 use Rattle.jfr_show.specs.Totals.{totals_of}
 use Rattle.jfr_show.proofs.TallyLaws.{none_there}
 use Rattle.jfr_show.proofs.summary.Summary.new.Goals as goal
@@ -15,7 +15,7 @@ invariant_of-result c = record {
   checkpoints = omega arith;
   constants = omega arith;
   inert = omega arith;
-  tallies = λ name tally is. absurd (none_there c.new.result name tally c.new.ensures.empty is);
+  tallies = record { each = λ name tally is. absurd (none_there c.new.result name tally c.new.ensures.empty is) };
 }
 
 pub returns : goal.returns
