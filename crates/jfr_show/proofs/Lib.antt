@@ -1,0 +1,7 @@
+mod TextLaws
+mod ListingLaws
+mod TallyLaws
+mod PlaceLaws
+mod ClassTallies
+mod SizeLaws
+mod RecordTallies

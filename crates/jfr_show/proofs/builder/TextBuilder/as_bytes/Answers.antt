@@ -1,0 +1,9 @@
+use Rattle.std.proofs.Common.{string_bytes, ap, sym, ◌∙◌}
+use Rattle.std.proofs.lemmas.Str.{IsUtf8-string_bytes, encodes-chars}
+use Rattle.std.specs.Str.{encode_utf8_all}
+use Rattle.jfr_show.proofs.builder.TextBuilder.as_bytes.Goals as goal
+
+pub returns : goal.returns
+returns c =
+    let text = string_bytes c.self.inside.text in
+    c.as_bytes.ensures.value ∙ (sym (encodes-chars text (IsUtf8-string_bytes c.self.inside.text)) ∙ ap encode_utf8_all c.self.view_is)

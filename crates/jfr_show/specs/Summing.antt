@@ -1,0 +1,31 @@
+-- The totals that a summary keeps, and how large they can be.
+use Rattle.std.specs.Prelude.{◌*◌, ◌^◌, ◌≤◌}
+use Rattle.jfr_show.specs.declared.summary.Summary.TheInside.{Inside}
+use Rattle.jfr_show.specs.Counting.{AreBelow}
+use Rattle.jfr_show.specs.Held.{tallies_in}
+use Rattle.jfr_show.specs.Totals.{Totals}
+
+-- The totals that are kept.
+abbrev pub totals_in : Inside → Totals
+totals_in s = record {
+  first = s.first;
+  chunks = s.chunks;
+  bytes = s.bytes;
+  duration = s.duration;
+  events = s.events;
+  checkpoints = s.checkpoints;
+  constants = s.constants;
+  inert = s.inert;
+  tallies = tallies_in s.tallies;
+}
+
+-- A chunk has less than 2^28 bytes, and no more events, checkpoints, entries or other records than bytes. So no sum over fewer than 2^35 chunks wraps in 64 bits, nor one of durations in 128.
+pub record IsBounded (t : Totals) : Type 0 where
+  pub chunks : t.chunks ≤ 2 ^ 35
+  pub bytes : t.bytes ≤ 2 ^ 28 * t.chunks
+  pub duration : t.duration ≤ 2 ^ 64 * t.chunks
+  pub events : t.events ≤ t.bytes
+  pub checkpoints : t.checkpoints ≤ t.bytes
+  pub constants : t.constants ≤ t.bytes
+  pub inert : t.inert ≤ t.bytes
+  pub tallies : AreBelow t.bytes t.tallies

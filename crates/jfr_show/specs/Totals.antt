@@ -1,0 +1,118 @@
+-- The totals of chunks, and how they are shown.
+use Rattle.std.specs.Prelude.{ℕ, ◌==◌, Bool, false, List, [], ◌∷◌, ◌++◌, length, map, filter, count_by, sum_by, take, slice_get, codes, decimal, Option, option_map}
+use Rattle.std.specs.List.{enumerate_from, flat_map}
+use Rattle.std.specs.Option.{option_map_or}
+use Rattle.std.specs.Ordering.{nat_cmp}
+use Rattle.std.specs.Cmp.Lexicographic.{slice_cmp}
+use Rattle.std.specs.Str.{bytes_eq, chars, encode_utf8_all}
+use Rattle.std.specs.FinMap as fin
+use Rattle.jfr_header.specs.declared.header.Header.{Header}
+use Rattle.jfr_header.specs.Headers.{header_of}
+use Rattle.jfr_layout.specs.Classes.{Classes}
+use Rattle.jfr_frame.specs.declared.framed.Framed.{Framed}
+use Rattle.jfr_pool.specs.declared.entry.EntryAt.{EntryAt}
+use Rattle.jfr_pool.specs.Entries.{number_in_force}
+use Rattle.jfr_chunk.specs.Parts.{Parts, events_of, is_inert}
+use Rattle.jfr_show.specs.declared.beginning.Beginning.{Beginning}
+use Rattle.jfr_show.specs.declared.tally.Tally.{Tally}
+use Rattle.jfr_show.specs.Names.{class_name}
+use Rattle.jfr_show.specs.Texts.{newline}
+
+-- An event as it is counted: the bytes of its class's name, and the size of its record.
+pub record Occurrence : Type 0 where
+  pub name : List ℕ
+  pub size : ℕ
+
+abbrev pub occurrence : Classes → Framed → Occurrence
+occurrence k r = record { name = encode_utf8_all (class_name k r.type_id); size = r.size }
+
+-- The events of a chunk.
+abbrev pub occurrences : Parts → List Occurrence
+occurrences p = map (λ e. occurrence p.classes e.record_of) (events_of p)
+
+-- How many events these are, and how many bytes their records have.
+abbrev pub tally_of : List Occurrence → Tally
+tally_of es = record { events = length es; bytes = sum_by (λ e. e.size) es }
+
+-- Those of the classes of a name.
+abbrev pub of_name : List ℕ → List Occurrence → List Occurrence
+of_name name es = filter (λ e. bytes_eq e.name name) es
+
+-- Tallies by the bytes of names, in the order of these.
+abbrev pub Tallies : Type 0
+Tallies = fin.FinMap (slice_cmp nat_cmp) Tally
+
+-- The tallies of events: under the name of each, that of all events of this name.
+abbrev pub tallies_of : List Occurrence → Tallies
+tallies_of es = fin.from_entries (map (λ e. (e.name, tally_of (of_name e.name es))) es)
+
+-- The entry of this number is the one in force for its class and key.
+abbrev pub is_in_force : List EntryAt → ℕ × EntryAt → Bool
+is_in_force es (number, e) = option_map_or (λ n. n == number) (number_in_force es (e.class, e.key)) false
+
+-- How many entries are in force.
+abbrev pub count_in_force : List EntryAt → ℕ
+count_in_force es = count_by (is_in_force es) (enumerate_from 0 es)
+
+-- The header of a chunk.
+abbrev pub header_in : Parts → Header
+header_in p = header_of (take 68 p.bytes)
+
+-- What a recording says of its beginning: the version of the first chunk, and when that starts.
+abbrev pub beginning : Parts → Beginning
+beginning p = record { major = (header_in p).major; minor = (header_in p).minor; start_nanos = (header_in p).start_nanos }
+
+-- The totals of chunks. Without a chunk there is no beginning.
+pub record Totals : Type 0 where
+  pub first : Option Beginning
+  pub chunks : ℕ
+  pub bytes : ℕ
+  pub duration : ℕ
+  pub events : ℕ
+  pub checkpoints : ℕ
+  pub constants : ℕ
+  pub inert : ℕ
+  pub tallies : Tallies
+
+unfoldable pub totals_of : List Parts → Totals
+totals_of ps = record {
+  first = option_map beginning (slice_get ps 0);
+  chunks = length ps;
+  bytes = sum_by (λ p. length p.bytes) ps;
+  duration = sum_by (λ p. (header_in p).duration_nanos) ps;
+  events = sum_by (λ p. length (events_of p)) ps;
+  checkpoints = sum_by (λ p. length p.chain) ps;
+  constants = sum_by (λ p. count_in_force p.entries) ps;
+  inert = sum_by (λ p. length (filter (is_inert p) p.records)) ps;
+  tallies = tallies_of (flat_map occurrences ps);
+}
+
+-- A line of a word and a number.
+abbrev pub number_line : List ℕ → ℕ → List ℕ
+number_line word n = word ++ codes " " ++ decimal n ++ newline
+
+-- The line of the version.
+abbrev pub version_line : Beginning → List ℕ
+version_line b = codes "version " ++ decimal b.major ++ codes "." ++ decimal b.minor ++ newline
+
+-- The line of a name: how many events, and how many bytes.
+abbrev pub tally_line : List ℕ × Tally → List ℕ
+tally_line (name, t) = chars name ++ codes " " ++ decimal t.events ++ codes " " ++ decimal t.bytes ++ newline
+
+-- Nine lines, and one for each name in the order of the names' bytes.
+abbrev pub lines_from : Totals → Beginning → List ℕ
+lines_from t b =
+    version_line b
+    ++ number_line (codes "chunks") t.chunks
+    ++ number_line (codes "bytes") t.bytes
+    ++ number_line (codes "start") b.start_nanos
+    ++ number_line (codes "duration") t.duration
+    ++ number_line (codes "events") t.events
+    ++ number_line (codes "checkpoints") t.checkpoints
+    ++ number_line (codes "constants") t.constants
+    ++ number_line (codes "inert") t.inert
+    ++ flat_map tally_line (fin.entries t.tallies)
+
+-- The totals as they are shown; nothing is shown without a chunk.
+unfoldable pub summary_shown : Totals → List ℕ
+summary_shown t = option_map_or (lines_from t) t.first []

@@ -1,0 +1,131 @@
+// A text that grows at its end.
+ghost use Rattle.std.specs.Prelude.{◌≡◌, ◌<◌, [], ◌∷◌, ◌++◌, IsTrue, OnOk, decimal};
+ghost use Rattle.std.specs.Char.{digit_char};
+ghost use Rattle.std.specs.Fmt.{signed_decimal};
+ghost use Rattle.std.specs.Str.{chars, encode_utf8_all};
+ghost use Rattle.jfr_show.specs.Texts.{hex_byte, indent, is_ascii};
+
+use itoa::Buffer;
+use jfr_outside::{NoMemory, Text};
+use std::alloc::Global;
+use std::marker::Model;
+
+/// A text that grows at its end. Contracts see it as the list of its characters. What it holds once
+/// memory was wanting is left open.
+#[derive(Drop)]
+pub struct TextBuilder {
+    text: String,
+}
+
+impl Model for TextBuilder {
+    ghost use Rattle.std.specs.Prelude.{ℕ, List, string_bytes};
+    ghost use Rattle.std.specs.Str.{chars};
+
+    ghost Value = { List ℕ };
+
+    ghost view = { λ builder. chars (string_bytes builder.text) };
+}
+
+impl TextBuilder {
+    /// The text without characters. It takes no memory.
+    pub fn new(alloc: Global) -> TextBuilder
+        ensures { result ≡ [] }
+    {
+        TextBuilder {
+            text: String::new(alloc),
+        }
+    }
+
+    /// Takes all characters out, and keeps the memory for the next text.
+    pub fn clear(&mut self)
+        ensures { self.new ≡ [] }
+    {
+        self.text.clear();
+    }
+
+    /// The text's UTF-8.
+    pub fn as_bytes(&self) -> &[u8]
+        ensures { result.now ≡ encode_utf8_all self.now }
+    {
+        self.text.as_bytes()
+    }
+
+    /// The text itself, without a copy.
+    pub fn into_text(self) -> Text
+        ensures { result ≡ self }
+    {
+        Text::from(self.text)
+    }
+
+    /// Adds a text.
+    pub fn push_str(&mut self, text: &str) -> Result<(), NoMemory>
+        ensures ok { OnOk result (self.new ≡ self.old ++ chars text.now) }
+    {
+        self.text.push_str(text)?;
+        Ok(())
+    }
+
+    /// Adds a text whose characters are a byte each, so that the contract names them as they stand.
+    pub fn push_ascii(&mut self, text: &str) -> Result<(), NoMemory>
+        requires ascii { IsTrue (is_ascii text.now) }
+        ensures ok { OnOk result (self.new ≡ self.old ++ text.now) }
+    {
+        self.text.push_str(text)?;
+        Ok(())
+    }
+
+    /// Adds a character.
+    pub fn push(&mut self, character: char) -> Result<(), NoMemory>
+        ensures ok { OnOk result (self.new ≡ self.old ++ character ∷ []) }
+    {
+        self.text.push(character)?;
+        Ok(())
+    }
+
+    /// Adds an unsigned number in decimal.
+    pub fn push_number(&mut self, number: u64) -> Result<(), NoMemory>
+        ensures ok { OnOk result (self.new ≡ self.old ++ decimal number) }
+    {
+        let mut buffer = Buffer::new();
+        self.text.push_str(buffer.format(number))?;
+        Ok(())
+    }
+
+    /// Adds a signed number in decimal.
+    pub fn push_signed(&mut self, number: i64) -> Result<(), NoMemory>
+        ensures ok { OnOk result (self.new ≡ self.old ++ signed_decimal number) }
+    {
+        let mut buffer = Buffer::new();
+        self.text.push_str(buffer.format(number))?;
+        Ok(())
+    }
+
+    /// Adds the two hexadecimal digits of a byte.
+    pub fn push_hex(&mut self, byte: u8) -> Result<(), NoMemory>
+        ensures ok { OnOk result (self.new ≡ self.old ++ hex_byte byte) }
+    {
+        self.push(digit_of(byte / 16))?;
+        self.push(digit_of(byte % 16))
+    }
+
+    /// Adds two spaces for each level.
+    pub fn push_indent(&mut self, level: usize) -> Result<(), NoMemory>
+        ensures ok { OnOk result (self.new ≡ self.old ++ indent level) }
+    {
+        for _ in 0..level {
+            self.push_ascii("  ")?;
+        }
+        Ok(())
+    }
+}
+
+/// The hexadecimal digit of a number below 16.
+fn digit_of(number: u8) -> char
+    requires { number < 16 }
+    ensures { result ≡ digit_char number }
+{
+    match char::from_digit(u32::from(number), 16) {
+        Some(digit) => digit,
+        None => unreachable!(),
+    }
+}

@@ -1,0 +1,105 @@
+// The events of a chunk, counted under the names of their classes.
+ghost use Rattle.std.specs.Prelude.{◌≡◌, ℕ, ◌+◌, ◌^◌, ◌<◌, ◌≤◌, List, ◌∷◌, [], ◌++◌, length, IfOk, OnOk};
+ghost use Rattle.jfr_frame.specs.declared.framed.Framed.{Framed as Record};
+ghost use Rattle.jfr_chunk.specs.Parts.{AreParts};
+ghost use Rattle.jfr_show.specs.Counting.{AddsEvents, AreBelow, AreClassTallies, AreSmall};
+ghost use Rattle.jfr_show.specs.Held.{tallies_in};
+ghost use Rattle.jfr_show.specs.Totals.{count_in_force, occurrences};
+
+use crate::tally::{Tally, TallyMap, add_tally};
+use jfr_chunk::Chunk;
+use jfr_frame::Framed;
+use jfr_layout::Classes;
+use jfr_outside::NoMemory;
+use jfr_pool::Pools;
+use std::alloc::Global;
+
+const NO_EVENTS: Tally = Tally {
+    events: 0,
+    bytes: 0,
+};
+
+/// Adds the events of a chunk to the tallies under the names of their classes. They are counted by class
+/// first, so that a name is looked up once for each class. Where memory was wanting, some are added.
+pub(crate) fn add_events(
+    alloc: Global,
+    chunk: &Chunk<'_>,
+    tallies: &mut TallyMap,
+) -> Result<(), NoMemory>
+    requires parts { AreParts chunk.now }
+    requires small { length chunk.now.bytes < 2 ^ 28 }
+    requires below { AreBelow (2 ^ 63) (tallies_in tallies.old) }
+    ensures ok { OnOk result (AddsEvents (tallies_in tallies.old) (occurrences chunk.now) (tallies_in tallies.new)) }
+    ensures below { (most : ℕ) → AreBelow most (tallies_in tallies.old) → AreBelow (most + length chunk.now.bytes) (tallies_in tallies.new) }
+{
+    let counted = class_tallies(alloc, chunk)?;
+    add_classes(alloc, chunk, &counted, tallies)
+}
+
+// The tallies of the events of each class, in the order of the classes.
+fn class_tallies(alloc: Global, chunk: &Chunk<'_>) -> Result<Vec<Tally>, NoMemory>
+    requires parts { AreParts chunk.now }
+    requires small { length chunk.now.bytes < 2 ^ 28 }
+    ensures { IfOk result (λ counted. AreClassTallies chunk.now.classes chunk.now.records counted.items) }
+{
+    let classes = chunk.classes();
+    let frames = chunk.frames();
+    let mut counted = vec![in alloc; NO_EVENTS; classes.len()]?;
+    for number in 0..frames.len() {
+        count_record(classes, frames.at(number), &mut counted);
+    }
+    Ok(counted)
+}
+
+// Counts a record, if it is an event.
+#[inline(always)]
+fn count_record(classes: &Classes, frame: Framed, counted: &mut [Tally])
+    requires each { length counted.old ≡ length classes.now }
+    requires small { AreSmall counted.old }
+    requires size { frame.size < 2 ^ 32 }
+    ensures { (rs : List Record) → AreClassTallies classes.now rs counted.old → AreClassTallies classes.now (rs ++ frame ∷ []) counted.new }
+{
+    if let Some(slot) = classes.event_slot(frame.type_id) {
+        let tally = counted[slot.place];
+        counted[slot.place] = Tally {
+            events: tally.events + 1,
+            bytes: tally.bytes + frame.size as u64,
+        };
+    }
+}
+
+// Adds the tallies of the classes of a chunk to those under their names.
+fn add_classes(
+    alloc: Global,
+    chunk: &Chunk<'_>,
+    counted: &[Tally],
+    tallies: &mut TallyMap,
+) -> Result<(), NoMemory>
+    requires parts { AreParts chunk.now }
+    requires small { length chunk.now.bytes < 2 ^ 28 }
+    requires counted { AreClassTallies chunk.now.classes chunk.now.records counted.now }
+    requires below { AreBelow (2 ^ 63) (tallies_in tallies.old) }
+    ensures ok { OnOk result (AddsEvents (tallies_in tallies.old) (occurrences chunk.now) (tallies_in tallies.new)) }
+    ensures below { (most : ℕ) → AreBelow most (tallies_in tallies.old) → AreBelow (most + length chunk.now.bytes) (tallies_in tallies.new) }
+{
+    let classes = chunk.classes();
+    for place in 0..classes.len() {
+        let name = classes.class_at(place).name.as_str();
+        add_tally(alloc, tallies, name, counted[place])?;
+    }
+    Ok(())
+}
+
+/// How many entries are in force.
+pub(crate) fn count_in_force(pools: &Pools) -> usize
+    ensures exact { result ≡ count_in_force pools.now }
+    ensures most { result ≤ length pools.now }
+{
+    let mut count = 0;
+    for number in 0..pools.len() {
+        if pools.in_force(number) {
+            count += 1;
+        }
+    }
+    count
+}

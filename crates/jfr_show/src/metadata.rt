@@ -1,0 +1,122 @@
+// The metadata of a chunk as text.
+ghost use Rattle.std.specs.Prelude.{◌≡◌, ◌++◌, [], IfOk, IsTrue, OnOk, if◌then◌else◌};
+ghost use Rattle.jfr_show.specs.Metadata.{categories_line, class_line, class_lines, field_line, metadata_shown, super_part};
+ghost use Rattle.jfr_show.specs.Names.{class_name};
+ghost use Rattle.jfr_show.specs.Texts.{is_ascii};
+
+use crate::TextBuilder;
+use crate::quoted::push_quoted;
+use jfr_chunk::Chunk;
+use jfr_layout::{ClassInfo, Classes, FieldInfo};
+use jfr_outside::{NoMemory, Text, Words};
+use std::alloc::Global;
+
+/// The classes of a chunk, with its number: a line for each class, for its categories, and for each of
+/// its fields.
+pub fn metadata_text(alloc: Global, chunk: &Chunk<'_>, number: u64) -> Result<Text, NoMemory>
+    ensures ok { IfOk result (λ text. text ≡ metadata_shown chunk.now number) }
+{
+    let mut out = TextBuilder::new(alloc);
+    show_metadata(chunk, number, &mut out)?;
+    Ok(out.into_text())
+}
+
+/// Adds these lines to a text.
+pub fn show_metadata(chunk: &Chunk<'_>, number: u64, out: &mut TextBuilder) -> Result<(), NoMemory>
+    ensures ok { OnOk result (out.new ≡ out.old ++ metadata_shown chunk.now number) }
+{
+    out.push_ascii("chunk ")?;
+    out.push_number(number)?;
+    out.push_ascii("\n")?;
+    let classes = chunk.classes();
+    for place in 0..classes.len() {
+        show_class(classes, classes.class_at(place), out)?;
+    }
+    Ok(())
+}
+
+// Adds the lines of a class.
+fn show_class(classes: &Classes, class: &ClassInfo, out: &mut TextBuilder) -> Result<(), NoMemory>
+    ensures ok { OnOk result (out.new ≡ out.old ++ class_lines classes.now class.now) }
+{
+    show_class_line(class, out)?;
+    show_categories(&class.categories, out)?;
+    for number in 0..class.fields.len() {
+        show_field(classes, class.fields.at(number), out)?;
+    }
+    Ok(())
+}
+
+// Adds the line of a class.
+fn show_class_line(class: &ClassInfo, out: &mut TextBuilder) -> Result<(), NoMemory>
+    ensures ok { OnOk result (out.new ≡ out.old ++ class_line class.now) }
+{
+    out.push_str(class.name.as_str())?;
+    out.push_ascii(" id ")?;
+    out.push_number(class.id)?;
+    show_super(&class.super_name, out)?;
+    out.push_ascii("\n")
+}
+
+// Adds the name of a super type, where one is given.
+fn show_super(name: &Option<Text>, out: &mut TextBuilder) -> Result<(), NoMemory>
+    ensures ok { OnOk result (out.new ≡ out.old ++ super_part name.now) }
+{
+    match name {
+        Some(name) => {
+            out.push_ascii(" super ")?;
+            out.push_str(name.as_str())
+        }
+        None => Ok(()),
+    }
+}
+
+// Adds the line of a class's categories, where there are any.
+fn show_categories(categories: &Words, out: &mut TextBuilder) -> Result<(), NoMemory>
+    ensures ok { OnOk result (out.new ≡ out.old ++ categories_line categories.now) }
+{
+    let Some(first) = categories.get(0) else {
+        return Ok(());
+    };
+    out.push_ascii("  category ")?;
+    push_quoted(first, out)?;
+    for number in 1..categories.len() {
+        let Some(category) = categories.get(number) else {
+            unreachable!()
+        };
+        out.push_ascii(", ")?;
+        push_quoted(category, out)?;
+    }
+    out.push_ascii("\n")
+}
+
+// Adds the line of a field.
+fn show_field(classes: &Classes, field: &FieldInfo, out: &mut TextBuilder) -> Result<(), NoMemory>
+    ensures ok { OnOk result (out.new ≡ out.old ++ field_line classes.now field.now) }
+{
+    out.push_ascii("  ")?;
+    out.push_str(field.name.as_str())?;
+    out.push_ascii(": ")?;
+    show_class_name(classes, field.shape.class, out)?;
+    push_if(field.shape.array, "[]", out)?;
+    push_if(field.shape.constant, " constant", out)?;
+    out.push_ascii("\n")
+}
+
+// Adds the name of the class of an id.
+fn show_class_name(classes: &Classes, id: u64, out: &mut TextBuilder) -> Result<(), NoMemory>
+    ensures ok { OnOk result (out.new ≡ out.old ++ class_name classes.now id) }
+{
+    match classes.find(id) {
+        Some(class) => out.push_str(class.name.as_str()),
+        None => Ok(()),
+    }
+}
+
+// Adds a text where it is to stand.
+fn push_if(stands: bool, text: &str, out: &mut TextBuilder) -> Result<(), NoMemory>
+    requires ascii { IsTrue (is_ascii text.now) }
+    ensures ok { OnOk result (out.new ≡ out.old ++ (if stands then text.now else [])) }
+{
+    if stands { out.push_ascii(text) } else { Ok(()) }
+}

@@ -1,0 +1,55 @@
+// How many events there are of a name.
+ghost use Rattle.std.specs.Prelude.{◌≡◌, ◌+◌, ◌^◌, ◌<◌, OnErr, OnOk};
+ghost use Rattle.jfr_show.specs.Counting.{AddsTally, FitsUnder, both};
+ghost use Rattle.jfr_show.specs.Held.{tallies_in};
+
+use jfr_outside::NoMemory;
+use std::alloc::Global;
+use std::collections::BTreeMap;
+
+/// How many events there are, and how many bytes their records have.
+#[derive(Clone, Copy, Debug)]
+pub(crate) struct Tally {
+    pub events: u64,
+    pub bytes: u64,
+}
+
+impl Tally {
+    /// The tally of these events and others.
+    fn plus(self, other: Tally) -> Tally
+        requires events { self.events + other.events < 2 ^ 64 }
+        requires bytes { self.bytes + other.bytes < 2 ^ 64 }
+        ensures { result ≡ both self other }
+    {
+        Tally {
+            events: self.events + other.events,
+            bytes: self.bytes + other.bytes,
+        }
+    }
+}
+
+/// Tallies by the names of classes.
+pub(crate) type TallyMap = BTreeMap<String, Tally>;
+
+/// Adds a tally to the one under a name. One of no events adds no name.
+pub(crate) fn add_tally(
+    alloc: Global,
+    tallies: &mut TallyMap,
+    name: &str,
+    tally: Tally,
+) -> Result<(), NoMemory>
+    requires { FitsUnder (tallies_in tallies.old) name.now tally }
+    ensures ok { OnOk result (AddsTally (tallies_in tallies.old) name.now tally (tallies_in tallies.new)) }
+    ensures unchanged { OnErr result (tallies_in tallies.new ≡ tallies_in tallies.old) }
+{
+    if tally.events == 0 {
+        return Ok(());
+    }
+    match tallies.get_mut(name) {
+        Some(kept) => *kept = kept.plus(tally),
+        None => {
+            tallies.insert(String::from_str(alloc, name)?, tally)?;
+        }
+    }
+    Ok(())
+}
