@@ -1,1 +1,8 @@
+mod FormLaws
+mod LeftLaws
+mod LineLaws
+mod ReferLaws
+mod Rows
+mod ShownLaws
+mod SlotForms
 mod TextLaws
