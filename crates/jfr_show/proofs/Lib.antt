@@ -1,3 +1,10 @@
+mod FormLaws
+mod LeftLaws
+mod LineLaws
+mod ReferLaws
+mod Rows
+mod ShownLaws
+mod SlotForms
 mod TextLaws
 mod ListingLaws
 mod TallyLaws

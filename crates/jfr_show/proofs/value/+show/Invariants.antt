@@ -1,0 +1,39 @@
+use Rattle.std.proofs.Common.{◌≡◌, ℕ, ◌+◌, ◌*◌, ◌-◌, ◌≤◌, ◌++◌, drop, if◌then◌else◌}
+use Rattle.std.specs.Prelude.{replicate, slice_get, Some}
+use Rattle.jfr_layout.specs.Classes.{Class, item_of}
+use Rattle.jfr_value.specs.Nodes.{IsRow}
+use Rattle.jfr_value.specs.Values.{Values}
+use Rattle.jfr_value.specs.Visits.{field_shapes}
+use Rattle.jfr_show.specs.Shown.{field_lines, item_lines, referred, shown_all}
+use Rattle.jfr_show.proofs.LineLaws.{onto_items, onto_fields}
+use Rattle.jfr_show.proofs.LeftLaws.{Left}
+use Rattle.jfr_show.proofs.value.+show.Given as goal
+
+-- References first, then composite values, then the steps within one.
+abbrev pub decreases-show_reference : goal.decreases-show_reference
+decreases-show_reference l = 400 * l.depth.references
+
+abbrev pub decreases-show_fields : goal.decreases-show_fields
+decreases-show_fields l = 400 * l.depth.references + 4 * l.depth.composites
+
+abbrev pub decreases-show_items : goal.decreases-show_items
+decreases-show_items l = 400 * l.depth.references + 4 * l.depth.composites + 2
+
+abbrev pub decreases-show_value : goal.decreases-show_value
+decreases-show_value l = 400 * l.depth.references + 4 * l.depth.composites + (if l.slot.now.shape.array then 3 else 1)
+
+abbrev pub decreases-show_node : goal.decreases-show_node
+decreases-show_node l = 400 * l.depth.references + 4 * l.depth.composites + 5
+
+abbrev pub invariant-show_items-items : goal.invariant-show_items-items
+invariant-show_items-items l = (to : ℕ) (vs : Values) → IsRow l.chunk.classes l.chunk.bytes l.initial.to to (replicate l.end (item_of l.slot.shape)) vs → to ≤ l.limit
+    → Left l.chunk.classes l.chunk.bytes to (l.initial.out ++ item_lines (l.depth.level + 1) (shown_all l.chunk.classes (referred l.chunk l.depth.references) (l.depth.level + 1) vs))
+    (onto_items l.chunk.classes (referred l.chunk l.depth.references) (l.depth.level + 1)) (replicate (l.end - l.counter) (item_of l.slot.shape)) l.to l.out
+
+abbrev pub invariant-show_fields-loop-slot : goal.invariant-show_fields-loop-slot
+invariant-show_fields-loop-slot l = record {
+  number : l.number ≡ l.slot-index;
+  left : (to : ℕ) (vs : Values) (class : Class) → IsRow l.chunk.classes l.chunk.bytes l.at to (field_shapes l.chunk.classes l.place) vs → to ≤ l.limit → slice_get l.chunk.classes l.place ≡ Some class
+      → Left l.chunk.classes l.chunk.bytes to (l.initial.out ++ field_lines (l.depth.level + 1) class.fields (shown_all l.chunk.classes (referred l.chunk l.depth.references) (l.depth.level + 1) vs))
+      (onto_fields l.chunk.classes (referred l.chunk l.depth.references) (l.depth.level + 1) (drop l.slot-index class.fields)) (drop l.slot-index (field_shapes l.chunk.classes l.place)) l.to l.out;
+}
