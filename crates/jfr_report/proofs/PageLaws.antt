@@ -8,13 +8,15 @@ use Rattle.std.proofs.lemmas.List.Folds.{concat-append}
 use Rattle.std.proofs.Math.Seq.{take-append-add}
 use Rattle.std.proofs.Common.{Result, Ok, Err, OnOk}
 use Rattle.std.specs.Prelude.{encode_utf8_all}
-use Rattle.std.proofs.lemmas.Str.{encodes-append}
+use Rattle.std.specs.Str.{chars, IsUtf8}
+use Rattle.std.proofs.lemmas.Str.{encodes-append, encodes-chars}
 use Rattle.jfr_outside.specs.World.{added}
 use Rattle.jfr_outside.specs.declared.fault.NoMemory.{NoMemory}
 use Rattle.jfr_header.specs.declared.ending.Ending.{Ending}
 use Rattle.jfr_value.specs.Nodes.{NodeAt}
 use Rattle.jfr_chunk.specs.Parts.{Parts}
 use Rattle.jfr_show.specs.Shown.{event_shown}
+use Rattle.jfr_show.specs.Json.{event_json}
 use Rattle.jfr_report.specs.Reports.{event_bytes}
 use Rattle.jfr_report.specs.Gathered.{Grew, IsGathered, TearsText, WritesSome, TextLeaves, PageLeaves}
 
@@ -137,8 +139,8 @@ some_list [] e h = cc
 some_list (x ∷ xs) e h = cc
 
 -- the one text is written in part
-pub tears_one : (text bytes : List ℕ) (before now : Option (List ℕ)) → bytes ≡ text → ((k : ℕ) × (now ≡ option_map (added (take k bytes)) before)) → TearsText (text ∷ []) before now
-tears_one text bytes before now e t = record { first = []; torn = text; rest = []; bytes = t.0; parts = refl; stands = t.1 ∙ ap (λ z. option_map (added (take t.0 z)) before) e }
+pub tears_one : (text : List ℕ) (before now : Option (List ℕ)) → ((k : ℕ) × (now ≡ option_map (added (take k text)) before)) → TearsText (text ∷ []) before now
+tears_one text before now t = record { first = []; torn = text; rest = []; bytes = t.0; parts = refl; stands = t.1 }
 
 -- what is gathered is written, or a part of it
 pub page_written : (all : List (List ℕ)) (before now next : Option (List ℕ)) (g bytes h : List ℕ) (rest : List (List ℕ)) → bytes ≡ g → h ≡ [] → next ≡ option_map (added bytes) now → IsGathered all before now g rest → IsGathered all before next h rest
@@ -152,6 +154,15 @@ page_torn all before now next g bytes rest e some w i = tears all before now nex
 pub last_page : (all : List (List ℕ)) (before now : Option (List ℕ)) (result : Result (Unit {0}) Ending) (h : List ℕ) → PageLeaves all before result h [] now → OnOk result (h ≡ []) → TextLeaves all result before now
 last_page all before now (Ok x) h i e = all_written all before now (subst (λ z. IsGathered all before now z []) e i)
 last_page all before now (Err e) h i n = i
+
+-- a text by its characters
+pub text_bytes : (bytes text : List ℕ) → IsUtf8 bytes → chars bytes ≡ text → bytes ≡ encode_utf8_all text
+text_bytes bytes text u e = sym (encodes-chars bytes u) ∙ ap encode_utf8_all e
+
+-- an event's line of JSON, in UTF-8
+pub json_text : (result : Result (Unit {0}) NoMemory) (old new : List ℕ) (json : Bool) (depth : ℕ) (p : Parts) (n : NodeAt) → json ≡ true → OnOk result (new ≡ old ++ event_json p depth n) → OnOk result (encode_utf8_all new ≡ encode_utf8_all old ++ event_bytes json depth p n)
+json_text (Ok x) old new json depth p n e h = ap encode_utf8_all h ∙ (encodes-append old (event_json p depth n) ∙ ap (λ b. encode_utf8_all old ++ event_bytes b depth p n) (sym e))
+json_text (Err x) old new json depth p n e h = tt
 
 -- an event's text, in UTF-8
 pub shown_text : (result : Result (Unit {0}) NoMemory) (old new : List ℕ) (json : Bool) (depth : ℕ) (p : Parts) (n : NodeAt) → json ≡ false → OnOk result (new ≡ old ++ event_shown p depth n) → OnOk result (encode_utf8_all new ≡ encode_utf8_all old ++ event_bytes json depth p n)

@@ -1,7 +1,6 @@
 -- The parts of chunks, one after another.
 use Rattle.std.proofs.Common.{◌≡◌, ℕ, ◌∙◌, refl, sym, ap, subst, List, [], ◌∷◌, ◌++◌, Result, Ok, Err, OnOk}
 use Rattle.jfr_header.specs.declared.ending.Ending.{Ending}
-use Rattle.jfr_show.specs.Summary.{no_totals, totals_of}
 use Rattle.jfr_base.specs.declared.flaw.Flaw.{Flaw}
 use Rattle.jfr_chunk.specs.Parts.{Parts}
 use Rattle.jfr_chunk.specs.Refusal.{read_parts}
@@ -19,8 +18,3 @@ parts_more (d ∷ ds) c p e = ap (parts_with (read_parts d)) (parts_more ds c p 
 -- what is seen of the parts so far
 pub seen_more : (Seen : List Parts → Type 0) (result : Result (Unit {0}) Ending) (cs : List (List ℕ)) (c : List ℕ) (p : Parts) → read_parts c ≡ Ok p → OnOk result (Seen (all_parts cs ++ p ∷ [])) → OnOk result (Seen (all_parts (cs ++ c ∷ [])))
 seen_more Seen result cs c p e h = subst (λ ps. OnOk result (Seen ps)) (sym (parts_more cs c p e)) h
-
--- no chunk, no totals
-pub no_chunks : no_totals ≡ totals_of []
-unfolding totals_of
-no_chunks = refl

@@ -11,8 +11,8 @@ use Rattle.jfr_chunk.specs.Chosen.{kept_of}
 use Rattle.jfr_chunk.specs.Refusal.{read_parts}
 use Rattle.jfr_show.specs.Shown.{event_shown}
 use Rattle.jfr_show.specs.Json.{event_json}
-use Rattle.jfr_show.specs.Summary.{totals_of, summary_shown}
-use Rattle.jfr_show.specs.Described.{metadata_shown}
+use Rattle.jfr_show.specs.Totals.{totals_of, summary_shown}
+use Rattle.jfr_show.specs.Metadata.{metadata_shown}
 
 -- each text is written, one after another
 abbrev pub writes : List (List ℕ) → List Effect
@@ -32,12 +32,12 @@ texting texts last = record {
   target = Text;
 }
 
--- the text of an event, or its line of JSON, in UTF-8
+-- an event as a line of JSON, or as text, in UTF-8
 abbrev pub event_bytes : Bool → ℕ → Parts → NodeAt → List ℕ
-event_bytes true depth p n = event_json p depth n
+event_bytes true depth p n = encode_utf8_all (event_json p depth n)
 event_bytes false depth p n = encode_utf8_all (event_shown p depth n)
 
--- those of some events, in order, and of the kept ones
+-- those of events, in order
 abbrev pub events_bytes : Bool → ℕ → Parts → List EventAt → List (List ℕ)
 events_bytes json depth p es = map (λ e. event_bytes json depth p e.node) es
 

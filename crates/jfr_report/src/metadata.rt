@@ -22,7 +22,7 @@ struct Describing {
 
 impl Report for Describing {
     ghost use Rattle.std.specs.Prelude.{[], ◌∷◌, encode_utf8_all};
-    ghost use Rattle.jfr_show.specs.Described.{metadata_shown};
+    ghost use Rattle.jfr_show.specs.Metadata.{metadata_shown};
 
     ghost texts = { λ s number p. encode_utf8_all (metadata_shown p number) ∷ [] };
 
@@ -38,8 +38,8 @@ impl Report for Describing {
         number: u64,
     ) -> Result<(), Ending> {
         self.text.clear();
-        match show_metadata(_alloc, chunk, number, &mut self.text) {
-            Ok(()) => write_text(out, &self.text),
+        match show_metadata(chunk, number, &mut self.text) {
+            Ok(()) => write_text(out, self.text.as_bytes()),
             Err(NoMemory) => Err(Ending::Memory),
         }
     }

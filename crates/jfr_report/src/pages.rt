@@ -44,11 +44,11 @@ pub(crate) fn write_page<O: Sink>(out: &mut O, page: &mut TextBuilder) -> Result
 }
 
 /// Writes one text.
-pub(crate) fn write_text<O: Sink>(out: &mut O, text: &TextBuilder) -> Result<(), Ending>
-    ensures texts { TextLeaves (encode_utf8_all text.now ∷ []) result (O.state out.old).written (O.state out.new).written }
+pub(crate) fn write_text<O: Sink>(out: &mut O, text: &[u8]) -> Result<(), Ending>
+    ensures texts { TextLeaves (text.now ∷ []) result (O.state out.old).written (O.state out.new).written }
     ensures faults { TextCounted result (O.state out.old).faults (O.state out.new).faults }
 {
-    match out.write(text.as_bytes()) {
+    match out.write(text) {
         Ok(()) => Ok(()),
         Err(Fault::Failed) => Err(Ending::WriteFault),
         Err(Fault::Memory) => Err(Ending::Memory),

@@ -18,7 +18,7 @@ use jfr_filter::Filter;
 use jfr_header::Ending;
 use jfr_outside::{NoMemory, Place, Sink};
 use jfr_path::choose;
-use jfr_show::{TextBuilder, show_event, show_event_json};
+use jfr_show::{TextBuilder, show_event, show_json};
 use std::alloc::Global;
 
 /// How events are shown: how many references deep, and as text or as lines of JSON.
@@ -146,9 +146,9 @@ fn show(
     ensures ok { OnOk result (encode_utf8_all page.new ≡ encode_utf8_all page.old ++ event_bytes style.json style.depth chunk.now (node_of event.now.node)) }
 {
     if style.json {
-        return show_event_json(alloc, chunk, event, style.depth, page);
+        return show_json(alloc, chunk, event, style.depth, page);
     }
-    show_event(alloc, chunk, event, style.depth, page)
+    show_event(chunk, event, style.depth, page)
 }
 
 /// Writes the events of a recording that the filter keeps, with references followed so many deep, as text

@@ -11,7 +11,7 @@ use crate::report::{Report, report_stream};
 use jfr_chunk::Chunk;
 use jfr_header::Ending;
 use jfr_outside::{NoMemory, Place, Sink};
-use jfr_show::{Summary, TextBuilder, show_summary};
+use jfr_show::{Summary, summary_text};
 use std::alloc::Global;
 
 /// No recording has so many chunks, each of which has at least 68 bytes and begins below byte 2^40.
@@ -25,7 +25,7 @@ struct Summing {
 
 impl Report for Summing {
     ghost use Rattle.std.specs.Prelude.{◌≡◌, [], ◌∷◌, encode_utf8_all};
-    ghost use Rattle.jfr_show.specs.Summary.{totals_of, summary_shown};
+    ghost use Rattle.jfr_show.specs.Totals.{totals_of, summary_shown};
 
     ghost texts = { λ s number p. [] };
 
@@ -40,6 +40,7 @@ impl Report for Summing {
         chunk: &Chunk<'_>,
         _number: u64,
     ) -> Result<(), Ending> {
+        // No recording comes so far; the contract of a stage can't say so.
         if self.summary.chunks() >= TOO_MANY {
             return Err(Ending::Memory);
         }
@@ -50,9 +51,8 @@ impl Report for Summing {
     }
 
     fn end<O: Sink>(&self, alloc: Global, out: &mut O) -> Result<(), Ending> {
-        let mut text = TextBuilder::new(alloc);
-        match show_summary(&self.summary, &mut text) {
-            Ok(()) => write_text(out, &text),
+        match summary_text(alloc, &self.summary) {
+            Ok(text) => write_text(out, text.as_str().as_bytes()),
             Err(NoMemory) => Err(Ending::Memory),
         }
     }
