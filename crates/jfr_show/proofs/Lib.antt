@@ -5,3 +5,6 @@ mod PlaceLaws
 mod ClassTallies
 mod SizeLaws
 mod RecordTallies
+mod ForceCounts
+mod BoundLaws
+mod TotalLaws
