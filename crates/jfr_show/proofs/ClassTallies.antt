@@ -30,7 +30,7 @@ pub both_assoc : (s t u : Tally) → both (both s t) u ≡ both s (both t u)
 both_assoc s t u = tally_path _ _ (omega arith) (omega arith)
 
 -- events are added
-added_some : (o : Option Tally) (n : ℕ) (t : Tally) → t.events ≡ suc n → added o t ≡ Some (both (unwrap_or o no_tally) t)
+pub added_some : (o : Option Tally) (n : ℕ) (t : Tally) → t.events ≡ suc n → added o t ≡ Some (both (unwrap_or o no_tally) t)
 added_some o n t e = let z : (t.events == 0) ≡ false = grind (arith, nat_tests) in ap (λ b. cond b o (Some (both (unwrap_or o no_tally) t))) z
 
 -- events that are added, and then others
@@ -152,7 +152,7 @@ module _ (k : Classes) (i : ℕ) (c : Class) (q : List ℕ) (there : slice_get k
 added_class : (o : Option Tally) (xs ys zs : List Occurrence) → tally_of zs ≡ both (tally_of xs) (tally_of ys) → added (added o (tally_of xs)) (tally_of ys) ≡ added o (tally_of zs)
 added_class o xs ys zs e = added_twice o xs ys ∙ ap (added o) (tally-append xs ys ∙ sym e)
 
-both_none : (t : Tally) → both t no_tally ≡ t
+pub both_none : (t : Tally) → both t no_tally ≡ t
 both_none t = tally_path _ _ (omega arith) (omega arith)
 
 -- one class more is added

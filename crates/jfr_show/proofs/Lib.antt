@@ -12,3 +12,6 @@ mod PlaceLaws
 mod ClassTallies
 mod SizeLaws
 mod RecordTallies
+mod ForceCounts
+mod BoundLaws
+mod TotalLaws

@@ -59,8 +59,8 @@ abbrev pub header_in : Parts → Header
 header_in p = header_of (take 68 p.bytes)
 
 -- What a recording says of its beginning: the version of the first chunk, and when that starts.
-abbrev pub beginning : Parts → Beginning
-beginning p = record { major = (header_in p).major; minor = (header_in p).minor; start_nanos = (header_in p).start_nanos }
+abbrev pub beginning_of : Header → Beginning
+beginning_of h = record { major = h.major; minor = h.minor; start_nanos = h.start_nanos }
 
 -- The totals of chunks. Without a chunk there is no beginning.
 pub record Totals : Type 0 where
@@ -76,7 +76,7 @@ pub record Totals : Type 0 where
 
 unfoldable pub totals_of : List Parts → Totals
 totals_of ps = record {
-  first = option_map beginning (slice_get ps 0);
+  first = option_map (λ p. beginning_of (header_in p)) (slice_get ps 0);
   chunks = length ps;
   bytes = sum_by (λ p. length p.bytes) ps;
   duration = sum_by (λ p. (header_in p).duration_nanos) ps;

@@ -1,4 +1,7 @@
 // What a recording says of its beginning.
+ghost use Rattle.std.specs.Prelude.{◌≡◌};
+
+use jfr_header::Header;
 
 /// The version of a recording's first chunk, and when that starts.
 #[derive(Clone, Copy, Debug)]
@@ -7,4 +10,19 @@ pub(crate) struct Beginning {
     pub minor: u16,
     /// In nanoseconds since 1970.
     pub start_nanos: u64,
+}
+
+impl Beginning {
+    ghost use Rattle.jfr_show.specs.Totals.{beginning_of};
+
+    /// What a header says of it.
+    pub fn of(header: &Header) -> Beginning
+        ensures { result ≡ beginning_of header.now }
+    {
+        Beginning {
+            major: header.major,
+            minor: header.minor,
+            start_nanos: header.start_nanos,
+        }
+    }
 }

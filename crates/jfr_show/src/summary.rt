@@ -4,6 +4,7 @@ ghost use Rattle.jfr_chunk.specs.Parts.{Parts};
 ghost use Rattle.jfr_show.specs.Totals.{summary_shown, totals_of};
 
 use crate::beginning::Beginning;
+use crate::counting::{add_events, count_in_force};
 use crate::tally::TallyMap;
 use jfr_chunk::Chunk;
 use jfr_outside::{NoMemory, Text};
@@ -66,7 +67,16 @@ impl Summary {
         requires { self.old.chunks < 2 ^ 35 }
         ensures ok { OnOk result ((ps : List Parts) → self.old ≡ totals_of ps → self.new ≡ totals_of (ps ++ chunk.now ∷ [])) }
     {
-        Err(NoMemory)
+        let header = chunk.header();
+        self.first = self.first.or(Some(Beginning::of(header)));
+        self.chunks += 1;
+        self.bytes += chunk.bytes().len() as u64;
+        self.duration += u128::from(header.duration_nanos);
+        self.events += chunk.event_count() as u64;
+        self.checkpoints += chunk.chain().len() as u64;
+        self.constants += count_in_force(chunk.pools()) as u64;
+        self.inert += chunk.inert_count();
+        add_events(self.alloc, chunk, &mut self.tallies)
     }
 
     /// How many chunks were added.
