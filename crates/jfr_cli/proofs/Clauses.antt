@@ -15,8 +15,8 @@ use Rattle.jfr_plan.specs.Outcomes.{SomeDone, AllDone, Outcome, Tallied}
 use Rattle.jfr_plan.specs.Clauses.{IsPlanned, ByPlan, ForMemory, write_count}
 use Rattle.jfr_plan.proofs.Clauses as plan
 use Rattle.jfr_scrub.specs.Headline.{IsByPlan, Scrubs}
-use Rattle.jfr_words.specs.declared.Order.{Order}
-use Rattle.jfr_words.specs.declared.Order.TheVariants as orders
+use Rattle.jfr_words.specs.declared.order.Order.{Order}
+use Rattle.jfr_words.specs.declared.order.Order.TheVariants as orders
 use Rattle.jfr_words.specs.Words.{order_of, file_name}
 use Rattle.jfr_cli.specs.Works.{Work, Over, Joins, Alone, work_of, plan_of, target_of, text_on, HaltsAs, Stands, Leaves, KeepsSink, KeepsPlace, CanReadAll, CanCreateFor}
 use Rattle.jfr_cli.specs.Answers.{status_of, line_of, usage_line, refusal_line, read_line, write_line, parts_line, IsAnswered, Fully, IsSaid, IsPartlySaid}

@@ -10,7 +10,7 @@ use Rattle.jfr_plan.specs.Effects.{Outside, Write, outside, stand, done, effects
 use Rattle.jfr_plan.specs.Walks.{Text}
 use Rattle.jfr_plan.specs.Outcomes.{Outcome, AllDone, SomeDone, Breaks, Tallied}
 use Rattle.jfr_demo.specs.Demo.{sampled}
-use Rattle.jfr_words.specs.declared.Order.TheVariants.{Sample}
+use Rattle.jfr_words.specs.declared.order.Order.TheVariants.{Sample}
 use Rattle.jfr_cli.specs.Works.{sample_plan, work_of, HaltsAs, Leaves, Alone}
 use Rattle.jfr_cli.specs.Runs.{Carries}
 

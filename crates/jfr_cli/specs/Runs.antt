@@ -10,8 +10,8 @@ use Rattle.jfr_plan.specs.Effects.{Outside, effects}
 use Rattle.jfr_plan.specs.Outcomes.{AllDone, SomeDone, Breaks, Kept, Rises, Counted, Tallied}
 use Rattle.jfr_plan.specs.Clauses.{write_count}
 use Rattle.jfr_scrub.specs.Headline.{IsByPlan, Scrubs}
-use Rattle.jfr_words.specs.declared.Order.{Order}
-use Rattle.jfr_words.specs.declared.Order.TheVariants as orders
+use Rattle.jfr_words.specs.declared.order.Order.{Order}
+use Rattle.jfr_words.specs.declared.order.Order.TheVariants as orders
 use Rattle.jfr_words.specs.Words.{order_of, file_name}
 use Rattle.jfr_cli.specs.Works.{Work, work_of, plan_of, target_of, HaltsAs, Stands, Leaves, KeepsSink, KeepsPlace, CanReadAll, CanCreateFor}
 use Rattle.jfr_cli.specs.Answers.{status_of, line_of, usage_line, refusal_line, memory_line, IsAnswered, IsSaid}

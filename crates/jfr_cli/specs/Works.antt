@@ -14,8 +14,8 @@ use Rattle.jfr_split.specs.Joins.{assembling}
 use Rattle.jfr_split.specs.Clauses.{Unfinished, CanCreateAll}
 use Rattle.jfr_report.specs.Reports.{printing, summing, describing}
 use Rattle.jfr_demo.specs.Demo.{sampled}
-use Rattle.jfr_words.specs.declared.Order.{Order}
-use Rattle.jfr_words.specs.declared.Order.TheVariants as orders
+use Rattle.jfr_words.specs.declared.order.Order.{Order}
+use Rattle.jfr_words.specs.declared.order.Order.TheVariants as orders
 use Rattle.jfr_words.specs.Words.{file_name}
 
 -- one recording is gone through by a rule, the files of a folder are joined to an output, or a plan needs no file

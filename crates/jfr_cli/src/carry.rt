@@ -1,7 +1,7 @@
 // Each order as a call.
 ghost use Rattle.jfr_plan.specs.Effects.{outside};
 ghost use Rattle.jfr_words.specs.Words.{IsUsableOrder};
-ghost use Rattle.jfr_words.specs.declared.Order.TheVariants as orders;
+ghost use Rattle.jfr_words.specs.declared.order.Order.TheVariants as orders;
 ghost use Rattle.std.specs.Prelude.{◌≤◌};
 ghost use Rattle.jfr_split.specs.Parts.{IsUsable};
 ghost use Rattle.jfr_cli.specs.Runs.{Carries};

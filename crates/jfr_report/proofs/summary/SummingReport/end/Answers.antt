@@ -1,0 +1,12 @@
+use Rattle.std.proofs.Common.{[], ◌∷◌, ap, ◌∙◌, subst}
+use Rattle.std.specs.Prelude.{encode_utf8_all}
+use Rattle.jfr_show.specs.Totals.{summary_shown}
+use Rattle.jfr_report.specs.Gathered.{TextLeaves}
+use Rattle.jfr_report.proofs.PageLaws.{text_bytes}
+use Rattle.jfr_report.proofs.summary.SummingReport.end.Goals as goal
+
+pub returns-in-Ok-clause-texts : goal.returns-in-Ok-clause-texts
+returns-in-Ok-clause-texts g c = λ ps s.
+    subst (λ z. TextLeaves (z ∷ []) c.write_text.result (g.O.Sink.state c.args.out.now).written (g.O.Sink.state c.write_text.new.out).written)
+    (c.as_bytes.ensures.value ∙ (text_bytes c.as_str.result.now c.in-Ok.text c.as_str.utf8 c.as_str.ensures ∙ ap encode_utf8_all (c.in-Ok.ensures.ok ∙ ap summary_shown s)))
+    c.write_text.ensures.texts
