@@ -1,10 +1,14 @@
+mod Composing
 mod Creating
 mod Ending
 mod Fold
+mod Halting
+mod Joined
 mod Leaving
 mod Listed
 mod Naming
 mod Ordered
 mod Over
+mod Rejoin
 mod Sorting
 mod Stems
