@@ -1,3 +1,5 @@
+mod Answering
+mod Assembled
 mod Composing
 mod Creating
 mod Ending
