@@ -54,7 +54,7 @@ each P Q [] f h = tt
 each P Q (e ∷ es) f h = (f e h.0, each P Q es f h.1)
 
 -- the files that are joined are files
-kept_at : (folder : List ℕ) (files : Files) (q : List ℕ) → fin.get (files_in folder files) q ≡ cond (is_joined folder q) (fin.get files q) None
+pub kept_at : (folder : List ℕ) (files : Files) (q : List ℕ) → fin.get (files_in folder files) q ≡ cond (is_joined folder q) (fin.get files q) None
 kept_at folder files q = get-retain_keys files (is_joined folder) q (λ x e. ap (is_joined folder) (sym (slice_cmp-IsAntisymmetric nat_cmp-IsAntisymmetric q x e)))
 
 was_there : (b : Bool) (o : Option (List ℕ)) (v : List ℕ) → cond b o None ≡ Some v → o ≡ Some v

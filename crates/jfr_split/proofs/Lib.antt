@@ -3,6 +3,7 @@ mod Assembled
 mod Composing
 mod Creating
 mod Ending
+mod Filling
 mod Fold
 mod Halting
 mod Joined
@@ -12,5 +13,6 @@ mod Naming
 mod Ordered
 mod Over
 mod Rejoin
+mod Round
 mod Sorting
 mod Stems
