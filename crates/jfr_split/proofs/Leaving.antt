@@ -81,10 +81,10 @@ leaves_then a b o r x y z e h k =
     (subst (λ (st : Bool). Told y.place.told z.place.told (PartTold st (Goes b) r y.sink.written z.sink.written)) e k)
     (λ w v u p q. (q.0 ∙ p.0, stands_after x.place.steady a b r (stand w x.sink.written) (stand v y.sink.written) (stand u z.sink.written) p.1.1 q.1))
 
-counted_after : (R W T : ℕ → ℕ → Type 0) (x y z : Outside) → Counted Kept Kept Kept x y → Counted R W T y z → Counted R W T x z
+pub counted_after : (R W T : ℕ → ℕ → Type 0) (x y z : Outside) → Counted Kept Kept Kept x y → Counted R W T y z → Counted R W T x z
 counted_after R W T x y z e k = (subst (λ (n : ℕ). R n z.place.read_faults) e.0 k.0, subst (λ (n : ℕ). W n z.place.write_faults) e.1 k.1, subst (λ (n : ℕ). T n z.sink.faults) e.2 k.2, k.3 ∙ e.3)
 
-tallied_after : (target : Target) (way : Way) (x y z : Outside) → Counted Kept Kept Kept x y → Tallied target way y z → Tallied target way x z
+pub tallied_after : (target : Target) (way : Way) (x y z : Outside) → Counted Kept Kept Kept x y → Tallied target way y z → Tallied target way x z
 tallied_after target (Ends e) x y z h k = (k.0, counted_after Kept Kept Kept x y z h k.1)
 tallied_after target NotRead x y z h k = counted_after Rises Kept Kept x y z h k
 tallied_after File NotWritten x y z h k = counted_after Kept Rises Kept x y z h k

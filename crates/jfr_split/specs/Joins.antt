@@ -1,8 +1,9 @@
 -- The command that joins the chunks of a folder's files.
-use Rattle.std.specs.Prelude.{ℕ, List, [], ◌∷◌, ◌++◌, Option, Some}
+use Rattle.std.specs.Prelude.{◌≡◌, ℕ, List, [], ◌∷◌, ◌++◌, map, Option, Some}
+use Rattle.std.specs.List.{AllByRecursion}
 use Rattle.std.specs.FinMap as fin
 use Rattle.jfr_base.specs.declared.reason.Reason.TheVariants.{NoChunk}
-use Rattle.jfr_outside.specs.World.{Files}
+use Rattle.jfr_outside.specs.World.{World, Files, file}
 use Rattle.jfr_header.specs.Fronts.{flaw_at}
 use Rattle.jfr_plan.specs.Ends.{End, Fine, refused}
 use Rattle.jfr_plan.specs.Effects.{Create, Append, Finish, Nothing, AtEnd, needing, Plan}
@@ -47,3 +48,9 @@ assembling folder output files = record {
   steps = needing Nothing (Create output ∷ []) ++ (joining_all (fin.values (files_in folder files))).steps;
   end = (joining_all (fin.values (files_in folder files))).end;
 }
+
+-- the output is open, and each of these files is there beside it, with these contents
+pub record CanJoin (output : List ℕ) (names contents : List (List ℕ)) (w : World) : Type 0 where
+  pub opened : w.output ≡ Some output
+  pub apart : AllByRecursion (λ name. name ≡ output → ⊥) names
+  pub held : map (file w) names ≡ map (λ x. Some x) contents

@@ -1,18 +1,150 @@
 // The command that joins the chunks of a folder's files.
-ghost use Rattle.std.specs.Prelude.{◌≡◌, ◌≢◌, ◌<◌, IsTrue, IsSome};
+ghost use Rattle.std.specs.Prelude.{◌≡◌, ◌≢◌, ◌<◌, ℕ, List, [], map, string_bytes, IsTrue, IsSome, IfSome, OnOk, IfOk, IfErr, MatchResult};
+ghost use Rattle.std.specs.FinMap as fin;
 ghost use Rattle.jfr_base.specs.declared.flaw.Refusal.{Refusal};
 ghost use Rattle.jfr_outside.specs.Counts.{Rose};
+ghost use Rattle.jfr_outside.specs.World.{Files};
 ghost use Rattle.jfr_plan.specs.Ends.{Fine, Refused, way_of};
-ghost use Rattle.jfr_plan.specs.Effects.{alone};
+ghost use Rattle.jfr_plan.specs.Effects.{Plan, alone};
 ghost use Rattle.jfr_plan.specs.Walks.{File};
-ghost use Rattle.jfr_plan.specs.Outcomes.{Tallied};
+ghost use Rattle.jfr_plan.specs.Outcomes.{After, Tallied, Counted, Kept};
+ghost use Rattle.jfr_plan.specs.Goings.{IsAt, IsPast};
 ghost use Rattle.jfr_plan.specs.Clauses.{CanCreate};
-ghost use Rattle.jfr_split.specs.Joins.{assembling};
+ghost use Rattle.jfr_split.specs.Joins.{adding, joining, joining_all, files_in, assembling, CanJoin};
 ghost use Rattle.jfr_split.specs.Clauses.{AfterFiles, FilesEnded, FilesHalted, FilesBroken, FilesPartly, FilesComplete};
 
+use crate::effects::{append_chunk, create_output, finish_output};
+use crate::listing::joined_files;
+use jfr_base::{Reason, Refusal};
 use jfr_header::Ending;
-use jfr_outside::Place;
+use jfr_outside::{Fault, NoMemory, Place, Sink};
+use jfr_plan::{Discard, Position, Stage, run_stage};
 use std::alloc::Global;
+
+// Appends each chunk of a file to the output.
+#[derive(Drop)]
+struct Adding;
+
+impl Stage for Adding {
+    ghost use Rattle.jfr_split.specs.Joins.{adding};
+
+    ghost rule = { λ _. adding };
+
+    ghost seen = { λ _ _. Unit {0} };
+
+    fn opened<P: Place, O: Sink>(&self, _place: &mut P, _out: &mut O) -> Result<(), Ending> {
+        Ok(())
+    }
+
+    fn chunk<P: Place, O: Sink>(
+        &mut self,
+        place: &mut P,
+        _out: &mut O,
+        chunk: &[u8],
+        _number: u64,
+    ) -> Result<(), Ending> {
+        append_chunk(place, chunk)
+    }
+
+    fn end<P: Place, O: Sink>(&self, _place: &mut P, _out: &mut O) -> Result<(), Ending> {
+        Ok(())
+    }
+}
+
+// Appends the chunks of one file, which come after those of the files before.
+fn join_file<P: Place>(alloc: Global, place: &mut P, file: &str, at: &mut Position) -> Ending
+    ensures told { (earlier : List (List ℕ)) → IsAt earlier at.old.start at.old.number
+        → After adding earlier file.now (way_of result)
+        (alone (P.state place.old)) (alone (P.state place.new)) }
+    ensures later { (earlier : List (List ℕ)) → IsAt earlier at.old.start at.old.number
+        → result ≡ Ending.Done
+        → IfSome (P.state place.old).told (IsPast (λ _. Unit {0}) earlier file.now at.new.start at.new.number) }
+    ensures counts { Tallied File (way_of result)
+        (alone (P.state place.old)) (alone (P.state place.new)) }
+{
+    run_stage(alloc, place, &mut Discard, &mut Adding, file, at)
+}
+
+// Appends the chunks of these files, one file after another, and finishes the output.
+fn join_files<P: Place>(alloc: Global, place: &mut P, files: &[String]) -> Ending
+    ensures told { (output : List ℕ) (contents : List (List ℕ))
+        → IfSome (P.state place.old).told (CanJoin output (map (λ f. string_bytes f) files.now) contents)
+        → AfterFiles (λ _. joining [] contents) (way_of result)
+        (alone (P.state place.old)) (alone (P.state place.new)) }
+    ensures counts { Tallied File (way_of result)
+        (alone (P.state place.old)) (alone (P.state place.new)) }
+{
+    let mut at = Position::first();
+    'files: for file in files {
+        match join_file(alloc, place, file.as_str(), &mut at) {
+            Ending::Done => {}
+            ending => return ending,
+        }
+    }
+    match finish_output(place) {
+        Ok(()) => Ending::Done,
+        Err(ending) => ending,
+    }
+}
+
+// Joins the files, of which there has to be one.
+fn join_some<P: Place>(alloc: Global, place: &mut P, files: &[String]) -> Ending
+    ensures told { (output : List ℕ) (contents : List (List ℕ))
+        → IfSome (P.state place.old).told (CanJoin output (map (λ f. string_bytes f) files.now) contents)
+        → AfterFiles (λ _. joining_all contents) (way_of result)
+        (alone (P.state place.old)) (alone (P.state place.new)) }
+    ensures counts { Tallied File (way_of result)
+        (alone (P.state place.old)) (alone (P.state place.new)) }
+{
+    if files.is_empty() {
+        return Ending::Refused(Refusal {
+            chunk: 1,
+            offset: 0,
+            reason: Reason::NoChunk,
+        });
+    }
+    join_files(alloc, place, files)
+}
+
+// Lists the folder's files that are joined.
+fn list_files<P: Place>(alloc: Global, place: &mut P, folder: &str) -> Result<Vec<String>, Ending>
+    ensures told { OnOk result ((P.state place.new).told ≡ (P.state place.old).told) }
+    ensures files { IfOk result (λ made. IfSome (P.state place.old).told
+        (λ w. map (λ f. string_bytes f) made.items ≡ fin.keys (files_in folder.now w.files))) }
+    ensures ended { IfErr result (λ e. (plan : Files → Plan) → AfterFiles plan (way_of e)
+        (alone (P.state place.old)) (alone (P.state place.new))) }
+    ensures counts { MatchResult result
+        (λ _. Counted Kept Kept Kept (alone (P.state place.old)) (alone (P.state place.new)))
+        (λ e. Tallied File (way_of e) (alone (P.state place.old)) (alone (P.state place.new))) }
+{
+    let names = match place.list(alloc, folder) {
+        Ok(names) => names,
+        Err(Fault::Failed) => return Err(Ending::ReadFault),
+        Err(Fault::Memory) => return Err(Ending::Memory),
+    };
+    match joined_files(alloc, folder, &names) {
+        Ok(files) => Ok(files),
+        Err(NoMemory) => Err(Ending::Memory),
+    }
+}
+
+// Lists the folder, creates the output, and joins the files.
+fn join_folder<P: Place>(alloc: Global, place: &mut P, folder: &str, out: &str) -> Ending
+    ensures told { AfterFiles (assembling folder.now out.now) (way_of result)
+        (alone (P.state place.old)) (alone (P.state place.new)) }
+    ensures counts { Tallied File (way_of result)
+        (alone (P.state place.old)) (alone (P.state place.new)) }
+{
+    let files = match list_files(alloc, place, folder) {
+        Ok(files) => files,
+        Err(ending) => return ending,
+    };
+    match create_output(place, out) {
+        Ok(()) => {}
+        Err(ending) => return ending,
+    }
+    join_some(alloc, place, &files)
+}
 
 /// Joins the chunks of a folder's files whose names end in `.jfr`: lists the folder, creates the
 /// output, opens the files one after another in byte order of their names, appends each chunk, and
@@ -59,5 +191,5 @@ pub fn assemble<P: Place>(alloc: Global, place: &mut P, folder: &str, out: &str)
         → (result ≢ Ending.WriteFault) × ((P.state place.new).write_faults ≡ (P.state place.old).write_faults) }
     ensures same { (P.state place.new).steady ≡ (P.state place.old).steady }
 {
-    Ending::Memory
+    join_folder(alloc, place, folder, out)
 }

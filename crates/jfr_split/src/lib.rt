@@ -7,6 +7,7 @@
 
 mod effects;
 mod joining;
+pub mod laws;
 mod listing;
 mod name;
 mod part;

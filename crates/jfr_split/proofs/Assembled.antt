@@ -1,0 +1,128 @@
+-- A folder's files, joined to an output that was new.
+use Rattle.std.proofs.Common.{IsTrue, IfSome, ◌≡◌, ℕ, zero, suc, ◌+◌, refl, sym, ◌∙◌, ap, subst, Bool, true, false, not, cond, ◌&&◌, T, List, [], ◌∷◌, ◌++◌, length, map, Option, None, Some, Result, Ok, Err, Ordering, Less, Equal, Greater, String, string_bytes, is_eq, arith}
+use Rattle.std.specs.Prelude.{is_some}
+use Rattle.std.specs.Ordering.{is_lt, ordering_reverse}
+use Rattle.std.specs.FinMap as fin
+use Rattle.std.specs.FinMap.{is_sorted, entries_sorted, get-entries, get-retain_keys, slice_cmp-IsAntisymmetric, nat_cmp-IsAntisymmetric}
+use Rattle.std.specs.FinMap.Entries.{find, below_all}
+use Rattle.std.specs.Cmp.Lexicographic.{nat_list_cmp_total}
+use Rattle.std.specs.List.{AllByRecursion}
+use Rattle.std.specs.declared.alloc.Global.{Global}
+use Rattle.jfr_outside.specs.World.{World, Files, Told, file}
+use Rattle.jfr_header.specs.declared.ending.Ending.{Ending}
+use Rattle.jfr_header.proofs.Steps.{map_told}
+use Rattle.jfr_plan.specs.Ends.{End, Fine, Way, Ends, way_of}
+use Rattle.jfr_plan.specs.Effects.{Effect, Create, Stand, Plan, stand, apply, done, effects}
+use Rattle.jfr_plan.specs.Walks.{Goes}
+use Rattle.jfr_plan.specs.Parts.{PartEnded, PartStands, PartTold}
+use Rattle.jfr_split.specs.Names.{is_joined}
+use Rattle.jfr_split.specs.Clauses.{FilesOutcome}
+use Rattle.jfr_split.specs.Joins.{joining_all, files_in, assembling, CanJoin}
+use Rattle.jfr_split.proofs.Ordered.{order}
+use Rattle.jfr_split.proofs.Over.{Entries, is, is_self, look, same_name}
+use Rattle.jfr_split.proofs.Sorting.{bytes_of}
+use Rattle.jfr_split.proofs.Composing.{outcome_after}
+use Rattle.jfr_split.proofs.Joined.{part_ended}
+
+t_first : (a b : Bool) → T (a && b) → T a
+t_first true b h = tt
+t_first false b h = absurd h
+
+t_second : (a b : Bool) → T (a && b) → T b
+t_second true b h = h
+t_second false b h = absurd h
+
+-- each entry of a list in order is found under its key
+apart_less : (a b : Ordering) → b ≡ ordering_reverse a → T (is_lt a) → is_eq b ≡ false
+apart_less Less b e h = ap is_eq e
+apart_less Equal b e h = absurd h
+apart_less Greater b e h = absurd h
+
+own_later : (e : List ℕ × List ℕ) (all es : Entries) → T (below_all order e.0 es) → AllByRecursion (λ x. find order x.0 all ≡ Some x.1) es → AllByRecursion (λ x. find order x.0 (e ∷ all) ≡ Some x.1) es
+own_later e all [] l h = tt
+own_later e all (x ∷ es) l h =
+    let apart : is x.0 e.0 ≡ false = apart_less (order e.0 x.0) (order x.0 e.0) (nat_list_cmp_total.antisymm x.0 e.0) (t_first (is_lt (order e.0 x.0)) (below_all order e.0 es) l) in
+    (ap (λ (b : Bool). cond b (Some e.1) (find order x.0 all)) apart ∙ h.0, own_later e all es (t_second (is_lt (order e.0 x.0)) (below_all order e.0 es) l) h.1)
+
+own_entries : (es : Entries) → T (is_sorted order es) → AllByRecursion (λ x. find order x.0 es ≡ Some x.1) es
+own_entries [] s = tt
+own_entries (e ∷ es) s =
+    (ap (λ (b : Bool). cond b (Some e.1) (find order e.0 es)) (is_self e.0), own_later e es es (t_first (below_all order e.0 es) (is_sorted order es) s) (own_entries es (t_second (below_all order e.0 es) (is_sorted order es) s)))
+
+each : (P Q : (List ℕ × List ℕ) → Type 0) (es : Entries) → ((e : List ℕ × List ℕ) → P e → Q e) → AllByRecursion P es → AllByRecursion Q es
+each P Q [] f h = tt
+each P Q (e ∷ es) f h = (f e h.0, each P Q es f h.1)
+
+-- the files that are joined are files
+pub kept_at : (folder : List ℕ) (files : Files) (q : List ℕ) → fin.get (files_in folder files) q ≡ cond (is_joined folder q) (fin.get files q) None
+kept_at folder files q = get-retain_keys files (is_joined folder) q (λ x e. ap (is_joined folder) (sym (slice_cmp-IsAntisymmetric nat_cmp-IsAntisymmetric q x e)))
+
+was_there : (b : Bool) (o : Option (List ℕ)) (v : List ℕ) → cond b o None ≡ Some v → o ≡ Some v
+was_there true o v e = e
+was_there false o v e = cc
+
+joined_there : (folder : List ℕ) (files : Files) → AllByRecursion (λ e. fin.get files e.0 ≡ Some e.1) (fin.entries (files_in folder files))
+joined_there folder files =
+    let m = files_in folder files in
+    each (λ e. find order e.0 (fin.entries m) ≡ Some e.1) (λ e. fin.get files e.0 ≡ Some e.1) (fin.entries m)
+    (λ e h. was_there (is_joined folder e.0) (fin.get files e.0) e.1 (sym (kept_at folder files e.0) ∙ get-entries m e.0 ∙ h))
+    (own_entries (fin.entries m) (entries_sorted m))
+
+some_other : (q out v : List ℕ) (files : Files) → fin.get files q ≡ Some v → fin.get files out ≡ None → q ≡ out → ⊥
+some_other q out v files h n e = some_none v (sym h ∙ ap (λ (x : List ℕ). fin.get files x) e ∙ n)
+  where
+    some_none : (x : List ℕ) → ◌≡◌ {A = Option (List ℕ)} (Some x) None → ⊥
+    some_none x e = cc
+
+names_apart : (es : Entries) (out : List ℕ) (files : Files) → fin.get files out ≡ None → AllByRecursion (λ e. fin.get files e.0 ≡ Some e.1) es → AllByRecursion (λ q. q ≡ out → ⊥) (map (λ e. e.0) es)
+names_apart [] out files n h = tt
+names_apart (e ∷ es) out files n h = (some_other e.0 out e.1 files h.0 n, names_apart es out files n h.1)
+
+no_tie : (b : Bool) (q out : List ℕ) → is q out ≡ b → (q ≡ out → ⊥) → b ≡ false
+no_tie true q out e n = absurd (n (same_name q out e))
+no_tie false q out e n = refl
+
+held_all : (es : Entries) (out : List ℕ) (files : Files) → fin.get files out ≡ None → AllByRecursion (λ e. fin.get files e.0 ≡ Some e.1) es → map (λ q. fin.get (fin.insert files out []) q) (map (λ e. e.0) es) ≡ map (λ x. Some x) (map (λ e. e.1) es)
+held_all [] out files n h = refl
+held_all (e ∷ es) out files n h =
+    let apart : is e.0 out ≡ false = no_tie (is e.0 out) e.0 out refl (some_other e.0 out e.1 files h.0 n) in
+    let here : fin.get (fin.insert files out []) e.0 ≡ Some e.1 = look files out [] e.0 ∙ ap (λ (b : Bool). cond b (Some []) (fin.get files e.0)) apart ∙ h.0 in
+    ap (λ (o : Option (List ℕ)). o ∷ map (λ q. fin.get (fin.insert files out []) q) (map (λ e. e.0) es)) here ∙ ap (λ (l : List (Option (List ℕ))). Some e.1 ∷ l) (held_all es out files n h.1)
+
+was_new : (o p : Option (List ℕ)) → true ≡ (true && not (is_some o) && not (is_some p)) → o ≡ None
+was_new None p e = refl
+was_new (Some x) p e = cc
+
+-- the output is there beside the files that are joined
+can_join : (folder out : List ℕ) (names : List (List ℕ)) (w v : World) → names ≡ fin.keys (files_in folder w.files) → stand v None ≡ done (Create out ∷ []) (stand w None) → CanJoin out names (fin.values (files_in folder w.files)) v
+can_join folder out names w v are s =
+    let es = fin.entries (files_in folder w.files) in
+    let new : fin.get w.files out ≡ None = was_new (fin.get w.files out) w.output (ap (λ (x : Stand). x.sound) s) in
+    let there = joined_there folder w.files in
+    let files : v.files ≡ fin.insert w.files out [] = ap (λ (x : Stand). x.files) s in
+    record {
+      opened = ap (λ (x : Stand). x.output) s;
+      apart = subst (λ (ns : List (List ℕ)). AllByRecursion (λ q. q ≡ out → ⊥) ns) (sym are) (names_apart es out w.files new there);
+      held = ap (λ (fs : Files). map (λ q. fin.get fs q) names) files ∙ ap (λ (ns : List (List ℕ)). map (λ q. fin.get (fin.insert w.files out []) q) ns) are ∙ held_all es out w.files new there;
+    }
+
+-- the output was created, and then the files were joined
+pub assembled : (steady : Bool) (folder out : List ℕ) (names : List (List ℕ)) (way : Way) (o : Unit {0}) (b a e : Option World) → IfSome b (λ w. names ≡ fin.keys (files_in folder w.files)) → Told b a (PartTold steady (Goes (Create out ∷ [])) (Ok o) None None)
+    → ((contents : List (List ℕ)) → IfSome a (CanJoin out names contents) → Told a e (λ v u. FilesOutcome steady (joining_all contents) way (stand v None) (stand u None)))
+    → Told b e (λ w u. FilesOutcome steady (assembling folder out w.files) way (stand w None) (stand u None))
+assembled steady folder out names way o None a e are c f = tt
+assembled steady folder out names way o (Some w) None e are c f = absurd c
+assembled steady folder out names way o (Some w) (Some v) None are c f = f (fin.values (files_in folder w.files)) (can_join folder out names w v are c.1.1)
+assembled steady folder out names way o (Some w) (Some v) (Some u) are c f =
+    let contents = fin.values (files_in folder w.files) in
+    outcome_after steady (Create out ∷ []) (assembling folder out w.files) (joining_all contents) way (stand w None) (stand v None) (stand u None) refl refl refl c.1.1 (f contents (can_join folder out names w v are c.1.1))
+
+-- the output could not be created
+pub not_created : (steady : Bool) (folder out : List ℕ) (ending : Ending) (b a : Option World) → Told b a (PartTold steady (Goes (Create out ∷ [])) (Err ending) None None) → Told b a (λ w v. FilesOutcome steady (assembling folder out w.files) (way_of ending) (stand w None) (stand v None))
+not_created steady folder out ending b a h =
+    map_told b a (PartTold steady (Goes (Create out ∷ [])) (Err ending) None None) (λ w v. FilesOutcome steady (assembling folder out w.files) (way_of ending) (stand w None) (stand v None)) h
+    (λ w v k. part_ended steady (Create out ∷ []) (effects (joining_all (fin.values (files_in folder w.files))).steps) (assembling folder out w.files) (way_of ending) (stand w None) (stand v None) refl k.1)
+
+-- what holds from a place as it was before holds from one that tells the same
+pub told_same : (P : Bool → World → World → Type 0) (st st' : Bool) (b b' a : Option World) → st' ≡ st → b' ≡ b → Told b' a (P st') → Told b a (P st)
+told_same P st st' b b' a e f h = subst (λ (y : Option World). Told y a (P st)) f (subst (λ (y : Bool). Told b' a (P y)) e h)

@@ -1,0 +1,119 @@
+-- What stands after plans that are carried out one after another.
+use Rattle.std.proofs.Common.{IsTrue, ◌≡◌, ℕ, refl, sym, ◌∙◌, ap, subst, Bool, false, ◌||◌, List, [], ◌∷◌, ◌++◌, Option, None, Some, append_assoc, append-nil}
+use Rattle.std.specs.List.{list_any}
+use Rattle.std.proofs.lemmas.List.Folds.{list_any-append}
+use Rattle.jfr_plan.specs.Ends.{End, Fine, Refused, TooMany, Way, Ends, NotRead, NotWritten, NoRoom}
+use Rattle.jfr_plan.specs.Effects.{Effect, Plan, Stand, Step, done, broken, effects, Cannot}
+use Rattle.jfr_plan.specs.Outcomes.{AllDone, SomeDone, Breaks}
+use Rattle.jfr_plan.proofs.Walking.{done_append, effects_append}
+use Rattle.jfr_split.specs.Clauses.{is_finish, Unfinished, FilesOutcome}
+use Rattle.jfr_split.specs.Joins.{then_by, plan_then}
+
+-- more effects come after these
+pub some_more : (a b all : List Effect) (s t : Stand) → all ≡ a ++ b → SomeDone a s t → SomeDone all s t
+some_more a b all s t e h = record { first = h.first; rest = h.rest ++ b; parts = e ∙ ap (λ (x : List Effect). x ++ b) h.parts ∙ append_assoc h.first h.rest b; stands = h.stands }
+
+pub breaks_more : (steady : Bool) (a b all : List Effect) (s t : Stand) → all ≡ a ++ b → Breaks steady a s t → Breaks steady all s t
+breaks_more steady a b all s t e h = record {
+  first = h.first;
+  failed = h.failed;
+  rest = h.rest ++ b;
+  bytes = h.bytes;
+  parts = e ∙ ap (λ (x : List Effect). x ++ b) h.parts ∙ append_assoc h.first (h.failed ∷ h.rest) b;
+  stands = h.stands;
+  cause = h.cause;
+}
+
+unfinished_more : (steady : Bool) (a b all : List Effect) (s t : Stand) → all ≡ a ++ b → Unfinished steady a s t → Unfinished steady all s t
+unfinished_more steady a b all s t e h = record {
+  first = h.first;
+  rest = h.rest ++ b;
+  parts = e ∙ ap (λ (x : List Effect). x ++ b) h.parts ∙ append_assoc h.first h.rest b;
+  unfinished = h.unfinished;
+  stands = h.stands;
+  cause = h.cause;
+}
+
+-- these effects were done before
+some_after : (a b : List Effect) (s t u : Stand) → t ≡ done a s → SomeDone b t u → SomeDone (a ++ b) s u
+some_after a b s t u e h = record {
+  first = a ++ h.first;
+  rest = h.rest;
+  parts = ap (λ (x : List Effect). a ++ x) h.parts ∙ sym (append_assoc a h.first h.rest);
+  stands = h.stands ∙ ap (done h.first) e ∙ sym (done_append a h.first s);
+}
+
+breaks_after : (steady : Bool) (a b : List Effect) (s t u : Stand) → t ≡ done a s → Breaks steady b t u → Breaks steady (a ++ b) s u
+breaks_after steady a b s t u e h =
+    let at : done h.first t ≡ done (a ++ h.first) s = ap (done h.first) e ∙ sym (done_append a h.first s) in
+    record {
+      first = a ++ h.first;
+      failed = h.failed;
+      rest = h.rest;
+      bytes = h.bytes;
+      parts = ap (λ (x : List Effect). a ++ x) h.parts ∙ sym (append_assoc a h.first (h.failed ∷ h.rest));
+      stands = h.stands ∙ ap (broken h.bytes h.failed) at;
+      cause = λ y. subst (λ (x : Stand). Cannot h.failed x) at (h.cause y);
+    }
+
+unfinished_after : (steady : Bool) (a b : List Effect) (s t u : Stand) → list_any is_finish a ≡ false → t ≡ done a s → Unfinished steady b t u → Unfinished steady (a ++ b) s u
+unfinished_after steady a b s t u n e h = record {
+  first = a ++ h.first;
+  rest = h.rest;
+  parts = ap (λ (x : List Effect). a ++ x) h.parts ∙ sym (append_assoc a h.first h.rest);
+  unfinished = list_any-append is_finish a h.first ∙ ap (λ (b : Bool). b || list_any is_finish h.first) n ∙ h.unfinished;
+  stands = h.stands ∙ ap (done h.first) e ∙ sym (done_append a h.first s);
+  cause = h.cause;
+}
+
+-- what stands by a plan, and the effects of which were done before, stands by the plan of both
+pub outcome_after : (steady : Bool) (a : List Effect) (all later : Plan) (way : Way) (s t u : Stand) → effects all.steps ≡ a ++ effects later.steps → all.end ≡ later.end → list_any is_finish a ≡ false → t ≡ done a s → FilesOutcome steady later way t u → FilesOutcome steady all way s u
+outcome_after steady a all later (Ends e) s t u c d n k h = record {
+  end = d ∙ h.end;
+  stands = h.stands ∙ ap (done (effects later.steps)) k ∙ sym (done_append a (effects later.steps) s) ∙ ap (λ (x : List Effect). done x s) (sym c);
+}
+outcome_after steady a all later NotRead s t u c d n k h = subst (λ (x : List Effect). Unfinished steady x s u) (sym c) (unfinished_after steady a (effects later.steps) s t u n k h)
+outcome_after steady a all later NotWritten s t u c d n k h = subst (λ (x : List Effect). Breaks steady x s u) (sym c) (breaks_after steady a (effects later.steps) s t u k h)
+outcome_after steady a all later NoRoom s t u c d n k h = subst (λ (x : List Effect). SomeDone x s u) (sym c) (some_after a (effects later.steps) s t u k h)
+
+-- a plan goes on with another
+record GoesOn (p q : Plan) : Type 0 where
+  pub later : List Effect
+  pub is : effects q.steps ≡ effects p.steps ++ later
+
+goes_by : (ss : List Step) (o : Option End) (later : Plan) → GoesOn (record { steps = ss; end = o }) (then_by o (record { steps = ss; end = o }) later)
+goes_by ss (Some Fine) later = record { later = effects later.steps; is = effects_append ss later.steps }
+goes_by ss (Some (Refused r)) later = record { later = []; is = sym (append-nil (effects ss)) }
+goes_by ss (Some TooMany) later = record { later = []; is = sym (append-nil (effects ss)) }
+goes_by ss None later = record { later = []; is = sym (append-nil (effects ss)) }
+
+goes_on : (p later : Plan) → GoesOn p (plan_then p later)
+goes_on p later = goes_by p.steps p.end later
+
+same_end : (a b : End) → ◌≡◌ {A = Option End} (Some a) (Some b) → b ≡ a
+same_end a b e = cc
+
+-- a plan that doesn't end well ends there
+ends_by : (ss : List Step) (o : Option End) (e : End) (later : Plan) (s t : Stand) → (e ≡ Fine → ⊥) → AllDone (record { steps = ss; end = o }) e s t → AllDone (then_by o (record { steps = ss; end = o }) later) e s t
+ends_by ss (Some Fine) e later s t n h = absurd (n (same_end Fine e h.end))
+ends_by ss (Some (Refused r)) e later s t n h = h
+ends_by ss (Some TooMany) e later s t n h = h
+ends_by ss None e later s t n h = h
+
+-- the first plan did not end well
+pub outcome_stops : (steady : Bool) (p later : Plan) (way : Way) (s t : Stand) → (way ≡ Ends Fine → ⊥) → FilesOutcome steady p way s t → FilesOutcome steady (plan_then p later) way s t
+outcome_stops steady p later (Ends e) s t n h = ends_by p.steps p.end e later s t (λ k. n (ap (λ (x : End). Ends x) k)) h
+outcome_stops steady p later NotRead s t n h = let g = goes_on p later in unfinished_more steady (effects p.steps) g.later (effects (plan_then p later).steps) s t g.is h
+outcome_stops steady p later NotWritten s t n h = let g = goes_on p later in breaks_more steady (effects p.steps) g.later (effects (plan_then p later).steps) s t g.is h
+outcome_stops steady p later NoRoom s t n h = let g = goes_on p later in some_more (effects p.steps) g.later (effects (plan_then p later).steps) s t g.is h
+
+-- a plan that ends well is followed by the next
+pub record Follows (p later : Plan) (es : List Effect) : Type 0 where
+  pub steps : effects (plan_then p later).steps ≡ es ++ effects later.steps
+  pub end : (plan_then p later).end ≡ later.end
+
+pub follows : (ss : List Step) (e : Option End) (later : Plan) (es : List Effect) → effects ss ≡ es → e ≡ Some Fine → Follows (record { steps = ss; end = e }) later es
+follows ss (Some Fine) later es h k = record { steps = effects_append ss later.steps ∙ ap (λ (x : List Effect). x ++ effects later.steps) h; end = refl }
+follows ss (Some (Refused r)) later es h k = cc
+follows ss (Some TooMany) later es h k = cc
+follows ss None later es h k = cc

@@ -1,0 +1,65 @@
+-- After a failed read within one of the files the first of its chunks are appended.
+use Rattle.std.proofs.Common.{IsTrue, ◌≡◌, ℕ, ◌+◌, ◌-◌, ◌≤◌, refl, sym, ◌∙◌, ap, Bool, true, false, List, [], ◌∷◌, ◌++◌, length, take, drop, Option, None, Some, take-append-drop, length-take-le, nat_le, if◌then◌else◌, arith}
+use Rattle.std.specs.List.{list_any}
+use Rattle.jfr_base.specs.declared.flaw.Flaw.{Flaw}
+use Rattle.jfr_header.specs.Cuts.{whole_in}
+use Rattle.jfr_plan.specs.Ends.{Way, Ends, NotRead, NotWritten, NoRoom}
+use Rattle.jfr_plan.specs.Effects.{Effect, Stand, done, effects, keep_met}
+use Rattle.jfr_plan.specs.Walks.{walk, gone, AllGo, cut_after, plan_after}
+use Rattle.jfr_plan.specs.Outcomes.{NeedsMet, MetIn, OutcomeIn, held_count}
+use Rattle.jfr_plan.proofs.Walking.{past}
+use Rattle.jfr_plan.proofs.Needs.{kept_past}
+use Rattle.jfr_split.specs.Clauses.{is_finish, Unfinished, FilesOutcome}
+use Rattle.jfr_split.specs.Joins.{adding}
+
+all_go : (before cs : List (List ℕ)) → AllGo adding before cs
+all_go before [] = tt
+all_go before (c ∷ cs) = (refl, all_go (before ++ c ∷ []) cs)
+
+-- no chunk finishes the output
+none_finishes : (before cs : List (List ℕ)) → list_any is_finish (gone adding before cs) ≡ false
+none_finishes before [] = refl
+none_finishes before (c ∷ cs) = none_finishes (before ++ c ∷ []) cs
+
+no_more_by : (b : Bool) (n m : ℕ) → n ≤ m → (if b then n + 1 else 0) ≤ m + 1
+no_more_by true n m h = omega (arith, h)
+no_more_by false n m h = omega arith
+
+no_more : (n : ℕ) (cs : List (List ℕ)) → whole_in n cs ≤ length cs
+no_more n [] = omega arith
+no_more n (c ∷ cs) = let k = no_more_by (nat_le (length c) n) (whole_in (n - length c) cs) (length cs) (no_more (n - length c) cs) in omega (arith, k)
+
+met_first : (steady : Bool) (earlier : List (List ℕ)) (x left : List ℕ) (s t : Stand) → (IsTrue steady → ⊥) → NeedsMet adding earlier x left s t → Unfinished steady (effects (plan_after adding earlier (Some x)).steps) s t
+met_first steady earlier x left s t never m =
+    let cs = (cut_after earlier x).chunks in
+    let flaw = (cut_after earlier x).flaw in
+    let k = held_count earlier x m.taken in
+    let q = take k cs in
+    let later = drop k cs in
+    let parts : q ++ later ≡ cs = take-append-drop k cs in
+    let long : length q ≡ k = length-take-le k cs (no_more (length m.taken) cs) in
+    let n : length earlier + k ≡ length earlier + length q = ap (λ (i : ℕ). length earlier + i) (sym long) in
+    record {
+      first = gone adding earlier q;
+      rest = effects (walk adding (earlier ++ q) later flaw).steps;
+      parts = ap (λ (l : List (List ℕ)). effects (walk adding earlier l flaw).steps) (sym parts) ∙ (past adding earlier q later flaw (all_go earlier q)).steps;
+      unfinished = none_finishes earlier q;
+      stands = m.stands ∙ ap (λ (es : List Effect). done es s)
+          (ap (λ (l : List (List ℕ)). effects (keep_met (Some (length earlier + k)) (walk adding earlier l flaw).steps)) (sym parts) ∙ kept_past adding (length earlier + k) earlier q later flaw (all_go earlier q) n);
+      cause = never;
+    }
+
+-- the same by what is left of the open input; without one nothing is done
+halted_first : (steady : Bool) (earlier : List (List ℕ)) (x : List ℕ) (left : Option (List ℕ)) (s t : Stand) → (IsTrue steady → ⊥) → MetIn adding earlier (Some x) left s t → Unfinished steady (effects (plan_after adding earlier (Some x)).steps) s t
+halted_first steady earlier x None s t never h = record { first = []; rest = effects (plan_after adding earlier (Some x)).steps; parts = refl; unfinished = refl; stands = h; cause = never }
+halted_first steady earlier x (Some left) s t never h = met_first steady earlier x left s t never h
+
+some_none : (x : List ℕ) → ◌≡◌ {A = Option (List ℕ)} (Some x) None → ⊥
+some_none x e = cc
+
+-- what stands after one of the files, which is there
+pub file_outcome : (steady : Bool) (earlier : List (List ℕ)) (x : List ℕ) (left : Option (List ℕ)) (way : Way) (s t : Stand) → OutcomeIn steady adding earlier (Some x) left way s t → FilesOutcome steady (plan_after adding earlier (Some x)) way s t
+file_outcome steady earlier x left (Ends e) s t h = h
+file_outcome steady earlier x left NotRead s t h = halted_first steady earlier x left s t (λ y. some_none x (h.1 y)) h.0
+file_outcome steady earlier x left NotWritten s t h = h
+file_outcome steady earlier x left NoRoom s t h = h

@@ -1,0 +1,11 @@
+//! Tests of cutting recordings into parts and of joining them, as tables.
+#![tactic(auto)]
+
+#[cfg(test)]
+mod joins;
+#[cfg(test)]
+mod names;
+#[cfg(test)]
+mod recordings;
+#[cfg(test)]
+mod splits;
