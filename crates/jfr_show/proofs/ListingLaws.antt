@@ -7,6 +7,7 @@ use Rattle.jfr_layout.specs.Classes.{Classes}
 use Rattle.jfr_chunk.specs.Parts.{Parts}
 use Rattle.jfr_show.specs.Metadata.{categories_line, class_lines, metadata_shown}
 use Rattle.jfr_show.specs.Texts.{newline, quoted}
+use Rattle.jfr_show.specs.Totals.{number_line}
 use Rattle.std.proofs.lemmas.Option.{get_or_from_slice_get, slice_get_within}
 
 -- one member more
@@ -46,3 +47,7 @@ metadata_is p k number n was a b d now same all e f g h =
     let word : List ℕ = codes "chunk " in
     let rest : List ℕ = flat_map (class_lines p.classes) p.classes in
     h ∙ (ap (λ z. d ++ flat_map (class_lines k) z) (take_all n k all) ∙ (ap (λ z. d ++ flat_map (class_lines z) z) same ∙ ap (λ z. z ++ rest) (g ∙ (ap (λ z. z ++ newline) (f ∙ ap (λ z. z ++ decimal number) e))) ∙ simp append_assoc refl))
+
+-- a line of a number more
+pub line_more : (was now new lines word : List ℕ) (n m : ℕ) → now ≡ was ++ lines → new ≡ now ++ number_line word n → n ≡ m → new ≡ was ++ (lines ++ number_line word m)
+line_more was now new lines word n m so next e = next ∙ (ap (λ k. now ++ number_line word k) e ∙ (ap (λ z. z ++ number_line word m) so ∙ append_assoc was lines (number_line word m)))

@@ -58,8 +58,8 @@ pub event_counted : (k : Classes) (rs : List Framed) (r : Framed) (ts : List Tal
 event_counted k rs r ts place v none is e a = record {
   count = length-set ts place v ∙ a.count;
   each = λ i h.
-    at_place k rs r ts place v none is a e i h (place == i) refl
-    ∙ ap Some (sym (class_tally-push k i rs r ∙ ap (λ o. both (class_tally k rs i) (single (option_map_or (λ n. n == i) o false) r)) is));
+      at_place k rs r ts place v none is a e i h (place == i) refl
+      ∙ ap Some (sym (class_tally-push k i rs r ∙ ap (λ o. both (class_tally k rs i) (single (option_map_or (λ n. n == i) o false) r)) is));
 }
 
 -- the place in an event's slot is that of its class
@@ -71,18 +71,18 @@ pub none_counted : (k : Classes) (n : ℕ) → n ≡ length k → AreClassTallie
 none_counted k n e = record {
   count = length-replicate n no_tally ∙ e;
   each = λ i h. (let l : i < length (replicate n no_tally) = let d = length-replicate n no_tally in omega arith in
-  slice_get-get_or (replicate n no_tally) i no_tally l ∙ ap Some (get_or-replicate n i no_tally no_tally (omega arith)));
+      slice_get-get_or (replicate n no_tally) i no_tally l ∙ ap Some (get_or-replicate n i no_tally no_tally (omega arith)));
 }
 
 -- the tallies of few records are small
 pub counted_small : (k : Classes) (rs : List Framed) (n i : ℕ) (ts : List Tally) → AreWithin rs n → n < 2 ^ 28 → AreClassTallies k (take i rs) ts → AreSmall ts
 counted_small k rs n i ts w small a = record {
   each = λ place t g. (let within : place < length k = let l = slice_get_within ts place t g in let c = a.count in omega arith in
-  let same : class_tally k (take i rs) place ≡ t = (let q : Some (class_tally k (take i rs) place) ≡ Some t = sym (a.each place within) ∙ g in cc) in
-  let b = chosen_within k (is_at k place) (take i rs) n (front_within rs n i w) in
-  let x : t.events ≤ n = subst (λ (z : Tally). z.events ≤ n) same b.events in
-  let y : t.bytes ≤ n = subst (λ (z : Tally). z.bytes ≤ n) same b.bytes in
-  (omega arith, omega arith));
+      let same : class_tally k (take i rs) place ≡ t = (let q : Some (class_tally k (take i rs) place) ≡ Some t = sym (a.each place within) ∙ g in cc) in
+      let b = chosen_within k (is_at k place) (take i rs) n (front_within rs n i w) in
+      let x : t.events ≤ n = subst (λ (z : Tally). z.events ≤ n) same b.events in
+      let y : t.bytes ≤ n = subst (λ (z : Tally). z.bytes ≤ n) same b.bytes in
+      (omega arith, omega arith));
 }
 
 -- one record more is counted; the tallies stand at the front of their vector

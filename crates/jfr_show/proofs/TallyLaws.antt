@@ -1,11 +1,14 @@
 -- Tallies by name, in a map and as a value.
-use Rattle.std.specs.Prelude.{◌≡◌, ℕ, zero, suc, ◌+◌, ◌==◌, Bool, true, false, cond, List, [], ◌∷◌, ◌++◌, filter, length, map, Option, None, Some, String, string_bytes, sum_by, unwrap_or}
+use Rattle.std.specs.Prelude.{◌≡◌, ℕ, zero, suc, ◌+◌, ◌==◌, Bool, true, false, cond, ◌&&◌, T, List, [], ◌∷◌, ◌++◌, filter, length, map, Option, None, Some, String, string_bytes, sum_by, unwrap_or}
 use Rattle.std.specs.FinMap as fin
-use Rattle.std.specs.FinMap.{find, get-empty, get-from_entries, same_map, slice_cmp-IsAntisymmetric, nat_cmp-IsAntisymmetric}
-use Rattle.std.specs.Ordering.{eq_by_cmp, is_eq, nat_cmp}
-use Rattle.std.specs.Cmp.{eq_by_cmp_equiv}
+use Rattle.std.specs.FinMap.{entries-from_sorted, find, get-from_entries, get-from_sorted, is_sorted, same_map, slice_cmp-IsAntisymmetric, nat_cmp-IsAntisymmetric}
+use Rattle.std.specs.Ordering.{is_eq, is_lt, nat_cmp}
+use Rattle.std.specs.declared.cmp.Ordering.TheVariants.{Less}
 use Rattle.std.specs.Cmp.Lexicographic.{slice_cmp, nat_list_cmp_total}
-use Rattle.std.specs.Map.{lookup}
+use Rattle.std.specs.FinMap.Entries.{below_all}
+use Rattle.std.specs.List.{AllByRecursion}
+use Rattle.std.specs.List.Sorted.{IsStrictlySortedBy}
+use Rattle.std.specs.Map.{keys_of, lookup}
 use Rattle.std.specs.Str.{bytes_eq}
 use Rattle.std.specs.String.{string_cmp}
 use Rattle.std.specs.BTreeMap.{BTreeMap, get_by_text, is_at, UpdatesBy}
@@ -53,9 +56,9 @@ under false kept o t h same = refl
 adds_by : (m n : TallyMap) (name : List ℕ) (kept : Option Tally) (t v : Tally) → (t.events == 0) ≡ false → get_by_text m name ≡ kept → v ≡ both (unwrap_or kept no_tally) t → UpdatesBy string_cmp (λ k. slice_cmp nat_cmp name (string_bytes k)) m n (Some v) → AddsTally (tallies_in m) name t (tallies_in n)
 adds_by m n name kept t v h is e u = record {
   each = λ q.
-    changed m n name v u q
-    ∙ (ap (λ z. cond (bytes_eq name q) (Some z) (fin.get (tallies_in m) q)) e
-    ∙ under (bytes_eq name q) kept (fin.get (tallies_in m) q) t h (λ b. ap (fin.get (tallies_in m)) (sym ((bytes_eq-Decides name q).0 b)) ∙ (get-tallies_in m name ∙ is)));
+      changed m n name v u q
+      ∙ (ap (λ z. cond (bytes_eq name q) (Some z) (fin.get (tallies_in m) q)) e
+      ∙ under (bytes_eq name q) kept (fin.get (tallies_in m) q) t h (λ b. ap (fin.get (tallies_in m)) (sym ((bytes_eq-Decides name q).0 b)) ∙ (get-tallies_in m name ∙ is)));
 }
 
 -- the tally under a name is replaced by that and another
@@ -68,3 +71,29 @@ adds_new m looked n key name t same h k is u =
     let alone : t ≡ both no_tally t = tally_path t (both no_tally t) (omega arith) (omega arith) in
     let at : AddsTally (tallies_in m) (string_bytes key) t (tallies_in n) = adds_by m n (string_bytes key) None t t h (ap (get_by_text m) k ∙ sym is) alone (subst (λ z. UpdatesBy string_cmp (string_cmp key) z n (Some t)) same u) in
     subst (λ z. AddsTally (tallies_in m) z t (tallies_in n)) k at
+
+-- names that ascend are in the order of a map
+below_names : (x : String Global) (es : List (String Global × Tally)) → AllByRecursion (λ y. string_cmp x y ≡ Less) (keys_of es) → T (below_all (slice_cmp nat_cmp) (string_bytes x) (map entry_of es))
+below_names x [] h = tt
+below_names x (e ∷ es) h = both_true _ _ (subst (λ o. T (is_lt o)) (sym h.0) tt) (below_names x es h.1)
+  where
+    both_true : (a b : Bool) → T a → T b → T (a && b)
+    both_true true b p q = q
+    both_true false b p q = p
+
+names_sorted : (es : List (String Global × Tally)) → IsStrictlySortedBy string_cmp (keys_of es) → T (is_sorted (slice_cmp nat_cmp) (map entry_of es))
+unfolding IsStrictlySortedBy
+names_sorted [] h = tt
+names_sorted (e ∷ es) h = both_true _ _ (below_names e.0 es h.0) (names_sorted es h.1)
+  where
+    both_true : (a b : Bool) → T a → T b → T (a && b)
+    both_true true b p q = q
+    both_true false b p q = p
+
+-- the entries of the map, in order
+pub entries-tallies_in : (m : TallyMap) → IsStrictlySortedBy string_cmp (keys_of m.entries) → fin.entries (tallies_in m) ≡ map entry_of m.entries
+entries-tallies_in m h =
+    let es : List (List ℕ × Tally) = map entry_of m.entries in
+    let s = names_sorted m.entries h in
+    let same : tallies_in m ≡ fin.from_sorted es = same_map nat_list_cmp_total (slice_cmp-IsAntisymmetric nat_cmp-IsAntisymmetric) _ _ (λ q. get-from_entries nat_list_cmp_total es q ∙ sym (get-from_sorted (slice_cmp nat_cmp) es q s)) in
+    ap fin.entries same ∙ entries-from_sorted (slice_cmp nat_cmp) es s

@@ -99,9 +99,9 @@ version_line b = codes "version " ++ decimal b.major ++ codes "." ++ decimal b.m
 abbrev pub tally_line : List ℕ × Tally → List ℕ
 tally_line (name, t) = chars name ++ codes " " ++ decimal t.events ++ codes " " ++ decimal t.bytes ++ newline
 
--- Nine lines, and one for each name in the order of the names' bytes.
-abbrev pub lines_from : Totals → Beginning → List ℕ
-lines_from t b =
+-- The nine lines of the numbers, where the recording begins so.
+abbrev pub number_lines : Totals → Beginning → List ℕ
+number_lines t b =
     version_line b
     ++ number_line (codes "chunks") t.chunks
     ++ number_line (codes "bytes") t.bytes
@@ -111,8 +111,11 @@ lines_from t b =
     ++ number_line (codes "checkpoints") t.checkpoints
     ++ number_line (codes "constants") t.constants
     ++ number_line (codes "inert") t.inert
-    ++ flat_map tally_line (fin.entries t.tallies)
 
--- The totals as they are shown; nothing is shown without a chunk.
+-- A line for each name, in the order of the names' bytes.
+abbrev pub tally_lines : Tallies → List ℕ
+tally_lines m = flat_map tally_line (fin.entries m)
+
+-- The totals as they are shown: the numbers, and the names. Nothing is shown without a chunk.
 unfoldable pub summary_shown : Totals → List ℕ
-summary_shown t = option_map_or (lines_from t) t.first []
+summary_shown t = option_map_or (λ b. number_lines t b ++ tally_lines t.tallies) t.first []

@@ -1,11 +1,14 @@
 // The totals of a recording.
-ghost use Rattle.std.specs.Prelude.{◌≡◌, ◌+◌, ◌^◌, ◌<◌, List, [], ◌∷◌, ◌++◌, IfOk, OnOk};
+ghost use Rattle.std.specs.Prelude.{◌≡◌, ◌+◌, ◌^◌, ◌<◌, List, [], ◌∷◌, ◌++◌, IfOk, IsTrue, OnOk, decimal};
 ghost use Rattle.jfr_chunk.specs.Parts.{Parts};
-ghost use Rattle.jfr_show.specs.Totals.{summary_shown, totals_of};
+ghost use Rattle.jfr_show.specs.Texts.{is_ascii};
+ghost use Rattle.jfr_show.specs.Totals.{number_line, number_lines, summary_shown, totals_of, version_line};
 
+use crate::TextBuilder;
 use crate::beginning::Beginning;
 use crate::counting::{add_events, count_in_force};
-use crate::tally::TallyMap;
+use crate::tally::{TallyMap, show_tallies};
+use itoa::Buffer;
 use jfr_chunk::Chunk;
 use jfr_outside::{NoMemory, Text};
 use std::alloc::Global;
@@ -92,5 +95,66 @@ impl Summary {
 pub fn summary_text(alloc: Global, summary: &Summary) -> Result<Text, NoMemory>
     ensures ok { IfOk result (λ text. text ≡ summary_shown summary.now) }
 {
-    Err(NoMemory)
+    let mut out = TextBuilder::new(alloc);
+    show_summary(summary, &mut out)?;
+    Ok(out.into_text())
+}
+
+// Adds the totals to a text.
+#[tactic(auto, unfolding(crate::specs::Totals::summary_shown))]
+fn show_summary(summary: &Summary, out: &mut TextBuilder) -> Result<(), NoMemory>
+    ensures ok { OnOk result (out.new ≡ out.old ++ summary_shown summary.now) }
+{
+    match summary.first {
+        Some(first) => {
+            show_numbers(summary, first, out)?;
+            show_tallies(&summary.tallies, out)
+        }
+        None => Ok(()),
+    }
+}
+
+// Adds the lines of the numbers.
+fn show_numbers(summary: &Summary, first: Beginning, out: &mut TextBuilder) -> Result<(), NoMemory>
+    ensures ok { OnOk result (out.new ≡ out.old ++ number_lines summary.now first) }
+{
+    show_version(first, out)?;
+    push_line("chunks", u128::from(summary.chunks), out)?;
+    push_line("bytes", u128::from(summary.bytes), out)?;
+    push_line("start", u128::from(first.start_nanos), out)?;
+    push_line("duration", summary.duration, out)?;
+    push_line("events", u128::from(summary.events), out)?;
+    push_line("checkpoints", u128::from(summary.checkpoints), out)?;
+    push_line("constants", u128::from(summary.constants), out)?;
+    push_line("inert", u128::from(summary.inert), out)
+}
+
+// Adds the line of the version.
+fn show_version(first: Beginning, out: &mut TextBuilder) -> Result<(), NoMemory>
+    ensures ok { OnOk result (out.new ≡ out.old ++ version_line first) }
+{
+    out.push_ascii("version ")?;
+    out.push_number(u64::from(first.major))?;
+    out.push_ascii(".")?;
+    out.push_number(u64::from(first.minor))?;
+    out.push_ascii("\n")
+}
+
+// Adds the line of a word and a number.
+fn push_line(word: &str, number: u128, out: &mut TextBuilder) -> Result<(), NoMemory>
+    requires ascii { IsTrue (is_ascii word.now) }
+    ensures ok { OnOk result (out.new ≡ out.old ++ number_line word.now number) }
+{
+    out.push_ascii(word)?;
+    out.push_ascii(" ")?;
+    push_wide(number, out)?;
+    out.push_ascii("\n")
+}
+
+// Adds a number that may have more than 64 bits.
+fn push_wide(number: u128, out: &mut TextBuilder) -> Result<(), NoMemory>
+    ensures ok { OnOk result (out.new ≡ out.old ++ decimal number) }
+{
+    let mut buffer = Buffer::new();
+    out.push_str(buffer.format(number))
 }

@@ -1,8 +1,10 @@
 // How many events there are of a name.
-ghost use Rattle.std.specs.Prelude.{◌≡◌, ◌+◌, ◌^◌, ◌<◌, OnErr, OnOk};
+ghost use Rattle.std.specs.Prelude.{◌≡◌, ◌+◌, ◌^◌, ◌<◌, ◌++◌, OnErr, OnOk};
 ghost use Rattle.jfr_show.specs.Counting.{AddsTally, FitsUnder, both};
 ghost use Rattle.jfr_show.specs.Held.{tallies_in};
+ghost use Rattle.jfr_show.specs.Totals.{tally_line, tally_lines};
 
+use crate::TextBuilder;
 use jfr_outside::NoMemory;
 use std::alloc::Global;
 use std::collections::BTreeMap;
@@ -52,4 +54,26 @@ pub(crate) fn add_tally(
         }
     }
     Ok(())
+}
+
+/// Adds a line for each name to a text, in the order of the names' bytes.
+pub(crate) fn show_tallies(tallies: &TallyMap, out: &mut TextBuilder) -> Result<(), NoMemory>
+    ensures ok { OnOk result (out.new ≡ out.old ++ tally_lines (tallies_in tallies.now)) }
+{
+    for (name, tally) in tallies.iter() {
+        show_tally(name.as_str(), *tally, out)?;
+    }
+    Ok(())
+}
+
+// Adds the line of a name.
+fn show_tally(name: &str, tally: Tally, out: &mut TextBuilder) -> Result<(), NoMemory>
+    ensures ok { OnOk result (out.new ≡ out.old ++ tally_line (name.now, tally)) }
+{
+    out.push_str(name)?;
+    out.push_ascii(" ")?;
+    out.push_number(tally.events)?;
+    out.push_ascii(" ")?;
+    out.push_number(tally.bytes)?;
+    out.push_ascii("\n")
 }

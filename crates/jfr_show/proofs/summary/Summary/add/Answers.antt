@@ -17,16 +17,22 @@ pub overflow_add-self-4 : goal.overflow_add-self-4
 overflow_add-self-4 c =
     let p = c.args.chunk.now in
     let i = c.self.invariant in
-    omega (arith, sum_fits c.self.inside.events c.event_count.result c.self.inside.bytes c.self.inside.chunks (length p.bytes) i.chunks i.bytes i.events
-    (subst (λ n. n ≤ length p.bytes) (sym c.event_count.ensures) (chunk_short p c.bytes.ensures.parts).events) (whole_small p.bytes c.bytes.ensures.whole))
+    omega (
+      arith,
+      sum_fits c.self.inside.events c.event_count.result c.self.inside.bytes c.self.inside.chunks (length p.bytes) i.chunks i.bytes i.events
+          (subst (λ n. n ≤ length p.bytes) (sym c.event_count.ensures) (chunk_short p c.bytes.ensures.parts).events) (whole_small p.bytes c.bytes.ensures.whole),
+    )
 
 pub overflow_add-self-5 : goal.overflow_add-self-5
 overflow_add-self-5 c =
     let p = c.args.chunk.now in
     let i = c.self.invariant in
     let e = c.len.ensures ∙ (sym (length-reverse c.chain.result.now) ∙ ap length c.chain.ensures) in
-    omega (arith, sum_fits c.self.inside.checkpoints c.len.result c.self.inside.bytes c.self.inside.chunks (length p.bytes) i.chunks i.bytes i.checkpoints
-    (subst (λ n. n ≤ length p.bytes) (sym e) (chunk_short p c.bytes.ensures.parts).checkpoints) (whole_small p.bytes c.bytes.ensures.whole))
+    omega (
+      arith,
+      sum_fits c.self.inside.checkpoints c.len.result c.self.inside.bytes c.self.inside.chunks (length p.bytes) i.chunks i.bytes i.checkpoints
+          (subst (λ n. n ≤ length p.bytes) (sym e) (chunk_short p c.bytes.ensures.parts).checkpoints) (whole_small p.bytes c.bytes.ensures.whole),
+    )
 
 pub overflow_add-self-6 : goal.overflow_add-self-6
 overflow_add-self-6 c =
@@ -41,14 +47,17 @@ pub overflow_add-self-7 : goal.overflow_add-self-7
 overflow_add-self-7 c =
     let p = c.args.chunk.now in
     let i = c.self.invariant in
-    omega (arith, sum_fits c.self.inside.inert c.inert_count.result c.self.inside.bytes c.self.inside.chunks (length p.bytes) i.chunks i.bytes i.inert
-    (subst (λ n. n ≤ length p.bytes) (sym c.inert_count.ensures) (chunk_short p c.bytes.ensures.parts).inert) (whole_small p.bytes c.bytes.ensures.whole))
+    omega (
+      arith,
+      sum_fits c.self.inside.inert c.inert_count.result c.self.inside.bytes c.self.inside.chunks (length p.bytes) i.chunks i.bytes i.inert
+          (subst (λ n. n ≤ length p.bytes) (sym c.inert_count.ensures) (chunk_short p c.bytes.ensures.parts).inert) (whole_small p.bytes c.bytes.ensures.whole),
+    )
 
 pub add_events-requires-clause-small : goal.add_events-requires-clause-small
 add_events-requires-clause-small c = whole_small c.args.chunk.now.bytes c.bytes.ensures.whole
 
 pub add_events-requires-clause-below : goal.add_events-requires-clause-below
-add_events-requires-clause-below c = 
+add_events-requires-clause-below c =
     let i = c.self.invariant in
     let a = i.chunks in
     let b = i.bytes in
@@ -77,16 +86,16 @@ invariant_of-self c =
 pub returns : goal.returns
 returns c = record {
   ok = on_ok_weaker c.add_events.result (λ adds ps is.
-  totals_added (totals_in c.self.inside) ps c.args.chunk.now c.or-self-inside.result (length c.bytes.result.now) c.from.result c.event_count.result c.len.result c.count_in_force.result c.inert_count.result (tallies_in c.add_events.new.tallies)
-  (c.self.view_is ∙ is)
-  (c.or-self-inside.ensures ∙ ap (λ b. option_or c.self.inside.first (Some b)) (c.of.ensures ∙ ap beginning_of c.header-header.ensures))
-  (record {
-    size = ap length c.bytes.ensures.exact;
-    duration = c.from.ensures ∙ ap (λ (h : Header). h.duration_nanos) c.header-header.ensures;
-    events = c.event_count.ensures;
-    checkpoints = c.len.ensures ∙ (sym (length-reverse c.chain.result.now) ∙ ap length c.chain.ensures);
-    constants = c.count_in_force.ensures.exact ∙ ap count_in_force c.pools.ensures;
-    inert = c.inert_count.ensures;
-  })
-  adds) c.add_events.ensures.ok;
+      totals_added (totals_in c.self.inside) ps c.args.chunk.now c.or-self-inside.result (length c.bytes.result.now) c.from.result c.event_count.result c.len.result c.count_in_force.result c.inert_count.result (tallies_in c.add_events.new.tallies)
+      (c.self.view_is ∙ is)
+      (c.or-self-inside.ensures ∙ ap (λ b. option_or c.self.inside.first (Some b)) (c.of.ensures ∙ ap beginning_of c.header-header.ensures))
+      (record {
+        size = ap length c.bytes.ensures.exact;
+        duration = c.from.ensures ∙ ap (λ (h : Header). h.duration_nanos) c.header-header.ensures;
+        events = c.event_count.ensures;
+        checkpoints = c.len.ensures ∙ (sym (length-reverse c.chain.result.now) ∙ ap length c.chain.ensures);
+        constants = c.count_in_force.ensures.exact ∙ ap count_in_force c.pools.ensures;
+        inert = c.inert_count.ensures;
+      })
+      adds) c.add_events.ensures.ok;
 }
