@@ -17,6 +17,10 @@ none_left [] i e = drop_of_length-le [] (omega arith)
 none_left (x ∷ xs) zero e = cc
 none_left (x ∷ xs) (suc i) e = none_left xs i e
 
+pub no_first : {X : Type 0} (xs : List X) → slice_get xs 0 ≡ None → xs ≡ []
+no_first [] e = refl
+no_first (x ∷ xs) e = cc
+
 -- a word in ASCII
 is_ascii_word : (word : List ℕ) → list_all is_ascii word ≡ true → IsAscii word
 is_ascii_word [] e = IsAscii-nil

@@ -1,7 +1,7 @@
 use Rattle.std.proofs.Common.{refl, sym, ap}
 use Rattle.std.specs.Prelude.{codes}
 use Rattle.jfr_words.specs.Scrubs.{side_of}
-use Rattle.jfr_words.proofs.WordLaws.{chars_of, no_side}
+use Rattle.jfr_words.proofs.WordLaws.{chars_of, is_other}
 use Rattle.jfr_words.proofs.scrub.side_of.Goals as goal
 
 pub returns-in-text : goal.returns-in-text
@@ -23,4 +23,12 @@ pub returns-in-text-6 : goal.returns-in-text-6
 returns-in-text-6 c = sym (ap side_of (chars_of _ (codes "--exclude-threads") refl c.in-text-6.is))
 
 pub returns-in_default : goal.returns-in_default
-returns-in_default c = sym (no_side _ c.utf8.word c.in_default.not-text c.in_default.not-text-2 c.in_default.not-text-3 c.in_default.not-text-4 c.in_default.not-text-5 c.in_default.not-text-6)
+returns-in_default c =
+    rw (
+      is_other _ (codes "--include-events") c.utf8.word refl c.in_default.not-text,
+      is_other _ (codes "--exclude-events") c.utf8.word refl c.in_default.not-text-2,
+      is_other _ (codes "--include-categories") c.utf8.word refl c.in_default.not-text-3,
+      is_other _ (codes "--exclude-categories") c.utf8.word refl c.in_default.not-text-4,
+      is_other _ (codes "--include-threads") c.utf8.word refl c.in_default.not-text-5,
+      is_other _ (codes "--exclude-threads") c.utf8.word refl c.in_default.not-text-6,
+    )
