@@ -1,5 +1,5 @@
 -- Names of files and folders.
-use Rattle.std.specs.Prelude.{ℕ, Bool, false, not, ◌==◌, ◌&&◌, List, [], ◌∷◌, Option, None, Some, if◌then◌else◌, encode_utf8_all}
+use Rattle.std.specs.Prelude.{ℕ, Bool, false, not, ◌==◌, ◌&&◌, List, [], ◌∷◌, Option, None, Some, if◌then◌else◌}
 
 -- A name isn't empty, and doesn't begin with a dash.
 abbrev pub is_name : List ℕ → Bool
@@ -19,7 +19,3 @@ only_name _ = None
 abbrev pub two_names : List (List ℕ) → Option (List ℕ × List ℕ)
 two_names (first ∷ second ∷ []) = if is_name first && is_name second then Some (first, second) else None
 two_names _ = None
-
--- The name of a file is the word in UTF-8.
-abbrev pub file_name : List ℕ → List ℕ
-file_name word = encode_utf8_all word

@@ -1,5 +1,5 @@
 -- The words after `disassemble`.
-use Rattle.std.specs.Prelude.{ℕ, ◌^◌, List, [], ◌∷◌, Option, None, Some, option_map, option_and_then, unwrap_or, if◌then◌else◌, codes}
+use Rattle.std.specs.Prelude.{ℕ, ◌^◌, Bool, List, [], ◌∷◌, Option, None, Some, option_map, option_and_then, unwrap_or, if◌then◌else◌, codes}
 use Rattle.std.specs.Option.{is_some, option_map_or}
 use Rattle.std.specs.Str.{bytes_eq}
 use Rattle.jfr_split.specs.declared.part.SplitRule.{SplitRule}
@@ -23,11 +23,21 @@ split_option_of word =
 abbrev pub no_split_option : SplitGiven
 no_split_option = record { folder = None; max_chunks = None; max_size = None }
 
--- An option is given with its value, unless it was given before or the word is no value of it.
+-- Whether an option is given.
+abbrev pub is_split_given : SplitOption → SplitGiven → Bool
+is_split_given Output g = is_some g.folder
+is_split_given MaxChunks g = is_some g.max_chunks
+is_split_given MaxSize g = is_some g.max_size
+
+-- An option gets its value, where the word is one.
+abbrev pub split_set : SplitOption → List ℕ → SplitGiven → Option SplitGiven
+split_set Output value g = option_map (λ folder. record g { folder = Some folder }) (name_in value)
+split_set MaxChunks value g = option_map (λ n. record g { max_chunks = Some n }) (number_in 1 4294967295 value)
+split_set MaxSize value g = option_map (λ n. record g { max_size = Some n }) (number_in 1 (2 ^ 40) value)
+
+-- An option is given with its value, unless it was given before.
 abbrev pub split_with : SplitOption → List ℕ → SplitGiven → Option SplitGiven
-split_with Output value g = if is_some g.folder then None else option_map (λ folder. record g { folder = Some folder }) (name_in value)
-split_with MaxChunks value g = if is_some g.max_chunks then None else option_map (λ n. record g { max_chunks = Some n }) (number_in 1 4294967295 value)
-split_with MaxSize value g = if is_some g.max_size then None else option_map (λ n. record g { max_size = Some n }) (number_in 1 (2 ^ 40) value)
+split_with option value g = if is_split_given option g then None else split_set option value g
 
 -- A part has at most 5 chunks and at most 2 ^ 40 bytes where nothing else is given, and there are at most 999,999 parts.
 abbrev pub split_rule : SplitGiven → SplitRule

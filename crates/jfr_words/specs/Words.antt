@@ -1,6 +1,6 @@
 -- The order that the words of the command line give. It is a function of them, so every list of words has one answer:
 -- an order, or none, and then the words are a usage fault.
-use Rattle.std.specs.Prelude.{◌≡◌, ℕ, ◌≤◌, ◌<◌, ◌^◌, List, [], ◌∷◌, Option, None, Some, option_map, option_and_then, Result, Ok, Err, ⊤, if◌then◌else◌, codes}
+use Rattle.std.specs.Prelude.{◌≡◌, ℕ, ◌≤◌, ◌<◌, ◌^◌, List, [], ◌∷◌, Option, None, Some, option_map, option_and_then, Result, Ok, Err, ⊤, if◌then◌else◌, codes, encode_utf8_all}
 use Rattle.std.specs.Str.{bytes_eq}
 use Rattle.jfr_filter.specs.Filters.{nothing_given}
 use Rattle.jfr_split.specs.Parts.{IsUsable}
@@ -8,12 +8,22 @@ use Rattle.jfr_words.specs.declared.order.Order.{Order}
 use Rattle.jfr_words.specs.declared.order.Order.TheVariants.{Print, Summary, Metadata, Scrub, Disassemble, Assemble, Sample}
 use Rattle.jfr_words.specs.declared.order.WordsFault.{WordsFault}
 use Rattle.jfr_words.specs.declared.order.WordsFault.TheVariants.{Usage, Memory}
-pub use Rattle.jfr_words.specs.Names.{is_name, file_name}
 use Rattle.jfr_words.specs.Names.{only_name, two_names}
 use Rattle.jfr_words.specs.Numbers.{number_in}
 use Rattle.jfr_words.specs.Prints.{no_print_option, print_from}
 use Rattle.jfr_words.specs.Scrubs.{scrub_from}
 use Rattle.jfr_words.specs.Splits.{no_split_option, split_from}
+
+-- The words after `summary` and after `metadata`: the file.
+abbrev pub summary_of : List (List ℕ) → Option Order
+summary_of words = option_map (λ file. Summary file) (only_name words)
+
+abbrev pub metadata_of : List (List ℕ) → Option Order
+metadata_of words = option_map (λ file. Metadata file) (only_name words)
+
+-- The words after `assemble`: the folder and the output.
+abbrev pub assembly_of : List (List ℕ) → Option Order
+assembly_of words = option_map (λ names. Assemble names.0 names.1) (two_names words)
 
 -- The words after `sample`: the seed, and how many events.
 abbrev pub sample_of : List (List ℕ) → Option Order
@@ -25,19 +35,30 @@ unfoldable pub order_of : List (List ℕ) → Option Order
 order_of [] = None
 order_of (command ∷ rest) =
     if bytes_eq command (codes "print") then print_from no_print_option rest else
-    if bytes_eq command (codes "summary") then option_map (λ file. Summary file) (only_name rest) else
-    if bytes_eq command (codes "metadata") then option_map (λ file. Metadata file) (only_name rest) else
+    if bytes_eq command (codes "summary") then summary_of rest else
+    if bytes_eq command (codes "metadata") then metadata_of rest else
     if bytes_eq command (codes "scrub") then scrub_from nothing_given rest else
     if bytes_eq command (codes "disassemble") then split_from no_split_option rest else
-    if bytes_eq command (codes "assemble") then option_map (λ names. Assemble names.0 names.1) (two_names rest) else
+    if bytes_eq command (codes "assemble") then assembly_of rest else
     if bytes_eq command (codes "sample") then sample_of rest else
     None
+
+-- The name of a file is the word in UTF-8.
+abbrev pub file_name : List ℕ → List ℕ
+file_name word = encode_utf8_all word
 
 -- What was read is this; a usage fault, exactly where there is none; where memory was wanting, nothing is said.
 abbrev pub IsRead : {T V : Type 0} → Option V → Result T WordsFault → (T → V) → Type 0
 IsRead o (Ok x) seen = o ≡ Some (seen x)
 IsRead o (Err Usage) seen = o ≡ None
 IsRead o (Err Memory) seen = ⊤
+
+-- What is given and left now gives what all gave before; a usage fault, exactly where that was none; where memory was
+-- wanting, nothing is said.
+abbrev pub StillGives : {T : Type 0} → Option Order → Option Order → Result T WordsFault → Type 0
+StillGives before now (Ok x) = now ≡ before
+StillGives before now (Err Usage) = before ≡ None
+StillGives before now (Err Memory) = ⊤
 
 -- The numbers of an order are in their ranges.
 abbrev pub IsUsableOrder : Order → Type 0

@@ -3,8 +3,14 @@
 //! `read_words` reads an `Order`. Read `specs/Words.antt` first: the order that a list of words gives.
 #![tactic(auto)]
 
+mod left;
+mod name;
+mod number;
 mod order;
+mod patterns;
 mod print;
+mod sample;
+mod scrub;
 mod split;
 mod words;
 

@@ -1,5 +1,16 @@
 // The words after `print`.
+ghost use Rattle.std.specs.Prelude.{◌≡◌, ◌∷◌, ℕ, List, Some, OnSome, IfNone, option_and_then, slice_get, drop};
+ghost use Rattle.std.specs.Str.{chars};
+ghost use Rattle.jfr_words.specs.Prints.{no_print_option, print_option_of, print_from, print_with};
+ghost use Rattle.jfr_words.specs.Words.{IsRead, StillGives};
+
+use crate::left::Left;
+use crate::name::read_only_name;
+use crate::number::read_number;
+use crate::patterns::give_patterns;
+use crate::{Order, WordsFault};
 use jfr_filter::{Filter, Side};
+use std::alloc::Global;
 
 /// An option of a print.
 #[derive(Clone, Copy)]
@@ -18,4 +29,98 @@ pub struct PrintGiven {
     pub filter: Filter,
     pub depth: Option<u8>,
     pub json: bool,
+}
+
+/// How deep references are followed at most.
+const DEEPEST: u64 = 8;
+
+/// How deep they are followed where nothing else is given.
+const USUAL_DEPTH: u8 = 2;
+
+/// Reads the options of a print and the name after them.
+pub(crate) fn read_print(alloc: Global, left: &mut Left<'_>) -> Result<Order, WordsFault>
+    ensures { IsRead (print_from no_print_option left.old) result (λ order. order) }
+{
+    let mut given = PrintGiven::none(alloc);
+    'options: while let Some(option) = take_option(left) {
+        given.give(option, left)?;
+    }
+    let file = read_only_name(alloc, left)?;
+    Ok(Order::Print {
+        filter: given.filter,
+        depth: given.depth.unwrap_or(USUAL_DEPTH),
+        json: given.json,
+        file,
+    })
+}
+
+impl PrintGiven {
+    /// No option.
+    fn none(alloc: Global) -> PrintGiven
+        ensures { result ≡ no_print_option }
+    {
+        PrintGiven {
+            filter: Filter::new(alloc),
+            depth: None,
+            json: false,
+        }
+    }
+
+    /// Gives an option, with the first word that is left as its value, unless it is `--json`.
+    fn give(&mut self, option: PrintOption, left: &mut Left<'_>) -> Result<(), WordsFault>
+        ensures { (word : List ℕ) → print_option_of word ≡ Some option → StillGives (print_from self.old (word ∷ left.old)) (print_from self.new left.new) result }
+    {
+        match option {
+            PrintOption::Patterns(side) => give_patterns(&mut self.filter, side, left.next_word()?),
+            PrintOption::Depth => self.give_depth(left.next_word()?),
+            PrintOption::Json => self.give_json(),
+        }
+    }
+
+    /// Gives the depth, if there is none yet.
+    fn give_depth(&mut self, value: &str) -> Result<(), WordsFault>
+        ensures { IsRead (print_with PrintOption.Depth (chars value.now) self.old) result (λ _. self.new) }
+    {
+        if self.depth.is_some() {
+            return Err(WordsFault::Usage);
+        }
+        let depth = read_number(value, 0, DEEPEST)?;
+        self.depth = Some(depth as u8);
+        Ok(())
+    }
+
+    /// Asks for lines of JSON, if they are not asked for yet.
+    fn give_json(&mut self) -> Result<(), WordsFault>
+        ensures { (next : List ℕ) → IsRead (print_with PrintOption.Json next self.old) result (λ _. self.new) }
+    {
+        if self.json {
+            return Err(WordsFault::Usage);
+        }
+        self.json = true;
+        Ok(())
+    }
+}
+
+/// Takes the first word, if it names an option.
+fn take_option(left: &mut Left<'_>) -> Option<PrintOption>
+    ensures option { result ≡ option_and_then print_option_of (slice_get left.old 0) }
+    ensures taken { OnSome result (left.new ≡ drop 1 left.old) }
+    ensures unchanged { IfNone result (left.new ≡ left.old) }
+{
+    let option = option_of(left.first()?)?;
+    let _ = left.take();
+    Some(option)
+}
+
+/// The option that a word names.
+fn option_of(word: &str) -> Option<PrintOption>
+    ensures { result ≡ print_option_of (chars word.now) }
+{
+    match word {
+        "--events" => Some(PrintOption::Patterns(Side::IncludeEvents)),
+        "--categories" => Some(PrintOption::Patterns(Side::IncludeCategories)),
+        "--depth" => Some(PrintOption::Depth),
+        "--json" => Some(PrintOption::Json),
+        _ => None,
+    }
 }

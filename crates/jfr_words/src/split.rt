@@ -1,5 +1,16 @@
 // The words after `disassemble`.
+ghost use Rattle.std.specs.Prelude.{◌≡◌, OnSome, IfNone, option_and_then, slice_get, drop};
+ghost use Rattle.std.specs.Str.{chars};
+ghost use Rattle.jfr_words.specs.Splits.{no_split_option, split_option_of, split_with, split_from, split_rule, is_split_given};
+ghost use Rattle.jfr_words.specs.Words.{IsRead};
+
+use crate::left::Left;
+use crate::name::{read_name, read_only_name};
+use crate::number::read_number;
+use crate::{Order, WordsFault};
 use jfr_outside::Text;
+use jfr_split::SplitRule;
+use std::alloc::Global;
 
 /// An option of a disassembly.
 #[derive(Clone, Copy)]
@@ -18,4 +29,106 @@ pub struct SplitGiven {
     pub folder: Option<Text>,
     pub max_chunks: Option<u64>,
     pub max_size: Option<u64>,
+}
+
+/// How many chunks a part may have where nothing else is given.
+const USUAL_CHUNKS: u64 = 5;
+
+/// How many chunks may be given at most.
+const MOST_CHUNKS: u64 = u32::MAX as u64;
+
+/// How many bytes may be given at most, and how many a part may have where nothing else is given.
+const MOST_BYTES: u64 = 1 << 40;
+
+/// How many parts there may be.
+const MOST_PARTS: u64 = 999_999;
+
+/// Reads the options of a disassembly and the name after them.
+pub(crate) fn read_split(alloc: Global, left: &mut Left<'_>) -> Result<Order, WordsFault>
+    ensures { IsRead (split_from no_split_option left.old) result (λ order. order) }
+{
+    let mut given = SplitGiven::none();
+    'options: while let Some(option) = take_option(left) {
+        let value = left.next_word()?;
+        given.give(alloc, option, value)?;
+    }
+    let file = read_only_name(alloc, left)?;
+    Ok(Order::Disassemble {
+        file,
+        rule: given.rule(),
+    })
+}
+
+impl SplitGiven {
+    /// No option.
+    fn none() -> SplitGiven
+        ensures { result ≡ no_split_option }
+    {
+        SplitGiven {
+            folder: None,
+            max_chunks: None,
+            max_size: None,
+        }
+    }
+
+    /// Gives an option its value, if it has none yet.
+    fn give(&mut self, alloc: Global, option: SplitOption, value: &str) -> Result<(), WordsFault>
+        ensures { IsRead (split_with option (chars value.now) self.old) result (λ _. self.new) }
+    {
+        if self.has(option) {
+            return Err(WordsFault::Usage);
+        }
+        match option {
+            SplitOption::Output => self.folder = Some(read_name(alloc, value)?),
+            SplitOption::MaxChunks => self.max_chunks = Some(read_number(value, 1, MOST_CHUNKS)?),
+            SplitOption::MaxSize => self.max_size = Some(read_number(value, 1, MOST_BYTES)?),
+        }
+        Ok(())
+    }
+
+    /// Whether an option is given.
+    fn has(&self, option: SplitOption) -> bool
+        ensures { result ≡ is_split_given option self.now }
+    {
+        match option {
+            SplitOption::Output => self.folder.is_some(),
+            SplitOption::MaxChunks => self.max_chunks.is_some(),
+            SplitOption::MaxSize => self.max_size.is_some(),
+        }
+    }
+
+    /// The rule that these options give.
+    fn rule(self) -> SplitRule
+        ensures { result ≡ split_rule self }
+    {
+        SplitRule {
+            folder: self.folder,
+            max_chunks: self.max_chunks.unwrap_or(USUAL_CHUNKS),
+            max_size: self.max_size.unwrap_or(MOST_BYTES),
+            max_parts: MOST_PARTS,
+        }
+    }
+}
+
+/// Takes the first word, if it names an option.
+fn take_option(left: &mut Left<'_>) -> Option<SplitOption>
+    ensures option { result ≡ option_and_then split_option_of (slice_get left.old 0) }
+    ensures taken { OnSome result (left.new ≡ drop 1 left.old) }
+    ensures unchanged { IfNone result (left.new ≡ left.old) }
+{
+    let option = option_of(left.first()?)?;
+    let _ = left.take();
+    Some(option)
+}
+
+/// The option that a word names.
+fn option_of(word: &str) -> Option<SplitOption>
+    ensures { result ≡ split_option_of (chars word.now) }
+{
+    match word {
+        "--output" => Some(SplitOption::Output),
+        "--max-chunks" => Some(SplitOption::MaxChunks),
+        "--max-size" => Some(SplitOption::MaxSize),
+        _ => None,
+    }
 }

@@ -1,15 +1,66 @@
 // The order that the words of the command line give.
-ghost use Rattle.std.specs.Prelude.{IfOk};
-ghost use Rattle.jfr_words.specs.Words.{order_of, IsRead, IsUsableOrder};
+ghost use Rattle.std.specs.Prelude.{IfOk, ◌∷◌};
+ghost use Rattle.std.specs.Str.{chars};
+ghost use Rattle.jfr_words.specs.Words.{order_of, summary_of, metadata_of, assembly_of, IsRead, IsUsableOrder};
 
+use crate::left::Left;
+use crate::name::{read_only_name, read_two_names};
+use crate::print::read_print;
+use crate::sample::read_sample;
+use crate::scrub::read_scrub;
+use crate::split::read_split;
 use crate::{Order, WordsFault};
 use jfr_outside::Words;
 use std::alloc::Global;
 
 /// Reads the order that the words give.
-pub fn read_words(_alloc: Global, words: &Words) -> Result<Order, WordsFault>
+pub fn read_words(alloc: Global, words: &Words) -> Result<Order, WordsFault>
     ensures read { IsRead (order_of words.now) result (λ order. order) }
     ensures usable { IfOk result IsUsableOrder }
 {
-    Err(WordsFault::Memory)
+    let mut left = Left::all(words);
+    match left.take() {
+        Some(command) => read_command(alloc, command, &mut left),
+        None => Err(WordsFault::Usage),
+    }
+}
+
+/// Reads the words after a command.
+fn read_command(alloc: Global, command: &str, left: &mut Left<'_>) -> Result<Order, WordsFault>
+    ensures { IsRead (order_of (chars command.now ∷ left.old)) result (λ order. order) }
+{
+    match command {
+        "print" => read_print(alloc, left),
+        "summary" => read_summary(alloc, left),
+        "metadata" => read_metadata(alloc, left),
+        "scrub" => read_scrub(alloc, left),
+        "disassemble" => read_split(alloc, left),
+        "assemble" => read_assembly(alloc, left),
+        "sample" => read_sample(left),
+        _ => Err(WordsFault::Usage),
+    }
+}
+
+/// Reads the name after `summary`.
+fn read_summary(alloc: Global, left: &mut Left<'_>) -> Result<Order, WordsFault>
+    ensures { IsRead (summary_of left.old) result (λ order. order) }
+{
+    let file = read_only_name(alloc, left)?;
+    Ok(Order::Summary { file })
+}
+
+/// Reads the name after `metadata`.
+fn read_metadata(alloc: Global, left: &mut Left<'_>) -> Result<Order, WordsFault>
+    ensures { IsRead (metadata_of left.old) result (λ order. order) }
+{
+    let file = read_only_name(alloc, left)?;
+    Ok(Order::Metadata { file })
+}
+
+/// Reads the names after `assemble`.
+fn read_assembly(alloc: Global, left: &mut Left<'_>) -> Result<Order, WordsFault>
+    ensures { IsRead (assembly_of left.old) result (λ order. order) }
+{
+    let (folder, output) = read_two_names(alloc, left)?;
+    Ok(Order::Assemble { folder, output })
 }

@@ -1,0 +1,43 @@
+-- The words of the command line as lists of characters.
+use Rattle.std.specs.Prelude.{◌≡◌, ℕ, zero, suc, Bool, true, false, ◌&&◌, List, [], ◌∷◌, drop, Option, None, Some, slice_get}
+use Rattle.std.specs.Char.{is_ascii}
+use Rattle.std.specs.List.{list_all}
+use Rattle.std.specs.Str.{chars, bytes_eq, IsUtf8, IsAscii}
+use Rattle.std.proofs.Common.{ap, arith, refl, sym, ◌∙◌}
+use Rattle.std.proofs.Math.ListN.{drop_of_length-le}
+use Rattle.std.proofs.lemmas.Bool.Decides.{nat_tests}
+use Rattle.std.proofs.lemmas.Slice.Eq.{bytes_eq-Decides}
+use Rattle.std.proofs.lemmas.Str.{chars-IsAscii, IsUtf8-from_ascii}
+use Rattle.std.proofs.lemmas.Str.Ascii.{IsAscii-cons, IsAscii-nil}
+use Rattle.jfr_outside.proofs.TextLaws.{bytes_eq-chars}
+
+-- past the end nothing is left
+pub none_left : {X : Type 0} (xs : List X) (i : ℕ) → slice_get xs i ≡ None → drop i xs ≡ []
+none_left [] i e = drop_of_length-le [] (omega arith)
+none_left (x ∷ xs) zero e = cc
+none_left (x ∷ xs) (suc i) e = none_left xs i e
+
+pub no_first : {X : Type 0} (xs : List X) → slice_get xs 0 ≡ None → xs ≡ []
+no_first [] e = refl
+no_first (x ∷ xs) e = cc
+
+-- a word in ASCII
+is_ascii_word : (word : List ℕ) → list_all is_ascii word ≡ true → IsAscii word
+is_ascii_word [] e = IsAscii-nil
+is_ascii_word (c ∷ cs) e = by_test (is_ascii c) refl e (is_ascii_word cs)
+  where
+    by_test : (t : Bool) → is_ascii c ≡ t → (t && list_all is_ascii cs) ≡ true → (list_all is_ascii cs ≡ true → IsAscii cs) → IsAscii (c ∷ cs)
+    by_test true f g h = IsAscii-cons c cs (grind (arith, nat_tests)) (h g)
+    by_test false f g h = cc
+
+-- the characters of a text that is a word in ASCII
+pub chars_of : (t word : List ℕ) → list_all is_ascii word ≡ true → t ≡ word → chars t ≡ word
+chars_of t word a e = ap chars e ∙ chars-IsAscii word (is_ascii_word word a)
+
+-- another text has other characters
+pub is_other : (t word : List ℕ) → IsUtf8 t → list_all is_ascii word ≡ true → (t ≡ word → ⊥) → bytes_eq (chars t) word ≡ false
+is_other t word u a n = by_test (bytes_eq t word) (bytes_eq-chars t word u (IsUtf8-from_ascii word (is_ascii_word word a)) ∙ ap (bytes_eq (chars t)) (chars-IsAscii word (is_ascii_word word a))) (bytes_eq-Decides t word).0
+  where
+    by_test : (r : Bool) → r ≡ bytes_eq (chars t) word → (r ≡ true → t ≡ word) → bytes_eq (chars t) word ≡ false
+    by_test true e d = absurd (n (d refl))
+    by_test false e d = sym e

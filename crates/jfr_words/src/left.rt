@@ -1,0 +1,68 @@
+// The words of the command line that are not yet read.
+ghost use Rattle.std.specs.Prelude.{◌≡◌, ◌≢◌, ◌∷◌, [], MatchOption, MatchResult, slice_get};
+ghost use Rattle.std.specs.Str.{chars};
+ghost use Rattle.jfr_outside.specs.Texts.{text_in};
+
+use crate::WordsFault;
+use jfr_outside::Words;
+use std::marker::Model;
+
+/// The words that are left. Contracts see them as their list.
+#[derive(Drop)]
+pub(crate) struct Left<'a> {
+    words: &'a Words,
+    at: usize,
+}
+
+impl<'a> Model for Left<'a> {
+    ghost use Rattle.std.specs.Prelude.{ℕ, List, drop};
+
+    ghost Value = { List (List ℕ) };
+
+    ghost view = { λ left. drop left.at left.words.now };
+}
+
+impl<'a> Left<'a> {
+    /// All the words.
+    pub(crate) fn all(words: &'a Words) -> Left<'a>
+        ensures { result ≡ words.now }
+    {
+        Left { words, at: 0 }
+    }
+
+    /// The first word, which stays; `None` exactly where none is left.
+    pub(crate) fn first(&self) -> Option<&'a str>
+        ensures { text_in result ≡ slice_get self.now 0 }
+    {
+        self.words.get(self.at)
+    }
+
+    /// Takes the first word; `None` exactly where none is left.
+    pub(crate) fn take(&mut self) -> Option<&'a str>
+        ensures { MatchOption result ((self.old ≡ []) × (self.new ≡ [])) (λ word. self.old ≡ chars word.now ∷ self.new) }
+    {
+        if self.at == self.words.len() {
+            return None;
+        }
+        let word = self.words.get(self.at)?;
+        self.at += 1;
+        Some(word)
+    }
+
+    /// Takes the first word, which must be there.
+    pub(crate) fn next_word(&mut self) -> Result<&'a str, WordsFault>
+        ensures { MatchResult result (λ word. self.old ≡ chars word.now ∷ self.new) (λ fault. (fault ≡ WordsFault.Usage) × (self.old ≡ [])) }
+    {
+        self.take().ok_or(WordsFault::Usage)
+    }
+
+    /// No word may be left.
+    pub(crate) fn end(&self) -> Result<(), WordsFault>
+        ensures { MatchResult result (λ _. self.now ≡ []) (λ fault. (fault ≡ WordsFault.Usage) × (self.now ≢ [])) }
+    {
+        match self.first() {
+            None => Ok(()),
+            Some(_) => Err(WordsFault::Usage),
+        }
+    }
+}

@@ -1,0 +1,51 @@
+// Names of files and folders.
+ghost use Rattle.std.specs.Prelude.{◌≡◌};
+ghost use Rattle.std.specs.Str.{chars};
+ghost use Rattle.jfr_words.specs.Names.{is_name, name_in, only_name, two_names};
+ghost use Rattle.jfr_words.specs.Words.{IsRead};
+
+use crate::WordsFault;
+use crate::left::Left;
+use jfr_outside::Text;
+use std::alloc::Global;
+
+/// Whether a word is a name: it isn't empty, and doesn't begin with a dash.
+fn is_name(word: &str) -> bool
+    ensures { result ≡ is_name (chars word.now) }
+{
+    match word.chars().next() {
+        Some(first) => first != '-',
+        None => false,
+    }
+}
+
+/// The word as a name.
+pub(crate) fn read_name(alloc: Global, word: &str) -> Result<Text, WordsFault>
+    ensures { IsRead (name_in (chars word.now)) result (λ name. name) }
+{
+    if !is_name(word) {
+        return Err(WordsFault::Usage);
+    }
+    Ok(Text::make(alloc, word)?)
+}
+
+/// The name that alone is left.
+pub(crate) fn read_only_name(alloc: Global, left: &mut Left<'_>) -> Result<Text, WordsFault>
+    ensures { IsRead (only_name left.old) result (λ name. name) }
+{
+    let word = left.next_word()?;
+    left.end()?;
+    read_name(alloc, word)
+}
+
+/// The two names that are left, and nothing else.
+pub(crate) fn read_two_names(alloc: Global, left: &mut Left<'_>) -> Result<(Text, Text), WordsFault>
+    ensures { IsRead (two_names left.old) result (λ names. names) }
+{
+    let first = left.next_word()?;
+    let second = left.next_word()?;
+    left.end()?;
+    let first = read_name(alloc, first)?;
+    let second = read_name(alloc, second)?;
+    Ok((first, second))
+}

@@ -1,0 +1,21 @@
+// Options of a filter.
+ghost use Rattle.std.specs.Str.{chars};
+ghost use Rattle.jfr_words.specs.Patterns.{given_with};
+ghost use Rattle.jfr_words.specs.Words.{IsRead};
+
+use crate::WordsFault;
+use jfr_filter::{Filter, FilterFault, Side};
+
+/// Gives an option its patterns, if it has none yet.
+pub(crate) fn give_patterns(filter: &mut Filter, side: Side, list: &str) -> Result<(), WordsFault>
+    ensures { IsRead (given_with side (chars list.now) filter.old) result (λ _. filter.new) }
+{
+    if filter.has(side) {
+        return Err(WordsFault::Usage);
+    }
+    match filter.add(side, list) {
+        Ok(()) => Ok(()),
+        Err(FilterFault::EmptyPattern) => Err(WordsFault::Usage),
+        Err(FilterFault::Memory) => Err(WordsFault::Memory),
+    }
+}
