@@ -96,7 +96,10 @@ tear x (y ∷ ys) k = by_length (nat_le k (length x)) refl (tear y ys (k - lengt
 
     later : Torn (y ∷ ys) (k - length x) → length x ≤ k → Torn (x ∷ y ∷ ys) k
     later t l = record {
-      first = x ∷ t.first; torn = t.torn; rest = t.rest; bytes = t.bytes;
+      first = x ∷ t.first;
+      torn = t.torn;
+      rest = t.rest;
+      bytes = t.bytes;
       parts = ap (λ z. x ∷ z) t.parts;
       is = past l ∙ (ap (λ z. x ++ z) t.is ∙ sym (append_assoc x (concat t.first) (take t.bytes t.torn)));
     }

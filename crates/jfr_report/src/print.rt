@@ -98,9 +98,9 @@ fn print_if_kept<O: Sink>(
     requires number { number < length (events_of chunk.now) }
     ensures texts { (all : List (List ℕ)) (before : Option (List ℕ))
         → IsGathered all before (O.state out.old).written (encode_utf8_all page.old)
-            (events_bytes style.json style.depth chunk.now (marked (drop number kept.now) (drop number (events_of chunk.now))))
+        (events_bytes style.json style.depth chunk.now (marked (drop number kept.now) (drop number (events_of chunk.now))))
         → PageLeaves all before result (encode_utf8_all page.new)
-            (events_bytes style.json style.depth chunk.now (marked (drop (number + 1) kept.now) (drop (number + 1) (events_of chunk.now)))) (O.state out.new).written }
+        (events_bytes style.json style.depth chunk.now (marked (drop (number + 1) kept.now) (drop (number + 1) (events_of chunk.now)))) (O.state out.new).written }
     ensures faults { TextCounted result (O.state out.old).faults (O.state out.new).faults }
 {
     let keep = kept.get(number).unwrap_or(false);

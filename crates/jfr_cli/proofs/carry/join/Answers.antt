@@ -18,8 +18,8 @@ returns g c =
     let way = way_of c.assemble.result in
     record {
       leaves =
-        subst (λ z. AfterFiles (assembling z (file_name c.args.output.now)) way (alone p) (alone q)) folder
-        (subst (λ z. AfterFiles (assembling c.as_str.result.now z) way (alone p) (alone q)) output c.assemble.ensures.told);
+          subst (λ z. AfterFiles (assembling z (file_name c.args.output.now)) way (alone p) (alone q)) folder
+          (subst (λ z. AfterFiles (assembling c.as_str.result.now z) way (alone p) (alone q)) output c.assemble.ensures.told);
       counts = lifted way p q (g.O.Sink.state c.args._out.now) c.assemble.ensures.counts;
       sink = refl;
       place = tt;

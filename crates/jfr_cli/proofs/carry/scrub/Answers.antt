@@ -22,16 +22,16 @@ returns g c =
     let output = named c.as_str-2.result.now c.args.output.now c.as_str-2.utf8 c.as_str-2.ensures in
     let way = way_of c.scrub_stream.result in
     let told =
-      subst (λ z. After (scrubbing c.args.filter.now (file_name c.args.output.now)) [] z way (alone p) (alone q)) input
-      (subst (λ z. After (scrubbing c.args.filter.now z) [] c.as_str.result.now way (alone p) (alone q)) output c.scrub_stream.ensures.told) in
+    subst (λ z. After (scrubbing c.args.filter.now (file_name c.args.output.now)) [] z way (alone p) (alone q)) input
+    (subst (λ z. After (scrubbing c.args.filter.now z) [] c.as_str.result.now way (alone p) (alone q)) output c.scrub_stream.ensures.told) in
     record {
       leaves = told;
       counts = lifted way p q s c.scrub_stream.ensures.counts;
       sink = refl;
       place = tt;
       wrote =
-        subst (λ z. IsByPlan c.scrub_stream.result → Told p.told q.told (Scrubs c.args.filter.now z (file_name c.args.output.now))) input
-        (subst (λ z. IsByPlan c.scrub_stream.result → Told p.told q.told (Scrubs c.args.filter.now c.as_str.result.now z)) output c.scrub_stream.ensures.headline);
+          subst (λ z. IsByPlan c.scrub_stream.result → Told p.told q.told (Scrubs c.args.filter.now z (file_name c.args.output.now))) input
+          (subst (λ z. IsByPlan c.scrub_stream.result → Told p.told q.told (Scrubs c.args.filter.now c.as_str.result.now z)) output c.scrub_stream.ensures.headline);
       can_read = λ can. clauses.can_read (scrubbing c.args.filter.now (file_name c.args.output.now)) (file_name c.args.input.now) c.scrub_stream.result (alone p) (alone q) can told;
       can_create = λ can. (c.scrub_stream.ensures.can_create (subst (λ z. CanCreate z p) (sym output) can)).0;
     }

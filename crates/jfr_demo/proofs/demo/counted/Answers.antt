@@ -4,6 +4,8 @@ use Rattle.jfr_demo.proofs.DemoLaws.{counted_by, lines_by}
 use Rattle.jfr_demo.proofs.demo.counted.Goals as goal
 
 pub returns : goal.returns
-returns c = record { ok = counted_by c.lines_of.result c.args.chunk.now
-    (lines_by c.lines_of.result c.args.chunk.now c.in_ok-scrubber.scrubber.events c.in_ok-scrubber.scrubber.entries c.in_ok-scrubber.scrubber.written (kept_of only_a c.args.chunk.now)
-        c.lines_of.ensures.ok c.in_ok-scrubber.ensures.events c.in_ok-scrubber.ensures.entries c.in_ok-scrubber.ensures.written) }
+returns c = record {
+  ok = counted_by c.lines_of.result c.args.chunk.now
+      (lines_by c.lines_of.result c.args.chunk.now c.in_ok-scrubber.scrubber.events c.in_ok-scrubber.scrubber.entries c.in_ok-scrubber.scrubber.written (kept_of only_a c.args.chunk.now)
+      c.lines_of.ensures.ok c.in_ok-scrubber.ensures.events c.in_ok-scrubber.ensures.entries c.in_ok-scrubber.ensures.written);
+}

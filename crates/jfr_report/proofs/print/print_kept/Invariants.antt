@@ -10,6 +10,6 @@ use Rattle.jfr_report.proofs.print.print_kept.Given as goal
 abbrev pub invariant-loop-number : goal.invariant-loop-number
 invariant-loop-number g l = record {
   gathered : IsGathered (events_bytes l.fn.style.json l.fn.style.depth l.fn.chunk (kept_by l.fn.chunk l.fn.kept)) (g.O.Sink.state l.fn.out).written (g.O.Sink.state l.out).written (encode_utf8_all l.page)
-    (events_bytes l.fn.style.json l.fn.style.depth l.fn.chunk (marked (drop l.number l.fn.kept) (drop l.number (events_of l.fn.chunk))));
+      (events_bytes l.fn.style.json l.fn.style.depth l.fn.chunk (marked (drop l.number l.fn.kept) (drop l.number (events_of l.fn.chunk))));
   faults : (g.O.Sink.state l.out).faults ≡ (g.O.Sink.state l.fn.out).faults;
 }
