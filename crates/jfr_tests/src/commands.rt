@@ -1,0 +1,225 @@
+// The commands that write text, those that split and join, and the sample.
+use crate::calls::words;
+use jfr_cli::run;
+use jfr_fixtures::{PLAIN, RINGS, STRINGS, inert, with_classes};
+use jfr_outside::{Call, MemoryPlace, MemorySink};
+use std::alloc::Global;
+use std::process::Abort;
+use std::test::Fail;
+
+// A run over a place, with its status and what it says on both streams.
+fn says(
+    rt: &impl Abort,
+    alloc: Global,
+    place: &mut MemoryPlace,
+    line: &[&str],
+    status: u8,
+    text: &str,
+    fault: &str,
+) -> Result<(), Fail> {
+    let words = words(alloc, line)?;
+    let mut out = MemorySink::new(alloc);
+    let mut err = MemorySink::new(alloc);
+    assert_eq!(rt; run(alloc, &words, place, &mut out, &mut err), status);
+    assert_eq!(rt; out.bytes(), text.as_bytes());
+    assert_eq!(rt; err.bytes(), fault.as_bytes());
+    Ok(())
+}
+
+// A place with chunks of rings, of strings that are keys, and with inert records.
+fn small_chunks(alloc: Global) -> Result<MemoryPlace, Fail> {
+    let mut place = MemoryPlace::new(alloc);
+    place.put("rings.jfr", &with_classes(alloc, RINGS, 333)?)?;
+    place.put("strings.jfr", &with_classes(alloc, STRINGS, 330)?)?;
+    place.put("inert.jfr", &inert(alloc)?)?;
+    Ok(place)
+}
+
+const SHALLOW: &str = "t.A {\n  n = 300\n  node = t.Node#1\n}\nt.B {\n  node = t.Node#3\n}\n";
+
+const DEEP_A: &str = "t.A {
+  n = 300
+  node = t.Node {
+    next = t.Node {
+      next = t.Node#1
+      text = \"q\"
+    }
+    text = \"p\"
+  }
+}
+";
+
+const KEYS_OF_STRINGS: &str = "t.A {
+  n = 300
+  node = t.Node {
+    next = t.Node#0 (missing)
+    text = java.lang.String#2
+  }
+}
+";
+
+const JSON: &str = r#"{"type":"t.A","values":{"n":300,"node":{"next":{"class":"t.Node","key":2},"text":"p"}}}
+{"type":"t.B","values":{"node":{"next":{"class":"t.Node","key":4},"text":"r"}}}
+"#;
+
+const TOTALS: &str = "version 2.1
+chunks 1
+bytes 362
+start 1000
+duration 5
+events 2
+checkpoints 1
+constants 4
+inert 0
+t.A 1 5
+t.B 1 3
+";
+
+const INERT: &str = "version 2.1
+chunks 1
+bytes 141
+start 1000
+duration 5
+events 0
+checkpoints 1
+constants 0
+inert 3
+";
+
+const CLASSES: &str = "chunk 1
+long id 5
+java.lang.String id 6
+t.Node id 7
+  next: t.Node constant
+  text: java.lang.String
+t.A id 8 super jdk.jfr.Event
+  n: long
+  node: t.Node constant
+t.B id 9 super jdk.jfr.Event
+  node: t.Node constant
+";
+
+// What the commands that write text write of small chunks.
+#[test]
+fn texts_are_written(rt: HostRuntime) -> Result<(), Fail> {
+    let mut place = small_chunks(rt.alloc())?;
+    for (line, text) in [
+        (&["print", "--depth", "0", "rings.jfr"][..], SHALLOW),
+        (&["print", "--events", "A", "rings.jfr"][..], DEEP_A),
+        (&["print", "strings.jfr"][..], KEYS_OF_STRINGS),
+        (
+            &["print", "--json", "--depth", "1", "rings.jfr"][..],
+            JSON,
+        ),
+        (&["print", "--categories", "none", "rings.jfr"][..], ""),
+        (&["summary", "rings.jfr"][..], TOTALS),
+        (&["summary", "inert.jfr"][..], INERT),
+        (&["metadata", "rings.jfr"][..], CLASSES),
+    ] {
+        says(&rt, rt.alloc(), &mut place, line, 0, text, "")?;
+    }
+    Ok(())
+}
+
+const SAMPLE: &str = "events 7
+kept events 4
+constants 7
+kept constants 4
+bytes 418
+kept bytes 385
+";
+
+#[test]
+fn the_sample_is_counted(rt: HostRuntime) -> Result<(), Fail> {
+    let mut place = MemoryPlace::new(rt.alloc());
+    says(&rt, rt.alloc(), &mut place, &["sample", "0", "7"], 0, SAMPLE, "")
+}
+
+// A place with a recording of three plain chunks.
+fn three_chunks(alloc: Global) -> Result<MemoryPlace, Fail> {
+    let mut bytes = Vec::new(alloc);
+    for _ in 0..3 {
+        bytes.extend_from_slice(&PLAIN)?;
+    }
+    let mut place = MemoryPlace::new(alloc);
+    place.put("r.jfr", &bytes)?;
+    Ok(place)
+}
+
+// How many bytes the files have.
+fn have(rt: &impl Abort, place: &MemoryPlace, files: &[(&str, Option<usize>)]) {
+    for (name, size) in files {
+        assert_eq!(rt; place.file(name).map(|bytes| bytes.len()), *size);
+    }
+}
+
+const SPLIT: &[&str] = &["disassemble", "--output", "d", "--max-chunks", "2", "r.jfr"];
+
+// A recording is cut into parts, which are joined again.
+#[test]
+fn parts_come_back(rt: HostRuntime) -> Result<(), Fail> {
+    let mut place = three_chunks(rt.alloc())?;
+    says(&rt, rt.alloc(), &mut place, SPLIT, 0, "", "")?;
+    let join = &["assemble", "d", "o.jfr"];
+    says(&rt, rt.alloc(), &mut place, join, 0, "", "")?;
+    have(
+        &rt,
+        &place,
+        &[
+            ("d/r_000001.jfr", Some(206)),
+            ("d/r_000002.jfr", Some(103)),
+            ("d/r_000003.jfr", None),
+            ("o.jfr", Some(309)),
+        ],
+    );
+    let empty = &["assemble", "e", "p.jfr"];
+    let line = "chunk 1 offset 0: NoChunk\n";
+    says(&rt, rt.alloc(), &mut place, empty, 2, "", line)?;
+    have(&rt, &place, &[("p.jfr", Some(0))]);
+    Ok(())
+}
+
+// Calls of the outside that fail, and what stands then.
+#[test]
+fn faults_of_parts_are_told(rt: HostRuntime) -> Result<(), Fail> {
+    let mut place = three_chunks(rt.alloc())?;
+    place.fail(Call::Create, 2, 0)?;
+    says(&rt, rt.alloc(), &mut place, SPLIT, 4, "", "write fault\n")?;
+    have(
+        &rt,
+        &place,
+        &[("d/r_000001.jfr", Some(206)), ("d/r_000002.jfr", None)],
+    );
+    for (call, nth, size) in [(Call::List, 1, None), (Call::Open, 2, Some(103))] {
+        let mut place = MemoryPlace::new(rt.alloc());
+        place.put("d/a.jfr", &PLAIN)?;
+        place.put("d/b.jfr", &PLAIN)?;
+        place.fail(call, nth, 0)?;
+        let join = &["assemble", "d", "o.jfr"];
+        says(&rt, rt.alloc(), &mut place, join, 3, "", "read fault\n")?;
+        have(&rt, &place, &[("o.jfr", size)]);
+    }
+    Ok(())
+}
+
+// A stream that fails: the text that it keeps stands, and a line that can't be written changes no status.
+#[test]
+fn faults_of_streams_are_told(rt: HostRuntime) -> Result<(), Fail> {
+    let alloc = rt.alloc();
+    let mut place = small_chunks(alloc)?;
+    let mut out = MemorySink::new(alloc);
+    let mut err = MemorySink::new(alloc);
+    out.fail(1, 3)?;
+    let print = words(alloc, &["print", "rings.jfr"])?;
+    assert_eq!(&rt; run(alloc, &print, &mut place, &mut out, &mut err), 4);
+    assert_eq!(&rt; out.bytes(), b"t.A");
+    assert_eq!(&rt; err.bytes(), b"write fault\n");
+
+    place.put("a.jfr", &[])?;
+    let mut err = MemorySink::new(alloc);
+    err.fail(1, 5)?;
+    let scrub = words(alloc, &["scrub", "a.jfr", "b.jfr"])?;
+    assert_eq!(&rt; run(alloc, &scrub, &mut place, &mut out, &mut err), 2);
+    assert_eq!(&rt; err.bytes(), b"chunk");
+    Ok(())
+}
