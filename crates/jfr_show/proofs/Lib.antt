@@ -1,4 +1,6 @@
+mod FloatLaws
 mod FormLaws
+mod JsonLaws
 mod LeftLaws
 mod LineLaws
 mod ReferLaws

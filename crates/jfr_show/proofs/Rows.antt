@@ -6,6 +6,9 @@ use Rattle.jfr_layout.specs.declared.kind.Kind.TheVariants as kinds
 use Rattle.jfr_layout.specs.declared.shape.Shape.{Shape}
 use Rattle.jfr_value.specs.declared.leaf.LeafKind.TheVariants as leaf_kinds
 use Rattle.jfr_value.specs.Values.{Value, Single, Group, Nil, Cons}
+use Rattle.serde_json.specs.Written.{compact_text}
+use Rattle.serde_json.proofs.OnLiterals.{serde_json_on_literals}
+use Rattle.jfr_show.specs.Json.{base_json, json_of, missing_json, reference_json}
 use Rattle.jfr_show.specs.Leaves.{base_shown}
 use Rattle.jfr_show.specs.Shown.{shown, missing_shown, reference_shown}
 use Rattle.jfr_show.specs.Texts.{quoted}
@@ -38,6 +41,15 @@ deeper_row : shown classes (λ level target. missing_shown classes target) 1 eve
 unfolding digits
 deeper_row = refl
 
+-- Its JSON, in which the fields stand in the order of the bytes of their names.
+json_row : compact_text (json_of classes (λ target. reference_json classes target) event) ≡ codes "{\"n\":300,\"node\":{\"class\":\"t.Node\",\"key\":1}}"
+unfolding serde_json_on_literals digits
+json_row = refl
+
+missing_row : compact_text (missing_json classes (5, 18446744073709551615)) ≡ codes "{\"class\":\"long\",\"key\":18446744073709551615,\"missing\":true}"
+unfolding serde_json_on_literals digits
+missing_row = refl
+
 -- An array of two numbers, and one without items.
 numbers_row : shown classes (λ level target. []) 0 (Group (array 5) (2 ∷ []) (Cons (Single (plain 5) (leaf_kinds.Base kinds.Long) (7 ∷ []) None) (Cons (Single (plain 5) (leaf_kinds.Base kinds.Long) (0 ∷ []) None) Nil))) ≡ codes "[\n  7\n  0\n]"
 unfolding digits
@@ -61,6 +73,14 @@ short_row = refl
 
 double_row : base_shown kinds.Double (0x3F ∷ 0xF0 ∷ 0 ∷ 0 ∷ 0 ∷ 0 ∷ 0 ∷ 0 ∷ []) ≡ codes "0x3ff0000000000000"
 double_row = refl
+
+double_json_row : compact_text (base_json kinds.Double (0x3F ∷ 0xF0 ∷ 0 ∷ 0 ∷ 0 ∷ 0 ∷ 0 ∷ 0 ∷ [])) ≡ codes "\"0x3ff0000000000000\""
+unfolding serde_json_on_literals digits
+double_json_row = refl
+
+byte_json_row : compact_text (base_json kinds.Byte (0xFF ∷ [])) ≡ codes "-1"
+unfolding digits
+byte_json_row = refl
 
 -- A quote, a backslash, the end of a line, U+007F, and a character beyond ASCII.
 quoted_row : quoted (34 ∷ 92 ∷ 10 ∷ 127 ∷ 228 ∷ []) ≡ codes "\"\\\"\\\\\\u000a\\u007f" ++ 228 ∷ 34 ∷ []

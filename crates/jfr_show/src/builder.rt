@@ -1,5 +1,5 @@
 // A text that grows at its end.
-ghost use Rattle.std.specs.Prelude.{◌≡◌, ◌<◌, [], ◌∷◌, ◌++◌, IsTrue, OnOk, decimal};
+ghost use Rattle.std.specs.Prelude.{◌≡◌, ◌<◌, [], ◌∷◌, ◌++◌, IsTrue, OnOk, decimal, string_bytes};
 ghost use Rattle.std.specs.Char.{digit_char};
 ghost use Rattle.std.specs.Fmt.{signed_decimal};
 ghost use Rattle.std.specs.Str.{chars, encode_utf8_all};
@@ -7,6 +7,7 @@ ghost use Rattle.jfr_show.specs.Texts.{hex_byte, indent, is_ascii};
 
 use itoa::Buffer;
 use jfr_outside::{NoMemory, Text};
+use jfr_text::Characters;
 use std::alloc::Global;
 use std::marker::Model;
 
@@ -57,6 +58,13 @@ impl TextBuilder {
         Text::from(self.text)
     }
 
+    /// The text as a string, without a copy.
+    pub(crate) fn into_string(self) -> String
+        ensures { string_bytes result ≡ encode_utf8_all self }
+    {
+        self.text
+    }
+
     /// Adds a text.
     pub fn push_str(&mut self, text: &str) -> Result<(), NoMemory>
         ensures ok { OnOk result (self.new ≡ self.old ++ chars text.now) }
@@ -79,6 +87,16 @@ impl TextBuilder {
         ensures ok { OnOk result (self.new ≡ self.old ++ character ∷ []) }
     {
         self.text.push(character)?;
+        Ok(())
+    }
+
+    /// Adds characters, one after another.
+    pub(crate) fn push_characters(&mut self, characters: Characters<'_>) -> Result<(), NoMemory>
+        ensures ok { OnOk result (self.new ≡ self.old ++ characters.entry) }
+    {
+        for character in characters {
+            self.push(character)?;
+        }
         Ok(())
     }
 

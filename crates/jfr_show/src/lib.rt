@@ -24,6 +24,6 @@ mod value;
 
 pub use builder::TextBuilder;
 pub use event::{event_text, show_event};
-pub use json::show_json;
+pub use json::{event_json, show_json};
 pub use metadata::{metadata_text, show_metadata};
 pub use summary::{Summary, summary_text};

@@ -1,10 +1,22 @@
 // A class and a key, by name.
 ghost use Rattle.std.specs.Prelude.{◌≡◌, ◌++◌, OnOk};
+ghost use Rattle.std.specs.Str.{chars};
+ghost use Rattle.jfr_show.specs.Names.{class_name};
 ghost use Rattle.jfr_show.specs.Shown.{missing_shown, reference_shown};
 
 use crate::TextBuilder;
 use jfr_chunk::Chunk;
 use jfr_outside::NoMemory;
+
+/// The name of the class of an id; empty where there is none.
+pub(crate) fn class_name<'c>(chunk: &'c Chunk<'_>, class: u64) -> &'c str
+    ensures { chars result.now ≡ class_name chunk.now.classes class }
+{
+    match chunk.classes().find(class) {
+        Some(info) => info.name.as_str(),
+        None => "",
+    }
+}
 
 /// Adds the name of a class, and a key.
 pub(crate) fn show_name(
@@ -15,10 +27,7 @@ pub(crate) fn show_name(
 ) -> Result<(), NoMemory>
     ensures ok { OnOk result (out.new ≡ out.old ++ reference_shown chunk.now.classes (class, key)) }
 {
-    match chunk.classes().find(class) {
-        Some(info) => out.push_str(info.name.as_str())?,
-        None => {}
-    }
+    out.push_str(class_name(chunk, class))?;
     out.push_ascii("#")?;
     out.push_number(key)
 }

@@ -30,9 +30,9 @@ pub(crate) fn show_node(
 ) -> Result<(), NoMemory>
     requires of_chunk { node.now.bytes.now ≡ chunk.now.bytes }
     requires value { IsValue chunk.now.classes node.now }
-    requires composites { depth.composites ≡ 33 }
+    requires composites { depth.reach.composites ≡ 33 }
     requires level { deepest depth node.now.shape.array ≤ 1000 }
-    ensures ok { OnOk result (out.new ≡ out.old ++ node_shown chunk.now (referred chunk.now depth.references) depth.level (node_of node.now)) }
+    ensures ok { OnOk result (out.new ≡ out.old ++ node_shown chunk.now (referred chunk.now depth.reach.references) depth.level (node_of node.now)) }
 {
     let slot = slot_of(chunk.classes(), node.shape);
     let _end = show_value(chunk, &slot, node.at, node.end, depth, out)?;
@@ -52,12 +52,12 @@ fn show_value(
 ) -> Result<usize, NoMemory>
     requires within { limit ≤ length chunk.now.bytes }
     requires slot { IsSlotIfKnown chunk.now.classes slot.now }
-    requires room { Room chunk.now.classes depth.composites slot.now.shape }
+    requires room { Room chunk.now.classes depth.reach.composites slot.now.shape }
     requires stands { (to : ℕ) × EndsAt chunk.now.classes chunk.now.bytes slot.now.shape at to × (to ≤ limit) }
-    requires composites { depth.composites ≤ 33 }
+    requires composites { depth.reach.composites ≤ 33 }
     requires level { deepest depth slot.now.shape.array ≤ 1000 }
     ensures ok { IfOk result (λ end. (to : ℕ) (v : Value) → IsNode chunk.now.classes chunk.now.bytes (node_at slot.now.shape at to) v → to ≤ limit
-        → (end ≡ to) × (out.new ≡ out.old ++ shown chunk.now.classes (referred chunk.now depth.references) depth.level v)) }
+        → (end ≡ to) × (out.new ≡ out.old ++ shown chunk.now.classes (referred chunk.now depth.reach.references) depth.level v)) }
 {
     match slot.form {
         Form::Integer => {
@@ -100,13 +100,13 @@ fn show_fields(
 ) -> Result<usize, NoMemory>
     requires within { limit ≤ length chunk.now.bytes }
     requires placed { place < length chunk.now.classes }
-    requires inner { 1 ≤ depth.composites }
-    requires room { AllByRecursion (Room chunk.now.classes (depth.composites - 1)) (field_shapes chunk.now.classes place) }
+    requires inner { 1 ≤ depth.reach.composites }
+    requires room { AllByRecursion (Room chunk.now.classes (depth.reach.composites - 1)) (field_shapes chunk.now.classes place) }
     requires stand { (to : ℕ) × (vs : Values) × IsRow chunk.now.classes chunk.now.bytes at to (field_shapes chunk.now.classes place) vs × (to ≤ limit) }
-    requires composites { depth.composites ≤ 33 }
+    requires composites { depth.reach.composites ≤ 33 }
     requires level { deepest depth false ≤ 1000 }
     ensures ok { IfOk result (λ end. (to : ℕ) (vs : Values) (class : Class) → IsRow chunk.now.classes chunk.now.bytes at to (field_shapes chunk.now.classes place) vs → to ≤ limit
-        → slice_get chunk.now.classes place ≡ Some class → (end ≡ to) × (out.new ≡ out.old ++ fields_shown depth.level class (shown_all chunk.now.classes (referred chunk.now depth.references) (depth.level + 1) vs))) }
+        → slice_get chunk.now.classes place ≡ Some class → (end ≡ to) × (out.new ≡ out.old ++ fields_shown depth.level class (shown_all chunk.now.classes (referred chunk.now depth.reach.references) (depth.level + 1) vs))) }
 {
     let classes = chunk.classes();
     let info = classes.class_at(place);
@@ -141,12 +141,12 @@ fn show_items(
     requires within { limit ≤ length chunk.now.bytes }
     requires array { slot.now.shape.array ≡ true }
     requires slot { IsSlotIfKnown chunk.now.classes slot.now }
-    requires room { Room chunk.now.classes depth.composites slot.now.shape }
+    requires room { Room chunk.now.classes depth.reach.composites slot.now.shape }
     requires stands { (to : ℕ) × EndsAt chunk.now.classes chunk.now.bytes slot.now.shape at to × (to ≤ limit) }
-    requires composites { depth.composites ≤ 33 }
+    requires composites { depth.reach.composites ≤ 33 }
     requires level { deepest depth true ≤ 1000 }
     ensures ok { IfOk result (λ end. (to : ℕ) (v : Value) → IsNode chunk.now.classes chunk.now.bytes (node_at slot.now.shape at to) v → to ≤ limit
-        → (end ≡ to) × (out.new ≡ out.old ++ shown chunk.now.classes (referred chunk.now depth.references) depth.level v)) }
+        → (end ≡ to) × (out.new ≡ out.old ++ shown chunk.now.classes (referred chunk.now depth.reach.references) depth.level v)) }
 {
     let count = integer_at(chunk, at, limit);
     out.push_ascii("[\n")?;
@@ -172,13 +172,13 @@ fn show_reference(
     depth: Depth,
     out: &mut TextBuilder,
 ) -> Result<(), NoMemory>
-    requires level { depth.level + 100 * depth.references ≤ 1000 }
-    ensures ok { OnOk result (out.new ≡ out.old ++ referred chunk.now depth.references depth.level (class, key)) }
+    requires level { depth.level + 100 * depth.reach.references ≤ 1000 }
+    ensures ok { OnOk result (out.new ≡ out.old ++ referred chunk.now depth.reach.references depth.level (class, key)) }
 {
     let Some(node) = constant(chunk, class, key) else {
         return show_missing(chunk, class, key, out);
     };
-    if depth.references == 0 {
+    if depth.reach.references == 0 {
         return show_name(chunk, class, key, out);
     }
     show_node(chunk, &node, depth.of_constant(), out)

@@ -37,14 +37,14 @@ show_fields-show_value-requires t c =
     let slot = get_or c.slots-slot-items.result.now c.loop-slot.slot-index no_slot in
     let f = field_of c.args.chunk.now.classes c.args.place c.loop-slot.slot-index c.slots-slot-items.result.now c.requires.placed slots c.loop-slot-test.true in
     let x = field_next c.args.chunk.now.classes c.args.place c.loop-slot.slot-index f.field slot.shape f.there f.shape in
-    let references : c.of_fields-inner.result.references ≡ c.args.depth.references = ap (λ (z : Depth). z.references) c.of_fields-inner.ensures in
-    let composites : c.of_fields-inner.result.composites ≡ c.args.depth.composites - 1 = ap (λ (z : Depth). z.composites) c.of_fields-inner.ensures in
+    let references : c.of_fields-inner.result.reach.references ≡ c.args.depth.reach.references = ap (λ (z : Depth). z.reach.references) c.of_fields-inner.ensures in
+    let composites : c.of_fields-inner.result.reach.composites ≡ c.args.depth.reach.composites - 1 = ap (λ (z : Depth). z.reach.composites) c.of_fields-inner.ensures in
     let deeper : c.of_fields-inner.result.level ≡ c.args.depth.level + 1 = ap (λ (z : Depth). z.level) c.of_fields-inner.ensures in
     let r = c.requires.stand in
     let h = left_there c.args.chunk.now.classes c.args.chunk.now.bytes r.0 _ _ slot.shape _ _ c.loop-slot.to c.loop-slot.out (c.loop-slot.invariant.left r.0 r.1 c.class_at-info.result.now r.2 r.3 there) x in
     let stands : (to : ℕ) × EndsAt c.args.chunk.now.classes c.args.chunk.now.bytes slot.shape c.loop-slot.to to × (to ≤ c.args.limit) = (let w = h.within in let l = r.3 in (h.place, (h.value, h.node), omega arith)) in
     let known : IsSlotIfKnown c.args.chunk.now.classes slot = (let s = f.of_class in record { form = s.form; of_class = λ o h. s }) in
-    let room : Room c.args.chunk.now.classes c.of_fields-inner.result.composites slot.shape = subst (λ z. Room c.args.chunk.now.classes z slot.shape) (sym composites) (room_first (Room c.args.chunk.now.classes (c.args.depth.composites - 1)) (field_shapes c.args.chunk.now.classes c.args.place) c.loop-slot.slot-index slot.shape _ c.requires.room x) in
+    let room : Room c.args.chunk.now.classes c.of_fields-inner.result.reach.composites slot.shape = subst (λ z. Room c.args.chunk.now.classes z slot.shape) (sym composites) (room_first (Room c.args.chunk.now.classes (c.args.depth.reach.composites - 1)) (field_shapes c.args.chunk.now.classes c.args.place) c.loop-slot.slot-index slot.shape _ c.requires.room x) in
     search (rules, stands, known, room, references, composites, deeper)
 
 pub show_fields-loop-slot-preserved : goal.show_fields-loop-slot-preserved
@@ -63,13 +63,13 @@ show_fields-loop-slot-preserved t c =
           let own : c.class_at-info.result.now ≡ class = (let z : Some c.class_at-info.result.now ≡ Some class = sym there ∙ q in cc) in
           let got : slice_get class.fields c.loop-slot.slot-index ≡ Some c.at.result.now = ap (λ z. slice_get class.fields z) (sym c.loop-slot.invariant.number) ∙ (ap (λ (z : Class). slice_get z.fields c.loop-slot.number) (sym own) ∙ c.at.ensures) in
           let rest = fields_from class.fields c.loop-slot.slot-index c.at.result.now got in
-          left_goes c.args.chunk.now.classes c.args.chunk.now.bytes to _ (onto_fields c.args.chunk.now.classes (referred c.args.chunk.now c.args.depth.references) (c.args.depth.level + 1) (drop c.loop-slot.slot-index class.fields)) (onto_fields c.args.chunk.now.classes (referred c.args.chunk.now c.args.depth.references) (c.args.depth.level + 1) (drop (c.loop-slot.slot-index + 1) class.fields)) slot.shape _ _ c.loop-slot.to c.loop-slot.out c.args.limit c.in_ok-to.to c.push_ascii-in-loop-slot-2.new.self
+          left_goes c.args.chunk.now.classes c.args.chunk.now.bytes to _ (onto_fields c.args.chunk.now.classes (referred c.args.chunk.now c.args.depth.reach.references) (c.args.depth.level + 1) (drop c.loop-slot.slot-index class.fields)) (onto_fields c.args.chunk.now.classes (referred c.args.chunk.now c.args.depth.reach.references) (c.args.depth.level + 1) (drop (c.loop-slot.slot-index + 1) class.fields)) slot.shape _ _ c.loop-slot.to c.loop-slot.out c.args.limit c.in_ok-to.to c.push_ascii-in-loop-slot-2.new.self
           (c.loop-slot.invariant.left to vs class r l q) x l
           (λ p v n m. let h = c.in_ok-to.ensures.ok p v n m in (
             h.0,
-            λ ws. field_line c.args.chunk.now.classes (referred c.args.chunk.now c.args.depth.references) (c.args.depth.level + 1) _ _ c.at.result.now (chars c.as_str-in-loop-slot.result.now) c.loop-slot.out c.push_indent.new.self c.push_str-in-loop-slot.new.self c.push_ascii-in-loop-slot.new.self c.show_value.new.out c.push_ascii-in-loop-slot-2.new.self v ws
+            λ ws. field_line c.args.chunk.now.classes (referred c.args.chunk.now c.args.depth.reach.references) (c.args.depth.level + 1) _ _ c.at.result.now (chars c.as_str-in-loop-slot.result.now) c.loop-slot.out c.push_indent.new.self c.push_str-in-loop-slot.new.self c.push_ascii-in-loop-slot.new.self c.show_value.new.out c.push_ascii-in-loop-slot-2.new.self v ws
                 rest c.as_str-in-loop-slot.ensures (c.in_ok-push_indent.ensures.ok ∙ ap (λ z. c.loop-slot.out ++ indent z) deeper) c.in_ok-push_str-2.ensures.ok c.in_ok-push_ascii-2.ensures.ok
-                (h.1 ∙ ap (λ (z : Depth). c.push_ascii-in-loop-slot.new.self ++ shown c.args.chunk.now.classes (referred c.args.chunk.now z.references) z.level v) deep) c.in_ok-push_ascii-3.ensures.ok,
+                (h.1 ∙ ap (λ (z : Depth). c.push_ascii-in-loop-slot.new.self ++ shown c.args.chunk.now.classes (referred c.args.chunk.now z.reach.references) z.level v) deep) c.in_ok-push_ascii-3.ensures.ok,
           ));
     }
 
@@ -82,9 +82,9 @@ show_fields-returns t c =
       ok = λ to vs class r l q.
           let own : c.class_at-info.result.now ≡ class = (let z : Some c.class_at-info.result.now ≡ Some class = sym there ∙ q in cc) in
           let past = fields_past c.args.chunk.now.classes c.args.place c.loop-slot.slot-index c.requires.placed (few_fields c.args.chunk.now.classes c.args.place c.loop-slot.slot-index c.slots-slot-items.result.now c.requires.placed slots c.loop-slot-test.false) in
-          let e = left_ends c.args.chunk.now.classes c.args.chunk.now.bytes to _ (onto_fields c.args.chunk.now.classes (referred c.args.chunk.now c.args.depth.references) (c.args.depth.level + 1) (drop c.loop-slot.slot-index class.fields)) _ c.loop-slot.to c.loop-slot.out (c.loop-slot.invariant.left to vs class r l q) past (no_fields c.args.chunk.now.classes (referred c.args.chunk.now c.args.depth.references) (c.args.depth.level + 1) (drop c.loop-slot.slot-index class.fields) c.loop-slot.out) in
+          let e = left_ends c.args.chunk.now.classes c.args.chunk.now.bytes to _ (onto_fields c.args.chunk.now.classes (referred c.args.chunk.now c.args.depth.reach.references) (c.args.depth.level + 1) (drop c.loop-slot.slot-index class.fields)) _ c.loop-slot.to c.loop-slot.out (c.loop-slot.invariant.left to vs class r l q) past (no_fields c.args.chunk.now.classes (referred c.args.chunk.now c.args.depth.reach.references) (c.args.depth.level + 1) (drop c.loop-slot.slot-index class.fields) c.loop-slot.out) in
           let name : c.push_str.new.self ≡ c.args.out.now ++ class.name = c.in_ok-push_str.ensures.ok ∙ (ap (λ z. c.args.out.now ++ z) c.as_str.ensures ∙ ap (λ (z : Class). c.args.out.now ++ z.name) own) in
-          (e.0, fields_close c.args.depth.level class (shown_all c.args.chunk.now.classes (referred c.args.chunk.now c.args.depth.references) (c.args.depth.level + 1) vs) c.args.out.now c.push_str.new.self c.push_ascii.new.self c.loop-slot.out c.push_indent-2.new.self c.push_ascii-2.new.self name c.in_ok-push_ascii.ensures.ok e.1 c.in_ok-push_indent-2.ensures.ok c.in_ok-push_ascii-4.ensures.ok);
+          (e.0, fields_close c.args.depth.level class (shown_all c.args.chunk.now.classes (referred c.args.chunk.now c.args.depth.reach.references) (c.args.depth.level + 1) vs) c.args.out.now c.push_str.new.self c.push_ascii.new.self c.loop-slot.out c.push_indent-2.new.self c.push_ascii-2.new.self name c.in_ok-push_ascii.ensures.ok e.1 c.in_ok-push_indent-2.ensures.ok c.in_ok-push_ascii-4.ensures.ok);
     }
 
 pub show_items-integer_at-count-requires-clause-stands : goal.show_items-integer_at-count-requires-clause-stands
@@ -96,15 +96,15 @@ pub show_items-show_value-requires : goal.show_items-show_value-requires
 show_items-show_value-requires t c =
     let flat : c.item_slot-item.result.shape ≡ item_of c.args.slot.now.shape = ap (λ (z : Slot). z.shape) c.item_slot-item.ensures in
     let next = item_next c.integer_at-count.result.value c.items.counter (item_of c.args.slot.now.shape) c.items-test.true in
-    let references : c.of_items-inner.result.references ≡ c.args.depth.references = ap (λ (z : Depth). z.references) c.of_items-inner.ensures in
-    let composites : c.of_items-inner.result.composites ≡ c.args.depth.composites = ap (λ (z : Depth). z.composites) c.of_items-inner.ensures in
+    let references : c.of_items-inner.result.reach.references ≡ c.args.depth.reach.references = ap (λ (z : Depth). z.reach.references) c.of_items-inner.ensures in
+    let composites : c.of_items-inner.result.reach.composites ≡ c.args.depth.reach.composites = ap (λ (z : Depth). z.reach.composites) c.of_items-inner.ensures in
     let deeper : c.of_items-inner.result.level ≡ c.args.depth.level + 1 = ap (λ (z : Depth). z.level) c.of_items-inner.ensures in
     let r = c.requires.stands in
     let f = is_array c.args.chunk.now.classes c.args.chunk.now.bytes c.args.at r.0 c.args.limit c.args.slot.now r.2 c.requires.within c.requires.slot r.1.0 r.1.1 c.requires.array c.integer_at-count.result c.integer_at-count.ensures in
     let h = left_there c.args.chunk.now.classes c.args.chunk.now.bytes r.0 _ _ (item_of c.args.slot.now.shape) _ _ c.items.to c.items.out (c.items.invariant r.0 f.parts f.row r.2) next in
     let stands : (to : ℕ) × EndsAt c.args.chunk.now.classes c.args.chunk.now.bytes c.item_slot-item.result.shape c.items.to to × (to ≤ c.args.limit) = (let w = h.within in let l = r.2 in (h.place, subst (λ (z : Shape). EndsAt c.args.chunk.now.classes c.args.chunk.now.bytes z c.items.to h.place) (sym flat) (h.value, h.node), omega arith)) in
     let known : IsSlotIfKnown c.args.chunk.now.classes c.item_slot-item.result = item_known c.args.chunk.now.classes c.args.slot.now c.item_slot-item.result c.requires.slot c.item_slot-item.ensures in
-    let room : Room c.args.chunk.now.classes c.of_items-inner.result.composites c.item_slot-item.result.shape = subst (λ z. Room c.args.chunk.now.classes z c.item_slot-item.result.shape) (sym composites) (subst (λ (z : Shape). Room c.args.chunk.now.classes c.args.depth.composites z) (sym flat) c.requires.room) in
+    let room : Room c.args.chunk.now.classes c.of_items-inner.result.reach.composites c.item_slot-item.result.shape = subst (λ z. Room c.args.chunk.now.classes z c.item_slot-item.result.shape) (sym composites) (subst (λ (z : Shape). Room c.args.chunk.now.classes c.args.depth.reach.composites z) (sym flat) c.requires.room) in
     let single : c.item_slot-item.result.shape.array ≡ false = ap (λ (z : Shape). z.array) flat in
     search (rules, stands, known, room, single, references, composites, deeper)
 
@@ -114,13 +114,13 @@ show_items-items-preserved t c =
     let next = item_next c.integer_at-count.result.value c.items.counter (item_of c.args.slot.now.shape) c.items-test.true in
     let deeper : c.of_items-inner.result.level ≡ c.args.depth.level + 1 = ap (λ (z : Depth). z.level) c.of_items-inner.ensures in
     λ to vs r l.
-    left_goes c.args.chunk.now.classes c.args.chunk.now.bytes to _ (onto_items c.args.chunk.now.classes (referred c.args.chunk.now c.args.depth.references) (c.args.depth.level + 1)) (onto_items c.args.chunk.now.classes (referred c.args.chunk.now c.args.depth.references) (c.args.depth.level + 1)) (item_of c.args.slot.now.shape) _ _ c.items.to c.items.out c.args.limit c.in_ok-to.to c.push_ascii-in-items.new.self
+    left_goes c.args.chunk.now.classes c.args.chunk.now.bytes to _ (onto_items c.args.chunk.now.classes (referred c.args.chunk.now c.args.depth.reach.references) (c.args.depth.level + 1)) (onto_items c.args.chunk.now.classes (referred c.args.chunk.now c.args.depth.reach.references) (c.args.depth.level + 1)) (item_of c.args.slot.now.shape) _ _ c.items.to c.items.out c.args.limit c.in_ok-to.to c.push_ascii-in-items.new.self
     (c.items.invariant to vs r l) next l
     (λ p v n m. let h = c.in_ok-to.ensures.ok p v (subst (λ (z : Shape). IsNode c.args.chunk.now.classes c.args.chunk.now.bytes (node_at z c.items.to p) v) (sym flat) n) m in (
       h.0,
-      λ ws. item_line c.args.chunk.now.classes (referred c.args.chunk.now c.args.depth.references) (c.args.depth.level + 1) c.items.out c.push_indent.new.self c.show_value.new.out c.push_ascii-in-items.new.self v ws
+      λ ws. item_line c.args.chunk.now.classes (referred c.args.chunk.now c.args.depth.reach.references) (c.args.depth.level + 1) c.items.out c.push_indent.new.self c.show_value.new.out c.push_ascii-in-items.new.self v ws
           (c.in_ok-push_indent.ensures.ok ∙ ap (λ z. c.items.out ++ indent z) deeper)
-          (h.1 ∙ ap (λ (z : Depth). c.push_indent.new.self ++ shown c.args.chunk.now.classes (referred c.args.chunk.now z.references) z.level v) c.of_items-inner.ensures) c.in_ok-push_ascii-2.ensures.ok,
+          (h.1 ∙ ap (λ (z : Depth). c.push_indent.new.self ++ shown c.args.chunk.now.classes (referred c.args.chunk.now z.reach.references) z.level v) c.of_items-inner.ensures) c.in_ok-push_ascii-2.ensures.ok,
     ))
 
 pub show_items-returns : goal.show_items-returns
@@ -128,10 +128,10 @@ show_items-returns t c =
     record {
       ok = λ to v i l.
           let f = is_array c.args.chunk.now.classes c.args.chunk.now.bytes c.args.at to c.args.limit c.args.slot.now l c.requires.within c.requires.slot v i c.requires.array c.integer_at-count.result c.integer_at-count.ensures in
-          let e = left_ends c.args.chunk.now.classes c.args.chunk.now.bytes to _ (onto_items c.args.chunk.now.classes (referred c.args.chunk.now c.args.depth.references) (c.args.depth.level + 1)) _ c.items.to c.items.out (c.items.invariant to f.parts f.row l) (items_past c.integer_at-count.result.value c.items.counter (item_of c.args.slot.now.shape) c.items-test.false) (no_items c.args.chunk.now.classes (referred c.args.chunk.now c.args.depth.references) (c.args.depth.level + 1) c.items.out) in (
+          let e = left_ends c.args.chunk.now.classes c.args.chunk.now.bytes to _ (onto_items c.args.chunk.now.classes (referred c.args.chunk.now c.args.depth.reach.references) (c.args.depth.level + 1)) _ c.items.to c.items.out (c.items.invariant to f.parts f.row l) (items_past c.integer_at-count.result.value c.items.counter (item_of c.args.slot.now.shape) c.items-test.false) (no_items c.args.chunk.now.classes (referred c.args.chunk.now c.args.depth.reach.references) (c.args.depth.level + 1) c.items.out) in (
             e.0,
-            items_close c.args.depth.level (shown_all c.args.chunk.now.classes (referred c.args.chunk.now c.args.depth.references) (c.args.depth.level + 1) f.parts) c.args.out.now c.push_ascii.new.self c.items.out c.push_indent-2.new.self c.push_ascii-2.new.self c.in_ok-push_ascii.ensures.ok e.1 c.in_ok-push_indent-2.ensures.ok c.in_ok-push_ascii-3.ensures.ok
-                ∙ ap (λ z. c.args.out.now ++ z) (sym (array_shown c.args.chunk.now.classes (referred c.args.chunk.now c.args.depth.references) c.args.depth.level c.args.slot.now.shape f.head f.parts v f.value c.requires.array)),
+            items_close c.args.depth.level (shown_all c.args.chunk.now.classes (referred c.args.chunk.now c.args.depth.reach.references) (c.args.depth.level + 1) f.parts) c.args.out.now c.push_ascii.new.self c.items.out c.push_indent-2.new.self c.push_ascii-2.new.self c.in_ok-push_ascii.ensures.ok e.1 c.in_ok-push_indent-2.ensures.ok c.in_ok-push_ascii-3.ensures.ok
+                ∙ ap (λ z. c.args.out.now ++ z) (sym (array_shown c.args.chunk.now.classes (referred c.args.chunk.now c.args.depth.reach.references) c.args.depth.level c.args.slot.now.shape f.head f.parts v f.value c.requires.array)),
           );
     }
 
@@ -144,7 +144,7 @@ show_node-show_value-requires t c =
     let within : c.args.node.now.end ≤ length c.args.chunk.now.bytes = n.within in
     let known : IsSlotIfKnown c.args.chunk.now.classes c.slot_of-slot.result = subst (λ z. IsSlotIfKnown z c.slot_of-slot.result) c.classes.ensures (record { form = c.slot_of-slot.ensures.form; of_class = λ o h. c.slot_of-slot.ensures.known (subst (λ (z : Shape). IsSome (find_class c.classes.result.now z.class)) c.slot_of-slot.ensures.shape h) }) in
     let all : Room c.args.chunk.now.classes 33 c.slot_of-slot.result.shape = λ o d q m. sound_inline c.args.chunk.now.classes c.slot_of-slot.result.shape.class d (subst Sound c.classes.ensures c.slot_of-slot.ensures.sound) q in
-    let room : Room c.args.chunk.now.classes c.args.depth.composites c.slot_of-slot.result.shape = subst (λ z. Room c.args.chunk.now.classes z c.slot_of-slot.result.shape) (sym c.requires.composites) all in
+    let room : Room c.args.chunk.now.classes c.args.depth.reach.composites c.slot_of-slot.result.shape = subst (λ z. Room c.args.chunk.now.classes z c.slot_of-slot.result.shape) (sym c.requires.composites) all in
     let level : deepest c.args.depth c.slot_of-slot.result.shape.array ≤ 1000 = subst (λ (z : Shape). deepest c.args.depth z.array ≤ 1000) (sym c.slot_of-slot.ensures.shape) c.requires.level in
     let composites = c.requires.composites in
     search (rules, stands, within, known, room, level, composites)
@@ -155,25 +155,25 @@ show_node-returns t c =
     let n : IsNode c.args.chunk.now.classes c.args.chunk.now.bytes (node_of c.args.node.now) v.0 = subst (λ z. IsNode c.args.chunk.now.classes z (node_of c.args.node.now) v.0) c.requires.of_chunk v.1 in
     let there : IsNode c.args.chunk.now.classes c.args.chunk.now.bytes (node_at c.slot_of-slot.result.shape c.args.node.now.at c.args.node.now.end) v.0 = subst (λ (z : Shape). IsNode c.args.chunk.now.classes c.args.chunk.now.bytes (node_at z c.args.node.now.at c.args.node.now.end) v.0) (sym c.slot_of-slot.ensures.shape) n in
     let h = c.in_ok-_end.ensures.ok c.args.node.now.end v.0 there (omega arith) in
-    record { ok = h.1 ∙ ap (λ z. c.args.out.now ++ z) (sym (node_is c.args.chunk.now (subst Sound c.classes.ensures c.slot_of-slot.ensures.sound) (referred c.args.chunk.now c.args.depth.references) c.args.depth.level (node_of c.args.node.now) v.0 n)) }
+    record { ok = h.1 ∙ ap (λ z. c.args.out.now ++ z) (sym (node_is c.args.chunk.now (subst Sound c.classes.ensures c.slot_of-slot.ensures.sound) (referred c.args.chunk.now c.args.depth.reach.references) c.args.depth.level (node_of c.args.node.now) v.0 n)) }
 
 pub show_reference-returns-in_default : goal.show_reference-returns-in_default
 show_reference-returns-in_default t c =
     let e = no_entry (in_force c.args.chunk.now.entries (c.args.class, c.args.key)) (ap (option_map node_of) (sym c.in_default.is) ∙ c.constant.ensures.exact) in
-    record { ok = subst (λ z. OnOk c.show_missing.result (c.show_missing.new.out ≡ c.args.out.now ++ z)) (sym (refer_missing c.args.chunk.now c.args.depth.references c.args.depth.level (c.args.class, c.args.key) e)) c.show_missing.ensures.ok }
+    record { ok = subst (λ z. OnOk c.show_missing.result (c.show_missing.new.out ≡ c.args.out.now ++ z)) (sym (refer_missing c.args.chunk.now c.args.depth.reach.references c.args.depth.level (c.args.class, c.args.key) e)) c.show_missing.ensures.ok }
 
 pub show_reference-returns-then-depth-eq0 : goal.show_reference-returns-then-depth-eq0
 show_reference-returns-then-depth-eq0 t c =
     let e = entry_found (in_force c.args.chunk.now.entries (c.args.class, c.args.key)) (node_of c.in-Some.node) (ap (option_map node_of) (sym c.in-Some.is) ∙ c.constant.ensures.exact) in
-    record { ok = subst (λ z. OnOk c.show_name.result (c.show_name.new.out ≡ c.args.out.now ++ z)) (sym (refer_name c.args.chunk.now c.args.depth.references c.args.depth.level (c.args.class, c.args.key) e.entry c.if-depth-eq0.true e.there)) c.show_name.ensures.ok }
+    record { ok = subst (λ z. OnOk c.show_name.result (c.show_name.new.out ≡ c.args.out.now ++ z)) (sym (refer_name c.args.chunk.now c.args.depth.reach.references c.args.depth.level (c.args.class, c.args.key) e.entry c.if-depth-eq0.true e.there)) c.show_name.ensures.ok }
 
 pub show_reference-returns : goal.show_reference-returns
 show_reference-returns t c =
     let e = entry_found (in_force c.args.chunk.now.entries (c.args.class, c.args.key)) (node_of c.in-Some.node) (ap (option_map node_of) (sym c.in-Some.is) ∙ c.constant.ensures.exact) in
-    let deep : suc (c.args.depth.references - 1) ≡ c.args.depth.references = (let z = c.if-depth-eq0.false in omega arith) in
-    let text = ap (λ (z : Depth). node_shown c.args.chunk.now (referred c.args.chunk.now z.references) z.level (node_of c.in-Some.node)) c.of_constant.ensures
-    ∙ (ap (node_shown c.args.chunk.now (referred c.args.chunk.now (c.args.depth.references - 1)) c.args.depth.level) e.node
-    ∙ (sym (refer_value c.args.chunk.now (c.args.depth.references - 1) c.args.depth.level (c.args.class, c.args.key) e.entry e.there) ∙ ap (λ z. referred c.args.chunk.now z c.args.depth.level (c.args.class, c.args.key)) deep)) in
+    let deep : suc (c.args.depth.reach.references - 1) ≡ c.args.depth.reach.references = (let z = c.if-depth-eq0.false in omega arith) in
+    let text = ap (λ (z : Depth). node_shown c.args.chunk.now (referred c.args.chunk.now z.reach.references) z.level (node_of c.in-Some.node)) c.of_constant.ensures
+    ∙ (ap (node_shown c.args.chunk.now (referred c.args.chunk.now (c.args.depth.reach.references - 1)) c.args.depth.level) e.node
+    ∙ (sym (refer_value c.args.chunk.now (c.args.depth.reach.references - 1) c.args.depth.level (c.args.class, c.args.key) e.entry e.there) ∙ ap (λ z. referred c.args.chunk.now z c.args.depth.level (c.args.class, c.args.key)) deep)) in
     record { ok = subst (λ z. OnOk c.show_node.result (c.show_node.new.out ≡ c.args.out.now ++ z)) text c.show_node.ensures.ok }
 
 pub show_value-integer_at-number-requires-clause-stands : goal.show_value-integer_at-number-requires-clause-stands
@@ -198,8 +198,8 @@ show_value-show_fields-requires t c =
     let e = fields_kind c.args.slot.now.kind m.form in
     let d = inline_slot c.args.chunk.now.classes c.args.chunk.now.bytes c.args.at r.0 c.args.limit c.args.slot.now r.2 c.requires.within c.requires.slot r.1.0 r.1.1 forms.Fields c.in-Fields.is tt in
     let f = is_composite c.args.chunk.now.classes c.args.chunk.now.bytes c.args.at r.0 c.args.limit c.args.slot.now r.2 c.requires.within c.requires.slot r.1.0 r.1.1 c.in-Fields.is in
-    let room : AllByRecursion (Room c.args.chunk.now.classes (c.args.depth.composites - 1)) (field_shapes c.args.chunk.now.classes c.args.slot.now.place) = room_within c.args.chunk.now.classes c.args.chunk.now.bytes c.args.at r.0 c.args.limit c.args.slot.now.shape r.2 c.requires.within c.args.slot.now.place c.args.slot.now.kind c.args.depth.composites d e m.constant c.requires.room in
-    let inner : 1 ≤ c.args.depth.composites = (inner_room c.args.chunk.now.classes c.args.depth.composites c.args.slot.now.shape d.class c.requires.room m.constant d.found (sym d.kind_is ∙ e)).0 in
+    let room : AllByRecursion (Room c.args.chunk.now.classes (c.args.depth.reach.composites - 1)) (field_shapes c.args.chunk.now.classes c.args.slot.now.place) = room_within c.args.chunk.now.classes c.args.chunk.now.bytes c.args.at r.0 c.args.limit c.args.slot.now.shape r.2 c.requires.within c.args.slot.now.place c.args.slot.now.kind c.args.depth.reach.composites d e m.constant c.requires.room in
+    let inner : 1 ≤ c.args.depth.reach.composites = (inner_room c.args.chunk.now.classes c.args.depth.reach.composites c.args.slot.now.shape d.class c.requires.room m.constant d.found (sym d.kind_is ∙ e)).0 in
     let within : c.args.slot.now.place < length c.args.chunk.now.classes = d.within in
     let stand : (to : ℕ) × (vs : Values) × IsRow c.args.chunk.now.classes c.args.chunk.now.bytes c.args.at to (field_shapes c.args.chunk.now.classes c.args.slot.now.place) vs × (to ≤ c.args.limit) = (r.0, f.parts, f.row, r.2) in
     let flat = m.array in
@@ -207,24 +207,24 @@ show_value-show_fields-requires t c =
 
 pub show_value-returns-in_ok-show_integer-in-Integer : goal.show_value-returns-in_ok-show_integer-in-Integer
 show_value-returns-in_ok-show_integer-in-Integer t c =
-    record { ok = λ to v i l. integer_shown c.args.chunk.now.classes (referred c.args.chunk.now c.args.depth.references) c.args.depth.level c.args.chunk.now.bytes c.args.at to c.args.limit c.args.slot.now l c.requires.within c.requires.slot v i c.args.out.now c.show_integer.new.out c.in-Integer.is c.integer_at-number.result c.integer_at-number.ensures c.in_ok-show_integer-in-Integer.ensures.ok }
+    record { ok = λ to v i l. integer_shown c.args.chunk.now.classes (referred c.args.chunk.now c.args.depth.reach.references) c.args.depth.level c.args.chunk.now.bytes c.args.at to c.args.limit c.args.slot.now l c.requires.within c.requires.slot v i c.args.out.now c.show_integer.new.out c.in-Integer.is c.integer_at-number.result c.integer_at-number.ensures c.in_ok-show_integer-in-Integer.ensures.ok }
 
 pub show_value-returns-in_ok-show_raw-in-Raw : goal.show_value-returns-in_ok-show_raw-in-Raw
 show_value-returns-in_ok-show_raw-in-Raw t c =
     let count : c.from.result ≡ c.in-Raw.count = omega arith in
-    record { ok = λ to v i l. raw_shown c.args.chunk.now.classes (referred c.args.chunk.now c.args.depth.references) c.args.depth.level c.args.chunk.now.bytes c.args.at to c.args.limit c.args.slot.now l c.requires.within c.requires.slot v i c.args.out.now c.show_raw.new.out c.from.result (c.in-Raw.is ∙ ap (λ z. forms.Raw z) (sym count)) c.bytes_at-bytes.result.now c.bytes_at-bytes.ensures c.in_ok-show_raw-in-Raw.ensures.ok }
+    record { ok = λ to v i l. raw_shown c.args.chunk.now.classes (referred c.args.chunk.now c.args.depth.reach.references) c.args.depth.level c.args.chunk.now.bytes c.args.at to c.args.limit c.args.slot.now l c.requires.within c.requires.slot v i c.args.out.now c.show_raw.new.out c.from.result (c.in-Raw.is ∙ ap (λ z. forms.Raw z) (sym count)) c.bytes_at-bytes.result.now c.bytes_at-bytes.ensures c.in_ok-show_raw-in-Raw.ensures.ok }
 
 pub show_value-returns-in_ok-show_reference-in-Key : goal.show_value-returns-in_ok-show_reference-in-Key
 show_value-returns-in_ok-show_reference-in-Key t c =
-    record { ok = λ to v i l. reference_shown c.args.chunk.now.classes (referred c.args.chunk.now c.args.depth.references) c.args.depth.level c.args.chunk.now.bytes c.args.at to c.args.limit c.args.slot.now l c.requires.within c.requires.slot v i c.args.out.now c.show_reference.new.out c.in-Key.is c.integer_at-key.result c.integer_at-key.ensures c.in_ok-show_reference-in-Key.ensures.ok }
+    record { ok = λ to v i l. reference_shown c.args.chunk.now.classes (referred c.args.chunk.now c.args.depth.reach.references) c.args.depth.level c.args.chunk.now.bytes c.args.at to c.args.limit c.args.slot.now l c.requires.within c.requires.slot v i c.args.out.now c.show_reference.new.out c.in-Key.is c.integer_at-key.result c.integer_at-key.ensures c.in_ok-show_reference-in-Key.ensures.ok }
 
 pub show_value-returns-in_ok-show_reference-in-Key-kind : goal.show_value-returns-in_ok-show_reference-in-Key-kind
 show_value-returns-in_ok-show_reference-in-Key-kind t c =
-    record { ok = λ to v i l. key_shown c.args.chunk.now.classes (referred c.args.chunk.now c.args.depth.references) c.args.depth.level c.args.chunk.now.bytes c.args.at to c.args.limit c.args.slot.now l c.requires.within c.requires.slot v i c.args.out.now c.show_reference-in-Key-kind.new.out c.in-Text.is c.string_at-string.result c.string_at-string.ensures c.in-Key-kind.is c.in_ok-show_reference-in-Key-kind.ensures.ok }
+    record { ok = λ to v i l. key_shown c.args.chunk.now.classes (referred c.args.chunk.now c.args.depth.reach.references) c.args.depth.level c.args.chunk.now.bytes c.args.at to c.args.limit c.args.slot.now l c.requires.within c.requires.slot v i c.args.out.now c.show_reference-in-Key-kind.new.out c.in-Text.is c.string_at-string.result c.string_at-string.ensures c.in-Key-kind.is c.in_ok-show_reference-in-Key-kind.ensures.ok }
 
 pub show_value-returns-in_ok-show_string-in_default : goal.show_value-returns-in_ok-show_string-in_default
 show_value-returns-in_ok-show_string-in_default t c =
-    record { ok = λ to v i l. string_shown c.args.chunk.now.classes (referred c.args.chunk.now c.args.depth.references) c.args.depth.level c.args.chunk.now.bytes c.args.at to c.args.limit c.args.slot.now l c.requires.within c.requires.slot v i c.args.out.now c.show_string.new.out c.in-Text.is c.string_at-string.result c.string_at-string.ensures c.in_default.not-Key c.in_ok-show_string-in_default.ensures.ok }
+    record { ok = λ to v i l. string_shown c.args.chunk.now.classes (referred c.args.chunk.now c.args.depth.reach.references) c.args.depth.level c.args.chunk.now.bytes c.args.at to c.args.limit c.args.slot.now l c.requires.within c.requires.slot v i c.args.out.now c.show_string.new.out c.in-Text.is c.string_at-string.result c.string_at-string.ensures c.in_default.not-Key c.in_ok-show_string-in_default.ensures.ok }
 
 pub show_value-returns-in-Fields : goal.show_value-returns-in-Fields
 show_value-returns-in-Fields t c =
@@ -232,5 +232,5 @@ show_value-returns-in-Fields t c =
       ok = by_answer c.show_fields.result c.show_fields.ensures.ok (λ end h to v i l.
           let f = is_composite c.args.chunk.now.classes c.args.chunk.now.bytes c.args.at to c.args.limit c.args.slot.now l c.requires.within c.requires.slot v i c.in-Fields.is in
           let e = h to f.parts f.class f.row l f.there in
-          (e.0, e.1 ∙ ap (λ z. c.args.out.now ++ z) (sym (composite_shown c.args.chunk.now.classes (referred c.args.chunk.now c.args.depth.references) c.args.depth.level c.args.slot.now.shape [] f.parts v f.class f.value f.array f.found))));
+          (e.0, e.1 ∙ ap (λ z. c.args.out.now ++ z) (sym (composite_shown c.args.chunk.now.classes (referred c.args.chunk.now c.args.depth.reach.references) c.args.depth.level c.args.slot.now.shape [] f.parts v f.class f.value f.array f.found))));
     }
