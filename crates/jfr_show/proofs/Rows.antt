@@ -36,7 +36,7 @@ event_row : shown classes (λ level target. reference_shown classes target) 0 ev
 unfolding digits
 event_row = refl
 
--- The same, one level deeper and with no entry for the node.
+-- One level deeper, and with no entry for the node.
 deeper_row : shown classes (λ level target. missing_shown classes target) 1 event ≡ codes "t.A {\n    n = 300\n    node = t.Node#1 (missing)\n  }"
 unfolding digits
 deeper_row = refl
