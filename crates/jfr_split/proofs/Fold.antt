@@ -1,5 +1,6 @@
 -- Parts, chunk by chunk.
 use Rattle.std.proofs.Common.{◌≡◌, ℕ, refl, sym, ◌∙◌, ap, Bool, true, false, List, [], ◌∷◌, ◌++◌}
+use Rattle.std.specs.List.{flat_map}
 use Rattle.jfr_split.specs.Parts.{SplitRule, Part, no_part, begins, part_with, part_after, part_of}
 
 after_snoc : (rule : SplitRule) (p : Part) (cs : List (List ℕ)) (c : List ℕ) → part_after rule p (cs ++ c ∷ []) ≡ part_with rule (part_after rule p cs) c
@@ -10,6 +11,11 @@ after_snoc rule p (d ∷ cs) c = after_snoc rule (part_with rule p d) cs c
 pub of_snoc : (rule : SplitRule) (cs : List (List ℕ)) (c : List ℕ) → part_of rule (cs ++ c ∷ []) ≡ part_with rule (part_of rule cs) c
 unfolding part_of
 of_snoc rule cs c = after_snoc rule no_part cs c
+
+-- the last part of all chunks, and of none
+pub of_all : (rule : SplitRule) (cs : List (List ℕ)) → part_of rule cs ≡ part_after rule no_part cs
+unfolding part_of
+of_all rule cs = refl
 
 pub of_none : (rule : SplitRule) → part_of rule [] ≡ no_part
 unfolding part_of
@@ -34,8 +40,7 @@ groups rule cs = (groups_after rule no_part cs).later
 
 -- groups, one behind another
 abbrev pub flat : List (List (List ℕ)) → List (List ℕ)
-flat [] = []
-flat (g ∷ gs) = g ++ flat gs
+flat gs = flat_map (λ g. g) gs
 
 grouped_flat : (b : Bool) (c : List ℕ) (g : Groups) → (grouped b c g).here ++ flat (grouped b c g).later ≡ c ∷ (g.here ++ flat g.later)
 grouped_flat true c g = refl

@@ -5,6 +5,7 @@ mod Creating
 mod Ending
 mod Filling
 mod Fold
+mod Grouped
 mod Halting
 mod Joined
 mod Leaving

@@ -41,7 +41,7 @@ never_by : (rule : SplitRule) (name : ℕ → List ℕ) (b : Bool) (p : Part) (c
 never_by rule name true p c e = never_new (nat_le rule.max_parts p.number) (closing p ++ Create (name (p.number + 1)) ∷ Append c ∷ []) e
 never_by rule name false p c e = cc
 
-never : (rule : SplitRule) (name : ℕ → List ℕ) → NeverFine (splitting_as rule name)
+pub never : (rule : SplitRule) (name : ℕ → List ℕ) → NeverFine (splitting_as rule name)
 never rule name before c e = never_by rule name (begins rule (part_of rule before) c) (part_of rule before) c e
 
 same_end : (a b : End) → ◌≡◌ {A = Option End} (Some a) (Some b) → a ≡ b

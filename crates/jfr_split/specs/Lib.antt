@@ -4,3 +4,4 @@ pub mod Splits
 pub mod Joins
 pub mod Clauses
 pub mod Laws
+pub mod Groups
