@@ -13,8 +13,7 @@ ghost use Rattle.jfr_split.specs.Groups.{AreWritten};
 pub fn parts_are_written(file: &[u8], recording: &[u8])
     ensures { (rule : SplitRule) → (split_plan rule file.now recording.now).end ≡ Some Fine
         → AreWritten rule file.now recording.now }
-{
-}
+{}
 
 /// A recording comes back: where it was cut into parts to the end, in a folder that had no file to be
 /// joined before, joining the folder's files gives an output with the recording's bytes.
