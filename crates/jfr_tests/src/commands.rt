@@ -212,14 +212,14 @@ fn faults_of_streams_are_told(rt: HostRuntime) -> Result<(), Fail> {
     out.fail(1, 3)?;
     let print = words(alloc, &["print", "rings.jfr"])?;
     assert_eq!(&rt; run(alloc, &print, &mut place, &mut out, &mut err), 4);
-    assert_eq!(&rt; out.bytes(), b"t.A");
-    assert_eq!(&rt; err.bytes(), b"write fault\n");
+    assert_eq!(&rt; out.bytes(), b"t.A".as_slice());
+    assert_eq!(&rt; err.bytes(), b"write fault\n".as_slice());
 
     place.put("a.jfr", &[])?;
     let mut err = MemorySink::new(alloc);
     err.fail(1, 5)?;
     let scrub = words(alloc, &["scrub", "a.jfr", "b.jfr"])?;
     assert_eq!(&rt; run(alloc, &scrub, &mut place, &mut out, &mut err), 2);
-    assert_eq!(&rt; err.bytes(), b"chunk");
+    assert_eq!(&rt; err.bytes(), b"chunk".as_slice());
     Ok(())
 }
