@@ -1,7 +1,7 @@
 -- Options that take the next word.
-use Rattle.std.specs.Prelude.{◌≡◌, ℕ, List, [], ◌∷◌, drop, Option, None, Some, option_and_then, slice_get}
+use Rattle.std.specs.Prelude.{◌≡◌, ℕ, List, [], ◌∷◌, drop, Option, Some, option_and_then, slice_get}
 use Rattle.std.specs.Option.{option_map_or}
-use Rattle.std.proofs.Common.{ap, refl, sym, ◌∙◌}
+use Rattle.std.proofs.Common.{ap, sym, ◌∙◌}
 
 -- how a command's words are read, from what is given so far
 pub record Reads {G O X : Type 0} (from : G → List (List ℕ) → Option X) (option : List ℕ → Option O) (given : O → List ℕ → G → Option G) (named : G → List (List ℕ) → Option X) : Type 0 where
@@ -16,8 +16,8 @@ option_taken {G = G} from option given named reads g h o next (word ∷ second �
     let s : second ≡ next = cc in
     let r : others ≡ rest = cc in
     sym
-        (reads.on g word second others
-        ∙ ap (λ z. option_map_or (λ p. option_and_then (λ k. from k others) (given p second g)) z (named g (word ∷ second ∷ others))) (sym e)
-        ∙ ap (λ z. option_and_then (λ k. from k others) (given o z g)) s
-        ∙ ap (λ z. option_and_then (λ k. from k others) z) f
-        ∙ ap (from h) r)
+    (reads.on g word second others
+    ∙ ap (λ z. option_map_or (λ p. option_and_then (λ k. from k others) (given p second g)) z (named g (word ∷ second ∷ others))) (sym e)
+    ∙ ap (λ z. option_and_then (λ k. from k others) (given o z g)) s
+    ∙ ap (λ z. option_and_then (λ k. from k others) z) f
+    ∙ ap (from h) r)

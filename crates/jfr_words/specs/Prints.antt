@@ -1,5 +1,5 @@
 -- The words after `print`.
-use Rattle.std.specs.Prelude.{ℕ, true, false, List, [], ◌∷◌, Option, None, Some, option_map, option_and_then, unwrap_or, if◌then◌else◌, codes}
+use Rattle.std.specs.Prelude.{ℕ, true, false, List, ◌∷◌, Option, None, Some, option_map, option_and_then, unwrap_or, if◌then◌else◌, codes}
 use Rattle.std.specs.Option.{is_some, option_map_or}
 use Rattle.std.specs.Str.{bytes_eq}
 use Rattle.jfr_filter.specs.declared.side.Side.TheVariants.{IncludeEvents, IncludeCategories}

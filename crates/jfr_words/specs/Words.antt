@@ -5,7 +5,7 @@ use Rattle.std.specs.Str.{bytes_eq}
 use Rattle.jfr_filter.specs.Filters.{nothing_given}
 use Rattle.jfr_split.specs.Parts.{IsUsable}
 use Rattle.jfr_words.specs.declared.order.Order.{Order}
-use Rattle.jfr_words.specs.declared.order.Order.TheVariants.{Print, Summary, Metadata, Scrub, Disassemble, Assemble, Sample}
+use Rattle.jfr_words.specs.declared.order.Order.TheVariants.{Print, Summary, Metadata, Disassemble, Assemble, Sample}
 use Rattle.jfr_words.specs.declared.order.WordsFault.{WordsFault}
 use Rattle.jfr_words.specs.declared.order.WordsFault.TheVariants.{Usage, Memory}
 use Rattle.jfr_words.specs.Names.{only_name, two_names}

@@ -1,5 +1,5 @@
 // The words after `print`.
-ghost use Rattle.std.specs.Prelude.{◌≡◌, ◌∷◌, ℕ, List, Some, OnSome, IfNone, option_and_then, slice_get, drop};
+ghost use Rattle.std.specs.Prelude.{◌≡◌, ◌≤◌, ◌∷◌, ℕ, List, length, Some, OnOk, OnSome, IfNone, option_and_then, slice_get, drop};
 ghost use Rattle.std.specs.Str.{chars};
 ghost use Rattle.jfr_words.specs.Prints.{no_print_option, print_option_of, print_from, print_with};
 ghost use Rattle.jfr_words.specs.Words.{IsRead, StillGives};
@@ -68,7 +68,8 @@ impl PrintGiven {
 
     /// Gives an option, with the first word that is left as its value, unless it is `--json`.
     fn give(&mut self, option: PrintOption, left: &mut Left<'_>) -> Result<(), WordsFault>
-        ensures { (word : List ℕ) → print_option_of word ≡ Some option → StillGives (print_from self.old (word ∷ left.old)) (print_from self.new left.new) result }
+        ensures given { (word : List ℕ) → print_option_of word ≡ Some option → StillGives (print_from self.old (word ∷ left.old)) (print_from self.new left.new) result }
+        ensures fewer { OnOk result (length left.new ≤ length left.old) }
     {
         match option {
             PrintOption::Patterns(side) => give_patterns(&mut self.filter, side, left.next_word()?),

@@ -1,4 +1,4 @@
-use Rattle.std.proofs.Common.{refl, sym, ◌∙◌}
+use Rattle.std.proofs.Common.{refl, ◌∙◌}
 use Rattle.jfr_words.specs.Patterns.{given_with}
 use Rattle.jfr_words.specs.Scrubs.{side_of, scrub_named, scrub_from}
 use Rattle.jfr_words.proofs.OptionLaws.{option_taken}

@@ -1,4 +1,4 @@
-use Rattle.std.proofs.Common.{refl, sym, ◌∙◌}
+use Rattle.std.proofs.Common.{refl, ◌∙◌}
 use Rattle.jfr_words.specs.Splits.{split_option_of, split_with, split_named, split_from}
 use Rattle.jfr_words.proofs.OptionLaws.{option_taken}
 use Rattle.jfr_words.proofs.split.read_split.Goals as goal
