@@ -1,10 +1,30 @@
 // Real files: what no clause can say of a name.
 use crate::file_place::FilePlace;
 use jfr_outside::Place;
+use std::alloc::Global;
 use std::fs;
+use std::process::Abort;
 use std::test::Fail;
 
 const NAME: &str = "jfr_file_place_test";
+
+const FOLDER: &str = "jfr_file_place_folder";
+
+// What a run that was stopped may have left.
+fn clear(rt: &HostRuntime) {
+    let _ = fs::remove_dir_all(rt, FOLDER);
+}
+
+// The name of the one file in a folder.
+fn one_name<P: Place>(rt: &impl Abort, place: &mut P, alloc: Global, name: &str) {
+    match place.list(alloc, FOLDER) {
+        Ok(found) => {
+            assert_eq!(rt; found.len(), 1);
+            assert_eq!(rt; found.get(0), Some(name));
+        }
+        Err(_) => assert!(rt; false),
+    }
+}
 
 #[test]
 fn what_is_written_is_read_back(rt: HostRuntime) -> Result<(), Fail> {
@@ -36,5 +56,20 @@ fn what_is_written_is_read_back(rt: HostRuntime) -> Result<(), Fail> {
     place.shut_input();
     assert!(rt; place.read(&mut front).is_err());
     fs::remove_file(&rt, NAME)?;
+    Ok(())
+}
+
+#[test]
+fn a_folder_names_its_files(rt: HostRuntime) -> Result<(), Fail> {
+    let alloc = rt.alloc();
+    clear(&rt);
+    let mut place = FilePlace::new(&rt, alloc);
+    assert!(rt; place.list(alloc, FOLDER).is_err());
+    fs::create_dir(&rt, FOLDER)?;
+    fs::create_dir(&rt, "jfr_file_place_folder/deeper")?;
+    assert!(rt; place.create_output("jfr_file_place_folder/a.jfr").is_ok());
+    assert!(rt; place.finish_output().is_ok());
+    one_name(&rt, &mut place, alloc, "a.jfr");
+    clear(&rt);
     Ok(())
 }
