@@ -1,21 +1,24 @@
 // Real files: what no clause can say of a name.
 use crate::file_place::FilePlace;
-use jfr_outside::Place;
+use jfr_outside::{Fault, Place};
 use std::alloc::Global;
-use std::fs;
 use std::process::Abort;
 use std::test::Fail;
+use std::{fs, io};
 
 const NAME: &str = "jfr_file_place_test";
 
 const FOLDER: &str = "jfr_file_place_folder";
 
-// What a run that was stopped may have left.
-fn clear(rt: &HostRuntime) {
+// Makes the folder anew, with one file and one folder in it.
+fn make_folder(rt: &HostRuntime) -> io::Result<()> {
     let _ = fs::remove_dir_all(rt, FOLDER);
+    fs::create_dir(rt, FOLDER)?;
+    fs::create_dir(rt, "jfr_file_place_folder/deeper")?;
+    fs::write(rt, "jfr_file_place_folder/a.jfr", b"a")
 }
 
-// The name of the one file in a folder.
+// The names in a folder: this one alone.
 fn one_name<P: Place>(rt: &impl Abort, place: &mut P, alloc: Global, name: &str) {
     match place.list(alloc, FOLDER) {
         Ok(found) => {
@@ -23,6 +26,14 @@ fn one_name<P: Place>(rt: &impl Abort, place: &mut P, alloc: Global, name: &str)
             assert_eq!(rt; found.get(0), Some(name));
         }
         Err(_) => assert!(rt; false),
+    }
+}
+
+// There is no such folder.
+fn no_names<P: Place>(rt: &impl Abort, place: &mut P, alloc: Global) {
+    match place.list(alloc, FOLDER) {
+        Ok(_) => assert!(rt; false),
+        Err(fault) => assert_eq!(rt; fault, Fault::Failed),
     }
 }
 
@@ -62,14 +73,10 @@ fn what_is_written_is_read_back(rt: HostRuntime) -> Result<(), Fail> {
 #[test]
 fn a_folder_names_its_files(rt: HostRuntime) -> Result<(), Fail> {
     let alloc = rt.alloc();
-    clear(&rt);
     let mut place = FilePlace::new(&rt, alloc);
-    assert!(rt; place.list(alloc, FOLDER).is_err());
-    fs::create_dir(&rt, FOLDER)?;
-    fs::create_dir(&rt, "jfr_file_place_folder/deeper")?;
-    assert!(rt; place.create_output("jfr_file_place_folder/a.jfr").is_ok());
-    assert!(rt; place.finish_output().is_ok());
+    make_folder(&rt)?;
     one_name(&rt, &mut place, alloc, "a.jfr");
-    clear(&rt);
+    fs::remove_dir_all(&rt, FOLDER)?;
+    no_names(&rt, &mut place, alloc);
     Ok(())
 }
