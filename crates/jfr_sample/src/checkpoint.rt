@@ -1,5 +1,5 @@
 // The checkpoint, with an entry for each key.
-ghost use Rattle.std.specs.Prelude.{◌≡◌, ◌≤◌, ◌<◌, ◌^◌, ◌++◌, length, IfOk, OnOk};
+ghost use Rattle.std.specs.Prelude.{◌≡◌, ◌≤◌, ◌<◌, ◌*◌, ◌^◌, ◌++◌, length, IfOk, OnOk};
 ghost use Rattle.jfr_sample.specs.Sample.{checkpoint, entries_to, entry, next_of};
 
 use crate::spelled::{push_size, push_string, push_var};
@@ -32,7 +32,8 @@ pub fn push_checkpoint(into: &mut Vec<u8>, events: u32, entries: &[u8]) -> Resul
 /// The entries of the keys from 1 to a last one.
 pub fn entries_of(alloc: Global, last: u32) -> Result<Vec<u8>, NoMemory>
     requires { last ≤ 1000000 }
-    ensures { IfOk result (λ entries. entries.items ≡ entries_to last) }
+    ensures exact { IfOk result (λ entries. entries.items ≡ entries_to last) }
+    ensures short { IfOk result (λ entries. length entries.items ≤ 15 * last) }
 {
     let mut entries = Vec::with_capacity(alloc, ENTRY_LEN * last as usize)?;
     let mut digits = Buffer::new();

@@ -2,7 +2,7 @@
 ghost use Rattle.std.specs.Prelude.{◌≡◌, ◌++◌, OnOk};
 ghost use Rattle.jfr_sample.specs.Metadata.{metadata};
 
-use crate::spelled::push_string;
+use crate::spelled::push_strings;
 use jfr_outside::NoMemory;
 
 /// The size 257, type 0, start 0, duration 0, id 1, and 24 texts.
@@ -33,13 +33,12 @@ const ELEMENTS: [u8; 86] = [
 ];
 
 /// Adds the record.
+#[tactic(auto, unfolding(crate::specs::Metadata::metadata))]
 pub fn push_metadata(into: &mut Vec<u8>) -> Result<(), NoMemory>
     ensures { OnOk result (into.new.items ≡ into.old.items ++ metadata) }
 {
     into.extend_from_slice(&FRONT)?;
-    for text in &TEXTS {
-        push_string(into, text)?;
-    }
+    push_strings(into, &TEXTS)?;
     into.extend_from_slice(&ELEMENTS)?;
     Ok(())
 }

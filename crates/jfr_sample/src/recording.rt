@@ -1,5 +1,5 @@
 // The sample, put together.
-ghost use Rattle.std.specs.Prelude.{◌≡◌, ◌≤◌, ◌++◌, length, drop, IfOk};
+ghost use Rattle.std.specs.Prelude.{◌≡◌, ◌≤◌, ◌<◌, ◌+◌, ◌*◌, ◌^◌, ◌++◌, length, drop, IfOk};
 ghost use Rattle.jfr_header.specs.Fronts.{Whole};
 ghost use Rattle.jfr_header.specs.Headers.{header_bytes};
 ghost use Rattle.jfr_sample.specs.Sample.{sample_of, sample_header};
@@ -21,6 +21,7 @@ pub fn sample(alloc: Global, seed: u32, events: u32) -> Result<Vec<u8>, NoMemory
     requires most { events ≤ 1000000 }
     ensures exact { IfOk result (λ bytes. bytes.items ≡ sample_of seed events) }
     ensures whole { IfOk result (λ bytes. Whole bytes.items) }
+    ensures short { IfOk result (λ bytes. length bytes.items ≤ 339 + 26 * events) }
 {
     let entries = entries_of(alloc, events)?;
     let mut bytes = Vec::new(alloc);
@@ -35,8 +36,11 @@ pub fn sample(alloc: Global, seed: u32, events: u32) -> Result<Vec<u8>, NoMemory
 
 /// Puts the header of a chunk over its first bytes, by the position of its checkpoint.
 fn put_header(chunk: &mut [u8], pools: usize)
-    requires { 68 ≤ length chunk.old }
-    ensures { chunk.new ≡ header_bytes (sample_header (length chunk.old) pools) ++ drop 68 chunk.old }
+    requires long { 68 ≤ length chunk.old }
+    requires short { length chunk.old < 2 ^ 28 }
+    ensures exact { chunk.new ≡ header_bytes (sample_header (length chunk.old) pools) ++ drop 68 chunk.old }
+    ensures length { length chunk.new ≡ length chunk.old }
+    ensures whole { Whole chunk.new }
 {
     let header = Header {
         major: 2,

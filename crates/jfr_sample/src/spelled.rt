@@ -1,5 +1,6 @@
 // Integers and strings at the end of bytes.
 ghost use Rattle.std.specs.Prelude.{◌≡◌, ◌+◌, ◌<◌, ◌^◌, ◌++◌, length, OnOk};
+ghost use Rattle.std.specs.List.{flat_map};
 ghost use Rattle.jfr_base.specs.Integer.{spell, spell_in};
 ghost use Rattle.jfr_sample.specs.Metadata.{string_of};
 
@@ -40,5 +41,15 @@ pub fn push_string(into: &mut Vec<u8>, text: &str) -> Result<(), NoMemory>
     into.push(UTF8)?;
     push_var(into, text.len() as u64)?;
     into.extend_from_slice(text.as_bytes())?;
+    Ok(())
+}
+
+/// Adds texts as strings, one behind another.
+pub fn push_strings(into: &mut Vec<u8>, texts: &[&str]) -> Result<(), NoMemory>
+    ensures { OnOk result (into.new.items ≡ into.old.items ++ flat_map (λ t. string_of t.now) texts.now) }
+{
+    for text in texts {
+        push_string(into, text)?;
+    }
     Ok(())
 }
