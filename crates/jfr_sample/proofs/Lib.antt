@@ -1,3 +1,4 @@
-pub mod Lengths
-pub mod PartLaws
-pub mod WholeLaws
+mod Lengths
+mod PartLaws
+mod Rows
+mod WholeLaws

@@ -8,10 +8,11 @@ use jfr_outside::NoMemory;
 
 /// The ids of the classes of events.
 const CLASS_A: u64 = 8;
+
 const CLASS_B: u64 = 9;
 
 /// No event has more bytes: a size of four, the class in one, and two integers below 2^21.
-const EVENT_LEN: usize = 11;
+pub const EVENT_LEN: usize = 11;
 
 /// Draws below this make a `t.A`, the others a `t.B`.
 const HALF: u32 = 1 << 31;
@@ -30,7 +31,6 @@ pub fn push_events(into: &mut Vec<u8>, seed: u32, events: u32) -> Result<(), NoM
     requires most { events ≤ 1000000 }
     ensures { OnOk result (into.new.items ≡ into.old.items ++ events_to seed events events) }
 {
-    into.reserve(EVENT_LEN * events as usize)?;
     let mut draw = seed;
     for count in 0..events {
         draw = next_draw(draw);

@@ -5,7 +5,7 @@ ghost use Rattle.jfr_header.specs.Headers.{header_bytes};
 ghost use Rattle.jfr_sample.specs.Sample.{sample_of, sample_header};
 
 use crate::checkpoint::{entries_of, push_checkpoint};
-use crate::events::push_events;
+use crate::events::{EVENT_LEN, push_events};
 use crate::metadata::push_metadata;
 use jfr_header::{Header, write_header};
 use jfr_outside::NoMemory;
@@ -13,6 +13,9 @@ use std::alloc::Global;
 
 /// A header has so many bytes.
 const HEADER_LEN: usize = 68;
+
+/// The header, the metadata and the checkpoint before its entries have at most so many bytes.
+const FIXED_LEN: usize = 339;
 
 /// A recording of one chunk with so many events, from 1 to 1,000,000, and as many constants. The same
 /// seed gives the same recording.
@@ -24,7 +27,8 @@ pub fn sample(alloc: Global, seed: u32, events: u32) -> Result<Vec<u8>, NoMemory
     ensures short { IfOk result (λ bytes. length bytes.items ≤ 339 + 26 * events) }
 {
     let entries = entries_of(alloc, events)?;
-    let mut bytes = Vec::new(alloc);
+    let most = FIXED_LEN + EVENT_LEN * events as usize + entries.len();
+    let mut bytes = Vec::with_capacity(alloc, most)?;
     bytes.extend_from_slice(&[0; HEADER_LEN])?;
     push_metadata(&mut bytes)?;
     push_events(&mut bytes, seed, events)?;

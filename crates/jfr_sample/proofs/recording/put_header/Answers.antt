@@ -10,4 +10,4 @@ copy_from_slice-requires c = length-take-le 68 c.args.chunk.now c.requires.long 
 pub returns-clause-whole : goal.returns-clause-whole
 returns-clause-whole c =
     subst (λ (h : List ℕ). Whole (h ++ drop 68 c.args.chunk.now)) (sym c.copy_from_slice.ensures.after)
-        (whole_by c.write_header.new.into c.args.chunk.now c.args.pools c.write_header.array_long c.requires.long c.requires.short c.write_header.ensures.read_back)
+    (whole_by c.write_header.new.into c.args.chunk.now c.args.pools c.write_header.array_long c.requires.long c.requires.short c.write_header.ensures.read_back)
