@@ -1,10 +1,41 @@
 // Real files: what no clause can say of a name.
 use crate::file_place::FilePlace;
-use jfr_outside::Place;
-use std::fs;
+use jfr_outside::{Fault, Place};
+use std::alloc::Global;
+use std::process::Abort;
 use std::test::Fail;
+use std::{fs, io};
 
 const NAME: &str = "jfr_file_place_test";
+
+const FOLDER: &str = "jfr_file_place_folder";
+
+// Makes the folder anew, with one file and one folder in it.
+fn make_folder(rt: &HostRuntime) -> io::Result<()> {
+    let _ = fs::remove_dir_all(rt, FOLDER);
+    fs::create_dir(rt, FOLDER)?;
+    fs::create_dir(rt, "jfr_file_place_folder/deeper")?;
+    fs::write(rt, "jfr_file_place_folder/a.jfr", b"a")
+}
+
+// The names in a folder: this one alone.
+fn one_name<P: Place>(rt: &impl Abort, place: &mut P, alloc: Global, name: &str) {
+    match place.list(alloc, FOLDER) {
+        Ok(found) => {
+            assert_eq!(rt; found.len(), 1);
+            assert_eq!(rt; found.get(0), Some(name));
+        }
+        Err(_) => assert!(rt; false),
+    }
+}
+
+// There is no such folder.
+fn no_names<P: Place>(rt: &impl Abort, place: &mut P, alloc: Global) {
+    match place.list(alloc, FOLDER) {
+        Ok(_) => assert!(rt; false),
+        Err(fault) => assert_eq!(rt; fault, Fault::Failed),
+    }
+}
 
 #[test]
 fn what_is_written_is_read_back(rt: HostRuntime) -> Result<(), Fail> {
@@ -36,5 +67,16 @@ fn what_is_written_is_read_back(rt: HostRuntime) -> Result<(), Fail> {
     place.shut_input();
     assert!(rt; place.read(&mut front).is_err());
     fs::remove_file(&rt, NAME)?;
+    Ok(())
+}
+
+#[test]
+fn a_folder_names_its_files(rt: HostRuntime) -> Result<(), Fail> {
+    let alloc = rt.alloc();
+    let mut place = FilePlace::new(&rt, alloc);
+    make_folder(&rt)?;
+    one_name(&rt, &mut place, alloc, "a.jfr");
+    fs::remove_dir_all(&rt, FOLDER)?;
+    no_names(&rt, &mut place, alloc);
     Ok(())
 }

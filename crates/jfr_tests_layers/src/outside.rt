@@ -1,7 +1,9 @@
 // Places and sinks in memory, through their traits, and texts.
 use jfr_outside::{
-    Call, Fault, MemoryPlace, MemorySink, Place, Sink, SteadyPlace, SteadySink, Text, Words,
+    Call, Fault, MemoryPlace, MemorySink, NoMemory, Place, Sink, SteadyPlace, SteadySink, Text,
+    Words,
 };
+use std::alloc::Global;
 use std::process::Abort;
 use std::test::Fail;
 
@@ -38,6 +40,27 @@ fn misuse<P: Place>(rt: &impl Abort, place: &mut P) {
     assert_eq!(rt; place.create_output("b"), Ok(()));
     assert_eq!(rt; place.create_output("c"), Err(Fault::Failed));
     assert_eq!(rt; place.append(b"x"), Err(Fault::Failed));
+}
+
+// Two files in the folder d, and others beside it.
+fn fill(place: &mut MemoryPlace) -> Result<(), NoMemory> {
+    place.put("d/grün", b"")?;
+    place.put("d/a", b"")?;
+    place.put("d/a/b", b"")?;
+    place.put("da", b"")?;
+    place.put("/d/a", b"")
+}
+
+// Their names.
+fn two_names<P: Place>(rt: &impl Abort, place: &mut P, alloc: Global, names: [&str; 2]) {
+    match place.list(alloc, "d") {
+        Ok(found) => {
+            assert_eq!(rt; found.len(), 2);
+            assert_eq!(rt; found.get(0), Some(names[0]));
+            assert_eq!(rt; found.get(1), Some(names[1]));
+        }
+        Err(_) => assert!(rt; false),
+    }
 }
 
 // A script, the size of the reads, the answer of the copy, and what b has then.
@@ -99,6 +122,17 @@ fn a_place_fails_for_a_cause(rt: HostRuntime) -> Result<(), Fail> {
     place.put("a", b"abc")?;
     assert_eq!(rt; place.append(b"d"), Ok(()));
     assert_eq!(rt; place.file("a"), Some(b"abcd".as_slice()));
+    Ok(())
+}
+
+#[test]
+fn a_folder_names_its_own_files(rt: HostRuntime) -> Result<(), Fail> {
+    let alloc = rt.alloc();
+    let mut place = MemoryPlace::new(alloc);
+    fill(&mut place)?;
+    two_names(&rt, &mut place, alloc, ["a", "grün"]);
+    place.fail(Call::List, 1, 0)?;
+    assert!(rt; matches!(place.list(alloc, "d"), Err(Fault::Failed)));
     Ok(())
 }
 

@@ -1,0 +1,4 @@
+mod Lengths
+mod PartLaws
+mod Rows
+mod WholeLaws

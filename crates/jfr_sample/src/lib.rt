@@ -1,0 +1,12 @@
+//! The sample: a small recording of one chunk, made from a seed, to try the program on.
+//!
+//! `sample` is the one call. Read `specs/Sample.antt`, which has the recording byte for byte.
+#![tactic(auto)]
+
+mod checkpoint;
+mod events;
+mod metadata;
+mod recording;
+mod spelled;
+
+pub use recording::sample;

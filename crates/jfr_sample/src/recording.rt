@@ -1,0 +1,66 @@
+// The sample, put together.
+ghost use Rattle.std.specs.Prelude.{◌≡◌, ◌≤◌, ◌<◌, ◌+◌, ◌*◌, ◌^◌, ◌++◌, length, drop, IfOk};
+ghost use Rattle.jfr_header.specs.Fronts.{Whole};
+ghost use Rattle.jfr_header.specs.Headers.{header_bytes};
+ghost use Rattle.jfr_sample.specs.Sample.{sample_of, sample_header};
+
+use crate::checkpoint::{entries_of, push_checkpoint};
+use crate::events::{EVENT_LEN, push_events};
+use crate::metadata::push_metadata;
+use jfr_header::{Header, write_header};
+use jfr_outside::NoMemory;
+use std::alloc::Global;
+
+/// A header has so many bytes.
+const HEADER_LEN: usize = 68;
+
+/// The header, the metadata and the checkpoint before its entries have at most so many bytes.
+const FIXED_LEN: usize = 339;
+
+/// A recording of one chunk with so many events, from 1 to 1,000,000, and as many constants. The same
+/// seed gives the same recording.
+pub fn sample(alloc: Global, seed: u32, events: u32) -> Result<Vec<u8>, NoMemory>
+    requires some { 1 ≤ events }
+    requires most { events ≤ 1000000 }
+    ensures exact { IfOk result (λ bytes. bytes.items ≡ sample_of seed events) }
+    ensures whole { IfOk result (λ bytes. Whole bytes.items) }
+    ensures short { IfOk result (λ bytes. length bytes.items ≤ 339 + 26 * events) }
+{
+    let entries = entries_of(alloc, events)?;
+    let most = FIXED_LEN + EVENT_LEN * events as usize + entries.len();
+    let mut bytes = Vec::with_capacity(alloc, most)?;
+    bytes.extend_from_slice(&[0; HEADER_LEN])?;
+    push_metadata(&mut bytes)?;
+    push_events(&mut bytes, seed, events)?;
+    let pools = bytes.len();
+    push_checkpoint(&mut bytes, events, &entries)?;
+    put_header(&mut bytes, pools);
+    Ok(bytes)
+}
+
+/// Puts the header of a chunk over its first bytes, by the position of its checkpoint.
+fn put_header(chunk: &mut [u8], pools: usize)
+    requires long { 68 ≤ length chunk.old }
+    requires short { length chunk.old < 2 ^ 28 }
+    ensures exact { chunk.new ≡ header_bytes (sample_header (length chunk.old) pools) ++ drop 68 chunk.old }
+    ensures length { length chunk.new ≡ length chunk.old }
+    ensures whole { Whole chunk.new }
+{
+    let header = Header {
+        major: 2,
+        minor: 1,
+        size: chunk.len() as u64,
+        pools: pools as u64,
+        metadata: HEADER_LEN as u64,
+        start_nanos: 0,
+        duration_nanos: 0,
+        start_ticks: 0,
+        ticks_per_second: 1_000_000_000,
+        state: 0,
+        padding: 0,
+        flags: 3,
+    };
+    let mut bytes = [0; HEADER_LEN];
+    write_header(&header, &mut bytes);
+    chunk[..HEADER_LEN].copy_from_slice(&bytes);
+}

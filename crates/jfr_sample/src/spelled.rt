@@ -1,0 +1,55 @@
+// Integers and strings at the end of bytes.
+ghost use Rattle.std.specs.Prelude.{◌≡◌, ◌+◌, ◌<◌, ◌^◌, ◌++◌, length, OnOk};
+ghost use Rattle.std.specs.List.{flat_map};
+ghost use Rattle.jfr_base.specs.Integer.{spell, spell_in};
+ghost use Rattle.jfr_sample.specs.Metadata.{string_of};
+
+use jfr_base::{write_in, write_var};
+use jfr_outside::NoMemory;
+
+/// A record's size has so many bytes.
+const SIZE_LEN: usize = 4;
+
+/// The kind of a string whose text is UTF-8.
+const UTF8: u8 = 3;
+
+/// Adds the shortest spelling of a value.
+pub fn push_var(into: &mut Vec<u8>, value: u64) -> Result<(), NoMemory>
+    ensures { OnOk result (into.new.items ≡ into.old.items ++ spell value) }
+{
+    let mut bytes = [0; 9];
+    let count = write_var(value, &mut bytes);
+    into.extend_from_slice(&bytes[..count])?;
+    Ok(())
+}
+
+/// Adds the size of a record, whose body has so many bytes.
+pub fn push_size(into: &mut Vec<u8>, body: usize) -> Result<(), NoMemory>
+    requires { body + 4 < 2 ^ 28 }
+    ensures { OnOk result (into.new.items ≡ into.old.items ++ spell_in 4 (4 + body)) }
+{
+    let mut bytes = [0; 9];
+    write_in((SIZE_LEN + body) as u64, SIZE_LEN, &mut bytes);
+    into.extend_from_slice(&bytes[..SIZE_LEN])?;
+    Ok(())
+}
+
+/// Adds a text as a string.
+pub fn push_string(into: &mut Vec<u8>, text: &str) -> Result<(), NoMemory>
+    ensures { OnOk result (into.new.items ≡ into.old.items ++ string_of text.now) }
+{
+    into.push(UTF8)?;
+    push_var(into, text.len() as u64)?;
+    into.extend_from_slice(text.as_bytes())?;
+    Ok(())
+}
+
+/// Adds texts as strings, one behind another.
+pub fn push_strings(into: &mut Vec<u8>, texts: &[&str]) -> Result<(), NoMemory>
+    ensures { OnOk result (into.new.items ≡ into.old.items ++ flat_map (λ t. string_of t.now) texts.now) }
+{
+    for text in texts {
+        push_string(into, text)?;
+    }
+    Ok(())
+}
