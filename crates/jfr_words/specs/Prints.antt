@@ -26,7 +26,8 @@ print_option_of word =
 abbrev pub no_print_option : PrintGiven
 no_print_option = record { filter = nothing_given; depth = None; json = false }
 
--- An option is given with the next word, unless it was given before or the word is no value of it.
+-- An option is given with the next word, unless it was given before or the word is no value of it; `--json` asks nothing
+-- of the word.
 abbrev pub print_with : PrintOption → List ℕ → PrintGiven → Option PrintGiven
 print_with (Patterns side) next g = option_map (λ h. record g { filter = h }) (given_with side next g.filter)
 print_with Depth next g = if is_some g.depth then None else option_map (λ d. record g { depth = Some d }) (number_in 0 8 next)
