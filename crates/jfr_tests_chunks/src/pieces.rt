@@ -1,5 +1,6 @@
 // What a chunk becomes, piece by piece.
 use crate::reading::read;
+use jfr_chunk::Chunk;
 use jfr_filter::{Filter, Side};
 use jfr_fixtures::{
     PLAIN, RINGS, STRINGS, STRINGS_SCRUBBED, THREE, THREE_SCRUBBED, TWICE, TWICE_SCRUBBED, WIDE,
@@ -25,18 +26,16 @@ fn joined(alloc: Global, scrubber: &Scrubber<'_>) -> Result<Vec<u8>, Fail> {
     Ok(bytes)
 }
 
-// Compares what a chunk becomes with a filter, before and after it is written.
-fn compare_scrub(
+// Compares what is made of a chunk, before and after it is written.
+fn compare_pieces(
     rt: &impl Abort,
     alloc: Global,
-    bytes: &[u8],
-    filter: &Filter,
+    scrubber: &mut Scrubber<'_>,
     expected: &[u8],
     kept: (usize, usize),
 ) -> Result<(), Fail> {
-    let chunk = read(alloc, bytes)?;
-    let mut scrubber = Scrubber::prepare(alloc, &chunk, filter)?;
-    assert_eq!(rt; joined(alloc, &scrubber)?.as_slice(), expected);
+    let pieces = joined(alloc, scrubber)?;
+    assert_eq!(rt; pieces.as_slice(), expected);
     assert!(rt; scrubber.bytes().is_empty());
     scrubber.write();
     assert_eq!(rt; scrubber.bytes(), expected);
@@ -45,23 +44,58 @@ fn compare_scrub(
     Ok(())
 }
 
+// Compares what a chunk becomes without a filter.
+fn compare_chunk(
+    rt: &impl Abort,
+    alloc: Global,
+    chunk: &Chunk<'_>,
+    expected: &[u8],
+    kept: (usize, usize),
+) -> Result<(), Fail> {
+    let filter = Filter::new(alloc);
+    let mut scrubber = Scrubber::prepare(alloc, chunk, &filter)?;
+    compare_pieces(rt, alloc, &mut scrubber, expected, kept)
+}
+
+// Reads a chunk, and compares what it becomes.
+fn compare_scrub(
+    rt: &impl Abort,
+    alloc: Global,
+    bytes: &[u8],
+    expected: &[u8],
+    kept: (usize, usize),
+) -> Result<(), Fail> {
+    let chunk = read(alloc, bytes)?;
+    compare_chunk(rt, alloc, &chunk, expected, kept)
+}
+
+// Compares what the chunk of records becomes; with each the place of the last checkpoint.
+fn compare_records(
+    rt: &impl Abort,
+    alloc: Global,
+    records: (&[u8], u64),
+    scrubbed: (&[u8], u64),
+    kept: (usize, usize),
+) -> Result<(), Fail> {
+    let bytes = with_classes(alloc, records.0, records.1)?;
+    let expected = with_classes(alloc, scrubbed.0, scrubbed.1)?;
+    compare_scrub(rt, alloc, &bytes, &expected, kept)
+}
+
 // Without a filter a chunk keeps its events and what they reach, and nothing else.
 #[test]
 fn chunks_become_what_is_reached(rt: HostRuntime) -> Result<(), Fail> {
     let alloc = rt.alloc();
-    let filter = Filter::new(alloc);
-    for (records, last, scrubbed, scrubbed_last, kept) in [
-        (RINGS, 333, RINGS, 333, (2, 4)),
-        (TWICE, 344, TWICE_SCRUBBED, 337, (1, 1)),
-        (THREE, 366, THREE_SCRUBBED, 359, (1, 1)),
-        (STRINGS, 330, STRINGS_SCRUBBED, 330, (1, 3)),
-        (WIDE, 352, WIDE_SCRUBBED, 345, (1, 1)),
+    for (records, scrubbed, kept) in [
+        ((RINGS, 333), (RINGS, 333), (2, 4)),
+        ((TWICE, 344), (TWICE_SCRUBBED, 337), (1, 1)),
+        ((THREE, 366), (THREE_SCRUBBED, 359), (1, 1)),
+        ((STRINGS, 330), (STRINGS_SCRUBBED, 330), (1, 3)),
+        ((WIDE, 352), (WIDE_SCRUBBED, 345), (1, 1)),
     ] {
-        let bytes = with_classes(alloc, records, last)?;
-        let expected = with_classes(alloc, scrubbed, scrubbed_last)?;
-        compare_scrub(&rt, alloc, &bytes, &filter, &expected, kept)?;
+        compare_records(&rt, alloc, records, scrubbed, kept)?;
     }
-    compare_scrub(&rt, alloc, &inert(alloc)?, &filter, &PLAIN, (0, 0))
+    compare_scrub(&rt, alloc, &inert(alloc)?, &PLAIN, (0, 0))
 }
 
 // The bytes of a range of the chunk, where one piece copies the whole of it.
@@ -81,24 +115,29 @@ fn copied<'a>(scrubber: &Scrubber<'a>, from: usize, to: usize) -> Option<&'a [u8
 fn compare_copied(
     rt: &impl Abort,
     alloc: Global,
-    bytes: &[u8],
+    chunk: &Chunk<'_>,
     filter: &Filter,
     range: (usize, usize),
     expected: Option<&[u8]>,
 ) -> Result<(), Fail> {
-    let chunk = read(alloc, bytes)?;
-    let scrubber = Scrubber::prepare(alloc, &chunk, filter)?;
+    let scrubber = Scrubber::prepare(alloc, chunk, filter)?;
     assert_eq!(rt; copied(&scrubber, range.0, range.1), expected);
     Ok(())
+}
+
+// Compares what is copied of the two events of a chunk, of which the first is kept.
+fn compare_events(rt: &impl Abort, alloc: Global, chunk: &Chunk<'_>) -> Result<(), Fail> {
+    let mut filter = Filter::new(alloc);
+    filter.add(Side::IncludeEvents, "t.A")?;
+    let event = [5, 8, 0xAC, 2, 1];
+    compare_copied(rt, alloc, chunk, &filter, (325, 330), Some(&event))?;
+    compare_copied(rt, alloc, chunk, &filter, (330, 333), None)
 }
 
 // A kept event lies in one piece that is copied from where it stands, and one that goes in none.
 #[test]
 fn events_are_copied(rt: HostRuntime) -> Result<(), Fail> {
     let bytes = with_classes(rt.alloc(), RINGS, 333)?;
-    let mut filter = Filter::new(rt.alloc());
-    filter.add(Side::IncludeEvents, "t.A")?;
-    let event = [5, 8, 0xAC, 2, 1];
-    compare_copied(&rt, rt.alloc(), &bytes, &filter, (325, 330), Some(&event))?;
-    compare_copied(&rt, rt.alloc(), &bytes, &filter, (330, 333), None)
+    let chunk = read(rt.alloc(), &bytes)?;
+    compare_events(&rt, rt.alloc(), &chunk)
 }
