@@ -58,7 +58,8 @@ const KEYS_OF_STRINGS: &str = "t.A {
 }
 ";
 
-const JSON: &str = r#"{"type":"t.A","values":{"n":300,"node":{"next":{"class":"t.Node","key":2},"text":"p"}}}
+const JSON: &str =
+    r#"{"type":"t.A","values":{"n":300,"node":{"next":{"class":"t.Node","key":2},"text":"p"}}}
 {"type":"t.B","values":{"node":{"next":{"class":"t.Node","key":4},"text":"r"}}}
 "#;
 
@@ -107,10 +108,7 @@ fn texts_are_written(rt: HostRuntime) -> Result<(), Fail> {
         (&["print", "--depth", "0", "rings.jfr"][..], SHALLOW),
         (&["print", "--events", "A", "rings.jfr"][..], DEEP_A),
         (&["print", "strings.jfr"][..], KEYS_OF_STRINGS),
-        (
-            &["print", "--json", "--depth", "1", "rings.jfr"][..],
-            JSON,
-        ),
+        (&["print", "--json", "--depth", "1", "rings.jfr"][..], JSON),
         (&["print", "--categories", "none", "rings.jfr"][..], ""),
         (&["summary", "rings.jfr"][..], TOTALS),
         (&["summary", "inert.jfr"][..], INERT),
@@ -132,7 +130,15 @@ kept bytes 385
 #[test]
 fn the_sample_is_counted(rt: HostRuntime) -> Result<(), Fail> {
     let mut place = MemoryPlace::new(rt.alloc());
-    says(&rt, rt.alloc(), &mut place, &["sample", "0", "7"], 0, SAMPLE, "")
+    says(
+        &rt,
+        rt.alloc(),
+        &mut place,
+        &["sample", "0", "7"],
+        0,
+        SAMPLE,
+        "",
+    )
 }
 
 // A place with a recording of three plain chunks.

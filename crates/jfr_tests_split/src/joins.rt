@@ -56,9 +56,17 @@ struct Row {
     open: bool,
 }
 
-const NO_CHUNK: Ending = Ending::Refused(Refusal { chunk: 1, offset: 0, reason: Reason::NoChunk });
+const NO_CHUNK: Ending = Ending::Refused(Refusal {
+    chunk: 1,
+    offset: 0,
+    reason: Reason::NoChunk,
+});
 
-const NO_THIRD_CHUNK: Ending = Ending::Refused(Refusal { chunk: 3, offset: 0, reason: Reason::NoChunk });
+const NO_THIRD_CHUNK: Ending = Ending::Refused(Refusal {
+    chunk: 3,
+    offset: 0,
+    reason: Reason::NoChunk,
+});
 
 #[rattlefmt::skip]
 static ROWS: [Row; 14] = [
