@@ -15,11 +15,7 @@ use Rattle.jfr_plan.proofs.Clauses.{Cans, none_breaks}
 use Rattle.jfr_plan.proofs.Walking.{effects_append}
 use Rattle.jfr_split.specs.Clauses.{AfterFiles, FilesComplete, FilesOutcome}
 use Rattle.jfr_split.specs.Joins.{adding, then_by, joining, joining_all, files_in, assembling}
-
-told_before : (b a : Option World) (P : World → World → Type 0) (F : World → Type 0) → Told b a P → ((w v : World) → P w v → F w) → IfSome b F
-told_before None a P F t f = tt
-told_before (Some w) None P F t f = absurd t
-told_before (Some w) (Some v) P F t f = f w v t
+use Rattle.jfr_split.proofs.Basics.{some_none, none_is, told_before, told_at}
 
 for_all : (b : Option World) (F : World → Type 0) → ((w : World) → F w) → IfSome b F
 for_all None F f = tt
@@ -33,13 +29,6 @@ files_complete plan NotRead a b t c = λ p q. absurd (p c.0.1)
 files_complete plan NotWritten a b t c = λ p q. absurd (q c.1.1)
 files_complete plan NoRoom a b t c = λ p q. for_all a.place.told (λ w. IsPlanned NoRoom (plan w.files).end) (λ w. ForMemory refl)
 
-none_some : (o : Option (List ℕ)) (x : List ℕ) → o ≡ Some x → o ≡ None → ⊥
-none_some o x e f = cc
-
-none_is : (o : Option (List ℕ)) → o ≡ None → IsSome o → ⊥
-none_is None e h = cc
-none_is (Some x) e h = cc
-
 module _ (out : List ℕ) where
   -- these effects can be done wherever this output is open
   abbrev CanGrow : List Effect → Type 0
@@ -48,7 +37,7 @@ module _ (out : List ℕ) where
   walk_can : (before cs : List (List ℕ)) (flaw : Option Flaw) (later : List Effect) → CanGrow later → CanGrow (effects (walk adding before cs flaw).steps ++ later)
   walk_can before [] None later f s o = f s o
   walk_can before [] (Some x) later f s o = f s o
-  walk_can before (c ∷ cs) flaw later f s o = (none_some s.output out o, walk_can (before ++ c ∷ []) cs flaw later f (apply (Append c) s) o)
+  walk_can before (c ∷ cs) flaw later f s o = (some_none s.output out o, walk_can (before ++ c ∷ []) cs flaw later f (apply (Append c) s) o)
 
   then_can : (ss : List Step) (o : Option End) (later : Plan) → ((es : List Effect) → CanGrow es → CanGrow (effects ss ++ es)) → CanGrow (effects later.steps) → CanGrow (effects (then_by o (record { steps = ss; end = o }) later).steps)
   then_can ss (Some Fine) later f k = subst (λ (es : List Effect). CanGrow es) (sym (effects_append ss later.steps)) (f (effects later.steps) k)
@@ -57,7 +46,7 @@ module _ (out : List ℕ) where
   then_can ss None later f k = subst (λ (es : List Effect). CanGrow es) (append-nil (effects ss)) (f [] (λ t o. tt))
 
   joining_can : (earlier xs : List (List ℕ)) → CanGrow (effects (joining earlier xs).steps)
-  joining_can earlier [] s o = (none_some s.output out o, tt)
+  joining_can earlier [] s o = (some_none s.output out o, tt)
   joining_can earlier (x ∷ xs) s o =
       let cuts = cut_after earlier x in
       then_can (plan_after adding earlier (Some x)).steps (plan_after adding earlier (Some x)).end (joining (earlier ++ cuts.chunks) xs) (λ es f. walk_can earlier cuts.chunks cuts.flaw es f) (joining_can (earlier ++ cuts.chunks) xs) s o
@@ -65,9 +54,6 @@ module _ (out : List ℕ) where
   all_can : (xs : List (List ℕ)) → CanGrow (effects (joining_all xs).steps)
   all_can [] s o = tt
   all_can (x ∷ xs) s o = joining_can [] (x ∷ xs) s o
-
-told_at : (b : Option World) (w : World) (F : World → Type 0) → b ≡ Some w → IfSome b F → F w
-told_at b w F e h = let k : IfSome (Some w) F = subst (λ (o : Option World). IfSome o F) e h in k
 
 -- a steady place without an open output gives no write fault for a new name
 pub can_create : (folder out : List ℕ) (e : Ending) (a b : Outside) → CanCreate out a.place → AfterFiles (assembling folder out) (way_of e) a b → e ≡ WriteFault → ⊥

@@ -18,19 +18,12 @@ use Rattle.jfr_plan.specs.Parts.{PartEnded, PartStands, PartTold}
 use Rattle.jfr_split.specs.Names.{is_joined}
 use Rattle.jfr_split.specs.Clauses.{FilesOutcome}
 use Rattle.jfr_split.specs.Joins.{joining_all, files_in, assembling, CanJoin}
+use Rattle.jfr_split.proofs.Basics.{first_holds, second_holds, for_each, some_none}
 use Rattle.jfr_split.proofs.Ordered.{order}
 use Rattle.jfr_split.proofs.Over.{Entries, is, is_self, look, same_name}
 use Rattle.jfr_split.proofs.Sorting.{bytes_of}
 use Rattle.jfr_split.proofs.Composing.{outcome_after}
 use Rattle.jfr_split.proofs.Joined.{part_ended}
-
-t_first : (a b : Bool) → T (a && b) → T a
-t_first true b h = tt
-t_first false b h = absurd h
-
-t_second : (a b : Bool) → T (a && b) → T b
-t_second true b h = h
-t_second false b h = absurd h
 
 -- each entry of a list in order is found under its key
 apart_less : (a b : Ordering) → b ≡ ordering_reverse a → T (is_lt a) → is_eq b ≡ false
@@ -41,17 +34,13 @@ apart_less Greater b e h = absurd h
 own_later : (e : List ℕ × List ℕ) (all es : Entries) → T (below_all order e.0 es) → AllByRecursion (λ x. find order x.0 all ≡ Some x.1) es → AllByRecursion (λ x. find order x.0 (e ∷ all) ≡ Some x.1) es
 own_later e all [] l h = tt
 own_later e all (x ∷ es) l h =
-    let apart : is x.0 e.0 ≡ false = apart_less (order e.0 x.0) (order x.0 e.0) (nat_list_cmp_total.antisymm x.0 e.0) (t_first (is_lt (order e.0 x.0)) (below_all order e.0 es) l) in
-    (ap (λ (b : Bool). cond b (Some e.1) (find order x.0 all)) apart ∙ h.0, own_later e all es (t_second (is_lt (order e.0 x.0)) (below_all order e.0 es) l) h.1)
+    let apart : is x.0 e.0 ≡ false = apart_less (order e.0 x.0) (order x.0 e.0) (nat_list_cmp_total.antisymm x.0 e.0) (first_holds (is_lt (order e.0 x.0)) (below_all order e.0 es) l) in
+    (ap (λ (b : Bool). cond b (Some e.1) (find order x.0 all)) apart ∙ h.0, own_later e all es (second_holds (is_lt (order e.0 x.0)) (below_all order e.0 es) l) h.1)
 
 own_entries : (es : Entries) → T (is_sorted order es) → AllByRecursion (λ x. find order x.0 es ≡ Some x.1) es
 own_entries [] s = tt
 own_entries (e ∷ es) s =
-    (ap (λ (b : Bool). cond b (Some e.1) (find order e.0 es)) (is_self e.0), own_later e es es (t_first (below_all order e.0 es) (is_sorted order es) s) (own_entries es (t_second (below_all order e.0 es) (is_sorted order es) s)))
-
-each : (P Q : (List ℕ × List ℕ) → Type 0) (es : Entries) → ((e : List ℕ × List ℕ) → P e → Q e) → AllByRecursion P es → AllByRecursion Q es
-each P Q [] f h = tt
-each P Q (e ∷ es) f h = (f e h.0, each P Q es f h.1)
+    (ap (λ (b : Bool). cond b (Some e.1) (find order e.0 es)) (is_self e.0), own_later e es es (first_holds (below_all order e.0 es) (is_sorted order es) s) (own_entries es (second_holds (below_all order e.0 es) (is_sorted order es) s)))
 
 -- the files that are joined are files
 pub kept_at : (folder : List ℕ) (files : Files) (q : List ℕ) → fin.get (files_in folder files) q ≡ cond (is_joined folder q) (fin.get files q) None
@@ -64,15 +53,12 @@ was_there false o v e = cc
 joined_there : (folder : List ℕ) (files : Files) → AllByRecursion (λ e. fin.get files e.0 ≡ Some e.1) (fin.entries (files_in folder files))
 joined_there folder files =
     let m = files_in folder files in
-    each (λ e. find order e.0 (fin.entries m) ≡ Some e.1) (λ e. fin.get files e.0 ≡ Some e.1) (fin.entries m)
+    for_each (λ e. find order e.0 (fin.entries m) ≡ Some e.1) (λ e. fin.get files e.0 ≡ Some e.1) (fin.entries m)
     (λ e h. was_there (is_joined folder e.0) (fin.get files e.0) e.1 (sym (kept_at folder files e.0) ∙ get-entries m e.0 ∙ h))
     (own_entries (fin.entries m) (entries_sorted m))
 
 some_other : (q out v : List ℕ) (files : Files) → fin.get files q ≡ Some v → fin.get files out ≡ None → q ≡ out → ⊥
-some_other q out v files h n e = some_none v (sym h ∙ ap (λ (x : List ℕ). fin.get files x) e ∙ n)
-  where
-    some_none : (x : List ℕ) → ◌≡◌ {A = Option (List ℕ)} (Some x) None → ⊥
-    some_none x e = cc
+some_other q out v files h n e = some_none (fin.get files q) v h (ap (λ (x : List ℕ). fin.get files x) e ∙ n)
 
 names_apart : (es : Entries) (out : List ℕ) (files : Files) → fin.get files out ≡ None → AllByRecursion (λ e. fin.get files e.0 ≡ Some e.1) es → AllByRecursion (λ q. q ≡ out → ⊥) (map (λ e. e.0) es)
 names_apart [] out files n h = tt

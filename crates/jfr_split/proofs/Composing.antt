@@ -8,6 +8,7 @@ use Rattle.jfr_plan.specs.Outcomes.{AllDone, SomeDone, Breaks}
 use Rattle.jfr_plan.proofs.Walking.{done_append, effects_append}
 use Rattle.jfr_split.specs.Clauses.{is_finish, Unfinished, FilesOutcome}
 use Rattle.jfr_split.specs.Joins.{then_by, plan_then}
+use Rattle.jfr_split.proofs.Basics.{same_end}
 
 -- more effects come after these
 pub some_more : (a b all : List Effect) (s t : Stand) → all ≡ a ++ b → SomeDone a s t → SomeDone all s t
@@ -90,12 +91,9 @@ goes_by ss None later = record { later = []; is = sym (append-nil (effects ss)) 
 goes_on : (p later : Plan) → GoesOn p (plan_then p later)
 goes_on p later = goes_by p.steps p.end later
 
-same_end : (a b : End) → ◌≡◌ {A = Option End} (Some a) (Some b) → b ≡ a
-same_end a b e = cc
-
 -- a plan that doesn't end well ends there
 ends_by : (ss : List Step) (o : Option End) (e : End) (later : Plan) (s t : Stand) → (e ≡ Fine → ⊥) → AllDone (record { steps = ss; end = o }) e s t → AllDone (then_by o (record { steps = ss; end = o }) later) e s t
-ends_by ss (Some Fine) e later s t n h = absurd (n (same_end Fine e h.end))
+ends_by ss (Some Fine) e later s t n h = absurd (n (sym (same_end Fine e h.end)))
 ends_by ss (Some (Refused r)) e later s t n h = h
 ends_by ss (Some TooMany) e later s t n h = h
 ends_by ss None e later s t n h = h

@@ -18,6 +18,7 @@ use Rattle.jfr_split.specs.Parts.{SplitRule, IsUsable, Part, folder_of, no_part,
 use Rattle.jfr_split.specs.Names.{part_name}
 use Rattle.jfr_split.specs.Splits.{closing, asks_part, splitting_as, splitting}
 use Rattle.jfr_split.specs.Clauses.{created_names, CanCreateAll}
+use Rattle.jfr_split.proofs.Basics.{for_each, for_both, some_none, none_is, told_before, told_at}
 use Rattle.jfr_split.proofs.Fold.{of_snoc, of_none}
 use Rattle.jfr_split.proofs.Naming.{names_rise}
 use Rattle.jfr_split.proofs.Ordered.{order, order_same}
@@ -54,17 +55,9 @@ IsLater name n top q = (m : ℕ) × (n < m) × (m ≤ top) × (q ≡ name m)
 abbrev AllLater : (ℕ → List ℕ) → ℕ → ℕ → List Effect → Type 0
 AllLater name n top es = AllByRecursion (IsLater name n top) (created_names es)
 
-each : {X : Type 0} (P Q : X → Type 0) (xs : List X) → ((x : X) → P x → Q x) → AllByRecursion P xs → AllByRecursion Q xs
-each P Q [] f h = tt
-each P Q (x ∷ xs) f h = (f x h.0, each P Q xs f h.1)
-
-both : {X : Type 0} (P Q R : X → Type 0) (xs : List X) → ((x : X) → P x → Q x → R x) → AllByRecursion P xs → AllByRecursion Q xs → AllByRecursion R xs
-both P Q R [] f h k = tt
-both P Q R (x ∷ xs) f h k = (f x h.0 k.0, both P Q R xs f h.1 k.1)
-
 -- later effects still create later parts
 still_later : (name : ℕ → List ℕ) (n m top : ℕ) (es : List Effect) → n ≤ m → AllLater name m top es → AllLater name n top es
-still_later name n m top es l h = each (IsLater name m top) (IsLater name n top) (created_names es) (λ q k. (k.0, omega (arith, l, k.1), k.2, k.3)) h
+still_later name n m top es l h = for_each (IsLater name m top) (IsLater name n top) (created_names es) (λ q k. (k.0, omega (arith, l, k.1), k.2, k.3)) h
 
 -- the effects of a new part, by whether there is none before
 abbrev new_by : Bool → List ℕ → List ℕ → List Effect → List Effect
@@ -118,18 +111,11 @@ no_tie true name top n m r l k e =
 -- an entry of this part leaves the names of later parts new
 new_after : (name : ℕ → List ℕ) (n top : ℕ) (files : Files) (v : List ℕ) (es : List Effect) → Rises name top → AllLater name n top es → AllNew files es → AllNew (fin.insert files (name n) v) es
 new_after name n top files v es r later new =
-    both (IsLater name n top) (λ q. fin.get files q ≡ None) (λ q. fin.get (fin.insert files (name n) v) q ≡ None) (created_names es)
+    for_both (IsLater name n top) (λ q. fin.get files q ≡ None) (λ q. fin.get (fin.insert files (name n) v) q ≡ None) (created_names es)
     (λ q k h.
     let apart : is q (name n) ≡ false = ap (λ (x : List ℕ). is x (name n)) k.3 ∙ no_tie (is (name k.0) (name n)) name top n k.0 r k.1 k.2 refl in
     look files (name n) v q ∙ ap (λ (b : Bool). cond b (Some v) (fin.get files q)) apart ∙ h)
     later new
-
-none_some : (o : Option (List ℕ)) (x : List ℕ) → o ≡ Some x → o ≡ None → ⊥
-none_some o x e f = cc
-
-none_is : (o : Option (List ℕ)) → o ≡ None → IsSome o → ⊥
-none_is None e h = cc
-none_is (Some x) e h = cc
 
 -- the name of the open output while a part is filled
 abbrev open_name : (ℕ → List ℕ) → ℕ → Option (List ℕ)
@@ -152,7 +138,7 @@ grown_new name n top files o c es e r later new =
 
 -- the chunk goes to the open part
 more_can : (name : ℕ → List ℕ) (n top : ℕ) (c : List ℕ) (later : List Effect) (s : Stand) → Rises name top → AllLater name n top later → CanFollow name n later → s.output ≡ Some (name n) → open_name name n ≡ Some (name n) → AllNew s.files later → Cans (Append c ∷ later) s
-more_can name n top c later s r l f o here new = (none_some s.output (name n) o, f (apply (Append c) s) (o ∙ sym here) (grown_new name n top s.files s.output c later o r l new))
+more_can name n top c later s r l f o here new = (some_none s.output (name n) o, f (apply (Append c) s) (o ∙ sym here) (grown_new name n top s.files s.output c later o r l new))
 
 -- a part is created, with no part open
 create_can : (name : ℕ → List ℕ) (n top : ℕ) (c : List ℕ) (later : List Effect) (s : Stand) → Rises name top → AllLater name n top later → CanFollow name n later → s.output ≡ None → open_name name n ≡ Some (name n) → fin.get s.files (name n) ≡ None → AllNew s.files later → Cans (Create (name n) ∷ Append c ∷ later) s
@@ -161,7 +147,7 @@ create_can name n top c later s r l f o here free new =
 
 next_can : (z : Bool) (name : ℕ → List ℕ) (n top : ℕ) (c : List ℕ) (later : List Effect) (s : Stand) → Rises name top → AllLater name (n + 1) top later → CanFollow name (n + 1) later → s.output ≡ (if z then None else Some (name n)) → AllNew s.files (new_by z (name (n + 1)) c later) → Cans (new_by z (name (n + 1)) c later) s
 next_can true name n top c later s r l f o new = create_can name (n + 1) top c later s r l f o (sym (open_next name n)) new.0 new.1
-next_can false name n top c later s r l f o new = (none_some s.output (name n) o, create_can name (n + 1) top c later (apply Finish s) r l f refl (sym (open_next name n)) new.0 new.1)
+next_can false name n top c later s r l f o new = (some_none s.output (name n) o, create_can name (n + 1) top c later (apply Finish s) r l f refl (sym (open_next name n)) new.0 new.1)
 
 new_can : (t : Bool) (rule : SplitRule) (name : ℕ → List ℕ) (p : Part) (c : List ℕ) (later : List Effect) → Rises name rule.max_parts → AllLater name (p.number + 1) rule.max_parts later → CanFollow name (p.number + 1) later
     → CanFollow name p.number (new_on t (closing p ++ Create (name (p.number + 1)) ∷ Append c ∷ []) later)
@@ -181,7 +167,7 @@ part_can false rule name p c later e r l f s o new =
 
 end_can : (z : Bool) (n : List ℕ) (s : Stand) → s.output ≡ (if z then None else Some n) → Cans (if z then [] else Finish ∷ []) s
 end_can true n s o = tt
-end_can false n s o = (none_some s.output n o, tt)
+end_can false n s o = (some_none s.output n o, tt)
 
 follow : (rule : SplitRule) (name : ℕ → List ℕ) (p : Part) (cs : List (List ℕ)) (flaw : Option Flaw) → Rises name rule.max_parts → CanFollow name p.number (parted rule name p cs flaw)
 follow rule name p [] None r s o new = end_can (p.number == 0) (name p.number) s o
@@ -202,17 +188,13 @@ plan_can rule file (Some x) s u o new =
     let e : effects (walk (splitting_as rule name) [] cs flaw).steps ≡ parted rule name no_part cs flaw = walked rule name [] cs flaw ∙ ap (λ (p : Part). parted rule name p cs flaw) (of_none rule) in
     subst (λ (es : List Effect). Cans es s) (sym e) (follow rule name no_part cs flaw (rises rule (folder_of rule) file u) s o (subst (λ (es : List Effect). AllNew s.files es) e new))
 
-told_before : (o p : Option World) (w : World) (P : World → World → Type 0) (F : World → Type 0) → o ≡ Some w → Told o p P → ((w v : World) → P w v → F w) → F w
-told_before None p w P F e t f = cc
-told_before (Some w') None w P F e t f = absurd t
-told_before (Some w') (Some v) w P F e t f = let same : w' ≡ w = cc in subst F same (f w' v t)
-
 -- a steady place without an open output gives no write fault where the names of the parts are new
 pub can_create : (rule : SplitRule) (file : List ℕ) (e : Ending) (a b : Outside) → IsUsable rule → CanCreateAll (splitting rule file) file a.place → After (splitting rule file) [] file (way_of e) a b → e ≡ WriteFault → ⊥
 can_create rule file e a b u c t is =
     let r = splitting rule file in
     let h : After r [] file NotWritten a b = subst (λ (y : Ending). After r [] file (way_of y) a b) is t in
-    told_before a.place.told b.place.told c.world (λ w v. Breaks a.place.steady (effects (plan_in r file w).steps) (stand w a.sink.written) (stand v b.sink.written))
-    (λ w. AllNew w.files (effects (plan_in r file w).steps) → w.output ≡ None → ⊥) c.told h
-    (λ w v z new closed. none_breaks (effects (plan_in r file w).steps) z.first z.rest z.failed (stand w a.sink.written) (plan_can rule file (file_of w file) (stand w a.sink.written) u closed new) z.parts (z.cause c.steady))
+    let F : World → Type 0 = λ w. AllNew w.files (effects (plan_in r file w).steps) → w.output ≡ None → ⊥ in
+    told_at a.place.told c.world F c.told
+    (told_before a.place.told b.place.told (λ w v. Breaks a.place.steady (effects (plan_in r file w).steps) (stand w a.sink.written) (stand v b.sink.written)) F h
+    (λ w v z new closed. none_breaks (effects (plan_in r file w).steps) z.first z.rest z.failed (stand w a.sink.written) (plan_can rule file (file_of w file) (stand w a.sink.written) u closed new) z.parts (z.cause c.steady)))
     c.new c.closed

@@ -99,7 +99,7 @@ new_asks rule name p c g = by (nat_le rule.max_parts p.number) (closing p ++ Cre
     by true es h = cc
     by false es h = refl
 
-closed : (n : ℕ) → 1 ≤ n → (if n == 0 then [] else Finish ∷ []) ≡ Finish ∷ []
+pub closed : (n : ℕ) → 1 ≤ n → (if n == 0 then [] else Finish ∷ []) ≡ Finish ∷ []
 closed zero h = absurd (omega (arith, h))
 closed (suc n) h = grind (arith, common_steps)
 
@@ -118,7 +118,7 @@ fill_by true rule name top p c g es r f h k i =
     subst (λ (x : List Effect). Fills name p.number (grouped true c g) (x ++ es)) (sym e) (fills_next name top p.number c g es r k i)
 fill_by false rule name top p c g es r f h k i = fills_more name p.number c g es i
 
-some_number : (b : Bool) (p : Part) (c : List ℕ) → 1 ≤ p.number → 1 ≤ (part_by b p c).number
+pub some_number : (b : Bool) (p : Part) (c : List ℕ) → 1 ≤ p.number → 1 ≤ (part_by b p c).number
 some_number true p c h = omega arith
 some_number false p c h = h
 

@@ -12,9 +12,10 @@ use Rattle.jfr_split.specs.Names.{part_name}
 use Rattle.jfr_split.specs.Splits.{closing, asks_part, splitting_as}
 use Rattle.jfr_split.specs.Laws.{split_plan}
 use Rattle.jfr_split.specs.Groups.{is_full_for, Fit, IsPart, WasFull, AreParts, written, AreWritten}
+use Rattle.jfr_split.proofs.Basics.{same_end}
 use Rattle.jfr_split.proofs.Fold.{Groups, grouped, groups_after, groups, flat, groups_flat, of_none, of_all}
 use Rattle.jfr_split.proofs.Ending.{good}
-use Rattle.jfr_split.proofs.Filling.{filling, AllFit, gone_filling, all_fit, all_within, new_asks}
+use Rattle.jfr_split.proofs.Filling.{filling, AllFit, gone_filling, all_fit, all_within, new_asks, closed, some_number}
 use Rattle.jfr_split.proofs.Rejoin.{appends, joined_append}
 use Rattle.jfr_split.proofs.Round.{never}
 
@@ -66,12 +67,6 @@ are_parts : (rule : SplitRule) (cs : List (List ℕ)) → AreParts rule (groups 
 are_parts rule [] = tt
 are_parts rule (c ∷ cs) = let k = follow rule (part_with rule no_part c) (c ∷ []) cs (counts_first no_part c) in (k.fit, k.full, k.are)
 
-closing_some : (n : ℕ) → 1 ≤ n → (if n == 0 then [] else Finish ∷ []) ≡ Finish ∷ []
-closing_some n h = by (n == 0) (grind (arith, common_steps, h))
-  where
-    by : (z : Bool) → z ≡ false → (if z then [] else Finish ∷ []) ≡ Finish ∷ []
-    by z e = ap (λ (b : Bool). if b then [] else Finish ∷ []) e
-
 -- what is done for chunks that come after a part, to its end
 abbrev parted : SplitRule → (ℕ → List ℕ) → Part → List (List ℕ) → List Effect
 parted rule name p cs = filling rule name p cs ++ closing (part_after rule p cs)
@@ -83,20 +78,16 @@ writes_by : (b : Bool) (rule : SplitRule) (name : ℕ → List ℕ) (p : Part) (
 writes_by true rule name p c g es h go w =
     let n = p.number in
     ap (λ (x : List Effect). x ++ es) (new_asks rule name p c go)
-    ∙ ap (λ (x : List Effect). (x ++ Create (name (n + 1)) ∷ Append c ∷ []) ++ es) (closing_some n h)
+    ∙ ap (λ (x : List Effect). (x ++ Create (name (n + 1)) ∷ Append c ∷ []) ++ es) (closed n h)
     ∙ ap (λ (x : List Effect). Finish ∷ Create (name (n + 1)) ∷ Append c ∷ x) w
 writes_by false rule name p c g es h go w = ap (λ (x : List Effect). Append c ∷ x) w
 
-number_some : (b : Bool) (p : Part) (c : List ℕ) → 1 ≤ p.number → 1 ≤ (part_by b p c).number
-number_some true p c h = omega arith
-number_some false p c h = h
-
 writes : (rule : SplitRule) (name : ℕ → List ℕ) (p : Part) (cs : List (List ℕ)) → 1 ≤ p.number → AllFit rule name p cs → Writes name p.number (groups_after rule p cs) (parted rule name p cs)
-writes rule name p [] h f = closing_some p.number h
+writes rule name p [] h f = closed p.number h
 writes rule name p (c ∷ cs) h f =
     let b = begins rule p c in
     append_assoc (asked (asks_part rule name b p c)) (filling rule name (part_with rule p c) cs) (closing (part_after rule p (c ∷ cs)))
-    ∙ writes_by b rule name p c (groups_after rule (part_with rule p c) cs) (parted rule name (part_with rule p c) cs) h f.0 (writes rule name (part_with rule p c) cs (number_some b p c h) f.1)
+    ∙ writes_by b rule name p c (groups_after rule (part_with rule p c) cs) (parted rule name (part_with rule p c) cs) h f.0 (writes rule name (part_with rule p c) cs (some_number b p c h) f.1)
 
 all_written : (rule : SplitRule) (name : ℕ → List ℕ) (cs : List (List ℕ)) → AllFit rule name no_part cs → parted rule name no_part cs ≡ written name 1 (groups rule cs)
 all_written rule name [] f = refl
@@ -108,9 +99,6 @@ all_written rule name (c ∷ cs) f =
 
 few_parts : (n m : ℕ) → 0 + n ≤ m → n ≤ m
 few_parts n m h = omega (arith, h)
-
-same_end : (a b : End) → ◌≡◌ {A = Option End} (Some a) (Some b) → a ≡ b
-same_end a b e = cc
 
 -- a recording that was cut to its end is written as parts
 pub parts_written : (rule : SplitRule) (file x : List ℕ) → (split_plan rule file x).end ≡ Some Fine → AreWritten rule file x

@@ -11,6 +11,7 @@ use Rattle.jfr_plan.proofs.Walking.{past}
 use Rattle.jfr_plan.proofs.Needs.{kept_past}
 use Rattle.jfr_split.specs.Clauses.{is_finish, Unfinished, FilesOutcome}
 use Rattle.jfr_split.specs.Joins.{adding}
+use Rattle.jfr_split.proofs.Basics.{some_none}
 
 all_go : (before cs : List (List ℕ)) → AllGo adding before cs
 all_go before [] = tt
@@ -49,17 +50,14 @@ met_first steady earlier x left s t never m =
       cause = never;
     }
 
--- the same by what is left of the open input; without one nothing is done
+-- with no input open nothing is done
 halted_first : (steady : Bool) (earlier : List (List ℕ)) (x : List ℕ) (left : Option (List ℕ)) (s t : Stand) → (IsTrue steady → ⊥) → MetIn adding earlier (Some x) left s t → Unfinished steady (effects (plan_after adding earlier (Some x)).steps) s t
 halted_first steady earlier x None s t never h = record { first = []; rest = effects (plan_after adding earlier (Some x)).steps; parts = refl; unfinished = refl; stands = h; cause = never }
 halted_first steady earlier x (Some left) s t never h = met_first steady earlier x left s t never h
 
-some_none : (x : List ℕ) → ◌≡◌ {A = Option (List ℕ)} (Some x) None → ⊥
-some_none x e = cc
-
 -- what stands after one of the files, which is there
 pub file_outcome : (steady : Bool) (earlier : List (List ℕ)) (x : List ℕ) (left : Option (List ℕ)) (way : Way) (s t : Stand) → OutcomeIn steady adding earlier (Some x) left way s t → FilesOutcome steady (plan_after adding earlier (Some x)) way s t
 file_outcome steady earlier x left (Ends e) s t h = h
-file_outcome steady earlier x left NotRead s t h = halted_first steady earlier x left s t (λ y. some_none x (h.1 y)) h.0
+file_outcome steady earlier x left NotRead s t h = halted_first steady earlier x left s t (λ y. some_none (Some x) x refl (h.1 y)) h.0
 file_outcome steady earlier x left NotWritten s t h = h
 file_outcome steady earlier x left NoRoom s t h = h

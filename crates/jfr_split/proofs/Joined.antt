@@ -20,6 +20,7 @@ use Rattle.jfr_plan.specs.Parts.{PartEnded, PartStands, PartTold}
 use Rattle.jfr_plan.proofs.Walking.{done_append}
 use Rattle.jfr_split.specs.Clauses.{is_finish, FilesOutcome}
 use Rattle.jfr_split.specs.Joins.{adding, plan_then, joining, CanJoin}
+use Rattle.jfr_split.proofs.Basics.{goes_stops, same_end}
 use Rattle.jfr_split.proofs.Ending.{NeverFine, good}
 use Rattle.jfr_split.proofs.Over.{is, same_name, look}
 use Rattle.jfr_split.proofs.Sorting.{bytes_of}
@@ -82,14 +83,11 @@ appends_finish (c ∷ cs) = appends_finish cs
 never_fine : NeverFine adding
 never_fine before c e = cc
 
-fine_end : (a b : End) → ◌≡◌ {A = Option End} (Some a) (Some b) → a ≡ b
-fine_end a b e = cc
-
 -- a file that was joined well has no flaw
 flawless : (earlier : List (List ℕ)) (x : List ℕ) → (plan_after adding earlier (Some x)).end ≡ Some Fine → cut_after earlier x ≡ record { chunks = (cut_after earlier x).chunks; flaw = None }
 flawless earlier x e =
     let all = cut_after earlier x in
-    let g = good adding never_fine earlier all.chunks all.flaw (fine_end (walk adding earlier all.chunks all.flaw).end Fine e) in
+    let g = good adding never_fine earlier all.chunks all.flaw (same_end (walk adding earlier all.chunks all.flaw).end Fine e) in
     ap (λ (f : Option Flaw). let cuts : Cuts = record { chunks = all.chunks; flaw = f } in cuts) g.flawless
 
 added : (earlier cs : List (List ℕ)) (x : List ℕ) → cut_after earlier x ≡ record { chunks = cs; flaw = None } → effects (plan_after adding earlier (Some x)).steps ≡ appends cs
@@ -163,9 +161,6 @@ module _ (out : List ℕ) (ss : List (String Global)) (contents : List (List ℕ
       let is : file v name ≡ Some h.x = ap (file v) n ∙ still_there out (string_bytes (get_or ss i d)) h.x j.earlier w v can.opened apart h.is j.stands in
       let all : OutcomeIn steady adding j.earlier (Some h.x) u.input way (stand v None) (stand u None) = subst (λ (o : Option (List ℕ)). OutcomeIn steady adding j.earlier o u.input way (stand v None) (stand u None)) is (f j.earlier j.at) in
       last_file steady contents i start number h.x way (stand w None) (stand v None) (stand u None) j h.rest other (file_outcome steady j.earlier h.x u.input way (stand v None) (stand u None) all)
-
-goes_stops : (es : List Effect) (e : End) → Goes es ≡ Stops e → ⊥
-goes_stops es e h = cc
 
 -- a part of the plan that ended the run
 pub part_ended : (steady : Bool) (es later : List Effect) (all : Plan) (way : Way) (s t : Stand) → effects all.steps ≡ es ++ later → PartEnded steady (Goes es) way s t → FilesOutcome steady all way s t

@@ -13,9 +13,7 @@ use Rattle.jfr_plan.proofs.Walking.{done_append}
 use Rattle.std.proofs.lemmas.Bool.{lt-leb}
 use Rattle.jfr_split.specs.Parts.{SplitRule, Part}
 use Rattle.jfr_split.specs.Splits.{closing, asks_new}
-
-goes_stops : (es : List Effect) (e : End) → Goes es ≡ Stops e → ⊥
-goes_stops es e h = cc
+use Rattle.jfr_split.proofs.Basics.{goes_stops}
 
 -- an ended part, of which more was asked
 ended_more : (st : Bool) (a b : List Effect) (way : Way) (s t : Stand) → PartEnded st (Goes a) way s t → PartEnded st (Goes (a ++ b)) way s t

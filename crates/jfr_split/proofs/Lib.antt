@@ -1,5 +1,6 @@
 mod Answering
 mod Assembled
+mod Basics
 mod Composing
 mod Creating
 mod Ending

@@ -40,10 +40,6 @@ joined_more folder names name =
     ∙ map-append (in_folder folder) (filter is_recording names) (filter is_recording (name ∷ []))
     ∙ ap (λ (x : List (List ℕ)). joined_in folder names ++ x) (joined_one folder name)
 
-and_first : (a b : Bool) → (a && b) ≡ true → a ≡ true
-and_first true b e = refl
-and_first false b e = e
-
 split_name : (b : Bool) (folder name : List ℕ) (p : Bool) (rest : List ℕ) → bytes_eq (take (length folder + 1) name) (in_folder folder []) ≡ b → (if b && p then Some (drop (length folder + 1) name) else None) ≡ Some rest → name ≡ in_folder folder rest
 split_name false folder name p rest e h = cc
 split_name true folder name false rest e h = cc

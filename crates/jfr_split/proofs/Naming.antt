@@ -13,6 +13,7 @@ use Rattle.std.proofs.lemmas.List.Prefix.{front_rest}
 use Rattle.jfr_header.proofs.Steps.{take_whole}
 use Rattle.jfr_outside.specs.World.{in_folder, is_plain, rest_in}
 use Rattle.jfr_split.specs.Names.{suffix, is_recording, base, without_suffix, stem, digits, within, part_name, is_joined}
+use Rattle.jfr_split.proofs.Basics.{and_true, first_true, second_true}
 use Rattle.jfr_split.proofs.Ordered.{order, order_after, digits_less}
 use Rattle.jfr_split.proofs.Stems.{ends}
 
@@ -30,18 +31,6 @@ names_rise folder file a b h l =
 
 abbrev no_slash : ℕ → Bool
 no_slash b = not (b == 47)
-
-and_true : (x y : Bool) → x ≡ true → y ≡ true → (x && y) ≡ true
-and_true true y e f = f
-and_true false y e f = e
-
-first_true : (x y : Bool) → (x && y) ≡ true → x ≡ true
-first_true true y e = refl
-first_true false y e = e
-
-second_true : (x y : Bool) → (x && y) ≡ true → y ≡ true
-second_true true y e = e
-second_true false y e = cc
 
 plain_append : (x y : List ℕ) → is_plain x ≡ true → is_plain y ≡ true → is_plain (x ++ y) ≡ true
 plain_append x y e f = list_all-append no_slash x y ∙ and_true (is_plain x) (is_plain y) e f

@@ -23,6 +23,7 @@ use Rattle.jfr_split.specs.Names.{part_name, is_joined}
 use Rattle.jfr_split.specs.Splits.{closing, asks_part, splitting_as}
 use Rattle.jfr_split.specs.Joins.{files_in, joining, joining_all, assembling}
 use Rattle.jfr_split.specs.Laws.{split_plan, split, Returns}
+use Rattle.jfr_split.proofs.Basics.{same_end}
 use Rattle.jfr_split.proofs.Fold.{flat, groups_flat, groups, groups_after, of_none}
 use Rattle.jfr_split.proofs.Ordered.{order}
 use Rattle.jfr_split.proofs.Naming.{names_rise, part_joined}
@@ -43,9 +44,6 @@ never_by rule name false p c e = cc
 
 pub never : (rule : SplitRule) (name : ℕ → List ℕ) → NeverFine (splitting_as rule name)
 never rule name before c e = never_by rule name (begins rule (part_of rule before) c) (part_of rule before) c e
-
-same_end : (a b : End) → ◌≡◌ {A = Option End} (Some a) (Some b) → a ≡ b
-same_end a b e = cc
 
 -- the last part is finished, and no file changes
 closed_files : (b : Bool) (s : Stand) → (done (effects (needing AtEnd (if b then [] else Finish ∷ []))) s).files ≡ s.files

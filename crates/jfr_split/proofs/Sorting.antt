@@ -12,6 +12,7 @@ use Rattle.std.specs.declared.alloc.Global.{Global}
 use Rattle.std.proofs.Math.ListN.{get_or}
 use Rattle.std.proofs.lemmas.List.Sums.{sum_by-cons}
 use Rattle.std.proofs.lemmas.List.Sorted.{ranks_by, sorted_far}
+use Rattle.jfr_split.proofs.Basics.{first_holds, second_holds}
 use Rattle.jfr_split.proofs.Ordered.{order, order_same}
 
 -- none of these is below x
@@ -104,14 +105,6 @@ up_sorted (s ∷ ss) h = (
   up_sorted ss (sorted_tail s ss h),
 )
 
-t_first : (a b : Bool) → T (a && b) → T a
-t_first true b h = tt
-t_first false b h = absurd h
-
-t_second : (a b : Bool) → T (a && b) → T b
-t_second true b h = h
-t_second false b h = absurd h
-
 flip : (a b : Ordering) → b ≡ ordering_reverse a → T (is_lt a) → is_lt b ≡ false
 flip Less b e h = ap is_lt e
 flip Equal b e h = absurd h
@@ -120,9 +113,9 @@ flip Greater b e h = absurd h
 none_below : (x : List ℕ) (es : List (List ℕ × List ℕ)) → T (below_all order x es) → NoneBelow x (map (λ e. e.0) es)
 none_below x [] h = tt
 none_below x (e ∷ es) h =
-    (flip (order x e.0) (order e.0 x) (nat_list_cmp_total.antisymm e.0 x) (t_first (is_lt (order x e.0)) (below_all order x es) h), none_below x es (t_second (is_lt (order x e.0)) (below_all order x es) h))
+    (flip (order x e.0) (order e.0 x) (nat_list_cmp_total.antisymm e.0 x) (first_holds (is_lt (order x e.0)) (below_all order x es) h), none_below x es (second_holds (is_lt (order x e.0)) (below_all order x es) h))
 
 -- the keys of a map are up
 pub up_keys : (es : List (List ℕ × List ℕ)) → T (is_sorted order es) → IsUp (map (λ e. e.0) es)
 up_keys [] h = tt
-up_keys (e ∷ es) h = (none_below e.0 es (t_first (below_all order e.0 es) (is_sorted order es) h), up_keys es (t_second (below_all order e.0 es) (is_sorted order es) h))
+up_keys (e ∷ es) h = (none_below e.0 es (first_holds (below_all order e.0 es) (is_sorted order es) h), up_keys es (second_holds (below_all order e.0 es) (is_sorted order es) h))

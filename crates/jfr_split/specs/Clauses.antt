@@ -44,7 +44,7 @@ pub record Unfinished (steady : Bool) (all : List Effect) (s t : Stand) : Type 0
 abbrev pub FilesOutcome : Bool → Plan → Way → Stand → Stand → Type 0
 FilesOutcome steady plan way s t = Outcome steady plan (Unfinished steady (effects plan.steps)) way s t
 
--- the same between what a place tells before and after, under the plan that its files make
+-- what stands after such a call, by what the place tells, under the plan that its files make
 abbrev pub AfterFiles : (Files → Plan) → Way → Outside → Outside → Type 0
 AfterFiles plan way a b = Told a.place.told b.place.told (λ w v. FilesOutcome a.place.steady (plan w.files) way (stand w a.sink.written) (stand v b.sink.written))
 

@@ -156,7 +156,7 @@ pub fn assemble<P: Place>(alloc: Global, place: &mut P, folder: &str, out: &str)
     ensures counts { Tallied File (way_of result)
         (alone (P.state place.old)) (alone (P.state place.new)) }
 
-    // The same for each answer, where the place tells its files.
+    // For each answer alone, where the place tells its files.
     ensures done { result ≡ Ending.Done → FilesEnded (assembling folder.now out.now) Fine
         (alone (P.state place.old)) (alone (P.state place.new)) }
     ensures refused { (r : Refusal) → result ≡ Ending.Refused r

@@ -92,7 +92,7 @@ pub fn disassemble<P: Place>(alloc: Global, place: &mut P, file: &str, rule: &Sp
     ensures counts { Tallied Parts (way_of result)
         (alone (P.state place.old)) (alone (P.state place.new)) }
 
-    // The same for each answer, where the place tells its files.
+    // For each answer alone, where the place tells its files.
     ensures done { result ≡ Ending.Done → Ended (splitting rule.now file.now) file.now Fine
         (alone (P.state place.old)) (alone (P.state place.new)) }
     ensures refused { (r : Refusal) → result ≡ Ending.Refused r
