@@ -106,6 +106,11 @@ fn cut_here<P: Place>(alloc: Global, place: &mut P) -> Ending {
     disassemble(alloc, place, "r.jfr", &rule)
 }
 
+// The first part has these bytes.
+fn check_first(rt: &impl Abort, place: &SteadyPlace, bytes: &[u8]) {
+    assert_eq!(rt; place.file("r_000001.jfr"), Some(bytes));
+}
+
 #[test]
 fn recordings_are_cut_over_a_steady_place(rt: HostRuntime) -> Result<(), Fail> {
     let alloc = rt.alloc();
@@ -114,9 +119,9 @@ fn recordings_are_cut_over_a_steady_place(rt: HostRuntime) -> Result<(), Fail> {
 
     place.put("r.jfr", &PLAIN)?;
     assert_eq!(rt; cut_here(alloc, &mut place), Ending::Done);
-    assert_eq!(rt; place.file("r_000001.jfr"), Some(PLAIN.as_slice()));
+    check_first(&rt, &place, &PLAIN);
 
     assert_eq!(rt; cut_here(alloc, &mut place), Ending::WriteFault);
-    assert_eq!(rt; place.file("r_000001.jfr"), Some(PLAIN.as_slice()));
+    check_first(&rt, &place, &PLAIN);
     Ok(())
 }
