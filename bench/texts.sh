@@ -5,8 +5,8 @@
 # again; the JDK's `jfr summary` counts the same events; and on a file of less than a megabyte the values of
 # `print --json` are those that the JDK prints (values.py). Prints a table: seconds, bytes written and peak
 # memory of each command, and the seconds of the JDK's command, with how many times as long that takes.
-# Seconds are the least of three runs, in turn. The JDK is the one whose `jfr` is on the PATH, or in the
-# folder JFR_BIN.
+# Seconds are the least of three runs, in turn, with the output stream to /dev/null. The JDK is the one whose
+# `jfr` is on the PATH, or in the folder JFR_BIN.
 set -u
 program=$(realpath "$1"); shift
 here=$(dirname "$(readlink -f "$0")")
@@ -35,8 +35,8 @@ race() {
     while [ $# -gt 0 ] && [ "$1" != -- ]; do mine+=("$1"); shift; done
     if [ $# -gt 0 ]; then its=("${@:2}"); else its=("${mine[@]}"); fi
     for _ in 1 2 3; do
-        once "$work/theirs" "$jdk" "${its[@]}"; theirs=$(lesser "$theirs" "$took")
-        once "$work/ours" "$program" "${mine[@]}"; ours=$(lesser "$ours" "$took")
+        once /dev/null "$jdk" "${its[@]}"; theirs=$(lesser "$theirs" "$took")
+        once /dev/null "$program" "${mine[@]}"; ours=$(lesser "$ours" "$took")
         [ "$status" = 0 ] || fail "status $status of ${mine[*]}: $(cat "$work/errors")"
     done
     once "$work/ours" /usr/bin/time -f %M "$program" "${mine[@]}"
