@@ -25,7 +25,7 @@ const SHORT_GROUPS: usize = 8;
 const NINTH_SHIFT: u32 = 56;
 
 /// Reads the integer that is spelled at a place. A spelling has one to nine bytes, and needn't be the
-/// shortest.
+/// shortest. `Short` exactly where the bytes end before the spelling does.
 pub fn read_var(bytes: &[u8], at: usize) -> Result<Var, Short>
     requires { at ≤ length bytes.now }
     ensures ok { IfOk result (λ v. IntAt bytes.now at v.end v.value) }

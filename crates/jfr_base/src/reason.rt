@@ -50,9 +50,9 @@ pub enum Reason {
     FieldTwice,
     /// A field's class isn't defined.
     UnknownType,
-    /// A field holds a value of a class without fields.
+    /// A field without the constant mark has a composite class without fields.
     EmptyInline,
-    /// Values stand within one another too deep.
+    /// A class begins a chain of more than 32 inline steps.
     InlineDeep,
     /// A pool's class isn't defined.
     PoolType,

@@ -13,8 +13,9 @@ use crate::{ClassFault, ClassInfo, ClassList, Kind, Row, Shape, Slot};
 use std::alloc::Global;
 use std::marker::Model;
 
-/// Classes that are sound: ids and names of fields are used once, each field's class is known, and no
-/// value stands within others without end.
+/// Classes that are sound: ids, and names of fields within a class, are used once; each field's class is
+/// known, and has fields where values of it stand inline and it is composite; and no class begins a chain
+/// of more than 32 inline steps.
 #[derive(Drop)]
 pub struct Classes {
     resolved: Resolved,
@@ -37,6 +38,10 @@ impl Model for Classes {
 
 impl Classes {
     /// The classes of a list, where they are sound.
+    ///
+    /// `Flawed` exactly where they aren't, with the first flaw of the first stage that has one: `ClassTwice`
+    /// and `FieldTwice` together, `UnknownType`, `EmptyInline`, `InlineDeep`, each over the whole list in its
+    /// order. `Memory` where memory is wanting.
     pub fn make(alloc: Global, list: ClassList) -> Result<Classes, ClassFault>
         ensures ok { OnOk result (Sound list) }
         ensures exact { IfOk result (λ classes. classes ≡ list) }

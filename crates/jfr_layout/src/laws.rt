@@ -8,7 +8,7 @@ pub fn ids_stand_once()
     ensures { (k : Classes) → Sound k → StandOnce k }
 {}
 
-/// In a sound list each field's class is known, and no inline value is empty.
+/// In a sound list each field's class is known, and a composite class whose values stand inline has fields.
 #[tactic(auto, using(crate::proofs::SoundLaws::are_known))]
 pub fn classes_are_known()
     ensures { (k : Classes) → Sound k → AreKnown k }

@@ -7,7 +7,7 @@ ghost use Rattle.jfr_meta.specs.Body.{Body};
 ghost use Rattle.jfr_meta.specs.Described.{IsMetadata};
 ghost use Rattle.jfr_meta.specs.Laws.{HasOneDescription, RootStands};
 
-/// A metadata record is read or refused: one of the two, with one answer.
+/// A metadata record is not both read and refused, and it has one reading at most, or one flaw.
 pub fn one_description()
     ensures { (x : List ℕ) (r : Framed) → IsRecord x r → HasOneDescription x r }
 {}

@@ -19,7 +19,7 @@ pub struct Metadata {
     /// When it was written, and for how long, in ticks.
     pub start: u64,
     pub duration: u64,
-    /// Its number among the metadata records of the recording.
+    /// The number that the recorder gave it; nothing is asked of it.
     pub id: u64,
     /// The table of strings, as texts.
     pub strings: Words,
@@ -32,8 +32,12 @@ pub struct Metadata {
 /// Reads the metadata record of a chunk, and the classes that it describes.
 ///
 /// First the body is read from left to right, to its end; then the tree has an element for the
-/// classes; then the attributes of classes and fields are good; at last the classes are sound. The
-/// flaw is the first one in this order, and in each of these steps the first from the left.
+/// classes; then the attributes of classes and fields are good; at last the classes are sound, by the
+/// stages of `Classes::make`. The flaw is the first one in this order: in the body and in the attributes
+/// the first from the left, and of the classes the first of the first stage that has one.
+///
+/// `Flawed` with a reason from `Short` to `InlineDeep` exactly where the record is refused; `Memory` where
+/// memory is wanting.
 pub fn read_metadata(alloc: Global, chunk: &[u8], frame: &Framed) -> Result<Metadata, ReadFault>
     requires { IsRecord chunk.now frame.now }
     ensures ok { IfOk result (λ m. IsMetadata chunk.now frame.now (record { start = m.start; duration = m.duration; id = m.id; strings = m.strings; root = m.root }) m.classes) }

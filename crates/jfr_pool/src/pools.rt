@@ -37,7 +37,8 @@ impl Model for Pools {
 impl Pools {
     /// Reads the entries of the chained checkpoints, the oldest first. They are refused, at the first
     /// fault in the order of the file, as `Short`, `StringKind` or `PoolType`, and as `Trailing` where
-    /// a checkpoint has bytes behind its last pool.
+    /// a checkpoint has bytes behind its last pool. `Memory` where memory is wanting, and for 2 ^ 32 entries or
+    /// more, which only bytes of 4 GiB or more can have.
     pub fn read(
         alloc: Global,
         chunk: &[u8],
