@@ -19,5 +19,6 @@ pub mod RunLaws
 pub mod SeenLaws
 pub mod Shorts
 pub mod Spelling
+pub mod TextLaws
 pub mod UnitLaws
 pub mod Writing

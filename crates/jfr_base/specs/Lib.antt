@@ -2,3 +2,4 @@ pub mod Formats
 pub mod Integer
 pub mod Laws
 pub mod Reasons
+pub mod Texts

@@ -2,8 +2,7 @@
 ghost use Rattle.std.specs.Prelude.{◌≡◌};
 ghost use Rattle.jfr_base.specs.declared.flaw.ReadFault.TheVariants.{Flawed, Memory};
 
-use crate::Reason;
-use jfr_outside::NoMemory;
+use crate::{NoMemory, Reason};
 use std::alloc::{AllocError, AllocFailed};
 
 /// A fault of a chunk: the place, counted from the chunk's first byte, and the reason.

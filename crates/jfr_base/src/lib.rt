@@ -7,10 +7,14 @@
 mod flaw;
 mod integer;
 pub mod laws;
+mod memory;
 mod reason;
+mod text;
 
 pub use flaw::{Flaw, ReadFault, Refusal};
 pub use integer::{
     Short, Var, read_short, read_var, read_within, signed, var_len, write_in, write_var,
 };
+pub use memory::NoMemory;
 pub use reason::Reason;
+pub use text::{Text, Words};

@@ -26,22 +26,22 @@ pub whole_small : (c : List ℕ) → Whole c → length c < 2 ^ 28
 whole_small c w = subst (λ n. n < 2 ^ 28) w.size (size_bounds _ w.flawless).1
 
 -- up to a record there are no more records, and no more numbers are noted, than there are bytes
-pub record Counted (c : List ℕ) (rs : List Framed) (n noted : ℕ) : Type 0 where
+pub record Counted (c : List ℕ) (rs : List Framed) (n refs_end : ℕ) : Type 0 where
   pub at : ℕ
   pub left : Tiles c at (drop n rs) (length c)
   pub records : n ≤ at
-  pub numbers : noted ≤ at
+  pub numbers : refs_end ≤ at
 
-record IsWithin (c : List ℕ) (n noted : ℕ) : Type 0 where
+record IsWithin (c : List ℕ) (n refs_end : ℕ) : Type 0 where
   records : n ≤ length c
-  numbers : noted ≤ length c
+  numbers : refs_end ≤ length c
 
 module _ (c : List ℕ) (rs : List Framed) where
-  pub counted_none : (noted : ℕ) → AreRecords c rs → noted ≡ 0 → Counted c rs 0 noted
-  counted_none noted t e = record { at = 68; left = t; records = omega arith; numbers = omega arith }
+  pub counted_none : (refs_end : ℕ) → AreRecords c rs → refs_end ≡ 0 → Counted c rs 0 refs_end
+  counted_none refs_end t e = record { at = 68; left = t; records = omega arith; numbers = omega arith }
 
-  pub counted_next : (n noted more : ℕ) (r : Framed) → slice_get rs n ≡ Some r → more ≤ noted + r.size → Counted c rs n noted → Counted c rs (n + 1) more
-  counted_next n noted more r g m h =
+  pub counted_next : (n refs_end more : ℕ) (r : Framed) → slice_get rs n ≡ Some r → more ≤ refs_end + r.size → Counted c rs n refs_end → Counted c rs (n + 1) more
+  counted_next n refs_end more r g m h =
       let t : Tiles c h.at (r ∷ drop (n + 1) rs) (length c) = subst (λ z. Tiles c h.at z (length c)) (drop_at rs n r g) h.left in
       let s : r.at < r.at + r.size = some_bytes c r t.1 in
       let a : r.at ≡ h.at = t.0 in
@@ -49,15 +49,15 @@ module _ (c : List ℕ) (rs : List Framed) where
       let j = h.numbers in
       record { at = record_end r; left = t.2; records = omega arith; numbers = omega arith }
 
-  counted_within : (n noted : ℕ) → Counted c rs n noted → IsWithin c n noted
-  counted_within n noted h =
+  counted_within : (n refs_end : ℕ) → Counted c rs n refs_end → IsWithin c n refs_end
+  counted_within n refs_end h =
       let o = tiles_order c h.at (length c) (drop n rs) h.left in
       let i = h.records in
       let j = h.numbers in
       record { records = omega arith; numbers = omega arith }
 
-  pub number_fits : (n noted : ℕ) → Whole c → Counted c rs n noted → n < 2 ^ 32
-  number_fits n noted w h = let z = whole_small c w in let o = counted_within n noted h in omega (arith, o.records)
+  pub number_fits : (n refs_end : ℕ) → Whole c → Counted c rs n refs_end → n < 2 ^ 32
+  number_fits n refs_end w h = let z = whole_small c w in let o = counted_within n refs_end h in omega (arith, o.records)
 
 -- a node refers to at most as many entries as it has leaves
 those_length : {A B : Type 0} (f : A → Option B) (xs : List A) → length (those f xs) ≤ length xs

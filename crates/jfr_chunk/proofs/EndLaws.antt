@@ -8,7 +8,7 @@ use Rattle.std.proofs.Common.{ap, arith, refl, ◌∙◌}
 use Rattle.std.proofs.lemmas.Bool.Decides.{nat_tests}
 use Rattle.jfr_frame.specs.declared.framed.Framed.{Framed}
 use Rattle.jfr_frame.specs.Records.{record_end}
-use Rattle.jfr_chunk.specs.declared.chunk.FieldsAt.{FieldsAt}
+use Rattle.jfr_chunk.specs.declared.chunk.EventIndexEntry.{EventIndexEntry}
 use Rattle.jfr_chunk.specs.Seen.{end_in, event_kept, event_with}
 use Rattle.jfr_chunk.proofs.AllLaws.{all_append}
 
@@ -35,43 +35,43 @@ end_full early n end r e h = record {
 }
 
 -- what is kept is of the records before a number
-pub record AreBefore (n : ℕ) (early : BTreeMap ℕ ℕ) (fields : List FieldsAt) : Type 0 where
-  pub each : AllByRecursion (λ (f : FieldsAt). f.record < n) fields
+pub record AreBefore (n : ℕ) (early : BTreeMap ℕ ℕ) (fields : List EventIndexEntry) : Type 0 where
+  pub each : AllByRecursion (λ (f : EventIndexEntry). f.record < n) fields
   pub ahead : (q : ℕ) → n ≤ q → tree.get nat_cmp early q ≡ None
 
-pub before_none : (early : BTreeMap ℕ ℕ) (fields : List FieldsAt) → tree.IsEmpty early → fields ≡ [] → AreBefore 0 early fields
+pub before_none : (early : BTreeMap ℕ ℕ) (fields : List EventIndexEntry) → tree.IsEmpty early → fields ≡ [] → AreBefore 0 early fields
 before_none early fields e f = record {
   each = rw f tt;
   ahead = λ q h. rw e refl;
 }
 
-weaker : (n : ℕ) (fields : List FieldsAt) → AllByRecursion (λ (f : FieldsAt). f.record < n) fields → AllByRecursion (λ (f : FieldsAt). f.record < n + 1) fields
+weaker : (n : ℕ) (fields : List EventIndexEntry) → AllByRecursion (λ (f : EventIndexEntry). f.record < n) fields → AllByRecursion (λ (f : EventIndexEntry). f.record < n + 1) fields
 weaker n [] a = tt
 weaker n (f ∷ fs) a = (let h : f.record < n = a.0 in omega arith, weaker n fs a.1)
 
-pub before_other : (n : ℕ) (early : BTreeMap ℕ ℕ) (fields : List FieldsAt) → AreBefore n early fields → AreBefore (n + 1) early fields
+pub before_other : (n : ℕ) (early : BTreeMap ℕ ℕ) (fields : List EventIndexEntry) → AreBefore n early fields → AreBefore (n + 1) early fields
 before_other n early fields b = record {
   each = weaker n fields b.each;
   ahead = λ q h. b.ahead q (omega arith);
 }
 
-pub before_event : (n end : ℕ) (early later : BTreeMap ℕ ℕ) (fields : List FieldsAt) (f : FieldsAt) (r : Framed) → f.record ≡ n → EndIs early later n r end → AreBefore n early fields → AreBefore (n + 1) later (fields ++ f ∷ [])
+pub before_event : (n end : ℕ) (early later : BTreeMap ℕ ℕ) (fields : List EventIndexEntry) (f : EventIndexEntry) (r : Framed) → f.record ≡ n → EndIs early later n r end → AreBefore n early fields → AreBefore (n + 1) later (fields ++ f ∷ [])
 before_event n end early later fields f r e i b = record {
-  each = all_append (λ (f : FieldsAt). f.record < n + 1) fields (f ∷ []) (weaker n fields b.each) (omega arith, tt);
+  each = all_append (λ (f : EventIndexEntry). f.record < n + 1) fields (f ∷ []) (weaker n fields b.each) (omega arith, tt);
   ahead = λ q h. i.others q (λ d. (omega arith)) ∙ b.ahead q (omega arith);
 }
 
 module _ (rs : List Framed) (early later : BTreeMap ℕ ℕ) (n end : ℕ) (r : Framed) (i : EndIs early later n r end) where
   -- the events of the records before are the same
-  pub same_event : (f : FieldsAt) → f.record < n → event_kept rs later f ≡ event_kept rs early f
+  pub same_event : (f : EventIndexEntry) → f.record < n → event_kept rs later f ≡ event_kept rs early f
   same_event f h = ap (λ o. option_map (λ (x : Framed). event_with (unwrap_or o (record_end x)) x) (slice_get rs f.record)) (i.others f.record (λ d. (omega arith)))
 
-  pub same_events : (fields : List FieldsAt) → AllByRecursion (λ (f : FieldsAt). f.record < n) fields → map (event_kept rs later) fields ≡ map (event_kept rs early) fields
+  pub same_events : (fields : List EventIndexEntry) → AllByRecursion (λ (f : EventIndexEntry). f.record < n) fields → map (event_kept rs later) fields ≡ map (event_kept rs early) fields
   same_events [] a = refl
   same_events (f ∷ fs) a = rw (same_event f a.0, same_events fs a.1) refl
 
   -- and the event of the record is this one
-  pub this_event : (f : FieldsAt) → f.record ≡ n → slice_get rs n ≡ Some r → event_kept rs later f ≡ Some (event_with end r)
+  pub this_event : (f : EventIndexEntry) → f.record ≡ n → slice_get rs n ≡ Some r → event_kept rs later f ≡ Some (event_with end r)
   this_event f e g =
       let h : slice_get rs f.record ≡ Some r = ap (slice_get rs) e ∙ g in
       let k : end_in later f.record r ≡ end = ap (λ m. end_in later m r) e ∙ i.here in

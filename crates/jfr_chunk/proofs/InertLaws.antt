@@ -17,7 +17,7 @@ use Rattle.jfr_pool.specs.declared.link.Link.{Link}
 use Rattle.jfr_pool.specs.Chains.{IsLink, IsChain}
 use Rattle.jfr_pool.specs.Entries.{inline}
 use Rattle.jfr_chunk.specs.Parts.{Parts, HasFields, event_by, event_of, event_records, events_of, is_inert, AreParts, metadata_at, pools_at}
-use Rattle.jfr_chunk.specs.declared.chunk.FieldsAt.{FieldsAt}
+use Rattle.jfr_chunk.specs.declared.chunk.EventIndexEntry.{EventIndexEntry}
 use Rattle.jfr_chunk.specs.Seen.{event_kept}
 use Rattle.jfr_chunk.proofs.SeenLaws.{each_length}
 use Rattle.jfr_chunk.proofs.Members.{In, contains_in}
@@ -144,7 +144,7 @@ count_events c k (r ∷ rs) a h =
     ∙ ap suc (count_events c k rs a.1 h.1)
 
 -- what is left when the events, the metadata record and the chained checkpoints are taken away
-pub inert_counted : (p : Parts) (early : BTreeMap ℕ ℕ) (fields : List FieldsAt) (ls : List Link) → AreParts p → p.chain ≡ reverse ls → map (event_kept p.records early) fields ≡ map Some (events_of p) → length (filter (is_inert p) p.records) + (length fields + (1 + length ls)) ≡ length p.records
+pub inert_counted : (p : Parts) (early : BTreeMap ℕ ℕ) (fields : List EventIndexEntry) (ls : List Link) → AreParts p → p.chain ≡ reverse ls → map (event_kept p.records early) fields ≡ map Some (events_of p) → length (filter (is_inert p) p.records) + (length fields + (1 + length ls)) ≡ length p.records
 unfolding events_of
 inert_counted p early fields ls a r e =
     let n : length p.chain ≡ length ls = ap length r ∙ length-reverse ls in

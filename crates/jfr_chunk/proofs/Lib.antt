@@ -11,7 +11,7 @@ mod InertLaws
 mod KeptLaws
 pub mod MeaningLaws
 pub mod Members
-pub mod NotedLaws
+pub mod RefLaws
 pub mod PartsLaws
 pub mod PathLaws
 pub mod ReachLaws

@@ -25,10 +25,10 @@ use Rattle.jfr_pool.specs.Chains.{IsChain, IsRefusedChain}
 use Rattle.jfr_pool.specs.Entries.{AreEntries, entries_of}
 use Rattle.jfr_pool.specs.Faults.{TellsFlaw}
 use Rattle.jfr_pool.proofs.Among.{found_any}
-use Rattle.jfr_chunk.specs.declared.chunk.FieldsAt.{FieldsAt}
+use Rattle.jfr_chunk.specs.declared.chunk.EventIndexEntry.{EventIndexEntry}
 use Rattle.jfr_chunk.specs.Parts.{Parts, StartsAt, AreParts, events_of, metadata_at, pools_at}
 use Rattle.jfr_chunk.specs.Refusal.{Framing, Chained, Described, Refused, framing, metadata_position, pool_position, chain, metadata, checkpoints, events, found_or, read_parts}
-use Rattle.jfr_chunk.specs.Seen.{AreNoted, IsIndexed, due, parts_in}
+use Rattle.jfr_chunk.specs.Seen.{AreRefs, IsIndexed, due, parts_in}
 use Rattle.jfr_chunk.specs.Stages.{AreFields, IsRefusedEvents}
 use Rattle.jfr_chunk.proofs.Members.{contains_in}
 use Rattle.jfr_chunk.proofs.AllLaws.{all_in, all_reverse}
@@ -157,13 +157,13 @@ module _ (c : List ℕ) (h : Header) (rs : List Framed) (m : Framed) (n : Named 
           pub entries_within : length es ≤ length c
           entries_within = entries_few c rs n.records (pools_at c) (reverse ls) links k (described_sound b k d.classes) es there
 
-          pub indexed : (fields : List FieldsAt) (early : BTreeMap ℕ ℕ) (numbers : List ℕ) → Whole c → AreFields c k rs fields early → AreNoted (due es k c rs early) 0 fields numbers → IsIndexed (parts_in c rs ls b k es) h m fields early numbers
+          pub indexed : (fields : List EventIndexEntry) (early : BTreeMap ℕ ℕ) (numbers : List ℕ) → Whole c → AreFields c k rs fields early → AreRefs (due es k c rs early) 0 fields numbers → IsIndexed (parts_in c rs ls b k es) h m fields early numbers
           unfolding events_of
-          indexed fields early numbers whole f noted = record {
+          indexed fields early numbers whole f refs_end = record {
             whole = whole;
             parts = record { records = n.records; chain = links; metadata_record = m; metadata_there = metadata_there; metadata = d; entries = there; events = f.stand };
             header_is = n.header_is;
             metadata_there = metadata_there;
             events = f.listed;
-            noted = noted;
+            refs_end = refs_end;
           }

@@ -33,9 +33,9 @@ inert_ones_go : becomes (read_parts inert) ≡ plain
 unfolding run int_at string_format meta_format body_format element_format pieces_from described class_flaws classes_of class_of field_of shape_of id_of class_faults kind_of read_parts records_of record_at chain_of checkpoint_format class_format value_format is_event_class events_of value_of number_in_force reached_marks remain scrub_of spell spell_in
 inert_ones_go = refl
 
-last_of_key_stays : becomes (read_parts key_twice) ≡ header 359 337 68 ++ (metadata ++ (7 ∷ 1 ∷ 0 ∷ 0 ∷ 0 ∷ 0 ∷ 0 ∷ (event_a ++ 22 ∷ 1 ∷ 0 ∷ 0 ∷ 244 ∷ 255 ∷ 255 ∷ 255 ∷ 255 ∷ 255 ∷ 255 ∷ 255 ∷ 255 ∷ 0 ∷ 1 ∷ 7 ∷ 1 ∷ 1 ∷ 0 ∷ 3 ∷ 1 ∷ 113 ∷ [])))
+last_of_key_output_records : becomes (read_parts key_twice) ≡ header 359 337 68 ++ (metadata ++ (7 ∷ 1 ∷ 0 ∷ 0 ∷ 0 ∷ 0 ∷ 0 ∷ (event_a ++ 22 ∷ 1 ∷ 0 ∷ 0 ∷ 244 ∷ 255 ∷ 255 ∷ 255 ∷ 255 ∷ 255 ∷ 255 ∷ 255 ∷ 255 ∷ 0 ∷ 1 ∷ 7 ∷ 1 ∷ 1 ∷ 0 ∷ 3 ∷ 1 ∷ 113 ∷ [])))
 unfolding run int_at string_format meta_format body_format element_format pieces_from described class_flaws classes_of class_of field_of shape_of id_of class_faults kind_of read_parts records_of record_at chain_of checkpoint_format class_format value_format is_event_class events_of value_of number_in_force reached_marks remain scrub_of spell spell_in
-last_of_key_stays = refl
+last_of_key_output_records = refl
 
 deltas_are_true : becomes (read_parts three_checkpoints) ≡ header 374 359 68 ++ (metadata ++ (14 ∷ 1 ∷ 0 ∷ 0 ∷ 0 ∷ 0 ∷ 1 ∷ 7 ∷ 1 ∷ 1 ∷ 0 ∷ 3 ∷ 1 ∷ 112 ∷ 15 ∷ 1 ∷ 0 ∷ 0 ∷ 242 ∷ 255 ∷ 255 ∷ 255 ∷ 255 ∷ 255 ∷ 255 ∷ 255 ∷ 255 ∷ 0 ∷ 0 ∷ (event_a ++ 15 ∷ 1 ∷ 0 ∷ 0 ∷ 236 ∷ 255 ∷ 255 ∷ 255 ∷ 255 ∷ 255 ∷ 255 ∷ 255 ∷ 255 ∷ 0 ∷ 0 ∷ [])))
 unfolding run int_at string_format meta_format body_format element_format pieces_from described class_flaws classes_of class_of field_of shape_of id_of class_faults kind_of read_parts records_of record_at chain_of checkpoint_format class_format value_format is_event_class events_of value_of number_in_force reached_marks remain scrub_of spell spell_in

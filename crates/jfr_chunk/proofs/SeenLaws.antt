@@ -6,11 +6,11 @@ use Rattle.std.proofs.Common.{ap, refl, sym, ◌∙◌}
 use Rattle.jfr_frame.specs.declared.framed.Framed.{Framed}
 use Rattle.jfr_value.specs.Nodes.{targets}
 use Rattle.jfr_pool.specs.Entries.{number_in_force}
-use Rattle.jfr_chunk.specs.declared.chunk.FieldsAt.{FieldsAt}
+use Rattle.jfr_chunk.specs.declared.chunk.EventIndexEntry.{EventIndexEntry}
 use Rattle.jfr_chunk.specs.Parts.{EventAt, Parts, events_of}
 use Rattle.jfr_chunk.specs.Reach.{all_targets, node_entries, nodes_of, roots}
-use Rattle.jfr_chunk.specs.Seen.{AreNoted, due, end_in, event_kept, event_with}
-use Rattle.jfr_chunk.proofs.NotedLaws.{those_append}
+use Rattle.jfr_chunk.specs.Seen.{AreRefs, due, end_in, event_kept, event_with}
+use Rattle.jfr_chunk.proofs.RefLaws.{those_append}
 
 -- a function whose values at one list are the members of another
 pub each_length : {A B : Type 0} (f : A → Option B) (xs : List A) (ys : List B) → map f xs ≡ map Some ys → length xs ≡ length ys
@@ -49,7 +49,7 @@ each_some f (z ∷ xs) (y ∷ ys) (suc n) x e g = each_some f xs ys n x (tails (
     tails c d cs ds e = cc
 
 -- the event of a number
-pub event_found : (p : Parts) (early : BTreeMap ℕ ℕ) (fs : List FieldsAt) (n : ℕ) (f : FieldsAt) (r : Framed) → map (event_kept p.records early) fs ≡ map Some (events_of p) → slice_get fs n ≡ Some f → slice_get p.records f.record ≡ Some r
+pub event_found : (p : Parts) (early : BTreeMap ℕ ℕ) (fs : List EventIndexEntry) (n : ℕ) (f : EventIndexEntry) (r : Framed) → map (event_kept p.records early) fs ≡ map Some (events_of p) → slice_get fs n ≡ Some f → slice_get p.records f.record ≡ Some r
     → Some (event_with (end_in early f.record r) r) ≡ slice_get (events_of p) n
 event_found p early fs n f r e g h = sym (ap (λ o. option_and_then (event_kept p.records early) o) g ∙ by_record (slice_get p.records f.record) h) ∙ each_get (event_kept p.records early) fs (events_of p) n e
   where
@@ -57,7 +57,7 @@ event_found p early fs n f r e g h = sym (ap (λ o. option_and_then (event_kept 
     by_record o q = ap (λ z. option_and_then (λ x. Some (event_with (end_in early f.record x) x)) z) q
 
 -- or there is none
-pub event_missed : (p : Parts) (early : BTreeMap ℕ ℕ) (fs : List FieldsAt) (n : ℕ) (f : FieldsAt) → map (event_kept p.records early) fs ≡ map Some (events_of p) → slice_get fs n ≡ Some f → slice_get p.records f.record ≡ None
+pub event_missed : (p : Parts) (early : BTreeMap ℕ ℕ) (fs : List EventIndexEntry) (n : ℕ) (f : EventIndexEntry) → map (event_kept p.records early) fs ≡ map Some (events_of p) → slice_get fs n ≡ Some f → slice_get p.records f.record ≡ None
     → None ≡ slice_get (events_of p) n
 event_missed p early fs n f e g h = sym (ap (λ o. option_and_then (event_kept p.records early) o) g ∙ by_record (slice_get p.records f.record) h) ∙ each_get (event_kept p.records early) fs (events_of p) n e
   where
@@ -65,7 +65,7 @@ event_missed p early fs n f e g h = sym (ap (λ o. option_and_then (event_kept p
     by_record o q = ap (λ z. option_and_then (λ x. Some (event_with (end_in early f.record x) x)) z) q
 
 -- the event of a number starts where its record does
-pub event_placed : (p : Parts) (early : BTreeMap ℕ ℕ) (fs : List FieldsAt) (n : ℕ) (f : FieldsAt) → map (event_kept p.records early) fs ≡ map Some (events_of p) → slice_get fs n ≡ Some f
+pub event_placed : (p : Parts) (early : BTreeMap ℕ ℕ) (fs : List EventIndexEntry) (n : ℕ) (f : EventIndexEntry) → map (event_kept p.records early) fs ≡ map Some (events_of p) → slice_get fs n ≡ Some f
     → option_map (λ (r : Framed). r.at) (slice_get p.records f.record) ≡ option_map (λ (e : EventAt). e.record_of.at) (slice_get (events_of p) n)
 event_placed p early fs n f e g = by_record (slice_get p.records f.record) ∙ ap (option_map (λ (e : EventAt). e.record_of.at)) (sym (ap (option_and_then (event_kept p.records early)) g) ∙ each_get (event_kept p.records early) fs (events_of p) n e)
   where
@@ -74,14 +74,14 @@ event_placed p early fs n f e g = by_record (slice_get p.records f.record) ∙ a
     by_record (Some r) = refl
 
 -- what is due to the fields of a number is due to the event of that number
-pub event_due : (p : Parts) (early : BTreeMap ℕ ℕ) (fs : List FieldsAt) (n : ℕ) (f : FieldsAt) → map (event_kept p.records early) fs ≡ map Some (events_of p) → slice_get fs n ≡ Some f
+pub event_due : (p : Parts) (early : BTreeMap ℕ ℕ) (fs : List EventIndexEntry) (n : ℕ) (f : EventIndexEntry) → map (event_kept p.records early) fs ≡ map Some (events_of p) → slice_get fs n ≡ Some f
     → Some (due p.entries p.classes p.bytes p.records early f) ≡ option_map (λ (e : EventAt). node_entries p.entries p.classes p.bytes e.node) (slice_get (events_of p) n)
 event_due p early fs n f e g =
     let m = each_some (event_kept p.records early) fs (events_of p) n f e g in
     ap (λ o. Some (option_map_or (λ (e : EventAt). node_entries p.entries p.classes p.bytes e.node) o [])) m.1 ∙ sym (ap (option_map (λ (e : EventAt). node_entries p.entries p.classes p.bytes e.node)) m.2)
 
 -- and all that is noted is what the events refer to
-pub all_due : (p : Parts) (early : BTreeMap ℕ ℕ) (from : ℕ) (fs : List FieldsAt) (es : List EventAt) (numbers : List ℕ) → map (event_kept p.records early) fs ≡ map Some es → AreNoted (due p.entries p.classes p.bytes p.records early) from fs numbers → numbers ≡ roots p es
+pub all_due : (p : Parts) (early : BTreeMap ℕ ℕ) (from : ℕ) (fs : List EventIndexEntry) (es : List EventAt) (numbers : List ℕ) → map (event_kept p.records early) fs ≡ map Some es → AreRefs (due p.entries p.classes p.bytes p.records early) from fs numbers → numbers ≡ roots p es
 all_due p early from [] [] numbers e a = a
 all_due p early from [] (x ∷ es) numbers e a = cc
 all_due p early from (f ∷ fs) [] numbers e a = cc
@@ -89,11 +89,11 @@ all_due p early from (f ∷ fs) (x ∷ es) numbers e a =
     let h : event_kept p.records early f ≡ Some x = cc in
     let t : map (event_kept p.records early) fs ≡ map Some es = cc in
     let d : due p.entries p.classes p.bytes p.records early f ≡ node_entries p.entries p.classes p.bytes x.node = ap (λ o. option_map_or (λ (e : EventAt). node_entries p.entries p.classes p.bytes e.node) o []) h in
-    let r : a.0 ≡ roots p es = all_due p early f.noted fs es a.0 t a.3 in
+    let r : a.0 ≡ roots p es = all_due p early f.refs_end fs es a.0 t a.3 in
     a.1 ∙ (ap (λ z. z ++ a.0) d ∙ (ap (λ z. node_entries p.entries p.classes p.bytes x.node ++ z) r ∙ sym (those_append (number_in_force p.entries) (targets p.classes p.bytes x.node) (all_targets p (nodes_of es)))))
 
 -- the record of the fields of a number is that of the event of that number
-pub event_recorded : (p : Parts) (early : BTreeMap ℕ ℕ) (fs : List FieldsAt) (n : ℕ) (f : FieldsAt) → map (event_kept p.records early) fs ≡ map Some (events_of p) → slice_get fs n ≡ Some f
+pub event_recorded : (p : Parts) (early : BTreeMap ℕ ℕ) (fs : List EventIndexEntry) (n : ℕ) (f : EventIndexEntry) → map (event_kept p.records early) fs ≡ map Some (events_of p) → slice_get fs n ≡ Some f
     → Some (slice_get p.records f.record) ≡ option_map (λ (e : EventAt). Some e.record_of) (slice_get (events_of p) n)
 event_recorded p early fs n f e g =
     let m = each_some (event_kept p.records early) fs (events_of p) n f e g in

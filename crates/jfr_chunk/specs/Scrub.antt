@@ -12,29 +12,29 @@ use Rattle.jfr_chunk.specs.Reach.{remain}
 use Rattle.jfr_chunk.specs.Written.{Group, by_pool, distance, checkpoint_bytes}
 
 -- What stays of a record: the whole of it, or, of a chained checkpoint, what is written of it. Checkpoints are numbered in file order.
-pub data Stay : Type 0 where
-  Whole : (frame : Framed) → Stay
-  Chained : (number : ℕ) (link : Link) → Stay
+pub data OutputRecord : Type 0 where
+  Whole : (frame : Framed) → OutputRecord
+  Chained : (number : ℕ) (link : Link) → OutputRecord
 
-abbrev pub stay_by : Option (ℕ × Link) → Bool → Framed → Option Stay
-stay_by (Some l) other r = Some (Chained l.0 l.1)
-stay_by None true r = Some (Whole r)
-stay_by None false r = None
+abbrev pub output_record_by : Option (ℕ × Link) → Bool → Framed → Option OutputRecord
+output_record_by (Some l) other r = Some (Chained l.0 l.1)
+output_record_by None true r = Some (Whole r)
+output_record_by None false r = None
 
 -- A kept event, or the header's metadata record.
-abbrev pub stays_whole : Parts → List EventAt → Framed → Bool
-stays_whole p kept r = list_any (λ e. e.record_of.at == r.at) kept || (r.at == metadata_at p.bytes)
+abbrev pub output_records_whole : Parts → List EventAt → Framed → Bool
+output_records_whole p kept r = list_any (λ e. e.record_of.at == r.at) kept || (r.at == metadata_at p.bytes)
 
-abbrev pub stay_of : Parts → List EventAt → Framed → Option Stay
-stay_of p kept r = stay_by (find (λ l. l.1.frame.at == r.at) (enumerate_from 0 (reverse p.chain))) (stays_whole p kept r) r
+abbrev pub output_record_of : Parts → List EventAt → Framed → Option OutputRecord
+output_record_of p kept r = output_record_by (find (λ l. l.1.frame.at == r.at) (enumerate_from 0 (reverse p.chain))) (output_records_whole p kept r) r
 
 -- What stays of the records, in order.
-abbrev pub stays : Parts → List EventAt → List Stay
-stays p kept = filter_map (stay_of p kept) p.records
+abbrev pub output_records : Parts → List EventAt → List OutputRecord
+output_records p kept = filter_map (output_record_of p kept) p.records
 
 -- What is written at a place of the output, and where the chained checkpoint before it stands there.
 pub record Written : Type 0 where
-  pub stay : Stay
+  pub output_record : OutputRecord
   pub at : ℕ
   pub older : Option ℕ
 
@@ -42,43 +42,43 @@ pub record Written : Type 0 where
 abbrev pub groups_of : List EntryAt → ℕ → List Group
 groups_of left number = by_pool (filter (λ e. e.checkpoint == number) left)
 
-abbrev pub bytes_of : List ℕ → List EntryAt → Stay → ℕ → Option ℕ → List ℕ
+abbrev pub bytes_of : List ℕ → List EntryAt → OutputRecord → ℕ → Option ℕ → List ℕ
 bytes_of c left (Whole r) at older = record_bytes c r
 bytes_of c left (Chained number l) at older = checkpoint_bytes c l (distance at older) (groups_of left number)
 
 abbrev pub written_bytes : List ℕ → List EntryAt → Written → List ℕ
-written_bytes c left w = bytes_of c left w.stay w.at w.older
+written_bytes c left w = bytes_of c left w.output_record w.at w.older
 
-abbrev pub older_after : Stay → ℕ → Option ℕ → Option ℕ
+abbrev pub older_after : OutputRecord → ℕ → Option ℕ → Option ℕ
 older_after (Whole r) at older = older
 older_after (Chained number l) at older = Some at
 
 -- What stays, one behind another.
-abbrev pub written : List ℕ → List EntryAt → ℕ → Option ℕ → List Stay → List Written
+abbrev pub written : List ℕ → List EntryAt → ℕ → Option ℕ → List OutputRecord → List Written
 written c left at older [] = []
-written c left at older (s ∷ ss) = record { stay = s; at = at; older = older } ∷ written c left (at + length (bytes_of c left s at older)) (older_after s at older) ss
+written c left at older (s ∷ ss) = record { output_record = s; at = at; older = older } ∷ written c left (at + length (bytes_of c left s at older)) (older_after s at older) ss
 
 -- Where the last checkpoint stands in the output.
 abbrev pub last_at : Option ℕ → List Written → ℕ
 last_at None [] = 0
 last_at (Some at) [] = at
-last_at older (w ∷ ws) = last_at (older_after w.stay w.at older) ws
+last_at older (w ∷ ws) = last_at (older_after w.output_record w.at older) ws
 
 -- The record that stays.
-abbrev pub record_of : Stay → Framed
+abbrev pub record_of : OutputRecord → Framed
 record_of (Whole r) = r
 record_of (Chained number l) = l.frame
 
 -- Where the record that stood at a place stands in the output.
 abbrev pub moved : List Written → ℕ → ℕ
-moved ws at = option_map_or (λ w. w.at) (find (λ w. (record_of w.stay).at == at) ws) 0
+moved ws at = option_map_or (λ w. w.at) (find (λ w. (record_of w.output_record).at == at) ws) 0
 
 -- The header with another size and other positions of the last checkpoint and of the metadata record.
 abbrev pub header_with : List ℕ → ℕ → ℕ → ℕ → List ℕ
 header_with c size pools metadata = header_bytes (record (header_of (take 68 c)) { size = size; pools = pools; metadata = metadata })
 
 -- The chunk of what stays, with these entries left.
-abbrev pub assembled : Parts → List EntryAt → List Stay → List ℕ
+abbrev pub assembled : Parts → List EntryAt → List OutputRecord → List ℕ
 assembled p left ss =
     let ws = written p.bytes left 68 None ss in
     let body = flat_map (written_bytes p.bytes left) ws in
@@ -86,4 +86,4 @@ assembled p left ss =
 
 -- What the chunk becomes where these events are kept.
 unfoldable pub scrub_of : Parts → List EventAt → List ℕ
-scrub_of p kept = assembled p (remain p kept) (stays p kept)
+scrub_of p kept = assembled p (remain p kept) (output_records p kept)

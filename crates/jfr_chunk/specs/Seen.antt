@@ -16,7 +16,7 @@ use Rattle.jfr_value.specs.Nodes.{node_at, node_of}
 use Rattle.jfr_pool.specs.declared.link.Link.{Link}
 use Rattle.jfr_pool.specs.declared.entry.EntryAt.{EntryAt}
 use Rattle.jfr_pool.specs.Entries.{inline}
-use Rattle.jfr_chunk.specs.declared.chunk.FieldsAt.{FieldsAt}
+use Rattle.jfr_chunk.specs.declared.chunk.EventIndexEntry.{EventIndexEntry}
 use Rattle.jfr_chunk.specs.declared.event.Event.{Event}
 use Rattle.jfr_chunk.specs.Parts.{Parts, EventAt, StartsAt, AreParts, events_of, metadata_at}
 use Rattle.jfr_chunk.specs.Reach.{node_entries}
@@ -30,26 +30,26 @@ abbrev pub event_with : ℕ → Framed → EventAt
 event_with end r = record { record_of = r; node = node_at (inline r.type_id) r.body end }
 
 -- The event of the record of that number, whose fields end early or with the record.
-abbrev pub event_kept : List Framed → BTreeMap ℕ ℕ → FieldsAt → Option EventAt
+abbrev pub event_kept : List Framed → BTreeMap ℕ ℕ → EventIndexEntry → Option EventAt
 event_kept rs early f = option_map (λ r. event_with (end_in early f.record r) r) (slice_get rs f.record)
 
 -- The numbers of the entries in force to which the event of these fields refers.
-abbrev pub due : List EntryAt → Classes → List ℕ → List Framed → BTreeMap ℕ ℕ → FieldsAt → List ℕ
+abbrev pub due : List EntryAt → Classes → List ℕ → List Framed → BTreeMap ℕ ℕ → EventIndexEntry → List ℕ
 due es k c rs early f = option_map_or (λ e. node_entries es k c e.node) (event_kept rs early f) []
 
 -- The numbers are those that are due to the events, one event after another, and the count of each, from a number on, tells how many there are up to its last.
-abbrev pub AreNoted : (FieldsAt → List ℕ) → ℕ → List FieldsAt → List ℕ → Type 0
-AreNoted due from [] numbers = numbers ≡ []
-AreNoted due from (f ∷ fs) numbers = (rest : List ℕ) × (numbers ≡ due f ++ rest) × (f.noted ≡ from + length (due f)) × AreNoted due f.noted fs rest
+abbrev pub AreRefs : (EventIndexEntry → List ℕ) → ℕ → List EventIndexEntry → List ℕ → Type 0
+AreRefs due from [] numbers = numbers ≡ []
+AreRefs due from (f ∷ fs) numbers = (rest : List ℕ) × (numbers ≡ due f ++ rest) × (f.refs_end ≡ from + length (due f)) × AreRefs due f.refs_end fs rest
 
 -- The parts stand in a whole chunk; the header, the metadata record, the events and what they refer to are those of the parts.
-pub record IsIndexed (p : Parts) (header : Header) (metadata : Framed) (fields : List FieldsAt) (early : BTreeMap ℕ ℕ) (numbers : List ℕ) : Type 0 where
+pub record IsIndexed (p : Parts) (header : Header) (metadata : Framed) (fields : List EventIndexEntry) (early : BTreeMap ℕ ℕ) (numbers : List ℕ) : Type 0 where
   pub whole : Whole p.bytes
   pub parts : AreParts p
   pub header_is : header ≡ header_of (take 68 p.bytes)
   pub metadata_there : StartsAt p.records (metadata_at p.bytes) 0 metadata
   pub events : map (event_kept p.records early) fields ≡ map Some (events_of p)
-  pub noted : AreNoted (due p.entries p.classes p.bytes p.records early) 0 fields numbers
+  pub refs_end : AreRefs (due p.entries p.classes p.bytes p.records early) 0 fields numbers
 
 -- What a metadata record's body holds, as it was read.
 abbrev pub body_in : Metadata → Body

@@ -9,13 +9,13 @@ use Rattle.jfr_frame.specs.declared.framed.Framed.{Framed}
 use Rattle.jfr_frame.specs.Records.{record_end}
 use Rattle.jfr_value.specs.Reading.{value_format}
 use Rattle.jfr_pool.specs.Entries.{inline}
-use Rattle.jfr_chunk.specs.declared.chunk.FieldsAt.{FieldsAt}
+use Rattle.jfr_chunk.specs.declared.chunk.EventIndexEntry.{EventIndexEntry}
 use Rattle.jfr_chunk.specs.Parts.{HasFields, event_records, event_of}
 use Rattle.jfr_chunk.specs.Refusal.{FirstFails}
 use Rattle.jfr_chunk.specs.Seen.{event_kept}
 
 -- The fields of each event stand; these tell of which records they are, and the early ends which of them end before their record, and where.
-pub record AreFields (c : List ℕ) (k : Classes) (rs : List Framed) (fields : List FieldsAt) (early : BTreeMap ℕ ℕ) : Type 0 where
+pub record AreFields (c : List ℕ) (k : Classes) (rs : List Framed) (fields : List EventIndexEntry) (early : BTreeMap ℕ ℕ) : Type 0 where
   pub stand : All (HasFields c k) (event_records k rs)
   pub listed : map (event_kept rs early) fields ≡ map Some (filter_map (event_of c k) (event_records k rs))
 

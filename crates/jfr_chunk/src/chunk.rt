@@ -13,12 +13,11 @@ ghost use Rattle.jfr_chunk.specs.Seen.{IsOfChunk, end_in, event_at};
 
 use crate::read::{header_in, read_events, record_named};
 use crate::{Event, Kept, Room};
-use jfr_base::{Flaw, ReadFault, Reason};
+use jfr_base::{Flaw, NoMemory, ReadFault, Reason};
 use jfr_frame::{Framed, Frames};
 use jfr_header::Header;
 use jfr_layout::{Classes, Shape};
 use jfr_meta::{Metadata, read_metadata};
-use jfr_outside::NoMemory;
 use jfr_pool::{Chain, Pools};
 use jfr_value::Node;
 use std::alloc::Global;
@@ -45,9 +44,9 @@ const NO_CHECKPOINT: Flaw = Flaw {
 /// numbers of entries are noted up to the last one to which it refers. A chunk has so many events that
 /// these are kept short: none is larger than the chunk.
 #[derive(Clone, Copy, Debug)]
-pub(crate) struct FieldsAt {
+pub(crate) struct EventIndexEntry {
     pub record: u32,
-    pub noted: u32,
+    pub refs_end: u32,
 }
 
 /// A chunk inside the grammar, with the indexes over it. None of its bytes is copied.
@@ -60,7 +59,7 @@ pub struct Chunk<'a> {
     chain: Chain,
     metadata: Metadata,
     pools: Pools,
-    events: Vec<FieldsAt>,
+    events: Vec<EventIndexEntry>,
     early: BTreeMap<u32, u32>,
     numbers: Vec<u32>,
 }
@@ -268,14 +267,14 @@ impl<'a> Chunk<'a> {
         ensures { option_map (λ s. s.now) result ≡ option_map (λ e. node_entries self.now.entries self.now.classes self.now.bytes e.node) (slice_get (events_of self.now) number) }
     {
         let fields = fields_at(&self.events, number)?;
-        let start = noted_before(&self.events, number);
-        self.numbers.get(start..fields.noted as usize)
+        let start = refs_before(&self.events, number);
+        self.numbers.get(start..fields.refs_end as usize)
     }
 }
 
 // Where the fields of the event of a number stand.
 #[inline]
-fn fields_at(events: &[FieldsAt], number: usize) -> Option<FieldsAt>
+fn fields_at(events: &[EventIndexEntry], number: usize) -> Option<EventIndexEntry>
     ensures { result ≡ slice_get events.now number }
 {
     events.get(number).copied()
@@ -295,13 +294,13 @@ fn end_of_fields(early: &BTreeMap<u32, u32>, number: u32, frame: Framed) -> usiz
 
 // How many numbers are noted of the events before the one of a number.
 #[inline]
-fn noted_before(events: &[FieldsAt], number: usize) -> usize
+fn refs_before(events: &[EventIndexEntry], number: usize) -> usize
     requires { number < length events.now }
     ensures first { number ≡ 0 → result ≡ 0 }
-    ensures later { (before : ℕ) → number ≡ before + 1 → Some result ≡ option_map (λ f. f.noted) (slice_get events.now before) }
+    ensures later { (before : ℕ) → number ≡ before + 1 → Some result ≡ option_map (λ f. f.refs_end) (slice_get events.now before) }
 {
     match number.checked_sub(1) {
-        Some(before) => events[before].noted as usize,
+        Some(before) => events[before].refs_end as usize,
         None => 0,
     }
 }

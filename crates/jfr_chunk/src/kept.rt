@@ -2,7 +2,7 @@
 ghost use Rattle.std.specs.Prelude.{◌≡◌, ◌<◌, length, replicate, slice_get, slice_set, false, true, IfOk};
 ghost use Rattle.std.specs.List.{count_by, list_all};
 
-use jfr_outside::NoMemory;
+use jfr_base::NoMemory;
 use std::alloc::Global;
 use std::marker::Model;
 

@@ -8,8 +8,8 @@ mod chunk;
 mod event;
 mod kept;
 mod laws;
-mod notes;
 mod read;
+mod refs;
 mod room;
 
 pub use chunk::Chunk;

@@ -6,25 +6,24 @@ ghost use Rattle.jfr_base.specs.Formats.{run, seen};
 ghost use Rattle.jfr_header.specs.Fronts.{Whole};
 ghost use Rattle.jfr_header.specs.Headers.{header_of};
 ghost use Rattle.jfr_frame.specs.Records.{AreRecords, IsRecord, record_end, record_there};
-ghost use Rattle.jfr_layout.specs.Classes.{IsEventSlot, Sound};
+ghost use Rattle.jfr_layout.specs.Classes.{IsEventLayout, Sound};
 ghost use Rattle.jfr_meta.specs.Answers.{IfFlawed};
 ghost use Rattle.jfr_value.specs.Nodes.{node_at};
 ghost use Rattle.jfr_value.specs.Reading.{value_format};
 ghost use Rattle.jfr_pool.specs.Entries.{inline};
-ghost use Rattle.jfr_chunk.specs.Notes.{Noted};
+ghost use Rattle.jfr_chunk.specs.Refs.{AddsRefs};
 ghost use Rattle.jfr_chunk.specs.Reach.{node_entries};
 ghost use Rattle.jfr_chunk.specs.Refusal.{found_or};
 ghost use Rattle.jfr_chunk.specs.Rooms.{HasNoEvents};
-ghost use Rattle.jfr_chunk.specs.Seen.{AreNoted, due};
+ghost use Rattle.jfr_chunk.specs.Seen.{AreRefs, due};
 ghost use Rattle.jfr_chunk.specs.Stages.{AreFields, IsRefusedEvents};
 
-use crate::chunk::FieldsAt;
-use crate::notes::Notes;
-use jfr_base::{Flaw, ReadFault};
+use crate::chunk::EventIndexEntry;
+use crate::refs::ConstantRefs;
+use jfr_base::{Flaw, NoMemory, ReadFault};
 use jfr_frame::{Framed, Frames};
 use jfr_header::{Header, read_header};
-use jfr_layout::{Classes, Slot};
-use jfr_outside::NoMemory;
+use jfr_layout::{Classes, FieldLayout};
 use jfr_pool::Pools;
 use jfr_value::end_visiting;
 use std::alloc::Global;
@@ -63,7 +62,7 @@ pub(crate) fn record_named(
 /// force to which they refer.
 #[derive(Drop)]
 pub(crate) struct EventIndex {
-    pub fields: Vec<FieldsAt>,
+    pub fields: Vec<EventIndexEntry>,
     /// Where the fields of the few events end that do so before their record, by its number.
     pub early: BTreeMap<u32, u32>,
     pub numbers: Vec<u32>,
@@ -104,40 +103,40 @@ pub(crate) fn read_events(
     requires sound { Sound classes.now }
     requires entries { length pools.now ≤ length chunk.now }
     ensures ok { IfOk result (λ index. AreFields chunk.now classes.now frames.now index.fields.items index.early) }
-    ensures noted { IfOk result (λ index. AreNoted (due pools.now classes.now chunk.now frames.now index.early) 0 index.fields.items index.numbers.items) }
+    ensures refs_end { IfOk result (λ index. AreRefs (due pools.now classes.now chunk.now frames.now index.early) 0 index.fields.items index.numbers.items) }
     ensures refused { IfErr result (IfFlawed (IsRefusedEvents chunk.now classes.now frames.now)) }
 {
     let mut fields = emptied(room.fields, frames.len())?;
     let mut early = room.early;
     early.clear();
-    let mut notes = Notes::new(room.numbers);
+    let mut refs = ConstantRefs::new(room.numbers);
     for number in 0..frames.len() {
         let frame = frames.at(number);
-        let Some(slot) = classes.event_slot(frame.type_id) else {
+        let Some(layout) = classes.event_layout(frame.type_id) else {
             continue;
         };
-        let end = fields_end(chunk, classes, pools, &slot, frame, &mut notes)?;
+        let end = fields_end(chunk, classes, pools, &layout, frame, &mut refs)?;
         let record = number as u32;
         if end < frame.at + frame.size {
-            note_early(&mut early, record, end as u32)?;
+            add_early(&mut early, record, end as u32)?;
         }
-        fields.push(FieldsAt {
+        fields.push(EventIndexEntry {
             record,
-            noted: notes.numbers.len() as u32,
+            refs_end: refs.numbers.len() as u32,
         })?;
     }
-    if notes.lacks {
+    if refs.lacks {
         return Err(ReadFault::Memory);
     }
     Ok(EventIndex {
         fields,
         early,
-        numbers: notes.numbers,
+        numbers: refs.numbers,
     })
 }
 
 /// The room of a list, with place for so many.
-fn emptied(list: Vec<FieldsAt>, count: usize) -> Result<Vec<FieldsAt>, NoMemory>
+fn emptied(list: Vec<EventIndexEntry>, count: usize) -> Result<Vec<EventIndexEntry>, NoMemory>
     ensures { IfOk result (λ emptied. emptied.items ≡ []) }
 {
     let mut emptied = list;
@@ -150,7 +149,7 @@ fn emptied(list: Vec<FieldsAt>, count: usize) -> Result<Vec<FieldsAt>, NoMemory>
 /// end before their record.
 #[cold]
 #[inline(never)]
-fn note_early(early: &mut BTreeMap<u32, u32>, number: u32, end: u32) -> Result<(), NoMemory>
+fn add_early(early: &mut BTreeMap<u32, u32>, number: u32, end: u32) -> Result<(), NoMemory>
     ensures { OnOk result (tree.Updates nat_cmp early.old early.new number (Some end)) }
 {
     early.insert(number, end)?;
@@ -163,17 +162,17 @@ fn fields_end(
     chunk: &[u8],
     classes: &Classes,
     pools: &Pools,
-    slot: &Slot,
+    layout: &FieldLayout,
     frame: Framed,
-    notes: &mut Notes,
+    refs: &mut ConstantRefs,
 ) -> Result<usize, Flaw>
     requires sound { Sound classes.now }
-    requires event { IsEventSlot classes.now frame.type_id slot.now }
+    requires event { IsEventLayout classes.now frame.type_id layout.now }
     requires record { IsRecord chunk.now frame }
     requires entries { length pools.now < 2 ^ 32 }
     ensures exact { result ≡ seen (run (value_format classes.now (inline frame.type_id)) chunk.now (record_end frame) frame.body) }
-    ensures noted { IfOk result (λ end. Noted (node_entries pools.now classes.now chunk.now (node_at (inline frame.type_id) frame.body end)) notes.old notes.new) }
+    ensures refs_end { IfOk result (λ end. AddsRefs (node_entries pools.now classes.now chunk.now (node_at (inline frame.type_id) frame.body end)) refs.old refs.new) }
 {
     let end = frame.at + frame.size;
-    end_visiting(classes, slot, chunk, frame.body, end, notes, pools)
+    end_visiting(classes, layout, chunk, frame.body, end, refs, pools)
 }

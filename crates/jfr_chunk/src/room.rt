@@ -2,7 +2,7 @@
 ghost use Rattle.std.specs.Prelude.{◌≡◌};
 ghost use Rattle.jfr_chunk.specs.Rooms.{IsEmpty};
 
-use crate::chunk::FieldsAt;
+use crate::chunk::EventIndexEntry;
 use crate::read::EventIndex;
 use jfr_frame::FrameRoom;
 use std::alloc::Global;
@@ -29,7 +29,7 @@ impl Room {
     /// The room of indexes, which are given up.
     pub(crate) fn of(
         frames: FrameRoom,
-        fields: Vec<FieldsAt>,
+        fields: Vec<EventIndexEntry>,
         early: BTreeMap<u32, u32>,
         numbers: Vec<u32>,
     ) -> Room

@@ -10,7 +10,7 @@ use Rattle.jfr_base.specs.declared.flaw.ReadFault.{ReadFault}
 use Rattle.jfr_base.specs.declared.flaw.ReadFault.TheVariants.{Flawed, Memory}
 use Rattle.jfr_meta.proofs.Texts.{word_ascii}
 use Rattle.jfr_pool.specs.Faults.{TellsFlaw}
-use Rattle.jfr_outside.specs.declared.fault.NoMemory.{NoMemory}
+use Rattle.jfr_base.specs.declared.memory.NoMemory.{NoMemory}
 use Rattle.jfr_chunk.specs.Parts.{Parts, EventAt}
 use Rattle.jfr_chunk.specs.Chosen.{kept_of}
 use Rattle.jfr_chunk.specs.Reach.{remain}

@@ -1,7 +1,7 @@
 // The patterns of the six options, and the rule over them.
 ghost use Rattle.std.specs.Prelude.{◌≡◌, ◌↔◌, IsTrue, OnOk, OnErr, IsSome, None, Err};
 ghost use Rattle.std.specs.Str.{chars};
-ghost use Rattle.jfr_outside.specs.Texts.{text_in};
+ghost use Rattle.jfr_base.specs.Texts.{text_in};
 ghost use Rattle.jfr_filter.specs.declared.side.FilterFault.TheVariants.{EmptyPattern};
 ghost use Rattle.jfr_filter.specs.Filters.{nothing_given, given_at, with_patterns, event_matches, category_matches, allows, allows_class, allows_thread, keeps};
 ghost use Rattle.jfr_filter.specs.Patterns.{patterns_in, has_empty_part};
@@ -9,7 +9,7 @@ ghost use Rattle.jfr_filter.specs.Patterns.{patterns_in, has_empty_part};
 use crate::list::{has_empty_part, patterns_of};
 use crate::matching::{any_category, any_event, any_thread};
 use crate::{FilterFault, Side};
-use jfr_outside::Words;
+use jfr_base::Words;
 use std::alloc::Global;
 use std::marker::Model;
 

@@ -3,7 +3,7 @@ ghost use Rattle.std.specs.Prelude.{◌≡◌, IfOk};
 ghost use Rattle.std.specs.Str.{chars};
 ghost use Rattle.jfr_filter.specs.Patterns.{patterns_in, has_empty_part};
 
-use jfr_outside::{NoMemory, Words};
+use jfr_base::{NoMemory, Words};
 use std::alloc::Global;
 
 /// Whether some part of the list is empty.

@@ -2,12 +2,12 @@
 ghost use Rattle.std.specs.Prelude.{◌≡◌, ◌<◌, length, slice_get, Some};
 ghost use Rattle.std.specs.List.{list_any};
 ghost use Rattle.std.specs.Str.{chars};
-ghost use Rattle.jfr_outside.specs.Texts.{text_in};
+ghost use Rattle.jfr_base.specs.Texts.{text_in};
 ghost use Rattle.jfr_filter.specs.Filters.{event_matches, category_matches, thread_matches};
 ghost use Rattle.jfr_filter.specs.Patterns.{glob};
 
 use crate::pattern::{glob, simple_name};
-use jfr_outside::Words;
+use jfr_base::Words;
 
 /// Whether some pattern matches the class name, or the simple name.
 pub(crate) fn any_event(patterns: &Words, name: &str) -> bool

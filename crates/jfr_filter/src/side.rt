@@ -2,7 +2,7 @@
 ghost use Rattle.std.specs.Prelude.{◌≡◌};
 ghost use Rattle.jfr_filter.specs.declared.side.FilterFault.TheVariants.{Memory};
 
-use jfr_outside::NoMemory;
+use jfr_base::NoMemory;
 use thiserror::Error;
 
 /// An option of a filter: what its patterns match, and whether they keep an event or drop it.

@@ -9,10 +9,10 @@ use Rattle.jfr_frame.specs.declared.framed.Framed.{Framed}
 use Rattle.jfr_frame.specs.Records.{record_bytes}
 use Rattle.jfr_pool.specs.declared.entry.EntryAt.{EntryAt}
 use Rattle.jfr_chunk.specs.Parts.{HasFields, event_records}
-use Rattle.jfr_chunk.specs.Scrub.{Stay, Whole, Chained, Written, stay_by, written}
-use Rattle.jfr_laws.proofs.Order.{Numbered, numbered_at, stays_in}
+use Rattle.jfr_chunk.specs.Scrub.{OutputRecord, Whole, Chained, Written, output_record_by, written}
+use Rattle.jfr_laws.proofs.Order.{Numbered, numbered_at, output_records_in}
 use Rattle.jfr_laws.proofs.Copied.{fields_copied}
-use Rattle.jfr_laws.proofs.Stays.{chained_bytes, bytes_from, new_frame, StayStands}
+use Rattle.jfr_laws.proofs.OutputRecords.{chained_bytes, bytes_from, new_frame, OutputRecordStands}
 use Rattle.jfr_laws.proofs.Passing.{clash, IfPasses, passes_all, filter_both}
 use Rattle.jfr_laws.proofs.Premises.{OnWhole}
 use Rattle.jfr_laws.proofs.Quiet.{Quiet, no_checkpoint_event}
@@ -28,7 +28,7 @@ module _ (c : List ℕ) (left : List EntryAt) (k : Classes) (b : List ℕ) where
   is_event r = is_event_class k r.type_id
 
   -- the fields of its events stand
-  fields_each : (ss : List Stay) (at : ℕ) (older : Option ℕ) → AllByRecursion (StayStands c left k) ss → AllByRecursion (OnWhole (IfPasses is_event (HasFields c k))) ss → Holds b (length b) at (bytes_from c left at older ss)
+  fields_each : (ss : List OutputRecord) (at : ℕ) (older : Option ℕ) → AllByRecursion (OutputRecordStands c left k) ss → AllByRecursion (OnWhole (IfPasses is_event (HasFields c k))) ss → Holds b (length b) at (bytes_from c left at older ss)
       → AllByRecursion (IfPasses is_event (HasFields b k)) (map (new_frame c left) (written c left at older ss))
   fields_each [] at older s v h = tt
   fields_each (Whole r ∷ ss) at older s v h =
@@ -40,7 +40,7 @@ module _ (c : List ℕ) (left : List EntryAt) (k : Classes) (b : List ℕ) where
       let p = holds_parts b (length b) at (chained_bytes c left at older i l) (bytes_from c left (at + n) (Some at) ss) h in
       ((λ e. absurd (clash (is_event_class k l.frame.type_id) e (no_checkpoint_event k l.frame s.0.0.is_checkpoint))), fields_each ss (at + n) (Some at) s.1 v.1 p.1)
 
-  pub fields_back : (ss : List Stay) (at : ℕ) (older : Option ℕ) → AllByRecursion (StayStands c left k) ss → AllByRecursion (OnWhole (IfPasses is_event (HasFields c k))) ss → Holds b (length b) at (bytes_from c left at older ss)
+  pub fields_back : (ss : List OutputRecord) (at : ℕ) (older : Option ℕ) → AllByRecursion (OutputRecordStands c left k) ss → AllByRecursion (OnWhole (IfPasses is_event (HasFields c k))) ss → Holds b (length b) at (bytes_from c left at older ss)
       → AllByRecursion (HasFields b k) (event_records k (map (new_frame c left) (written c left at older ss)))
   fields_back ss at older s v h = passes_all (HasFields b k) is_event (map (new_frame c left) (written c left at older ss)) (fields_each ss at older s v h)
 
@@ -49,13 +49,13 @@ module _ (c : List ℕ) (left : List EntryAt) (k : Classes) (b : List ℕ) where
     abbrev is_whole : Framed → Bool
     is_whole r = is_kept r || (r.at == metadata)
 
-    events_copied : (rs : List Framed) (at : ℕ) (older : Option ℕ) → AllByRecursion (Quiet k all metadata) rs → Holds b (length b) at (bytes_from c left at older (stays_in all is_whole rs))
-        → Each (CopiedRecord c b k) (filter (λ r. is_event r && is_kept r) rs) (filter is_event (map (new_frame c left) (written c left at older (stays_in all is_whole rs))))
+    events_copied : (rs : List Framed) (at : ℕ) (older : Option ℕ) → AllByRecursion (Quiet k all metadata) rs → Holds b (length b) at (bytes_from c left at older (output_records_in all is_whole rs))
+        → Each (CopiedRecord c b k) (filter (λ r. is_event r && is_kept r) rs) (filter is_event (map (new_frame c left) (written c left at older (output_records_in all is_whole rs))))
     events_copied [] at older a h = tt
     events_copied (r ∷ rs) at older a h = by_find (numbered_at all r.at) refl (is_event_class k r.type_id) refl (is_kept r) (r.at == metadata) refl (λ at older h. events_copied rs at older a.1 h) h
       where
-        rest : List Stay
-        rest = stays_in all is_whole rs
+        rest : List OutputRecord
+        rest = output_records_in all is_whole rs
 
         wanted : List Framed
         wanted = filter (λ r. is_event r && is_kept r) rs
@@ -67,8 +67,8 @@ module _ (c : List ℕ) (left : List EntryAt) (k : Classes) (b : List ℕ) where
         Later = (at : ℕ) (older : Option ℕ) → Holds b (length b) at (bytes_from c left at older rest) → Each (CopiedRecord c b k) wanted (news (written c left at older rest))
 
         by_find : (o : Option Numbered) → numbered_at all r.at ≡ o → (e : Bool) → is_event_class k r.type_id ≡ e → (t u : Bool) → (r.at == metadata) ≡ u → Later
-            → Holds b (length b) at (bytes_from c left at older (cons_option (stay_by o (t || u) r) rest))
-            → Each (CopiedRecord c b k) (if e && t then r ∷ wanted else wanted) (news (written c left at older (cons_option (stay_by o (t || u) r) rest)))
+            → Holds b (length b) at (bytes_from c left at older (cons_option (output_record_by o (t || u) r) rest))
+            → Each (CopiedRecord c b k) (if e && t then r ∷ wanted else wanted) (news (written c left at older (cons_option (output_record_by o (t || u) r) rest)))
         by_find (Some x) g true i t u j later h = absurd (clash (is_event_class k r.type_id) i (a.0.on_chained x g).0)
         by_find (Some x) g false i t u j later h =
             let n : ℕ = length (chained_bytes c left at older x.0 x.1) in
@@ -91,6 +91,6 @@ module _ (c : List ℕ) (left : List EntryAt) (k : Classes) (b : List ℕ) where
         by_find None g false i false false j later h = later at older h
 
     -- its event records are the kept ones, in order
-    pub events_back : (rs : List Framed) (at : ℕ) (older : Option ℕ) → AllByRecursion (Quiet k all metadata) rs → Holds b (length b) at (bytes_from c left at older (stays_in all is_whole rs))
-        → Each (CopiedRecord c b k) (filter is_kept (event_records k rs)) (event_records k (map (new_frame c left) (written c left at older (stays_in all is_whole rs))))
-    events_back rs at older a h = subst (λ z. Each (CopiedRecord c b k) z (event_records k (map (new_frame c left) (written c left at older (stays_in all is_whole rs))))) (filter_both is_event is_kept rs) (events_copied rs at older a h)
+    pub events_back : (rs : List Framed) (at : ℕ) (older : Option ℕ) → AllByRecursion (Quiet k all metadata) rs → Holds b (length b) at (bytes_from c left at older (output_records_in all is_whole rs))
+        → Each (CopiedRecord c b k) (filter is_kept (event_records k rs)) (event_records k (map (new_frame c left) (written c left at older (output_records_in all is_whole rs))))
+    events_back rs at older a h = subst (λ z. Each (CopiedRecord c b k) z (event_records k (map (new_frame c left) (written c left at older (output_records_in all is_whole rs))))) (filter_both is_event is_kept rs) (events_copied rs at older a h)

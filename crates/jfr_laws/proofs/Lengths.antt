@@ -8,14 +8,14 @@ use Rattle.jfr_frame.specs.Records.{IsRecord, Tiles, record_bytes, record_end}
 use Rattle.jfr_frame.proofs.RecordLaws.{record_one}
 use Rattle.jfr_pool.specs.declared.link.Link.{Link}
 use Rattle.jfr_pool.specs.declared.entry.EntryAt.{EntryAt}
-use Rattle.jfr_chunk.specs.Scrub.{Stay, Whole, Chained, stay_by, written, record_of, last_at}
+use Rattle.jfr_chunk.specs.Scrub.{OutputRecord, Whole, Chained, output_record_by, written, record_of, last_at}
 use Rattle.jfr_laws.proofs.Chains.{last_place}
-use Rattle.jfr_laws.proofs.Order.{Numbered, numbered_at, stays_in, chained_of, found_numbered}
+use Rattle.jfr_laws.proofs.Order.{Numbered, numbered_at, output_records_in, chained_of, found_numbered}
 use Rattle.jfr_laws.proofs.Copied.{record_length}
-use Rattle.jfr_laws.proofs.Stays.{Deltas, chained_bytes, bytes_from, new_link, new_links, StayStands, chained_small, whole_length, chained_length}
+use Rattle.jfr_laws.proofs.OutputRecords.{Deltas, chained_bytes, bytes_from, new_link, new_links, OutputRecordStands, chained_small, whole_length, chained_length}
 
 -- the sizes of the records that stay, in all
-abbrev pub sizes : List Stay → ℕ
+abbrev pub sizes : List OutputRecord → ℕ
 sizes [] = 0
 sizes (s ∷ ss) = (record_of s).size + sizes ss
 
@@ -39,7 +39,7 @@ last_joined l [] = refl
 last_joined l (m ∷ ls) = refl
 
 module _ (c : List ℕ) (left : List EntryAt) where
-  pub length_back : (k : Classes) (ss : List Stay) (at : ℕ) (older : Option ℕ) → AllByRecursion (StayStands c left k) ss → Deltas (is_some older) ss → length (bytes_from c left at older ss) ≤ sizes ss
+  pub length_back : (k : Classes) (ss : List OutputRecord) (at : ℕ) (older : Option ℕ) → AllByRecursion (OutputRecordStands c left k) ss → Deltas (is_some older) ss → length (bytes_from c left at older ss) ≤ sizes ss
   length_back k [] at older s d = omega arith
   length_back k (Whole r ∷ ss) at older s d =
       let n : ℕ = length (record_bytes c r) in
@@ -53,7 +53,7 @@ module _ (c : List ℕ) (left : List EntryAt) where
       omega (arith, chained_length c left i l ss at older)
 
   -- the last checkpoint starts where the last link does
-  pub last_back : (ss : List Stay) (at : ℕ) (older : Option ℕ) → last_at older (written c left at older ss) ≡ last_from older (new_links c left at older ss)
+  pub last_back : (ss : List OutputRecord) (at : ℕ) (older : Option ℕ) → last_at older (written c left at older ss) ≡ last_from older (new_links c left at older ss)
   last_back [] at None = refl
   last_back [] at (Some o) = refl
   last_back (Whole r ∷ ss) at None = last_back ss (at + length (record_bytes c r)) None
@@ -66,7 +66,7 @@ module _ (c : List ℕ) (left : List EntryAt) where
       last_back ss (at + n) (Some at) ∙ last_joined (new_link c left at (Some o) i l) (new_links c left (at + n) (Some at) ss)
 
   -- it starts in what is written
-  pub last_bound : (ss : List Stay) (at : ℕ) (older : Option ℕ) → AtMost older at → last_at older (written c left at older ss) ≤ at + length (bytes_from c left at older ss)
+  pub last_bound : (ss : List OutputRecord) (at : ℕ) (older : Option ℕ) → AtMost older at → last_at older (written c left at older ss) ≤ at + length (bytes_from c left at older ss)
   last_bound [] at None o = omega arith
   last_bound [] at (Some z) o = let i : z ≤ at = o in omega arith
   last_bound (Whole r ∷ ss) at None o =
@@ -83,7 +83,7 @@ module _ (c : List ℕ) (left : List EntryAt) where
       omega (arith, chained_length c left j l ss at older)
 
   -- where no link is written, no checkpoint stays
-  pub no_links : (ss : List Stay) (at : ℕ) (older : Option ℕ) → new_links c left at older ss ≡ [] → chained_of ss ≡ []
+  pub no_links : (ss : List OutputRecord) (at : ℕ) (older : Option ℕ) → new_links c left at older ss ≡ [] → chained_of ss ≡ []
   no_links [] at older e = refl
   no_links (Whole r ∷ ss) at older e = no_links ss (at + length (record_bytes c r)) older e
   no_links (Chained i l ∷ ss) at older e = absurd (none (new_link c left at older i l) (new_links c left (at + length (chained_bytes c left at older i l)) (Some at) ss) e)
@@ -92,11 +92,11 @@ module _ (c : List ℕ) (left : List EntryAt) where
       none x xs e = cc
 
 -- What stays is no larger than the records.
-pub sizes_within : (c : List ℕ) (all : List Numbered) (whole : Framed → Bool) → AllByRecursion (λ (m : Numbered). IsRecord c m.1.frame) all → (rs : List Framed) (p q : ℕ) → Tiles c p rs q → sizes (stays_in all whole rs) + p ≤ q
+pub sizes_within : (c : List ℕ) (all : List Numbered) (whole : Framed → Bool) → AllByRecursion (λ (m : Numbered). IsRecord c m.1.frame) all → (rs : List Framed) (p q : ℕ) → Tiles c p rs q → sizes (output_records_in all whole rs) + p ≤ q
 sizes_within c all whole a [] p q t = let e : p ≡ q = t in omega arith
 sizes_within c all whole a (r ∷ rs) p q t = by_find (numbered_at all r.at) refl (whole r) (sizes_within c all whole a rs (record_end r) q t.2)
   where
-    by_find : (o : Option Numbered) → numbered_at all r.at ≡ o → (u : Bool) → sizes (stays_in all whole rs) + record_end r ≤ q → sizes (cons_option (stay_by o u r) (stays_in all whole rs)) + p ≤ q
+    by_find : (o : Option Numbered) → numbered_at all r.at ≡ o → (u : Bool) → sizes (output_records_in all whole rs) + record_end r ≤ q → sizes (cons_option (output_record_by o u r) (output_records_in all whole rs)) + p ≤ q
     by_find (Some l) e u i =
         let f = found_numbered (λ (m : Numbered). IsRecord c m.1.frame) all r.at l a e in
         let h : l.1.frame ≡ r = record_one c l.1.frame r f.0 t.1 f.1 in

@@ -13,7 +13,7 @@ pub mod Metadata
 pub mod Header
 pub mod Front
 pub mod Order
-pub mod Stays
+pub mod OutputRecords
 pub mod Output
 pub mod Lengths
 pub mod Found
@@ -30,7 +30,7 @@ pub mod Same
 pub mod Listed
 pub mod Regrouped
 pub mod Rewritten
-pub mod AllStay
+pub mod AllOutput
 pub mod Again
 pub mod Scrubbed
 pub mod SameTexts

@@ -18,12 +18,12 @@ fewer (true ∷ ms) (x ∷ xs) = omega (arith, fewer ms xs)
 fewer (false ∷ ms) (x ∷ xs) = omega (arith, fewer ms xs)
 
 -- all, where each is marked
-pub all_stay : {X : Type 0} (marks : List Bool) (xs : List X) → ((n : ℕ) → n < length xs → IsMarked marks n) → marked marks xs ≡ xs
-all_stay [] [] f = refl
-all_stay [] (x ∷ xs) f = let e : IsMarked [] 0 = f 0 (omega arith) in cc
-all_stay (m ∷ ms) [] f = refl
-all_stay (true ∷ ms) (x ∷ xs) f = ap (λ z. x ∷ z) (all_stay ms xs (λ n h. f (suc n) (omega arith)))
-all_stay (false ∷ ms) (x ∷ xs) f = let e : IsMarked (false ∷ ms) 0 = f 0 (omega arith) in cc
+pub all_output_record : {X : Type 0} (marks : List Bool) (xs : List X) → ((n : ℕ) → n < length xs → IsMarked marks n) → marked marks xs ≡ xs
+all_output_record [] [] f = refl
+all_output_record [] (x ∷ xs) f = let e : IsMarked [] 0 = f 0 (omega arith) in cc
+all_output_record (m ∷ ms) [] f = refl
+all_output_record (true ∷ ms) (x ∷ xs) f = ap (λ z. x ∷ z) (all_output_record ms xs (λ n h. f (suc n) (omega arith)))
+all_output_record (false ∷ ms) (x ∷ xs) f = let e : IsMarked (false ∷ ms) 0 = f 0 (omega arith) in cc
 
 -- those of two lists, one behind the other
 pub marked_append : {X : Type 0} (marks : List Bool) (xs ys : List X) → marked marks (xs ++ ys) ≡ marked marks xs ++ marked (drop (length xs) marks) ys

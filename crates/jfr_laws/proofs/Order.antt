@@ -8,7 +8,7 @@ use Rattle.jfr_frame.specs.declared.framed.Framed.{Framed}
 use Rattle.jfr_frame.specs.Records.{Tiles, record_end}
 use Rattle.jfr_frame.proofs.RecordLaws.{some_bytes}
 use Rattle.jfr_pool.specs.declared.link.Link.{Link}
-use Rattle.jfr_chunk.specs.Scrub.{Stay, Whole, Chained, stay_by}
+use Rattle.jfr_chunk.specs.Scrub.{OutputRecord, Whole, Chained, output_record_by}
 
 -- a chained checkpoint with its number
 abbrev pub Numbered : Type 0
@@ -19,14 +19,14 @@ abbrev pub numbered_at : List Numbered → ℕ → Option Numbered
 numbered_at all at = find (λ l. l.1.frame.at == at) all
 
 -- what stays of a record, where a test chooses those that stay whole
-abbrev pub stay_in : List Numbered → (Framed → Bool) → Framed → Option Stay
-stay_in all whole r = stay_by (numbered_at all r.at) (whole r) r
+abbrev pub output_record_in : List Numbered → (Framed → Bool) → Framed → Option OutputRecord
+output_record_in all whole r = output_record_by (numbered_at all r.at) (whole r) r
 
-abbrev pub stays_in : List Numbered → (Framed → Bool) → List Framed → List Stay
-stays_in all whole rs = filter_map (stay_in all whole) rs
+abbrev pub output_records_in : List Numbered → (Framed → Bool) → List Framed → List OutputRecord
+output_records_in all whole rs = filter_map (output_record_in all whole) rs
 
 -- the checkpoints among what stays
-abbrev pub chained_of : List Stay → List Numbered
+abbrev pub chained_of : List OutputRecord → List Numbered
 chained_of [] = []
 chained_of (Whole r ∷ ss) = chained_of ss
 chained_of (Chained i l ∷ ss) = (i, l) ∷ chained_of ss
@@ -88,25 +88,25 @@ occurs_low c p q (r ∷ rs) at t (inl e) = let f : r.at ≡ p = t.0 in omega ari
 occurs_low c p q (r ∷ rs) at t (inr o) = let i : record_end r ≤ at = occurs_low c (record_end r) q rs at t.2 o in let f : r.at ≡ p = t.0 in omega arith
 
 module _ (c : List ℕ) (all : List Numbered) (whole : Framed → Bool) where
-  stay_none : (r : Framed) (rs : List Framed) → numbered_at all r.at ≡ None → chained_of (stays_in all whole (r ∷ rs)) ≡ chained_of (stays_in all whole rs)
-  stay_none r rs e = ap (λ o. chained_of (cons_option (stay_by o (whole r) r) (stays_in all whole rs))) e ∙ by_test (whole r)
+  output_record_none : (r : Framed) (rs : List Framed) → numbered_at all r.at ≡ None → chained_of (output_records_in all whole (r ∷ rs)) ≡ chained_of (output_records_in all whole rs)
+  output_record_none r rs e = ap (λ o. chained_of (cons_option (output_record_by o (whole r) r) (output_records_in all whole rs))) e ∙ by_test (whole r)
     where
-      by_test : (t : Bool) → chained_of (cons_option (stay_by None t r) (stays_in all whole rs)) ≡ chained_of (stays_in all whole rs)
+      by_test : (t : Bool) → chained_of (cons_option (output_record_by None t r) (output_records_in all whole rs)) ≡ chained_of (output_records_in all whole rs)
       by_test true = refl
       by_test false = refl
 
-  stay_some : (r : Framed) (rs : List Framed) (x : Numbered) → numbered_at all r.at ≡ Some x → chained_of (stays_in all whole (r ∷ rs)) ≡ x ∷ chained_of (stays_in all whole rs)
-  stay_some r rs x e = ap (λ o. chained_of (cons_option (stay_by o (whole r) r) (stays_in all whole rs))) e
+  output_record_some : (r : Framed) (rs : List Framed) (x : Numbered) → numbered_at all r.at ≡ Some x → chained_of (output_records_in all whole (r ∷ rs)) ≡ x ∷ chained_of (output_records_in all whole rs)
+  output_record_some r rs x e = ap (λ o. chained_of (cons_option (output_record_by o (whole r) r) (output_records_in all whole rs))) e
 
   -- those done stand before the records that are left, and those to do among them
-  pub in_order : (rs : List Framed) (p q : ℕ) (done todo : List Numbered) → Tiles c p rs q → all ≡ done ++ todo → Low p done → Rising p todo → AllOccur rs todo → chained_of (stays_in all whole rs) ≡ todo
+  pub in_order : (rs : List Framed) (p q : ℕ) (done todo : List Numbered) → Tiles c p rs q → all ≡ done ++ todo → Low p done → Rising p todo → AllOccur rs todo → chained_of (output_records_in all whole rs) ≡ todo
   in_order [] p q done [] t e a b o = refl
   in_order [] p q done (x ∷ todo) t e a b o = absurd o.0
   in_order (r ∷ rs) p q done [] t e a b o =
       let i : r.at < record_end r = some_bytes c r t.1 in
       let s : r.at ≡ p = t.0 in
       let f : numbered_at all r.at ≡ None = ap (λ z. numbered_at z r.at) e ∙ behind_low r.at p done [] (omega arith) a in
-      stay_none r rs f ∙ in_order rs (record_end r) q done [] t.2 e (low_more p (record_end r) done (omega arith) a) tt tt
+      output_record_none r rs f ∙ in_order rs (record_end r) q done [] t.2 e (low_more p (record_end r) done (omega arith) a) tt tt
   in_order (r ∷ rs) p q done (x ∷ todo) t e a b o =
       by_place (cases_lt r.at x.1.frame.at)
       (in_order rs (record_end r) q done (x ∷ todo) t.2 e)
@@ -123,21 +123,21 @@ module _ (c : List ℕ) (all : List Numbered) (whole : Framed → Bool) where
       all_behind (z ∷ ts) o m a = (occurs_low c (record_end r) q rs z.1.frame.at t.2 o.0, a.1)
 
       by_place : ((r.at < x.1.frame.at) ⊎ (x.1.frame.at ≤ r.at))
-          → (Low (record_end r) done → Rising (record_end r) (x ∷ todo) → AllOccur rs (x ∷ todo) → chained_of (stays_in all whole rs) ≡ x ∷ todo)
-          → (Low (record_end r) (done ++ (x ∷ [])) → Rising (record_end r) todo → AllOccur rs todo → chained_of (stays_in all whole rs) ≡ todo)
-          → chained_of (stays_in all whole (r ∷ rs)) ≡ x ∷ todo
+          → (Low (record_end r) done → Rising (record_end r) (x ∷ todo) → AllOccur rs (x ∷ todo) → chained_of (output_records_in all whole rs) ≡ x ∷ todo)
+          → (Low (record_end r) (done ++ (x ∷ [])) → Rising (record_end r) todo → AllOccur rs todo → chained_of (output_records_in all whole rs) ≡ todo)
+          → chained_of (output_records_in all whole (r ∷ rs)) ≡ x ∷ todo
       by_place (inl h) f g =
           let u : Rising (r.at + 1) (x ∷ todo) = (omega arith, b.1) in
           let v = occur_behind r rs (r.at + 1) (x ∷ todo) (omega arith) u o in
           let w : numbered_at all r.at ≡ None = ap (λ z. numbered_at z r.at) e ∙ (behind_low r.at p done (x ∷ todo) (omega arith) a ∙ none_rising r.at (r.at + 1) (x ∷ todo) (omega arith) u) in
-          stay_none r rs w ∙ f (low_more p (record_end r) done (omega arith) a) (all_behind (x ∷ todo) v (r.at + 1) u) v
+          output_record_none r rs w ∙ f (low_more p (record_end r) done (omega arith) a) (all_behind (x ∷ todo) v (r.at + 1) u) v
       by_place (inr h) f g =
           let y : p ≤ x.1.frame.at = b.0 in
           let u : r.at < record_end r = i in
           let z : x.1.frame.at ≡ r.at = omega arith in
           let v = occur_behind r rs (x.1.frame.at + 1) todo (omega arith) b.1 o.1 in
           let w : numbered_at all r.at ≡ Some x = ap (λ z. numbered_at z r.at) e ∙ (behind_low r.at p done (x ∷ todo) (omega arith) a ∙ found z) in
-          stay_some r rs x w ∙ ap (λ ts. x ∷ ts) (g (low_append (record_end r) done x (low_more p (record_end r) done (omega arith) a) (omega arith)) (all_behind todo v (x.1.frame.at + 1) b.1) v)
+          output_record_some r rs x w ∙ ap (λ ts. x ∷ ts) (g (low_append (record_end r) done x (low_more p (record_end r) done (omega arith) a) (omega arith)) (all_behind todo v (x.1.frame.at + 1) b.1) v)
         where
           found : x.1.frame.at ≡ r.at → numbered_at (x ∷ todo) r.at ≡ Some x
           found z = let k : (x.1.frame.at == r.at) ≡ true = grind (arith, nat_tests) in rw k refl

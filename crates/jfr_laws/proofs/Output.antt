@@ -12,7 +12,7 @@ use Rattle.jfr_pool.specs.declared.link.Link.{Link}
 use Rattle.jfr_pool.specs.declared.entry.EntryAt.{EntryAt}
 use Rattle.jfr_pool.specs.Entries.{AreEntries, entries_from}
 use Rattle.jfr_chunk.specs.Written.{Group}
-use Rattle.jfr_chunk.specs.Scrub.{Stay, Whole, Chained, written, groups_of}
+use Rattle.jfr_chunk.specs.Scrub.{OutputRecord, Whole, Chained, written, groups_of}
 use Rattle.jfr_chunk.proofs.Members.{in_contains, in_right}
 use Rattle.jfr_laws.proofs.ReadBack.{moved_frame}
 use Rattle.jfr_laws.proofs.Groups.{groups_hold}
@@ -21,7 +21,7 @@ use Rattle.jfr_laws.proofs.Chains.{LeadsTo, Linked, step_delta}
 use Rattle.jfr_laws.proofs.Entries.{IsCopy, each_append, groups_same}
 use Rattle.jfr_laws.proofs.Order.{Numbered, chained_of}
 use Rattle.jfr_laws.proofs.Copied.{copied_to, record_copied}
-use Rattle.jfr_laws.proofs.Stays.{Deltas, chained_bytes, bytes_from, new_frame, new_link, new_links, new_place, new_pools, new_entries, StayStands, chained_stands, whole_length, chained_length}
+use Rattle.jfr_laws.proofs.OutputRecords.{Deltas, chained_bytes, bytes_from, new_frame, new_link, new_links, new_place, new_pools, new_entries, OutputRecordStands, chained_stands, whole_length, chained_length}
 
 -- the older checkpoint stands before a place
 abbrev pub Before : Option ℕ → ℕ → Type 0
@@ -47,7 +47,7 @@ entries_by_number left ts = flat_map (λ (m : Numbered). filter (λ e. e.checkpo
 
 module _ (c : List ℕ) (left : List EntryAt) (k : Classes) (b : List ℕ) where
   -- Its records cover it.
-  pub tiles_back : (ss : List Stay) (at : ℕ) (older : Option ℕ) → AllByRecursion (StayStands c left k) ss → Deltas (is_some older) ss → Holds b (length b) at (bytes_from c left at older ss)
+  pub tiles_back : (ss : List OutputRecord) (at : ℕ) (older : Option ℕ) → AllByRecursion (OutputRecordStands c left k) ss → Deltas (is_some older) ss → Holds b (length b) at (bytes_from c left at older ss)
       → Tiles b at (map (new_frame c left) (written c left at older ss)) (at + length (bytes_from c left at older ss))
   tiles_back [] at older s d h = omega arith
   tiles_back (Whole r ∷ ss) at older s d h =
@@ -63,7 +63,7 @@ module _ (c : List ℕ) (left : List EntryAt) (k : Classes) (b : List ℕ) where
       (refl, m.record_stands, subst (Tiles b (at + n) (map (new_frame c left) (written c left (at + n) (Some at) ss))) (chained_length c left j l ss at older) i)
 
   -- Its checkpoints are linked.
-  pub linked_back : (rs : List Framed) → length b < 2 ^ 63 → (ss : List Stay) (done : List Framed) (at : ℕ) (older : Option ℕ) → AllByRecursion (StayStands c left k) ss → Deltas (is_some older) ss → Before older at
+  pub linked_back : (rs : List Framed) → length b < 2 ^ 63 → (ss : List OutputRecord) (done : List Framed) (at : ℕ) (older : Option ℕ) → AllByRecursion (OutputRecordStands c left k) ss → Deltas (is_some older) ss → Before older at
       → Holds b (length b) at (bytes_from c left at older ss) → rs ≡ done ++ map (new_frame c left) (written c left at older ss) → Linked b rs older (new_links c left at older ss)
   linked_back rs small [] done at older s d o h e = tt
   linked_back rs small (Whole r ∷ ss) done at older s d o h e =
@@ -88,7 +88,7 @@ module _ (c : List ℕ) (left : List EntryAt) (k : Classes) (b : List ℕ) where
       steps (Some z) o i = step_delta at z o i
 
   -- Its entries are read.
-  pub entries_back : (ss : List Stay) (j at : ℕ) (older : Option ℕ) → AllByRecursion (StayStands c left k) ss → Deltas (is_some older) ss → Holds b (length b) at (bytes_from c left at older ss)
+  pub entries_back : (ss : List OutputRecord) (j at : ℕ) (older : Option ℕ) → AllByRecursion (OutputRecordStands c left k) ss → Deltas (is_some older) ss → Holds b (length b) at (bytes_from c left at older ss)
       → AreEntries b k j (new_links c left at older ss) (new_entries c left k j at older ss)
   entries_back [] j at older s d h = refl
   entries_back (Whole r ∷ ss) j at older s d h =
@@ -102,7 +102,7 @@ module _ (c : List ℕ) (left : List EntryAt) (k : Classes) (b : List ℕ) where
       (new_pools c left k at older i l, m.pools_stand, new_entries c left k (j + 1) (at + n) (Some at) ss, refl, entries_back ss (j + 1) (at + n) (Some at) s.1 d.1 p.1)
 
   -- They are those that are left, checkpoint by checkpoint.
-  pub entries_same_back : (ss : List Stay) (ls : List Link) (j at : ℕ) (older : Option ℕ) → AllByRecursion (StayStands c left k) ss → Deltas (is_some older) ss → Holds b (length b) at (bytes_from c left at older ss)
+  pub entries_same_back : (ss : List OutputRecord) (ls : List Link) (j at : ℕ) (older : Option ℕ) → AllByRecursion (OutputRecordStands c left k) ss → Deltas (is_some older) ss → Holds b (length b) at (bytes_from c left at older ss)
       → chained_of ss ≡ enumerate_from j ls → Each (IsCopy c b) (entries_by_number left (chained_of ss)) (new_entries c left k j at older ss)
   entries_same_back [] ls j at older s d h o = tt
   entries_same_back (Whole r ∷ ss) ls j at older s d h o =

@@ -10,14 +10,14 @@ use Rattle.jfr_pool.specs.declared.entry.EntryAt.{EntryAt}
 use Rattle.jfr_pool.specs.Chains.{IsLink}
 use Rattle.jfr_chunk.specs.Parts.{Parts, AreParts, pools_at}
 use Rattle.jfr_chunk.specs.Reach.{marked}
-use Rattle.jfr_chunk.specs.Scrub.{Stay, Whole, Chained, stay_by, groups_of}
+use Rattle.jfr_chunk.specs.Scrub.{OutputRecord, Whole, Chained, output_record_by, groups_of}
 use Rattle.jfr_chunk.proofs.Members.{In, contains_in}
 use Rattle.jfr_chunk.proofs.AllLaws.{all_in}
 use Rattle.jfr_chunk.proofs.StandingLaws.{tiles_each}
 use Rattle.jfr_laws.proofs.Chains.{Linked, chain_linked}
 use Rattle.jfr_laws.proofs.Checkpoints.{CanWrite, checkpoints_can, nine_of}
-use Rattle.jfr_laws.proofs.Order.{Numbered, numbered_at, stays_in, chained_of, Rising, Occurs, AllOccur, occurs_low, in_order}
-use Rattle.jfr_laws.proofs.Stays.{Deltas, StayStands}
+use Rattle.jfr_laws.proofs.Order.{Numbered, numbered_at, output_records_in, chained_of, Rising, Occurs, AllOccur, occurs_low, in_order}
+use Rattle.jfr_laws.proofs.OutputRecords.{Deltas, OutputRecordStands}
 
 -- the chained checkpoints with their numbers, oldest first
 abbrev pub all_links : Parts → List Numbered
@@ -64,46 +64,46 @@ Nines false (t ∷ ts) = AllByRecursion IsNine ts
 
 module _ (c : List ℕ) (k : Classes) (left : List EntryAt) where
   -- it can be written with the entries that are left
-  abbrev CanStay : Numbered → Type 0
-  CanStay m = CanWrite c k m.1 (groups_of left m.0)
+  abbrev CanOutputRecord : Numbered → Type 0
+  CanOutputRecord m = CanWrite c k m.1 (groups_of left m.0)
 
-  nines_later : (rs : List Framed) (older i : ℕ) (ls : List Link) → AllByRecursion CanStay (enumerate_from i ls) → Linked c rs (Some older) ls → AllByRecursion IsNine (enumerate_from i ls)
+  nines_later : (rs : List Framed) (older i : ℕ) (ls : List Link) → AllByRecursion CanOutputRecord (enumerate_from i ls) → Linked c rs (Some older) ls → AllByRecursion IsNine (enumerate_from i ls)
   nines_later rs older i [] a b = tt
   nines_later rs older i (l ∷ ls) a b = (nine_of c l older a.0.link b.1, nines_later rs l.frame.at (i + 1) ls a.1 b.2)
 
-  nines : (rs : List Framed) (ls : List Link) → AllByRecursion CanStay (enumerate_from 0 ls) → Linked c rs None ls → Nines false (enumerate_from 0 ls)
+  nines : (rs : List Framed) (ls : List Link) → AllByRecursion CanOutputRecord (enumerate_from 0 ls) → Linked c rs None ls → Nines false (enumerate_from 0 ls)
   nines rs [] a b = tt
   nines rs (l ∷ ls) a b = nines_later rs l.frame.at 1 ls a.1 b.2
 
-deltas_of : (seen : Bool) (ss : List Stay) → Nines seen (chained_of ss) → Deltas seen ss
+deltas_of : (seen : Bool) (ss : List OutputRecord) → Nines seen (chained_of ss) → Deltas seen ss
 deltas_of seen [] n = tt
 deltas_of seen (Whole r ∷ ss) n = deltas_of seen ss n
 deltas_of true (Chained i l ∷ ss) n = ((λ e. n.0), deltas_of true ss n.1)
 deltas_of false (Chained i l ∷ ss) n = ((λ e. cc), deltas_of true ss n)
 
 -- What holds of those that stay whole.
-abbrev pub OnWhole : (Framed → Type 0) → Stay → Type 0
+abbrev pub OnWhole : (Framed → Type 0) → OutputRecord → Type 0
 OnWhole P (Whole r) = P r
 OnWhole P (Chained i l) = ⊤
 
-pub on_whole : (P : Framed → Type 0) (all : List Numbered) (whole : Framed → Bool) (rs : List Framed) → AllByRecursion P rs → AllByRecursion (OnWhole P) (stays_in all whole rs)
+pub on_whole : (P : Framed → Type 0) (all : List Numbered) (whole : Framed → Bool) (rs : List Framed) → AllByRecursion P rs → AllByRecursion (OnWhole P) (output_records_in all whole rs)
 on_whole P all whole [] a = tt
 on_whole P all whole (r ∷ rs) a = one (numbered_at all r.at) (whole r) (on_whole P all whole rs a.1)
   where
-    one : (o : Option Numbered) (t : Bool) → AllByRecursion (OnWhole P) (stays_in all whole rs) → AllByRecursion (OnWhole P) (cons_option (stay_by o t r) (stays_in all whole rs))
+    one : (o : Option Numbered) (t : Bool) → AllByRecursion (OnWhole P) (output_records_in all whole rs) → AllByRecursion (OnWhole P) (cons_option (output_record_by o t r) (output_records_in all whole rs))
     one (Some l) t i = (tt, i)
     one None true i = (a.0, i)
     one None false i = i
 
-stays_stand : (c : List ℕ) (left : List EntryAt) (k : Classes) (ss : List Stay) → AllByRecursion (OnWhole (IsRecord c)) ss → AllByRecursion (CanStay c k left) (chained_of ss) → AllByRecursion (StayStands c left k) ss
-stays_stand c left k [] a d = tt
-stays_stand c left k (Whole r ∷ ss) a d = (a.0, stays_stand c left k ss a.1 d)
-stays_stand c left k (Chained i l ∷ ss) a d = ((d.0.link, d.0.groups, d.0.room), stays_stand c left k ss a.1 d.1)
+output_records_stand : (c : List ℕ) (left : List EntryAt) (k : Classes) (ss : List OutputRecord) → AllByRecursion (OnWhole (IsRecord c)) ss → AllByRecursion (CanOutputRecord c k left) (chained_of ss) → AllByRecursion (OutputRecordStands c left k) ss
+output_records_stand c left k [] a d = tt
+output_records_stand c left k (Whole r ∷ ss) a d = (a.0, output_records_stand c left k ss a.1 d)
+output_records_stand c left k (Chained i l ∷ ss) a d = ((d.0.link, d.0.groups, d.0.room), output_records_stand c left k ss a.1 d.1)
 
 -- What stays can be written, with these entries left.
-pub record Ready (p : Parts) (left : List EntryAt) (ss : List Stay) : Type 0 where
+pub record Ready (p : Parts) (left : List EntryAt) (ss : List OutputRecord) : Type 0 where
   pub order : chained_of ss ≡ all_links p
-  pub stand : AllByRecursion (StayStands p.bytes left p.classes) ss
+  pub stand : AllByRecursion (OutputRecordStands p.bytes left p.classes) ss
   pub deltas : Deltas false ss
 
 module _ (p : Parts) (a : AreParts p) where
@@ -122,18 +122,18 @@ module _ (p : Parts) (a : AreParts p) where
   pub chained_checkpoints : AllByRecursion (IsCheckpoint p.bytes) (all_links p)
   chained_checkpoints = checkpoints_stand p.bytes p.records 0 (reverse p.chain) standing_links
 
-  pub ready : (whole : Framed → Bool) (marks : List Bool) → Ready p (marked marks p.entries) (stays_in (all_links p) whole p.records)
+  pub ready : (whole : Framed → Bool) (marks : List Bool) → Ready p (marked marks p.entries) (output_records_in (all_links p) whole p.records)
   ready whole marks =
       let c : List ℕ = p.bytes in
       let ls : List Link = reverse p.chain in
       let left : List EntryAt = marked marks p.entries in
-      let ss : List Stay = stays_in (all_links p) whole p.records in
+      let ss : List OutputRecord = output_records_in (all_links p) whole p.records in
       let order : chained_of ss ≡ all_links p =
       in_order c (all_links p) whole p.records 68 (length c) [] (all_links p) a.records refl tt
       (chain_rises c p.records 68 (length c) ls a.records linked) (links_occur c p.records None 0 ls linked) in
       let can = checkpoints_can c p.classes p.records marks ls p.entries standing_links a.entries in
       record {
         order = order;
-        stand = stays_stand c left p.classes ss (on_whole (IsRecord c) (all_links p) whole p.records recorded) (subst (AllByRecursion (CanStay c p.classes left)) (sym order) can);
+        stand = output_records_stand c left p.classes ss (on_whole (IsRecord c) (all_links p) whole p.records recorded) (subst (AllByRecursion (CanOutputRecord c p.classes left)) (sym order) can);
         deltas = deltas_of false ss (subst (Nines false) (sym order) (nines c p.classes left p.records ls can linked));
       }

@@ -15,7 +15,7 @@ use Rattle.jfr_pool.specs.declared.entry.EntryAt.{EntryAt}
 use Rattle.jfr_pool.specs.Chains.{IsChain}
 use Rattle.jfr_pool.specs.Entries.{AreEntries}
 use Rattle.jfr_chunk.specs.Parts.{Parts, EventAt, HasFields, event_records, AreParts, StartsAt, pools_at, metadata_at}
-use Rattle.jfr_chunk.specs.Scrub.{moved, stays, stays_whole}
+use Rattle.jfr_chunk.specs.Scrub.{moved, output_records, output_records_whole}
 use Rattle.jfr_chunk.proofs.Members.{in_contains}
 use Rattle.jfr_laws.proofs.Checkpoints.{all_numbers}
 use Rattle.jfr_laws.proofs.Chains.{Linked, linked_chain}
@@ -23,7 +23,7 @@ use Rattle.jfr_laws.proofs.Entries.{IsCopy}
 use Rattle.jfr_laws.proofs.Order.{chained_of}
 use Rattle.jfr_laws.proofs.Copied.{copied_to}
 use Rattle.jfr_laws.proofs.Metadata.{metadata_copied}
-use Rattle.jfr_laws.proofs.Stays.{new_frame, new_links, new_entries}
+use Rattle.jfr_laws.proofs.OutputRecords.{new_frame, new_links, new_entries}
 use Rattle.jfr_laws.proofs.Output.{entries_by_number, tiles_back, linked_back, entries_back, entries_same_back}
 use Rattle.jfr_laws.proofs.Lengths.{last_from, last_back, no_links}
 use Rattle.jfr_laws.proofs.Found.{Found}
@@ -52,10 +52,10 @@ module _ (p : Parts) (kept : List EventAt) (marks : List Bool) where
   new_records = map (new_frame p.bytes (left_of p marks)) (written_of p kept marks)
 
   abbrev pub links : List Link
-  links = new_links p.bytes (left_of p marks) 68 None (stays p kept)
+  links = new_links p.bytes (left_of p marks) 68 None (output_records p kept)
 
   abbrev entries : List EntryAt
-  entries = new_entries p.bytes (left_of p marks) p.classes 0 68 None (stays p kept)
+  entries = new_entries p.bytes (left_of p marks) p.classes 0 68 None (output_records p kept)
 
   abbrev pub parts_with : List ℕ → Body → Parts
   parts_with b body = record { bytes = b; records = new_records; chain = reverse links; body = body; classes = p.classes; entries = entries }
@@ -73,18 +73,18 @@ module _ (p : Parts) (a : AreParts p) (kept : List EventAt) (marks : List Bool) 
   tiles : Tiles b 68 rs (length b)
   tiles =
       let r = is_ready p kept marks a in
-      subst (Tiles b 68 rs) (sym s.size) (tiles_back p.bytes left p.classes b (stays p kept) 68 None r.stand r.deltas s.held)
+      subst (Tiles b 68 rs) (sym s.size) (tiles_back p.bytes left p.classes b (output_records p kept) 68 None r.stand r.deltas s.held)
 
   some_links : ls ≡ [] → ⊥
   some_links e =
       let r = is_ready p kept marks a in
-      some_chain p.bytes p.records (pools_at p.bytes) p.chain a.chain (none_numbered (reverse p.chain) (sym r.order ∙ no_links p.bytes left (stays p kept) 68 None e))
+      some_chain p.bytes p.records (pools_at p.bytes) p.chain a.chain (none_numbered (reverse p.chain) (sym r.order ∙ no_links p.bytes left (output_records p kept) 68 None e))
 
   chain : length b < 2 ^ 63 → IsChain b rs (pools_at b) (reverse ls)
   chain small =
       let r = is_ready p kept marks a in
-      let l = linked_back p.bytes left p.classes b rs small (stays p kept) [] 68 None r.stand r.deltas tt s.held refl in
-      let e : last_from None ls ≡ pools_at b = sym (last_back p.bytes left (stays p kept) 68 None) ∙ sym s.pools in
+      let l = linked_back p.bytes left p.classes b rs small (output_records p kept) [] 68 None r.stand r.deltas tt s.held refl in
+      let e : last_from None ls ≡ pools_at b = sym (last_back p.bytes left (output_records p kept) 68 None) ∙ sym s.pools in
       subst (λ z. IsChain b rs z (reverse ls)) e (chain_new b rs ls some_links l)
 
   abbrev found : Found p.bytes left p.classes b a.metadata_record 68 (written_of p kept marks)
@@ -104,7 +104,7 @@ module _ (p : Parts) (a : AreParts p) (kept : List EventAt) (marks : List Bool) 
   are_entries : AreEntries b p.classes 0 (reverse (reverse ls)) (entries p kept marks)
   are_entries =
       let r = is_ready p kept marks a in
-      subst (λ z. AreEntries b p.classes 0 z (entries p kept marks)) (sym (reverse-reverse ls)) (entries_back p.bytes left p.classes b (stays p kept) 0 68 None r.stand r.deltas s.held)
+      subst (λ z. AreEntries b p.classes 0 z (entries p kept marks)) (sym (reverse-reverse ls)) (entries_back p.bytes left p.classes b (output_records p kept) 0 68 None r.stand r.deltas s.held)
 
   abbrev is_event : Framed → Bool
   is_event r = is_event_class p.classes r.type_id
@@ -113,7 +113,7 @@ module _ (p : Parts) (a : AreParts p) (kept : List EventAt) (marks : List Bool) 
   fields =
       let r = is_ready p kept marks a in
       let f = if_passes (HasFields p.bytes p.classes) is_event p.records (recursion_from_All (HasFields p.bytes p.classes) (event_records p.classes p.records) a.events) in
-      fields_back p.bytes left p.classes b (stays p kept) 68 None r.stand (on_whole (IfPasses is_event (HasFields p.bytes p.classes)) (all_links p) (stays_whole p kept) p.records f) s.held
+      fields_back p.bytes left p.classes b (output_records p kept) 68 None r.stand (on_whole (IfPasses is_event (HasFields p.bytes p.classes)) (all_links p) (output_records_whole p kept) p.records f) s.held
 
   -- The parts of what is written.
   abbrev pub new_parts : Parts
@@ -135,8 +135,8 @@ module _ (p : Parts) (a : AreParts p) (kept : List EventAt) (marks : List Bool) 
   pub entries_copied : Each (IsCopy p.bytes b) left (entries p kept marks)
   entries_copied =
       let r = is_ready p kept marks a in
-      let same = entries_same_back p.bytes left p.classes b (stays p kept) (reverse p.chain) 0 68 None r.stand r.deltas s.held r.order in
-      let e : entries_by_number left (chained_of (stays p kept)) ≡ left = ap (entries_by_number left) r.order ∙ all_numbers p.bytes p.classes marks (reverse p.chain) p.entries a.entries in
+      let same = entries_same_back p.bytes left p.classes b (output_records p kept) (reverse p.chain) 0 68 None r.stand r.deltas s.held r.order in
+      let e : entries_by_number left (chained_of (output_records p kept)) ≡ left = ap (entries_by_number left) r.order ∙ all_numbers p.bytes p.classes marks (reverse p.chain) p.entries a.entries in
       subst (λ z. Each (IsCopy p.bytes b) z (entries p kept marks)) e same
 
   -- The event records are copies of the kept ones.

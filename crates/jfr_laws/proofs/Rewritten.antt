@@ -11,13 +11,13 @@ use Rattle.jfr_pool.specs.declared.link.Link.{Link}
 use Rattle.jfr_pool.specs.declared.entry.EntryAt.{EntryAt}
 use Rattle.jfr_pool.specs.Entries.{entries_from}
 use Rattle.jfr_chunk.specs.Written.{Group, by_pool, group_bytes, distance, checkpoint_tail, sized, checkpoint_bytes}
-use Rattle.jfr_chunk.specs.Scrub.{Stay, Whole, Chained, Written, groups_of, written, record_of, last_at}
+use Rattle.jfr_chunk.specs.Scrub.{OutputRecord, Whole, Chained, Written, groups_of, written, record_of, last_at}
 use Rattle.jfr_chunk.proofs.AllLaws.{all_append}
 use Rattle.jfr_laws.proofs.Standing.{LinkStands}
 use Rattle.jfr_laws.proofs.ReadBack.{moved_link, tail_lengths, checkpoint_held}
 use Rattle.jfr_laws.proofs.Checkpoints.{NotOf, others, of_number, later_numbers, block_only}
 use Rattle.jfr_laws.proofs.Copied.{copied_to}
-use Rattle.jfr_laws.proofs.Stays.{Deltas, chained_bytes, bytes_from, new_link, new_links, new_pools, new_place, new_entries, StayStands, chained_fits, chained_stands}
+use Rattle.jfr_laws.proofs.OutputRecords.{Deltas, chained_bytes, bytes_from, new_link, new_links, new_pools, new_place, new_entries, OutputRecordStands, chained_fits, chained_stands}
 use Rattle.jfr_laws.proofs.Output.{entries_back}
 use Rattle.jfr_laws.proofs.Regrouped.{some_each, groups_at, pools_grouped, some_placed, groups_many, groups_again}
 
@@ -47,23 +47,23 @@ checkpoint_again c b l delta at gs hs s small h n g =
 
 module _ (c : List ℕ) (left : List EntryAt) where
   -- What stays of what was written.
-  abbrev pub new_stays : ℕ → ℕ → Option ℕ → List Stay → List Stay
-  new_stays j at older [] = []
-  new_stays j at older (Whole r ∷ ss) = Whole (copied_to c at r) ∷ new_stays j (at + length (record_bytes c r)) older ss
-  new_stays j at older (Chained i l ∷ ss) = Chained j (new_link c left at older i l) ∷ new_stays (j + 1) (at + length (chained_bytes c left at older i l)) (Some at) ss
+  abbrev pub new_output_records : ℕ → ℕ → Option ℕ → List OutputRecord → List OutputRecord
+  new_output_records j at older [] = []
+  new_output_records j at older (Whole r ∷ ss) = Whole (copied_to c at r) ∷ new_output_records j (at + length (record_bytes c r)) older ss
+  new_output_records j at older (Chained i l ∷ ss) = Chained j (new_link c left at older i l) ∷ new_output_records (j + 1) (at + length (chained_bytes c left at older i l)) (Some at) ss
 
 -- the record stands where it is written
 abbrev pub IsPlaced : Written → Type 0
-IsPlaced w = (record_of w.stay).at ≡ w.at
+IsPlaced w = (record_of w.output_record).at ≡ w.at
 
 -- Written again: the same bytes, the same last checkpoint, and each record at its place.
-pub record Rewritten (at : ℕ) (older : Option ℕ) (bytes : List ℕ) (last : ℕ) (b : List ℕ) (left : List EntryAt) (ss : List Stay) : Type 0 where
+pub record Rewritten (at : ℕ) (older : Option ℕ) (bytes : List ℕ) (last : ℕ) (b : List ℕ) (left : List EntryAt) (ss : List OutputRecord) : Type 0 where
   pub same : bytes_from b left at older ss ≡ bytes
   pub last_same : last_at older (written b left at older ss) ≡ last
   pub placed : AllByRecursion IsPlaced (written b left at older ss)
 
 -- the first, and those behind it
-whole_then : (at : ℕ) (older : Option ℕ) (x bytes : List ℕ) (last : ℕ) (b : List ℕ) (left : List EntryAt) (r : Framed) (ss : List Stay) → r.at ≡ at → record_bytes b r ≡ x → Rewritten (at + length x) older bytes last b left ss
+whole_then : (at : ℕ) (older : Option ℕ) (x bytes : List ℕ) (last : ℕ) (b : List ℕ) (left : List EntryAt) (r : Framed) (ss : List OutputRecord) → r.at ≡ at → record_bytes b r ≡ x → Rewritten (at + length x) older bytes last b left ss
     → Rewritten at older (x ++ bytes) last b left (Whole r ∷ ss)
 whole_then at older x bytes last b left r ss p e i =
     let j : Rewritten (at + length (record_bytes b r)) older bytes last b left ss = subst (λ z. Rewritten (at + length z) older bytes last b left ss) (sym e) i in
@@ -73,14 +73,14 @@ whole_then at older x bytes last b left r ss p e i =
     last_of None e = e
     last_of (Some o) e = e
 
-chained_then : (at : ℕ) (older : Option ℕ) (x bytes : List ℕ) (last : ℕ) (b : List ℕ) (left : List EntryAt) (i : ℕ) (l : Link) (ss : List Stay) → l.frame.at ≡ at → chained_bytes b left at older i l ≡ x
+chained_then : (at : ℕ) (older : Option ℕ) (x bytes : List ℕ) (last : ℕ) (b : List ℕ) (left : List EntryAt) (i : ℕ) (l : Link) (ss : List OutputRecord) → l.frame.at ≡ at → chained_bytes b left at older i l ≡ x
     → Rewritten (at + length x) (Some at) bytes last b left ss → Rewritten at older (x ++ bytes) last b left (Chained i l ∷ ss)
 chained_then at older x bytes last b left i l ss p e h =
     let n : ℕ = length (chained_bytes b left at older i l) in
     let j : Rewritten (at + n) (Some at) bytes last b left ss = subst (λ z. Rewritten (at + length z) (Some at) bytes last b left ss) (sym e) h in
     record { same = (λ k. e k ++ j.same k); last_same = last_of older n j.last_same; placed = (p, j.placed) }
   where
-    last_of : (older : Option ℕ) (n : ℕ) → last_at (Some at) (written b left (at + n) (Some at) ss) ≡ last → last_at older (record { stay = Chained i l; at = at; older = older } ∷ written b left (at + n) (Some at) ss) ≡ last
+    last_of : (older : Option ℕ) (n : ℕ) → last_at (Some at) (written b left (at + n) (Some at) ss) ≡ last → last_at older (record { output_record = Chained i l; at = at; older = older } ∷ written b left (at + n) (Some at) ss) ≡ last
     last_of None n e = e
     last_of (Some o) n e = e
 
@@ -96,17 +96,17 @@ module _ (c : List ℕ) (left : List EntryAt) (k : Classes) (b : List ℕ) (all 
       ∙ pools_grouped j 0 (new_pools c left k at older i l) (some_placed j c k gs (new_place c left at older i l) (some_each (filter (λ e. e.checkpoint == i) left))))
 
   -- What stays is written again as it stands, with all entries.
-  pub rewritten : (ss : List Stay) (j at : ℕ) (older : Option ℕ) (before : List EntryAt) → AllByRecursion (StayStands c left k) ss → Deltas (is_some older) ss → Holds b (length b) at (bytes_from c left at older ss)
+  pub rewritten : (ss : List OutputRecord) (j at : ℕ) (older : Option ℕ) (before : List EntryAt) → AllByRecursion (OutputRecordStands c left k) ss → Deltas (is_some older) ss → Holds b (length b) at (bytes_from c left at older ss)
       → all ≡ before ++ new_entries c left k j at older ss → ((n : ℕ) → j ≤ n → NotOf n before)
-      → Rewritten at older (bytes_from c left at older ss) (last_at older (written c left at older ss)) b all (new_stays c left j at older ss)
+      → Rewritten at older (bytes_from c left at older ss) (last_at older (written c left at older ss)) b all (new_output_records c left j at older ss)
   rewritten [] j at None before s d h e a = record { same = refl; last_same = refl; placed = tt }
   rewritten [] j at (Some o) before s d h e a = record { same = refl; last_same = refl; placed = tt }
   rewritten (Whole r ∷ ss) j at older before s d h e a =
       let n : ℕ = length (record_bytes c r) in
       let p = holds_parts b (length b) at (record_bytes c r) (bytes_from c left (at + n) older ss) h in
       let i = rewritten ss j (at + n) older before s.1 d p.1 e a in
-      subst (λ z. Rewritten at older (bytes_from c left at older (Whole r ∷ ss)) z b all (new_stays c left j at older (Whole r ∷ ss))) (last_of older)
-      (whole_then at older (record_bytes c r) (bytes_from c left (at + n) older ss) (last_at older (written c left (at + n) older ss)) b all (copied_to c at r) (new_stays c left j (at + n) older ss) refl p.0.bytes i)
+      subst (λ z. Rewritten at older (bytes_from c left at older (Whole r ∷ ss)) z b all (new_output_records c left j at older (Whole r ∷ ss))) (last_of older)
+      (whole_then at older (record_bytes c r) (bytes_from c left (at + n) older ss) (last_at older (written c left (at + n) older ss)) b all (copied_to c at r) (new_output_records c left j (at + n) older ss) refl p.0.bytes i)
     where
       last_of : (older : Option ℕ) → last_at older (written c left (at + length (record_bytes c r)) older ss) ≡ last_at older (written c left at older (Whole r ∷ ss))
       last_of None = refl
@@ -126,8 +126,8 @@ module _ (c : List ℕ) (left : List EntryAt) (k : Classes) (b : List ℕ) (all 
       let x : checkpoint_bytes b (new_link c left at older i l) (distance at older) (groups_at j 0 (new_pools c left k at older i l)) ≡ chained_bytes c left at older i l =
       checkpoint_again c b l (distance at older) at gs (groups_at j 0 (new_pools c left k at older i l)) s.0.0 (chained_fits c left k i l at older s.0 d.0) p.0
       (groups_many j c k gs 0 (new_place c left at older i l)) (groups_again j c k b (at + n) gs 0 (new_place c left at older i l) s.0.1 st.held) in
-      subst (λ z. Rewritten at older (bytes_from c left at older (Chained i l ∷ ss)) z b all (new_stays c left j at older (Chained i l ∷ ss))) (last_of older)
-      (chained_then at older (chained_bytes c left at older i l) (bytes_from c left (at + n) (Some at) ss) (last_at (Some at) (written c left (at + n) (Some at) ss)) b all j (new_link c left at older i l) (new_stays c left (j + 1) (at + n) (Some at) ss) refl
+      subst (λ z. Rewritten at older (bytes_from c left at older (Chained i l ∷ ss)) z b all (new_output_records c left j at older (Chained i l ∷ ss))) (last_of older)
+      (chained_then at older (chained_bytes c left at older i l) (bytes_from c left (at + n) (Some at) ss) (last_at (Some at) (written c left (at + n) (Some at) ss)) b all j (new_link c left at older i l) (new_output_records c left (j + 1) (at + n) (Some at) ss) refl
       (ap (checkpoint_bytes b (new_link c left at older i l) (distance at older)) g ∙ x) r)
     where
       last_of : (older : Option ℕ) → last_at (Some at) (written c left (at + length (chained_bytes c left at older i l)) (Some at) ss) ≡ last_at older (written c left at older (Chained i l ∷ ss))

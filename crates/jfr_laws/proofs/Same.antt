@@ -19,7 +19,7 @@ use Rattle.jfr_chunk.proofs.StandingLaws.{IsEvent, standing, event_is, tiles_eac
 use Rattle.jfr_chunk.proofs.MeaningLaws.{same_meaning}
 use Rattle.jfr_chunk.proofs.ReachedLaws.{reached_marked}
 use Rattle.jfr_laws.specs.Laws.{AreCopied}
-use Rattle.jfr_laws.proofs.Marks.{all_marked, all_stay, rank, ranked}
+use Rattle.jfr_laws.proofs.Marks.{all_marked, all_output_record, rank, ranked}
 use Rattle.jfr_laws.proofs.Entries.{copied_force, marked_force, in_force_same}
 use Rattle.jfr_laws.proofs.Agrees.{agree_on_event}
 use Rattle.jfr_laws.proofs.Chosen.{records_of, is_kept, records_of_events, chosen_records, rising_filter}
@@ -49,7 +49,7 @@ are_reached p kept a k number = reached_marked p (standing p a) kept (λ e i. (l
 -- All entries remain where each is reached.
 pub all_remain : (p : Parts) → AreParts p → ((number : ℕ) → number < length p.entries → Reached p (events_of p) number) → remain p (events_of p) ≡ p.entries
 unfolding remain
-all_remain p a reached = all_stay (reached_marks p (events_of p)) p.entries (λ n h. (are_reached p (events_of p) a (All-contains_itself (events_of p)) n).0 (reached n h))
+all_remain p a reached = all_output_record (reached_marks p (events_of p)) p.entries (λ n h. (are_reached p (events_of p) a (All-contains_itself (events_of p)) n).0 (reached n h))
 
 -- Copied records are those of the same events.
 same_records : (p q : Parts) (es fs : List EventAt) → Standing p → p.classes ≡ q.classes → Each (CopiedRecord p.bytes q.bytes p.classes) (records_of es) (records_of fs) → SameRecords p q es fs

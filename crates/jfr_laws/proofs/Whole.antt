@@ -10,12 +10,12 @@ use Rattle.jfr_frame.proofs.RecordLaws.{record_one}
 use Rattle.jfr_pool.specs.declared.entry.EntryAt.{EntryAt}
 use Rattle.jfr_chunk.specs.Parts.{Parts, EventAt, AreParts, pools_at, metadata_at}
 use Rattle.jfr_chunk.specs.Reach.{marked}
-use Rattle.jfr_chunk.specs.Scrub.{Written, stays_whole, stays, written, last_at, moved, header_with, assembled}
+use Rattle.jfr_chunk.specs.Scrub.{Written, output_records_whole, output_records, written, last_at, moved, header_with, assembled}
 use Rattle.jfr_chunk.proofs.Members.{contains_in}
 use Rattle.jfr_chunk.proofs.TestLaws.{is_eq}
 use Rattle.jfr_laws.proofs.Order.{Numbered, numbered_at, found_numbered}
 use Rattle.jfr_laws.proofs.Header.{whole_small, header_length, made_pools, made_metadata, made_whole}
-use Rattle.jfr_laws.proofs.Stays.{bytes_from}
+use Rattle.jfr_laws.proofs.OutputRecords.{bytes_from}
 use Rattle.jfr_laws.proofs.Lengths.{length_back, last_bound, sizes_within}
 use Rattle.jfr_laws.proofs.Found.{Found, found_back}
 use Rattle.jfr_laws.proofs.Premises.{all_links, IsCheckpoint, Ready, recorded, metadata_stands, chained_checkpoints, ready}
@@ -49,10 +49,10 @@ left_of p marks = marked marks p.entries
 module _ (p : Parts) (kept : List EventAt) (marks : List Bool) where
   -- What is written, and its bytes.
   abbrev pub written_of : List Written
-  written_of = written p.bytes (left_of p marks) 68 None (stays p kept)
+  written_of = written p.bytes (left_of p marks) 68 None (output_records p kept)
 
   abbrev pub body_of : List ℕ
-  body_of = bytes_from p.bytes (left_of p marks) 68 None (stays p kept)
+  body_of = bytes_from p.bytes (left_of p marks) 68 None (output_records p kept)
 
   -- Where its last checkpoint and its metadata record stand.
   abbrev pub last_of : ℕ
@@ -70,7 +70,7 @@ module _ (p : Parts) (kept : List EventAt) (marks : List Bool) where
 
   -- The chunk of it.
   abbrev pub out : List ℕ
-  out = assembled p (left_of p marks) (stays p kept)
+  out = assembled p (left_of p marks) (output_records p kept)
 
   abbrev header : List ℕ
   header = header_with p.bytes (68 + length body_of) last_of metadata_of
@@ -85,13 +85,13 @@ module _ (p : Parts) (kept : List EventAt) (marks : List Bool) where
   out_held = holds_at out (length out) (length header) 68 body_of header_is_long (holds_behind header body_of)
 
   module _ (a : AreParts p) where
-    pub is_ready : Ready p (left_of p marks) (stays p kept)
-    is_ready = ready p a (stays_whole p kept) marks
+    pub is_ready : Ready p (left_of p marks) (output_records p kept)
+    is_ready = ready p a (output_records_whole p kept) marks
 
     body_fits : 68 + length body_of ≤ length p.bytes
     body_fits =
-        let l = length_back p.bytes (left_of p marks) p.classes (stays p kept) 68 None is_ready.stand is_ready.deltas in
-        let s = sizes_within p.bytes (all_links p) (stays_whole p kept) (only_records p.bytes (all_links p) (chained_checkpoints p a)) p.records 68 (length p.bytes) a.records in
+        let l = length_back p.bytes (left_of p marks) p.classes (output_records p kept) 68 None is_ready.stand is_ready.deltas in
+        let s = sizes_within p.bytes (all_links p) (output_records_whole p kept) (only_records p.bytes (all_links p) (chained_checkpoints p a)) p.records 68 (length p.bytes) a.records in
         omega (arith, l, s)
 
     pub out_shorter : length out ≤ length p.bytes
@@ -101,7 +101,7 @@ module _ (p : Parts) (kept : List EventAt) (marks : List Bool) where
     pub metadata_found : (b : List ℕ) → Holds b (length b) 68 body_of → Found p.bytes (left_of p marks) p.classes b a.metadata_record 68 written_of
     metadata_found b h =
         let f : Framed = a.metadata_record in
-        found_back p.bytes (left_of p marks) p.classes b (all_links p) (stays_whole p kept) f (metadata_stands p a)
+        found_back p.bytes (left_of p marks) p.classes b (all_links p) (output_records_whole p kept) f (metadata_stands p a)
         (no_link_at p.bytes (all_links p) f (chained_checkpoints p a) (metadata_stands p a) a.metadata_there.type_is)
         (or_right (is_kept kept f) (f.at == metadata_at p.bytes) (is_eq f.at (metadata_at p.bytes) a.metadata_there.place))
         p.records 68 None (recorded p a) (contains_in p.records f a.metadata_there.listed) is_ready.stand is_ready.deltas h
@@ -115,7 +115,7 @@ module _ (p : Parts) (kept : List EventAt) (marks : List Bool) where
           let f = metadata_found out out_held in
           let m : metadata_of ≡ f.place = ap (moved written_of) (sym a.metadata_there.place) ∙ f.leads in
           let w : f.place + length (record_bytes p.bytes a.metadata_record) ≤ length out = f.held.within in
-          let l = last_bound p.bytes (left_of p marks) (stays p kept) 68 None tt in
+          let l = last_bound p.bytes (left_of p marks) (output_records p kept) 68 None tt in
           record {
             held = out_held;
             size = out_size;

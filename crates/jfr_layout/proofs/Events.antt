@@ -7,8 +7,8 @@ use Rattle.std.proofs.lemmas.Bool.{le-ltb, lt-ltb}
 use Rattle.std.proofs.lemmas.Option.{slice_get-get_or, same_Some}
 use Rattle.jfr_layout.specs.declared.kind.Kind.{Kind}
 use Rattle.jfr_layout.specs.declared.kind.Kind.TheVariants.{Boolean, Byte, Char, Short, Int, Long, Float, Double, Text, Composite}
-use Rattle.jfr_layout.specs.declared.slot.Slot.{Slot}
-use Rattle.jfr_layout.specs.Classes.{Class, Classes, IsEventSlot, class_place, find_class, extends_event, is_composite, is_event_class, kind_of, slot_with}
+use Rattle.jfr_layout.specs.declared.field_layout.FieldLayout.{FieldLayout}
+use Rattle.jfr_layout.specs.Classes.{Class, Classes, IsEventLayout, class_place, find_class, extends_event, is_composite, is_event_class, kind_of, layout_with}
 use Rattle.jfr_layout.specs.Events.{AreEventPlaces, event_place}
 use Rattle.jfr_layout.proofs.FieldPlaces.{placed_class}
 use Rattle.jfr_layout.proofs.Lists.{present, filled_push}
@@ -73,17 +73,17 @@ unfolding is_event_class
 composite_event k id e = event_kind (nat_lt 1 id) (find_class k id) e
 
 -- the slot of the fields of an event
-pub event_slot : (k : Classes) (id p : ℕ) (s : Slot) → Some p ≡ event_place k id → s ≡ slot_with (record { class = id; constant = false; array = false }) p Composite → IsEventSlot k id s
-event_slot k id p s o q =
+pub event_layout : (k : Classes) (id p : ℕ) (s : FieldLayout) → Some p ≡ event_place k id → s ≡ layout_with (record { class = id; constant = false; array = false }) p Composite → IsEventLayout k id s
+event_layout k id p s o q =
     let e = is_placed (is_event_class k id) (class_place k id) p o in
-    subst (IsEventSlot k id) (sym q) (record {
+    subst (IsEventLayout k id) (sym q) (record {
       event = e.0;
       shape = refl;
-      slot = record { place = e.1; kind = composite_event k id e.0; form = refl };
+      layout = record { place = e.1; kind = composite_event k id e.0; form = refl };
     })
 
 -- it is found where there is one
-pub event_found : (k : Classes) (id : ℕ) (o : Option Slot) → MatchOption o (is_event_class k id ≡ false) (IsEventSlot k id) → is_some o ≡ is_event_class k id
+pub event_found : (k : Classes) (id : ℕ) (o : Option FieldLayout) → MatchOption o (is_event_class k id ≡ false) (IsEventLayout k id) → is_some o ≡ is_event_class k id
 event_found k id None h = sym h
 event_found k id (Some s) h = sym h.event
 

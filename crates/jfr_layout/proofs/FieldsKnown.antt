@@ -9,11 +9,11 @@ use Rattle.jfr_layout.specs.declared.fault.ClassFault.{ClassFault}
 use Rattle.jfr_layout.specs.declared.fault.ClassFault.TheVariants.{Flawed}
 use Rattle.jfr_layout.specs.declared.index.Index.{Index}
 use Rattle.jfr_layout.specs.declared.kind.Kind.{Kind}
-use Rattle.jfr_layout.specs.declared.row.Row.{Row}
-use Rattle.jfr_layout.specs.declared.slot.Slot.{Slot}
-use Rattle.jfr_layout.specs.Classes.{Class, Classes, Field, ClassFlaw, TellsFirst, AreSlots, flaw_if, flaws_in, unknown, is_unknown, find_class, kind_of, slot_with}
-use Rattle.jfr_layout.specs.Resolved.{AreRows, IsIndex, IsRow, place_in}
-use Rattle.jfr_layout.proofs.FieldSlots.{slots_push, slot_at}
+use Rattle.jfr_layout.specs.declared.class_layout.ClassLayout.{ClassLayout}
+use Rattle.jfr_layout.specs.declared.field_layout.FieldLayout.{FieldLayout}
+use Rattle.jfr_layout.specs.Classes.{Class, Classes, Field, ClassFlaw, TellsFirst, AreFieldLayouts, flaw_if, flaws_in, unknown, is_unknown, find_class, kind_of, layout_with}
+use Rattle.jfr_layout.specs.Resolved.{AreClassLayouts, IsIndex, IsClassLayout, place_in}
+use Rattle.jfr_layout.proofs.FieldLayouts.{layouts_push, layout_at}
 use Rattle.jfr_layout.proofs.Lists.{present, take_next, zip_push}
 use Rattle.jfr_layout.proofs.Places.{is_some-find}
 use Rattle.jfr_layout.proofs.Stages.{rest, stage_next, stage_tells, stage_none}
@@ -23,61 +23,61 @@ abbrev pub found_unknown : Classes → ℕ → ℕ → Field → List ClassFlaw
 found_unknown k i j f = flaw_if (is_unknown k f) i (Some j) UnknownType
 
 -- the classes of the fields before a number are known, and these are their slots
-pub record FieldsKnown (k : Classes) (i : ℕ) (fs : List Field) (n : ℕ) (slots : List Slot) : Type 0 where
+pub record FieldsKnown (k : Classes) (i : ℕ) (fs : List Field) (n : ℕ) (layouts : List FieldLayout) : Type 0 where
   pub left : flaws_in UnknownType (is_unknown k) i fs ≡ rest (found_unknown k i) fs n
-  pub found : AreSlots k (take n fs) slots
+  pub found : AreFieldLayouts k (take n fs) layouts
 
 known_at : (k : Classes) (index : Index) (id : ℕ) → IsIndex k index → is_some (find_class k id) ≡ is_some (place_in index id)
 known_at k index id s = is_some-find (λ (c : Class). c.id == id) k ∙ ap is_some (sym (s.at id))
 
 -- a class that is known
-pub known_next : (k : Classes) (i : ℕ) (fs : List Field) (n : ℕ) (index : Index) (kinds : List Kind) (f : Field) (slots more : List Slot) (p : ℕ) (d : Kind) → IsIndex k index → kinds ≡ map (λ c. kind_of c.name) k → FieldsKnown k i fs n slots → slice_get fs n ≡ Some f
-    → Some p ≡ place_in index f.shape.class → more ≡ slots ++ slot_with f.shape p (get_or kinds p d) ∷ []
+pub known_next : (k : Classes) (i : ℕ) (fs : List Field) (n : ℕ) (index : Index) (kinds : List Kind) (f : Field) (layouts more : List FieldLayout) (p : ℕ) (d : Kind) → IsIndex k index → kinds ≡ map (λ c. kind_of c.name) k → FieldsKnown k i fs n layouts → slice_get fs n ≡ Some f
+    → Some p ≡ place_in index f.shape.class → more ≡ layouts ++ layout_with f.shape p (get_or kinds p d) ∷ []
     → FieldsKnown k i fs (n + 1) more
-known_next k i fs n index kinds f slots more p d x ks s e g m = record {
+known_next k i fs n index kinds f layouts more p d x ks s e g m = record {
   left = stage_next (found_unknown k i) fs n f (flaws_in UnknownType (is_unknown k) i fs) s.left e
       (ap (λ t. flaw_if (not t) i (Some n) UnknownType) (known_at k index f.shape.class x ∙ ap is_some (sym g)));
-  found = rw (take_next fs n f e, m) (slots_push k (take n fs) f slots (slot_with f.shape p (get_or kinds p d)) s.found refl (slot_at k kinds f.shape p d ks (sym (x.at f.shape.class) ∙ sym g)));
+  found = rw (take_next fs n f e, m) (layouts_push k (take n fs) f layouts (layout_with f.shape p (get_or kinds p d)) s.found refl (layout_at k kinds f.shape p d ks (sym (x.at f.shape.class) ∙ sym g)));
 }
 
 -- a class that isn't
-pub known_tell : (k : Classes) (i : ℕ) (fs : List Field) (n : ℕ) (index : Index) (f : Field) (slots : List Slot) → IsIndex k index → FieldsKnown k i fs n slots → slice_get fs n ≡ Some f
+pub known_tell : (k : Classes) (i : ℕ) (fs : List Field) (n : ℕ) (index : Index) (f : Field) (layouts : List FieldLayout) → IsIndex k index → FieldsKnown k i fs n layouts → slice_get fs n ≡ Some f
     → None ≡ place_in index f.shape.class
     → TellsFirst (flaws_in UnknownType (is_unknown k) i fs) (Flawed i (Some n) UnknownType)
-known_tell k i fs n index f slots x s e g = stage_tells (found_unknown k i) fs n f (flaws_in UnknownType (is_unknown k) i fs) (Flawed i (Some n) UnknownType) s.left e
+known_tell k i fs n index f layouts x s e g = stage_tells (found_unknown k i) fs n f (flaws_in UnknownType (is_unknown k) i fs) (Flawed i (Some n) UnknownType) s.left e
     (ap (λ t. slice_get (flaw_if (not t) i (Some n) UnknownType) 0) (known_at k index f.shape.class x ∙ ap is_some (sym g)))
 
-pub known_end : (k : Classes) (i : ℕ) (fs : List Field) (n : ℕ) (slots : List Slot) → FieldsKnown k i fs n slots → length fs ≤ n → flaws_in UnknownType (is_unknown k) i fs ≡ []
-known_end k i fs n slots s l = stage_none (found_unknown k i) fs n (flaws_in UnknownType (is_unknown k) i fs) s.left l
+pub known_end : (k : Classes) (i : ℕ) (fs : List Field) (n : ℕ) (layouts : List FieldLayout) → FieldsKnown k i fs n layouts → length fs ≤ n → flaws_in UnknownType (is_unknown k) i fs ≡ []
+known_end k i fs n layouts s l = stage_none (found_unknown k i) fs n (flaws_in UnknownType (is_unknown k) i fs) s.left l
 
-pub known_all : (k : Classes) (i : ℕ) (fs : List Field) (n : ℕ) (slots : List Slot) → FieldsKnown k i fs n slots → length fs ≤ n → AreSlots k fs slots
-known_all k i fs n slots s l = subst (λ z. AreSlots k z slots) (take_all n fs l) s.found
+pub known_all : (k : Classes) (i : ℕ) (fs : List Field) (n : ℕ) (layouts : List FieldLayout) → FieldsKnown k i fs n layouts → length fs ≤ n → AreFieldLayouts k fs layouts
+known_all k i fs n layouts s l = subst (λ z. AreFieldLayouts k z layouts) (take_all n fs l) s.found
 
 -- what is found at a class
 abbrev pub found_unknowns : Classes → ℕ → Class → List ClassFlaw
 found_unknowns k i c = flaws_in UnknownType (is_unknown k) i c.fields
 
 -- the same of the classes before a place
-pub record ClassesKnown (k : Classes) (n : ℕ) (all : List Row) : Type 0 where
+pub record ClassesKnown (k : Classes) (n : ℕ) (all : List ClassLayout) : Type 0 where
   pub left : unknown k ≡ rest (found_unknowns k) k n
-  pub found : AreRows k (take n k) all
+  pub found : AreClassLayouts k (take n k) all
 
-pub classes_next : (k : Classes) (n : ℕ) (all more : List Row) (row : Row) → ClassesKnown k n all → n < length k
-    → IfSome (slice_get k n) (λ c. flaws_in UnknownType (is_unknown k) n c.fields ≡ []) → IfSome (slice_get k n) (λ c. IsRow k c row) → more ≡ all ++ row ∷ []
+pub classes_next : (k : Classes) (n : ℕ) (all more : List ClassLayout) (class_layout : ClassLayout) → ClassesKnown k n all → n < length k
+    → IfSome (slice_get k n) (λ c. flaws_in UnknownType (is_unknown k) n c.fields ≡ []) → IfSome (slice_get k n) (λ c. IsClassLayout k c class_layout) → more ≡ all ++ class_layout ∷ []
     → ClassesKnown k (n + 1) more
-classes_next k n all more row s l none p m =
+classes_next k n all more class_layout s l none p m =
     let h = present k n l in
     record {
       left = stage_next (found_unknowns k) k n h.0 (unknown k) s.left h.1 (rw h.1 at none);
-      found = rw (take_next k n h.0 h.1, m) (zip_push (IsRow k) (take n k) all h.0 row s.found (rw h.1 at p));
+      found = rw (take_next k n h.0 h.1, m) (zip_push (IsClassLayout k) (take n k) all h.0 class_layout s.found (rw h.1 at p));
     }
 
-pub classes_tell : (k : Classes) (n : ℕ) (all : List Row) (fault : ClassFault) → ClassesKnown k n all → n < length k
+pub classes_tell : (k : Classes) (n : ℕ) (all : List ClassLayout) (fault : ClassFault) → ClassesKnown k n all → n < length k
     → IfSome (slice_get k n) (λ c. TellsFirst (flaws_in UnknownType (is_unknown k) n c.fields) fault) → TellsFirst (unknown k) fault
 classes_tell k n all fault s l t = let h = present k n l in stage_tells (found_unknowns k) k n h.0 (unknown k) fault s.left h.1 (rw h.1 at t)
 
-pub classes_end : (k : Classes) (n : ℕ) (all : List Row) → ClassesKnown k n all → length k ≤ n → unknown k ≡ []
+pub classes_end : (k : Classes) (n : ℕ) (all : List ClassLayout) → ClassesKnown k n all → length k ≤ n → unknown k ≡ []
 classes_end k n all s l = stage_none (found_unknowns k) k n (unknown k) s.left l
 
-pub classes_all : (k : Classes) (n : ℕ) (all : List Row) → ClassesKnown k n all → length k ≤ n → AreRows k k all
-classes_all k n all s l = subst (λ z. AreRows k z all) (take_all n k l) s.found
+pub classes_all : (k : Classes) (n : ℕ) (all : List ClassLayout) → ClassesKnown k n all → length k ≤ n → AreClassLayouts k k all
+classes_all k n all s l = subst (λ z. AreClassLayouts k z all) (take_all n k l) s.found

@@ -5,8 +5,8 @@ mod NamesSeen
 mod IdsSeen
 mod FieldsKnown
 mod FieldPlaces
-mod FieldSlots
-mod LeapLaws
+mod FieldLayouts
+mod FusedLaws
 mod Steps
 mod Filled
 mod Depth

@@ -15,7 +15,7 @@ use Rattle.std.proofs.lemmas.Str.{encodes-chars}
 use Rattle.jfr_base.specs.declared.reason.Reason.TheVariants.{FieldTwice}
 use Rattle.jfr_layout.specs.declared.fault.ClassFault.TheVariants.{Flawed}
 use Rattle.jfr_layout.specs.Classes.{Field, ClassFlaw, TellsFirst, name_repeats, flaw_if, has_name}
-use Rattle.jfr_outside.proofs.TextLaws.{bytes_eq-encodes}
+use Rattle.jfr_base.proofs.TextLaws.{bytes_eq-encodes}
 use Rattle.jfr_layout.proofs.Stages.{rest, stage_next, stage_tells, stage_none}
 
 -- what is found at a field

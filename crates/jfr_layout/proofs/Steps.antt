@@ -8,9 +8,9 @@ use Rattle.std.proofs.lemmas.Option.{same_Some}
 use Rattle.jfr_layout.specs.declared.kind.Kind.{Kind}
 use Rattle.jfr_layout.specs.declared.kind.Kind.TheVariants.{Composite, Boolean, Byte, Char, Short, Int, Long, Float, Double, Text}
 use Rattle.jfr_layout.specs.declared.shape.Shape.{Shape}
-use Rattle.jfr_layout.specs.declared.slot.Slot.{Slot}
-use Rattle.jfr_layout.specs.Classes.{Class, Classes, Field, IsSlot, field_at, find_class, step_class, kind_of, is_composite, extends_event}
-use Rattle.jfr_layout.proofs.FieldSlots.{FieldSlot}
+use Rattle.jfr_layout.specs.declared.field_layout.FieldLayout.{FieldLayout}
+use Rattle.jfr_layout.specs.Classes.{Class, Classes, Field, IsFieldLayout, field_at, find_class, step_class, kind_of, is_composite, extends_event}
+use Rattle.jfr_layout.proofs.FieldLayouts.{HasLayout}
 use Rattle.jfr_layout.proofs.Places.{place_within, stands}
 
 pub field_of : (k : Classes) (i j : ℕ) (c : Class) (f : Field) → slice_get k i ≡ Some c → slice_get c.fields j ≡ Some f → field_at k i j ≡ Some f
@@ -22,8 +22,8 @@ by_kind None kind e = cc
 by_kind (Some c) kind e = ap (λ z. if is_composite z then Some c else None) (same_Some (kind_of c.name) kind e)
 
 -- an inline step goes to the place of a slot, where its kind is composite
-slot_step : (k : Classes) (f : Field) (s : Slot) → s.shape ≡ f.shape → IsSlot k s → step_class k f ≡ (if s.shape.constant then None else if is_composite s.kind then slice_get k s.place else None)
-slot_step k f s e i =
+layout_step : (k : Classes) (f : Field) (s : FieldLayout) → s.shape ≡ f.shape → IsFieldLayout k s → step_class k f ≡ (if s.shape.constant then None else if is_composite s.kind then slice_get k s.place else None)
+layout_step k f s e i =
     ap (λ (z : Shape). if z.constant then None else option_and_then (λ (d : Class). if is_composite (kind_of d.name) then Some d else None) (find_class k z.class)) (sym e)
     ∙ ap (λ o. if s.shape.constant then None else o)
     (ap (option_and_then (λ (d : Class). if is_composite (kind_of d.name) then Some d else None)) (stands k s.shape.class s.place i.place)
@@ -42,18 +42,18 @@ not_composite Double n = refl
 not_composite Text n = refl
 
 -- the three cases of a slot of a field
-pub step_key : (k : Classes) (place number : ℕ) (s : Slot) → FieldSlot k place number s → s.shape.constant ≡ true → IfSome (field_at k place number) (λ f. None ≡ step_class k f)
-step_key k place number s f t = rw f.there (sym (slot_step k f.field s f.shape f.of_class ∙ ap (λ b. if b then None else if is_composite s.kind then slice_get k s.place else None) t))
+pub step_key : (k : Classes) (place number : ℕ) (s : FieldLayout) → HasLayout k place number s → s.shape.constant ≡ true → IfSome (field_at k place number) (λ f. None ≡ step_class k f)
+step_key k place number s f t = rw f.there (sym (layout_step k f.field s f.shape f.of_class ∙ ap (λ b. if b then None else if is_composite s.kind then slice_get k s.place else None) t))
 
-pub step_to : (k : Classes) (place number : ℕ) (s : Slot) → FieldSlot k place number s → s.shape.constant ≡ false → s.kind ≡ Composite → IfSome (field_at k place number) (λ f. slice_get k s.place ≡ step_class k f) × (s.place < length k)
+pub step_to : (k : Classes) (place number : ℕ) (s : FieldLayout) → HasLayout k place number s → s.shape.constant ≡ false → s.kind ≡ Composite → IfSome (field_at k place number) (λ f. slice_get k s.place ≡ step_class k f) × (s.place < length k)
 step_to k place number s f t q = (
-  rw f.there (sym (slot_step k f.field s f.shape f.of_class ∙ (ap (λ b. if b then None else if is_composite s.kind then slice_get k s.place else None) t ∙ ap (λ z. if is_composite z then slice_get k s.place else None) q))),
+  rw f.there (sym (layout_step k f.field s f.shape f.of_class ∙ (ap (λ b. if b then None else if is_composite s.kind then slice_get k s.place else None) t ∙ ap (λ z. if is_composite z then slice_get k s.place else None) q))),
   place_within k s.shape.class s.place f.of_class.place,
 )
 
-pub step_nowhere : (k : Classes) (place number : ℕ) (s : Slot) → FieldSlot k place number s → s.shape.constant ≡ false → (s.kind ≡ Composite → ⊥) → IfSome (field_at k place number) (λ f. None ≡ step_class k f)
+pub step_nowhere : (k : Classes) (place number : ℕ) (s : FieldLayout) → HasLayout k place number s → s.shape.constant ≡ false → (s.kind ≡ Composite → ⊥) → IfSome (field_at k place number) (λ f. None ≡ step_class k f)
 step_nowhere k place number s f t n =
-    rw f.there (sym (slot_step k f.field s f.shape f.of_class ∙ (ap (λ b. if b then None else if is_composite s.kind then slice_get k s.place else None) t ∙ ap (λ b. if b then slice_get k s.place else None) (not_composite s.kind n))))
+    rw f.there (sym (layout_step k f.field s f.shape f.of_class ∙ (ap (λ b. if b then None else if is_composite s.kind then slice_get k s.place else None) t ∙ ap (λ b. if b then slice_get k s.place else None) (not_composite s.kind n))))
 
 -- a composite class with a super type is an event's where that is the super type of events
 pub extends_is : (c : Class) (kind : Kind) (name : List ℕ) (t : Bool) → kind ≡ kind_of c.name → kind ≡ Composite → c.super_name ≡ Some name → t ≡ bytes_eq name (codes "jdk.jfr.Event") → t ≡ extends_event c

@@ -10,7 +10,7 @@ use Rattle.jfr_layout.specs.declared.kind.Kind.TheVariants.{Boolean, Byte, Char,
 use Rattle.jfr_layout.specs.declared.form.Form.{Form}
 use Rattle.jfr_layout.specs.declared.form.Form.TheVariants as forms
 use Rattle.jfr_layout.specs.declared.shape.Shape.{Shape}
-use Rattle.jfr_layout.specs.declared.slot.Slot.{Slot}
+use Rattle.jfr_layout.specs.declared.field_layout.FieldLayout.{FieldLayout}
 use Rattle.jfr_layout.specs.declared.fault.ClassFault.{ClassFault}
 use Rattle.jfr_layout.specs.declared.fault.ClassFault.TheVariants.{Flawed, Memory}
 use Rattle.jfr_layout.specs.declared.class.ClassInfo.{ClassInfo}
@@ -73,8 +73,8 @@ abbrev pub form_of : Shape → Kind → Form
 form_of s kind = if s.array then forms.Array else if s.constant then forms.Key else inline_form kind
 
 -- the slot of a shape whose class has this place and this kind
-abbrev pub slot_with : Shape → ℕ → Kind → Slot
-slot_with s place kind = record { shape = s; place = place; kind = kind; form = form_of s kind }
+abbrev pub layout_with : Shape → ℕ → Kind → FieldLayout
+layout_with s place kind = record { shape = s; place = place; kind = kind; form = form_of s kind }
 
 -- the kind is not one of the nine base kinds
 abbrev pub is_composite : Kind → Bool
@@ -90,21 +90,21 @@ unfoldable pub is_event_class : Classes → ℕ → Bool
 is_event_class k id = nat_lt 1 id && option_map_or extends_event (find_class k id) false
 
 -- the slot has the place and the kind of the class of its shape, and the form that these give
-pub record IsSlot (k : Classes) (s : Slot) : Type 0 where
+pub record IsFieldLayout (k : Classes) (s : FieldLayout) : Type 0 where
   pub place : class_place k s.shape.class ≡ Some s.place
   pub kind : option_map (λ c. kind_of c.name) (find_class k s.shape.class) ≡ Some s.kind
   pub form : s.form ≡ form_of s.shape s.kind
 
 -- the slot of the fields of an event whose class has this id
-pub record IsEventSlot (k : Classes) (id : ℕ) (s : Slot) : Type 0 where
+pub record IsEventLayout (k : Classes) (id : ℕ) (s : FieldLayout) : Type 0 where
   pub event : is_event_class k id ≡ true
   pub shape : s.shape ≡ record { class = id; constant = false; array = false }
-  pub slot : IsSlot k s
+  pub layout : IsFieldLayout k s
 
 -- one slot for each field, in order, with the field's shape
-pub record AreSlots (k : Classes) (fs : List Field) (slots : List Slot) : Type 0 where
-  pub shapes : map (λ s. s.shape) slots ≡ map (λ f. f.shape) fs
-  pub each : AllByRecursion (IsSlot k) slots
+pub record AreFieldLayouts (k : Classes) (fs : List Field) (layouts : List FieldLayout) : Type 0 where
+  pub shapes : map (λ s. s.shape) layouts ≡ map (λ f. f.shape) fs
+  pub each : AllByRecursion (IsFieldLayout k) layouts
 
 -- an item's shape: the array's without the array mark
 abbrev pub item_of : Shape → Shape

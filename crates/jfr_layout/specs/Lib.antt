@@ -1,5 +1,5 @@
 pub mod Classes
 pub mod Events
-pub mod Leaps
+pub mod Fused
 pub mod Resolved
 pub mod Laws

@@ -5,9 +5,9 @@ use Rattle.std.specs.BTreeMap as tree
 use Rattle.std.specs.Ordering.{nat_cmp}
 use Rattle.jfr_layout.specs.declared.index.Index.{Index}
 use Rattle.jfr_layout.specs.declared.kind.Kind.{Kind}
-use Rattle.jfr_layout.specs.declared.row.Row.{Row}
-use Rattle.jfr_layout.specs.Leaps.{AreLeaps}
-use Rattle.jfr_layout.specs.Classes.{Class, Classes, AreSlots, class_place, extends_event, kind_of, repeats, unknown}
+use Rattle.jfr_layout.specs.declared.class_layout.ClassLayout.{ClassLayout}
+use Rattle.jfr_layout.specs.Fused.{AreFused}
+use Rattle.jfr_layout.specs.Classes.{Class, Classes, AreFieldLayouts, class_place, extends_event, kind_of, repeats, unknown}
 
 -- the place that an index has for an id: its table's, and past the table its map's
 abbrev pub place_in : Index → ℕ → Option ℕ
@@ -18,19 +18,19 @@ pub record IsIndex (k : Classes) (index : Index) : Type 0 where
   pub at : (id : ℕ) → place_in index id ≡ class_place k id
 
 -- a row has the slots of the class's fields, and leaps over them
-pub record IsRow (k : Classes) (c : Class) (row : Row) : Type 0 where
-  pub slots : AreSlots k c.fields row.slots.items
-  pub leaps : AreLeaps row.slots.items row.leaps.items
-  pub event : row.is_event ≡ extends_event c
+pub record IsClassLayout (k : Classes) (c : Class) (class_layout : ClassLayout) : Type 0 where
+  pub layouts : AreFieldLayouts k c.fields class_layout.layouts.items
+  pub fused_fields : AreFused class_layout.layouts.items class_layout.fused_fields.items
+  pub event : class_layout.is_event ≡ extends_event c
 
 -- the rows of these classes, in order
-abbrev pub AreRows : Classes → List Class → List Row → Type 0
-AreRows k cs rows = AllZip (IsRow k) cs rows
+abbrev pub AreClassLayouts : Classes → List Class → List ClassLayout → Type 0
+AreClassLayouts k cs class_layouts = AllZip (IsClassLayout k) cs class_layouts
 
 -- ids and names are used once, fields' classes are known, and what stands beside the list is the list's
-pub record IsResolved (k : Classes) (index : Index) (kinds : List Kind) (rows : List Row) : Type 0 where
+pub record IsResolved (k : Classes) (index : Index) (kinds : List Kind) (class_layouts : List ClassLayout) : Type 0 where
   pub once : repeats k ≡ []
   pub known : unknown k ≡ []
   pub by_id : IsIndex k index
   pub kind_each : kinds ≡ map (λ c. kind_of c.name) k
-  pub row_each : AreRows k k rows
+  pub class_layout_each : AreClassLayouts k k class_layouts

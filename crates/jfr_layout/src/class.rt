@@ -4,7 +4,7 @@ ghost use Rattle.std.specs.Option.{option_copied};
 ghost use Rattle.std.specs.Str.{chars};
 
 use crate::{Shape, is_text};
-use jfr_outside::{NoMemory, Text, Words};
+use jfr_base::{NoMemory, Text, Words};
 use std::alloc::Global;
 use std::marker::Model;
 

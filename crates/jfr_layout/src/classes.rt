@@ -2,14 +2,14 @@
 ghost use Rattle.std.specs.Prelude.{◌≡◌, ◌<◌, length, false, OnOk, IfOk, IfErr, IfSome, MatchOption, slice_get, option_map, option_and_then};
 ghost use Rattle.std.specs.Option.{option_copied};
 ghost use Rattle.std.specs.Str.{chars};
-ghost use Rattle.jfr_layout.specs.Classes.{class_faults, Sound, TellsFirst, find_class, class_place, kind_of, field_number, is_event_class, AreSlots, IsEventSlot};
+ghost use Rattle.jfr_layout.specs.Classes.{class_faults, Sound, TellsFirst, find_class, class_place, kind_of, field_number, is_event_class, AreFieldLayouts, IsEventLayout};
 ghost use Rattle.jfr_layout.specs.Events.{event_place};
-ghost use Rattle.jfr_layout.specs.Resolved.{IsRow};
+ghost use Rattle.jfr_layout.specs.Resolved.{IsClassLayout};
 
 use crate::event::{event_place, event_places};
 use crate::inline::{check_depth, check_filled};
 use crate::resolved::Resolved;
-use crate::{ClassFault, ClassInfo, ClassList, Kind, Row, Shape, Slot};
+use crate::{ClassFault, ClassInfo, ClassLayout, ClassList, FieldLayout, Kind, Shape};
 use std::alloc::Global;
 use std::marker::Model;
 
@@ -103,14 +103,14 @@ impl Classes {
     pub fn is_event(&self, id: u64) -> bool
         ensures { result ≡ is_event_class self.now id }
     {
-        self.event_slot(id).is_some()
+        self.event_layout(id).is_some()
     }
 
     /// The slot of the fields of an event of this type; `None` exactly where records of the type are no
     /// events.
     #[inline]
-    pub fn event_slot(&self, id: u64) -> Option<Slot>
-        ensures { MatchOption result (is_event_class self.now id ≡ false) (IsEventSlot self.now id) }
+    pub fn event_layout(&self, id: u64) -> Option<FieldLayout>
+        ensures { MatchOption result (is_event_class self.now id ≡ false) (IsEventLayout self.now id) }
     {
         let place = self.event_place(id)?;
         let shape = Shape {
@@ -118,7 +118,7 @@ impl Classes {
             constant: false,
             array: false,
         };
-        Some(Slot::new(shape, place, Kind::Composite))
+        Some(FieldLayout::new(shape, place, Kind::Composite))
     }
 
     // The place of the class of an id, where records of this type are events.
@@ -168,18 +168,18 @@ impl Classes {
     }
 
     /// The row of the class at a place: how the values of its fields are spelled, and the leaps over them.
-    pub fn row(&self, place: usize) -> &Row
+    pub fn class_layout(&self, place: usize) -> &ClassLayout
         requires { place < length self.now }
-        ensures { IfSome (slice_get self.now place) (λ c. IsRow self.now c result.now) }
+        ensures { IfSome (slice_get self.now place) (λ c. IsClassLayout self.now c result.now) }
     {
-        self.resolved.row(place)
+        self.resolved.class_layout(place)
     }
 
     /// How the values of each field of the class at a place are spelled, in order.
-    pub fn slots(&self, place: usize) -> &[Slot]
+    pub fn layouts(&self, place: usize) -> &[FieldLayout]
         requires { place < length self.now }
-        ensures exact { IfSome (slice_get self.now place) (λ c. AreSlots self.now c.fields result.now) }
+        ensures exact { IfSome (slice_get self.now place) (λ c. AreFieldLayouts self.now c.fields result.now) }
     {
-        self.resolved.slots(place)
+        self.resolved.layouts(place)
     }
 }

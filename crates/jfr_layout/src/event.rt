@@ -3,7 +3,7 @@ ghost use Rattle.std.specs.Prelude.{◌≡◌, length, IfOk};
 ghost use Rattle.jfr_layout.specs.Events.{AreEventPlaces, event_place};
 
 use crate::resolved::Resolved;
-use jfr_outside::NoMemory;
+use jfr_base::NoMemory;
 use std::alloc::Global;
 
 // Records of the types up to this one are metadata and checkpoints.

@@ -2,8 +2,7 @@
 ghost use Rattle.std.specs.Prelude.{◌≡◌};
 ghost use Rattle.jfr_layout.specs.declared.fault.ClassFault.TheVariants.{Memory};
 
-use jfr_base::Reason;
-use jfr_outside::NoMemory;
+use jfr_base::{NoMemory, Reason};
 use std::alloc::{AllocError, AllocFailed};
 
 /// Why classes could not be made of a list: a class or a field is refused, or memory was wanting.

@@ -6,8 +6,7 @@ ghost use Rattle.jfr_layout.specs.Classes.{Judges, repeats, name_repeats};
 ghost use Rattle.jfr_layout.specs.Resolved.{IsIndex, place_in};
 
 use crate::{ClassFault, ClassList, Fields};
-use jfr_base::Reason;
-use jfr_outside::NoMemory;
+use jfr_base::{NoMemory, Reason};
 use std::alloc::Global;
 use std::collections::BTreeMap;
 

@@ -5,8 +5,7 @@ ghost use Rattle.jfr_layout.specs.Classes.{Judges, flaws_in, empty_inline, is_em
 
 use crate::resolved::Resolved;
 use crate::{ClassFault, Kind};
-use jfr_base::Reason;
-use jfr_outside::NoMemory;
+use jfr_base::{NoMemory, Reason};
 use std::alloc::Global;
 
 /// A chain of so many inline steps is too long.

@@ -2,7 +2,7 @@
 ghost use Rattle.std.specs.Prelude.{◌≡◌};
 
 use crate::is_text;
-use jfr_outside::Text;
+use jfr_base::Text;
 
 /// How the values of a class are spelled: one of nine base kinds, by the class's name, or composite.
 #[derive(Clone, Copy, Debug, PartialEq, Eq)]

@@ -8,29 +8,29 @@
 #![tactic(auto)]
 
 mod class;
+mod class_layout;
 mod classes;
 mod event;
 mod fault;
+mod field_layout;
 mod form;
+mod fused;
 mod index;
 mod inline;
 mod kind;
 mod laws;
-mod leap;
 mod name;
 mod resolved;
-mod row;
 mod shape;
-mod slot;
 
 pub use class::{ClassInfo, ClassList, FieldInfo, Fields};
+pub use class_layout::ClassLayout;
 pub use classes::Classes;
 pub use fault::ClassFault;
+pub use field_layout::FieldLayout;
 pub use form::Form;
+pub use fused::{FusedFields, FusedKind};
 pub use kind::Kind;
 pub use laws::{classes_are_known, fields_agree, ids_stand_once, values_end};
-pub use leap::{Leap, Over};
 pub use name::is_text;
-pub use row::Row;
 pub use shape::Shape;
-pub use slot::Slot;

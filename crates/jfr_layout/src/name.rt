@@ -2,7 +2,7 @@
 ghost use Rattle.std.specs.Prelude.{◌≡◌};
 ghost use Rattle.std.specs.Str.{chars, bytes_eq};
 
-use jfr_outside::Text;
+use jfr_base::Text;
 
 /// Whether the text is this one.
 pub fn is_text(text: &Text, other: &str) -> bool

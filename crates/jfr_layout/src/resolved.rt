@@ -2,14 +2,13 @@
 ghost use Rattle.std.specs.Prelude.{◌≡◌, ◌<◌, ◌++◌, length, map, IfOk, IfSome, IsSome, slice_get, option_and_then};
 ghost use Rattle.std.specs.Option.{option_copied};
 ghost use Rattle.jfr_base.specs.declared.reason.Reason.TheVariants.{UnknownType};
-ghost use Rattle.jfr_layout.specs.Classes.{Judges, repeats, unknown, flaws_in, is_unknown, field_at, find_class, class_place, kind_of, step_class, extends_event, AreSlots};
-ghost use Rattle.jfr_layout.specs.Resolved.{AreRows, IsIndex, IsRow};
+ghost use Rattle.jfr_layout.specs.Classes.{Judges, repeats, unknown, flaws_in, is_unknown, field_at, find_class, class_place, kind_of, step_class, extends_event, AreFieldLayouts};
+ghost use Rattle.jfr_layout.specs.Resolved.{AreClassLayouts, IsIndex, IsClassLayout};
 
+use crate::fused::fused_of;
 use crate::index::{Index, index_of};
-use crate::leap::leaps_of;
-use crate::{ClassFault, ClassInfo, ClassList, Kind, Row, Slot, is_text};
-use jfr_base::Reason;
-use jfr_outside::NoMemory;
+use crate::{ClassFault, ClassInfo, ClassLayout, ClassList, FieldLayout, Kind, is_text};
+use jfr_base::{NoMemory, Reason};
 use std::alloc::Global;
 use std::marker::Model;
 
@@ -19,7 +18,7 @@ pub struct Resolved {
     list: ClassList,
     index: Index,
     kinds: Vec<Kind>,
-    rows: Vec<Row>,
+    class_layouts: Vec<ClassLayout>,
 }
 
 impl Model for Resolved {
@@ -31,7 +30,7 @@ impl Model for Resolved {
 
     ghost view = { λ r. r.list };
 
-    ghost invariant = { λ r. IsResolved r.list r.index r.kinds.items r.rows.items };
+    ghost invariant = { λ r. IsResolved r.list r.index r.kinds.items r.class_layouts.items };
 }
 
 // The kind of each class.
@@ -60,25 +59,25 @@ fn extends_event(class: &ClassInfo) -> bool
 }
 
 // The slots of the fields of one class. A field's class that isn't defined is a fault.
-fn slots_of(
+fn layouts_of(
     alloc: Global,
     list: &ClassList,
     index: &Index,
     kinds: &[Kind],
     class: usize,
-) -> Result<Vec<Slot>, ClassFault>
+) -> Result<Vec<FieldLayout>, ClassFault>
     requires indexed { IsIndex list.now index.now }
     requires kinds { kinds.now ≡ map (λ c. kind_of c.name) list.now }
     requires within { class < length list.now }
-    ensures exact { IfSome (slice_get list.now class) (λ c. IfOk result (λ slots. AreSlots list.now c.fields slots.items)) }
+    ensures exact { IfSome (slice_get list.now class) (λ c. IfOk result (λ layouts. AreFieldLayouts list.now c.fields layouts.items)) }
     ensures judged { IfSome (slice_get list.now class) (λ c. Judges (flaws_in UnknownType (is_unknown list.now) class c.fields) result) }
 {
     let fields = &list.at(class).fields;
-    let mut slots = Vec::with_capacity(alloc, fields.len())?;
+    let mut layouts = Vec::with_capacity(alloc, fields.len())?;
     for number in 0..fields.len() {
         let shape = fields.at(number).shape;
         match index.place(shape.class) {
-            Some(place) => slots.push(Slot::new(shape, place, kinds[place]))?,
+            Some(place) => layouts.push(FieldLayout::new(shape, place, kinds[place]))?,
             None => {
                 return Err(ClassFault::Flawed {
                     class,
@@ -88,49 +87,49 @@ fn slots_of(
             }
         }
     }
-    Ok(slots)
+    Ok(layouts)
 }
 
 // The row of one class. A field's class that isn't defined is a fault.
-fn row_of(
+fn class_layout_of(
     alloc: Global,
     list: &ClassList,
     index: &Index,
     kinds: &[Kind],
     class: usize,
-) -> Result<Row, ClassFault>
+) -> Result<ClassLayout, ClassFault>
     requires indexed { IsIndex list.now index.now }
     requires kinds { kinds.now ≡ map (λ c. kind_of c.name) list.now }
     requires within { class < length list.now }
-    ensures exact { IfSome (slice_get list.now class) (λ c. IfOk result (IsRow list.now c)) }
+    ensures exact { IfSome (slice_get list.now class) (λ c. IfOk result (IsClassLayout list.now c)) }
     ensures judged { IfSome (slice_get list.now class) (λ c. Judges (flaws_in UnknownType (is_unknown list.now) class c.fields) result) }
 {
-    let slots = slots_of(alloc, list, index, kinds, class)?;
-    let leaps = leaps_of(alloc, &slots)?;
-    Ok(Row {
-        slots,
-        leaps,
+    let layouts = layouts_of(alloc, list, index, kinds, class)?;
+    let fused_fields = fused_of(alloc, &layouts)?;
+    Ok(ClassLayout {
+        layouts,
+        fused_fields,
         is_event: extends_event(list.at(class)),
     })
 }
 
 // The rows of all classes, in order.
-fn rows_of(
+fn class_layouts_of(
     alloc: Global,
     list: &ClassList,
     index: &Index,
     kinds: &[Kind],
-) -> Result<Vec<Row>, ClassFault>
+) -> Result<Vec<ClassLayout>, ClassFault>
     requires indexed { IsIndex list.now index.now }
     requires kinds { kinds.now ≡ map (λ c. kind_of c.name) list.now }
-    ensures exact { IfOk result (λ rows. AreRows list.now list.now rows.items) }
+    ensures exact { IfOk result (λ class_layouts. AreClassLayouts list.now list.now class_layouts.items) }
     ensures judged { Judges (unknown list.now) result }
 {
-    let mut rows = Vec::new(alloc);
+    let mut class_layouts = Vec::new(alloc);
     for at in 0..list.len() {
-        rows.push(row_of(alloc, list, index, kinds, at)?)?;
+        class_layouts.push(class_layout_of(alloc, list, index, kinds, at)?)?;
     }
-    Ok(rows)
+    Ok(class_layouts)
 }
 
 impl Resolved {
@@ -141,12 +140,12 @@ impl Resolved {
     {
         let index = index_of(alloc, &list)?;
         let kinds = kinds_of(alloc, &list)?;
-        let rows = rows_of(alloc, &list, &index, &kinds)?;
+        let class_layouts = class_layouts_of(alloc, &list, &index, &kinds)?;
         Ok(Resolved {
             list,
             index,
             kinds,
-            rows,
+            class_layouts,
         })
     }
 
@@ -195,11 +194,11 @@ impl Resolved {
     }
 
     /// The row of the class at a place.
-    pub fn row(&self, place: usize) -> &Row
+    pub fn class_layout(&self, place: usize) -> &ClassLayout
         requires { place < length self.now }
-        ensures { IfSome (slice_get self.now place) (λ c. IsRow self.now c result.now) }
+        ensures { IfSome (slice_get self.now place) (λ c. IsClassLayout self.now c result.now) }
     {
-        &self.rows[place]
+        &self.class_layouts[place]
     }
 
     /// Whether the class at a place is composite and has the super type of events.
@@ -207,15 +206,15 @@ impl Resolved {
         requires { place < length self.now }
         ensures { IfSome (slice_get self.now place) (λ c. result ≡ extends_event c) }
     {
-        self.row(place).is_event
+        self.class_layout(place).is_event
     }
 
     /// The slots of the fields of the class at a place, in order.
-    pub fn slots(&self, place: usize) -> &[Slot]
+    pub fn layouts(&self, place: usize) -> &[FieldLayout]
         requires { place < length self.now }
-        ensures { IfSome (slice_get self.now place) (λ c. AreSlots self.now c.fields result.now) }
+        ensures { IfSome (slice_get self.now place) (λ c. AreFieldLayouts self.now c.fields result.now) }
     {
-        &self.row(place).slots
+        &self.class_layout(place).layouts
     }
 
     /// The place of the class that an inline step by a field goes to.
@@ -224,12 +223,12 @@ impl Resolved {
         ensures exact { IfSome (field_at self.now place number) (λ f. option_and_then (slice_get self.now) result ≡ step_class self.now f) }
         ensures within { IfSome result (λ target. target < length self.now) }
     {
-        let slot = self.slots(place)[number];
-        if slot.shape.constant {
+        let layout = self.layouts(place)[number];
+        if layout.shape.constant {
             return None;
         }
-        match slot.kind {
-            Kind::Composite => Some(slot.place),
+        match layout.kind {
+            Kind::Composite => Some(layout.place),
             _ => None,
         }
     }

@@ -3,8 +3,8 @@ use Rattle.std.proofs.Common.{◌≡◌, ℕ, List, [], ◌∙◌, ap, arith, re
 use Rattle.std.specs.Prelude.{Option, Some, None, unwrap_or, suc, Bool, true, false, ◌&&◌, ◌==◌, ◌∷◌, length}
 use Rattle.jfr_meta.specs.Attributes.{not_empty}
 use Rattle.std.specs.Borrow.{Bor}
-use Rattle.jfr_outside.specs.Texts.{text_in}
-use Rattle.jfr_outside.proofs.TextLaws.{bytes_eq-chars}
+use Rattle.jfr_base.specs.Texts.{text_in}
+use Rattle.jfr_base.proofs.TextLaws.{bytes_eq-chars}
 use Rattle.std.specs.Str.{chars, bytes_eq, IsUtf8, IsAscii, encode_utf8_all}
 use Rattle.std.proofs.lemmas.Str.{encodes-chars, chars-nil, chars-IsAscii}
 use Rattle.std.proofs.lemmas.Str.Ascii.{IsAscii-cons, IsAscii-nil}

@@ -3,12 +3,12 @@ ghost use Rattle.std.specs.Prelude.{◌≡◌};
 ghost use Rattle.std.specs.Char.{is_ascii_digit};
 ghost use Rattle.std.specs.List.{list_all};
 ghost use Rattle.std.specs.Str.{chars, bytes_eq};
-ghost use Rattle.jfr_outside.specs.Texts.{text_in};
+ghost use Rattle.jfr_base.specs.Texts.{text_in};
 ghost use Rattle.jfr_meta.specs.Attributes.{IsWord, text_at, first_value, not_empty, attribute, id_of, flag_of};
 ghost use Rattle.jfr_meta.specs.Trees.{pairs_of};
 
 use crate::Element;
-use jfr_outside::Words;
+use jfr_base::Words;
 
 /// Whether the text is this word.
 pub(crate) fn is_word(text: &str, word: &str) -> bool

@@ -7,8 +7,7 @@ ghost use Rattle.jfr_meta.specs.Heads.{head_format, head_answer, seen_body};
 
 use crate::strings::read_strings;
 use crate::{Element, Elements, Pairs};
-use jfr_base::{Flaw, ReadFault, Reason, Var, read_within};
-use jfr_outside::Words;
+use jfr_base::{Flaw, ReadFault, Reason, Var, Words, read_within};
 use std::alloc::Global;
 
 /// What a body holds: four integers, of which the last is the number of strings, the strings and the

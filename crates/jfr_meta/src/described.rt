@@ -11,9 +11,8 @@ ghost use Rattle.jfr_layout.specs.Classes as classes;
 use crate::Element;
 use crate::class::{read_classes, refused};
 use crate::field::{has_name, named};
-use jfr_base::{Flaw, ReadFault, Reason};
+use jfr_base::{Flaw, ReadFault, Reason, Words};
 use jfr_layout::{ClassFault, Classes};
-use jfr_outside::Words;
 use std::alloc::{AllocError, Global};
 
 /// The first child of the element that has this name.

@@ -4,7 +4,7 @@ ghost use Rattle.std.specs.Option.{option_copied};
 ghost use Rattle.jfr_meta.specs.Trees.{tree, place_of, name_of, pairs_of, children_of};
 
 use crate::Pairs;
-use jfr_outside::NoMemory;
+use jfr_base::NoMemory;
 use std::alloc::Global;
 use std::marker::Model;
 

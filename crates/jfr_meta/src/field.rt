@@ -7,8 +7,8 @@ ghost use Rattle.jfr_meta.specs.Described.{id_attribute, shape_of};
 
 use crate::Element;
 use crate::attributes::{attribute, first_value, flag_of, id_of, is_word, text_at};
+use jfr_base::Words;
 use jfr_layout::Shape;
-use jfr_outside::Words;
 use std::alloc::{AllocError, Global};
 
 /// Whether the element has this name.

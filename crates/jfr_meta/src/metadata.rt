@@ -7,10 +7,9 @@ ghost use Rattle.jfr_meta.specs.Described.{IsMetadata, IsMetadataFlaw};
 use crate::Element;
 use crate::body::read_body;
 use crate::described::describe;
-use jfr_base::ReadFault;
+use jfr_base::{ReadFault, Words};
 use jfr_frame::Framed;
 use jfr_layout::Classes;
-use jfr_outside::Words;
 use std::alloc::Global;
 
 /// What a metadata record says.

@@ -1,7 +1,7 @@
 // The attributes of an element.
 ghost use Rattle.std.specs.Prelude.{◌≡◌, [], ◌∷◌, ◌++◌, length, OnOk, OnErr, slice_get};
 
-use jfr_outside::NoMemory;
+use jfr_base::NoMemory;
 use std::alloc::Global;
 use std::marker::Model;
 

@@ -6,8 +6,7 @@ ghost use Rattle.jfr_text.specs.Strings.{string_format};
 ghost use Rattle.jfr_meta.specs.Answers.{Tells};
 ghost use Rattle.jfr_meta.specs.Body.{table_string, table_text};
 
-use jfr_base::{Flaw, ReadFault, Reason};
-use jfr_outside::{NoMemory, Text, Words};
+use jfr_base::{Flaw, NoMemory, ReadFault, Reason, Text, Words};
 use jfr_text::{StringSpan, read_string, text_of};
 use std::alloc::Global;
 

@@ -1,14 +1,14 @@
 // The values of annotations.
 ghost use Rattle.std.specs.Prelude.{◌≡◌, ℕ, List, length, option_and_then, IfOk};
 ghost use Rattle.std.specs.Option.{option_to_list};
-ghost use Rattle.jfr_outside.specs.Texts.{text_in};
+ghost use Rattle.jfr_base.specs.Texts.{text_in};
 ghost use Rattle.jfr_meta.specs.Attributes.{attribute, first_value, not_empty, value_key, values_from, values_of};
 ghost use Rattle.jfr_meta.specs.Trees.{pairs_of};
 ghost use Rattle.jfr_meta.specs.Values.{HasFirst};
 
 use crate::Element;
 use crate::attributes::{attribute, not_empty, text_at};
-use jfr_outside::{NoMemory, Words};
+use jfr_base::{NoMemory, Words};
 use std::alloc::Global;
 use std::collections::BTreeMap;
 

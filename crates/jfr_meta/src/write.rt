@@ -7,8 +7,7 @@ ghost use Rattle.jfr_meta.specs.Written.{IsText, text_bytes, pair_bytes, tree_by
 
 use crate::attributes::text_at;
 use crate::{Element, Elements, Pairs};
-use jfr_base::{var_len, write_in, write_var};
-use jfr_outside::{NoMemory, Words};
+use jfr_base::{NoMemory, Words, var_len, write_in, write_var};
 use std::alloc::{AllocError, Global};
 
 /// The kind bytes of the empty string, and of one that is written as UTF-8.

@@ -1,4 +1,3 @@
 pub mod HeldLaws
 pub mod NameLaws
 pub mod ScriptLaws
-pub mod TextLaws

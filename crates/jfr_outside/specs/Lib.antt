@@ -7,5 +7,4 @@ pub mod Scripts
 pub mod Source
 pub mod SteadyPlace
 pub mod SteadySink
-pub mod Texts
 pub mod World

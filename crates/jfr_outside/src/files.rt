@@ -5,7 +5,7 @@ ghost use Rattle.std.specs.Str.{IsUtf8};
 ghost use Rattle.jfr_outside.specs.Held.{files_of, IsHeld};
 ghost use Rattle.jfr_outside.specs.World.{bytes_in, slice_of, rest_in, names_in};
 
-use crate::{NoMemory, Words};
+use jfr_base::{NoMemory, Words};
 use std::alloc::{AllocError, Global};
 use std::collections::BTreeMap;
 

@@ -13,9 +13,9 @@ mod sink;
 mod source;
 mod steady_place;
 mod steady_sink;
-mod text;
 
-pub use fault::{Fault, NoMemory};
+pub use fault::Fault;
+pub use jfr_base::{NoMemory, Text, Words};
 pub use memory_place::MemoryPlace;
 pub use memory_sink::MemorySink;
 pub use place::Place;
@@ -23,4 +23,3 @@ pub use script::Call;
 pub use sink::Sink;
 pub use steady_place::SteadyPlace;
 pub use steady_sink::SteadySink;
-pub use text::{Text, Words};

@@ -8,7 +8,8 @@ ghost use Rattle.jfr_outside.specs.declared.fault.Fault.TheVariants.{Failed};
 ghost use Rattle.jfr_outside.specs.declared.script.Call.TheVariants.{Open, Read, Create, Append, Finish, List as Listing};
 
 use crate::script::Scripts;
-use crate::{Call, Fault, NoMemory, Place, SteadyPlace, Words};
+use crate::{Call, Fault, Place, SteadyPlace};
+use jfr_base::{NoMemory, Words};
 use std::alloc::Global;
 
 /// A place in memory. It tells all of its state. It fails by its scripts, and else for the causes of a

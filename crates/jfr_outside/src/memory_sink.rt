@@ -9,7 +9,8 @@ ghost use Rattle.jfr_outside.specs.declared.fault.Fault.TheVariants.{Failed, Mem
 ghost use Rattle.jfr_outside.specs.declared.script.Call.TheVariants.{Append};
 
 use crate::script::Scripts;
-use crate::{Call, Fault, NoMemory, Sink, SteadySink};
+use crate::{Call, Fault, Sink, SteadySink};
+use jfr_base::NoMemory;
 use std::alloc::Global;
 
 /// A sink in memory. It tells its bytes, and fails by its scripts alone.

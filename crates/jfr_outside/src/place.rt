@@ -4,7 +4,8 @@ ghost use Rattle.jfr_outside.specs.World.{State, file, bytes_in, opened, shut, t
 ghost use Rattle.jfr_outside.specs.Counts.{Counts};
 ghost use Rattle.jfr_outside.specs.declared.fault.Fault.TheVariants.{Failed};
 
-use crate::{Fault, Words};
+use crate::Fault;
+use jfr_base::Words;
 use std::alloc::Global;
 
 /// Files by name, one open input and one open output.

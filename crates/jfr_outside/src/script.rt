@@ -2,7 +2,7 @@
 ghost use Rattle.std.specs.Prelude.{◌≡◌, [], ◌∷◌, ◌++◌, OnOk, OnErr};
 ghost use Rattle.jfr_outside.specs.Scripts.{kind_of, is_due, passed, kept, kept_with, after_call};
 
-use crate::NoMemory;
+use jfr_base::NoMemory;
 use std::alloc::Global;
 use std::marker::Model;
 

@@ -9,7 +9,8 @@ ghost use Rattle.jfr_outside.specs.declared.fault.Fault.TheVariants.{Failed};
 
 use crate::files::{FileMap, file_in, grow_file, join, names_in, set_file};
 use crate::source::Source;
-use crate::{Fault, NoMemory, Place, Words};
+use crate::{Fault, Place};
+use jfr_base::{NoMemory, Words};
 use std::alloc::Global;
 use std::collections::BTreeMap;
 

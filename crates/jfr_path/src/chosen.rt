@@ -10,9 +10,9 @@ ghost use Rattle.jfr_path.specs.Verdicts.{IsVerdict, Says};
 use crate::fields_of;
 use crate::threads::ThreadVerdicts;
 use crate::verdict::{ClassVerdict, are_all_kept, verdicts_on};
+use jfr_base::NoMemory;
 use jfr_chunk::{Chunk, Event, Kept};
 use jfr_filter::Filter;
-use jfr_outside::NoMemory;
 use jfr_value::{Step, child};
 use std::alloc::Global;
 

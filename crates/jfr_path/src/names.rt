@@ -8,8 +8,8 @@ ghost use Rattle.jfr_value.specs.Nodes.{IsValue, node_of};
 
 use crate::fields_of;
 use crate::steps::{follow, string_of};
+use jfr_base::{NoMemory, Text, Words};
 use jfr_chunk::{Chunk, Event};
-use jfr_outside::{NoMemory, Text, Words};
 use jfr_text::text_of;
 use jfr_value::{Node, Step, child};
 use std::alloc::Global;

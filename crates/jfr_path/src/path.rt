@@ -2,7 +2,7 @@
 ghost use Rattle.std.specs.Prelude.{◌≡◌, [], ◌∷◌, ◌++◌, length, OnOk, OnErr, slice_get};
 ghost use Rattle.std.specs.Option.{option_copied};
 
-use jfr_outside::NoMemory;
+use jfr_base::NoMemory;
 use jfr_value::Step;
 use std::alloc::Global;
 use std::marker::Model;

@@ -6,9 +6,9 @@ ghost use Rattle.jfr_path.specs.Threads.{allows_behind, text_behind};
 
 use crate::names::{behind_references, is_reference, named_field, text_at};
 use crate::steps::reference_key;
+use jfr_base::{NoMemory, Text};
 use jfr_chunk::Chunk;
 use jfr_filter::Filter;
-use jfr_outside::{NoMemory, Text};
 use jfr_value::Node;
 use std::alloc::Global;
 use std::collections::BTreeMap;

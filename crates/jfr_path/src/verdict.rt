@@ -4,9 +4,9 @@ ghost use Rattle.std.specs.List.{AllZip, list_all};
 ghost use Rattle.jfr_layout.specs.Classes.{field_number};
 ghost use Rattle.jfr_path.specs.Verdicts.{IsVerdict, is_kept};
 
+use jfr_base::NoMemory;
 use jfr_filter::{Filter, Side};
 use jfr_layout::{ClassInfo, Classes};
-use jfr_outside::NoMemory;
 use std::alloc::Global;
 
 /// What a filter says of the events of a class.

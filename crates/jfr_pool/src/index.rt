@@ -3,7 +3,7 @@ ghost use Rattle.std.specs.Prelude.{None, ◌≡◌, false, ◌+◌, ◌-◌, �
 ghost use Rattle.jfr_pool.specs.declared.index.TheConstants.{REACH};
 
 use crate::EntryAt;
-use jfr_outside::NoMemory;
+use jfr_base::NoMemory;
 use std::alloc::Global;
 use std::collections::BTreeMap;
 

@@ -1,7 +1,7 @@
 // The row of a class: what stands for each of its keys.
 ghost use Rattle.std.specs.Prelude.{◌≡◌, ◌≢◌, ℕ, option_map, replicate, IfOk};
 
-use jfr_outside::NoMemory;
+use jfr_base::NoMemory;
 use std::alloc::Global;
 
 /// The row of a class: a count for the key 0, and one for each key from the first on, up to the row's end.

@@ -9,7 +9,7 @@ use Rattle.jfr_chunk.specs.Parts.{Parts, EventAt, AreParts, events_of}
 use Rattle.jfr_chunk.specs.Reach.{those, node_entries, all_targets, nodes_of, roots, marked, kept_by, marked_at}
 use Rattle.jfr_chunk.proofs.CountLaws.{references_few}
 use Rattle.jfr_chunk.proofs.Members.{In}
-use Rattle.jfr_chunk.proofs.NotedLaws.{those_append}
+use Rattle.jfr_chunk.proofs.RefLaws.{those_append}
 use Rattle.jfr_chunk.proofs.StandingLaws.{event_is, standing}
 use Rattle.jfr_chunk.proofs.SweepLaws.{AllBelow}
 use Rattle.jfr_reach.specs.Worklists.{ordered_all}

@@ -5,8 +5,8 @@ ghost use Rattle.jfr_chunk.specs.Reach.{IsMarked, Reached, is_marked, kept_by, r
 
 use crate::walk::put_reached;
 use crate::worklist::Worklist;
+use jfr_base::NoMemory;
 use jfr_chunk::{Chunk, Kept};
-use jfr_outside::NoMemory;
 use jfr_pool::Pools;
 use jfr_value::Steps;
 use std::alloc::Global;

@@ -2,7 +2,7 @@
 ghost use Rattle.std.specs.Prelude.{◌≡◌, ◌+◌, ◌<◌, ◌≤◌, [], ◌∷◌, ◌++◌, false, true, length, replicate, slice_set, vec_len, vec_capacity, IfOk};
 ghost use Rattle.jfr_reach.specs.Worklists.{marked_count, ordered};
 
-use jfr_outside::NoMemory;
+use jfr_base::NoMemory;
 use std::alloc::Global;
 
 /// Marks at numbers, and the marked numbers in the order of marking, each once. There is room for all

@@ -11,7 +11,7 @@ use Rattle.std.specs.Prelude.{encode_utf8_all}
 use Rattle.std.specs.Str.{chars, IsUtf8}
 use Rattle.std.proofs.lemmas.Str.{encodes-append, encodes-chars}
 use Rattle.jfr_outside.specs.World.{added}
-use Rattle.jfr_outside.specs.declared.fault.NoMemory.{NoMemory}
+use Rattle.jfr_base.specs.declared.memory.NoMemory.{NoMemory}
 use Rattle.jfr_header.specs.declared.ending.Ending.{Ending}
 use Rattle.jfr_value.specs.Nodes.{NodeAt}
 use Rattle.jfr_chunk.specs.Parts.{Parts}

@@ -10,9 +10,9 @@ use Rattle.jfr_header.specs.Headers.{header_of, header_bytes}
 use Rattle.jfr_header.specs.declared.header.Header.{Header}
 use Rattle.jfr_chunk.specs.Reach.{remain}
 use Rattle.jfr_chunk.specs.Parts.{Parts, EventAt, metadata_at}
-use Rattle.jfr_chunk.specs.Scrub.{Stay, Whole, Chained, Written, bytes_of, written_bytes, older_after, written, last_at, record_of, moved, stays, scrub_of}
+use Rattle.jfr_chunk.specs.Scrub.{OutputRecord, Whole, Chained, Written, bytes_of, written_bytes, older_after, written, last_at, record_of, moved, output_records, scrub_of}
 use Rattle.jfr_scrub.specs.declared.body.Body.{Body}
-use Rattle.jfr_scrub.specs.Bodies.{StayFits, IsBefore, place_seen, body_with, IsBody, NotFalling}
+use Rattle.jfr_scrub.specs.Bodies.{OutputRecordFits, IsBefore, place_seen, body_with, IsBody, NotFalling}
 use Rattle.jfr_scrub.specs.Left.{HasRange}
 use Rattle.jfr_scrub.specs.Pieces.{Laying, more}
 use Rattle.jfr_scrub.proofs.CheckpointLaws.{more_more}
@@ -27,7 +27,7 @@ range_filter n t (e ∷ es) a = by_test (t e) (range_filter n t es a.1)
 
 -- each that is written fits
 abbrev pub WrittenFits : List ℕ → List EntryAt → Written → Type 0
-WrittenFits c left w = StayFits c left w.stay w.at w.older
+WrittenFits c left w = OutputRecordFits c left w.output_record w.at w.older
 
 -- a place that was seen, or else one that comes later
 abbrev pub or_place : Option ℕ → ℕ → ℕ
@@ -35,7 +35,7 @@ or_place (Some place) later = place
 or_place None later = later
 
 -- what is laid out, and what is left
-pub record Going (p : Parts) (left : List EntryAt) (all ss : List Stay) (b : Body) : Type 0 where
+pub record Going (p : Parts) (left : List EntryAt) (all ss : List OutputRecord) (b : Body) : Type 0 where
   pub chunk : b.output.chunk ≡ p.bytes
   pub output : more b.output (flat_map (written_bytes p.bytes left) (written p.bytes left b.at b.older ss)) ≡ record { chunk = p.bytes; bytes = flat_map (written_bytes p.bytes left) (written p.bytes left 68 None all) }
   pub at : b.at ≡ 68 + length b.output.bytes
@@ -45,12 +45,12 @@ pub record Going (p : Parts) (left : List EntryAt) (all ss : List Stay) (b : Bod
   pub before : IsBefore b.older b.at
   pub within : 68 + length (flat_map (written_bytes p.bytes left) (written p.bytes left 68 None all)) ≤ length p.bytes
 
-pub going_none : (p : Parts) (left : List EntryAt) (all : List Stay) (b : Body) → b ≡ record { output = record { chunk = p.bytes; bytes = [] }; at = 68; older = None; metadata = None } →
+pub going_none : (p : Parts) (left : List EntryAt) (all : List OutputRecord) (b : Body) → b ≡ record { output = record { chunk = p.bytes; bytes = [] }; at = 68; older = None; metadata = None } →
     AllByRecursion (WrittenFits p.bytes left) (written p.bytes left 68 None all) → 68 + length (flat_map (written_bytes p.bytes left) (written p.bytes left 68 None all)) ≤ length p.bytes → Going p left all all b
 going_none p left all b e f w = subst (Going p left all all) (sym e) (record { chunk = refl; output = refl; at = refl; older = refl; metadata = refl; fits = f; before = tt; within = w })
 
 -- what is left is no longer than all
-pub going_room : (p : Parts) (left : List EntryAt) (all ss : List Stay) (s : Stay) (b : Body) → Going p left all (s ∷ ss) b → b.at + length (bytes_of p.bytes left s b.at b.older) ≤ length p.bytes
+pub going_room : (p : Parts) (left : List EntryAt) (all ss : List OutputRecord) (s : OutputRecord) (b : Body) → Going p left all (s ∷ ss) b → b.at + length (bytes_of p.bytes left s b.at b.older) ≤ length p.bytes
 going_room p left all ss s b g =
     let x = bytes_of p.bytes left s b.at b.older in
     let y = flat_map (written_bytes p.bytes left) (written p.bytes left (b.at + length x) (older_after s b.at b.older) ss) in
@@ -61,26 +61,26 @@ going_room p left all ss s b g =
     let a : b.at ≡ 68 + length b.output.bytes = g.at in
     omega arith
 
-last_next : (older : Option ℕ) (w : Written) (ws : List Written) → last_at older (w ∷ ws) ≡ last_at (older_after w.stay w.at older) ws
+last_next : (older : Option ℕ) (w : Written) (ws : List Written) → last_at older (w ∷ ws) ≡ last_at (older_after w.output_record w.at older) ws
 last_next None w ws = refl
 last_next (Some at) w ws = refl
 
-moved_next : (before : Option ℕ) (w : Written) (ws : List Written) (at : ℕ) → or_place before (moved (w ∷ ws) at) ≡ or_place (place_seen before ((record_of w.stay).at == at) w.at) (moved ws at)
+moved_next : (before : Option ℕ) (w : Written) (ws : List Written) (at : ℕ) → or_place before (moved (w ∷ ws) at) ≡ or_place (place_seen before ((record_of w.output_record).at == at) w.at) (moved ws at)
 moved_next (Some place) w ws at = refl
-moved_next None w ws at = by_test ((record_of w.stay).at == at)
+moved_next None w ws at = by_test ((record_of w.output_record).at == at)
   where
-    by_test : (b : Bool) → option_map_or (λ (v : Written). v.at) (if b then Some w else find (λ (v : Written). (record_of v.stay).at == at) ws) 0 ≡ or_place (place_seen None b w.at) (moved ws at)
+    by_test : (b : Bool) → option_map_or (λ (v : Written). v.at) (if b then Some w else find (λ (v : Written). (record_of v.output_record).at == at) ws) 0 ≡ or_place (place_seen None b w.at) (moved ws at)
     by_test true = refl
     by_test false = refl
 
-pub going_next : (p : Parts) (left : List EntryAt) (all ss : List Stay) (s : Stay) (b next : Body) (m : ℕ) → Going p left all (s ∷ ss) b → m ≡ metadata_at p.bytes → next ≡ body_with left m b s → 1 ≤ length (bytes_of p.bytes left s b.at b.older) → Going p left all ss next
+pub going_next : (p : Parts) (left : List EntryAt) (all ss : List OutputRecord) (s : OutputRecord) (b next : Body) (m : ℕ) → Going p left all (s ∷ ss) b → m ≡ metadata_at p.bytes → next ≡ body_with left m b s → 1 ≤ length (bytes_of p.bytes left s b.at b.older) → Going p left all ss next
 going_next p left all ss s b next m g e n k =
     let c = g.chunk in
     let same : next ≡ record { output = more b.output (bytes_of p.bytes left s b.at b.older); at = b.at + length (bytes_of p.bytes left s b.at b.older); older = older_after s b.at b.older; metadata = place_seen b.metadata ((record_of s).at == metadata_at p.bytes) b.at } =
     n ∙ (λ i. record { output = more b.output (bytes_of (c i) left s b.at b.older); at = b.at + length (bytes_of (c i) left s b.at b.older); older = older_after s b.at b.older; metadata = place_seen b.metadata ((record_of s).at == e i) b.at }) in
     subst (Going p left all ss) (sym same) (going k)
   where
-    before : (s : Stay) (at to : ℕ) (older : Option ℕ) → IsBefore older at → at < to → IsBefore (older_after s at older) to
+    before : (s : OutputRecord) (at to : ℕ) (older : Option ℕ) → IsBefore older at → at < to → IsBefore (older_after s at older) to
     before (Whole r) at to None h i = tt
     before (Whole r) at to (Some o) h i = omega (arith, h)
     before (Chained number l) at to older h i = i
@@ -90,7 +90,7 @@ going_next p left all ss s b next m g e n k =
     going k =
         let x = bytes_of p.bytes left s b.at b.older in
         let y = flat_map (written_bytes p.bytes left) (written p.bytes left (b.at + length x) (older_after s b.at b.older) ss) in
-        let w : Written = record { stay = s; at = b.at; older = b.older } in
+        let w : Written = record { output_record = s; at = b.at; older = b.older } in
         let ws = written p.bytes left (b.at + length x) (older_after s b.at b.older) ss in
         let l : length (b.output.bytes ++ x) ≡ length b.output.bytes + length x = length-append b.output.bytes x in
         let a : b.at ≡ 68 + length b.output.bytes = g.at in
@@ -113,7 +113,7 @@ or_none : (o : Option ℕ) → or_place o 0 ≡ unwrap_or o 0
 or_none None = refl
 or_none (Some at) = refl
 
-pub going_all : (p : Parts) (left : List EntryAt) (all ss : List Stay) (b : Body) → Going p left all ss b → ss ≡ [] → IsBody p left all b
+pub going_all : (p : Parts) (left : List EntryAt) (all ss : List OutputRecord) (b : Body) → Going p left all ss b → ss ≡ [] → IsBody p left all b
 going_all p left all ss b g e = done (subst (λ z. Going p left all z b) e g)
   where
     done : Going p left all [] b → IsBody p left all b
@@ -236,10 +236,10 @@ entries_between es rest here n k m r t h a b i c d =
     t ∙ (ap (take m) r ∙ entries_here es n k m h a b (subst (λ z. m ≤ length z) r i) (subst (λ z. AllWithin (λ e. leb e.checkpoint n ≡ true) z 0 m) r c) (subst (λ z. AllWithin (λ e. leb e.checkpoint n ≡ false) z m (length z)) r d))
 
 -- the header before the body is what the chunk becomes
-pub laid_all : (p : Parts) (kept : List EventAt) (left : List EntryAt) (b : Body) (h : Header) (front joined : List ℕ) → left ≡ remain p kept → IsBody p left (stays p kept) b → h ≡ header_of (take 68 p.bytes) →
+pub laid_all : (p : Parts) (kept : List EventAt) (left : List EntryAt) (b : Body) (h : Header) (front joined : List ℕ) → left ≡ remain p kept → IsBody p left (output_records p kept) b → h ≡ header_of (take 68 p.bytes) →
     front ≡ header_bytes (record h { size = b.at; pools = unwrap_or b.older 0; metadata = unwrap_or b.metadata 0 }) → joined ≡ front ++ b.output.bytes → joined ≡ scrub_of p kept
 unfolding scrub_of
 laid_all p kept left b h front joined l i e f j =
-    let k : IsBody p (remain p kept) (stays p kept) b = subst (λ z. IsBody p z (stays p kept) b) l i in
+    let k : IsBody p (remain p kept) (output_records p kept) b = subst (λ z. IsBody p z (output_records p kept) b) l i in
     let bytes = ap (λ (z : Laying). z.bytes) k.output in
     j ∙ (ap (λ z. z ++ b.output.bytes) f ∙ (λ n. header_bytes (record (e n) { size = k.at n; pools = k.older n; metadata = k.metadata n }) ++ bytes n))

@@ -12,7 +12,7 @@ use Rattle.jfr_scrub.specs.Left.{HasRange, leading, entries_size, pool_size, gro
 use Rattle.jfr_scrub.specs.Fits.{LinkFits}
 use Rattle.jfr_scrub.specs.Pieces.{Laying, more}
 use Rattle.jfr_scrub.proofs.Widths.{spelled_length}
-use Rattle.jfr_scrub.proofs.LeftLaws.{by_leading, range_drop}
+use Rattle.jfr_scrub.proofs.RemainingLaws.{by_leading, range_drop}
 
 -- the entries of a group lie in the chunk
 abbrev pub GroupRange : ℕ → Group → Type 0

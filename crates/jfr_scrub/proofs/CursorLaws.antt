@@ -15,14 +15,14 @@ use Rattle.jfr_pool.specs.declared.link.Link.{Link}
 use Rattle.jfr_pool.specs.Entries.{inline}
 use Rattle.jfr_chunk.specs.Parts.{Parts, EventAt, AreParts, event_by, event_of, event_records, events_of}
 use Rattle.jfr_chunk.specs.Reach.{marked, kept_by}
-use Rattle.jfr_chunk.specs.Scrub.{Stay, stay_by, stay_of}
+use Rattle.jfr_chunk.specs.Scrub.{OutputRecord, output_record_by, output_record_of}
 use Rattle.jfr_laws.proofs.Marks.{all_marked}
-use Rattle.jfr_laws.proofs.Order.{Numbered, numbered_at, stays_in, chained_of}
+use Rattle.jfr_laws.proofs.Order.{Numbered, numbered_at, output_records_in, chained_of}
 use Rattle.jfr_laws.proofs.Premises.{all_links, ready}
-use Rattle.jfr_scrub.specs.declared.stays.Cursor.{Cursor}
-use Rattle.jfr_scrub.specs.declared.stays.Staying.{Staying}
-use Rattle.jfr_scrub.specs.Staying.{stay_as, events_from, event_there, link_there, IsCursor, still_stays, is_kept_at, event_behind, linked_at, link_behind}
-use Rattle.jfr_scrub.proofs.StayLaws.{Rises, rises_given, rises_marked, Stands, at_head, past_head, elsewhere, found_place, any_found, Occurs, AllOccur, in_order}
+use Rattle.jfr_scrub.specs.declared.output_records.Cursor.{Cursor}
+use Rattle.jfr_scrub.specs.declared.output_records.KeptRecord.{KeptRecord}
+use Rattle.jfr_scrub.specs.OutputRecords.{output_record_as, events_from, event_there, link_there, IsCursor, still_output_records, is_kept_at, event_behind, linked_at, link_behind}
+use Rattle.jfr_scrub.proofs.OutputRecordLaws.{Rises, rises_given, rises_marked, Stands, at_head, past_head, elsewhere, found_place, any_found, Occurs, AllOccur, in_order}
 
 -- where an event, or a numbered checkpoint, starts
 abbrev pub event_place : EventAt → ℕ
@@ -198,26 +198,26 @@ place_passed p flags c at i h = by_record (slice_get p.records c.frame) refl h
     by_record (Some r) e h = let q : r.at ≡ at = cc in record { frame = r; there = e; place = q; behind = subst (Behind p flags c r) q (cursor_passed p flags c r i e) }
 
 -- what stays from a record on
-pub stays_at : (p : Parts) (flags : List Bool) (c : Cursor) (r : Framed) → slice_get p.records c.frame ≡ Some r →
-    still_stays p flags c ≡ cons_option (stay_of p (kept_by p flags) r) (filter_map (stay_of p (kept_by p flags)) (drop (c.frame + 1) p.records))
-stays_at p flags c r e = ap (filter_map (stay_of p (kept_by p flags))) (drop_at p.records c.frame r e)
+pub output_records_at : (p : Parts) (flags : List Bool) (c : Cursor) (r : Framed) → slice_get p.records c.frame ≡ Some r →
+    still_output_records p flags c ≡ cons_option (output_record_of p (kept_by p flags) r) (filter_map (output_record_of p (kept_by p flags)) (drop (c.frame + 1) p.records))
+output_records_at p flags c r e = ap (filter_map (output_record_of p (kept_by p flags))) (drop_at p.records c.frame r e)
 
-pub stays_none : (p : Parts) (flags : List Bool) (c : Cursor) → length p.records ≤ c.frame → still_stays p flags c ≡ []
-stays_none p flags c h = ap (filter_map (stay_of p (kept_by p flags))) (drop_all c.frame p.records h)
+pub output_records_none : (p : Parts) (flags : List Bool) (c : Cursor) → length p.records ≤ c.frame → still_output_records p flags c ≡ []
+output_records_none p flags c h = ap (filter_map (output_record_of p (kept_by p flags))) (drop_all c.frame p.records h)
 
-pub stay_next : (p : Parts) (flags : List Bool) (c d : Cursor) (frames : List Framed) (at : ℕ) (o : Option Staying) → frames ≡ p.records → option_map (λ r. r.at) (slice_get frames c.frame) ≡ Some at → d.frame ≡ c.frame + 1 →
-    IfSome (slice_get p.records c.frame) (λ r. option_map stay_as o ≡ stay_of p (kept_by p flags) r) → still_stays p flags c ≡ cons_option (option_map stay_as o) (still_stays p flags d)
-stay_next p flags c d frames at o e h f g = by_record (slice_get p.records c.frame) refl (ap (λ rs. option_map (λ r. r.at) (slice_get rs c.frame)) (sym e) ∙ h) g
+pub output_record_next : (p : Parts) (flags : List Bool) (c d : Cursor) (frames : List Framed) (at : ℕ) (o : Option KeptRecord) → frames ≡ p.records → option_map (λ r. r.at) (slice_get frames c.frame) ≡ Some at → d.frame ≡ c.frame + 1 →
+    IfSome (slice_get p.records c.frame) (λ r. option_map output_record_as o ≡ output_record_of p (kept_by p flags) r) → still_output_records p flags c ≡ cons_option (option_map output_record_as o) (still_output_records p flags d)
+output_record_next p flags c d frames at o e h f g = by_record (slice_get p.records c.frame) refl (ap (λ rs. option_map (λ r. r.at) (slice_get rs c.frame)) (sym e) ∙ h) g
   where
-    by_record : (x : Option Framed) → slice_get p.records c.frame ≡ x → option_map (λ r. r.at) x ≡ Some at → IfSome x (λ r. option_map stay_as o ≡ stay_of p (kept_by p flags) r) → still_stays p flags c ≡ cons_option (option_map stay_as o) (still_stays p flags d)
+    by_record : (x : Option Framed) → slice_get p.records c.frame ≡ x → option_map (λ r. r.at) x ≡ Some at → IfSome x (λ r. option_map output_record_as o ≡ output_record_of p (kept_by p flags) r) → still_output_records p flags c ≡ cons_option (option_map output_record_as o) (still_output_records p flags d)
     by_record None e h g = cc
-    by_record (Some r) e h g = stays_at p flags c r e ∙ (λ i. cons_option (sym g i) (filter_map (stay_of p (kept_by p flags)) (drop (sym f i) p.records)))
+    by_record (Some r) e h g = output_records_at p flags c r e ∙ (λ i. cons_option (sym g i) (filter_map (output_record_of p (kept_by p flags)) (drop (sym f i) p.records)))
 
-pub told_some : (before rest : List Stay) (o : Option Staying) → before ≡ cons_option (option_map stay_as o) rest → is_some o ≡ true → MatchOption o (before ≡ []) (λ s. before ≡ stay_as s ∷ rest)
+pub told_some : (before rest : List OutputRecord) (o : Option KeptRecord) → before ≡ cons_option (option_map output_record_as o) rest → is_some o ≡ true → MatchOption o (before ≡ []) (λ s. before ≡ output_record_as s ∷ rest)
 told_some before rest None e h = cc
 told_some before rest (Some s) e h = e
 
-pub told_none : (before rest : List Stay) (o : Option Staying) → before ≡ cons_option (option_map stay_as o) rest → is_some o ≡ false → before ≡ rest
+pub told_none : (before rest : List OutputRecord) (o : Option KeptRecord) → before ≡ cons_option (option_map output_record_as o) rest → is_some o ≡ false → before ≡ rest
 told_none before rest None e h = e
 told_none before rest (Some s) e h = cc
 
@@ -234,11 +234,11 @@ rises_first p (r ∷ rs) f s = by_value (f r) refl (occur_more r (filter_map f r
     by_value (Some x) e h = (inl (sym (s r x e)), h)
 
 -- the checkpoints that stay are those that stand at the records
-chained_given : (all : List Numbered) (whole : Framed → Bool) (rs : List Framed) → chained_of (stays_in all whole rs) ≡ filter_map (λ r. numbered_at all r.at) rs
+chained_given : (all : List Numbered) (whole : Framed → Bool) (rs : List Framed) → chained_of (output_records_in all whole rs) ≡ filter_map (λ r. numbered_at all r.at) rs
 chained_given all whole [] = refl
 chained_given all whole (r ∷ rs) = by_value (numbered_at all r.at) (whole r) (chained_given all whole rs)
   where
-    by_value : (o : Option Numbered) (b : Bool) → chained_of (stays_in all whole rs) ≡ filter_map (λ r. numbered_at all r.at) rs → chained_of (cons_option (stay_by o b r) (stays_in all whole rs)) ≡ cons_option o (filter_map (λ r. numbered_at all r.at) rs)
+    by_value : (o : Option Numbered) (b : Bool) → chained_of (output_records_in all whole rs) ≡ filter_map (λ r. numbered_at all r.at) rs → chained_of (cons_option (output_record_by o b r) (output_records_in all whole rs)) ≡ cons_option o (filter_map (λ r. numbered_at all r.at) rs)
     by_value (Some l) b e = ap (λ z. l ∷ z) e
     by_value None true e = e
     by_value None false e = e

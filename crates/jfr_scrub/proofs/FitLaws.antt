@@ -17,16 +17,16 @@ use Rattle.jfr_pool.specs.Entries.{Constant, PoolAt, entry_of, entries_from, Are
 use Rattle.jfr_chunk.specs.Parts.{Parts, EventAt, AreParts}
 use Rattle.jfr_chunk.specs.Reach.{marked, marked_at, swept, led_to, next_entries, roots, reached_marks, remain}
 use Rattle.jfr_chunk.specs.Written.{distance}
-use Rattle.jfr_chunk.specs.Scrub.{Stay, Whole, Chained, groups_of, bytes_of, written_bytes, written, stays, stays_whole}
+use Rattle.jfr_chunk.specs.Scrub.{OutputRecord, Whole, Chained, groups_of, bytes_of, written_bytes, written, output_records, output_records_whole}
 use Rattle.jfr_laws.proofs.Standing.{LinkStands, Constants, Pools, body_stands}
 use Rattle.jfr_laws.proofs.Marks.{all_marked}
 use Rattle.jfr_laws.proofs.Order.{Numbered}
-use Rattle.jfr_laws.proofs.Stays.{Deltas, StayStands}
+use Rattle.jfr_laws.proofs.OutputRecords.{Deltas, OutputRecordStands}
 use Rattle.jfr_laws.proofs.ReadBack.{tail_small}
 use Rattle.jfr_laws.proofs.Premises.{all_links, IsCheckpoint, Ready, ready, chained_checkpoints}
 use Rattle.jfr_laws.proofs.Lengths.{length_back, sizes_within}
 use Rattle.jfr_scrub.specs.Fits.{LinkFits}
-use Rattle.jfr_scrub.specs.Bodies.{StayFits, NotFalling}
+use Rattle.jfr_scrub.specs.Bodies.{OutputRecordFits, NotFalling}
 use Rattle.jfr_scrub.specs.Left.{HasRange}
 use Rattle.jfr_scrub.proofs.BodyLaws.{WrittenFits}
 use Rattle.jfr_scrub.proofs.Widths.{size_width}
@@ -39,20 +39,20 @@ module _ (c : List ℕ) (left : List EntryAt) (k : Classes) where
   delta_room l s at (Some o) d = let e : l.delta_end ≡ l.delta_at + 9 = d refl in let i = spell_most (distance at (Some o)) in omega arith
 
   -- a checkpoint that can be written fits
-  link_fits : (i : ℕ) (l : Link) (at : ℕ) (older : Option ℕ) → StayStands c left k (Chained i l) → (is_some older ≡ true → l.delta_end ≡ l.delta_at + 9) → LinkFits c l (distance at older) (groups_of left i)
+  link_fits : (i : ℕ) (l : Link) (at : ℕ) (older : Option ℕ) → OutputRecordStands c left k (Chained i l) → (is_some older ≡ true → l.delta_end ≡ l.delta_at + 9) → LinkFits c l (distance at older) (groups_of left i)
   link_fits i l at older s d =
       let b : l.frame.body ≤ s.0.middle = s.0.start_spelled.order in
       let m : s.0.middle ≤ l.delta_at = s.0.duration_spelled.order in
       let t = tail_small c l (distance at older) (groups_of left i) s.0 (delta_room l s.0 at older d) s.2 in
       record { framed = s.0.record_stands; behind = omega arith; order = s.0.delta_spelled.order; kind = s.0.kind_within; room = omega arith }
 
-  all_written : (ss : List Stay) (at : ℕ) (older : Option ℕ) → AllByRecursion (StayStands c left k) ss → Deltas (is_some older) ss → AllByRecursion (WrittenFits c left) (written c left at older ss)
+  all_written : (ss : List OutputRecord) (at : ℕ) (older : Option ℕ) → AllByRecursion (OutputRecordStands c left k) ss → Deltas (is_some older) ss → AllByRecursion (WrittenFits c left) (written c left at older ss)
   all_written [] at older a d = tt
   all_written (Whole r ∷ ss) at older a d = (a.0, all_written ss (at + length (bytes_of c left (Whole r) at older)) older a.1 d)
   all_written (Chained i l ∷ ss) at older a d = (link_fits i l at older a.0 d.0, all_written ss (at + length (bytes_of c left (Chained i l) at older)) (Some at) a.1 d.1)
 
 -- what is written has a byte
-pub some_written : (c : List ℕ) (left : List EntryAt) (s : Stay) (at : ℕ) (older : Option ℕ) → StayFits c left s at older → 1 ≤ length (bytes_of c left s at older)
+pub some_written : (c : List ℕ) (left : List EntryAt) (s : OutputRecord) (at : ℕ) (older : Option ℕ) → OutputRecordFits c left s at older → 1 ≤ length (bytes_of c left s at older)
 some_written c left (Whole r) at older f =
     let i = some_bytes c r f in
     let l : length (record_bytes c r) ≡ record_end r - r.at = range_length c r.at (record_end r) f.within in
@@ -67,17 +67,17 @@ module _ (p : Parts) (a : AreParts p) (kept : List EventAt) where
   records_of [] b = tt
   records_of (t ∷ ts) b = (b.0.0, records_of ts b.1)
 
-  is_ready : Ready p (remain p kept) (stays p kept)
+  is_ready : Ready p (remain p kept) (output_records p kept)
   unfolding remain
-  is_ready = ready p a (stays_whole p kept) (reached_marks p kept)
+  is_ready = ready p a (output_records_whole p kept) (reached_marks p kept)
 
-  pub all_fit : AllByRecursion (WrittenFits p.bytes (remain p kept)) (written p.bytes (remain p kept) 68 None (stays p kept))
-  all_fit = all_written p.bytes (remain p kept) p.classes (stays p kept) 68 None is_ready.stand is_ready.deltas
+  pub all_fit : AllByRecursion (WrittenFits p.bytes (remain p kept)) (written p.bytes (remain p kept) 68 None (output_records p kept))
+  all_fit = all_written p.bytes (remain p kept) p.classes (output_records p kept) 68 None is_ready.stand is_ready.deltas
 
-  pub all_within : 68 + length (flat_map (written_bytes p.bytes (remain p kept)) (written p.bytes (remain p kept) 68 None (stays p kept))) ≤ length p.bytes
+  pub all_within : 68 + length (flat_map (written_bytes p.bytes (remain p kept)) (written p.bytes (remain p kept) 68 None (output_records p kept))) ≤ length p.bytes
   all_within =
-      let i = length_back p.bytes (remain p kept) p.classes (stays p kept) 68 None is_ready.stand is_ready.deltas in
-      let j = sizes_within p.bytes (all_links p) (stays_whole p kept) (records_of (all_links p) (chained_checkpoints p a)) p.records 68 (length p.bytes) a.records in
+      let i = length_back p.bytes (remain p kept) p.classes (output_records p kept) 68 None is_ready.stand is_ready.deltas in
+      let j = sizes_within p.bytes (all_links p) (output_records_whole p kept) (records_of (all_links p) (chained_checkpoints p a)) p.records 68 (length p.bytes) a.records in
       omega arith
 
 -- entries in the order of their checkpoints, each in its range

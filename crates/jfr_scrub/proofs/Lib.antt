@@ -1,12 +1,12 @@
 pub mod PieceLaws
-pub mod LeftLaws
+pub mod RemainingLaws
 pub mod CheckpointLaws
 pub mod Widths
-pub mod StayLaws
+pub mod OutputRecordLaws
 pub mod CursorLaws
 pub mod BodyLaws
 pub mod FitLaws
-pub mod AheadLaws
+pub mod GallopingLaws
 pub mod RunLaws
 pub mod CountLaws
 pub mod HeadlineLaws

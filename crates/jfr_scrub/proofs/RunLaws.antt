@@ -15,20 +15,20 @@ use Rattle.jfr_pool.specs.declared.entry.EntryAt.{EntryAt}
 use Rattle.jfr_pool.specs.declared.link.Link.{Link}
 use Rattle.jfr_chunk.specs.Parts.{Parts, EventAt, AreParts, events_of, metadata_at}
 use Rattle.jfr_chunk.specs.Reach.{kept_by}
-use Rattle.jfr_chunk.specs.Scrub.{Stay, Whole, stay_by, stay_of, written, written_bytes}
+use Rattle.jfr_chunk.specs.Scrub.{OutputRecord, Whole, output_record_by, output_record_of, written, written_bytes}
 use Rattle.jfr_chunk.proofs.AllLaws.{all_append, all_get}
 use Rattle.jfr_laws.proofs.Quiet.{IsQuiet, quiet_records}
 use Rattle.jfr_scrub.specs.declared.body.Body.{Body}
 use Rattle.jfr_scrub.specs.declared.run.Run.{Run}
-use Rattle.jfr_scrub.specs.declared.stays.Cursor.{Cursor}
+use Rattle.jfr_scrub.specs.declared.output_records.Cursor.{Cursor}
 use Rattle.jfr_scrub.specs.Bodies.{body_with, place_seen}
 use Rattle.jfr_scrub.specs.Pieces.{Laying, more}
 use Rattle.jfr_scrub.specs.Runs.{HasEventAt, IsRun, Passes, body_with_run, is_in_run, record_start}
-use Rattle.jfr_scrub.specs.Staying.{IsCursor, is_kept_at, link_behind, link_there, linked_at, still_stays}
-use Rattle.jfr_scrub.proofs.AheadLaws.{event_recorded, in_run}
+use Rattle.jfr_scrub.specs.OutputRecords.{IsCursor, is_kept_at, link_behind, link_there, linked_at, still_output_records}
+use Rattle.jfr_scrub.proofs.GallopingLaws.{event_recorded, in_run}
 use Rattle.jfr_scrub.proofs.BodyLaws.{Going, going_next}
 use Rattle.jfr_scrub.proofs.CheckpointLaws.{more_more}
-use Rattle.jfr_scrub.proofs.CursorLaws.{cursor_passed, stays_at}
+use Rattle.jfr_scrub.proofs.CursorLaws.{cursor_passed, output_records_at}
 use Rattle.jfr_scrub.proofs.FitLaws.{some_written}
 
 -- the cursor behind its event
@@ -43,7 +43,7 @@ pub record AtRun (p : Parts) (flags : List Bool) (c : Cursor) : Type 0 where
   pub event : c.event < length (events_of p)
   pub other : (frame.at == metadata_at p.bytes) ≡ false
   pub cursor : IsCursor p flags (next_event c)
-  pub stays : still_stays p flags c ≡ Whole frame ∷ still_stays p flags (next_event c)
+  pub output_records : still_output_records p flags c ≡ Whole frame ∷ still_output_records p flags (next_event c)
 
 unlinked : (ls : List Link) (n at : ℕ) → linked_at ls n at ≡ None → link_behind ls n at ≡ n
 unlinked ls n at e = by_link (slice_get ls n) e
@@ -83,7 +83,7 @@ at_run p flags c i h =
     let u = cursor_passed p flags c x.frame i x.framed in
     let w = event_alone p i.parts c.frame x.frame x.framed ((event_recorded p x.frame x.event x.given).1) in
     let l : link_behind (reverse p.chain) c.link x.frame.at ≡ c.link = unlinked (reverse p.chain) c.link x.frame.at (u.2 ∙ w.1) in
-    let s : stay_of p (kept_by p flags) x.frame ≡ Some (Whole x.frame) = λ j. stay_by (w.1 j) ((sym u.1 ∙ x.keep) j || (x.frame.at == metadata_at p.bytes)) x.frame in
+    let s : output_record_of p (kept_by p flags) x.frame ≡ Some (Whole x.frame) = λ j. output_record_by (w.1 j) ((sym u.1 ∙ x.keep) j || (x.frame.at == metadata_at p.bytes)) x.frame in
     record {
       frame = x.frame;
       there = x.framed;
@@ -91,7 +91,7 @@ at_run p flags c i h =
       event = slice_get_within (events_of p) c.event x.event x.there;
       other = w.0;
       cursor = subst (IsCursor p flags) (λ j. record { frame = c.frame + 1; event = x.behind j; link = l j }) u.0;
-      stays = stays_at p flags c x.frame x.framed ∙ ap (λ o. cons_option o (filter_map (stay_of p (kept_by p flags)) (drop (c.frame + 1) p.records))) s;
+      output_records = output_records_at p flags c x.frame x.framed ∙ ap (λ o. cons_option o (filter_map (output_record_of p (kept_by p flags)) (drop (c.frame + 1) p.records))) s;
     }
 
 -- what is computed of a record's place
@@ -127,11 +127,11 @@ start_within p a n = by_record (slice_get p.records n) refl
     by_record (Some r) e = let s = start_next p.bytes 68 (length p.bytes) p.records n r a.records e in let i : record_end r ≤ length p.bytes = s.0.within in omega arith
 
 pub run_none : (p : Parts) (flags : List Bool) (c : Cursor) (from : ℕ) → IsCursor p flags c → from ≡ record_start p c.frame → IsRun p flags c c from (record_start p c.frame)
-run_none p flags c from i e = record { records = []; tiles = e; within = start_within p i.parts c.frame; others = tt; stays = refl }
+run_none p flags c from i e = record { records = []; tiles = e; within = start_within p i.parts c.frame; others = tt; output_records = refl }
 
-more_stays : (rs : List Framed) (r : Framed) (ss : List Stay) → map (λ s. Whole s) rs ++ (Whole r ∷ ss) ≡ map (λ s. Whole s) (rs ++ r ∷ []) ++ ss
-more_stays [] r ss = refl
-more_stays (x ∷ rs) r ss = ap (λ z. Whole x ∷ z) (more_stays rs r ss)
+more_output_records : (rs : List Framed) (r : Framed) (ss : List OutputRecord) → map (λ s. Whole s) rs ++ (Whole r ∷ ss) ≡ map (λ s. Whole s) (rs ++ r ∷ []) ++ ss
+more_output_records [] r ss = refl
+more_output_records (x ∷ rs) r ss = ap (λ z. Whole x ∷ z) (more_output_records rs r ss)
 
 pub run_next : (p : Parts) (flags : List Bool) (c d : Cursor) (from : ℕ) → IsRun p flags c d from (record_start p d.frame) → AtRun p flags d → IsRun p flags c (next_event d) from (record_start p (d.frame + 1))
 run_next p flags c d from u a =
@@ -143,7 +143,7 @@ run_next p flags c d from u a =
       tiles = subst (Tiles p.bytes from (u.records ++ a.frame ∷ [])) (sym e) (tiles_more p.bytes from (record_start p d.frame) u.records a.frame u.tiles (sym f) s.0);
       within = start_within p a.cursor.parts (d.frame + 1);
       others = all_append (λ r. (r.at == metadata_at p.bytes) ≡ false) u.records (a.frame ∷ []) u.others (a.other, tt);
-      stays = u.stays ∙ (ap (λ ss. map (λ r. Whole r) u.records ++ ss) a.stays ∙ more_stays u.records a.frame (still_stays p flags (next_event d)));
+      output_records = u.output_records ∙ (ap (λ ss. map (λ r. Whole r) u.records ++ ss) a.output_records ∙ more_output_records u.records a.frame (still_output_records p flags (next_event d)));
     }
 
 -- where all events are kept, those that stand one behind another are a run
@@ -218,7 +218,7 @@ first_of_range b r left m to f s h =
     let d : place_seen b.metadata (r.at == m) b.at ≡ b.metadata = ap (λ t. place_seen b.metadata t b.at) f ∙ seen_before b.metadata b.at in
     λ j. record { output = o j; at = a j; older = b.older; metadata = d j }
 
-laid_run : (p : Parts) (left : List EntryAt) (all ss : List Stay) (rs : List Framed) (from to : ℕ) (b : Body) → Going p left all (map (λ r. Whole r) rs ++ ss) b → Tiles p.bytes from rs to →
+laid_run : (p : Parts) (left : List EntryAt) (all ss : List OutputRecord) (rs : List Framed) (from to : ℕ) (b : Body) → Going p left all (map (λ r. Whole r) rs ++ ss) b → Tiles p.bytes from rs to →
     AllByRecursion (λ r. (r.at == metadata_at p.bytes) ≡ false) rs → Going p left all ss (with_range b from to)
 laid_run p left all ss [] from to b g t o = subst (Going p left all ss) (sym (no_range b from to t)) g
 laid_run p left all ss (r ∷ rs) from to b g t o =
@@ -229,13 +229,13 @@ laid_run p left all ss (r ∷ rs) from to b g t o =
     subst (Going p left all ss) (e ∙ ap (λ n. with_range b n to) t.0) rest
 
 -- what is left to lay out behind a run
-pub going_run : (p : Parts) (flags : List Bool) (left : List EntryAt) (all rest : List Stay) (c d : Cursor) (run : Run) (b next : Body) → IsRun p flags c d run.from run.to → Going p left all (still_stays p flags c) b → next ≡ body_with_run b run → still_stays p flags d ≡ rest → Going p left all rest next
+pub going_run : (p : Parts) (flags : List Bool) (left : List EntryAt) (all rest : List OutputRecord) (c d : Cursor) (run : Run) (b next : Body) → IsRun p flags c d run.from run.to → Going p left all (still_output_records p flags c) b → next ≡ body_with_run b run → still_output_records p flags d ≡ rest → Going p left all rest next
 going_run p flags left all rest c d run b next u g n e =
-    let laid = laid_run p left all (still_stays p flags d) u.records run.from run.to b (subst (λ ss. Going p left all ss b) u.stays g) u.tiles u.others in
-    subst (λ ss. Going p left all ss next) e (subst (Going p left all (still_stays p flags d)) (sym n) laid)
+    let laid = laid_run p left all (still_output_records p flags d) u.records run.from run.to b (subst (λ ss. Going p left all ss b) u.output_records g) u.tiles u.others in
+    subst (λ ss. Going p left all ss next) e (subst (Going p left all (still_output_records p flags d)) (sym n) laid)
 
 -- what is laid out is no longer than the chunk
-pub going_within : (p : Parts) (left : List EntryAt) (all ss : List Stay) (b : Body) → Going p left all ss b → b.at ≤ length p.bytes
+pub going_within : (p : Parts) (left : List EntryAt) (all ss : List OutputRecord) (b : Body) → Going p left all ss b → b.at ≤ length p.bytes
 going_within p left all ss b g =
     let y = flat_map (written_bytes p.bytes left) (written p.bytes left b.at b.older ss) in
     let k : length (b.output.bytes ++ y) ≡ length (flat_map (written_bytes p.bytes left) (written p.bytes left 68 None all)) = ap (λ (z : Laying). length z.bytes) g.output in

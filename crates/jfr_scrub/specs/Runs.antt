@@ -8,10 +8,10 @@ use Rattle.jfr_chunk.specs.Parts.{Parts, EventAt, events_of, metadata_at}
 use Rattle.jfr_chunk.specs.Scrub.{Whole}
 use Rattle.jfr_scrub.specs.declared.body.Body.{Body}
 use Rattle.jfr_scrub.specs.declared.run.Run.{Run}
-use Rattle.jfr_scrub.specs.declared.stays.Cursor.{Cursor}
+use Rattle.jfr_scrub.specs.declared.output_records.Cursor.{Cursor}
 use Rattle.jfr_scrub.specs.Pieces.{more}
 use Rattle.jfr_scrub.specs.Scrubbing.{IsAccepted}
-use Rattle.jfr_scrub.specs.Staying.{IsCursor, events_from, is_kept_at, still_stays}
+use Rattle.jfr_scrub.specs.OutputRecords.{IsCursor, events_from, is_kept_at, still_output_records}
 
 -- Where the record of a number starts; behind the last one, the chunk's end.
 abbrev pub record_start : Parts → ℕ → ℕ
@@ -43,7 +43,7 @@ pub record IsRun (p : Parts) (flags : List Bool) (c d : Cursor) (from to : ℕ) 
   pub tiles : Tiles p.bytes from records to
   pub within : to ≤ length p.bytes
   pub others : AllByRecursion (λ r. (r.at == metadata_at p.bytes) ≡ false) records
-  pub stays : still_stays p flags c ≡ map (λ r. Whole r) records ++ still_stays p flags d
+  pub output_records : still_output_records p flags c ≡ map (λ r. Whole r) records ++ still_output_records p flags d
 
 -- The cursor moves from its record behind a run.
 pub record Passes (p : Parts) (flags : List Bool) (c d : Cursor) : Type 0 where

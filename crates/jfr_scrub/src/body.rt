@@ -3,18 +3,18 @@ ghost use Rattle.std.specs.Prelude.{◌≡◌, ◌+◌, ◌-◌, ◌^◌, ◌<�
 ghost use Rattle.std.specs.List.{AllByRecursion};
 ghost use Rattle.jfr_chunk.specs.Parts.{metadata_at};
 ghost use Rattle.jfr_chunk.specs.Reach.{kept_by, remain};
-ghost use Rattle.jfr_chunk.specs.Scrub.{bytes_of, stays};
+ghost use Rattle.jfr_chunk.specs.Scrub.{bytes_of, output_records};
 ghost use Rattle.jfr_chunk.specs.Written.{distance};
-ghost use Rattle.jfr_scrub.specs.Bodies.{IsBefore, IsBody, NotFalling, StayFits, body_with, place_seen};
+ghost use Rattle.jfr_scrub.specs.Bodies.{IsBefore, IsBody, NotFalling, OutputRecordFits, body_with, place_seen};
 ghost use Rattle.jfr_scrub.specs.Left.{HasRange};
 ghost use Rattle.jfr_scrub.specs.Runs.{body_with_run};
 ghost use Rattle.jfr_scrub.specs.Scrubbing.{IsAccepted};
-ghost use Rattle.jfr_scrub.specs.Staying.{stay_as};
+ghost use Rattle.jfr_scrub.specs.OutputRecords.{output_record_as};
 
 use crate::checkpoint::lay_checkpoint;
 use crate::output::Output;
+use crate::output_records::{Cursor, KeptRecord, next_output_record};
 use crate::run::{Run, pass_run};
-use crate::stays::{Cursor, Staying, next_stay};
 use jfr_chunk::{Chunk, Kept};
 use jfr_outside::NoMemory;
 use jfr_pool::EntryAt;
@@ -38,7 +38,7 @@ pub(crate) fn lay_body<'a>(
     left: &[EntryAt],
 ) -> Result<Body<'a>, NoMemory>
     requires { left.now ≡ remain chunk.now (kept_by chunk.now kept.now) }
-    ensures ok { IfOk result (IsBody chunk.now left.now (stays chunk.now (kept_by chunk.now kept.now))) }
+    ensures ok { IfOk result (IsBody chunk.now left.now (output_records chunk.now (kept_by chunk.now kept.now))) }
     ensures accepted { IsAccepted chunk.now }
 {
     let metadata = chunk.header().metadata;
@@ -53,12 +53,12 @@ pub(crate) fn lay_body<'a>(
         event: 0,
         link: 0,
     };
-    'stays: loop {
+    'output_records: loop {
         lay_run(&mut body, pass_run(chunk, kept, &mut cursor))?;
-        let Some(stay) = next_stay(chunk, kept, &mut cursor) else {
+        let Some(output_record) = next_output_record(chunk, kept, &mut cursor) else {
             return Ok(body);
         };
-        lay_stay(&mut body, left, metadata, stay)?;
+        lay_record(&mut body, left, metadata, output_record)?;
     }
 }
 
@@ -78,23 +78,28 @@ fn lay_run(body: &mut Body, run: Run) -> Result<(), NoMemory>
 
 // Lays out one that stays.
 #[inline(always)]
-fn lay_stay(body: &mut Body, left: &[EntryAt], metadata: u64, stay: Staying) -> Result<(), NoMemory>
-    requires fits { StayFits body.old.output.chunk left.now (stay_as stay) body.old.at body.old.older }
+fn lay_record(
+    body: &mut Body,
+    left: &[EntryAt],
+    metadata: u64,
+    output_record: KeptRecord,
+) -> Result<(), NoMemory>
+    requires fits { OutputRecordFits body.old.output.chunk left.now (output_record_as output_record) body.old.at body.old.older }
     requires order { NotFalling 0 left.now }
     requires ranges { AllByRecursion (HasRange (length body.old.output.chunk)) left.now }
     requires before { IsBefore body.old.older body.old.at }
-    requires room { body.old.at + length (bytes_of body.old.output.chunk left.now (stay_as stay) body.old.at body.old.older) ≤ length body.old.output.chunk }
+    requires room { body.old.at + length (bytes_of body.old.output.chunk left.now (output_record_as output_record) body.old.at body.old.older) ≤ length body.old.output.chunk }
     requires small { length body.old.output.chunk < 2 ^ 64 }
-    ensures ok { OnOk result (body.new ≡ body_with left.now metadata body.old (stay_as stay)) }
+    ensures ok { OnOk result (body.new ≡ body_with left.now metadata body.old (output_record_as output_record)) }
 {
     let at = body.at;
-    match stay {
-        Staying::Whole(frame) => {
+    match output_record {
+        KeptRecord::Whole(frame) => {
             body.metadata = seen(body.metadata, frame.at as u64 == metadata, at);
             body.output.copy(frame.at, frame.at + frame.size)?;
             body.at = at + frame.size;
         }
-        Staying::Chained(number, link) => {
+        KeptRecord::Chained(number, link) => {
             body.metadata = seen(body.metadata, link.frame.at as u64 == metadata, at);
             let delta = delta_to(body.older, at);
             let size = lay_checkpoint(&mut body.output, &link, delta, entries_of(left, number))?;

@@ -7,8 +7,8 @@ ghost use Rattle.jfr_scrub.specs.Left.{HasRange};
 ghost use Rattle.jfr_scrub.specs.Fits.{LinkFits};
 ghost use Rattle.jfr_scrub.specs.Pieces.{more};
 
-use crate::left::{measured, pool_len};
 use crate::output::Output;
+use crate::remaining::{measured, pool_len};
 use jfr_base::var_len;
 use jfr_outside::NoMemory;
 use jfr_pool::{EntryAt, Link};

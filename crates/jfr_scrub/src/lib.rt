@@ -4,18 +4,18 @@
 //! `specs/Headline.antt` and `specs/Pieces.antt` first.
 #![tactic(auto)]
 
-mod ahead;
 mod body;
 mod checkpoint;
-mod left;
+mod galloping;
 mod output;
+mod output_records;
 mod piece;
 mod pieces;
 mod ranges;
+mod remaining;
 mod run;
 mod scrub;
 mod scrubber;
-mod stays;
 
 pub use piece::Piece;
 pub use scrub::scrub_stream;

@@ -19,11 +19,11 @@ use Rattle.jfr_layout.specs.Classes.{Class, Classes, Field, Sound, find_class}
 use Rattle.jfr_layout.specs.declared.form.Form.TheVariants as forms
 use Rattle.jfr_layout.specs.declared.kind.Kind.TheVariants as kinds
 use Rattle.jfr_layout.specs.declared.shape.Shape.{Shape}
-use Rattle.jfr_layout.specs.declared.slot.Slot.{Slot}
+use Rattle.jfr_layout.specs.declared.field_layout.FieldLayout.{FieldLayout}
 use Rattle.jfr_value.specs.declared.leaf.LeafKind.TheVariants as leaf_kinds
 use Rattle.jfr_value.specs.Values.{Value, Values, Single, Group, Nil, Cons}
 use Rattle.jfr_value.specs.Nodes.{NodeAt, node_at, IsNode}
-use Rattle.jfr_value.specs.Walks.{IsSlotIfKnown}
+use Rattle.jfr_value.specs.Walks.{IsLayoutIfKnown}
 use Rattle.jfr_value.proofs.NodeLaws.{value_is}
 use Rattle.jfr_pool.specs.declared.entry.EntryAt.{EntryAt}
 use Rattle.jfr_pool.specs.Entries.{in_force, entry_node}
@@ -32,7 +32,7 @@ use Rattle.jfr_show.specs.Json.{text_json, base_json, members_with, json_of, jso
 use Rattle.jfr_show.specs.Names.{class_name}
 use Rattle.jfr_show.specs.Texts.{newline}
 use Rattle.jfr_show.proofs.ShownLaws.{key_in, no_key}
-use Rattle.jfr_show.proofs.SlotForms.{is_integer, is_raw, is_reference, is_text}
+use Rattle.jfr_show.proofs.LayoutForms.{is_integer, is_raw, is_reference, is_text}
 
 module _ (k : Classes) (refer : ℕ × ℕ → Data) where
   -- A composite value and an array, by their parts.
@@ -69,7 +69,7 @@ module _ (k : Classes) (refer : ℕ × ℕ → Data) where
       sym (append_assoc made (json_of k refer v ∷ []) (json_of_all k refer vs)) ∙ ap (λ z. z ++ json_of_all k refer vs) (sym (n ∙ ap (λ z. made ++ z ∷ []) x))
 
 -- What was made of the value of a slot.
-module _ (k : Classes) (refer : ℕ × ℕ → Data) (c : List ℕ) (at to end : ℕ) (s : Slot) (l : to ≤ end) (w : end ≤ length c) (is : IsSlotIfKnown k s) (v : Value) (i : IsNode k c (node_at s.shape at to) v) (json : Data) where
+module _ (k : Classes) (refer : ℕ × ℕ → Data) (c : List ℕ) (at to end : ℕ) (s : FieldLayout) (l : to ≤ end) (w : end ≤ length c) (is : IsLayoutIfKnown k s) (v : Value) (i : IsNode k c (node_at s.shape at to) v) (json : Data) where
   -- It ends there, and this is its JSON.
   abbrev pub IsMade : ℕ → Type 0
   IsMade ended = (ended ≡ to) × (json ≡ json_of k refer v)

@@ -6,7 +6,7 @@ mod LineLaws
 mod ReferLaws
 mod Rows
 mod ShownLaws
-mod SlotForms
+mod LayoutForms
 mod TextLaws
 mod ListingLaws
 mod TallyLaws

@@ -7,9 +7,9 @@ use Rattle.std.proofs.lemmas.Bool.{eqb-true}
 use Rattle.std.proofs.lemmas.Bool.Decides.{nat_tests}
 use Rattle.std.proofs.lemmas.List.{get_or-set_same, get_or-set_other, length-set, get_or-replicate, length-replicate}
 use Rattle.std.proofs.lemmas.Option.{get_or_from_slice_get, slice_get-get_or, slice_get_within}
-use Rattle.jfr_layout.specs.Classes.{Classes, IsEventSlot, class_place, is_event_class}
+use Rattle.jfr_layout.specs.Classes.{Classes, IsEventLayout, class_place, is_event_class}
 use Rattle.jfr_layout.specs.Events.{event_place}
-use Rattle.jfr_layout.specs.declared.slot.Slot.{Slot}
+use Rattle.jfr_layout.specs.declared.field_layout.FieldLayout.{FieldLayout}
 use Rattle.jfr_frame.specs.declared.framed.Framed.{Framed}
 use Rattle.jfr_show.specs.declared.tally.Tally.{Tally}
 use Rattle.jfr_show.specs.Counting.{AreClassTallies, AreSmall, both, class_tally, is_at, no_tally}
@@ -63,8 +63,8 @@ event_counted k rs r ts place v none is e a = record {
 }
 
 -- the place in an event's slot is that of its class
-pub slot_place : (k : Classes) (id : ℕ) (s : Slot) → IsEventSlot k id s → event_place k id ≡ Some s.place
-slot_place k id s e = ap (λ b. cond b (class_place k id) None) e.event ∙ (ap (λ z. class_place k z.class) (sym e.shape) ∙ e.slot.place)
+pub layout_place : (k : Classes) (id : ℕ) (s : FieldLayout) → IsEventLayout k id s → event_place k id ≡ Some s.place
+layout_place k id s e = ap (λ b. cond b (class_place k id) None) e.event ∙ (ap (λ z. class_place k z.class) (sym e.shape) ∙ e.layout.place)
 
 -- no records
 pub none_counted : (k : Classes) (n : ℕ) → n ≡ length k → AreClassTallies k [] (replicate n no_tally)

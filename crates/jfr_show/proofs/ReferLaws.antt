@@ -2,7 +2,7 @@
 use Rattle.std.specs.Prelude.{◌≡◌, ℕ, zero, suc, ◌++◌, List, [], is_some, Option, Some, None, Result, Ok, Err, IfOk, if◌then◌else◌}
 use Rattle.std.specs.Option.{option_map, option_map_or}
 use Rattle.std.proofs.Common.{ap, refl}
-use Rattle.jfr_outside.specs.declared.fault.NoMemory.{NoMemory}
+use Rattle.jfr_base.specs.declared.memory.NoMemory.{NoMemory}
 use Rattle.jfr_layout.specs.Classes.{Sound}
 use Rattle.jfr_value.specs.Values.{Value}
 use Rattle.jfr_value.specs.Nodes.{NodeAt, IsNode}

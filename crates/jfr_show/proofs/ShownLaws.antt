@@ -13,17 +13,17 @@ use Rattle.jfr_text.specs.declared.span.StringKind.{StringKind}
 use Rattle.jfr_text.specs.declared.span.StringKind.TheVariants as span_kinds
 use Rattle.jfr_layout.specs.Classes.{Class, Classes, find_class}
 use Rattle.jfr_layout.specs.declared.form.Form.TheVariants as forms
-use Rattle.jfr_layout.specs.declared.slot.Slot.{Slot}
+use Rattle.jfr_layout.specs.declared.field_layout.FieldLayout.{FieldLayout}
 use Rattle.jfr_layout.specs.declared.shape.Shape.{Shape}
 use Rattle.jfr_value.specs.declared.leaf.LeafKind.TheVariants as leaf_kinds
 use Rattle.jfr_layout.specs.declared.kind.Kind.TheVariants as kinds
 use Rattle.jfr_value.specs.Values.{Value, Values, Single, Group, key_of}
 use Rattle.jfr_value.specs.Nodes.{node_at, IsNode}
-use Rattle.jfr_value.specs.Walks.{IsSlotIfKnown}
+use Rattle.jfr_value.specs.Walks.{IsLayoutIfKnown}
 use Rattle.jfr_show.specs.Leaves.{base_shown}
 use Rattle.jfr_show.specs.Shown.{shown, shown_all, fields_shown, items_shown}
 use Rattle.jfr_show.specs.Texts.{quoted}
-use Rattle.jfr_show.proofs.SlotForms.{is_integer, is_raw, is_reference, is_text}
+use Rattle.jfr_show.proofs.LayoutForms.{is_integer, is_raw, is_reference, is_text}
 
 -- A string is a key exactly where its span is of that kind.
 pub key_in : (s : StringSpan) → s.kind ≡ span_kinds.Key → key_of (content_of s) ≡ Some s.key
@@ -53,7 +53,7 @@ module _ (k : Classes) (refer : ℕ → ℕ × ℕ → List ℕ) (level : ℕ) w
       ap (shown k refer level) e ∙ ap (λ z. if z then items_shown level texts else option_map_or (λ c. fields_shown level c texts) (find_class k s.class) []) a
 
 -- What was added for the value of a slot.
-module _ (k : Classes) (refer : ℕ → ℕ × ℕ → List ℕ) (level : ℕ) (c : List ℕ) (at to end : ℕ) (s : Slot) (l : to ≤ end) (w : end ≤ length c) (is : IsSlotIfKnown k s) (v : Value) (i : IsNode k c (node_at s.shape at to) v) (was new : List ℕ) where
+module _ (k : Classes) (refer : ℕ → ℕ × ℕ → List ℕ) (level : ℕ) (c : List ℕ) (at to end : ℕ) (s : FieldLayout) (l : to ≤ end) (w : end ≤ length c) (is : IsLayoutIfKnown k s) (v : Value) (i : IsNode k c (node_at s.shape at to) v) (was new : List ℕ) where
   -- It ends there, and its text was added.
   abbrev pub IsShown : ℕ → Type 0
   IsShown ended = (ended ≡ to) × (new ≡ was ++ shown k refer level v)

@@ -6,7 +6,7 @@ ghost use Rattle.std.specs.Str.{chars, encode_utf8_all};
 ghost use Rattle.jfr_show.specs.Texts.{hex_byte, indent, is_ascii};
 
 use itoa::Buffer;
-use jfr_outside::{NoMemory, Text};
+use jfr_base::{NoMemory, Text};
 use jfr_text::Characters;
 use std::alloc::Global;
 use std::marker::Model;

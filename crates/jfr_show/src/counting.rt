@@ -7,10 +7,10 @@ ghost use Rattle.jfr_show.specs.Held.{tallies_in};
 ghost use Rattle.jfr_show.specs.Totals.{count_in_force, occurrences};
 
 use crate::tally::{Tally, TallyMap, add_tally};
+use jfr_base::NoMemory;
 use jfr_chunk::Chunk;
 use jfr_frame::Framed;
 use jfr_layout::Classes;
-use jfr_outside::NoMemory;
 use jfr_pool::Pools;
 use std::alloc::Global;
 
@@ -59,9 +59,9 @@ fn count_record(classes: &Classes, frame: Framed, counted: &mut [Tally])
     requires size { frame.size < 2 ^ 32 }
     ensures { (rs : List Record) → AreClassTallies classes.now rs counted.old → AreClassTallies classes.now (rs ++ frame ∷ []) counted.new }
 {
-    if let Some(slot) = classes.event_slot(frame.type_id) {
-        let tally = counted[slot.place];
-        counted[slot.place] = Tally {
+    if let Some(layout) = classes.event_layout(frame.type_id) {
+        let tally = counted[layout.place];
+        counted[layout.place] = Tally {
             events: tally.events + 1,
             bytes: tally.bytes + frame.size as u64,
         };

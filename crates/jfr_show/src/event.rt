@@ -8,8 +8,8 @@ ghost use Rattle.jfr_show.specs.Shown.{event_shown};
 use crate::TextBuilder;
 use crate::depth::Depth;
 use crate::value::show_node;
+use jfr_base::{NoMemory, Text};
 use jfr_chunk::{Chunk, Event};
-use jfr_outside::{NoMemory, Text};
 use jfr_path::fields_of;
 use std::alloc::Global;
 

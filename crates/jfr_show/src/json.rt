@@ -12,8 +12,8 @@ mod value;
 
 use crate::TextBuilder;
 use crate::depth::Reach;
+use jfr_base::{NoMemory, Text};
 use jfr_chunk::{Chunk, Event};
-use jfr_outside::{NoMemory, Text};
 use jfr_path::fields_of;
 use reference::class_json;
 use serde_json::{Map, Value, put};

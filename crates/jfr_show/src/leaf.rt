@@ -11,9 +11,8 @@ ghost use Rattle.jfr_show.specs.Texts.{quoted};
 
 use crate::TextBuilder;
 use crate::quoted::push_characters;
-use jfr_base::signed;
+use jfr_base::{NoMemory, signed};
 use jfr_layout::Kind;
-use jfr_outside::NoMemory;
 use jfr_text::{Characters, StringSpan};
 
 /// Adds an integer of a kind, by its value.

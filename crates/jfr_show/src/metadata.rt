@@ -6,9 +6,9 @@ ghost use Rattle.jfr_show.specs.Texts.{is_ascii};
 
 use crate::TextBuilder;
 use crate::quoted::push_quoted;
+use jfr_base::{NoMemory, Text, Words};
 use jfr_chunk::Chunk;
 use jfr_layout::{ClassInfo, Classes, FieldInfo};
-use jfr_outside::{NoMemory, Text, Words};
 use std::alloc::Global;
 
 /// The classes of a chunk, with its number: a line for each class, for its categories, and for each of

@@ -4,7 +4,7 @@ ghost use Rattle.std.specs.Str.{chars};
 ghost use Rattle.jfr_show.specs.Texts.{escaped, quoted};
 
 use crate::TextBuilder;
-use jfr_outside::NoMemory;
+use jfr_base::NoMemory;
 use jfr_text::Characters;
 
 /// Adds a text between quotes.

@@ -5,8 +5,8 @@ ghost use Rattle.jfr_show.specs.Names.{class_name};
 ghost use Rattle.jfr_show.specs.Shown.{missing_shown, reference_shown};
 
 use crate::TextBuilder;
+use jfr_base::NoMemory;
 use jfr_chunk::Chunk;
-use jfr_outside::NoMemory;
 
 /// The name of the class of an id; empty where there is none.
 pub(crate) fn class_name<'c>(chunk: &'c Chunk<'_>, class: u64) -> &'c str

@@ -5,7 +5,7 @@ ghost use Rattle.jfr_show.specs.Held.{tallies_in};
 ghost use Rattle.jfr_show.specs.Totals.{tally_line, tally_lines};
 
 use crate::TextBuilder;
-use jfr_outside::NoMemory;
+use jfr_base::NoMemory;
 use std::alloc::Global;
 use std::collections::BTreeMap;
 

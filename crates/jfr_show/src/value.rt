@@ -5,7 +5,7 @@ ghost use Rattle.jfr_layout.specs.Classes.{Class};
 ghost use Rattle.jfr_value.specs.Nodes.{EndsAt, IsNode, IsRow, IsValue, node_at, node_of};
 ghost use Rattle.jfr_value.specs.Values.{Value, Values};
 ghost use Rattle.jfr_value.specs.Visits.{field_shapes};
-ghost use Rattle.jfr_value.specs.Walks.{IsSlotIfKnown, Room};
+ghost use Rattle.jfr_value.specs.Walks.{IsLayoutIfKnown, Room};
 ghost use Rattle.jfr_show.specs.Depths.{deepest};
 ghost use Rattle.jfr_show.specs.Shown.{fields_shown, node_shown, referred, shown, shown_all};
 
@@ -14,11 +14,11 @@ use crate::depth::Depth;
 use crate::leaf::{show_integer, show_raw, show_string};
 use crate::reading::{bytes_at, constant, integer_at, string_at};
 use crate::reference::{show_missing, show_name};
+use jfr_base::NoMemory;
 use jfr_chunk::Chunk;
-use jfr_layout::{Form, Slot};
-use jfr_outside::NoMemory;
+use jfr_layout::{FieldLayout, Form};
 use jfr_text::StringKind;
-use jfr_value::{Node, item_slot, slot_of};
+use jfr_value::{Node, item_layout, layout_of};
 
 /// Adds the value of a node of the chunk.
 #[cycle(show)]
@@ -34,8 +34,8 @@ pub(crate) fn show_node(
     requires level { deepest depth node.now.shape.array ≤ 1000 }
     ensures ok { OnOk result (out.new ≡ out.old ++ node_shown chunk.now (referred chunk.now depth.reach.references) depth.level (node_of node.now)) }
 {
-    let slot = slot_of(chunk.classes(), node.shape);
-    let _end = show_value(chunk, &slot, node.at, node.end, depth, out)?;
+    let layout = layout_of(chunk.classes(), node.shape);
+    let _end = show_value(chunk, &layout, node.at, node.end, depth, out)?;
     Ok(())
 }
 
@@ -44,47 +44,53 @@ pub(crate) fn show_node(
 #[cycle(show)]
 fn show_value(
     chunk: &Chunk<'_>,
-    slot: &Slot,
+    layout: &FieldLayout,
     at: usize,
     limit: usize,
     depth: Depth,
     out: &mut TextBuilder,
 ) -> Result<usize, NoMemory>
     requires within { limit ≤ length chunk.now.bytes }
-    requires slot { IsSlotIfKnown chunk.now.classes slot.now }
-    requires room { Room chunk.now.classes depth.reach.composites slot.now.shape }
-    requires stands { (to : ℕ) × EndsAt chunk.now.classes chunk.now.bytes slot.now.shape at to × (to ≤ limit) }
+    requires layout { IsLayoutIfKnown chunk.now.classes layout.now }
+    requires room { Room chunk.now.classes depth.reach.composites layout.now.shape }
+    requires stands { (to : ℕ) × EndsAt chunk.now.classes chunk.now.bytes layout.now.shape at to × (to ≤ limit) }
     requires composites { depth.reach.composites ≤ 33 }
-    requires level { deepest depth slot.now.shape.array ≤ 1000 }
-    ensures ok { IfOk result (λ end. (to : ℕ) (v : Value) → IsNode chunk.now.classes chunk.now.bytes (node_at slot.now.shape at to) v → to ≤ limit
+    requires level { deepest depth layout.now.shape.array ≤ 1000 }
+    ensures ok { IfOk result (λ end. (to : ℕ) (v : Value) → IsNode chunk.now.classes chunk.now.bytes (node_at layout.now.shape at to) v → to ≤ limit
         → (end ≡ to) × (out.new ≡ out.old ++ shown chunk.now.classes (referred chunk.now depth.reach.references) depth.level v)) }
 {
-    match slot.form {
+    match layout.form {
         Form::Integer => {
             let number = integer_at(chunk, at, limit);
-            show_integer(slot.kind, number.value, out)?;
+            show_integer(layout.kind, number.value, out)?;
             Ok(number.end)
         }
         Form::Raw(count) => {
             let bytes = bytes_at(chunk, at, usize::from(count));
-            show_raw(slot.kind, bytes, out)?;
+            show_raw(layout.kind, bytes, out)?;
             Ok(at + bytes.len())
         }
         Form::Key => {
             let key = integer_at(chunk, at, limit);
-            show_reference(chunk, slot.shape.class, key.value, depth, out)?;
+            show_reference(chunk, layout.shape.class, key.value, depth, out)?;
             Ok(key.end)
         }
         Form::Text => {
             let string = string_at(chunk, at, limit);
             match string.kind {
-                StringKind::Key => show_reference(chunk, slot.shape.class, string.key, depth, out)?,
+                StringKind::Key => show_reference(
+                    chunk,
+                    layout.shape.class,
+                    string.key,
+                    depth,
+                    out,
+                )?,
                 _ => show_string(&string, out)?,
             }
             Ok(string.end)
         }
-        Form::Fields => show_fields(chunk, slot.place, at, limit, depth, out),
-        Form::Array => show_items(chunk, slot, at, limit, depth, out),
+        Form::Fields => show_fields(chunk, layout.place, at, limit, depth, out),
+        Form::Array => show_items(chunk, layout, at, limit, depth, out),
     }
 }
 
@@ -115,11 +121,11 @@ fn show_fields(
     let inner = depth.of_fields();
     let mut to = at;
     let mut number = 0;
-    for slot in classes.slots(place) {
+    for layout in classes.layouts(place) {
         out.push_indent(inner.level)?;
         out.push_str(info.fields.at(number).name.as_str())?;
         out.push_ascii(" = ")?;
-        to = show_value(chunk, slot, to, limit, inner, out)?;
+        to = show_value(chunk, layout, to, limit, inner, out)?;
         out.push_ascii("\n")?;
         number += 1;
     }
@@ -132,25 +138,25 @@ fn show_fields(
 #[cycle(show)]
 fn show_items(
     chunk: &Chunk<'_>,
-    slot: &Slot,
+    layout: &FieldLayout,
     at: usize,
     limit: usize,
     depth: Depth,
     out: &mut TextBuilder,
 ) -> Result<usize, NoMemory>
     requires within { limit ≤ length chunk.now.bytes }
-    requires array { slot.now.shape.array ≡ true }
-    requires slot { IsSlotIfKnown chunk.now.classes slot.now }
-    requires room { Room chunk.now.classes depth.reach.composites slot.now.shape }
-    requires stands { (to : ℕ) × EndsAt chunk.now.classes chunk.now.bytes slot.now.shape at to × (to ≤ limit) }
+    requires array { layout.now.shape.array ≡ true }
+    requires layout { IsLayoutIfKnown chunk.now.classes layout.now }
+    requires room { Room chunk.now.classes depth.reach.composites layout.now.shape }
+    requires stands { (to : ℕ) × EndsAt chunk.now.classes chunk.now.bytes layout.now.shape at to × (to ≤ limit) }
     requires composites { depth.reach.composites ≤ 33 }
     requires level { deepest depth true ≤ 1000 }
-    ensures ok { IfOk result (λ end. (to : ℕ) (v : Value) → IsNode chunk.now.classes chunk.now.bytes (node_at slot.now.shape at to) v → to ≤ limit
+    ensures ok { IfOk result (λ end. (to : ℕ) (v : Value) → IsNode chunk.now.classes chunk.now.bytes (node_at layout.now.shape at to) v → to ≤ limit
         → (end ≡ to) × (out.new ≡ out.old ++ shown chunk.now.classes (referred chunk.now depth.reach.references) depth.level v)) }
 {
     let count = integer_at(chunk, at, limit);
     out.push_ascii("[\n")?;
-    let item = item_slot(slot);
+    let item = item_layout(layout);
     let inner = depth.of_items();
     let mut to = count.end;
     'items: for _ in 0..count.value {

@@ -1,7 +1,7 @@
 // Lists of classes, made from lines.
 use crate::classes::{add, inline, items, reference};
 use jfr_base::Reason;
-use jfr_layout::{ClassFault, ClassList, Classes, Kind, Leap, Over, Shape};
+use jfr_layout::{ClassFault, ClassList, Classes, FusedFields, FusedKind, Kind, Shape};
 use std::alloc::Global;
 use std::test::Fail;
 
@@ -124,8 +124,8 @@ fn knows_event_classes(rt: HostRuntime) -> Result<(), Fail> {
     assert!(rt; !classes.is_event(7), "a base name");
     assert!(rt; !classes.is_event(1), "the id of checkpoints");
     assert!(rt; !classes.is_event(0), "the id of metadata");
-    assert!(rt; classes.event_slot(8).is_some());
-    assert!(rt; classes.event_slot(7).is_none(), "a base name");
+    assert!(rt; classes.event_layout(8).is_some());
+    assert!(rt; classes.event_layout(7).is_none(), "a base name");
     Ok(())
 }
 
@@ -159,34 +159,34 @@ fn long_row(alloc: Global) -> Result<Classes, ClassFault> {
 }
 
 #[test]
-fn leaps_over_rows(rt: HostRuntime) -> Result<(), Fail> {
+fn fused_over_rows(rt: HostRuntime) -> Result<(), Fail> {
     let classes = long_row(rt.alloc())?;
-    let leap = |first, fields, over| Leap {
+    let fused = |first, fields, over| FusedFields {
         first,
         fields,
         over,
     };
     let place = classes.place(7).expect(&rt, "an event class");
-    let row = classes.row(place);
-    assert_eq!(rt; row.slots.len(), 14);
+    let row = classes.class_layout(place);
+    assert_eq!(rt; row.layouts.len(), 14);
     assert!(rt; row.is_event);
     assert_eq!(rt;
-        row.leaps.as_slice(),
+        row.fused_fields.as_slice(),
         [
-            leap(
+            fused(
                 0,
                 4,
-                Over::Front {
+                FusedKind::Front {
                     thread: 6,
                     trace: 5
                 }
             ),
-            leap(4, 2, Over::Raw(9)),
-            leap(6, 1, Over::Text(5)),
-            leap(7, 1, Over::OneInteger),
-            leap(8, 1, Over::Any),
-            leap(9, 4, Over::FourIntegers),
-            leap(13, 1, Over::OneInteger),
+            fused(4, 2, FusedKind::Raw(9)),
+            fused(6, 1, FusedKind::Text(5)),
+            fused(7, 1, FusedKind::OneInteger),
+            fused(8, 1, FusedKind::Any),
+            fused(9, 4, FusedKind::FourIntegers),
+            fused(13, 1, FusedKind::OneInteger),
         ]
         .as_slice()
     );

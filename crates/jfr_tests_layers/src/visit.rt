@@ -7,7 +7,7 @@ use crate::classes::{add, inline, items, reference};
 use crate::value::node_at_front;
 use jfr_base::{Flaw, Reason};
 use jfr_layout::{ClassFault, ClassList, Classes, Shape};
-use jfr_value::{Node, Steps, Visit, end_visiting, slot_of, visit_targets};
+use jfr_value::{Node, Steps, Visit, end_visiting, layout_of, visit_targets};
 use std::alloc::Global;
 use std::marker::Brand;
 use std::sync::ledger::{Blank, Ledger};
@@ -93,8 +93,8 @@ fn walk_to_end(
         targets: Vec::new(alloc),
         failed: false,
     };
-    let slot = slot_of(classes, shape);
-    let end = end_visiting(classes, &slot, bytes, 0, bytes.len(), &mut seen, &0);
+    let layout = layout_of(classes, shape);
+    let end = end_visiting(classes, &layout, bytes, 0, bytes.len(), &mut seen, &0);
     if seen.failed {
         None
     } else {

@@ -6,7 +6,7 @@ ghost use Rattle.jfr_text.specs.Strings.{text_of};
 
 use crate::StringSpan;
 use crate::characters::Characters;
-use jfr_outside::{NoMemory, Text};
+use jfr_base::{NoMemory, Text};
 use std::alloc::Global;
 
 /// The text of a string; none exactly for the null string and for a key. Bytes that are no UTF-8, and

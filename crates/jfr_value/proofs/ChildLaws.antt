@@ -7,17 +7,17 @@ use Rattle.jfr_base.specs.Integer.{IntAt, Spells}
 use Rattle.jfr_base.specs.Formats.{int_at}
 use Rattle.jfr_base.proofs.OneAnswer.{int_computed}
 use Rattle.jfr_base.proofs.RunLaws.{stands_split}
-use Rattle.jfr_layout.specs.Classes.{AreSlots, Class, Classes, Field, Sound, find_class, kind_of, item_of}
+use Rattle.jfr_layout.specs.Classes.{AreFieldLayouts, Class, Classes, Field, Sound, find_class, kind_of, item_of}
 use Rattle.jfr_layout.specs.declared.kind.Kind.{Kind}
 use Rattle.jfr_layout.specs.declared.kind.Kind.TheVariants as kinds
 use Rattle.jfr_layout.specs.declared.shape.Shape.{Shape}
-use Rattle.jfr_layout.specs.declared.slot.Slot.{Slot}
+use Rattle.jfr_layout.specs.declared.field_layout.FieldLayout.{FieldLayout}
 use Rattle.jfr_value.specs.declared.node.Step.TheVariants as steps
 use Rattle.jfr_value.specs.Values.{Value, Values, Single, Group, Nil, Cons, list_of, shape_of, shapes_of, head_of, parts_of, bytes_of, bytes_of_all, IsBase, IsSingle, IsHead, Fits}
 use Rattle.jfr_value.specs.Nodes.{NodeAt, IsNode, IsRow, laid, laid_in, children, picked, child}
 use Rattle.jfr_value.proofs.PlaceLaws.{get_within, kind_there}
 use Rattle.jfr_value.proofs.NodeLaws.{children_are, node_stands}
-use Rattle.jfr_value.proofs.SlotLaws.{slots_of}
+use Rattle.jfr_value.proofs.LayoutLaws.{layouts_of}
 
 -- A value that is neither an array nor a constant is of a known class.
 pub inline_known : (k : Classes) (v : Value) → (shape_of v).array ≡ false → (shape_of v).constant ≡ false → Fits k v → IsSome (find_class k (shape_of v).class)
@@ -171,18 +171,18 @@ module _ (k : Classes) (c : List ℕ) (n : NodeAt) (v : Value) (sound : Sound k)
       (f.parts, f.row, field_picked n.shape (children k c n) j a ∙ ap (λ z. slice_get z j) (children_are k c n v sound i ∙ f.is))
 
   -- the same by the slots of the class
-  pub field_row : (j place : ℕ) (kind : Kind) (ss : List Slot) → n.shape.array ≡ false → n.shape.constant ≡ false → slice_get k place ≡ find_class k n.shape.class → place < length k → IfSome (slice_get k place) (λ c. kind ≡ kind_of c.name) → kind ≡ kinds.Composite → IfSome (slice_get k place) (λ c. AreSlots k c.fields ss)
+  pub field_row : (j place : ℕ) (kind : Kind) (ss : List FieldLayout) → n.shape.array ≡ false → n.shape.constant ≡ false → slice_get k place ≡ find_class k n.shape.class → place < length k → IfSome (slice_get k place) (λ c. kind ≡ kind_of c.name) → kind ≡ kinds.Composite → IfSome (slice_get k place) (λ c. AreFieldLayouts k c.fields ss)
       → (vs : Values) × IsRow k c n.at n.end (map (λ s. s.shape) ss) vs × (child k c n (steps.Field j) ≡ slice_get (laid n.at (list_of vs)) j)
   field_row j place kind ss a o q l e m h =
-      let d = slots_of k place ss l h in
+      let d = layouts_of k place ss l h in
       let f = field_is j d.class a o (sym q ∙ d.there) (sym (kind_there k place d.class kind e d.there) ∙ m) in
-      (f.0, subst (λ z. IsRow k c n.at n.end z f.0) (sym d.slots.shapes) f.1, f.2)
+      (f.0, subst (λ z. IsRow k c n.at n.end z f.0) (sym d.layouts.shapes) f.1, f.2)
 
-  pub no_field_past : (j place : ℕ) (kind : Kind) (ss : List Slot) → n.shape.array ≡ false → n.shape.constant ≡ false → slice_get k place ≡ find_class k n.shape.class → place < length k → IfSome (slice_get k place) (λ c. kind ≡ kind_of c.name) → kind ≡ kinds.Composite → IfSome (slice_get k place) (λ c. AreSlots k c.fields ss)
+  pub no_field_past : (j place : ℕ) (kind : Kind) (ss : List FieldLayout) → n.shape.array ≡ false → n.shape.constant ≡ false → slice_get k place ≡ find_class k n.shape.class → place < length k → IfSome (slice_get k place) (λ c. kind ≡ kind_of c.name) → kind ≡ kinds.Composite → IfSome (slice_get k place) (λ c. AreFieldLayouts k c.fields ss)
       → length ss ≤ j → child k c n (steps.Field j) ≡ None
   no_field_past j place kind ss a o q l e m h b =
       let f = field_row j place kind ss a o q l e m h in
-      f.2 ∙ past_end n.at f.0 (map (λ s. s.shape) ss) j f.1.of_shapes (let z = length-map ss (λ (s : Slot). s.shape) in omega arith)
+      f.2 ∙ past_end n.at f.0 (map (λ s. s.shape) ss) j f.1.of_shapes (let z = length-map ss (λ (s : FieldLayout). s.shape) in omega arith)
 
   pub item_is : (j : ℕ) (w : Var) → n.shape.array ≡ true → int_at c n.at n.end ≡ Some w
       → (w.end ≤ n.end) × ((vs : Values) × IsRow k c w.end n.end (replicate w.value (item_of n.shape)) vs × (child k c n (steps.Item j) ≡ slice_get (laid w.end (list_of vs)) j))

@@ -7,18 +7,18 @@ use Rattle.jfr_base.specs.declared.integer.Var.{Var}
 use Rattle.jfr_base.specs.declared.reason.Reason.TheVariants.{Short}
 use Rattle.jfr_base.specs.Formats.{Answer, Format, Done, Int, ◌>>=◌, int_at, for_each, integer, unchecked, after_int, run, seen, times, with_bytes}
 use Rattle.jfr_base.proofs.SeenLaws.{then_at, seen-made, seen-times, seen-for_each, seen-with}
-use Rattle.jfr_layout.specs.Classes.{AreSlots, Class, Classes, Field, IsSlot, find_class, class_place, kind_of, item_of}
+use Rattle.jfr_layout.specs.Classes.{AreFieldLayouts, Class, Classes, Field, IsFieldLayout, find_class, class_place, kind_of, item_of}
 use Rattle.jfr_layout.specs.declared.kind.Kind.{Kind}
 use Rattle.jfr_layout.specs.declared.kind.Kind.TheVariants as kinds
 use Rattle.jfr_layout.specs.declared.shape.Shape.{Shape}
-use Rattle.jfr_layout.specs.declared.slot.Slot.{Slot}
+use Rattle.jfr_layout.specs.declared.field_layout.FieldLayout.{FieldLayout}
 use Rattle.jfr_text.specs.Strings.{Content, string_format}
 use Rattle.jfr_value.specs.declared.leaf.LeafKind.TheVariants as leaf_kinds
 use Rattle.jfr_value.specs.Values.{Value, Nil, Single, Group, values_of, key_of, IsHollowArray}
 use Rattle.jfr_value.specs.Reading.{base_format, item_format, array_format, shape_format, fields_format, kind_format, inline_format, class_format, value_format}
 use Rattle.jfr_value.proofs.PlaceLaws.{placed_class}
 use Rattle.jfr_value.proofs.SkipLaws.{int_made}
-use Rattle.jfr_value.proofs.SlotLaws.{slot_class}
+use Rattle.jfr_value.proofs.LayoutLaws.{layout_class}
 
 pub class_of_fields : (depth : ℕ) (k : Classes) (t : Shape) (c : Class) → 0 < depth → find_class k t.class ≡ Some c → kind_of c.name ≡ kinds.Composite
     → class_format depth k t ≡ fields_format (class_format (depth - 1) k) c.fields >>= λ vs. Done (Group t [] (values_of vs))
@@ -98,27 +98,27 @@ each_by : {X Y A : Type 0} (v : X → Y) (f : Y → Format A) (xs : List X) → 
 each_by v f [] = refl
 each_by v f (x ∷ xs) = ap (λ z. f (v x) >>= λ a. z >>= λ rest. Done (a ∷ rest)) (each_by v f xs)
 
-pub fields_by : (k : Classes) (inline : Shape → Format Value) (fs : List Field) (ss : List Slot) → AreSlots k fs ss → fields_format inline fs ≡ for_each ss (λ s. shape_format inline s.shape)
+pub fields_by : (k : Classes) (inline : Shape → Format Value) (fs : List Field) (ss : List FieldLayout) → AreFieldLayouts k fs ss → fields_format inline fs ≡ for_each ss (λ s. shape_format inline s.shape)
 fields_by k inline fs ss a = each_by (λ f. f.shape) (shape_format inline) fs ∙ (ap (λ z. for_each z (shape_format inline)) (sym a.shapes) ∙ sym (each_by (λ s. s.shape) (shape_format inline) ss))
 
-pub slot_fields : (depth : ℕ) (k : Classes) (s : Slot) (ss : List Slot) (x : List ℕ) (end at : ℕ) → 0 < depth → IsSlot k s → s.kind ≡ kinds.Composite → IfSome (slice_get k s.place) (λ c. AreSlots k c.fields ss)
+pub layout_fields : (depth : ℕ) (k : Classes) (s : FieldLayout) (ss : List FieldLayout) (x : List ℕ) (end at : ℕ) → 0 < depth → IsFieldLayout k s → s.kind ≡ kinds.Composite → IfSome (slice_get k s.place) (λ c. AreFieldLayouts k c.fields ss)
     → seen (run (class_format depth k (item_of s.shape)) x end at) ≡ seen (run (for_each ss (λ z. shape_format (class_format (depth - 1) k) z.shape)) x end at)
-slot_fields depth k s ss x end at z i q a =
-    let c = slot_class k s i in
+layout_fields depth k s ss x end at z i q a =
+    let c = layout_class k s i in
     class_fields depth k (item_of s.shape) c.class x end at z c.found (sym c.kind ∙ q)
-    ∙ ap (λ f. seen (run f x end at)) (fields_by k (class_format (depth - 1) k) c.class.fields ss (subst (λ o. IfSome o (λ c. AreSlots k c.fields ss)) c.there a))
+    ∙ ap (λ f. seen (run f x end at)) (fields_by k (class_format (depth - 1) k) c.class.fields ss (subst (λ o. IfSome o (λ c. AreFieldLayouts k c.fields ss)) c.there a))
 
-pub slot_base : (depth : ℕ) (k : Classes) (s : Slot) (x : List ℕ) (end at : ℕ) → 0 < depth → IsSlot k s → s.kind ≢ kinds.Composite
+pub layout_base : (depth : ℕ) (k : Classes) (s : FieldLayout) (x : List ℕ) (end at : ℕ) → 0 < depth → IsFieldLayout k s → s.kind ≢ kinds.Composite
     → seen (run (class_format depth k (item_of s.shape)) x end at) ≡ seen (run (base_format s.kind) x end at)
-slot_base depth k s x end at z i n = let c = slot_class k s i in class_base depth k (item_of s.shape) c.class s.kind x end at z c.found c.kind n
+layout_base depth k s x end at z i n = let c = layout_class k s i in class_base depth k (item_of s.shape) c.class s.kind x end at z c.found c.kind n
 
-pub slot_text : (depth : ℕ) (k : Classes) (s : Slot) (x : List ℕ) (end at : ℕ) → 0 < depth → IsSlot k s → s.kind ≡ kinds.Text
+pub layout_text : (depth : ℕ) (k : Classes) (s : FieldLayout) (x : List ℕ) (end at : ℕ) → 0 < depth → IsFieldLayout k s → s.kind ≡ kinds.Text
     → seen (run (class_format depth k (item_of s.shape)) x end at) ≡ seen (run (base_format kinds.Text) x end at)
-slot_text depth k s x end at z i e =
-    slot_base depth k s x end at z i (λ n. (let y : kinds.Text ≡ kinds.Composite = sym e ∙ n in cc)) ∙ ap (λ kind. seen (run (base_format kind) x end at)) e
+layout_text depth k s x end at z i e =
+    layout_base depth k s x end at z i (λ n. (let y : kinds.Text ≡ kinds.Composite = sym e ∙ n in cc)) ∙ ap (λ kind. seen (run (base_format kind) x end at)) e
 
-pub slots_there : (k : Classes) (s : Slot) (ss : List Slot) → IsSlot k s → IfSome (slice_get k s.place) (λ c. AreSlots k c.fields ss) → AllByRecursion (IsSlot k) ss
-slots_there k s ss i a = let c = slot_class k s i in (subst (λ o. IfSome o (λ c. AreSlots k c.fields ss)) c.there a).each
+pub layouts_there : (k : Classes) (s : FieldLayout) (ss : List FieldLayout) → IsFieldLayout k s → IfSome (slice_get k s.place) (λ c. AreFieldLayouts k c.fields ss) → AllByRecursion (IsFieldLayout k) ss
+layouts_there k s ss i a = let c = layout_class k s i in (subst (λ o. IfSome o (λ c. AreFieldLayouts k c.fields ss)) c.there a).each
 
 -- a string ends where the format of its content does
 pub text_seen : (x : List ℕ) (end at : ℕ) (r : Answer Content) → r ≡ run (string_format true) x end at → seen r ≡ seen (run (base_format kinds.Text) x end at)
@@ -158,13 +158,13 @@ array_short k s x end at a e =
 pub hollow_is : (k : Classes) (s : Shape) (place : ℕ) (b : Bool) (c : Class) → slice_get k place ≡ Some c → IfSome (slice_get k place) (λ c. IsTrue b ↔ IsHollowArray s c) → b ≡ true → IsHollowArray s c
 hollow_is k s place b c q h t = (subst (λ o. IfSome o (λ c. IsTrue b ↔ IsHollowArray s c)) q h).0 t
 
-pub hollow_count : (k : Classes) (s : Slot) (b : Bool) (x : List ℕ) (end at : ℕ) → IsSlot k s → IfSome (slice_get k s.place) (λ c. IsTrue b ↔ IsHollowArray s.shape c) → b ≡ true
+pub hollow_count : (k : Classes) (s : FieldLayout) (b : Bool) (x : List ℕ) (end at : ℕ) → IsFieldLayout k s → IfSome (slice_get k s.place) (λ c. IsTrue b ↔ IsHollowArray s.shape c) → b ≡ true
     → seen (run integer x end at) ≡ seen (run (value_format k s.shape) x end at)
 unfolding run
 hollow_count k s b x end at i h t = by_int (int_at x at end) refl
   where
     hollow : (c : Class) × (slice_get k s.place ≡ Some c) × IsHollowArray s.shape c
-    hollow = let c = slot_class k s i in (c.class, c.there, hollow_is k s.shape s.place b c.class c.there h t)
+    hollow = let c = layout_class k s i in (c.class, c.there, hollow_is k s.shape s.place b c.class c.there h t)
 
     by_int : (o : Option Var) → int_at x at end ≡ o → seen (after_int x at unchecked (λ v s p. run (Done v) x end p) o) ≡ seen (run (value_format k s.shape) x end at)
     by_int None e = sym (array_short k s.shape x end at hollow.2.0 e)

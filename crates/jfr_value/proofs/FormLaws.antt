@@ -6,7 +6,7 @@ use Rattle.jfr_layout.specs.declared.form.Form.{Form}
 use Rattle.jfr_layout.specs.declared.form.Form.TheVariants as forms
 use Rattle.jfr_layout.specs.declared.kind.Kind.{Kind}
 use Rattle.jfr_layout.specs.declared.kind.Kind.TheVariants as kinds
-use Rattle.jfr_layout.specs.declared.slot.Slot.{Slot}
+use Rattle.jfr_layout.specs.declared.field_layout.FieldLayout.{FieldLayout}
 
 -- the form is that of an inline value
 abbrev pub IsInline : Form → Type 0
@@ -30,7 +30,7 @@ inline_is kinds.Text = tt
 inline_is kinds.Composite = tt
 
 -- then the slot has neither mark, and its kind has the form
-pub record Inline (s : Slot) (f : Form) : Type 0 where
+pub record Inline (s : FieldLayout) (f : Form) : Type 0 where
   pub array : s.shape.array ≡ false
   pub constant : s.shape.constant ≡ false
   pub form : f ≡ inline_form s.kind
@@ -40,16 +40,16 @@ pub other_kind : (f : Form) (kind other : Kind) → f ≡ inline_form kind → f
 other_kind f kind other e n h = n (e ∙ ap inline_form h)
 
 -- a value of a base name that refers to nothing
-pub record Plain (s : Slot) : Type 0 where
+pub record Plain (s : FieldLayout) : Type 0 where
   pub array : s.shape.array ≡ false
   pub constant : s.shape.constant ≡ false
   pub not_text : s.kind ≢ kinds.Text
   pub not_composite : s.kind ≢ kinds.Composite
 
-plain_of : (s : Slot) (f : Form) → Inline s f → f ≢ forms.Text → f ≢ forms.Fields → Plain s
+plain_of : (s : FieldLayout) (f : Form) → Inline s f → f ≢ forms.Text → f ≢ forms.Fields → Plain s
 plain_of s f i n m = record { array = i.array; constant = i.constant; not_text = other_kind f s.kind kinds.Text i.form n; not_composite = other_kind f s.kind kinds.Composite i.form m }
 
-module _ (s : Slot) (h : s.form ≡ form_of s.shape s.kind) where
+module _ (s : FieldLayout) (h : s.form ≡ form_of s.shape s.kind) where
   pub inline_there : (f : Form) → s.form ≡ f → IsInline f → Inline s f
   inline_there f e i = by_marks s.shape.array s.shape.constant refl refl (sym e ∙ h)
     where

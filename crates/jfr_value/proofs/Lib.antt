@@ -9,7 +9,7 @@ pub mod FlawLaws
 pub mod FormLaws
 pub mod InsideLaws
 mod AppendLaws
-mod LeapLaws
+mod FusedLaws
 mod LastGroups
 pub mod LeafLaws
 pub mod NodeLaws
@@ -19,8 +19,8 @@ pub mod RowLaws
 mod Rows
 pub mod StackLaws
 pub mod SkipLaws
-pub mod SlotEnds
-pub mod SlotLaws
+pub mod LayoutEnds
+pub mod LayoutLaws
 pub mod StringLaws
 pub mod TakingLaws
 pub mod TargetLaws

@@ -4,13 +4,13 @@ use Rattle.std.proofs.Common.{ap, refl, sym, ◌∙◌, subst}
 use Rattle.jfr_base.specs.Formats.{run, seen}
 use Rattle.jfr_layout.specs.Classes.{Classes, Sound}
 use Rattle.jfr_layout.specs.declared.shape.Shape.{Shape}
-use Rattle.jfr_layout.specs.declared.slot.Slot.{Slot}
+use Rattle.jfr_layout.specs.declared.field_layout.FieldLayout.{FieldLayout}
 use Rattle.jfr_value.specs.Values.{Values, list_of, IsHollow, IsPlaced}
 use Rattle.jfr_value.specs.Reading.{value_format}
 use Rattle.jfr_value.specs.Nodes.{node_at, IsNode, IsRow, EndsAt, laid}
 use Rattle.jfr_value.proofs.NodeLaws.{node_read}
 use Rattle.jfr_value.proofs.RowLaws.{start_of, row_at, replicate_get, hollow_starts}
-use Rattle.jfr_value.proofs.SlotLaws.{slot_class}
+use Rattle.jfr_value.proofs.LayoutLaws.{layout_class}
 
 pub end_seen : (k : Classes) (c : List ℕ) (s : Shape) (at end to : ℕ) → Sound k → EndsAt k c s at to → to ≤ end → end ≤ length c → seen (run (value_format k s) c end at) ≡ Ok to
 end_seen k c s at end to sound e l h = ap seen (node_read k c (node_at s at to) e.0 end sound e.1 l h)
@@ -37,10 +37,10 @@ part_there k c at end ss vs i s place r e p =
     }
 
 -- items without bytes all stand at one place
-pub hollow_part : (k : Classes) (c : List ℕ) (at end : ℕ) (s : Slot) (count i : ℕ) (vs : Values) (b : Bool) → IsPlaced k s → s.shape.array ≡ false → s.shape.constant ≡ false → IfSome (slice_get k s.place) (λ c. IsTrue b ↔ IsHollow c) → b ≡ true
+pub hollow_part : (k : Classes) (c : List ℕ) (at end : ℕ) (s : FieldLayout) (count i : ℕ) (vs : Values) (b : Bool) → IsPlaced k s → s.shape.array ≡ false → s.shape.constant ≡ false → IfSome (slice_get k s.place) (λ c. IsTrue b ↔ IsHollow c) → b ≡ true
     → IsRow k c at end (replicate count s.shape) vs → i < count → slice_get (laid at (list_of vs)) i ≡ Some (node_at s.shape at at)
 hollow_part k c at end s count i vs b p a o h t r l =
-    let d = slot_class k s (p.of_class o) in
+    let d = layout_class k s (p.of_class o) in
     let w = (subst (λ z. IfSome z (λ c. IsTrue b ↔ IsHollow c)) d.there h).0 t in
     let x = row_at k c at end (replicate count s.shape) vs i s.shape r (replicate_get count i s.shape l) in
     let e = hollow_starts k s.shape d.class a o d.found w count vs r.of_shapes r.fit at in

@@ -4,7 +4,7 @@ use Rattle.std.proofs.Common.{ap, arith, refl, sym, ◌∙◌, subst, inl, inr}
 use Rattle.jfr_base.proofs.RunLaws.{Stands, stands_split}
 use Rattle.jfr_layout.specs.Classes.{Class, Classes, find_class, kind_of}
 use Rattle.jfr_layout.specs.declared.shape.Shape.{Shape}
-use Rattle.jfr_layout.specs.declared.slot.Slot.{Slot}
+use Rattle.jfr_layout.specs.declared.field_layout.FieldLayout.{FieldLayout}
 use Rattle.jfr_value.specs.Values.{Value, Values, Single, Group, Nil, Cons, list_of, shape_of, shapes_of, bytes_of, bytes_of_all, IsBase, IsSingle, IsHead, Fits, AllFit, IsHollow}
 use Rattle.jfr_value.specs.Nodes.{node_at, IsNode, IsRow, laid}
 
@@ -49,9 +49,9 @@ row_at k c at to (t ∷ ss) (Cons v vs) (suc i) s r e =
       is = subst (λ z. slice_get (laid (at + length (bytes_of v)) (list_of vs)) i ≡ Some (node_at s (start_of (at + length (bytes_of v)) vs i) z)) z p.is;
     }
 
-pub shapes_get : (ss : List Slot) (i : ℕ) (s : Slot) → slice_get ss i ≡ Some s → slice_get (map (λ s. s.shape) ss) i ≡ Some s.shape
+pub shapes_get : (ss : List FieldLayout) (i : ℕ) (s : FieldLayout) → slice_get ss i ≡ Some s → slice_get (map (λ s. s.shape) ss) i ≡ Some s.shape
 shapes_get [] i s e = cc
-shapes_get (t ∷ ss) zero s e = let h : t ≡ s = cc in ap (λ (z : Slot). Some z.shape) h
+shapes_get (t ∷ ss) zero s e = let h : t ≡ s = cc in ap (λ (z : FieldLayout). Some z.shape) h
 shapes_get (t ∷ ss) (suc i) s e = shapes_get ss i s e
 
 pub replicate_get : (n i : ℕ) (s : Shape) → i < n → slice_get (replicate n s) i ≡ Some s

@@ -8,11 +8,11 @@ use Rattle.jfr_base.specs.declared.reason.Reason.TheVariants.{Short, Trailing}
 use Rattle.jfr_base.specs.Formats.{Answer, Format, Got, Done, Stop, Int, Byte, Run, Here, Refuse, ◌>>=◌, on, checked, refused, int_at, for_each, unchecked, after_int, run, seen, times, with_bytes}
 use Rattle.jfr_base.proofs.Exact.{Says, run_says}
 use Rattle.jfr_base.proofs.FormatLaws.{run-bind}
-use Rattle.jfr_layout.specs.Classes.{AreSlots, Class, Classes, IsSlot, Sound, find_class, kind_of, item_of}
+use Rattle.jfr_layout.specs.Classes.{AreFieldLayouts, Class, Classes, IsFieldLayout, Sound, find_class, kind_of, item_of}
 use Rattle.jfr_layout.specs.declared.kind.Kind.{Kind}
 use Rattle.jfr_layout.specs.declared.kind.Kind.TheVariants as kinds
 use Rattle.jfr_layout.specs.declared.shape.Shape.{Shape}
-use Rattle.jfr_layout.specs.declared.slot.Slot.{Slot}
+use Rattle.jfr_layout.specs.declared.field_layout.FieldLayout.{FieldLayout}
 use Rattle.jfr_text.specs.Strings.{string_format}
 use Rattle.jfr_value.specs.declared.leaf.LeafKind.TheVariants as leaf_kinds
 use Rattle.jfr_value.specs.Values.{Value, Single, Group, values_of, key_of, targets_of, targets_of_all, IsHollowArray}
@@ -21,7 +21,7 @@ use Rattle.jfr_value.specs.Nodes.{node_at, targets}
 use Rattle.jfr_value.specs.Visits.{TakesAll, TakesRead, TakesReadAll}
 use Rattle.jfr_value.proofs.EndLaws.{array_short, class_of_base, class_of_fields, fields_by, hollow_is, hollow_item}
 use Rattle.jfr_value.proofs.NodeLaws.{read_node}
-use Rattle.jfr_value.proofs.SlotLaws.{slot_class}
+use Rattle.jfr_value.proofs.LayoutLaws.{layout_class}
 use Rattle.jfr_value.proofs.TargetLaws.{targets_are}
 use Rattle.jfr_value.proofs.VisitLaws.{takes_append}
 
@@ -129,22 +129,22 @@ module _ {A : Type 0} (takes : ℕ × ℕ → A → A → Type 0) (x : List ℕ)
       if_made (string_format true) key_of (λ content. TakesAll takes (keyed class (key_of content)) old new) (λ key. TakesAll takes (keyed class key) old new) x end at (λ content p. p) h
 
   -- an inline value of a base name by its key, if it has one
-  pub base_taken : (depth : ℕ) (k : Classes) (s : Slot) (old new : A) → 0 < depth → IsSlot k s → s.kind ≢ kinds.Composite
+  pub base_taken : (depth : ℕ) (k : Classes) (s : FieldLayout) (old new : A) → 0 < depth → IsFieldLayout k s → s.kind ≢ kinds.Composite
       → IfOk (run (base_format s.kind) x end at) (λ got. TakesAll takes (keyed s.shape.class got.value) old new) → TakesRead takes (run (class_format depth k (item_of s.shape)) x end at) old new
   base_taken depth k s old new z i n h =
-      let c = slot_class k s i in
+      let c = layout_class k s i in
       subst (λ (f : Format Value). TakesRead takes (run f x end at) old new) (sym (class_of_base depth k (item_of s.shape) c.class s.kind z c.found c.kind n))
       (if_with [] (base_format s.kind) (λ key b. Single (item_of s.shape) (leaf_kinds.Base s.kind) b key) (λ key. TakesAll takes (keyed s.shape.class key) old new) (λ v. TakesAll takes (targets_of v) old new) x end at
       (λ key b p. subst (λ ts. TakesAll takes ts old new) (sym (single_refers (item_of s.shape) s.kind b key)) p) h)
 
-  pub string_taken : (depth : ℕ) (k : Classes) (s : Slot) (old new : A) → 0 < depth → IsSlot k s → s.kind ≡ kinds.Text
+  pub string_taken : (depth : ℕ) (k : Classes) (s : FieldLayout) (old new : A) → 0 < depth → IsFieldLayout k s → s.kind ≡ kinds.Text
       → IfOk (run (string_format true) x end at) (λ got. TakesAll takes (keyed s.shape.class (key_of got.value)) old new) → TakesRead takes (run (class_format depth k (item_of s.shape)) x end at) old new
   string_taken depth k s old new z i e h =
       base_taken depth k s old new z i (λ c. (let y : kinds.Text ≡ kinds.Composite = sym e ∙ c in cc))
       (subst (λ kind. IfOk (run (base_format kind) x end at) (λ got. TakesAll takes (keyed s.shape.class got.value) old new)) (sym e) (text_taken s.shape.class old new h))
 
   -- one that is no string refers to nothing
-  pub plain_taken : (depth : ℕ) (k : Classes) (s : Slot) (old : A) → 0 < depth → IsSlot k s → s.kind ≢ kinds.Composite → s.kind ≢ kinds.Text → TakesRead takes (run (class_format depth k (item_of s.shape)) x end at) old old
+  pub plain_taken : (depth : ℕ) (k : Classes) (s : FieldLayout) (old : A) → 0 < depth → IsFieldLayout k s → s.kind ≢ kinds.Composite → s.kind ≢ kinds.Text → TakesRead takes (run (class_format depth k (item_of s.shape)) x end at) old old
   plain_taken depth k s old z i n m = base_taken depth k s old old z i n (by_answer (run (base_format s.kind) x end at) (plain_read s.kind x end at m))
     where
       by_answer : (r : Answer (Option ℕ)) → IfOk r (λ got. got.value ≡ None) → IfOk r (λ got. TakesAll takes (keyed s.shape.class got.value) old old)
@@ -152,11 +152,11 @@ module _ {A : Type 0} (takes : ℕ × ℕ → A → A → Type 0) (x : List ℕ)
       by_answer (Err e) h = tt
 
   -- a composite value by its fields
-  pub fields_taken : (depth : ℕ) (k : Classes) (s : Slot) (ss : List Slot) (old new : A) → 0 < depth → IsSlot k s → s.kind ≡ kinds.Composite → IfSome (slice_get k s.place) (λ c. AreSlots k c.fields ss)
+  pub fields_taken : (depth : ℕ) (k : Classes) (s : FieldLayout) (ss : List FieldLayout) (old new : A) → 0 < depth → IsFieldLayout k s → s.kind ≡ kinds.Composite → IfSome (slice_get k s.place) (λ c. AreFieldLayouts k c.fields ss)
       → TakesReadAll takes (run (for_each ss (λ z. shape_format (class_format (depth - 1) k) z.shape)) x end at) old new → TakesRead takes (run (class_format depth k (item_of s.shape)) x end at) old new
   fields_taken depth k s ss old new z i q a h =
-      let c = slot_class k s i in
-      let b = fields_by k (class_format (depth - 1) k) c.class.fields ss (subst (λ o. IfSome o (λ c. AreSlots k c.fields ss)) c.there a) in
+      let c = layout_class k s i in
+      let b = fields_by k (class_format (depth - 1) k) c.class.fields ss (subst (λ o. IfSome o (λ c. AreFieldLayouts k c.fields ss)) c.there a) in
       subst (λ (f : Format Value). TakesRead takes (run f x end at) old new) (sym (class_of_fields depth k (item_of s.shape) c.class z c.found (sym c.kind ∙ q)))
       (subst (λ (f : Format (List Value)). TakesRead takes (run (f >>= λ vs. Done (Group (item_of s.shape) [] (values_of vs))) x end at) old new) (sym b)
       (if_made (for_each ss (λ z. shape_format (class_format (depth - 1) k) z.shape)) (λ vs. Group (item_of s.shape) [] (values_of vs)) (λ vs. TakesAll takes (targets_of_all (values_of vs)) old new) (λ v. TakesAll takes (targets_of v) old new) x end at (λ vs p. p) h))
@@ -227,14 +227,14 @@ module _ {A : Type 0} (takes : ℕ × ℕ → A → A → Type 0) (k : Classes) 
       cons_taken takes x end to (item_format (class_format 34 k) (item_of s)) (times n (item_format (class_format 34 k) (item_of s))) to a a a (ap seen i)
       (subst (λ (r : Answer Value). TakesRead takes r a a) (sym i) refl) (hollow_items_taken s c q e z o n to)
 
-  pub hollow_taken : (s : Slot) (b : Bool) → IsSlot k s → IfSome (slice_get k s.place) (λ c. IsTrue b ↔ IsHollowArray s.shape c) → b ≡ true → TakesRead takes (run (value_format k s.shape) x end at) a a
+  pub hollow_taken : (s : FieldLayout) (b : Bool) → IsFieldLayout k s → IfSome (slice_get k s.place) (λ c. IsTrue b ↔ IsHollowArray s.shape c) → b ≡ true → TakesRead takes (run (value_format k s.shape) x end at) a a
   unfolding value_format
   hollow_taken s b i h t = by_int (int_at x at end) refl
     where
       by_int : (o : Option Var) → int_at x at end ≡ o → TakesRead takes (run (shape_format (class_format 34 k) s.shape) x end at) a a
-      by_int None e = let c = slot_class k s i in let w = hollow_is k s.shape s.place b c.class c.there h t in
+      by_int None e = let c = layout_class k s i in let w = hollow_is k s.shape s.place b c.class c.there h t in
           no_value (run (shape_format (class_format 34 k) s.shape) x end at) (record { offset = at; reason = Short }) (λ got. TakesAll takes (targets_of got.value) a a) (sym (array_short k s.shape x end at w.0 e))
-      by_int (Some v) e = let c = slot_class k s i in let w = hollow_is k s.shape s.place b c.class c.there h t in
+      by_int (Some v) e = let c = layout_class k s i in let w = hollow_is k s.shape s.place b c.class c.there h t in
           items_taken takes x end at (class_format 34 k) s.shape v a a w.0 e (hollow_items_taken s.shape c.class c.found w.2.0 w.2.1 w.1 v.value v.end)
 
 -- where a value was read, its targets are those of the node

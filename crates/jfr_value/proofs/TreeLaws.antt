@@ -64,41 +64,41 @@ pub record Whole (f : Shape → Format Value) (s : Shape) (b : List ℕ) (v : Va
   pub parts : AllByRecursion (λ w. Exactly (f (shape_of w)) (bytes_of w) w) (parts_of v)
 
 -- parts that are read one after another
-pub record Row (f : Shape → Format Value) (b : List ℕ) (vs : List Value) : Type 0 where
+pub record ClassLayout (f : Shape → Format Value) (b : List ℕ) (vs : List Value) : Type 0 where
   pub bytes : bytes_of_all (values_of vs) ≡ b
   pub each : AllByRecursion (λ w. Exactly (f (shape_of w)) (bytes_of w) w) (list_of (values_of vs))
 
 abbrev pub Tells : (f : Shape → Format Value) → Type 0
 Tells f = (s : Shape) (b : List ℕ) (v : Value) → Exactly (f s) b v → (shape_of v ≡ s) × (bytes_of v ≡ b)
 
-row_more : (f : Shape → Format Value) (s : Shape) (h r b : List ℕ) (v : Value) (vs : List Value) → b ≡ h ++ r → Exactly (f s) h v → shape_of v ≡ s → bytes_of v ≡ h → Row f r vs → Row f b (v ∷ vs)
+row_more : (f : Shape → Format Value) (s : Shape) (h r b : List ℕ) (v : Value) (vs : List Value) → b ≡ h ++ r → Exactly (f s) h v → shape_of v ≡ s → bytes_of v ≡ h → ClassLayout f r vs → ClassLayout f b (v ∷ vs)
 row_more f s h r b v vs e x t u i = record {
   bytes = ap (λ z. z ++ bytes_of_all (values_of vs)) u ∙ (ap (λ z. h ++ z) i.bytes ∙ sym e);
   each = (subst (λ z. Exactly (f z) (bytes_of v) v) (sym t) (subst (λ z. Exactly (f s) z v) (sym u) x), i.each);
 }
 
-each_row : (f : Shape → Format Value) → Tells f → (fs : List Field) (b : List ℕ) (vs : List Value) → Exactly (for_each fs (λ g. f g.shape)) b vs → Row f b vs
-each_row f t [] b vs e = subst (Row f b) (sym e.0) (record { bytes = sym e.1; each = tt })
+each_row : (f : Shape → Format Value) → Tells f → (fs : List Field) (b : List ℕ) (vs : List Value) → Exactly (for_each fs (λ g. f g.shape)) b vs → ClassLayout f b vs
+each_row f t [] b vs e = subst (ClassLayout f b) (sym e.0) (record { bytes = sym e.1; each = tt })
 each_row f t (g ∷ fs) b vs e =
     let i = exact_bind (f g.shape) (λ a. for_each fs (λ g. f g.shape) >>= λ rest. Done (a ∷ rest)) b vs e in
     let j = exact_bind (for_each fs (λ g. f g.shape)) (λ rest. Done (i.value ∷ rest)) i.rest vs i.second in
     let w = t g.shape i.front i.value i.first in
     let r : i.rest ≡ j.front = j.split ∙ (ap (λ z. j.front ++ z) j.second.1 ∙ append-nil j.front) in
-    subst (Row f b) (sym j.second.0) (row_more f g.shape i.front j.front b i.value j.value (i.split ∙ ap (λ z. i.front ++ z) r) i.first w.0 w.1 (each_row f t fs j.front j.value j.first))
+    subst (ClassLayout f b) (sym j.second.0) (row_more f g.shape i.front j.front b i.value j.value (i.split ∙ ap (λ z. i.front ++ z) r) i.first w.0 w.1 (each_row f t fs j.front j.value j.first))
 
-times_row : (f : Shape → Format Value) (x : Format Value) (s : Shape) → ((b : List ℕ) (v : Value) → Exactly x b v → (shape_of v ≡ s) × (bytes_of v ≡ b) × Exactly (f s) b v) → (n : ℕ) (b : List ℕ) (vs : List Value) → Exactly (times n x) b vs → Row f b vs
-times_row f x s t zero b vs e = subst (Row f b) (sym e.0) (record { bytes = sym e.1; each = tt })
+times_row : (f : Shape → Format Value) (x : Format Value) (s : Shape) → ((b : List ℕ) (v : Value) → Exactly x b v → (shape_of v ≡ s) × (bytes_of v ≡ b) × Exactly (f s) b v) → (n : ℕ) (b : List ℕ) (vs : List Value) → Exactly (times n x) b vs → ClassLayout f b vs
+times_row f x s t zero b vs e = subst (ClassLayout f b) (sym e.0) (record { bytes = sym e.1; each = tt })
 times_row f x s t (suc n) b vs e =
     let i = exact_bind x (λ a. times n x >>= λ rest. Done (a ∷ rest)) b vs e in
     let j = exact_bind (times n x) (λ rest. Done (i.value ∷ rest)) i.rest vs i.second in
     let w = t i.front i.value i.first in
     let r : i.rest ≡ j.front = j.split ∙ (ap (λ z. j.front ++ z) j.second.1 ∙ append-nil j.front) in
-    subst (Row f b) (sym j.second.0) (row_more f s i.front j.front b i.value j.value (i.split ∙ ap (λ z. i.front ++ z) r) w.2 w.0 w.1 (times_row f x s t n j.front j.value j.first))
+    subst (ClassLayout f b) (sym j.second.0) (row_more f s i.front j.front b i.value j.value (i.split ∙ ap (λ z. i.front ++ z) r) w.2 w.0 w.1 (times_row f x s t n j.front j.value j.first))
 
 single_whole : (f : Shape → Format Value) (s : Shape) (kind : LeafKind) (h b : List ℕ) (key : Option ℕ) (v : Value) → v ≡ Single s kind h key → b ≡ h → Whole f s b v
 single_whole f s kind h b key v e d = subst (Whole f s b) (sym e) (record { shape = refl; bytes = sym d; parts = tt })
 
-parts_whole : (f : Shape → Format Value) (s : Shape) (h r b : List ℕ) (vs : List Value) (v : Value) → v ≡ Group s h (values_of vs) → b ≡ h ++ r → Row f r vs → Whole f s b v
+parts_whole : (f : Shape → Format Value) (s : Shape) (h r b : List ℕ) (vs : List Value) (v : Value) → v ≡ Group s h (values_of vs) → b ≡ h ++ r → ClassLayout f r vs → Whole f s b v
 parts_whole f s h r b vs v e d i = subst (Whole f s b) (sym e) (record { shape = refl; bytes = ap (λ z. h ++ z) i.bytes ∙ sym d; parts = i.each })
 
 pub no_rest : (b h r : List ℕ) → b ≡ h ++ r → r ≡ [] → b ≡ h

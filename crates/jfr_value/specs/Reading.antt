@@ -7,7 +7,7 @@ use Rattle.jfr_layout.specs.Classes.{Class, Classes, Field, find_class, kind_of,
 use Rattle.jfr_layout.specs.declared.kind.Kind.{Kind}
 use Rattle.jfr_layout.specs.declared.kind.Kind.TheVariants as kinds
 use Rattle.jfr_layout.specs.declared.shape.Shape.{Shape}
-use Rattle.jfr_layout.specs.declared.slot.Slot.{Slot}
+use Rattle.jfr_layout.specs.declared.field_layout.FieldLayout.{FieldLayout}
 use Rattle.jfr_value.specs.declared.leaf.LeafKind.TheVariants as leaf_kinds
 use Rattle.jfr_value.specs.Values.{Value, Single, Group, values_of, key_of}
 
@@ -53,8 +53,8 @@ class_format zero k s = Refuse InlineDeep
 class_format (suc n) k s = inline_format (class_format n k) s (find_class k s.class)
 
 -- the values of these slots, one behind another, in each at most so many classes within one another
-abbrev pub row_format : ℕ → Classes → List Slot → Format (List Value)
-row_format depth k slots = for_each slots (λ s. shape_format (class_format depth k) s.shape)
+abbrev pub row_format : ℕ → Classes → List FieldLayout → Format (List Value)
+row_format depth k layouts = for_each layouts (λ s. shape_format (class_format depth k) s.shape)
 
 -- a value of a shape: 33 composite classes and one of a base name may stand within one another
 unfoldable pub value_format : Classes → Shape → Format Value

@@ -3,11 +3,11 @@ use Rattle.std.specs.Prelude.{◌≡◌, ℕ, true, false, List, [], ◌∷◌, 
 use Rattle.std.specs.Option.{option_map}
 use Rattle.jfr_base.specs.Integer.{Spells}
 use Rattle.jfr_text.specs.Strings.{Content, Null, Empty, Key, Utf8, Units, Latin, IsString}
-use Rattle.jfr_layout.specs.Classes.{Class, Classes, IsSlot, find_class, form_of, kind_of, item_of}
+use Rattle.jfr_layout.specs.Classes.{Class, Classes, IsFieldLayout, find_class, form_of, kind_of, item_of}
 use Rattle.jfr_layout.specs.declared.kind.Kind.{Kind}
 use Rattle.jfr_layout.specs.declared.kind.Kind.TheVariants as kinds
 use Rattle.jfr_layout.specs.declared.shape.Shape.{Shape}
-use Rattle.jfr_layout.specs.declared.slot.Slot.{Slot}
+use Rattle.jfr_layout.specs.declared.field_layout.FieldLayout.{FieldLayout}
 use Rattle.jfr_value.specs.declared.leaf.LeafKind.{LeafKind}
 use Rattle.jfr_value.specs.declared.leaf.LeafKind.TheVariants as leaf_kinds
 
@@ -128,6 +128,6 @@ abbrev pub IsHollowArray : Shape → Class → Type 0
 IsHollowArray s c = (s.array ≡ true) × (s.constant ≡ false) × IsHollow c
 
 -- the slot has its form, and is that of its class; of a constant the class doesn't matter
-pub record IsPlaced (k : Classes) (s : Slot) : Type 0 where
+pub record IsPlaced (k : Classes) (s : FieldLayout) : Type 0 where
   pub form : s.form ≡ form_of s.shape s.kind
-  pub of_class : s.shape.constant ≡ false → IsSlot k s
+  pub of_class : s.shape.constant ≡ false → IsFieldLayout k s

@@ -3,9 +3,9 @@ use Rattle.std.specs.Prelude.{◌≡◌, ℕ, suc, ◌+◌, ◌*◌, ◌<◌, �
 use Rattle.std.specs.Option.{option_map_or}
 use Rattle.std.specs.List.{AllByRecursion}
 use Rattle.jfr_base.specs.Formats.{Answer, for_each, run}
-use Rattle.jfr_layout.specs.Classes.{Class, Classes, IsSlot, Sound, find_class, class_place, form_of, goes_inline, is_composite, kind_of}
+use Rattle.jfr_layout.specs.Classes.{Class, Classes, IsFieldLayout, Sound, find_class, class_place, form_of, goes_inline, is_composite, kind_of}
 use Rattle.jfr_layout.specs.declared.shape.Shape.{Shape}
-use Rattle.jfr_layout.specs.declared.slot.Slot.{Slot}
+use Rattle.jfr_layout.specs.declared.field_layout.FieldLayout.{FieldLayout}
 use Rattle.jfr_value.specs.declared.stack.Frame.{Frame}
 use Rattle.jfr_value.specs.declared.stack.Frame.TheVariants.{Fields, Items}
 use Rattle.jfr_value.specs.declared.walk.Progress.{Progress}
@@ -35,9 +35,9 @@ abbrev pub IsPlacedIfKnown : Classes → Shape → ℕ → Type 0
 IsPlacedIfKnown k s place = s.constant ≡ false → IsSome (find_class k s.class) → class_place k s.class ≡ Some place
 
 -- the slot has its form, and is that of its class, if the class is known
-pub record IsSlotIfKnown (k : Classes) (s : Slot) : Type 0 where
+pub record IsLayoutIfKnown (k : Classes) (s : FieldLayout) : Type 0 where
   pub form : s.form ≡ form_of s.shape s.kind
-  pub of_class : s.shape.constant ≡ false → IsSome (find_class k s.shape.class) → IsSlot k s
+  pub of_class : s.shape.constant ≡ false → IsSome (find_class k s.shape.class) → IsFieldLayout k s
 
 -- a frame at a height of the stack: so many inline steps may follow, each with two frames at most
 abbrev pub IsFrame : Classes → ℕ → Frame → Type 0

@@ -3,8 +3,8 @@ ghost use Rattle.std.specs.Prelude.{◌≡◌, ◌⊎◌, ℕ, ◌+◌, ◌≤�
 ghost use Rattle.std.specs.List.{AllByRecursion};
 ghost use Rattle.jfr_base.specs.Formats.{for_each, integer, run, seen};
 ghost use Rattle.jfr_text.specs.Strings.{string_format};
-ghost use Rattle.jfr_layout.specs.Classes.{IsSlot, Sound, find_class, form_of, item_of, slot_with};
-ghost use Rattle.jfr_layout.specs.Leaps.{AreLeaps};
+ghost use Rattle.jfr_layout.specs.Classes.{IsFieldLayout, Sound, find_class, form_of, item_of, layout_with};
+ghost use Rattle.jfr_layout.specs.Fused.{AreFused};
 ghost use Rattle.jfr_layout.specs.declared.form.Form.TheVariants as forms;
 ghost use Rattle.jfr_layout.specs.declared.kind.Kind.TheVariants as kinds;
 ghost use Rattle.jfr_value.specs.Nodes.{EndsAt, IsRefused, IsValueReason, node_at, targets};
@@ -14,13 +14,13 @@ ghost use Rattle.jfr_value.specs.Visits.{TakesAll, TakesRead, TakesReadAll};
 ghost use Rattle.jfr_value.specs.Walks.{Room};
 
 use crate::Visit;
+use crate::fused::fused_end;
 use crate::integers::integer_end;
 use crate::keys::{key_end, text_end};
-use crate::leap::leap_end;
 use crate::part::item_of;
 use crate::walk::STEPS;
 use jfr_base::{Flaw, Reason, read_within};
-use jfr_layout::{Classes, Form, Kind, Row, Shape, Slot};
+use jfr_layout::{ClassLayout, Classes, FieldLayout, Form, Kind, Shape};
 use jfr_text::read_string;
 
 /// Where a value ends. The class must be known. Where no value stands, the flaw is of the first leaf
@@ -41,8 +41,8 @@ pub fn end_of(
     ensures reason { IfErr result (λ flaw. IsValueReason flaw.reason) }
     ensures exact { result ≡ seen (run (value_format classes.now shape) bytes.now end at) }
 {
-    let slot = slot_of(classes, shape);
-    value_end(classes, &slot, bytes, at, end, &mut NoVisit, &())
+    let layout = layout_of(classes, shape);
+    value_end(classes, &layout, bytes, at, end, &mut NoVisit, &())
 }
 
 /// Where a value of a slot ends, as `end_of` says it. On the way the class and the key of each reference,
@@ -51,7 +51,7 @@ pub fn end_of(
 #[inline(always)]
 pub fn end_visiting<C, V: Visit<C>>(
     classes: &Classes,
-    slot: &Slot,
+    layout: &FieldLayout,
     bytes: &[u8],
     at: usize,
     end: usize,
@@ -59,23 +59,23 @@ pub fn end_visiting<C, V: Visit<C>>(
     with: &C,
 ) -> Result<usize, Flaw>
     requires sound { Sound classes.now }
-    requires slot { IsSlot classes.now slot.now }
+    requires layout { IsFieldLayout classes.now layout.now }
     requires order { at ≤ end }
     requires within { end ≤ length bytes.now }
     requires ready { V.ready visitor.old with.now }
-    ensures exact { result ≡ seen (run (value_format classes.now slot.now.shape) bytes.now end at) }
+    ensures exact { result ≡ seen (run (value_format classes.now layout.now.shape) bytes.now end at) }
     ensures reason { IfErr result (λ flaw. IsValueReason flaw.reason) }
-    ensures visited { IfOk result (λ to. TakesAll (V.takes with.now) (targets classes.now bytes.now (node_at slot.now.shape at to)) visitor.old visitor.new) }
+    ensures visited { IfOk result (λ to. TakesAll (V.takes with.now) (targets classes.now bytes.now (node_at layout.now.shape at to)) visitor.old visitor.new) }
     ensures ready { V.ready visitor.new with.now }
 {
-    value_end(classes, slot, bytes, at, end, visitor, with)
+    value_end(classes, layout, bytes, at, end, visitor, with)
 }
 
 /// The same, as the format computes it.
 #[inline(always)]
 fn value_end<C, V: Visit<C>>(
     classes: &Classes,
-    slot: &Slot,
+    layout: &FieldLayout,
     bytes: &[u8],
     at: usize,
     end: usize,
@@ -83,20 +83,29 @@ fn value_end<C, V: Visit<C>>(
     with: &C,
 ) -> Result<usize, Flaw>
     requires sound { Sound classes.now }
-    requires slot { IsSlot classes.now slot.now }
+    requires layout { IsFieldLayout classes.now layout.now }
     requires order { at ≤ end }
     requires within { end ≤ length bytes.now }
     requires ready { V.ready visitor.old with.now }
-    ensures exact { result ≡ seen (run (value_format classes.now slot.now.shape) bytes.now end at) }
-    ensures visited { TakesRead (V.takes with.now) (run (value_format classes.now slot.now.shape) bytes.now end at) visitor.old visitor.new }
+    ensures exact { result ≡ seen (run (value_format classes.now layout.now.shape) bytes.now end at) }
+    ensures visited { TakesRead (V.takes with.now) (run (value_format classes.now layout.now.shape) bytes.now end at) visitor.old visitor.new }
     ensures ready { V.ready visitor.new with.now }
 {
-    match slot.form {
+    match layout.form {
         Form::Fields => {
-            let row = classes.row(slot.place);
-            whole_row_end(classes, row, bytes, at, end, STEPS - 1, visitor, with)
+            let class_layout = classes.class_layout(layout.place);
+            whole_row_end(
+                classes,
+                class_layout,
+                bytes,
+                at,
+                end,
+                STEPS - 1,
+                visitor,
+                with,
+            )
         }
-        _ => other_end(classes, slot, bytes, at, end, visitor, with),
+        _ => other_end(classes, layout, bytes, at, end, visitor, with),
     }
 }
 
@@ -104,7 +113,7 @@ fn value_end<C, V: Visit<C>>(
 #[inline]
 fn other_end<C, V: Visit<C>>(
     classes: &Classes,
-    slot: &Slot,
+    layout: &FieldLayout,
     bytes: &[u8],
     at: usize,
     end: usize,
@@ -112,18 +121,18 @@ fn other_end<C, V: Visit<C>>(
     with: &C,
 ) -> Result<usize, Flaw>
     requires sound { Sound classes.now }
-    requires slot { IsSlot classes.now slot.now }
+    requires layout { IsFieldLayout classes.now layout.now }
     requires order { at ≤ end }
     requires within { end ≤ length bytes.now }
     requires ready { V.ready visitor.old with.now }
-    ensures exact { result ≡ seen (run (value_format classes.now slot.now.shape) bytes.now end at) }
-    ensures visited { TakesRead (V.takes with.now) (run (value_format classes.now slot.now.shape) bytes.now end at) visitor.old visitor.new }
+    ensures exact { result ≡ seen (run (value_format classes.now layout.now.shape) bytes.now end at) }
+    ensures visited { TakesRead (V.takes with.now) (run (value_format classes.now layout.now.shape) bytes.now end at) visitor.old visitor.new }
     ensures ready { V.ready visitor.new with.now }
 {
-    if is_hollow_array(classes, slot) {
+    if is_hollow_array(classes, layout) {
         return integer_end(bytes, at, end);
     }
-    slot_end(classes, slot, bytes, at, end, STEPS, visitor, with)
+    layout_end(classes, layout, bytes, at, end, STEPS, visitor, with)
 }
 
 /// A visitor that takes nothing.
@@ -142,27 +151,27 @@ impl Visit<()> for NoVisit {
 }
 
 /// The slot of a shape. Where its class isn't known, only the shape says something.
-pub fn slot_of(classes: &Classes, shape: Shape) -> Slot
+pub fn layout_of(classes: &Classes, shape: Shape) -> FieldLayout
     ensures shape { result.shape ≡ shape }
     ensures form { result.form ≡ form_of result.shape result.kind }
-    ensures known { IsSome (find_class classes.now shape.class) → IsSlot classes.now result }
+    ensures known { IsSome (find_class classes.now shape.class) → IsFieldLayout classes.now result }
     ensures sound { Sound classes.now }
 {
     match classes.place(shape.class) {
-        Some(place) => Slot::new(shape, place, classes.kind_at(place)),
-        None => Slot::new(shape, 0, Kind::Composite),
+        Some(place) => FieldLayout::new(shape, place, classes.kind_at(place)),
+        None => FieldLayout::new(shape, 0, Kind::Composite),
     }
 }
 
 /// Whether the slot is one of arrays of inline values without bytes: its class is composite and has no fields.
-fn is_hollow_array(classes: &Classes, slot: &Slot) -> bool
-    requires { slot.now.place < length classes.now }
-    ensures { IfSome (slice_get classes.now slot.now.place) (λ c. IsTrue result ↔ IsHollowArray slot.now.shape c) }
+fn is_hollow_array(classes: &Classes, layout: &FieldLayout) -> bool
+    requires { layout.now.place < length classes.now }
+    ensures { IfSome (slice_get classes.now layout.now.place) (λ c. IsTrue result ↔ IsHollowArray layout.now.shape c) }
 {
-    if !slot.shape.array || slot.shape.constant {
+    if !layout.shape.array || layout.shape.constant {
         return false;
     }
-    is_hollow(classes, slot.place)
+    is_hollow(classes, layout.place)
 }
 
 /// Whether the inline values of the class at a place have no bytes.
@@ -171,7 +180,7 @@ pub(crate) fn is_hollow(classes: &Classes, place: usize) -> bool
     ensures { IfSome (slice_get classes.now place) (λ c. IsTrue result ↔ IsHollow c) }
 {
     match classes.kind_at(place) {
-        Kind::Composite => classes.slots(place).is_empty(),
+        Kind::Composite => classes.layouts(place).is_empty(),
         _ => false,
     }
 }
@@ -234,9 +243,9 @@ pub(crate) fn base_end(kind: Kind, bytes: &[u8], at: usize, end: usize) -> Resul
 #[cycle(ends)]
 #[tactic(auto, using(jfr_base::proofs::SeenLaws::ends), unfolding(jfr_base::specs::Formats::run, crate::specs::Reading::class_format))]
 #[inline(always)]
-pub(crate) fn slot_end<C, V: Visit<C>>(
+pub(crate) fn layout_end<C, V: Visit<C>>(
     classes: &Classes,
-    slot: &Slot,
+    layout: &FieldLayout,
     bytes: &[u8],
     at: usize,
     end: usize,
@@ -244,23 +253,23 @@ pub(crate) fn slot_end<C, V: Visit<C>>(
     visitor: &mut V,
     with: &C,
 ) -> Result<usize, Flaw>
-    requires placed { IsPlaced classes.now slot.now }
-    requires room { Room classes.now levels slot.now.shape }
+    requires placed { IsPlaced classes.now layout.now }
+    requires room { Room classes.now levels layout.now.shape }
     requires order { at ≤ end }
     requires within { end ≤ length bytes.now }
     requires ready { V.ready visitor.old with.now }
-    ensures exact { result ≡ seen (run (shape_format (class_format (levels + 1) classes.now) slot.now.shape) bytes.now end at) }
+    ensures exact { result ≡ seen (run (shape_format (class_format (levels + 1) classes.now) layout.now.shape) bytes.now end at) }
     ensures range { IfOk result (λ to. (at ≤ to) × (to ≤ end)) }
-    ensures visited { TakesRead (V.takes with.now) (run (shape_format (class_format (levels + 1) classes.now) slot.now.shape) bytes.now end at) visitor.old visitor.new }
+    ensures visited { TakesRead (V.takes with.now) (run (shape_format (class_format (levels + 1) classes.now) layout.now.shape) bytes.now end at) visitor.old visitor.new }
     ensures ready { V.ready visitor.new with.now }
 {
-    match slot.form {
+    match layout.form {
         Form::Integer => integer_end(bytes, at, end),
         Form::Raw(count) => run_end(usize::from(count), at, end),
-        Form::Key => key_end(slot.shape.class, bytes, at, end, visitor, with),
-        Form::Text => text_end(slot.shape.class, bytes, at, end, visitor, with),
+        Form::Key => key_end(layout.shape.class, bytes, at, end, visitor, with),
+        Form::Text => text_end(layout.shape.class, bytes, at, end, visitor, with),
         Form::Fields | Form::Array => {
-            compound_end(classes, slot, bytes, at, end, levels, visitor, with)
+            compound_end(classes, layout, bytes, at, end, levels, visitor, with)
         }
     }
 }
@@ -272,7 +281,7 @@ pub(crate) fn slot_end<C, V: Visit<C>>(
 #[inline(always)]
 fn compound_end<C, V: Visit<C>>(
     classes: &Classes,
-    slot: &Slot,
+    layout: &FieldLayout,
     bytes: &[u8],
     at: usize,
     end: usize,
@@ -280,25 +289,25 @@ fn compound_end<C, V: Visit<C>>(
     visitor: &mut V,
     with: &C,
 ) -> Result<usize, Flaw>
-    requires compound { (slot.now.form ≡ forms.Fields) ⊎ (slot.now.form ≡ forms.Array) }
-    requires placed { IsPlaced classes.now slot.now }
-    requires room { Room classes.now levels slot.now.shape }
+    requires compound { (layout.now.form ≡ forms.Fields) ⊎ (layout.now.form ≡ forms.Array) }
+    requires placed { IsPlaced classes.now layout.now }
+    requires room { Room classes.now levels layout.now.shape }
     requires order { at ≤ end }
     requires within { end ≤ length bytes.now }
     requires ready { V.ready visitor.old with.now }
-    ensures exact { result ≡ seen (run (shape_format (class_format (levels + 1) classes.now) slot.now.shape) bytes.now end at) }
+    ensures exact { result ≡ seen (run (shape_format (class_format (levels + 1) classes.now) layout.now.shape) bytes.now end at) }
     ensures range { IfOk result (λ to. (at ≤ to) × (to ≤ end)) }
-    ensures visited { TakesRead (V.takes with.now) (run (shape_format (class_format (levels + 1) classes.now) slot.now.shape) bytes.now end at) visitor.old visitor.new }
+    ensures visited { TakesRead (V.takes with.now) (run (shape_format (class_format (levels + 1) classes.now) layout.now.shape) bytes.now end at) visitor.old visitor.new }
     ensures ready { V.ready visitor.new with.now }
 {
-    match slot.form {
+    match layout.form {
         Form::Fields => {
-            let fields = classes.slots(slot.place);
+            let fields = classes.layouts(layout.place);
             let to = fields_end(classes, fields, bytes, at, end, levels - 1, visitor, with)?;
             Ok(to)
         }
         _ => {
-            let to = array_end(classes, slot, bytes, at, end, levels, visitor, with)?;
+            let to = array_end(classes, layout, bytes, at, end, levels, visitor, with)?;
             Ok(to)
         }
     }
@@ -310,7 +319,7 @@ fn compound_end<C, V: Visit<C>>(
 #[inline(always)]
 fn row_end<C, V: Visit<C>>(
     classes: &Classes,
-    slots: &[Slot],
+    layouts: &[FieldLayout],
     bytes: &[u8],
     at: usize,
     end: usize,
@@ -318,19 +327,19 @@ fn row_end<C, V: Visit<C>>(
     visitor: &mut V,
     with: &C,
 ) -> Result<usize, Flaw>
-    requires slots { AllByRecursion (IsSlot classes.now) slots.now }
-    requires room { AllByRecursion (λ s. Room classes.now levels s.shape) slots.now }
+    requires layouts { AllByRecursion (IsFieldLayout classes.now) layouts.now }
+    requires room { AllByRecursion (λ s. Room classes.now levels s.shape) layouts.now }
     requires order { at ≤ end }
     requires within { end ≤ length bytes.now }
     requires ready { V.ready visitor.old with.now }
-    ensures exact { result ≡ seen (run (row_format (levels + 1) classes.now slots.now) bytes.now end at) }
+    ensures exact { result ≡ seen (run (row_format (levels + 1) classes.now layouts.now) bytes.now end at) }
     ensures range { IfOk result (λ to. (at ≤ to) × (to ≤ end)) }
-    ensures visited { TakesReadAll (V.takes with.now) (run (row_format (levels + 1) classes.now slots.now) bytes.now end at) visitor.old visitor.new }
+    ensures visited { TakesReadAll (V.takes with.now) (run (row_format (levels + 1) classes.now layouts.now) bytes.now end at) visitor.old visitor.new }
     ensures ready { V.ready visitor.new with.now }
 {
     let mut to = at;
-    for slot in slots {
-        to = slot_end(classes, slot, bytes, to, end, levels, visitor, with)?;
+    for layout in layouts {
+        to = layout_end(classes, layout, bytes, to, end, levels, visitor, with)?;
     }
     Ok(to)
 }
@@ -341,7 +350,7 @@ fn row_end<C, V: Visit<C>>(
 #[inline(never)]
 pub(crate) fn fields_end<C, V: Visit<C>>(
     classes: &Classes,
-    slots: &[Slot],
+    layouts: &[FieldLayout],
     bytes: &[u8],
     at: usize,
     end: usize,
@@ -349,24 +358,24 @@ pub(crate) fn fields_end<C, V: Visit<C>>(
     visitor: &mut V,
     with: &C,
 ) -> Result<usize, Flaw>
-    requires slots { AllByRecursion (IsSlot classes.now) slots.now }
-    requires room { AllByRecursion (λ s. Room classes.now levels s.shape) slots.now }
+    requires layouts { AllByRecursion (IsFieldLayout classes.now) layouts.now }
+    requires room { AllByRecursion (λ s. Room classes.now levels s.shape) layouts.now }
     requires order { at ≤ end }
     requires within { end ≤ length bytes.now }
     requires ready { V.ready visitor.old with.now }
-    ensures exact { result ≡ seen (run (row_format (levels + 1) classes.now slots.now) bytes.now end at) }
+    ensures exact { result ≡ seen (run (row_format (levels + 1) classes.now layouts.now) bytes.now end at) }
     ensures range { IfOk result (λ to. (at ≤ to) × (to ≤ end)) }
-    ensures visited { TakesReadAll (V.takes with.now) (run (row_format (levels + 1) classes.now slots.now) bytes.now end at) visitor.old visitor.new }
+    ensures visited { TakesReadAll (V.takes with.now) (run (row_format (levels + 1) classes.now layouts.now) bytes.now end at) visitor.old visitor.new }
     ensures ready { V.ready visitor.new with.now }
 {
-    row_end(classes, slots, bytes, at, end, levels, visitor, with)
+    row_end(classes, layouts, bytes, at, end, levels, visitor, with)
 }
 
 /// The same of the row of an event or of another value that stands by itself, leap by leap.
 #[inline(always)]
 fn whole_row_end<C, V: Visit<C>>(
     classes: &Classes,
-    row: &Row,
+    class_layout: &ClassLayout,
     bytes: &[u8],
     at: usize,
     end: usize,
@@ -374,20 +383,30 @@ fn whole_row_end<C, V: Visit<C>>(
     visitor: &mut V,
     with: &C,
 ) -> Result<usize, Flaw>
-    requires slots { AllByRecursion (IsSlot classes.now) row.now.slots.items }
-    requires room { AllByRecursion (λ s. Room classes.now levels s.shape) row.now.slots.items }
-    requires leaps { AreLeaps row.now.slots.items row.now.leaps.items }
+    requires layouts { AllByRecursion (IsFieldLayout classes.now) class_layout.now.layouts.items }
+    requires room { AllByRecursion (λ s. Room classes.now levels s.shape) class_layout.now.layouts.items }
+    requires fused_fields { AreFused class_layout.now.layouts.items class_layout.now.fused_fields.items }
     requires order { at ≤ end }
     requires within { end ≤ length bytes.now }
     requires ready { V.ready visitor.old with.now }
-    ensures exact { result ≡ seen (run (row_format (levels + 1) classes.now row.now.slots.items) bytes.now end at) }
+    ensures exact { result ≡ seen (run (row_format (levels + 1) classes.now class_layout.now.layouts.items) bytes.now end at) }
     ensures range { IfOk result (λ to. (at ≤ to) × (to ≤ end)) }
-    ensures visited { TakesReadAll (V.takes with.now) (run (row_format (levels + 1) classes.now row.now.slots.items) bytes.now end at) visitor.old visitor.new }
+    ensures visited { TakesReadAll (V.takes with.now) (run (row_format (levels + 1) classes.now class_layout.now.layouts.items) bytes.now end at) visitor.old visitor.new }
     ensures ready { V.ready visitor.new with.now }
 {
     let mut to = at;
-    for leap in &row.leaps {
-        to = leap_end(classes, row, leap, bytes, to, end, levels, visitor, with)?;
+    for fused in &class_layout.fused_fields {
+        to = fused_end(
+            classes,
+            class_layout,
+            fused,
+            bytes,
+            to,
+            end,
+            levels,
+            visitor,
+            with,
+        )?;
     }
     Ok(to)
 }
@@ -398,7 +417,7 @@ fn whole_row_end<C, V: Visit<C>>(
 #[inline(never)]
 fn array_end<C, V: Visit<C>>(
     classes: &Classes,
-    slot: &Slot,
+    layout: &FieldLayout,
     bytes: &[u8],
     at: usize,
     end: usize,
@@ -406,29 +425,29 @@ fn array_end<C, V: Visit<C>>(
     visitor: &mut V,
     with: &C,
 ) -> Result<usize, Flaw>
-    requires array { slot.now.shape.array ≡ true }
-    requires placed { IsPlaced classes.now slot.now }
-    requires room { Room classes.now levels slot.now.shape }
+    requires array { layout.now.shape.array ≡ true }
+    requires placed { IsPlaced classes.now layout.now }
+    requires room { Room classes.now levels layout.now.shape }
     requires order { at ≤ end }
     requires within { end ≤ length bytes.now }
     requires ready { V.ready visitor.old with.now }
-    ensures exact { result ≡ seen (run (shape_format (class_format (levels + 1) classes.now) slot.now.shape) bytes.now end at) }
+    ensures exact { result ≡ seen (run (shape_format (class_format (levels + 1) classes.now) layout.now.shape) bytes.now end at) }
     ensures range { IfOk result (λ to. (at ≤ to) × (to ≤ end)) }
-    ensures visited { TakesRead (V.takes with.now) (run (shape_format (class_format (levels + 1) classes.now) slot.now.shape) bytes.now end at) visitor.old visitor.new }
+    ensures visited { TakesRead (V.takes with.now) (run (shape_format (class_format (levels + 1) classes.now) layout.now.shape) bytes.now end at) visitor.old visitor.new }
     ensures ready { V.ready visitor.new with.now }
 {
     let count = read_within(bytes, at, end)?;
-    let item = item_slot(slot);
+    let item = item_layout(layout);
     let mut to = count.end;
     for _ in 0..count.value {
-        to = slot_end(classes, &item, bytes, to, end, levels, visitor, with)?;
+        to = layout_end(classes, &item, bytes, to, end, levels, visitor, with)?;
     }
     Ok(to)
 }
 
 /// The slot of an array's items.
-pub fn item_slot(array: &Slot) -> Slot
-    ensures { result ≡ slot_with (item_of array.now.shape) array.now.place array.now.kind }
+pub fn item_layout(array: &FieldLayout) -> FieldLayout
+    ensures { result ≡ layout_with (item_of array.now.shape) array.now.place array.now.kind }
 {
-    Slot::new(item_of(array.shape), array.place, array.kind)
+    FieldLayout::new(item_of(array.shape), array.place, array.kind)
 }

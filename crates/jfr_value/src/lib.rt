@@ -8,11 +8,11 @@
 #![tactic(auto)]
 
 mod extent;
+mod fused;
 mod integers;
 mod keys;
 mod laws;
 mod leaf;
-mod leap;
 mod leaves;
 mod node;
 mod part;
@@ -21,7 +21,7 @@ mod steps;
 mod visit;
 mod walk;
 
-pub use extent::{end_of, end_visiting, item_slot, slot_of};
+pub use extent::{end_of, end_visiting, item_layout, layout_of};
 pub use laws::{leaves_within_bytes, one_answer, refers_by_parts, same_bytes, values_are_read};
 pub use leaf::{Leaf, LeafKind};
 pub use leaves::Leaves;

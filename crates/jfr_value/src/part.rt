@@ -2,15 +2,15 @@
 ghost use Rattle.std.specs.Prelude.{◌≡◌, ℕ, ◌≤◌, ◌<◌, length, replicate, map, Some, IfSome, false, option_map, slice_get};
 ghost use Rattle.std.specs.List.{AllByRecursion};
 ghost use Rattle.jfr_base.specs.Formats.{int_at};
-ghost use Rattle.jfr_layout.specs.Classes.{IsSlot, Sound, item_of};
+ghost use Rattle.jfr_layout.specs.Classes.{IsFieldLayout, Sound, item_of};
 ghost use Rattle.jfr_value.specs.Nodes.{EndsAt, IsRow, IsValue, child, laid, node_of};
 ghost use Rattle.jfr_value.specs.Values.{IsPlaced, Values, list_of};
 
-use crate::extent::{NoVisit, is_hollow, slot_end, slot_of};
+use crate::extent::{NoVisit, is_hollow, layout_end, layout_of};
 use crate::walk::STEPS;
 use crate::{Node, Step};
 use jfr_base::{Var, read_within};
-use jfr_layout::{Classes, Kind, Shape, Slot};
+use jfr_layout::{Classes, FieldLayout, Kind, Shape};
 
 /// The field or the item that a step leads to, in a value that stands there. `None` exactly where it
 /// has no such field or item; `Follow` has none here.
@@ -42,11 +42,11 @@ fn field<'a>(classes: &Classes, node: &Node<'a>, number: usize) -> Option<Node<'
         Kind::Composite => {}
         _ => return None,
     }
-    let slots = classes.slots(place);
-    if number >= slots.len() {
+    let layouts = classes.layouts(place);
+    if number >= layouts.len() {
         return None;
     }
-    Some(nth_field(classes, slots, node, number))
+    Some(nth_field(classes, layouts, node, number))
 }
 
 /// The item of a number.
@@ -55,7 +55,7 @@ fn item<'a>(classes: &Classes, node: &Node<'a>, number: u64) -> Option<Node<'a>>
     ensures exact { option_map node_of result ≡ child classes.now node.now.bytes.now (node_of node.now) (Step.Item number) }
     ensures bytes { IfSome result (λ part. part.bytes.now ≡ node.now.bytes.now) }
 {
-    let slot = slot_of(classes, item_of(node.shape));
+    let layout = layout_of(classes, item_of(node.shape));
     if !node.shape.array {
         return None;
     }
@@ -65,7 +65,7 @@ fn item<'a>(classes: &Classes, node: &Node<'a>, number: u64) -> Option<Node<'a>>
     if number >= count.value {
         return None;
     }
-    Some(nth_item(classes, node, &slot, count, number))
+    Some(nth_item(classes, node, &layout, count, number))
 }
 
 /// The shape of an array's items.
@@ -80,39 +80,44 @@ pub(crate) fn item_of(array: Shape) -> Shape
 }
 
 /// Where a value ends that stands there.
-fn part_end(classes: &Classes, slot: &Slot, bytes: &[u8], at: usize, end: usize) -> usize
+fn part_end(classes: &Classes, layout: &FieldLayout, bytes: &[u8], at: usize, end: usize) -> usize
     requires sound { Sound classes.now }
-    requires placed { IsPlaced classes.now slot.now }
+    requires placed { IsPlaced classes.now layout.now }
     requires order { at ≤ end }
     requires within { end ≤ length bytes.now }
-    requires stands { (to : ℕ) × EndsAt classes.now bytes.now slot.now.shape at to × (to ≤ end) }
-    ensures { (to : ℕ) → EndsAt classes.now bytes.now slot.now.shape at to → to ≤ end → result ≡ to }
+    requires stands { (to : ℕ) × EndsAt classes.now bytes.now layout.now.shape at to × (to ≤ end) }
+    ensures { (to : ℕ) → EndsAt classes.now bytes.now layout.now.shape at to → to ≤ end → result ≡ to }
 {
-    match slot_end(classes, slot, bytes, at, end, STEPS, &mut NoVisit, &()) {
+    match layout_end(classes, layout, bytes, at, end, STEPS, &mut NoVisit, &()) {
         Ok(to) => to,
         Err(_) => unreachable!(),
     }
 }
 
 /// The field of a number, where values of these slots are the fields.
-fn nth_field<'a>(classes: &Classes, slots: &[Slot], node: &Node<'a>, number: usize) -> Node<'a>
+fn nth_field<'a>(
+    classes: &Classes,
+    layouts: &[FieldLayout],
+    node: &Node<'a>,
+    number: usize,
+) -> Node<'a>
     requires sound { Sound classes.now }
-    requires slots { AllByRecursion (IsSlot classes.now) slots.now }
+    requires layouts { AllByRecursion (IsFieldLayout classes.now) layouts.now }
     requires within { node.now.end ≤ length node.now.bytes.now }
-    requires row { (vs : Values) × IsRow classes.now node.now.bytes.now node.now.at node.now.end (map (λ s. s.shape) slots.now) vs }
-    requires is_field { number < length slots.now }
-    ensures exact { (vs : Values) → IsRow classes.now node.now.bytes.now node.now.at node.now.end (map (λ s. s.shape) slots.now) vs → slice_get (laid node.now.at (list_of vs)) number ≡ Some (node_of result) }
+    requires row { (vs : Values) × IsRow classes.now node.now.bytes.now node.now.at node.now.end (map (λ s. s.shape) layouts.now) vs }
+    requires is_field { number < length layouts.now }
+    ensures exact { (vs : Values) → IsRow classes.now node.now.bytes.now node.now.at node.now.end (map (λ s. s.shape) layouts.now) vs → slice_get (laid node.now.at (list_of vs)) number ≡ Some (node_of result) }
     ensures bytes { result.bytes.now ≡ node.now.bytes.now }
 {
     let mut at = node.at;
     for i in 0..number {
-        at = part_end(classes, &slots[i], node.bytes, at, node.end);
+        at = part_end(classes, &layouts[i], node.bytes, at, node.end);
     }
     Node {
-        shape: slots[number].shape,
+        shape: layouts[number].shape,
         bytes: node.bytes,
         at,
-        end: part_end(classes, &slots[number], node.bytes, at, node.end),
+        end: part_end(classes, &layouts[number], node.bytes, at, node.end),
     }
 }
 
@@ -120,22 +125,22 @@ fn nth_field<'a>(classes: &Classes, slots: &[Slot], node: &Node<'a>, number: usi
 fn nth_item<'a>(
     classes: &Classes,
     node: &Node<'a>,
-    slot: &Slot,
+    layout: &FieldLayout,
     count: Var,
     number: u64,
 ) -> Node<'a>
     requires sound { Sound classes.now }
-    requires item { slot.now.shape.array ≡ false }
-    requires placed { IsPlaced classes.now slot.now }
+    requires item { layout.now.shape.array ≡ false }
+    requires placed { IsPlaced classes.now layout.now }
     requires order { count.end ≤ node.now.end }
     requires within { node.now.end ≤ length node.now.bytes.now }
-    requires row { (vs : Values) × IsRow classes.now node.now.bytes.now count.end node.now.end (replicate count.value slot.now.shape) vs }
+    requires row { (vs : Values) × IsRow classes.now node.now.bytes.now count.end node.now.end (replicate count.value layout.now.shape) vs }
     requires is_item { number < count.value }
-    ensures exact { (vs : Values) → IsRow classes.now node.now.bytes.now count.end node.now.end (replicate count.value slot.now.shape) vs → slice_get (laid count.end (list_of vs)) number ≡ Some (node_of result) }
+    ensures exact { (vs : Values) → IsRow classes.now node.now.bytes.now count.end node.now.end (replicate count.value layout.now.shape) vs → slice_get (laid count.end (list_of vs)) number ≡ Some (node_of result) }
     ensures bytes { result.bytes.now ≡ node.now.bytes.now }
 {
-    let shape = slot.shape;
-    if !shape.constant && is_hollow(classes, slot.place) {
+    let shape = layout.shape;
+    if !shape.constant && is_hollow(classes, layout.place) {
         return Node {
             shape,
             bytes: node.bytes,
@@ -145,12 +150,12 @@ fn nth_item<'a>(
     }
     let mut at = count.end;
     for _ in 0..number {
-        at = part_end(classes, slot, node.bytes, at, node.end);
+        at = part_end(classes, layout, node.bytes, at, node.end);
     }
     Node {
         shape,
         bytes: node.bytes,
         at,
-        end: part_end(classes, slot, node.bytes, at, node.end),
+        end: part_end(classes, layout, node.bytes, at, node.end),
     }
 }

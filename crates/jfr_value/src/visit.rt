@@ -9,13 +9,13 @@ ghost use Rattle.jfr_value.specs.Nodes.{EndsAt, IsNode, IsRow, IsValue, node_at,
 ghost use Rattle.jfr_value.specs.Reading.{base_format};
 ghost use Rattle.jfr_value.specs.Values.{IsHollow, Value, Values, key_of, targets_of, targets_of_all};
 ghost use Rattle.jfr_value.specs.Visits.{TakesAll, field_shapes};
-ghost use Rattle.jfr_value.specs.Walks.{IsSlotIfKnown, Room};
+ghost use Rattle.jfr_value.specs.Walks.{IsLayoutIfKnown, Room};
 
-use crate::extent::{base_end, is_hollow, item_slot, slot_of};
+use crate::extent::{base_end, is_hollow, item_layout, layout_of};
 use crate::walk::STEPS;
 use crate::{Node, Steps};
 use jfr_base::read_within;
-use jfr_layout::{Classes, Form, Kind, Slot};
+use jfr_layout::{Classes, FieldLayout, Form, Kind};
 use jfr_text::{StringKind, read_string};
 use std::sync::ledger::Ledger;
 
@@ -49,8 +49,10 @@ pub fn visit_targets<C, V: Visit<C>, L: Ledger>(
     ensures ready { V.ready visitor.new with.now }
     ensures cost { steps.new ≡ steps.old + length (leaves classes.now node.entry.bytes.now (node_of node.entry)) }
 {
-    let slot = slot_of(classes, node.shape);
-    let _end = visit_value(classes, &node, &slot, STEPS, node.at, visitor, with, steps);
+    let layout = layout_of(classes, node.shape);
+    let _end = visit_value(
+        classes, &node, &layout, STEPS, node.at, visitor, with, steps,
+    );
 }
 
 /// Visits a value of a shape, whose class is at a place, and says where it ends.
@@ -59,7 +61,7 @@ pub fn visit_targets<C, V: Visit<C>, L: Ledger>(
 fn visit_value<C, V: Visit<C>, L: Ledger>(
     classes: &Classes,
     whole: &Node<'_>,
-    slot: &Slot,
+    layout: &FieldLayout,
     levels: u32,
     at: usize,
     visitor: &mut V,
@@ -68,29 +70,29 @@ fn visit_value<C, V: Visit<C>, L: Ledger>(
 ) -> usize
     requires sound { Sound classes.now }
     requires within { whole.now.end ≤ length whole.now.bytes.now }
-    requires slot { IsSlotIfKnown classes.now slot.now }
-    requires room { Room classes.now levels slot.now.shape }
-    requires stands { (to : ℕ) × EndsAt classes.now whole.now.bytes.now slot.now.shape at to × (to ≤ whole.now.end) }
+    requires layout { IsLayoutIfKnown classes.now layout.now }
+    requires room { Room classes.now levels layout.now.shape }
+    requires stands { (to : ℕ) × EndsAt classes.now whole.now.bytes.now layout.now.shape at to × (to ≤ whole.now.end) }
     requires ready { V.ready visitor.old with.now }
-    ensures visited { (to : ℕ) (v : Value) → IsNode classes.now whole.now.bytes.now (node_at slot.now.shape at to) v → to ≤ whole.now.end
+    ensures visited { (to : ℕ) (v : Value) → IsNode classes.now whole.now.bytes.now (node_at layout.now.shape at to) v → to ≤ whole.now.end
         → (result ≡ to) × TakesAll (V.takes with.now) (targets_of v) visitor.old visitor.new × (steps.new ≡ steps.old + length (leaves_at at v)) }
     ensures ready { V.ready visitor.new with.now }
 {
-    match slot.form {
-        Form::Integer | Form::Raw(_) => visit_plain(whole, slot.kind, at, steps),
-        Form::Key => visit_key(whole, slot.shape.class, at, visitor, with, steps),
-        Form::Text => visit_string(whole, slot.shape.class, at, visitor, with, steps),
+    match layout.form {
+        Form::Integer | Form::Raw(_) => visit_plain(whole, layout.kind, at, steps),
+        Form::Key => visit_key(whole, layout.shape.class, at, visitor, with, steps),
+        Form::Text => visit_string(whole, layout.shape.class, at, visitor, with, steps),
         Form::Fields => visit_fields(
             classes,
             whole,
-            slot.place,
+            layout.place,
             levels - 1,
             at,
             visitor,
             with,
             steps,
         ),
-        Form::Array => visit_array(classes, whole, slot, levels, at, visitor, with, steps),
+        Form::Array => visit_array(classes, whole, layout, levels, at, visitor, with, steps),
     }
 }
 
@@ -117,8 +119,8 @@ fn visit_fields<C, V: Visit<C>, L: Ledger>(
     ensures ready { V.ready visitor.new with.now }
 {
     let mut to = at;
-    for slot in classes.slots(place) {
-        to = visit_value(classes, whole, slot, levels, to, visitor, with, steps);
+    for layout in classes.layouts(place) {
+        to = visit_value(classes, whole, layout, levels, to, visitor, with, steps);
     }
     to
 }
@@ -128,7 +130,7 @@ fn visit_fields<C, V: Visit<C>, L: Ledger>(
 fn visit_array<C, V: Visit<C>, L: Ledger>(
     classes: &Classes,
     whole: &Node<'_>,
-    slot: &Slot,
+    layout: &FieldLayout,
     levels: u32,
     at: usize,
     visitor: &mut V,
@@ -137,12 +139,12 @@ fn visit_array<C, V: Visit<C>, L: Ledger>(
 ) -> usize
     requires sound { Sound classes.now }
     requires within { whole.now.end ≤ length whole.now.bytes.now }
-    requires array { slot.now.shape.array ≡ true }
-    requires slot { IsSlotIfKnown classes.now slot.now }
-    requires room { Room classes.now levels slot.now.shape }
-    requires stands { (to : ℕ) × EndsAt classes.now whole.now.bytes.now slot.now.shape at to × (to ≤ whole.now.end) }
+    requires array { layout.now.shape.array ≡ true }
+    requires layout { IsLayoutIfKnown classes.now layout.now }
+    requires room { Room classes.now levels layout.now.shape }
+    requires stands { (to : ℕ) × EndsAt classes.now whole.now.bytes.now layout.now.shape at to × (to ≤ whole.now.end) }
     requires ready { V.ready visitor.old with.now }
-    ensures visited { (to : ℕ) (v : Value) → IsNode classes.now whole.now.bytes.now (node_at slot.now.shape at to) v → to ≤ whole.now.end
+    ensures visited { (to : ℕ) (v : Value) → IsNode classes.now whole.now.bytes.now (node_at layout.now.shape at to) v → to ≤ whole.now.end
         → (result ≡ to) × TakesAll (V.takes with.now) (targets_of v) visitor.old visitor.new × (steps.new ≡ steps.old + length (leaves_at at v)) }
     ensures ready { V.ready visitor.new with.now }
 {
@@ -153,10 +155,10 @@ fn visit_array<C, V: Visit<C>, L: Ledger>(
     if count.value == 0 {
         return count.end;
     }
-    if !has_bytes(classes, slot) {
+    if !has_bytes(classes, layout) {
         return count.end;
     }
-    let item = item_slot(slot);
+    let item = item_layout(layout);
     let mut to = count.end;
     'items: for _ in 0..count.value {
         to = visit_value(classes, whole, &item, levels, to, visitor, with, steps);
@@ -165,14 +167,14 @@ fn visit_array<C, V: Visit<C>, L: Ledger>(
 }
 
 /// Whether the items of an array have bytes.
-fn has_bytes(classes: &Classes, slot: &Slot) -> bool
-    requires { slot.now.shape.constant ≡ false → slot.now.place < length classes.now }
-    ensures { result ≡ false → (slot.now.shape.constant ≡ false) × IfSome (slice_get classes.now slot.now.place) IsHollow }
+fn has_bytes(classes: &Classes, layout: &FieldLayout) -> bool
+    requires { layout.now.shape.constant ≡ false → layout.now.place < length classes.now }
+    ensures { result ≡ false → (layout.now.shape.constant ≡ false) × IfSome (slice_get classes.now layout.now.place) IsHollow }
 {
-    if slot.shape.constant {
+    if layout.shape.constant {
         return true;
     }
-    !is_hollow(classes, slot.place)
+    !is_hollow(classes, layout.place)
 }
 
 /// Visits a reference of a class, at a step, and says where it ends.

@@ -100,17 +100,25 @@ fn next_field<'a>(
     ensures frames { AreFrames classes.now 0 walk.new.stack }
     ensures left { (vs : Values) → IsRow classes.now bytes.now walk.old.at end (frame_shapes classes.now (Fields place number levels) ++ shapes_left classes.now walk.old.stack) vs → GoesOn classes.now bytes.now end walk.old.at vs (size_of_all vs + (length walk.old.stack + 1)) walk.new result }
 {
-    let slots = classes.slots(place);
-    if number >= slots.len() {
+    let layouts = classes.layouts(place);
+    if number >= layouts.len() {
         return Progress::Onward;
     }
-    let slot = slots[number];
+    let layout = layouts[number];
     walk.stack.push(Frame::Fields {
         place,
         number: number + 1,
         levels,
     });
-    enter(walk, classes, bytes, end, slot.shape, slot.place, levels)
+    enter(
+        walk,
+        classes,
+        bytes,
+        end,
+        layout.shape,
+        layout.place,
+        levels,
+    )
 }
 
 /// Enters the next item of a frame that was taken from the stack, where one is left.

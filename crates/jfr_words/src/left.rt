@@ -1,7 +1,7 @@
 // The words of the command line that are not yet read.
 ghost use Rattle.std.specs.Prelude.{◌≡◌, ◌≢◌, ◌∷◌, [], MatchOption, MatchResult, slice_get};
 ghost use Rattle.std.specs.Str.{chars};
-ghost use Rattle.jfr_outside.specs.Texts.{text_in};
+ghost use Rattle.jfr_base.specs.Texts.{text_in};
 
 use crate::WordsFault;
 use jfr_outside::Words;

@@ -13,9 +13,8 @@ ghost use Rattle.jfr_show.specs.Leaves.{hex};
 
 use crate::TextBuilder;
 use crate::leaf::show_hex;
-use jfr_base::signed;
+use jfr_base::{NoMemory, signed};
 use jfr_layout::Kind;
-use jfr_outside::NoMemory;
 use jfr_text::{Characters, StringSpan};
 use serde_json::Value;
 use std::alloc::Global;

@@ -6,8 +6,8 @@ ghost use Rattle.jfr_show.specs.Json.{missing_json, reference_json, target_membe
 ghost use Rattle.jfr_show.specs.Names.{class_name};
 
 use crate::reference::class_name;
+use jfr_base::NoMemory;
 use jfr_chunk::Chunk;
-use jfr_outside::NoMemory;
 use serde_json::{Map, Value, put};
 use std::alloc::Global;
 

@@ -7,18 +7,18 @@ ghost use Rattle.jfr_layout.specs.Classes.{Class};
 ghost use Rattle.jfr_value.specs.Nodes.{EndsAt, IsNode, IsRow, IsValue, node_at, node_of};
 ghost use Rattle.jfr_value.specs.Values as tree;
 ghost use Rattle.jfr_value.specs.Visits.{field_shapes};
-ghost use Rattle.jfr_value.specs.Walks.{IsSlotIfKnown, Room};
+ghost use Rattle.jfr_value.specs.Walks.{IsLayoutIfKnown, Room};
 ghost use Rattle.jfr_show.specs.Json.{json_of, json_of_all, members_with, node_json, referred_json};
 
 use super::leaf::{integer_json, raw_json, string_json};
 use super::reference::{missing_json, reference_json};
 use crate::depth::Reach;
 use crate::reading::{bytes_at, constant, integer_at, string_at};
+use jfr_base::NoMemory;
 use jfr_chunk::Chunk;
-use jfr_layout::{Form, Slot};
-use jfr_outside::NoMemory;
+use jfr_layout::{FieldLayout, Form};
 use jfr_text::StringKind;
-use jfr_value::{Node, item_slot, slot_of};
+use jfr_value::{Node, item_layout, layout_of};
 use serde_json::{Map, Value, push, put};
 use std::alloc::Global;
 
@@ -42,8 +42,8 @@ pub(crate) fn node_json(
     requires composites { reach.composites ≡ 33 }
     ensures ok { IfOk result (λ json. view json ≡ node_json chunk.now (referred_json chunk.now reach.references) (node_of node.now)) }
 {
-    let slot = slot_of(chunk.classes(), node.shape);
-    let made = value_json(alloc, chunk, &slot, node.at, node.end, reach)?;
+    let layout = layout_of(chunk.classes(), node.shape);
+    let made = value_json(alloc, chunk, &layout, node.at, node.end, reach)?;
     Ok(made.json)
 }
 
@@ -52,38 +52,38 @@ pub(crate) fn node_json(
 fn value_json(
     alloc: Global,
     chunk: &Chunk<'_>,
-    slot: &Slot,
+    layout: &FieldLayout,
     at: usize,
     limit: usize,
     reach: Reach,
 ) -> Result<Made, NoMemory>
     requires within { limit ≤ length chunk.now.bytes }
-    requires slot { IsSlotIfKnown chunk.now.classes slot.now }
-    requires room { Room chunk.now.classes reach.composites slot.now.shape }
-    requires stands { (to : ℕ) × EndsAt chunk.now.classes chunk.now.bytes slot.now.shape at to × (to ≤ limit) }
+    requires layout { IsLayoutIfKnown chunk.now.classes layout.now }
+    requires room { Room chunk.now.classes reach.composites layout.now.shape }
+    requires stands { (to : ℕ) × EndsAt chunk.now.classes chunk.now.bytes layout.now.shape at to × (to ≤ limit) }
     requires composites { reach.composites ≤ 33 }
-    ensures ok { IfOk result (λ made. (to : ℕ) (v : tree.Value) → IsNode chunk.now.classes chunk.now.bytes (node_at slot.now.shape at to) v → to ≤ limit
+    ensures ok { IfOk result (λ made. (to : ℕ) (v : tree.Value) → IsNode chunk.now.classes chunk.now.bytes (node_at layout.now.shape at to) v → to ≤ limit
         → (made.end ≡ to) × (view made.json ≡ json_of chunk.now.classes (referred_json chunk.now reach.references) v)) }
 {
-    match slot.form {
+    match layout.form {
         Form::Integer => {
             let number = integer_at(chunk, at, limit);
             Ok(Made {
-                json: integer_json(slot.kind, number.value),
+                json: integer_json(layout.kind, number.value),
                 end: number.end,
             })
         }
         Form::Raw(count) => {
             let bytes = bytes_at(chunk, at, usize::from(count));
             Ok(Made {
-                json: raw_json(alloc, slot.kind, bytes)?,
+                json: raw_json(alloc, layout.kind, bytes)?,
                 end: at + bytes.len(),
             })
         }
         Form::Key => {
             let key = integer_at(chunk, at, limit);
             Ok(Made {
-                json: referred_json(alloc, chunk, slot.shape.class, key.value, reach)?,
+                json: referred_json(alloc, chunk, layout.shape.class, key.value, reach)?,
                 end: key.end,
             })
         }
@@ -91,7 +91,7 @@ fn value_json(
             let string = string_at(chunk, at, limit);
             match string.kind {
                 StringKind::Key => Ok(Made {
-                    json: referred_json(alloc, chunk, slot.shape.class, string.key, reach)?,
+                    json: referred_json(alloc, chunk, layout.shape.class, string.key, reach)?,
                     end: string.end,
                 }),
                 _ => Ok(Made {
@@ -100,8 +100,8 @@ fn value_json(
                 }),
             }
         }
-        Form::Fields => fields_json(alloc, chunk, slot.place, at, limit, reach),
-        Form::Array => items_json(alloc, chunk, slot, at, limit, reach),
+        Form::Fields => fields_json(alloc, chunk, layout.place, at, limit, reach),
+        Form::Array => items_json(alloc, chunk, layout, at, limit, reach),
     }
 }
 
@@ -130,8 +130,8 @@ fn fields_json(
     let mut members = Map::new(alloc);
     let mut to = at;
     let mut number = 0;
-    for slot in classes.slots(place) {
-        let made = value_json(alloc, chunk, slot, to, limit, inner)?;
+    for layout in classes.layouts(place) {
+        let made = value_json(alloc, chunk, layout, to, limit, inner)?;
         put(
             &mut members,
             alloc,
@@ -152,22 +152,22 @@ fn fields_json(
 fn items_json(
     alloc: Global,
     chunk: &Chunk<'_>,
-    slot: &Slot,
+    layout: &FieldLayout,
     at: usize,
     limit: usize,
     reach: Reach,
 ) -> Result<Made, NoMemory>
     requires within { limit ≤ length chunk.now.bytes }
-    requires array { slot.now.shape.array ≡ true }
-    requires slot { IsSlotIfKnown chunk.now.classes slot.now }
-    requires room { Room chunk.now.classes reach.composites slot.now.shape }
-    requires stands { (to : ℕ) × EndsAt chunk.now.classes chunk.now.bytes slot.now.shape at to × (to ≤ limit) }
+    requires array { layout.now.shape.array ≡ true }
+    requires layout { IsLayoutIfKnown chunk.now.classes layout.now }
+    requires room { Room chunk.now.classes reach.composites layout.now.shape }
+    requires stands { (to : ℕ) × EndsAt chunk.now.classes chunk.now.bytes layout.now.shape at to × (to ≤ limit) }
     requires composites { reach.composites ≤ 33 }
-    ensures ok { IfOk result (λ made. (to : ℕ) (v : tree.Value) → IsNode chunk.now.classes chunk.now.bytes (node_at slot.now.shape at to) v → to ≤ limit
+    ensures ok { IfOk result (λ made. (to : ℕ) (v : tree.Value) → IsNode chunk.now.classes chunk.now.bytes (node_at layout.now.shape at to) v → to ≤ limit
         → (made.end ≡ to) × (view made.json ≡ json_of chunk.now.classes (referred_json chunk.now reach.references) v)) }
 {
     let count = integer_at(chunk, at, limit);
-    let item = item_slot(slot);
+    let item = item_layout(layout);
     let mut values = Vec::new(alloc);
     let mut to = count.end;
     'items: for _ in 0..count.value {

@@ -4,15 +4,15 @@ use Rattle.jfr_base.specs.Formats.{run, seen}
 use Rattle.jfr_frame.specs.Records.{record_end}
 use Rattle.jfr_value.specs.Nodes.{node_at, targets}
 use Rattle.jfr_value.specs.Reading.{value_format}
-use Rattle.jfr_chunk.specs.Notes.{Noted}
+use Rattle.jfr_chunk.specs.Refs.{AddsRefs}
 use Rattle.jfr_chunk.specs.Reach.{node_entries}
-use Rattle.jfr_chunk.proofs.NotedLaws.{all_noted}
+use Rattle.jfr_chunk.proofs.RefLaws.{all_refs}
 use Rattle.jfr_chunk.proofs.read.fields_end.Goals as goal
 
 pub returns-clause-exact : goal.returns-clause-exact
 returns-clause-exact c = c.end_visiting.ensures.exact ∙ ap (λ s. seen (run (value_format c.args.classes.now s) c.args.chunk.now (record_end c.args.frame) c.args.frame.body)) c.requires.event.shape
 
-pub returns-clause-noted : goal.returns-clause-noted
-returns-clause-noted c =
-    subst (λ s. IfOk c.end_visiting.result (λ end. Noted (node_entries c.args.pools.now c.args.classes.now c.args.chunk.now (node_at s c.args.frame.body end)) c.args.notes.now c.end_visiting.new.visitor)) c.requires.event.shape
-    (all_noted c.args.pools.now (λ to. targets c.args.classes.now c.args.chunk.now (node_at c.args.slot.now.shape c.args.frame.body to)) c.args.notes.now c.end_visiting.new.visitor c.end_visiting.result c.end_visiting.ensures.visited)
+pub returns-clause-refs_end : goal.returns-clause-refs_end
+returns-clause-refs_end c =
+    subst (λ s. IfOk c.end_visiting.result (λ end. AddsRefs (node_entries c.args.pools.now c.args.classes.now c.args.chunk.now (node_at s c.args.frame.body end)) c.args.refs.now c.end_visiting.new.visitor)) c.requires.event.shape
+    (all_refs c.args.pools.now (λ to. targets c.args.classes.now c.args.chunk.now (node_at c.args.layout.now.shape c.args.frame.body to)) c.args.refs.now c.end_visiting.new.visitor c.end_visiting.result c.end_visiting.ensures.visited)

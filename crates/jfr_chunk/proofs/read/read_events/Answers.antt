@@ -1,12 +1,12 @@
 use Rattle.std.proofs.Common.{length, ◌+◌, ap, sym, ◌∙◌, subst, arith}
 use Rattle.std.proofs.lemmas.Result.{err_from_is_err_and}
-use Rattle.jfr_chunk.specs.Seen.{AreNoted, due}
+use Rattle.jfr_chunk.specs.Seen.{AreRefs, due}
 use Rattle.jfr_chunk.proofs.CountLaws.{counted_none, counted_next, counted_event, number_fits, whole_small}
 use Rattle.jfr_chunk.proofs.EndLaws.{EndIs, end_early, end_full}
 use Rattle.jfr_chunk.proofs.EventReading.{ReadTo, record_of, read_none, read_other, read_event, read_stops, read_all}
-use Rattle.jfr_chunk.proofs.NotedLaws.{event_noted}
+use Rattle.jfr_chunk.proofs.RefLaws.{event_refs}
 use Rattle.jfr_chunk.proofs.read.read_events.Goals as goal
-use Rattle.jfr_chunk.proofs.read.read_events.Goals.{then-end-frame+in_ok-note_early, else-end-frame}
+use Rattle.jfr_chunk.proofs.read.read_events.Goals.{then-end-frame+in_ok-add_early, else-end-frame}
 
 pub fields_end-requires-clause-record : goal.fields_end-requires-clause-record
 fields_end-requires-clause-record c = record_of c.args.chunk.now c.args.frames.now c.loop-number.number c.at-frame.result c.requires.records c.at-frame.ensures
@@ -14,15 +14,15 @@ fields_end-requires-clause-record c = record_of c.args.chunk.now c.args.frames.n
 pub loop-number-init : goal.loop-number-init
 loop-number-init c = record {
   read = read_none c.args.chunk.now c.args.classes.now c.args.frames.now c.clear.new.self c.in_ok-fields.fields.items c.clear.ensures.empty c.in_ok-fields.ensures;
-  counted = counted_none c.args.chunk.now c.args.frames.now _ c.requires.records (ap length c.new-notes.ensures.numbers);
-  noted = λ h. subst (λ z. AreNoted (due c.args.pools.now c.args.classes.now c.args.chunk.now c.args.frames.now c.clear.new.self) 0 z c.new-notes.result.numbers.items) (sym c.in_ok-fields.ensures) c.new-notes.ensures.numbers;
+  counted = counted_none c.args.chunk.now c.args.frames.now _ c.requires.records (ap length c.new-refs.ensures.numbers);
+  refs_end = λ h. subst (λ z. AreRefs (due c.args.pools.now c.args.classes.now c.args.chunk.now c.args.frames.now c.clear.new.self) 0 z c.new-refs.result.numbers.items) (sym c.in_ok-fields.ensures) c.new-refs.ensures.numbers;
 }
 
 pub loop-number-preserved-in_default : goal.loop-number-preserved-in_default
 loop-number-preserved-in_default c = record {
   read = read_other c.args.chunk.now c.args.classes.now c.args.frames.now c.loop-number.number c.loop-number.early c.loop-number.fields.items c.at-frame.result c.at-frame.ensures c.in_default.ensures c.loop-number.invariant.read;
   counted = counted_next c.args.chunk.now c.args.frames.now c.loop-number.number _ _ c.at-frame.result c.at-frame.ensures (omega arith) c.loop-number.invariant.counted;
-  noted = c.loop-number.invariant.noted;
+  refs_end = c.loop-number.invariant.refs_end;
 }
 
 pub fields_end-requires-clause-entries : goal.fields_end-requires-clause-entries
@@ -49,17 +49,17 @@ overflow_cast-end c =
 pub overflow_cast-len : goal.overflow_cast-len
 overflow_cast-len c =
     let e = counted_event c.args.classes.now c.requires.sound c.args.chunk.now c.args.pools.now c.args.frames.now c.loop-number.number c.in_ok-end.end _ _ _ c.requires.whole c.requires.records
-    c.at-frame.ensures (sym c.in_ok-end.was ∙ c.fields_end.ensures.exact) c.in_ok-end.ensures.noted.few c.loop-number.invariant.counted in
+    c.at-frame.ensures (sym c.in_ok-end.was ∙ c.fields_end.ensures.exact) c.in_ok-end.ensures.refs_end.few c.loop-number.invariant.counted in
     omega (arith, e.numbers_fit, c.len-in-loop-number.ensures)
 
 pub loop-number-preserved : goal.loop-number-preserved
 loop-number-preserved c =
     let e = counted_event c.args.classes.now c.requires.sound c.args.chunk.now c.args.pools.now c.args.frames.now c.loop-number.number c.in_ok-end.end _ _ _ c.requires.whole c.requires.records
-    c.at-frame.ensures (sym c.in_ok-end.was ∙ c.fields_end.ensures.exact) c.in_ok-end.ensures.noted.few c.loop-number.invariant.counted in
+    c.at-frame.ensures (sym c.in_ok-end.was ∙ c.fields_end.ensures.exact) c.in_ok-end.ensures.refs_end.few c.loop-number.invariant.counted in
     let b = c.loop-number.invariant.read.before in
     let i : EndIs c.loop-number.early c.if-end-frame.early c.loop-number.number c.at-frame.result c.in_ok-end.end =
     elim c.if-end-frame.branch [
-      | then-end-frame+in_ok-note_early w ↦ subst (λ z. EndIs c.loop-number.early z c.loop-number.number c.at-frame.result c.in_ok-end.end) (sym w.early-is) (end_early _ _ _ _ _ w.in_ok-note_early.ensures)
+      | then-end-frame+in_ok-add_early w ↦ subst (λ z. EndIs c.loop-number.early z c.loop-number.number c.at-frame.result c.in_ok-end.end) (sym w.early-is) (end_early _ _ _ _ _ w.in_ok-add_early.ensures)
       | else-end-frame w ↦ subst (λ z. EndIs c.loop-number.early z c.loop-number.number c.at-frame.result c.in_ok-end.end) (sym w.early-is) (end_full _ _ _ _ (b.ahead c.loop-number.number (omega arith)) (omega (arith, e.within, w.if-end-frame.false)))
     ] in
     record {
@@ -67,10 +67,10 @@ loop-number-preserved c =
           subst (ReadTo c.args.chunk.now c.args.classes.now c.args.frames.now (c.loop-number.number + 1) c.if-end-frame.early) (sym c.in_ok-push.ensures.items)
           (read_event c.args.chunk.now c.args.classes.now c.args.frames.now c.loop-number.number c.loop-number.early c.if-end-frame.early c.loop-number.fields.items c.at-frame.result c.in_ok-end.end c.len-in-loop-number.result c.at-frame.ensures c.in-Some.ensures.event (sym c.in_ok-end.was ∙ c.fields_end.ensures.exact) i c.loop-number.invariant.read);
       counted = e.counted;
-      noted = λ h.
-          subst (λ z. AreNoted (due c.args.pools.now c.args.classes.now c.args.chunk.now c.args.frames.now c.if-end-frame.early) 0 z c.fields_end.new.notes.numbers.items) (sym c.in_ok-push.ensures.items)
-          (event_noted c.args.pools.now c.args.classes.now c.args.chunk.now c.args.frames.now c.loop-number.early c.if-end-frame.early c.loop-number.number c.in_ok-end.end c.len-in-loop-number.result c.at-frame.result c.loop-number.fields.items c.loop-number.notes.numbers.items c.fields_end.new.notes.numbers.items
-          c.at-frame.ensures i b.each (c.in_ok-end.ensures.noted.appended h) (omega (arith, c.len-in-loop-number.ensures)) (c.loop-number.invariant.noted (c.in_ok-end.ensures.noted.lacked_none h)));
+      refs_end = λ h.
+          subst (λ z. AreRefs (due c.args.pools.now c.args.classes.now c.args.chunk.now c.args.frames.now c.if-end-frame.early) 0 z c.fields_end.new.refs.numbers.items) (sym c.in_ok-push.ensures.items)
+          (event_refs c.args.pools.now c.args.classes.now c.args.chunk.now c.args.frames.now c.loop-number.early c.if-end-frame.early c.loop-number.number c.in_ok-end.end c.len-in-loop-number.result c.at-frame.result c.loop-number.fields.items c.loop-number.refs.numbers.items c.fields_end.new.refs.numbers.items
+          c.at-frame.ensures i b.each (c.in_ok-end.ensures.refs_end.appended h) (omega (arith, c.len-in-loop-number.ensures)) (c.loop-number.invariant.refs_end (c.in_ok-end.ensures.refs_end.lacked_none h)));
     }
 
 pub returns-in_err-end-clause-refused : goal.returns-in_err-end-clause-refused
@@ -81,5 +81,5 @@ returns-in_err-end-clause-refused c =
 pub returns-clause-ok : goal.returns-clause-ok
 returns-clause-ok c = read_all c.args.chunk.now c.args.classes.now c.args.frames.now c.loop-number.number c.loop-number.early c.loop-number.fields.items c.requires.records (omega (arith, c.loop-number-test.false, c.len-number-end.ensures)) c.loop-number.invariant.read
 
-pub returns-clause-noted : goal.returns-clause-noted
-returns-clause-noted c = c.loop-number.invariant.noted c.if-notes.false
+pub returns-clause-refs_end : goal.returns-clause-refs_end
+returns-clause-refs_end c = c.loop-number.invariant.refs_end c.if-refs.false

@@ -1,5 +1,5 @@
 use Rattle.std.proofs.Common.{◌≡◌, false, length}
-use Rattle.jfr_chunk.specs.Seen.{AreNoted, due}
+use Rattle.jfr_chunk.specs.Seen.{AreRefs, due}
 use Rattle.jfr_chunk.proofs.CountLaws.{Counted}
 use Rattle.jfr_chunk.proofs.EventReading.{ReadTo}
 use Rattle.jfr_chunk.proofs.read.read_events.Given as goal
@@ -7,6 +7,6 @@ use Rattle.jfr_chunk.proofs.read.read_events.Given as goal
 abbrev pub invariant-loop-number : goal.invariant-loop-number
 invariant-loop-number l = record {
   read : ReadTo l.chunk l.classes l.frames l.number l.early l.fields.items;
-  counted : Counted l.chunk l.frames l.number (length l.notes.numbers.items);
-  noted : l.notes.lacks ≡ false → AreNoted (due l.pools l.classes l.chunk l.frames l.early) 0 l.fields.items l.notes.numbers.items;
+  counted : Counted l.chunk l.frames l.number (length l.refs.numbers.items);
+  refs_end : l.refs.lacks ≡ false → AreRefs (due l.pools l.classes l.chunk l.frames l.early) 0 l.fields.items l.refs.numbers.items;
 }

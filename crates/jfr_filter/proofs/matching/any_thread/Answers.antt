@@ -1,6 +1,6 @@
 use Rattle.std.proofs.Common.{sym, ap, ◌∙◌}
 use Rattle.std.specs.List.{list_any}
-use Rattle.jfr_outside.specs.Texts.{text_in}
+use Rattle.jfr_base.specs.Texts.{text_in}
 use Rattle.jfr_filter.specs.Filters.{thread_matches}
 use Rattle.jfr_filter.proofs.AnyLaws.{any_never}
 use Rattle.jfr_filter.proofs.matching.any_thread.Goals as goal

@@ -1,6 +1,6 @@
 use Rattle.std.proofs.Common.{◌∙◌, ap}
 use Rattle.std.specs.Str.{chars, bytes_eq}
-use Rattle.jfr_outside.proofs.TextLaws.{bytes_eq-chars}
+use Rattle.jfr_base.proofs.TextLaws.{bytes_eq-chars}
 use Rattle.jfr_layout.proofs.name.is_text.Goals as goal
 
 pub returns : goal.returns

@@ -1,7 +1,7 @@
 use Rattle.std.proofs.Common.{ℕ, ◌<◌, ◌≤◌, ◌∙◌, ap, sym, ◌++◌, ◌-◌, ◌∷◌, [], ◌+◌, arith, append-nil, append_assoc, length}
 use Rattle.std.specs.Prelude.{option_and_then}
 use Rattle.std.specs.Str.{chars}
-use Rattle.jfr_outside.specs.Texts.{text_in}
+use Rattle.jfr_base.specs.Texts.{text_in}
 use Rattle.jfr_meta.specs.Attributes.{attribute, first_value, not_empty, value_key, values_from}
 use Rattle.jfr_meta.specs.Trees.{pairs_of}
 use Rattle.jfr_meta.proofs.FirstValues.{values_next, values_stop, values_end}

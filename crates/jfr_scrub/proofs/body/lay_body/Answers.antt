@@ -4,18 +4,18 @@ use Rattle.jfr_header.specs.declared.header.Header.{Header}
 use Rattle.jfr_frame.proofs.RecordLaws.{tiles_order}
 use Rattle.jfr_pool.specs.declared.entry.EntryAt.{EntryAt}
 use Rattle.jfr_chunk.specs.Reach.{kept_by}
-use Rattle.jfr_chunk.specs.Scrub.{stays, bytes_of, written, written_bytes}
-use Rattle.jfr_scrub.specs.Bodies.{NotFalling, StayFits}
+use Rattle.jfr_chunk.specs.Scrub.{output_records, bytes_of, written, written_bytes}
+use Rattle.jfr_scrub.specs.Bodies.{NotFalling, OutputRecordFits}
 use Rattle.jfr_scrub.specs.Left.{HasRange}
-use Rattle.jfr_scrub.specs.Staying.{stay_as}
+use Rattle.jfr_scrub.specs.OutputRecords.{output_record_as}
 use Rattle.jfr_scrub.proofs.BodyLaws.{WrittenFits, going_none, going_next, going_all, going_room}
 use Rattle.jfr_scrub.proofs.CursorLaws.{cursor_first}
 use Rattle.jfr_scrub.proofs.RunLaws.{going_run, going_within}
 use Rattle.jfr_scrub.proofs.FitLaws.{all_fit, all_within, left_order, left_ranges, some_written}
 use Rattle.jfr_scrub.proofs.body.lay_body.Goals as goal
 
-pub stays-init : goal.stays-init
-stays-init c =
+pub output_records-init : goal.output_records-init
+output_records-init c =
     let p = c.args.chunk.now in
     let a = c.bytes.ensures.parts in
     let kept = kept_by p c.args.kept.now in
@@ -23,49 +23,49 @@ stays-init c =
     let start = new ∙ ap (λ (z : List _). record { chunk = z; bytes = [] }) c.bytes.ensures.exact in
     record {
       cursor = cursor_first p c.args.kept.now a;
-      body = going_none p c.args.left.now (stays p kept) _ (λ i. record { output = start i; at = 68; older = None; metadata = None })
-          (subst (λ (z : List EntryAt). AllByRecursion (WrittenFits p.bytes z) (written p.bytes z 68 None (stays p kept))) (sym c.requires) (all_fit p a kept))
-          (subst (λ (z : List EntryAt). 68 + length (flat_map (written_bytes p.bytes z) (written p.bytes z 68 None (stays p kept))) ≤ length p.bytes) (sym c.requires) (all_within p a kept));
+      body = going_none p c.args.left.now (output_records p kept) _ (λ i. record { output = start i; at = 68; older = None; metadata = None })
+          (subst (λ (z : List EntryAt). AllByRecursion (WrittenFits p.bytes z) (written p.bytes z 68 None (output_records p kept))) (sym c.requires) (all_fit p a kept))
+          (subst (λ (z : List EntryAt). 68 + length (flat_map (written_bytes p.bytes z) (written p.bytes z 68 None (output_records p kept))) ≤ length p.bytes) (sym c.requires) (all_within p a kept));
     }
 
 pub lay_run-requires-clause-order : goal.lay_run-requires-clause-order
 lay_run-requires-clause-order c = tiles_order c.args.chunk.now.bytes c.pass_run.result.from c.pass_run.result.to c.pass_run.ensures.run.records c.pass_run.ensures.run.tiles
 
 pub lay_run-requires-clause-within : goal.lay_run-requires-clause-within
-lay_run-requires-clause-within c = subst (λ (z : List _). c.pass_run.result.to ≤ length z) (sym c.stays.invariant.body.chunk) c.pass_run.ensures.run.within
+lay_run-requires-clause-within c = subst (λ (z : List _). c.pass_run.result.to ≤ length z) (sym c.output_records.invariant.body.chunk) c.pass_run.ensures.run.within
 
 pub lay_run-requires-clause-room : goal.lay_run-requires-clause-room
 lay_run-requires-clause-room c =
-    let g = going_run _ _ _ _ _ _ _ _ _ _ c.pass_run.ensures.run c.stays.invariant.body refl refl in
-    subst (λ (z : List _). c.stays.body.at + (c.pass_run.result.to - c.pass_run.result.from) ≤ length z) (sym c.stays.invariant.body.chunk) (going_within _ _ _ _ _ g)
+    let g = going_run _ _ _ _ _ _ _ _ _ _ c.pass_run.ensures.run c.output_records.invariant.body refl refl in
+    subst (λ (z : List _). c.output_records.body.at + (c.pass_run.result.to - c.pass_run.result.from) ≤ length z) (sym c.output_records.invariant.body.chunk) (going_within _ _ _ _ _ g)
 
 pub returns-in_default-clause-ok : goal.returns-in_default-clause-ok
-returns-in_default-clause-ok c = going_all _ _ _ _ _ (going_run _ _ _ _ _ _ _ _ _ _ c.pass_run.ensures.run c.stays.invariant.body c.in_ok-lay_run.ensures.ok c.in_default.ensures.exact) refl
+returns-in_default-clause-ok c = going_all _ _ _ _ _ (going_run _ _ _ _ _ _ _ _ _ _ c.pass_run.ensures.run c.output_records.invariant.body c.in_ok-lay_run.ensures.ok c.in_default.ensures.exact) refl
 
-pub lay_stay-requires-clause-fits : goal.lay_stay-requires-clause-fits
-lay_stay-requires-clause-fits c =
-    let g = going_run _ _ _ _ _ _ _ _ _ _ c.pass_run.ensures.run c.stays.invariant.body c.in_ok-lay_run.ensures.ok c.in-Some.ensures.exact in
-    subst (λ (z : List _). StayFits z c.args.left.now (stay_as c.in-Some.stay) c.lay_run.new.body.at c.lay_run.new.body.older) (sym g.chunk) g.fits.0
+pub lay_record-requires-clause-fits : goal.lay_record-requires-clause-fits
+lay_record-requires-clause-fits c =
+    let g = going_run _ _ _ _ _ _ _ _ _ _ c.pass_run.ensures.run c.output_records.invariant.body c.in_ok-lay_run.ensures.ok c.in-Some.ensures.exact in
+    subst (λ (z : List _). OutputRecordFits z c.args.left.now (output_record_as c.in-Some.output_record) c.lay_run.new.body.at c.lay_run.new.body.older) (sym g.chunk) g.fits.0
 
-pub lay_stay-requires-clause-order : goal.lay_stay-requires-clause-order
-lay_stay-requires-clause-order c = subst (NotFalling 0) (sym c.requires) (left_order c.args.chunk.now c.bytes.ensures.parts (kept_by c.args.chunk.now c.args.kept.now))
+pub lay_record-requires-clause-order : goal.lay_record-requires-clause-order
+lay_record-requires-clause-order c = subst (NotFalling 0) (sym c.requires) (left_order c.args.chunk.now c.bytes.ensures.parts (kept_by c.args.chunk.now c.args.kept.now))
 
-pub lay_stay-requires-clause-ranges : goal.lay_stay-requires-clause-ranges
-lay_stay-requires-clause-ranges c =
+pub lay_record-requires-clause-ranges : goal.lay_record-requires-clause-ranges
+lay_record-requires-clause-ranges c =
     let p = c.args.chunk.now in
-    let g = going_run _ _ _ _ _ _ _ _ _ _ c.pass_run.ensures.run c.stays.invariant.body c.in_ok-lay_run.ensures.ok c.in-Some.ensures.exact in
+    let g = going_run _ _ _ _ _ _ _ _ _ _ c.pass_run.ensures.run c.output_records.invariant.body c.in_ok-lay_run.ensures.ok c.in-Some.ensures.exact in
     subst (λ (z : List _). AllByRecursion (HasRange (length z)) c.args.left.now) (sym g.chunk)
     (subst (AllByRecursion (HasRange (length p.bytes))) (sym c.requires) (left_ranges p c.bytes.ensures.parts (kept_by p c.args.kept.now)))
 
-pub lay_stay-requires-clause-room : goal.lay_stay-requires-clause-room
-lay_stay-requires-clause-room c =
-    let g = going_run _ _ _ _ _ _ _ _ _ _ c.pass_run.ensures.run c.stays.invariant.body c.in_ok-lay_run.ensures.ok c.in-Some.ensures.exact in
-    subst (λ (z : List _). c.lay_run.new.body.at + length (bytes_of z c.args.left.now (stay_as c.in-Some.stay) c.lay_run.new.body.at c.lay_run.new.body.older) ≤ length z) (sym g.chunk) (going_room _ _ _ _ _ _ g)
+pub lay_record-requires-clause-room : goal.lay_record-requires-clause-room
+lay_record-requires-clause-room c =
+    let g = going_run _ _ _ _ _ _ _ _ _ _ c.pass_run.ensures.run c.output_records.invariant.body c.in_ok-lay_run.ensures.ok c.in-Some.ensures.exact in
+    subst (λ (z : List _). c.lay_run.new.body.at + length (bytes_of z c.args.left.now (output_record_as c.in-Some.output_record) c.lay_run.new.body.at c.lay_run.new.body.older) ≤ length z) (sym g.chunk) (going_room _ _ _ _ _ _ g)
 
-pub stays-preserved : goal.stays-preserved
-stays-preserved c =
-    let g = going_run _ _ _ _ _ _ _ _ _ _ c.pass_run.ensures.run c.stays.invariant.body c.in_ok-lay_run.ensures.ok c.in-Some.ensures.exact in
+pub output_records-preserved : goal.output_records-preserved
+output_records-preserved c =
+    let g = going_run _ _ _ _ _ _ _ _ _ _ c.pass_run.ensures.run c.output_records.invariant.body c.in_ok-lay_run.ensures.ok c.in-Some.ensures.exact in
     record {
       cursor = c.in-Some.ensures.cursor;
-      body = going_next _ _ _ _ _ _ _ _ g (ap (λ (h : Header). h.metadata) c.header.ensures) c.in_ok-lay_stay.ensures.ok (some_written c.args.chunk.now.bytes c.args.left.now (stay_as c.in-Some.stay) c.lay_run.new.body.at c.lay_run.new.body.older g.fits.0);
+      body = going_next _ _ _ _ _ _ _ _ g (ap (λ (h : Header). h.metadata) c.header.ensures) c.in_ok-lay_record.ensures.ok (some_written c.args.chunk.now.bytes c.args.left.now (output_record_as c.in-Some.output_record) c.lay_run.new.body.at c.lay_run.new.body.older g.fits.0);
     }

@@ -1,5 +1,5 @@
 use Rattle.std.proofs.Common.{arith, sym, ◌∙◌}
-use Rattle.jfr_scrub.proofs.AheadLaws.{counts_small}
+use Rattle.jfr_scrub.proofs.GallopingLaws.{counts_small}
 use Rattle.jfr_scrub.proofs.RunLaws.{at_run, passes_next, passes_none}
 use Rattle.jfr_scrub.proofs.run.pass_each.Goals as goal
 

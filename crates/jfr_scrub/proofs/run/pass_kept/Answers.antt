@@ -1,6 +1,6 @@
 use Rattle.std.proofs.Common.{arith, sym, ◌∙◌}
 use Rattle.jfr_scrub.specs.Runs.{HasRoom}
-use Rattle.jfr_scrub.proofs.AheadLaws.{room_behind}
+use Rattle.jfr_scrub.proofs.GallopingLaws.{room_behind}
 use Rattle.jfr_scrub.proofs.RunLaws.{AllKept, ends_events, passes_events}
 use Rattle.jfr_scrub.proofs.run.pass_kept.Goals as goal
 

@@ -6,23 +6,23 @@ use Rattle.std.specs.Option.{option_map}
 use Rattle.std.specs.Str.{chars}
 use Rattle.jfr_layout.specs.declared.form.Form.TheVariants as forms
 use Rattle.jfr_layout.specs.declared.shape.Shape.{Shape}
-use Rattle.jfr_layout.specs.declared.slot.Slot.{Slot}
-use Rattle.jfr_layout.specs.Classes.{Class, AreSlots, Sound, find_class, item_of}
+use Rattle.jfr_layout.specs.declared.field_layout.FieldLayout.{FieldLayout}
+use Rattle.jfr_layout.specs.Classes.{Class, AreFieldLayouts, Sound, find_class, item_of}
 use Rattle.jfr_value.specs.Nodes.{EndsAt, IsNode, IsRow, node_at, node_of}
 use Rattle.jfr_value.specs.Values.{Values}
 use Rattle.jfr_value.specs.Visits.{field_shapes}
-use Rattle.jfr_value.specs.Walks.{IsSlotIfKnown, Room}
+use Rattle.jfr_value.specs.Walks.{IsLayoutIfKnown, Room}
 use Rattle.jfr_value.proofs.FormLaws.{fields_kind, inline_there}
 use Rattle.jfr_value.proofs.StackLaws.{inner_room}
 use Rattle.jfr_value.proofs.VisitLaws.{room_within, field_next, item_next, items_past, fields_past, room_first}
-use Rattle.jfr_value.proofs.SlotLaws.{few_fields, field_of, no_slot}
+use Rattle.jfr_value.proofs.LayoutLaws.{few_fields, field_of, no_layout}
 use Rattle.jfr_value.proofs.DepthLaws.{sound_inline}
 use Rattle.jfr_pool.specs.Entries.{in_force}
 use Rattle.jfr_show.specs.declared.depth.Depth.{Depth}
 use Rattle.jfr_show.specs.Depths.{deepest}
 use Rattle.jfr_show.specs.Shown.{node_shown, referred, shown, shown_all}
 use Rattle.jfr_show.specs.Texts.{indent}
-use Rattle.jfr_show.proofs.SlotForms.{inline_slot, integer_stands, key_stands, text_stands, array_stands, is_composite, is_array, item_known}
+use Rattle.jfr_show.proofs.LayoutForms.{inline_layout, integer_stands, key_stands, text_stands, array_stands, is_composite, is_array, item_known}
 use Rattle.jfr_show.proofs.ShownLaws.{integer_shown, raw_shown, reference_shown, key_shown, string_shown, composite_shown, array_shown}
 use Rattle.jfr_show.proofs.ReferLaws.{by_answer, no_entry, entry_found, refer_missing, refer_name, refer_value, node_is}
 use Rattle.jfr_show.proofs.LineLaws.{onto_items, onto_fields, item_line, field_line, no_items, no_fields, fields_from, items_close, fields_close}
@@ -33,43 +33,43 @@ pub show_fields-show_value-requires : goal.show_fields-show_value-requires
 show_fields-show_value-requires t c =
     let same : c.classes-classes.result.now ≡ c.args.chunk.now.classes = c.classes-classes.ensures in
     let there : slice_get c.args.chunk.now.classes c.args.place ≡ Some c.class_at-info.result.now = ap (λ z. slice_get z c.args.place) (sym same) ∙ c.class_at-info.ensures in
-    let slots : IfSome (slice_get c.args.chunk.now.classes c.args.place) (λ d. AreSlots c.args.chunk.now.classes d.fields c.slots-slot-items.result.now) = subst (λ z. IfSome (slice_get z c.args.place) (λ d. AreSlots z d.fields c.slots-slot-items.result.now)) same c.slots-slot-items.ensures.exact in
-    let slot = get_or c.slots-slot-items.result.now c.loop-slot.slot-index no_slot in
-    let f = field_of c.args.chunk.now.classes c.args.place c.loop-slot.slot-index c.slots-slot-items.result.now c.requires.placed slots c.loop-slot-test.true in
-    let x = field_next c.args.chunk.now.classes c.args.place c.loop-slot.slot-index f.field slot.shape f.there f.shape in
+    let layouts : IfSome (slice_get c.args.chunk.now.classes c.args.place) (λ d. AreFieldLayouts c.args.chunk.now.classes d.fields c.layouts-layout-items.result.now) = subst (λ z. IfSome (slice_get z c.args.place) (λ d. AreFieldLayouts z d.fields c.layouts-layout-items.result.now)) same c.layouts-layout-items.ensures.exact in
+    let layout = get_or c.layouts-layout-items.result.now c.loop-layout.layout-index no_layout in
+    let f = field_of c.args.chunk.now.classes c.args.place c.loop-layout.layout-index c.layouts-layout-items.result.now c.requires.placed layouts c.loop-layout-test.true in
+    let x = field_next c.args.chunk.now.classes c.args.place c.loop-layout.layout-index f.field layout.shape f.there f.shape in
     let references : c.of_fields-inner.result.reach.references ≡ c.args.depth.reach.references = ap (λ (z : Depth). z.reach.references) c.of_fields-inner.ensures in
     let composites : c.of_fields-inner.result.reach.composites ≡ c.args.depth.reach.composites - 1 = ap (λ (z : Depth). z.reach.composites) c.of_fields-inner.ensures in
     let deeper : c.of_fields-inner.result.level ≡ c.args.depth.level + 1 = ap (λ (z : Depth). z.level) c.of_fields-inner.ensures in
     let r = c.requires.stand in
-    let h = left_there c.args.chunk.now.classes c.args.chunk.now.bytes r.0 _ _ slot.shape _ _ c.loop-slot.to c.loop-slot.out (c.loop-slot.invariant.left r.0 r.1 c.class_at-info.result.now r.2 r.3 there) x in
-    let stands : (to : ℕ) × EndsAt c.args.chunk.now.classes c.args.chunk.now.bytes slot.shape c.loop-slot.to to × (to ≤ c.args.limit) = (let w = h.within in let l = r.3 in (h.place, (h.value, h.node), omega arith)) in
-    let known : IsSlotIfKnown c.args.chunk.now.classes slot = (let s = f.of_class in record { form = s.form; of_class = λ o h. s }) in
-    let room : Room c.args.chunk.now.classes c.of_fields-inner.result.reach.composites slot.shape = subst (λ z. Room c.args.chunk.now.classes z slot.shape) (sym composites) (room_first (Room c.args.chunk.now.classes (c.args.depth.reach.composites - 1)) (field_shapes c.args.chunk.now.classes c.args.place) c.loop-slot.slot-index slot.shape _ c.requires.room x) in
+    let h = left_there c.args.chunk.now.classes c.args.chunk.now.bytes r.0 _ _ layout.shape _ _ c.loop-layout.to c.loop-layout.out (c.loop-layout.invariant.left r.0 r.1 c.class_at-info.result.now r.2 r.3 there) x in
+    let stands : (to : ℕ) × EndsAt c.args.chunk.now.classes c.args.chunk.now.bytes layout.shape c.loop-layout.to to × (to ≤ c.args.limit) = (let w = h.within in let l = r.3 in (h.place, (h.value, h.node), omega arith)) in
+    let known : IsLayoutIfKnown c.args.chunk.now.classes layout = (let s = f.of_class in record { form = s.form; of_class = λ o h. s }) in
+    let room : Room c.args.chunk.now.classes c.of_fields-inner.result.reach.composites layout.shape = subst (λ z. Room c.args.chunk.now.classes z layout.shape) (sym composites) (room_first (Room c.args.chunk.now.classes (c.args.depth.reach.composites - 1)) (field_shapes c.args.chunk.now.classes c.args.place) c.loop-layout.layout-index layout.shape _ c.requires.room x) in
     search (rules, stands, known, room, references, composites, deeper)
 
-pub show_fields-loop-slot-preserved : goal.show_fields-loop-slot-preserved
-show_fields-loop-slot-preserved t c =
+pub show_fields-loop-layout-preserved : goal.show_fields-loop-layout-preserved
+show_fields-loop-layout-preserved t c =
     let deep = c.of_fields-inner.ensures in
     let deeper : c.of_fields-inner.result.level ≡ c.args.depth.level + 1 = ap (λ (z : Depth). z.level) c.of_fields-inner.ensures in
     let same : c.classes-classes.result.now ≡ c.args.chunk.now.classes = c.classes-classes.ensures in
     let there : slice_get c.args.chunk.now.classes c.args.place ≡ Some c.class_at-info.result.now = ap (λ z. slice_get z c.args.place) (sym same) ∙ c.class_at-info.ensures in
-    let slots : IfSome (slice_get c.args.chunk.now.classes c.args.place) (λ d. AreSlots c.args.chunk.now.classes d.fields c.slots-slot-items.result.now) = subst (λ z. IfSome (slice_get z c.args.place) (λ d. AreSlots z d.fields c.slots-slot-items.result.now)) same c.slots-slot-items.ensures.exact in
-    let slot = get_or c.slots-slot-items.result.now c.loop-slot.slot-index no_slot in
-    let f = field_of c.args.chunk.now.classes c.args.place c.loop-slot.slot-index c.slots-slot-items.result.now c.requires.placed slots c.loop-slot-test.true in
-    let x = field_next c.args.chunk.now.classes c.args.place c.loop-slot.slot-index f.field slot.shape f.there f.shape in
+    let layouts : IfSome (slice_get c.args.chunk.now.classes c.args.place) (λ d. AreFieldLayouts c.args.chunk.now.classes d.fields c.layouts-layout-items.result.now) = subst (λ z. IfSome (slice_get z c.args.place) (λ d. AreFieldLayouts z d.fields c.layouts-layout-items.result.now)) same c.layouts-layout-items.ensures.exact in
+    let layout = get_or c.layouts-layout-items.result.now c.loop-layout.layout-index no_layout in
+    let f = field_of c.args.chunk.now.classes c.args.place c.loop-layout.layout-index c.layouts-layout-items.result.now c.requires.placed layouts c.loop-layout-test.true in
+    let x = field_next c.args.chunk.now.classes c.args.place c.loop-layout.layout-index f.field layout.shape f.there f.shape in
     record {
-      number = ap (λ z. z + 1) c.loop-slot.invariant.number;
+      number = ap (λ z. z + 1) c.loop-layout.invariant.number;
       left = λ to vs class r l q.
           let own : c.class_at-info.result.now ≡ class = (let z : Some c.class_at-info.result.now ≡ Some class = sym there ∙ q in cc) in
-          let got : slice_get class.fields c.loop-slot.slot-index ≡ Some c.at.result.now = ap (λ z. slice_get class.fields z) (sym c.loop-slot.invariant.number) ∙ (ap (λ (z : Class). slice_get z.fields c.loop-slot.number) (sym own) ∙ c.at.ensures) in
-          let rest = fields_from class.fields c.loop-slot.slot-index c.at.result.now got in
-          left_goes c.args.chunk.now.classes c.args.chunk.now.bytes to _ (onto_fields c.args.chunk.now.classes (referred c.args.chunk.now c.args.depth.reach.references) (c.args.depth.level + 1) (drop c.loop-slot.slot-index class.fields)) (onto_fields c.args.chunk.now.classes (referred c.args.chunk.now c.args.depth.reach.references) (c.args.depth.level + 1) (drop (c.loop-slot.slot-index + 1) class.fields)) slot.shape _ _ c.loop-slot.to c.loop-slot.out c.args.limit c.in_ok-to.to c.push_ascii-in-loop-slot-2.new.self
-          (c.loop-slot.invariant.left to vs class r l q) x l
+          let got : slice_get class.fields c.loop-layout.layout-index ≡ Some c.at.result.now = ap (λ z. slice_get class.fields z) (sym c.loop-layout.invariant.number) ∙ (ap (λ (z : Class). slice_get z.fields c.loop-layout.number) (sym own) ∙ c.at.ensures) in
+          let rest = fields_from class.fields c.loop-layout.layout-index c.at.result.now got in
+          left_goes c.args.chunk.now.classes c.args.chunk.now.bytes to _ (onto_fields c.args.chunk.now.classes (referred c.args.chunk.now c.args.depth.reach.references) (c.args.depth.level + 1) (drop c.loop-layout.layout-index class.fields)) (onto_fields c.args.chunk.now.classes (referred c.args.chunk.now c.args.depth.reach.references) (c.args.depth.level + 1) (drop (c.loop-layout.layout-index + 1) class.fields)) layout.shape _ _ c.loop-layout.to c.loop-layout.out c.args.limit c.in_ok-to.to c.push_ascii-in-loop-layout-2.new.self
+          (c.loop-layout.invariant.left to vs class r l q) x l
           (λ p v n m. let h = c.in_ok-to.ensures.ok p v n m in (
             h.0,
-            λ ws. field_line c.args.chunk.now.classes (referred c.args.chunk.now c.args.depth.reach.references) (c.args.depth.level + 1) _ _ c.at.result.now (chars c.as_str-in-loop-slot.result.now) c.loop-slot.out c.push_indent.new.self c.push_str-in-loop-slot.new.self c.push_ascii-in-loop-slot.new.self c.show_value.new.out c.push_ascii-in-loop-slot-2.new.self v ws
-                rest c.as_str-in-loop-slot.ensures (c.in_ok-push_indent.ensures.ok ∙ ap (λ z. c.loop-slot.out ++ indent z) deeper) c.in_ok-push_str-2.ensures.ok c.in_ok-push_ascii-2.ensures.ok
-                (h.1 ∙ ap (λ (z : Depth). c.push_ascii-in-loop-slot.new.self ++ shown c.args.chunk.now.classes (referred c.args.chunk.now z.reach.references) z.level v) deep) c.in_ok-push_ascii-3.ensures.ok,
+            λ ws. field_line c.args.chunk.now.classes (referred c.args.chunk.now c.args.depth.reach.references) (c.args.depth.level + 1) _ _ c.at.result.now (chars c.as_str-in-loop-layout.result.now) c.loop-layout.out c.push_indent.new.self c.push_str-in-loop-layout.new.self c.push_ascii-in-loop-layout.new.self c.show_value.new.out c.push_ascii-in-loop-layout-2.new.self v ws
+                rest c.as_str-in-loop-layout.ensures (c.in_ok-push_indent.ensures.ok ∙ ap (λ z. c.loop-layout.out ++ indent z) deeper) c.in_ok-push_str-2.ensures.ok c.in_ok-push_ascii-2.ensures.ok
+                (h.1 ∙ ap (λ (z : Depth). c.push_ascii-in-loop-layout.new.self ++ shown c.args.chunk.now.classes (referred c.args.chunk.now z.reach.references) z.level v) deep) c.in_ok-push_ascii-3.ensures.ok,
           ));
     }
 
@@ -77,44 +77,44 @@ pub show_fields-returns : goal.show_fields-returns
 show_fields-returns t c =
     let same : c.classes-classes.result.now ≡ c.args.chunk.now.classes = c.classes-classes.ensures in
     let there : slice_get c.args.chunk.now.classes c.args.place ≡ Some c.class_at-info.result.now = ap (λ z. slice_get z c.args.place) (sym same) ∙ c.class_at-info.ensures in
-    let slots : IfSome (slice_get c.args.chunk.now.classes c.args.place) (λ d. AreSlots c.args.chunk.now.classes d.fields c.slots-slot-items.result.now) = subst (λ z. IfSome (slice_get z c.args.place) (λ d. AreSlots z d.fields c.slots-slot-items.result.now)) same c.slots-slot-items.ensures.exact in
+    let layouts : IfSome (slice_get c.args.chunk.now.classes c.args.place) (λ d. AreFieldLayouts c.args.chunk.now.classes d.fields c.layouts-layout-items.result.now) = subst (λ z. IfSome (slice_get z c.args.place) (λ d. AreFieldLayouts z d.fields c.layouts-layout-items.result.now)) same c.layouts-layout-items.ensures.exact in
     record {
       ok = λ to vs class r l q.
           let own : c.class_at-info.result.now ≡ class = (let z : Some c.class_at-info.result.now ≡ Some class = sym there ∙ q in cc) in
-          let past = fields_past c.args.chunk.now.classes c.args.place c.loop-slot.slot-index c.requires.placed (few_fields c.args.chunk.now.classes c.args.place c.loop-slot.slot-index c.slots-slot-items.result.now c.requires.placed slots c.loop-slot-test.false) in
-          let e = left_ends c.args.chunk.now.classes c.args.chunk.now.bytes to _ (onto_fields c.args.chunk.now.classes (referred c.args.chunk.now c.args.depth.reach.references) (c.args.depth.level + 1) (drop c.loop-slot.slot-index class.fields)) _ c.loop-slot.to c.loop-slot.out (c.loop-slot.invariant.left to vs class r l q) past (no_fields c.args.chunk.now.classes (referred c.args.chunk.now c.args.depth.reach.references) (c.args.depth.level + 1) (drop c.loop-slot.slot-index class.fields) c.loop-slot.out) in
+          let past = fields_past c.args.chunk.now.classes c.args.place c.loop-layout.layout-index c.requires.placed (few_fields c.args.chunk.now.classes c.args.place c.loop-layout.layout-index c.layouts-layout-items.result.now c.requires.placed layouts c.loop-layout-test.false) in
+          let e = left_ends c.args.chunk.now.classes c.args.chunk.now.bytes to _ (onto_fields c.args.chunk.now.classes (referred c.args.chunk.now c.args.depth.reach.references) (c.args.depth.level + 1) (drop c.loop-layout.layout-index class.fields)) _ c.loop-layout.to c.loop-layout.out (c.loop-layout.invariant.left to vs class r l q) past (no_fields c.args.chunk.now.classes (referred c.args.chunk.now c.args.depth.reach.references) (c.args.depth.level + 1) (drop c.loop-layout.layout-index class.fields) c.loop-layout.out) in
           let name : c.push_str.new.self ≡ c.args.out.now ++ class.name = c.in_ok-push_str.ensures.ok ∙ (ap (λ z. c.args.out.now ++ z) c.as_str.ensures ∙ ap (λ (z : Class). c.args.out.now ++ z.name) own) in
-          (e.0, fields_close c.args.depth.level class (shown_all c.args.chunk.now.classes (referred c.args.chunk.now c.args.depth.reach.references) (c.args.depth.level + 1) vs) c.args.out.now c.push_str.new.self c.push_ascii.new.self c.loop-slot.out c.push_indent-2.new.self c.push_ascii-2.new.self name c.in_ok-push_ascii.ensures.ok e.1 c.in_ok-push_indent-2.ensures.ok c.in_ok-push_ascii-4.ensures.ok);
+          (e.0, fields_close c.args.depth.level class (shown_all c.args.chunk.now.classes (referred c.args.chunk.now c.args.depth.reach.references) (c.args.depth.level + 1) vs) c.args.out.now c.push_str.new.self c.push_ascii.new.self c.loop-layout.out c.push_indent-2.new.self c.push_ascii-2.new.self name c.in_ok-push_ascii.ensures.ok e.1 c.in_ok-push_indent-2.ensures.ok c.in_ok-push_ascii-4.ensures.ok);
     }
 
 pub show_items-integer_at-count-requires-clause-stands : goal.show_items-integer_at-count-requires-clause-stands
 show_items-integer_at-count-requires-clause-stands t c =
     let r = c.requires.stands in
-    array_stands c.args.chunk.now.classes c.args.chunk.now.bytes c.args.at r.0 c.args.limit c.args.slot.now r.2 c.requires.within c.requires.slot r.1.0 r.1.1 c.requires.array
+    array_stands c.args.chunk.now.classes c.args.chunk.now.bytes c.args.at r.0 c.args.limit c.args.layout.now r.2 c.requires.within c.requires.layout r.1.0 r.1.1 c.requires.array
 
 pub show_items-show_value-requires : goal.show_items-show_value-requires
 show_items-show_value-requires t c =
-    let flat : c.item_slot-item.result.shape ≡ item_of c.args.slot.now.shape = ap (λ (z : Slot). z.shape) c.item_slot-item.ensures in
-    let next = item_next c.integer_at-count.result.value c.items.counter (item_of c.args.slot.now.shape) c.items-test.true in
+    let flat : c.item_layout-item.result.shape ≡ item_of c.args.layout.now.shape = ap (λ (z : FieldLayout). z.shape) c.item_layout-item.ensures in
+    let next = item_next c.integer_at-count.result.value c.items.counter (item_of c.args.layout.now.shape) c.items-test.true in
     let references : c.of_items-inner.result.reach.references ≡ c.args.depth.reach.references = ap (λ (z : Depth). z.reach.references) c.of_items-inner.ensures in
     let composites : c.of_items-inner.result.reach.composites ≡ c.args.depth.reach.composites = ap (λ (z : Depth). z.reach.composites) c.of_items-inner.ensures in
     let deeper : c.of_items-inner.result.level ≡ c.args.depth.level + 1 = ap (λ (z : Depth). z.level) c.of_items-inner.ensures in
     let r = c.requires.stands in
-    let f = is_array c.args.chunk.now.classes c.args.chunk.now.bytes c.args.at r.0 c.args.limit c.args.slot.now r.2 c.requires.within c.requires.slot r.1.0 r.1.1 c.requires.array c.integer_at-count.result c.integer_at-count.ensures in
-    let h = left_there c.args.chunk.now.classes c.args.chunk.now.bytes r.0 _ _ (item_of c.args.slot.now.shape) _ _ c.items.to c.items.out (c.items.invariant r.0 f.parts f.row r.2) next in
-    let stands : (to : ℕ) × EndsAt c.args.chunk.now.classes c.args.chunk.now.bytes c.item_slot-item.result.shape c.items.to to × (to ≤ c.args.limit) = (let w = h.within in let l = r.2 in (h.place, subst (λ (z : Shape). EndsAt c.args.chunk.now.classes c.args.chunk.now.bytes z c.items.to h.place) (sym flat) (h.value, h.node), omega arith)) in
-    let known : IsSlotIfKnown c.args.chunk.now.classes c.item_slot-item.result = item_known c.args.chunk.now.classes c.args.slot.now c.item_slot-item.result c.requires.slot c.item_slot-item.ensures in
-    let room : Room c.args.chunk.now.classes c.of_items-inner.result.reach.composites c.item_slot-item.result.shape = subst (λ z. Room c.args.chunk.now.classes z c.item_slot-item.result.shape) (sym composites) (subst (λ (z : Shape). Room c.args.chunk.now.classes c.args.depth.reach.composites z) (sym flat) c.requires.room) in
-    let single : c.item_slot-item.result.shape.array ≡ false = ap (λ (z : Shape). z.array) flat in
+    let f = is_array c.args.chunk.now.classes c.args.chunk.now.bytes c.args.at r.0 c.args.limit c.args.layout.now r.2 c.requires.within c.requires.layout r.1.0 r.1.1 c.requires.array c.integer_at-count.result c.integer_at-count.ensures in
+    let h = left_there c.args.chunk.now.classes c.args.chunk.now.bytes r.0 _ _ (item_of c.args.layout.now.shape) _ _ c.items.to c.items.out (c.items.invariant r.0 f.parts f.row r.2) next in
+    let stands : (to : ℕ) × EndsAt c.args.chunk.now.classes c.args.chunk.now.bytes c.item_layout-item.result.shape c.items.to to × (to ≤ c.args.limit) = (let w = h.within in let l = r.2 in (h.place, subst (λ (z : Shape). EndsAt c.args.chunk.now.classes c.args.chunk.now.bytes z c.items.to h.place) (sym flat) (h.value, h.node), omega arith)) in
+    let known : IsLayoutIfKnown c.args.chunk.now.classes c.item_layout-item.result = item_known c.args.chunk.now.classes c.args.layout.now c.item_layout-item.result c.requires.layout c.item_layout-item.ensures in
+    let room : Room c.args.chunk.now.classes c.of_items-inner.result.reach.composites c.item_layout-item.result.shape = subst (λ z. Room c.args.chunk.now.classes z c.item_layout-item.result.shape) (sym composites) (subst (λ (z : Shape). Room c.args.chunk.now.classes c.args.depth.reach.composites z) (sym flat) c.requires.room) in
+    let single : c.item_layout-item.result.shape.array ≡ false = ap (λ (z : Shape). z.array) flat in
     search (rules, stands, known, room, single, references, composites, deeper)
 
 pub show_items-items-preserved : goal.show_items-items-preserved
 show_items-items-preserved t c =
-    let flat : c.item_slot-item.result.shape ≡ item_of c.args.slot.now.shape = ap (λ (z : Slot). z.shape) c.item_slot-item.ensures in
-    let next = item_next c.integer_at-count.result.value c.items.counter (item_of c.args.slot.now.shape) c.items-test.true in
+    let flat : c.item_layout-item.result.shape ≡ item_of c.args.layout.now.shape = ap (λ (z : FieldLayout). z.shape) c.item_layout-item.ensures in
+    let next = item_next c.integer_at-count.result.value c.items.counter (item_of c.args.layout.now.shape) c.items-test.true in
     let deeper : c.of_items-inner.result.level ≡ c.args.depth.level + 1 = ap (λ (z : Depth). z.level) c.of_items-inner.ensures in
     λ to vs r l.
-    left_goes c.args.chunk.now.classes c.args.chunk.now.bytes to _ (onto_items c.args.chunk.now.classes (referred c.args.chunk.now c.args.depth.reach.references) (c.args.depth.level + 1)) (onto_items c.args.chunk.now.classes (referred c.args.chunk.now c.args.depth.reach.references) (c.args.depth.level + 1)) (item_of c.args.slot.now.shape) _ _ c.items.to c.items.out c.args.limit c.in_ok-to.to c.push_ascii-in-items.new.self
+    left_goes c.args.chunk.now.classes c.args.chunk.now.bytes to _ (onto_items c.args.chunk.now.classes (referred c.args.chunk.now c.args.depth.reach.references) (c.args.depth.level + 1)) (onto_items c.args.chunk.now.classes (referred c.args.chunk.now c.args.depth.reach.references) (c.args.depth.level + 1)) (item_of c.args.layout.now.shape) _ _ c.items.to c.items.out c.args.limit c.in_ok-to.to c.push_ascii-in-items.new.self
     (c.items.invariant to vs r l) next l
     (λ p v n m. let h = c.in_ok-to.ensures.ok p v (subst (λ (z : Shape). IsNode c.args.chunk.now.classes c.args.chunk.now.bytes (node_at z c.items.to p) v) (sym flat) n) m in (
       h.0,
@@ -127,11 +127,11 @@ pub show_items-returns : goal.show_items-returns
 show_items-returns t c =
     record {
       ok = λ to v i l.
-          let f = is_array c.args.chunk.now.classes c.args.chunk.now.bytes c.args.at to c.args.limit c.args.slot.now l c.requires.within c.requires.slot v i c.requires.array c.integer_at-count.result c.integer_at-count.ensures in
-          let e = left_ends c.args.chunk.now.classes c.args.chunk.now.bytes to _ (onto_items c.args.chunk.now.classes (referred c.args.chunk.now c.args.depth.reach.references) (c.args.depth.level + 1)) _ c.items.to c.items.out (c.items.invariant to f.parts f.row l) (items_past c.integer_at-count.result.value c.items.counter (item_of c.args.slot.now.shape) c.items-test.false) (no_items c.args.chunk.now.classes (referred c.args.chunk.now c.args.depth.reach.references) (c.args.depth.level + 1) c.items.out) in (
+          let f = is_array c.args.chunk.now.classes c.args.chunk.now.bytes c.args.at to c.args.limit c.args.layout.now l c.requires.within c.requires.layout v i c.requires.array c.integer_at-count.result c.integer_at-count.ensures in
+          let e = left_ends c.args.chunk.now.classes c.args.chunk.now.bytes to _ (onto_items c.args.chunk.now.classes (referred c.args.chunk.now c.args.depth.reach.references) (c.args.depth.level + 1)) _ c.items.to c.items.out (c.items.invariant to f.parts f.row l) (items_past c.integer_at-count.result.value c.items.counter (item_of c.args.layout.now.shape) c.items-test.false) (no_items c.args.chunk.now.classes (referred c.args.chunk.now c.args.depth.reach.references) (c.args.depth.level + 1) c.items.out) in (
             e.0,
             items_close c.args.depth.level (shown_all c.args.chunk.now.classes (referred c.args.chunk.now c.args.depth.reach.references) (c.args.depth.level + 1) f.parts) c.args.out.now c.push_ascii.new.self c.items.out c.push_indent-2.new.self c.push_ascii-2.new.self c.in_ok-push_ascii.ensures.ok e.1 c.in_ok-push_indent-2.ensures.ok c.in_ok-push_ascii-3.ensures.ok
-                ∙ ap (λ z. c.args.out.now ++ z) (sym (array_shown c.args.chunk.now.classes (referred c.args.chunk.now c.args.depth.reach.references) c.args.depth.level c.args.slot.now.shape f.head f.parts v f.value c.requires.array)),
+                ∙ ap (λ z. c.args.out.now ++ z) (sym (array_shown c.args.chunk.now.classes (referred c.args.chunk.now c.args.depth.reach.references) c.args.depth.level c.args.layout.now.shape f.head f.parts v f.value c.requires.array)),
           );
     }
 
@@ -139,13 +139,13 @@ pub show_node-show_value-requires : goal.show_node-show_value-requires
 show_node-show_value-requires t c =
     let v = c.requires.value in
     let n : IsNode c.args.chunk.now.classes c.args.chunk.now.bytes (node_of c.args.node.now) v.0 = subst (λ z. IsNode c.args.chunk.now.classes z (node_of c.args.node.now) v.0) c.requires.of_chunk v.1 in
-    let there : IsNode c.args.chunk.now.classes c.args.chunk.now.bytes (node_at c.slot_of-slot.result.shape c.args.node.now.at c.args.node.now.end) v.0 = subst (λ (z : Shape). IsNode c.args.chunk.now.classes c.args.chunk.now.bytes (node_at z c.args.node.now.at c.args.node.now.end) v.0) (sym c.slot_of-slot.ensures.shape) n in
-    let stands : (to : ℕ) × EndsAt c.args.chunk.now.classes c.args.chunk.now.bytes c.slot_of-slot.result.shape c.args.node.now.at to × (to ≤ c.args.node.now.end) = (c.args.node.now.end, (v.0, there), omega arith) in
+    let there : IsNode c.args.chunk.now.classes c.args.chunk.now.bytes (node_at c.layout_of-layout.result.shape c.args.node.now.at c.args.node.now.end) v.0 = subst (λ (z : Shape). IsNode c.args.chunk.now.classes c.args.chunk.now.bytes (node_at z c.args.node.now.at c.args.node.now.end) v.0) (sym c.layout_of-layout.ensures.shape) n in
+    let stands : (to : ℕ) × EndsAt c.args.chunk.now.classes c.args.chunk.now.bytes c.layout_of-layout.result.shape c.args.node.now.at to × (to ≤ c.args.node.now.end) = (c.args.node.now.end, (v.0, there), omega arith) in
     let within : c.args.node.now.end ≤ length c.args.chunk.now.bytes = n.within in
-    let known : IsSlotIfKnown c.args.chunk.now.classes c.slot_of-slot.result = subst (λ z. IsSlotIfKnown z c.slot_of-slot.result) c.classes.ensures (record { form = c.slot_of-slot.ensures.form; of_class = λ o h. c.slot_of-slot.ensures.known (subst (λ (z : Shape). IsSome (find_class c.classes.result.now z.class)) c.slot_of-slot.ensures.shape h) }) in
-    let all : Room c.args.chunk.now.classes 33 c.slot_of-slot.result.shape = λ o d q m. sound_inline c.args.chunk.now.classes c.slot_of-slot.result.shape.class d (subst Sound c.classes.ensures c.slot_of-slot.ensures.sound) q in
-    let room : Room c.args.chunk.now.classes c.args.depth.reach.composites c.slot_of-slot.result.shape = subst (λ z. Room c.args.chunk.now.classes z c.slot_of-slot.result.shape) (sym c.requires.composites) all in
-    let level : deepest c.args.depth c.slot_of-slot.result.shape.array ≤ 1000 = subst (λ (z : Shape). deepest c.args.depth z.array ≤ 1000) (sym c.slot_of-slot.ensures.shape) c.requires.level in
+    let known : IsLayoutIfKnown c.args.chunk.now.classes c.layout_of-layout.result = subst (λ z. IsLayoutIfKnown z c.layout_of-layout.result) c.classes.ensures (record { form = c.layout_of-layout.ensures.form; of_class = λ o h. c.layout_of-layout.ensures.known (subst (λ (z : Shape). IsSome (find_class c.classes.result.now z.class)) c.layout_of-layout.ensures.shape h) }) in
+    let all : Room c.args.chunk.now.classes 33 c.layout_of-layout.result.shape = λ o d q m. sound_inline c.args.chunk.now.classes c.layout_of-layout.result.shape.class d (subst Sound c.classes.ensures c.layout_of-layout.ensures.sound) q in
+    let room : Room c.args.chunk.now.classes c.args.depth.reach.composites c.layout_of-layout.result.shape = subst (λ z. Room c.args.chunk.now.classes z c.layout_of-layout.result.shape) (sym c.requires.composites) all in
+    let level : deepest c.args.depth c.layout_of-layout.result.shape.array ≤ 1000 = subst (λ (z : Shape). deepest c.args.depth z.array ≤ 1000) (sym c.layout_of-layout.ensures.shape) c.requires.level in
     let composites = c.requires.composites in
     search (rules, stands, within, known, room, level, composites)
 
@@ -153,9 +153,9 @@ pub show_node-returns : goal.show_node-returns
 show_node-returns t c =
     let v = c.requires.value in
     let n : IsNode c.args.chunk.now.classes c.args.chunk.now.bytes (node_of c.args.node.now) v.0 = subst (λ z. IsNode c.args.chunk.now.classes z (node_of c.args.node.now) v.0) c.requires.of_chunk v.1 in
-    let there : IsNode c.args.chunk.now.classes c.args.chunk.now.bytes (node_at c.slot_of-slot.result.shape c.args.node.now.at c.args.node.now.end) v.0 = subst (λ (z : Shape). IsNode c.args.chunk.now.classes c.args.chunk.now.bytes (node_at z c.args.node.now.at c.args.node.now.end) v.0) (sym c.slot_of-slot.ensures.shape) n in
+    let there : IsNode c.args.chunk.now.classes c.args.chunk.now.bytes (node_at c.layout_of-layout.result.shape c.args.node.now.at c.args.node.now.end) v.0 = subst (λ (z : Shape). IsNode c.args.chunk.now.classes c.args.chunk.now.bytes (node_at z c.args.node.now.at c.args.node.now.end) v.0) (sym c.layout_of-layout.ensures.shape) n in
     let h = c.in_ok-_end.ensures.ok c.args.node.now.end v.0 there (omega arith) in
-    record { ok = h.1 ∙ ap (λ z. c.args.out.now ++ z) (sym (node_is c.args.chunk.now (subst Sound c.classes.ensures c.slot_of-slot.ensures.sound) (referred c.args.chunk.now c.args.depth.reach.references) c.args.depth.level (node_of c.args.node.now) v.0 n)) }
+    record { ok = h.1 ∙ ap (λ z. c.args.out.now ++ z) (sym (node_is c.args.chunk.now (subst Sound c.classes.ensures c.layout_of-layout.ensures.sound) (referred c.args.chunk.now c.args.depth.reach.references) c.args.depth.level (node_of c.args.node.now) v.0 n)) }
 
 pub show_reference-returns-in_default : goal.show_reference-returns-in_default
 show_reference-returns-in_default t c =
@@ -179,58 +179,58 @@ show_reference-returns t c =
 pub show_value-integer_at-number-requires-clause-stands : goal.show_value-integer_at-number-requires-clause-stands
 show_value-integer_at-number-requires-clause-stands t c =
     let r = c.requires.stands in
-    integer_stands c.args.chunk.now.classes c.args.chunk.now.bytes c.args.at r.0 c.args.limit c.args.slot.now r.2 c.requires.within c.requires.slot r.1.0 r.1.1 c.in-Integer.is
+    integer_stands c.args.chunk.now.classes c.args.chunk.now.bytes c.args.at r.0 c.args.limit c.args.layout.now r.2 c.requires.within c.requires.layout r.1.0 r.1.1 c.in-Integer.is
 
 pub show_value-integer_at-key-requires-clause-stands : goal.show_value-integer_at-key-requires-clause-stands
 show_value-integer_at-key-requires-clause-stands t c =
     let r = c.requires.stands in
-    key_stands c.args.chunk.now.classes c.args.chunk.now.bytes c.args.at r.0 c.args.limit c.args.slot.now r.2 c.requires.within c.requires.slot r.1.0 r.1.1 c.in-Key.is
+    key_stands c.args.chunk.now.classes c.args.chunk.now.bytes c.args.at r.0 c.args.limit c.args.layout.now r.2 c.requires.within c.requires.layout r.1.0 r.1.1 c.in-Key.is
 
 pub show_value-string_at-string-requires-clause-stands : goal.show_value-string_at-string-requires-clause-stands
 show_value-string_at-string-requires-clause-stands t c =
     let r = c.requires.stands in
-    text_stands c.args.chunk.now.classes c.args.chunk.now.bytes c.args.at r.0 c.args.limit c.args.slot.now r.2 c.requires.within c.requires.slot r.1.0 r.1.1 c.in-Text.is
+    text_stands c.args.chunk.now.classes c.args.chunk.now.bytes c.args.at r.0 c.args.limit c.args.layout.now r.2 c.requires.within c.requires.layout r.1.0 r.1.1 c.in-Text.is
 
 pub show_value-show_fields-requires : goal.show_value-show_fields-requires
 show_value-show_fields-requires t c =
     let r = c.requires.stands in
-    let m = inline_there c.args.slot.now c.requires.slot.form forms.Fields c.in-Fields.is tt in
-    let e = fields_kind c.args.slot.now.kind m.form in
-    let d = inline_slot c.args.chunk.now.classes c.args.chunk.now.bytes c.args.at r.0 c.args.limit c.args.slot.now r.2 c.requires.within c.requires.slot r.1.0 r.1.1 forms.Fields c.in-Fields.is tt in
-    let f = is_composite c.args.chunk.now.classes c.args.chunk.now.bytes c.args.at r.0 c.args.limit c.args.slot.now r.2 c.requires.within c.requires.slot r.1.0 r.1.1 c.in-Fields.is in
-    let room : AllByRecursion (Room c.args.chunk.now.classes (c.args.depth.reach.composites - 1)) (field_shapes c.args.chunk.now.classes c.args.slot.now.place) = room_within c.args.chunk.now.classes c.args.chunk.now.bytes c.args.at r.0 c.args.limit c.args.slot.now.shape r.2 c.requires.within c.args.slot.now.place c.args.slot.now.kind c.args.depth.reach.composites d e m.constant c.requires.room in
-    let inner : 1 ≤ c.args.depth.reach.composites = (inner_room c.args.chunk.now.classes c.args.depth.reach.composites c.args.slot.now.shape d.class c.requires.room m.constant d.found (sym d.kind_is ∙ e)).0 in
-    let within : c.args.slot.now.place < length c.args.chunk.now.classes = d.within in
-    let stand : (to : ℕ) × (vs : Values) × IsRow c.args.chunk.now.classes c.args.chunk.now.bytes c.args.at to (field_shapes c.args.chunk.now.classes c.args.slot.now.place) vs × (to ≤ c.args.limit) = (r.0, f.parts, f.row, r.2) in
+    let m = inline_there c.args.layout.now c.requires.layout.form forms.Fields c.in-Fields.is tt in
+    let e = fields_kind c.args.layout.now.kind m.form in
+    let d = inline_layout c.args.chunk.now.classes c.args.chunk.now.bytes c.args.at r.0 c.args.limit c.args.layout.now r.2 c.requires.within c.requires.layout r.1.0 r.1.1 forms.Fields c.in-Fields.is tt in
+    let f = is_composite c.args.chunk.now.classes c.args.chunk.now.bytes c.args.at r.0 c.args.limit c.args.layout.now r.2 c.requires.within c.requires.layout r.1.0 r.1.1 c.in-Fields.is in
+    let room : AllByRecursion (Room c.args.chunk.now.classes (c.args.depth.reach.composites - 1)) (field_shapes c.args.chunk.now.classes c.args.layout.now.place) = room_within c.args.chunk.now.classes c.args.chunk.now.bytes c.args.at r.0 c.args.limit c.args.layout.now.shape r.2 c.requires.within c.args.layout.now.place c.args.layout.now.kind c.args.depth.reach.composites d e m.constant c.requires.room in
+    let inner : 1 ≤ c.args.depth.reach.composites = (inner_room c.args.chunk.now.classes c.args.depth.reach.composites c.args.layout.now.shape d.class c.requires.room m.constant d.found (sym d.kind_is ∙ e)).0 in
+    let within : c.args.layout.now.place < length c.args.chunk.now.classes = d.within in
+    let stand : (to : ℕ) × (vs : Values) × IsRow c.args.chunk.now.classes c.args.chunk.now.bytes c.args.at to (field_shapes c.args.chunk.now.classes c.args.layout.now.place) vs × (to ≤ c.args.limit) = (r.0, f.parts, f.row, r.2) in
     let flat = m.array in
     search (rules, room, within, stand, inner, flat)
 
 pub show_value-returns-in_ok-show_integer-in-Integer : goal.show_value-returns-in_ok-show_integer-in-Integer
 show_value-returns-in_ok-show_integer-in-Integer t c =
-    record { ok = λ to v i l. integer_shown c.args.chunk.now.classes (referred c.args.chunk.now c.args.depth.reach.references) c.args.depth.level c.args.chunk.now.bytes c.args.at to c.args.limit c.args.slot.now l c.requires.within c.requires.slot v i c.args.out.now c.show_integer.new.out c.in-Integer.is c.integer_at-number.result c.integer_at-number.ensures c.in_ok-show_integer-in-Integer.ensures.ok }
+    record { ok = λ to v i l. integer_shown c.args.chunk.now.classes (referred c.args.chunk.now c.args.depth.reach.references) c.args.depth.level c.args.chunk.now.bytes c.args.at to c.args.limit c.args.layout.now l c.requires.within c.requires.layout v i c.args.out.now c.show_integer.new.out c.in-Integer.is c.integer_at-number.result c.integer_at-number.ensures c.in_ok-show_integer-in-Integer.ensures.ok }
 
 pub show_value-returns-in_ok-show_raw-in-Raw : goal.show_value-returns-in_ok-show_raw-in-Raw
 show_value-returns-in_ok-show_raw-in-Raw t c =
     let count : c.from.result ≡ c.in-Raw.count = omega arith in
-    record { ok = λ to v i l. raw_shown c.args.chunk.now.classes (referred c.args.chunk.now c.args.depth.reach.references) c.args.depth.level c.args.chunk.now.bytes c.args.at to c.args.limit c.args.slot.now l c.requires.within c.requires.slot v i c.args.out.now c.show_raw.new.out c.from.result (c.in-Raw.is ∙ ap (λ z. forms.Raw z) (sym count)) c.bytes_at-bytes.result.now c.bytes_at-bytes.ensures c.in_ok-show_raw-in-Raw.ensures.ok }
+    record { ok = λ to v i l. raw_shown c.args.chunk.now.classes (referred c.args.chunk.now c.args.depth.reach.references) c.args.depth.level c.args.chunk.now.bytes c.args.at to c.args.limit c.args.layout.now l c.requires.within c.requires.layout v i c.args.out.now c.show_raw.new.out c.from.result (c.in-Raw.is ∙ ap (λ z. forms.Raw z) (sym count)) c.bytes_at-bytes.result.now c.bytes_at-bytes.ensures c.in_ok-show_raw-in-Raw.ensures.ok }
 
 pub show_value-returns-in_ok-show_reference-in-Key : goal.show_value-returns-in_ok-show_reference-in-Key
 show_value-returns-in_ok-show_reference-in-Key t c =
-    record { ok = λ to v i l. reference_shown c.args.chunk.now.classes (referred c.args.chunk.now c.args.depth.reach.references) c.args.depth.level c.args.chunk.now.bytes c.args.at to c.args.limit c.args.slot.now l c.requires.within c.requires.slot v i c.args.out.now c.show_reference.new.out c.in-Key.is c.integer_at-key.result c.integer_at-key.ensures c.in_ok-show_reference-in-Key.ensures.ok }
+    record { ok = λ to v i l. reference_shown c.args.chunk.now.classes (referred c.args.chunk.now c.args.depth.reach.references) c.args.depth.level c.args.chunk.now.bytes c.args.at to c.args.limit c.args.layout.now l c.requires.within c.requires.layout v i c.args.out.now c.show_reference.new.out c.in-Key.is c.integer_at-key.result c.integer_at-key.ensures c.in_ok-show_reference-in-Key.ensures.ok }
 
 pub show_value-returns-in_ok-show_reference-in-Key-kind : goal.show_value-returns-in_ok-show_reference-in-Key-kind
 show_value-returns-in_ok-show_reference-in-Key-kind t c =
-    record { ok = λ to v i l. key_shown c.args.chunk.now.classes (referred c.args.chunk.now c.args.depth.reach.references) c.args.depth.level c.args.chunk.now.bytes c.args.at to c.args.limit c.args.slot.now l c.requires.within c.requires.slot v i c.args.out.now c.show_reference-in-Key-kind.new.out c.in-Text.is c.string_at-string.result c.string_at-string.ensures c.in-Key-kind.is c.in_ok-show_reference-in-Key-kind.ensures.ok }
+    record { ok = λ to v i l. key_shown c.args.chunk.now.classes (referred c.args.chunk.now c.args.depth.reach.references) c.args.depth.level c.args.chunk.now.bytes c.args.at to c.args.limit c.args.layout.now l c.requires.within c.requires.layout v i c.args.out.now c.show_reference-in-Key-kind.new.out c.in-Text.is c.string_at-string.result c.string_at-string.ensures c.in-Key-kind.is c.in_ok-show_reference-in-Key-kind.ensures.ok }
 
 pub show_value-returns-in_ok-show_string-in_default : goal.show_value-returns-in_ok-show_string-in_default
 show_value-returns-in_ok-show_string-in_default t c =
-    record { ok = λ to v i l. string_shown c.args.chunk.now.classes (referred c.args.chunk.now c.args.depth.reach.references) c.args.depth.level c.args.chunk.now.bytes c.args.at to c.args.limit c.args.slot.now l c.requires.within c.requires.slot v i c.args.out.now c.show_string.new.out c.in-Text.is c.string_at-string.result c.string_at-string.ensures c.in_default.not-Key c.in_ok-show_string-in_default.ensures.ok }
+    record { ok = λ to v i l. string_shown c.args.chunk.now.classes (referred c.args.chunk.now c.args.depth.reach.references) c.args.depth.level c.args.chunk.now.bytes c.args.at to c.args.limit c.args.layout.now l c.requires.within c.requires.layout v i c.args.out.now c.show_string.new.out c.in-Text.is c.string_at-string.result c.string_at-string.ensures c.in_default.not-Key c.in_ok-show_string-in_default.ensures.ok }
 
 pub show_value-returns-in-Fields : goal.show_value-returns-in-Fields
 show_value-returns-in-Fields t c =
     record {
       ok = by_answer c.show_fields.result c.show_fields.ensures.ok (λ end h to v i l.
-          let f = is_composite c.args.chunk.now.classes c.args.chunk.now.bytes c.args.at to c.args.limit c.args.slot.now l c.requires.within c.requires.slot v i c.in-Fields.is in
+          let f = is_composite c.args.chunk.now.classes c.args.chunk.now.bytes c.args.at to c.args.limit c.args.layout.now l c.requires.within c.requires.layout v i c.in-Fields.is in
           let e = h to f.parts f.class f.row l f.there in
-          (e.0, e.1 ∙ ap (λ z. c.args.out.now ++ z) (sym (composite_shown c.args.chunk.now.classes (referred c.args.chunk.now c.args.depth.reach.references) c.args.depth.level c.args.slot.now.shape [] f.parts v f.class f.value f.array f.found))));
+          (e.0, e.1 ∙ ap (λ z. c.args.out.now ++ z) (sym (composite_shown c.args.chunk.now.classes (referred c.args.chunk.now c.args.depth.reach.references) c.args.depth.level c.args.layout.now.shape [] f.parts v f.class f.value f.array f.found))));
     }

@@ -20,20 +20,20 @@ abbrev pub decreases-show_items : goal.decreases-show_items
 decreases-show_items l = 400 * l.depth.reach.references + 4 * l.depth.reach.composites + 2
 
 abbrev pub decreases-show_value : goal.decreases-show_value
-decreases-show_value l = 400 * l.depth.reach.references + 4 * l.depth.reach.composites + (if l.slot.now.shape.array then 3 else 1)
+decreases-show_value l = 400 * l.depth.reach.references + 4 * l.depth.reach.composites + (if l.layout.now.shape.array then 3 else 1)
 
 abbrev pub decreases-show_node : goal.decreases-show_node
 decreases-show_node l = 400 * l.depth.reach.references + 4 * l.depth.reach.composites + 5
 
 abbrev pub invariant-show_items-items : goal.invariant-show_items-items
-invariant-show_items-items l = (to : ℕ) (vs : Values) → IsRow l.chunk.classes l.chunk.bytes l.initial.to to (replicate l.end (item_of l.slot.shape)) vs → to ≤ l.limit
+invariant-show_items-items l = (to : ℕ) (vs : Values) → IsRow l.chunk.classes l.chunk.bytes l.initial.to to (replicate l.end (item_of l.layout.shape)) vs → to ≤ l.limit
     → Left l.chunk.classes l.chunk.bytes to (l.initial.out ++ item_lines (l.depth.level + 1) (shown_all l.chunk.classes (referred l.chunk l.depth.reach.references) (l.depth.level + 1) vs))
-    (onto_items l.chunk.classes (referred l.chunk l.depth.reach.references) (l.depth.level + 1)) (replicate (l.end - l.counter) (item_of l.slot.shape)) l.to l.out
+    (onto_items l.chunk.classes (referred l.chunk l.depth.reach.references) (l.depth.level + 1)) (replicate (l.end - l.counter) (item_of l.layout.shape)) l.to l.out
 
-abbrev pub invariant-show_fields-loop-slot : goal.invariant-show_fields-loop-slot
-invariant-show_fields-loop-slot l = record {
-  number : l.number ≡ l.slot-index;
+abbrev pub invariant-show_fields-loop-layout : goal.invariant-show_fields-loop-layout
+invariant-show_fields-loop-layout l = record {
+  number : l.number ≡ l.layout-index;
   left : (to : ℕ) (vs : Values) (class : Class) → IsRow l.chunk.classes l.chunk.bytes l.at to (field_shapes l.chunk.classes l.place) vs → to ≤ l.limit → slice_get l.chunk.classes l.place ≡ Some class
       → Left l.chunk.classes l.chunk.bytes to (l.initial.out ++ field_lines (l.depth.level + 1) class.fields (shown_all l.chunk.classes (referred l.chunk l.depth.reach.references) (l.depth.level + 1) vs))
-      (onto_fields l.chunk.classes (referred l.chunk l.depth.reach.references) (l.depth.level + 1) (drop l.slot-index class.fields)) (drop l.slot-index (field_shapes l.chunk.classes l.place)) l.to l.out;
+      (onto_fields l.chunk.classes (referred l.chunk l.depth.reach.references) (l.depth.level + 1) (drop l.layout-index class.fields)) (drop l.layout-index (field_shapes l.chunk.classes l.place)) l.to l.out;
 }

@@ -5,11 +5,11 @@ use Rattle.jfr_value.specs.Reading.{class_format, item_format, shape_format}
 use Rattle.jfr_value.proofs.TakingLaws.{TakesLeft}
 use Rattle.jfr_value.proofs.extent.+ends.Given as goal
 
-abbrev pub decreases-slot_end : goal.decreases-slot_end
-decreases-slot_end g l = 7 * l.levels + (if l.slot.now.shape.array then 4 else 1)
+abbrev pub decreases-layout_end : goal.decreases-layout_end
+decreases-layout_end g l = 7 * l.levels + (if l.layout.now.shape.array then 4 else 1)
 
 abbrev pub decreases-compound_end : goal.decreases-compound_end
-decreases-compound_end g l = 7 * l.levels + (if l.slot.now.shape.array then 3 else 0)
+decreases-compound_end g l = 7 * l.levels + (if l.layout.now.shape.array then 3 else 0)
 
 abbrev pub decreases-array_end : goal.decreases-array_end
 decreases-array_end g l = 7 * l.levels + 2
@@ -20,24 +20,24 @@ decreases-row_end g l = 7 * l.levels + 5
 abbrev pub decreases-fields_end : goal.decreases-fields_end
 decreases-fields_end g l = 7 * l.levels + 6
 
-abbrev pub invariant-row_end-loop-slot : goal.invariant-row_end-loop-slot
-invariant-row_end-loop-slot g l = record {
+abbrev pub invariant-row_end-loop-layout : goal.invariant-row_end-loop-layout
+invariant-row_end-loop-layout g l = record {
   from : l.at ≤ l.to;
   upto : l.to ≤ l.end;
-  same : seen (run (for_each (drop l.slot-index l.slots) (λ s. shape_format (class_format (l.levels + 1) l.classes) s.shape)) l.bytes l.end l.to)
-      ≡ seen (run (for_each l.slots (λ s. shape_format (class_format (l.levels + 1) l.classes) s.shape)) l.bytes l.end l.at);
+  same : seen (run (for_each (drop l.layout-index l.layouts) (λ s. shape_format (class_format (l.levels + 1) l.classes) s.shape)) l.bytes l.end l.to)
+      ≡ seen (run (for_each l.layouts (λ s. shape_format (class_format (l.levels + 1) l.classes) s.shape)) l.bytes l.end l.at);
   ready : g.V.Visit.ready l.visitor l.with;
-  left : TakesLeft (g.V.Visit.takes l.with) (run (for_each l.slots (λ s. shape_format (class_format (l.levels + 1) l.classes) s.shape)) l.bytes l.end l.at)
-      (run (for_each (drop l.slot-index l.slots) (λ s. shape_format (class_format (l.levels + 1) l.classes) s.shape)) l.bytes l.end l.to) l.initial.visitor l.visitor;
+  left : TakesLeft (g.V.Visit.takes l.with) (run (for_each l.layouts (λ s. shape_format (class_format (l.levels + 1) l.classes) s.shape)) l.bytes l.end l.at)
+      (run (for_each (drop l.layout-index l.layouts) (λ s. shape_format (class_format (l.levels + 1) l.classes) s.shape)) l.bytes l.end l.to) l.initial.visitor l.visitor;
 }
 
 abbrev pub invariant-array_end-loop : goal.invariant-array_end-loop
 invariant-array_end-loop g l = record {
   from : l.at ≤ l.to;
   upto : l.to ≤ l.end-2;
-  same : seen (run (times (l.end - l.counter) (item_format (class_format (l.levels + 1) l.classes) (item_of l.slot.shape))) l.bytes l.end-2 l.to)
-      ≡ seen (run (times l.end (item_format (class_format (l.levels + 1) l.classes) (item_of l.slot.shape))) l.bytes l.end-2 l.initial.to);
+  same : seen (run (times (l.end - l.counter) (item_format (class_format (l.levels + 1) l.classes) (item_of l.layout.shape))) l.bytes l.end-2 l.to)
+      ≡ seen (run (times l.end (item_format (class_format (l.levels + 1) l.classes) (item_of l.layout.shape))) l.bytes l.end-2 l.initial.to);
   ready : g.V.Visit.ready l.visitor l.with;
-  left : TakesLeft (g.V.Visit.takes l.with) (run (times l.end (item_format (class_format (l.levels + 1) l.classes) (item_of l.slot.shape))) l.bytes l.end-2 l.initial.to)
-      (run (times (l.end - l.counter) (item_format (class_format (l.levels + 1) l.classes) (item_of l.slot.shape))) l.bytes l.end-2 l.to) l.initial.visitor l.visitor;
+  left : TakesLeft (g.V.Visit.takes l.with) (run (times l.end (item_format (class_format (l.levels + 1) l.classes) (item_of l.layout.shape))) l.bytes l.end-2 l.initial.to)
+      (run (times (l.end - l.counter) (item_format (class_format (l.levels + 1) l.classes) (item_of l.layout.shape))) l.bytes l.end-2 l.to) l.initial.visitor l.visitor;
 }

@@ -4,11 +4,11 @@ use Rattle.jfr_value.specs.Reading.{value_format}
 use Rattle.jfr_value.proofs.AnswerLaws.{end_ok, end_refused, end_reason}
 use Rattle.jfr_value.proofs.extent.end_of.Goals as goal
 
-pub value_end-requires-clause-slot : goal.value_end-requires-clause-slot
-value_end-requires-clause-slot c = c.slot_of-slot.ensures.known c.requires.known
+pub value_end-requires-clause-layout : goal.value_end-requires-clause-layout
+value_end-requires-clause-layout c = c.layout_of-layout.ensures.known c.requires.known
 
 pub returns-clause-exact : goal.returns-clause-exact
-returns-clause-exact c = c.value_end.ensures.exact ∙ ap (λ s. seen (run (value_format c.args.classes.now s) c.args.bytes.now c.args.end c.args.at)) c.slot_of-slot.ensures.shape
+returns-clause-exact c = c.value_end.ensures.exact ∙ ap (λ s. seen (run (value_format c.args.classes.now s) c.args.bytes.now c.args.end c.args.at)) c.layout_of-layout.ensures.shape
 
 pub returns-clause-ok : goal.returns-clause-ok
 returns-clause-ok c = end_ok c.args.classes.now c.args.bytes.now c.args.shape c.args.at c.args.end c.requires.order c.requires.within c.value_end.result (returns-clause-exact c)
@@ -18,4 +18,4 @@ returns-clause-refused c = end_refused c.args.classes.now c.args.bytes.now c.arg
 
 pub returns-clause-reason : goal.returns-clause-reason
 returns-clause-reason c =
-    end_reason c.args.classes.now c.args.bytes.now c.args.shape c.args.at c.args.end c.requires.order c.requires.within c.value_end.result (returns-clause-exact c) c.slot_of-slot.ensures.sound c.requires.known
+    end_reason c.args.classes.now c.args.bytes.now c.args.shape c.args.at c.args.end c.requires.order c.requires.within c.value_end.result (returns-clause-exact c) c.layout_of-layout.ensures.sound c.requires.known

@@ -1,13 +1,13 @@
 use Rattle.jfr_value.proofs.AnswerLaws.{end_reason}
-use Rattle.jfr_value.proofs.SlotLaws.{slot_known}
+use Rattle.jfr_value.proofs.LayoutLaws.{layout_known}
 use Rattle.jfr_value.proofs.TakingLaws.{node_taken}
 use Rattle.jfr_value.proofs.extent.end_visiting.Goals as goal
 
 pub returns-clause-reason : goal.returns-clause-reason
 returns-clause-reason g c =
-    end_reason c.args.classes.now c.args.bytes.now c.args.slot.now.shape c.args.at c.args.end c.requires.order c.requires.within c.value_end.result c.value_end.ensures.exact c.requires.sound (slot_known c.args.classes.now c.args.slot.now c.requires.slot)
+    end_reason c.args.classes.now c.args.bytes.now c.args.layout.now.shape c.args.at c.args.end c.requires.order c.requires.within c.value_end.result c.value_end.ensures.exact c.requires.sound (layout_known c.args.classes.now c.args.layout.now c.requires.layout)
 
 pub returns-clause-visited : goal.returns-clause-visited
 returns-clause-visited g c =
-    node_taken (g.V.Visit.takes c.args.with.now) c.args.classes.now c.args.slot.now.shape c.args.bytes.now c.args.end c.args.at c.args.visitor.now c.value_end.new.visitor c.requires.sound c.requires.order c.requires.within c.value_end.result
+    node_taken (g.V.Visit.takes c.args.with.now) c.args.classes.now c.args.layout.now.shape c.args.bytes.now c.args.end c.args.at c.args.visitor.now c.value_end.new.visitor c.requires.sound c.requires.order c.requires.within c.value_end.result
     c.value_end.ensures.exact c.value_end.ensures.visited

@@ -1,16 +1,16 @@
 use Rattle.std.proofs.Common.{◌≡◌, ◌+◌, ◌≤◌}
 use Rattle.jfr_base.specs.Formats.{run, seen}
 use Rattle.jfr_value.specs.Reading.{row_format}
-use Rattle.jfr_value.proofs.LeapLaws.{left_by}
+use Rattle.jfr_value.proofs.FusedLaws.{left_by}
 use Rattle.jfr_value.proofs.TakingLaws.{TakesLeft}
 use Rattle.jfr_value.proofs.extent.whole_row_end.Given as goal
 
-abbrev pub invariant-loop-leap : goal.invariant-loop-leap
-invariant-loop-leap g l = record {
+abbrev pub invariant-loop-fused : goal.invariant-loop-fused
+invariant-loop-fused g l = record {
   from : l.at ≤ l.to;
   upto : l.to ≤ l.end;
-  same : seen (run (row_format (l.levels + 1) l.classes (left_by l.row.slots.items l.row.leaps.items l.leap-index)) l.bytes l.end l.to) ≡ seen (run (row_format (l.levels + 1) l.classes l.row.slots.items) l.bytes l.end l.at);
+  same : seen (run (row_format (l.levels + 1) l.classes (left_by l.row.layouts.items l.row.fused_fields.items l.fused-index)) l.bytes l.end l.to) ≡ seen (run (row_format (l.levels + 1) l.classes l.row.layouts.items) l.bytes l.end l.at);
   ready : g.V.Visit.ready l.visitor l.with;
-  left : TakesLeft (g.V.Visit.takes l.with) (run (row_format (l.levels + 1) l.classes l.row.slots.items) l.bytes l.end l.at)
-      (run (row_format (l.levels + 1) l.classes (left_by l.row.slots.items l.row.leaps.items l.leap-index)) l.bytes l.end l.to) l.initial.visitor l.visitor;
+  left : TakesLeft (g.V.Visit.takes l.with) (run (row_format (l.levels + 1) l.classes l.row.layouts.items) l.bytes l.end l.at)
+      (run (row_format (l.levels + 1) l.classes (left_by l.row.layouts.items l.row.fused_fields.items l.fused-index)) l.bytes l.end l.to) l.initial.visitor l.visitor;
 }

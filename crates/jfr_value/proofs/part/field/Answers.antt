@@ -2,7 +2,7 @@
 use Rattle.std.proofs.Common.{sym, ◌∙◌}
 use Rattle.jfr_value.specs.Nodes.{node_of}
 use Rattle.jfr_value.proofs.ChildLaws.{no_field_of_array, no_field_of_constant, no_field_of_kind, no_field_of_unknown, no_field_past, field_row}
-use Rattle.jfr_value.proofs.SlotLaws.{slots_of}
+use Rattle.jfr_value.proofs.LayoutLaws.{layouts_of}
 use Rattle.jfr_value.proofs.part.field.Goals as goal
 use Rattle.jfr_value.proofs.part.field.Goals.{then-node-via-then-node, then-node-via-else-node+then-node-2}
 
@@ -25,21 +25,21 @@ returns-in_default-kind_at c = record {
   bytes = tt;
 }
 
-pub returns-then-number-slots-clause-exact : goal.returns-then-number-slots-clause-exact
-returns-then-number-slots-clause-exact c = sym (no_field_past c.args.classes.now c.args.node.now.bytes.now (node_of c.args.node.now) c.requires.0 c.place.ensures.sound c.requires.1 c.args.number c.in-Some.place c.kind_at.result c.slots-slots.result.now c.if-node.false c.if-node-2.false c.in-Some.ensures.class
-    c.in-Some.ensures.within c.kind_at.ensures c.in-Composite.is c.slots-slots.ensures.exact c.if-number-slots.true)
+pub returns-then-number-layouts-clause-exact : goal.returns-then-number-layouts-clause-exact
+returns-then-number-layouts-clause-exact c = sym (no_field_past c.args.classes.now c.args.node.now.bytes.now (node_of c.args.node.now) c.requires.0 c.place.ensures.sound c.requires.1 c.args.number c.in-Some.place c.kind_at.result c.layouts-layouts.result.now c.if-node.false c.if-node-2.false c.in-Some.ensures.class
+    c.in-Some.ensures.within c.kind_at.ensures c.in-Composite.is c.layouts-layouts.ensures.exact c.if-number-layouts.true)
 
-pub nth_field-requires-clause-slots : goal.nth_field-requires-clause-slots
-nth_field-requires-clause-slots c = (slots_of c.args.classes.now c.in-Some.place c.slots-slots.result.now c.in-Some.ensures.within c.slots-slots.ensures.exact).slots.each
+pub nth_field-requires-clause-layouts : goal.nth_field-requires-clause-layouts
+nth_field-requires-clause-layouts c = (layouts_of c.args.classes.now c.in-Some.place c.layouts-layouts.result.now c.in-Some.ensures.within c.layouts-layouts.ensures.exact).layouts.each
 
 pub nth_field-requires-clause-row : goal.nth_field-requires-clause-row
 nth_field-requires-clause-row c =
-    let f = field_row c.args.classes.now c.args.node.now.bytes.now (node_of c.args.node.now) c.requires.0 c.place.ensures.sound c.requires.1 c.args.number c.in-Some.place c.kind_at.result c.slots-slots.result.now c.if-node.false c.if-node-2.false c.in-Some.ensures.class
-    c.in-Some.ensures.within c.kind_at.ensures c.in-Composite.is c.slots-slots.ensures.exact in
+    let f = field_row c.args.classes.now c.args.node.now.bytes.now (node_of c.args.node.now) c.requires.0 c.place.ensures.sound c.requires.1 c.args.number c.in-Some.place c.kind_at.result c.layouts-layouts.result.now c.if-node.false c.if-node-2.false c.in-Some.ensures.class
+    c.in-Some.ensures.within c.kind_at.ensures c.in-Composite.is c.layouts-layouts.ensures.exact in
     (f.0, f.1)
 
 pub returns-clause-exact : goal.returns-clause-exact
 returns-clause-exact c =
-    let f = field_row c.args.classes.now c.args.node.now.bytes.now (node_of c.args.node.now) c.requires.0 c.place.ensures.sound c.requires.1 c.args.number c.in-Some.place c.kind_at.result c.slots-slots.result.now c.if-node.false c.if-node-2.false c.in-Some.ensures.class
-    c.in-Some.ensures.within c.kind_at.ensures c.in-Composite.is c.slots-slots.ensures.exact in
+    let f = field_row c.args.classes.now c.args.node.now.bytes.now (node_of c.args.node.now) c.requires.0 c.place.ensures.sound c.requires.1 c.args.number c.in-Some.place c.kind_at.result c.layouts-layouts.result.now c.if-node.false c.if-node-2.false c.in-Some.ensures.class
+    c.in-Some.ensures.within c.kind_at.ensures c.in-Composite.is c.layouts-layouts.ensures.exact in
     sym (f.2 ∙ c.nth_field.ensures.exact f.0 f.1)

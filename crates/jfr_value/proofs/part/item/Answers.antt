@@ -9,31 +9,31 @@ use Rattle.jfr_value.proofs.ChildLaws.{has_count, item_is, items_known, no_item_
 use Rattle.jfr_value.proofs.part.item.Goals as goal
 
 pub unreachable-requires : goal.unreachable-requires
-unreachable-requires c = has_count c.args.classes.now c.args.node.now.bytes.now (node_of c.args.node.now) c.requires.0 c.slot_of-slot.ensures.sound c.requires.1 c.if-not-node.false c.in_default.ensures.exact.0
+unreachable-requires c = has_count c.args.classes.now c.args.node.now.bytes.now (node_of c.args.node.now) c.requires.0 c.layout_of-layout.ensures.sound c.requires.1 c.if-not-node.false c.in_default.ensures.exact.0
 
 pub returns-then-number-count-clause-exact : goal.returns-then-number-count-clause-exact
 returns-then-number-count-clause-exact c =
-    sym (no_item_past c.args.classes.now c.args.node.now.bytes.now (node_of c.args.node.now) c.requires.0 c.slot_of-slot.ensures.sound c.requires.1 c.args.number c.in-Ok.count c.if-not-node.false c.in-Ok.ensures.exact
+    sym (no_item_past c.args.classes.now c.args.node.now.bytes.now (node_of c.args.node.now) c.requires.0 c.layout_of-layout.ensures.sound c.requires.1 c.args.number c.in-Ok.count c.if-not-node.false c.in-Ok.ensures.exact
     (let l : length (replicate c.in-Ok.count.value (item_of c.args.node.now.shape)) ≡ c.in-Ok.count.value = simp length-replicate in omega arith))
 
 pub nth_item-requires-clause-item : goal.nth_item-requires-clause-item
-nth_item-requires-clause-item c = ap (λ (z : Shape). z.array) (c.slot_of-slot.ensures.shape ∙ c.item_of.ensures)
+nth_item-requires-clause-item c = ap (λ (z : Shape). z.array) (c.layout_of-layout.ensures.shape ∙ c.item_of.ensures)
 
 pub nth_item-requires-clause-placed : goal.nth_item-requires-clause-placed
 nth_item-requires-clause-placed c = record {
-  form = c.slot_of-slot.ensures.form;
-  of_class = λ o. c.slot_of-slot.ensures.known
+  form = c.layout_of-layout.ensures.form;
+  of_class = λ o. c.layout_of-layout.ensures.known
       (subst (λ (z : Shape). IsSome (find_class c.args.classes.now z.class)) (sym c.item_of.ensures)
-      (items_known c.args.classes.now c.args.node.now.bytes.now (node_of c.args.node.now) c.requires.0 c.slot_of-slot.ensures.sound c.requires.1 c.args.number c.in-Ok.count c.if-not-node.false c.in-Ok.ensures.exact c.if-number-count.false
-      (sym (ap (λ (z : Shape). z.constant) (c.slot_of-slot.ensures.shape ∙ c.item_of.ensures)) ∙ o)));
+      (items_known c.args.classes.now c.args.node.now.bytes.now (node_of c.args.node.now) c.requires.0 c.layout_of-layout.ensures.sound c.requires.1 c.args.number c.in-Ok.count c.if-not-node.false c.in-Ok.ensures.exact c.if-number-count.false
+      (sym (ap (λ (z : Shape). z.constant) (c.layout_of-layout.ensures.shape ∙ c.item_of.ensures)) ∙ o)));
 }
 
 pub nth_item-requires-clause-row : goal.nth_item-requires-clause-row
 nth_item-requires-clause-row c =
-    let f = (item_is c.args.classes.now c.args.node.now.bytes.now (node_of c.args.node.now) c.requires.0 c.slot_of-slot.ensures.sound c.requires.1 c.args.number c.in-Ok.count c.if-not-node.false c.in-Ok.ensures.exact).1 in
-    (f.0, subst (λ (z : Shape). IsRow c.args.classes.now c.args.node.now.bytes.now c.in-Ok.count.end c.args.node.now.end (replicate c.in-Ok.count.value z) f.0) (sym (c.slot_of-slot.ensures.shape ∙ c.item_of.ensures)) f.1)
+    let f = (item_is c.args.classes.now c.args.node.now.bytes.now (node_of c.args.node.now) c.requires.0 c.layout_of-layout.ensures.sound c.requires.1 c.args.number c.in-Ok.count c.if-not-node.false c.in-Ok.ensures.exact).1 in
+    (f.0, subst (λ (z : Shape). IsRow c.args.classes.now c.args.node.now.bytes.now c.in-Ok.count.end c.args.node.now.end (replicate c.in-Ok.count.value z) f.0) (sym (c.layout_of-layout.ensures.shape ∙ c.item_of.ensures)) f.1)
 
 pub returns-clause-exact : goal.returns-clause-exact
 returns-clause-exact c =
-    let f = (item_is c.args.classes.now c.args.node.now.bytes.now (node_of c.args.node.now) c.requires.0 c.slot_of-slot.ensures.sound c.requires.1 c.args.number c.in-Ok.count c.if-not-node.false c.in-Ok.ensures.exact).1 in
-    sym (f.2 ∙ c.nth_item.ensures.exact f.0 (subst (λ (z : Shape). IsRow c.args.classes.now c.args.node.now.bytes.now c.in-Ok.count.end c.args.node.now.end (replicate c.in-Ok.count.value z) f.0) (sym (c.slot_of-slot.ensures.shape ∙ c.item_of.ensures)) f.1))
+    let f = (item_is c.args.classes.now c.args.node.now.bytes.now (node_of c.args.node.now) c.requires.0 c.layout_of-layout.ensures.sound c.requires.1 c.args.number c.in-Ok.count c.if-not-node.false c.in-Ok.ensures.exact).1 in
+    sym (f.2 ∙ c.nth_item.ensures.exact f.0 (subst (λ (z : Shape). IsRow c.args.classes.now c.args.node.now.bytes.now c.in-Ok.count.end c.args.node.now.end (replicate c.in-Ok.count.value z) f.0) (sym (c.layout_of-layout.ensures.shape ∙ c.item_of.ensures)) f.1))

@@ -6,4 +6,4 @@ use Rattle.jfr_value.proofs.RowLaws.{start_of}
 use Rattle.jfr_value.proofs.part.nth_field.Given as goal
 
 abbrev pub invariant-loop-i : goal.invariant-loop-i
-invariant-loop-i l = (vs : Values) → IsRow l.classes l.node.bytes.now l.node.at l.node.end (map (λ s. s.shape) l.slots) vs → l.at ≡ start_of l.node.at vs l.i
+invariant-loop-i l = (vs : Values) → IsRow l.classes l.node.bytes.now l.node.at l.node.end (map (λ s. s.shape) l.layouts) vs → l.at ≡ start_of l.node.at vs l.i

@@ -6,4 +6,4 @@ use Rattle.jfr_value.proofs.RowLaws.{start_of}
 use Rattle.jfr_value.proofs.part.nth_item.Given as goal
 
 abbrev pub invariant-loop : goal.invariant-loop
-invariant-loop l = (vs : Values) → IsRow l.classes l.node.bytes.now l.fn.count.end l.node.end (replicate l.fn.count.value l.slot.shape) vs → l.at ≡ start_of l.fn.count.end vs l.counter
+invariant-loop l = (vs : Values) → IsRow l.classes l.node.bytes.now l.fn.count.end l.node.end (replicate l.fn.count.value l.layout.shape) vs → l.at ≡ start_of l.fn.count.end vs l.counter

@@ -14,18 +14,18 @@ abbrev pub decreases-visit_fields : goal.decreases-visit_fields
 decreases-visit_fields g l = 4 * l.levels + 3
 
 abbrev pub decreases-visit_value : goal.decreases-visit_value
-decreases-visit_value g l = 4 * l.levels + (if l.slot.now.shape.array then 2 else 0)
+decreases-visit_value g l = 4 * l.levels + (if l.layout.now.shape.array then 2 else 0)
 
 abbrev pub invariant-visit_array-items : goal.invariant-visit_array-items
 invariant-visit_array-items g l = record {
   ready : g.V.Visit.ready l.visitor l.with;
-  left : (to : ℕ) (vs : Values) → IsRow l.classes l.whole.bytes.now l.initial.to to (replicate l.end (item_of l.slot.shape)) vs → to ≤ l.whole.end
-      → Left (g.V.Visit.takes l.with) l.classes l.whole.bytes.now l.initial.to to vs l.initial.visitor l.initial.steps (replicate (l.end - l.counter) (item_of l.slot.shape)) l.to l.visitor l.steps;
+  left : (to : ℕ) (vs : Values) → IsRow l.classes l.whole.bytes.now l.initial.to to (replicate l.end (item_of l.layout.shape)) vs → to ≤ l.whole.end
+      → Left (g.V.Visit.takes l.with) l.classes l.whole.bytes.now l.initial.to to vs l.initial.visitor l.initial.steps (replicate (l.end - l.counter) (item_of l.layout.shape)) l.to l.visitor l.steps;
 }
 
-abbrev pub invariant-visit_fields-loop-slot : goal.invariant-visit_fields-loop-slot
-invariant-visit_fields-loop-slot g l = record {
+abbrev pub invariant-visit_fields-loop-layout : goal.invariant-visit_fields-loop-layout
+invariant-visit_fields-loop-layout g l = record {
   ready : g.V.Visit.ready l.visitor l.with;
   left : (to : ℕ) (vs : Values) → IsRow l.classes l.whole.bytes.now l.at to (field_shapes l.classes l.place) vs → to ≤ l.whole.end
-      → Left (g.V.Visit.takes l.with) l.classes l.whole.bytes.now l.at to vs l.initial.visitor l.initial.steps (drop l.slot-index (field_shapes l.classes l.place)) l.to l.visitor l.steps;
+      → Left (g.V.Visit.takes l.with) l.classes l.whole.bytes.now l.at to vs l.initial.visitor l.initial.steps (drop l.layout-index (field_shapes l.classes l.place)) l.to l.visitor l.steps;
 }

@@ -6,16 +6,16 @@ use Rattle.jfr_value.specs.declared.stack.Frame.{Frame}
 use Rattle.jfr_value.specs.declared.stack.Frame.TheVariants.{Fields}
 use Rattle.jfr_value.specs.Nodes.{IsRow}
 use Rattle.jfr_value.specs.Walks.{AreFrames, GoesOn, Room, shapes_left, size_of_all}
-use Rattle.jfr_value.proofs.SlotLaws.{few_fields, field_of, no_slot}
+use Rattle.jfr_value.proofs.LayoutLaws.{few_fields, field_of, no_layout}
 use Rattle.jfr_value.proofs.StackLaws.{either_height, field_room, frames_push, no_fields, pushed_field}
 use Rattle.jfr_value.proofs.walk.next_field.Goals as goal
 
-pub slots-slots-requires : goal.slots-slots-requires
-slots-slots-requires c = c.requires.frame.1
+pub layouts-layouts-requires : goal.layouts-layouts-requires
+layouts-layouts-requires c = c.requires.frame.1
 
-pub returns-then-number-slots-clause-left : goal.returns-then-number-slots-clause-left
-returns-then-number-slots-clause-left c = λ vs r.
-    (let e = no_fields c.args.classes.now c.args.place c.args.number c.args.levels (few_fields c.args.classes.now c.args.place c.args.number c.slots-slots.result.now c.requires.frame.1 c.slots-slots.ensures.exact c.if-number-slots.true) in
+pub returns-then-number-layouts-clause-left : goal.returns-then-number-layouts-clause-left
+returns-then-number-layouts-clause-left c = λ vs r.
+    (let e = no_fields c.args.classes.now c.args.place c.args.number c.args.levels (few_fields c.args.classes.now c.args.place c.args.number c.layouts-layouts.result.now c.requires.frame.1 c.layouts-layouts.ensures.exact c.if-number-layouts.true) in
     (vs, subst (λ (z : List Shape). IsRow c.args.classes.now c.args.bytes.now c.args.walk.now.at c.args.end (z ++ shapes_left c.args.classes.now c.args.walk.now.stack) vs) e r, refl, omega arith))
 
 pub push-requires : goal.push-requires
@@ -27,24 +27,24 @@ enter-requires-clause-frames c =
     (frames_push c.args.classes.now 0 (length c.args.walk.now.stack + 1) c.args.walk.now.stack (Fields c.args.place (c.args.number + 1) c.args.levels) (omega arith) c.requires.frames c.requires.frame)
 
 pub enter-requires-clause-height : goal.enter-requires-clause-height
-enter-requires-clause-height c = either_height (get_or c.slots-slots.result.now c.args.number no_slot).shape.array (length c.push.new.self + 2 * c.args.levels) (let h = c.requires.frame.0 in omega (arith, c.push.ensures.len))
+enter-requires-clause-height c = either_height (get_or c.layouts-layouts.result.now c.args.number no_layout).shape.array (length c.push.new.self + 2 * c.args.levels) (let h = c.requires.frame.0 in omega (arith, c.push.ensures.len))
 
 pub enter-requires-clause-placed : goal.enter-requires-clause-placed
-enter-requires-clause-placed c = λ o h. (field_of c.args.classes.now c.args.place c.args.number c.slots-slots.result.now c.requires.frame.1 c.slots-slots.ensures.exact c.if-number-slots.false).of_class.place
+enter-requires-clause-placed c = λ o h. (field_of c.args.classes.now c.args.place c.args.number c.layouts-layouts.result.now c.requires.frame.1 c.layouts-layouts.ensures.exact c.if-number-layouts.false).of_class.place
 
 pub enter-requires-clause-room : goal.enter-requires-clause-room
 enter-requires-clause-room c =
-    let f = field_of c.args.classes.now c.args.place c.args.number c.slots-slots.result.now c.requires.frame.1 c.slots-slots.ensures.exact c.if-number-slots.false in
+    let f = field_of c.args.classes.now c.args.place c.args.number c.layouts-layouts.result.now c.requires.frame.1 c.layouts-layouts.ensures.exact c.if-number-layouts.false in
     subst (λ (z : Shape). Room c.args.classes.now c.args.levels z) (sym f.shape) (field_room c.args.classes.now (length c.args.walk.now.stack + 1) c.args.place c.args.number c.args.levels f.field c.requires.frame f.there)
 
 pub enter-requires-clause-left : goal.enter-requires-clause-left
 enter-requires-clause-left c =
-    let f = field_of c.args.classes.now c.args.place c.args.number c.slots-slots.result.now c.requires.frame.1 c.slots-slots.ensures.exact c.if-number-slots.false in
-    let q = pushed_field c.args.classes.now c.args.walk.now.stack c.push.new.self c.args.place c.args.number c.args.levels f.field (get_or c.slots-slots.result.now c.args.number no_slot).shape f.there f.shape c.push.ensures.items in
+    let f = field_of c.args.classes.now c.args.place c.args.number c.layouts-layouts.result.now c.requires.frame.1 c.layouts-layouts.ensures.exact c.if-number-layouts.false in
+    let q = pushed_field c.args.classes.now c.args.walk.now.stack c.push.new.self c.args.place c.args.number c.args.levels f.field (get_or c.layouts-layouts.result.now c.args.number no_layout).shape f.there f.shape c.push.ensures.items in
     (c.requires.left.0, subst (λ (z : List Shape). IsRow c.args.classes.now c.args.bytes.now c.args.walk.now.at c.args.end z c.requires.left.0) q c.requires.left.1)
 
 pub returns-clause-left : goal.returns-clause-left
 returns-clause-left c = λ vs r.
-    (let f = field_of c.args.classes.now c.args.place c.args.number c.slots-slots.result.now c.requires.frame.1 c.slots-slots.ensures.exact c.if-number-slots.false in
-    let q = pushed_field c.args.classes.now c.args.walk.now.stack c.push.new.self c.args.place c.args.number c.args.levels f.field (get_or c.slots-slots.result.now c.args.number no_slot).shape f.there f.shape c.push.ensures.items in
+    (let f = field_of c.args.classes.now c.args.place c.args.number c.layouts-layouts.result.now c.requires.frame.1 c.layouts-layouts.ensures.exact c.if-number-layouts.false in
+    let q = pushed_field c.args.classes.now c.args.walk.now.stack c.push.new.self c.args.place c.args.number c.args.levels f.field (get_or c.layouts-layouts.result.now c.args.number no_layout).shape f.there f.shape c.push.ensures.items in
     subst (λ (z : ℕ). GoesOn c.args.classes.now c.args.bytes.now c.args.end c.args.walk.now.at vs (size_of_all vs + z) c.enter.new.walk c.enter.result) c.push.ensures.len (c.enter.ensures.left vs (subst (λ (z : List Shape). IsRow c.args.classes.now c.args.bytes.now c.args.walk.now.at c.args.end z vs) q r)))

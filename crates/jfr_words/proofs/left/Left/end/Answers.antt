@@ -1,5 +1,5 @@
 use Rattle.std.proofs.Common.{sym, ap, ◌∙◌}
-use Rattle.jfr_outside.specs.Texts.{text_in}
+use Rattle.jfr_base.specs.Texts.{text_in}
 use Rattle.jfr_words.proofs.WordLaws.{no_first}
 use Rattle.jfr_words.proofs.left.Left.end.Goals as goal
 

@@ -1,6 +1,6 @@
 use Rattle.std.proofs.Common.{◌≡◌, ◌<◌, [], length, arith, sym, ap, ◌∙◌}
 use Rattle.std.proofs.lemmas.Option.{slice_get_within}
-use Rattle.jfr_outside.specs.Texts.{text_in}
+use Rattle.jfr_base.specs.Texts.{text_in}
 use Rattle.jfr_filter.proofs.AnyLaws.{drop_at_get}
 use Rattle.jfr_words.proofs.WordLaws.{none_left}
 use Rattle.jfr_words.proofs.left.Left.take.Goals as goal

@@ -1,5 +1,0 @@
-use Rattle.jfr_layout.proofs.FieldsKnown.{ClassesKnown}
-use Rattle.jfr_layout.proofs.resolved.rows_of.Given as goal
-
-abbrev pub invariant-loop-at : goal.invariant-loop-at
-invariant-loop-at l = ClassesKnown l.list l.at l.rows.items

@@ -1,5 +1,0 @@
-use Rattle.jfr_layout.proofs.FieldsKnown.{FieldsKnown}
-use Rattle.jfr_layout.proofs.resolved.slots_of.Given as goal
-
-abbrev pub invariant-loop-number : goal.invariant-loop-number
-invariant-loop-number l = FieldsKnown l.list l.class l.fields l.number l.slots.items

@@ -1,0 +1,14 @@
+// What stands beside a class for walks over many values.
+
+use crate::{FieldLayout, FusedFields};
+
+/// The fields of a class, as walks over many values ask for them.
+#[derive(Drop)]
+pub struct ClassLayout {
+    /// How the values of the fields are spelled, in order.
+    pub layouts: Vec<FieldLayout>,
+    /// The leaps over them.
+    pub fused_fields: Vec<FusedFields>,
+    /// Whether the class is composite and has the super type of events.
+    pub is_event: bool,
+}

@@ -1,0 +1,33 @@
+// How the values of fields are spelled.
+ghost use Rattle.std.specs.Prelude.{◌≡◌};
+
+use crate::{Form, Kind, Shape};
+
+/// How the values of a field are spelled: what a walk over many values asks of the field and its
+/// class.
+#[derive(Clone, Copy, Debug)]
+pub struct FieldLayout {
+    pub shape: Shape,
+    /// The place of the class of the shape.
+    pub place: usize,
+    /// The kind of that class.
+    pub kind: Kind,
+    /// The form of the shape with that kind.
+    pub form: Form,
+}
+
+impl FieldLayout {
+    ghost use Rattle.jfr_layout.specs.Classes.{layout_with};
+
+    /// The slot of a shape whose class has this place and this kind.
+    pub fn new(shape: Shape, place: usize, kind: Kind) -> FieldLayout
+        ensures { result ≡ layout_with shape place kind }
+    {
+        FieldLayout {
+            shape,
+            place,
+            kind,
+            form: Form::of(shape, kind),
+        }
+    }
+}

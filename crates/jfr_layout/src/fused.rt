@@ -1,0 +1,183 @@
+// Fields that a walk passes at once.
+ghost use Rattle.std.specs.Prelude.{◌≡◌, ℕ, ◌+◌, ◌<◌, ◌≤◌, List, length, slice_get, IfOk, IfSome};
+ghost use Rattle.jfr_layout.specs.declared.form.Form.TheVariants as forms;
+ghost use Rattle.jfr_layout.specs.declared.field_layout.FieldLayout.{FieldLayout};
+ghost use Rattle.jfr_layout.specs.Fused.{AreIntegers, AreFused, BeginsAt, Passes};
+
+use crate::{FieldLayout, Form};
+use jfr_base::NoMemory;
+use std::alloc::Global;
+
+/// A leap passes so many fields at most.
+const MOST: usize = 4;
+
+/// Fields of a row, one behind another, that a walk over many values passes at once.
+#[derive(Clone, Copy, Debug, PartialEq, Eq)]
+pub struct FusedFields {
+    /// The number of the first of them.
+    pub first: usize,
+    /// How many they are.
+    pub fields: usize,
+    pub kind: FusedKind,
+}
+
+/// What a leap passes.
+#[derive(Clone, Copy, Debug, PartialEq, Eq)]
+pub enum FusedKind {
+    /// Two integers and two references, of these classes: when most events began, how long they took,
+    /// their thread, and their stack trace.
+    EventPrelude { thread: u32, trace: u32 },
+    /// Compressed integers, one in each field.
+    OneInteger,
+    TwoIntegers,
+    ThreeIntegers,
+    FourIntegers,
+    /// So many raw bytes in all.
+    Raw(u8),
+    /// A key into the constant pool of a class.
+    Key(u64),
+    /// A string of a class.
+    Text(u64),
+    /// A field of any form.
+    Any,
+}
+
+/// The leaps over a row, from its first field to its last.
+pub(crate) fn fused_of(alloc: Global, layouts: &[FieldLayout]) -> Result<Vec<FusedFields>, NoMemory>
+    ensures { IfOk result (λ fused_fields. AreFused layouts.now fused_fields.items) }
+{
+    let mut fused_fields = Vec::new(alloc);
+    let mut first = 0;
+    'fused_fields: while first < layouts.len() {
+        let fused = fused_from(layouts, first);
+        fused_fields.push(fused)?;
+        first += fused.fields;
+    }
+    Ok(fused_fields)
+}
+
+/// The leap from the field of a number on.
+fn fused_from(layouts: &[FieldLayout], first: usize) -> FusedFields
+    requires { first < length layouts.now }
+    ensures { BeginsAt layouts.now first result }
+{
+    if let Some(front) = prelude_from(layouts, first) {
+        return front;
+    }
+    let layout = layouts[first];
+    match layout.form {
+        Form::Integer => integers_from(layouts, first),
+        Form::Raw(count) => raw_from(layouts, first, count),
+        Form::Key => fused_one(first, FusedKind::Key(layout.shape.class)),
+        Form::Text => fused_one(first, FusedKind::Text(layout.shape.class)),
+        Form::Fields | Form::Array => fused_one(first, FusedKind::Any),
+    }
+}
+
+/// A leap over one field.
+fn fused_one(first: usize, kind: FusedKind) -> FusedFields
+    ensures { result ≡ record { first = first; fields = 1; kind = kind } }
+{
+    FusedFields {
+        first,
+        fields: 1,
+        kind,
+    }
+}
+
+/// The leap over the front of most events, if it begins at the field of a number. Ids of classes have
+/// room in it up to 32 bits.
+fn prelude_from(layouts: &[FieldLayout], first: usize) -> Option<FusedFields>
+    requires { first < length layouts.now }
+    ensures { IfSome result (BeginsAt layouts.now first) }
+{
+    if layouts.len() - first < MOST {
+        return None;
+    }
+    let thread = layouts[first + 2];
+    let trace = layouts[first + 3];
+    match (
+        layouts[first].form,
+        layouts[first + 1].form,
+        thread.form,
+        trace.form,
+    ) {
+        (Form::Integer, Form::Integer, Form::Key, Form::Key) => {}
+        _ => return None,
+    }
+    Some(FusedFields {
+        first,
+        fields: MOST,
+        kind: FusedKind::EventPrelude {
+            thread: u32::try_from(thread.shape.class).ok()?,
+            trace: u32::try_from(trace.shape.class).ok()?,
+        },
+    })
+}
+
+/// The leap over the integers from the field of a number on.
+fn integers_from(layouts: &[FieldLayout], first: usize) -> FusedFields
+    requires within { first < length layouts.now }
+    requires integer { IfSome (slice_get layouts.now first) (λ s. s.form ≡ forms.Integer) }
+    ensures { BeginsAt layouts.now first result }
+{
+    let most = (layouts.len() - first).min(MOST);
+    let mut fields = 1;
+    'fields: while fields < most {
+        match layouts[first + fields].form {
+            Form::Integer => fields += 1,
+            _ => break 'fields,
+        }
+    }
+    FusedFields {
+        first,
+        fields,
+        kind: fused_integers(fields),
+    }
+}
+
+/// What a leap over so many integers passes.
+fn fused_integers(count: usize) -> FusedKind
+    requires { (1 ≤ count) × (count ≤ 4) }
+    ensures { (layouts : List FieldLayout) → AreIntegers count layouts → Passes result layouts }
+{
+    match count {
+        1 => FusedKind::OneInteger,
+        2 => FusedKind::TwoIntegers,
+        3 => FusedKind::ThreeIntegers,
+        _ => FusedKind::FourIntegers,
+    }
+}
+
+/// The leap over the raw bytes from the field of a number on, which has so many.
+fn raw_from(layouts: &[FieldLayout], first: usize, bytes: u8) -> FusedFields
+    requires within { first < length layouts.now }
+    requires raw { IfSome (slice_get layouts.now first) (λ s. s.form ≡ forms.Raw bytes) }
+    ensures { BeginsAt layouts.now first result }
+{
+    let most = (layouts.len() - first).min(MOST);
+    let mut fields = 1;
+    let mut count = bytes;
+    'fields: while fields < most {
+        let Some(sum) = with_raw(count, layouts[first + fields].form) else {
+            break 'fields;
+        };
+        count = sum;
+        fields += 1;
+    }
+    FusedFields {
+        first,
+        fields,
+        kind: FusedKind::Raw(count),
+    }
+}
+
+/// So many raw bytes with those of one field more, if that has any and the sum is small.
+fn with_raw(bytes: u8, form: Form) -> Option<u8>
+    ensures { IfSome result (λ sum. (more : ℕ) × (form ≡ forms.Raw more) × (sum ≡ bytes + more)) }
+{
+    match form {
+        Form::Raw(more) => bytes.checked_add(more),
+        _ => None,
+    }
+}

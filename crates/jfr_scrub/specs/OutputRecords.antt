@@ -1,0 +1,54 @@
+-- What stays of the records of a chunk, one after another.
+use Rattle.std.specs.Prelude.{◌≡◌, ℕ, ◌+◌, Bool, false, ◌&&◌, ◌==◌, List, drop, slice_get, find, reverse, Option, Some, None, option_and_then, unwrap_or, if◌then◌else◌}
+use Rattle.std.specs.List.{filter_map, enumerate_from}
+use Rattle.std.specs.Option.{option_map_or}
+use Rattle.jfr_frame.specs.declared.framed.Framed.{Framed}
+use Rattle.jfr_pool.specs.declared.link.Link.{Link}
+use Rattle.jfr_chunk.specs.Parts.{Parts, EventAt, AreParts, event_of, event_records, events_of}
+use Rattle.jfr_chunk.specs.Reach.{marked, kept_by}
+use Rattle.jfr_chunk.specs.Scrub.{OutputRecord, Whole, Chained, output_record_of}
+use Rattle.jfr_scrub.specs.declared.output_records.KeptRecord.{KeptRecord}
+use Rattle.jfr_scrub.specs.declared.output_records.KeptRecord.TheVariants as kept_records
+use Rattle.jfr_scrub.specs.declared.output_records.Cursor.{Cursor}
+
+-- What stays, as it is told.
+abbrev pub output_record_as : KeptRecord → OutputRecord
+output_record_as (kept_records.Whole r) = Whole r
+output_record_as (kept_records.Chained number l) = Chained number l
+
+-- The events of some of the records.
+abbrev pub events_from : Parts → List Framed → List EventAt
+events_from p rs = filter_map (event_of p.bytes p.classes) (event_records p.classes rs)
+
+-- The event among these that starts at a record's place.
+abbrev pub event_there : List EventAt → Framed → Option EventAt
+event_there es r = find (λ e. e.record_of.at == r.at) es
+
+-- The chained checkpoint that starts at a record's place, with its number.
+abbrev pub link_there : Parts → Framed → Option (ℕ × Link)
+link_there p r = find (λ l. l.1.frame.at == r.at) (enumerate_from 0 (reverse p.chain))
+
+-- The cursor's events and checkpoints are those of the records from its record on.
+pub record IsCursor (p : Parts) (flags : List Bool) (c : Cursor) : Type 0 where
+  pub parts : AreParts p
+  pub events : drop c.event (events_of p) ≡ events_from p (drop c.frame p.records)
+  pub kept : marked (drop c.event flags) (drop c.event (events_of p)) ≡ filter_map (event_there (kept_by p flags)) (drop c.frame p.records)
+  pub links : enumerate_from c.link (drop c.link (reverse p.chain)) ≡ filter_map (link_there p) (drop c.frame p.records)
+
+-- What stays of the records from the cursor's on.
+abbrev pub still_output_records : Parts → List Bool → Cursor → List OutputRecord
+still_output_records p flags c = filter_map (output_record_of p (kept_by p flags)) (drop c.frame p.records)
+
+-- Whether the event of a number starts at a place and is kept, and the number behind it if it starts there.
+abbrev pub is_kept_at : List EventAt → List Bool → ℕ → ℕ → Bool
+is_kept_at es flags n at = option_map_or (λ e. (e.record_of.at == at) && unwrap_or (slice_get flags n) false) (slice_get es n) false
+
+abbrev pub event_behind : List EventAt → ℕ → ℕ → ℕ
+event_behind es n at = option_map_or (λ e. if e.record_of.at == at then n + 1 else n) (slice_get es n) n
+
+-- The checkpoint of a number if it starts at a place, and the number behind it in that case.
+abbrev pub linked_at : List Link → ℕ → ℕ → Option (ℕ × Link)
+linked_at ls n at = option_and_then (λ l. if l.frame.at == at then Some (n, l) else None) (slice_get ls n)
+
+abbrev pub link_behind : List Link → ℕ → ℕ → ℕ
+link_behind ls n at = option_map_or (λ l. if l.frame.at == at then n + 1 else n) (slice_get ls n) n

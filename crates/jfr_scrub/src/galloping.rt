@@ -1,0 +1,67 @@
+// How many events stand one behind another.
+ghost use Rattle.std.specs.Prelude.{◌≡◌, ◌+◌, ◌*◌, ◌<◌, ◌≤◌, ◌↔◌, ℕ, IsTrue};
+ghost use Rattle.jfr_chunk.specs.Parts.{AreParts};
+ghost use Rattle.jfr_scrub.specs.Runs.{HasEventAt, HasRoom, IsAtEvents};
+
+use crate::output_records::Cursor;
+use jfr_chunk::Chunk;
+
+/// How many records from the cursor's on are events, one behind another. The numbers of the events'
+/// records rise: where the record so far behind the cursor's is the event as far behind the cursor's, all
+/// records before it are events too. So few are looked at, by steps that double and then halve.
+pub(crate) fn events_ahead(chunk: &Chunk, cursor: &Cursor) -> usize
+    requires { IsAtEvents chunk.now cursor.now }
+    ensures each { (offset : ℕ) → offset < result → HasEventAt chunk.now cursor.now offset }
+    ensures last { HasEventAt chunk.now cursor.now result → ⊥ }
+{
+    let high = other_by_doubling(chunk, cursor);
+    other_by_halving(chunk, cursor, high - high / 2, high)
+}
+
+// An offset where no event stands. One does at the lower half of those before it.
+fn other_by_doubling(chunk: &Chunk, cursor: &Cursor) -> usize
+    requires { IsAtEvents chunk.now cursor.now }
+    ensures room { HasRoom cursor.now result }
+    ensures before { (offset : ℕ) → 2 * offset < result → HasEventAt chunk.now cursor.now offset }
+    ensures past { HasEventAt chunk.now cursor.now result → ⊥ }
+{
+    let mut high = 0;
+    'doubling: while is_event_at(chunk, cursor, high) {
+        high = 2 * high + 1;
+    }
+    high
+}
+
+// The first offset where no event stands, which is between these.
+fn other_by_halving(chunk: &Chunk, cursor: &Cursor, mut low: usize, mut high: usize) -> usize
+    requires at { IsAtEvents chunk.now cursor.now }
+    requires room { HasRoom cursor.now high }
+    requires order { low ≤ high }
+    requires before { (offset : ℕ) → offset < low → HasEventAt chunk.now cursor.now offset }
+    requires past { HasEventAt chunk.now cursor.now high → ⊥ }
+    ensures each { (offset : ℕ) → offset < result → HasEventAt chunk.now cursor.now offset }
+    ensures last { HasEventAt chunk.now cursor.now result → ⊥ }
+{
+    'halving: while low < high {
+        let middle = low + (high - low) / 2;
+        if is_event_at(chunk, cursor, middle) {
+            low = middle + 1;
+        } else {
+            high = middle;
+        }
+    }
+    low
+}
+
+// Whether the record so far behind the cursor's is the event as far behind the cursor's.
+#[inline(always)]
+fn is_event_at(chunk: &Chunk, cursor: &Cursor, offset: usize) -> bool
+    requires parts { AreParts chunk.now }
+    requires room { HasRoom cursor.now offset }
+    ensures { IsTrue result ↔ HasEventAt chunk.now cursor.now offset }
+{
+    match chunk.event_record(cursor.event + offset) {
+        Some(record) => record == cursor.frame + offset,
+        None => false,
+    }
+}

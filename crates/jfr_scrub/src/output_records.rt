@@ -1,0 +1,134 @@
+// What stays of the records of a chunk.
+ghost use Rattle.std.specs.Prelude.{◌≡◌, ◌||◌, ◌+◌, ◌-◌, ◌^◌, ◌<◌, [], ◌∷◌, length, slice_get, option_map, IfSome, MatchOption, Some};
+ghost use Rattle.jfr_chunk.specs.Parts.{AreParts, events_of};
+ghost use Rattle.jfr_chunk.specs.Reach.{kept_by};
+ghost use Rattle.jfr_chunk.specs.Scrub.{output_record_by, output_record_of};
+ghost use Rattle.jfr_scrub.specs.OutputRecords.{IsCursor, event_behind, is_kept_at, link_behind, linked_at, output_record_as, still_output_records};
+
+use jfr_chunk::{Chunk, Kept};
+use jfr_frame::{Framed, Frames};
+use jfr_pool::{Chain, Link};
+
+/// What stays of a record: the whole of it, or, of a chained checkpoint, what is written of it.
+/// Checkpoints are numbered in the order of the file.
+#[derive(Clone, Copy, Debug)]
+pub(crate) enum KeptRecord {
+    Whole(Framed),
+    Chained(usize, Link),
+}
+
+/// The numbers of the record, of the event and of the chained checkpoint that come next.
+#[derive(Clone, Copy, Debug)]
+pub(crate) struct Cursor {
+    pub(crate) frame: usize,
+    pub(crate) event: usize,
+    pub(crate) link: usize,
+}
+
+/// What stays next, if anything does. A record is read only where the whole of it stays.
+#[inline(always)]
+pub(crate) fn next_output_record(
+    chunk: &Chunk,
+    kept: &Kept,
+    cursor: &mut Cursor,
+) -> Option<KeptRecord>
+    requires { IsCursor chunk.now kept.now cursor.old }
+    ensures cursor { IsCursor chunk.now kept.now cursor.new }
+    ensures exact { MatchOption result (still_output_records chunk.now kept.now cursor.old ≡ []) (λ s. still_output_records chunk.now kept.now cursor.old ≡ output_record_as s ∷ still_output_records chunk.now kept.now cursor.new) }
+{
+    let frames = chunk.frames();
+    'records: while cursor.frame < frames.len() {
+        let at = place_of(frames, cursor.frame);
+        let output_record = pass_record(chunk, kept, cursor, at);
+        if output_record.is_some() {
+            return output_record;
+        }
+    }
+    None
+}
+
+// Where the record of a number starts.
+#[inline(always)]
+fn place_of(frames: &Frames, number: usize) -> usize
+    requires { number < length frames.now }
+    ensures { option_map (λ r. r.at) (slice_get frames.now number) ≡ Some result }
+{
+    match frames.place(number) {
+        Some(at) => at,
+        None => unreachable!(),
+    }
+}
+
+// What stays of the cursor's record, which starts at a place. The cursor moves behind it.
+#[inline(always)]
+fn pass_record(chunk: &Chunk, kept: &Kept, cursor: &mut Cursor, at: usize) -> Option<KeptRecord>
+    requires cursor { IsCursor chunk.now kept.now cursor.old }
+    requires there { option_map (λ r. r.at) (slice_get chunk.now.records cursor.old.frame) ≡ Some at }
+    requires more { cursor.old.frame < 2 ^ 64 - 1 }
+    ensures cursor { IsCursor chunk.now kept.now cursor.new }
+    ensures next { cursor.new.frame ≡ cursor.old.frame + 1 }
+    ensures exact { IfSome (slice_get chunk.now.records cursor.old.frame) (λ r. option_map output_record_as result ≡ output_record_of chunk.now (kept_by chunk.now kept.now) r) }
+{
+    let number = cursor.frame;
+    cursor.frame = number + 1;
+    let is_kept = pass_event(chunk, kept, &mut cursor.event, at);
+    let link = pass_link(chunk.chain(), &mut cursor.link, at);
+    let is_metadata = at as u64 == chunk.header().metadata;
+    chosen(link, is_kept, is_metadata, chunk.frames(), number)
+}
+
+// What stays of the record of a number: a chained checkpoint as one, and another record whole or not
+// at all.
+#[inline(always)]
+fn chosen(
+    link: Option<(usize, Link)>,
+    is_kept: bool,
+    is_metadata: bool,
+    frames: &Frames,
+    number: usize,
+) -> Option<KeptRecord>
+    ensures { IfSome (slice_get frames.now number) (λ r. option_map output_record_as result ≡ output_record_by link (is_kept || is_metadata) r) }
+{
+    match link {
+        Some((number, link)) => Some(KeptRecord::Chained(number, link)),
+        None => {
+            if is_kept || is_metadata {
+                Some(KeptRecord::Whole(frames.get(number)?))
+            } else {
+                None
+            }
+        }
+    }
+}
+
+// Whether a kept event starts at a place. The number moves behind an event that starts there.
+#[inline(always)]
+fn pass_event(chunk: &Chunk, kept: &Kept, number: &mut usize, at: usize) -> bool
+    ensures number { number.new ≡ event_behind (events_of chunk.now) number.old at }
+    ensures kept { result ≡ is_kept_at (events_of chunk.now) kept.now number.old at }
+{
+    let old = *number;
+    let Some(place) = chunk.event_place(old) else {
+        return false;
+    };
+    if place != at || old >= chunk.event_count() {
+        return false;
+    }
+    *number = old + 1;
+    kept.get(old).unwrap_or(false)
+}
+
+// The chained checkpoint that starts at a place, with its number, which moves behind it.
+#[inline(always)]
+fn pass_link(chain: &Chain, number: &mut usize, at: usize) -> Option<(usize, Link)>
+    ensures number { number.new ≡ link_behind chain.now number.old at }
+    ensures link { result ≡ linked_at chain.now number.old at }
+{
+    let old = *number;
+    let link = *chain.get(old)?;
+    if link.frame.at != at || old >= chain.len() {
+        return None;
+    }
+    *number = old + 1;
+    Some((old, link))
+}

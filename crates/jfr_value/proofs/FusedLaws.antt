@@ -1,0 +1,323 @@
+-- Fields that are passed at once end where they do one by one.
+use Rattle.std.specs.Prelude.{◌≡◌, ◌⊎◌, ℕ, zero, suc, ◌+◌, ◌-◌, ◌<◌, ◌≤◌, List, [], ◌∷◌, ◌++◌, take, drop, length, slice_get, Option, Some, None, Result, Ok, Err, IfOk, IfSome, nat_le, option_map, option_to_list, true, if◌then◌else◌}
+use Rattle.std.specs.List.{AllByRecursion, flat_map}
+use Rattle.std.proofs.Common.{ap, arith, get_or, inl, inr, refl, subst, sym, ◌∙◌}
+use Rattle.std.proofs.lemmas.List.{drop_all, drop_more}
+use Rattle.jfr_base.specs.declared.flaw.Flaw.{Flaw}
+use Rattle.jfr_base.specs.declared.integer.Var.{Var}
+use Rattle.jfr_base.specs.Formats.{Answer, Format, Done, Int, int_at, after_int, integer, unchecked, refused, run, seen, times}
+use Rattle.jfr_base.specs.declared.reason.Reason.TheVariants.{Short}
+use Rattle.jfr_base.proofs.SeenLaws.{then_at, then_at_ok, seen-for_each, seen-times}
+use Rattle.jfr_layout.specs.Classes.{AreFieldLayouts, Class, Classes, IsFieldLayout, inline_form, item_of}
+use Rattle.jfr_layout.specs.Fused.{AreIntegers, AreFused, AreRaw, IsEventPrelude, IsFused, IsOf, passed_by}
+use Rattle.jfr_layout.specs.Resolved.{IsClassLayout}
+use Rattle.jfr_layout.specs.declared.class_layout.ClassLayout.{ClassLayout}
+use Rattle.jfr_layout.specs.declared.fused.FusedFields.{FusedFields}
+use Rattle.jfr_layout.specs.declared.form.Form.TheVariants as forms
+use Rattle.jfr_layout.specs.declared.kind.Kind.{Kind}
+use Rattle.jfr_layout.specs.declared.kind.Kind.TheVariants as kinds
+use Rattle.jfr_layout.specs.declared.shape.Shape.{Shape}
+use Rattle.jfr_layout.specs.declared.field_layout.FieldLayout.{FieldLayout}
+use Rattle.jfr_text.specs.Strings.{string_format}
+use Rattle.jfr_value.specs.declared.leaf.LeafKind.TheVariants as leaf_kinds
+use Rattle.jfr_value.specs.Values.{IsPlaced, Value, Single, key_of, targets_of}
+use Rattle.jfr_value.specs.Reading.{base_format, class_format, item_format, row_format, shape_format}
+use Rattle.jfr_value.specs.Visits.{TakesAll, TakesRead, TakesReadAll}
+use Rattle.jfr_value.proofs.AppendLaws.{both_seen, both_taken, then_same}
+use Rattle.jfr_value.proofs.EndLaws.{key_ends, shape_item}
+use Rattle.jfr_value.proofs.FormLaws.{inline_there, key_there, plain_there}
+use Rattle.jfr_value.proofs.PlaceLaws.{get_within}
+use Rattle.jfr_value.proofs.SkipLaws.{base_skipped}
+use Rattle.jfr_value.proofs.LayoutEnds.{base_ends, inline_taken, text_ends, text_taken}
+use Rattle.jfr_value.proofs.TakingLaws.{TakesLeft, cons_taken, item_taken, no_value, plain_taken}
+
+all_take : {X : Type 0} (P : X → Type 0) (n : ℕ) (xs : List X) → AllByRecursion P xs → AllByRecursion P (take n xs)
+all_take P zero xs a = tt
+all_take P (suc n) [] a = tt
+all_take P (suc n) (x ∷ xs) a = (a.0, all_take P n xs a.1)
+
+all_drop : {X : Type 0} (P : X → Type 0) (n : ℕ) (xs : List X) → AllByRecursion P xs → AllByRecursion P (drop n xs)
+all_drop P zero xs a = a
+all_drop P (suc n) [] a = tt
+all_drop P (suc n) (x ∷ xs) a = all_drop P n xs a.1
+
+pub all_passed : (P : FieldLayout → Type 0) (ss : List FieldLayout) (l : FusedFields) → AllByRecursion P ss → AllByRecursion P (passed_by ss l)
+all_passed P ss l a = all_take P (l.first + l.fields - l.first) (drop l.first ss) (all_drop P l.first ss a)
+
+integer_kind : (kind : Kind) → forms.Integer ≡ inline_form kind → (kind ≡ kinds.Char) ⊎ ((kind ≡ kinds.Short) ⊎ ((kind ≡ kinds.Int) ⊎ (kind ≡ kinds.Long)))
+integer_kind kinds.Char e = inl refl
+integer_kind kinds.Short e = inr (inl refl)
+integer_kind kinds.Int e = inr (inr (inl refl))
+integer_kind kinds.Long e = inr (inr (inr refl))
+integer_kind kinds.Boolean e = cc
+integer_kind kinds.Byte e = cc
+integer_kind kinds.Float e = cc
+integer_kind kinds.Double e = cc
+integer_kind kinds.Text e = cc
+integer_kind kinds.Composite e = cc
+
+abbrev nothing : Format (Option ℕ)
+nothing = Done None
+
+raw_ends : (kind : Kind) (count : ℕ) (x : List ℕ) (end at : ℕ) → forms.Raw count ≡ inline_form kind → at + count ≤ end → Ok (at + count) ≡ seen (run (base_format kind) x end at)
+unfolding run
+raw_ends kind count x end at e l = by_kind kind e
+  where
+    fits : (n : ℕ) → count ≡ n → Ok (at + count) ≡ seen (if nat_le (at + n) end then run nothing x end (at + n) else refused at Short)
+    fits n h = let t : nat_le (at + count) end ≡ true = grind arith in subst (λ m. Ok (at + count) ≡ seen (if nat_le (at + m) end then run nothing x end (at + m) else refused at Short)) h (rw t refl)
+
+    by_kind : (kind : Kind) → forms.Raw count ≡ inline_form kind → Ok (at + count) ≡ seen (run (base_format kind) x end at)
+    by_kind kinds.Boolean e = fits 1 (let h : forms.Raw count ≡ forms.Raw 1 = e in cc)
+    by_kind kinds.Byte e = fits 1 (let h : forms.Raw count ≡ forms.Raw 1 = e in cc)
+    by_kind kinds.Float e = fits 4 (let h : forms.Raw count ≡ forms.Raw 4 = e in cc)
+    by_kind kinds.Double e = fits 8 (let h : forms.Raw count ≡ forms.Raw 8 = e in cc)
+    by_kind kinds.Char e = cc
+    by_kind kinds.Short e = cc
+    by_kind kinds.Int e = cc
+    by_kind kinds.Long e = cc
+    by_kind kinds.Text e = cc
+    by_kind kinds.Composite e = cc
+
+module _ (k : Classes) (levels : ℕ) (x : List ℕ) (end : ℕ) where
+  abbrev inline : Shape → Format Value
+  inline = class_format (levels + 1) k
+
+  abbrev one : FieldLayout → Format Value
+  one s = shape_format inline s.shape
+
+  abbrev row : List FieldLayout → ℕ → Answer (List Value)
+  row ss at = run (row_format (levels + 1) k ss) x end at
+
+  placed : (s : FieldLayout) → IsFieldLayout k s → IsPlaced k s
+  placed s i = record { form = i.form; of_class = λ o. i }
+
+  -- a row of one field
+  alone_seen : (s : FieldLayout) (at : ℕ) → seen (row (s ∷ []) at) ≡ seen (run (one s) x end at)
+  unfolding run
+  alone_seen s at = seen-for_each s [] one x end at ∙ then_at_ok (seen (run (one s) x end at))
+
+  integer_seen : (s : FieldLayout) (at : ℕ) → IsFieldLayout k s → s.form ≡ forms.Integer → seen (run integer x end at) ≡ seen (run (one s) x end at)
+  integer_seen s at i e =
+      let m = inline_there s i.form forms.Integer e tt in
+      base_skipped s.kind x end at (integer_kind s.kind m.form) ∙ base_ends k s levels x end at (placed s i) forms.Integer m (λ q. cc)
+
+  each_integer_seen : (ss : List FieldLayout) (at : ℕ) → AllByRecursion (IsFieldLayout k) ss → AllByRecursion (λ s. s.form ≡ forms.Integer) ss → seen (run (times (length ss) integer) x end at) ≡ seen (row ss at)
+  unfolding run
+  each_integer_seen [] at i e = refl
+  each_integer_seen (s ∷ ss) at i e =
+      seen-times (length ss) integer x end at
+      ∙ (then_same (seen (run integer x end at)) (seen (run (one s) x end at)) (λ p. seen (run (times (length ss) integer) x end p)) (λ p. seen (row ss p)) (integer_seen s at i.0 e.0) (λ p. each_integer_seen ss p i.1 e.1)
+      ∙ sym (seen-for_each s ss one x end at))
+
+  pub integers_seen : (count : ℕ) (ss : List FieldLayout) (at : ℕ) → AllByRecursion (IsFieldLayout k) ss → AreIntegers count ss → seen (run (times count integer) x end at) ≡ seen (row ss at)
+  integers_seen count ss at i e = ap (λ n. seen (run (times n integer) x end at)) (sym e.0) ∙ each_integer_seen ss at i e.1
+
+  pub integer_alone : (ss : List FieldLayout) (at : ℕ) → AllByRecursion (IsFieldLayout k) ss → AreIntegers 1 ss → seen (run integer x end at) ≡ seen (row ss at)
+  unfolding run
+  integer_alone ss at i e = sym (seen-times 0 integer x end at ∙ then_at_ok (seen (run integer x end at))) ∙ integers_seen 1 ss at i e
+
+  raw_one : (s : FieldLayout) (count at : ℕ) → IsFieldLayout k s → s.form ≡ forms.Raw count → at + count ≤ end → Ok (at + count) ≡ seen (run (one s) x end at)
+  raw_one s count at i e l =
+      let m = inline_there s i.form (forms.Raw count) e tt in
+      raw_ends s.kind count x end at m.form l ∙ base_ends k s levels x end at (placed s i) (forms.Raw count) m (λ q. cc)
+
+  pub raw_seen : (ss : List FieldLayout) (count at : ℕ) → AllByRecursion (IsFieldLayout k) ss → AreRaw count ss → at + count ≤ end → Ok (at + count) ≡ seen (row ss at)
+  unfolding run
+  raw_seen [] count at i a l = let z : at + count ≡ at = omega (arith, a) in ap (λ n. Ok n) z
+  raw_seen (s ∷ ss) count at i a l =
+      let bytes : ℕ = a.0 in
+      let rest : ℕ = a.1 in
+      let z : at + count ≡ at + bytes + rest = omega (arith, a.3) in
+      ap (λ n. Ok n) z
+      ∙ (raw_seen ss rest (at + bytes) i.1 a.4 (omega (arith, l, a.3))
+      ∙ (ap (λ r. then_at r (λ p. seen (row ss p))) (raw_one s bytes at i.0 a.2 (omega (arith, l, a.3)))
+      ∙ sym (seen-for_each s ss one x end at)))
+
+  key_one : (class : ℕ) (s : FieldLayout) (at : ℕ) → IsFieldLayout k s → IsOf forms.Key class s → seen (run integer x end at) ≡ seen (run (one s) x end at)
+  key_one class s at i o =
+      let m = key_there s i.form o.0 in
+      key_ends inline s.shape x end at m.1 ∙ sym (shape_item inline s.shape x end at m.0)
+
+  pub key_seen : (class : ℕ) (ss : List FieldLayout) (at : ℕ) → AllByRecursion (IsFieldLayout k) ss → (s : FieldLayout) × (ss ≡ s ∷ []) × IsOf forms.Key class s → seen (run integer x end at) ≡ seen (row ss at)
+  key_seen class ss at i h =
+      let j = subst (AllByRecursion (IsFieldLayout k)) h.1 i in
+      key_one class h.0 at j.0 h.2 ∙ (sym (alone_seen h.0 at) ∙ ap (λ z. seen (row z at)) (sym h.1))
+
+  pub text_seen : (class : ℕ) (ss : List FieldLayout) (at : ℕ) → AllByRecursion (IsFieldLayout k) ss → (s : FieldLayout) × (ss ≡ s ∷ []) × IsOf forms.Text class s → seen (run (base_format kinds.Text) x end at) ≡ seen (row ss at)
+  text_seen class ss at i h =
+      let j = subst (AllByRecursion (IsFieldLayout k)) h.1 i in
+      text_ends k h.0 levels x end at (placed h.0 j.0) h.2.0 ∙ (sym (alone_seen h.0 at) ∙ ap (λ z. seen (row z at)) (sym h.1))
+
+  -- what is taken of them
+  module _ {A : Type 0} (takes : ℕ × ℕ → A → A → Type 0) where
+    cons_ends : (s : FieldLayout) (ss : List FieldLayout) (at : ℕ) (old now new : A) → TakesRead takes (run (one s) x end at) old now → ((to : ℕ) → Ok to ≡ seen (run (one s) x end at) → TakesReadAll takes (row ss to) now new) → TakesReadAll takes (row (s ∷ ss) at) old new
+    cons_ends s ss at old now new h t = by_end (seen (run (one s) x end at)) refl
+      where
+        by_end : (r : Result ℕ Flaw) → seen (run (one s) x end at) ≡ r → TakesReadAll takes (row (s ∷ ss) at) old new
+        by_end (Ok to) e = cons_taken takes x end at (one s) (row_format (levels + 1) k ss) to old now new e h (t to (sym e))
+        by_end (Err w) e = no_value (row (s ∷ ss) at) w (λ got. _) (sym (seen-for_each s ss one x end at ∙ ap (λ r. then_at r (λ p. seen (row ss p))) e))
+
+    alone_taken : (s : FieldLayout) (at : ℕ) (old new : A) → TakesRead takes (run (one s) x end at) old new → TakesReadAll takes (row (s ∷ []) at) old new
+    unfolding run
+    alone_taken s at old new h = cons_ends s [] at old new new h (λ to e. refl)
+
+    abbrev IsPlain : FieldLayout → Type 0
+    IsPlain s = (s.form ≡ forms.Integer) ⊎ ((count : ℕ) × (s.form ≡ forms.Raw count))
+
+    plain_one : (s : FieldLayout) (at : ℕ) (a : A) → IsFieldLayout k s → IsPlain s → TakesRead takes (run (one s) x end at) a a
+    plain_one s at a i e =
+        let m = plain_there s i.form e in
+        inline_taken k s levels x end at (placed s i) takes a a m.array m.constant (plain_taken takes x end at (levels + 1) k s a (omega arith) i m.not_composite m.not_text)
+
+    plain_all : (ss : List FieldLayout) (at : ℕ) (a : A) → AllByRecursion (IsFieldLayout k) ss → AllByRecursion IsPlain ss → TakesReadAll takes (row ss at) a a
+    unfolding run
+    plain_all [] at a i e = refl
+    plain_all (s ∷ ss) at a i e = cons_ends s ss at a a a (plain_one s at a i.0 e.0) (λ to q. plain_all ss to a i.1 e.1)
+
+    all_integers : (ss : List FieldLayout) → AllByRecursion (λ s. s.form ≡ forms.Integer) ss → AllByRecursion IsPlain ss
+    all_integers [] e = tt
+    all_integers (s ∷ ss) e = (inl e.0, all_integers ss e.1)
+
+    all_raw : (ss : List FieldLayout) (count : ℕ) → AreRaw count ss → AllByRecursion IsPlain ss
+    all_raw [] count a = tt
+    all_raw (s ∷ ss) count a = (inr (a.0, a.2), all_raw ss a.1 a.4)
+
+    pub integers_taken : (count : ℕ) (ss : List FieldLayout) (at : ℕ) (a : A) → AllByRecursion (IsFieldLayout k) ss → AreIntegers count ss → TakesReadAll takes (row ss at) a a
+    integers_taken count ss at a i e = plain_all ss at a i (all_integers ss e.1)
+
+    pub raw_taken : (ss : List FieldLayout) (count at : ℕ) (a : A) → AllByRecursion (IsFieldLayout k) ss → AreRaw count ss → TakesReadAll takes (row ss at) a a
+    raw_taken ss count at a i e = plain_all ss at a i (all_raw ss count e)
+
+    key_item : (s : Shape) (at : ℕ) (old new : A) → s.constant ≡ true → IfOk (run integer x end at) (λ key. takes (s.class, key.value) old new) → TakesRead takes (run (item_format inline (item_of s)) x end at) old new
+    unfolding run
+    key_item s at old new o h =
+        subst (λ t. TakesRead takes (run (if t then Int unchecked (λ key b. Done (Single (item_of s) (leaf_kinds.Key key) b (Some key))) else inline (item_of s)) x end at) old new) (sym o) (by_int (int_at x at end) h)
+      where
+        by_int : (o : Option Var) → IfOk (after_int x at unchecked (λ v b p. run (Done v) x end p) o) (λ key. takes (s.class, key.value) old new)
+            → IfOk (after_int x at unchecked (λ v b p. run (Done (Single (item_of s) (leaf_kinds.Key v) b (Some v))) x end p) o) (λ got. TakesAll takes (targets_of got.value) old new)
+        by_int None h = tt
+        by_int (Some v) h = (new, h, refl)
+
+    pub key_taken : (class : ℕ) (ss : List FieldLayout) (at : ℕ) (old new : A) → AllByRecursion (IsFieldLayout k) ss → (s : FieldLayout) × (ss ≡ s ∷ []) × IsOf forms.Key class s → IfOk (run integer x end at) (λ key. takes (class, key.value) old new)
+        → TakesReadAll takes (row ss at) old new
+    key_taken class ss at old new i h t =
+        let s : FieldLayout = h.0 in
+        let j = subst (AllByRecursion (IsFieldLayout k)) h.1 i in
+        let m = key_there s j.0.form h.2.0 in
+        let u = subst (λ c. IfOk (run integer x end at) (λ key. takes (c, key.value) old new)) (sym h.2.1) t in
+        subst (λ z. TakesReadAll takes (row z at) old new) (sym h.1) (alone_taken s at old new (item_taken takes x end at inline s.shape old new m.0 (key_item s.shape at old new m.1 u)))
+
+    pub text_taken_all : (class : ℕ) (ss : List FieldLayout) (at : ℕ) (old new : A) → AllByRecursion (IsFieldLayout k) ss → (s : FieldLayout) × (ss ≡ s ∷ []) × IsOf forms.Text class s
+        → IfOk (run (string_format true) x end at) (λ got. TakesAll takes (option_to_list (option_map (λ key. (class, key)) (key_of got.value))) old new) → TakesReadAll takes (row ss at) old new
+    text_taken_all class ss at old new i h t =
+        let s : FieldLayout = h.0 in
+        let j = subst (AllByRecursion (IsFieldLayout k)) h.1 i in
+        let u = subst (λ c. IfOk (run (string_format true) x end at) (λ got. TakesAll takes (option_to_list (option_map (λ key. (c, key)) (key_of got.value))) old new)) (sym h.2.1) t in
+        subst (λ z. TakesReadAll takes (row z at) old new) (sym h.1) (alone_taken s at old new (text_taken k s levels x end at (placed s j.0) takes old new h.2.0 u))
+
+  -- the front: two integers, a key, and a key
+  module _ (thread trace : ℕ) (ss : List FieldLayout) (i : AllByRecursion (IsFieldLayout k) ss) (f : IsEventPrelude thread trace ss) where
+    abbrev begun : List FieldLayout
+    begun = f.start ∷ f.duration ∷ []
+
+    each : AllByRecursion (IsFieldLayout k) (f.start ∷ f.duration ∷ f.threads ∷ f.traces ∷ [])
+    each = subst (AllByRecursion (IsFieldLayout k)) f.all i
+
+    begun_seen : (at : ℕ) → seen (run (times 2 integer) x end at) ≡ seen (row begun at)
+    begun_seen at = integers_seen 2 begun at (each.0, (each.1.0, tt)) (refl, (f.start_is, (f.duration_is, tt)))
+
+    thread_seen : (at : ℕ) → seen (run integer x end at) ≡ seen (row (f.threads ∷ []) at)
+    thread_seen at = key_seen thread (f.threads ∷ []) at (each.1.1.0, tt) (f.threads, refl, f.thread_is)
+
+    trace_seen : (at : ℕ) → seen (run integer x end at) ≡ seen (row (f.traces ∷ []) at)
+    trace_seen at = key_seen trace (f.traces ∷ []) at (each.1.1.1.0, tt) (f.traces, refl, f.trace_is)
+
+    -- the keys behind the integers, and the trace behind the thread
+    behind : (at : ℕ) → seen (row ss at) ≡ then_at (seen (run (times 2 integer) x end at)) (λ p. seen (row (f.threads ∷ f.traces ∷ []) p))
+    behind at =
+        ap (λ z. seen (row z at)) f.all
+        ∙ (both_seen one x end begun (f.threads ∷ f.traces ∷ []) at
+        ∙ ap (λ r. then_at r (λ p. seen (row (f.threads ∷ f.traces ∷ []) p))) (sym (begun_seen at)))
+
+    keys_seen : (at : ℕ) → seen (row (f.threads ∷ f.traces ∷ []) at) ≡ then_at (seen (run integer x end at)) (λ p. seen (run integer x end p))
+    keys_seen at =
+        both_seen one x end (f.threads ∷ []) (f.traces ∷ []) at
+        ∙ then_same (seen (row (f.threads ∷ []) at)) (seen (run integer x end at)) (λ p. seen (row (f.traces ∷ []) p)) (λ p. seen (run integer x end p)) (sym (thread_seen at)) (λ p. sym (trace_seen p))
+
+    -- where its parts end
+    abbrev then_keys : ℕ → Result ℕ Flaw
+    then_keys p = then_at (seen (run integer x end p)) (λ q. seen (run integer x end q))
+
+    front_seen : (at : ℕ) → seen (row ss at) ≡ then_at (seen (run (times 2 integer) x end at)) then_keys
+    front_seen at = behind at ∙ then_same (seen (run (times 2 integer) x end at)) (seen (run (times 2 integer) x end at)) (λ p. seen (row (f.threads ∷ f.traces ∷ []) p)) then_keys refl (λ p. keys_seen p)
+
+    pub begun_fails : (at : ℕ) (w : Flaw) → Err w ≡ seen (run (times 2 integer) x end at) → Err w ≡ seen (row ss at)
+    begun_fails at w e = ap (λ r. then_at r then_keys) e ∙ sym (front_seen at)
+
+    pub thread_fails : (at threads : ℕ) (w : Flaw) → Ok threads ≡ seen (run (times 2 integer) x end at) → Err w ≡ seen (run integer x end threads) → Err w ≡ seen (row ss at)
+    thread_fails at threads w p e = ap (λ r. then_at r (λ q. seen (run integer x end q))) e ∙ (ap (λ r. then_at r then_keys) p ∙ sym (front_seen at))
+
+    pub front_ends : (at threads traces : ℕ) (r : Result ℕ Flaw) → Ok threads ≡ seen (run (times 2 integer) x end at) → Ok traces ≡ seen (run integer x end threads) → r ≡ seen (run integer x end traces) → r ≡ seen (row ss at)
+    front_ends at threads traces r p q e = e ∙ (ap (λ r. then_at r (λ q. seen (run integer x end q))) q ∙ (ap (λ r. then_at r then_keys) p ∙ sym (front_seen at)))
+
+    pub front_taken : {A : Type 0} (takes : ℕ × ℕ → A → A → Type 0) (at threads traces : ℕ) (old now new : A) → Ok threads ≡ seen (run (times 2 integer) x end at) → Ok traces ≡ seen (run integer x end threads)
+        → IfOk (run integer x end threads) (λ key. takes (thread, key.value) old now) → IfOk (run integer x end traces) (λ key. takes (trace, key.value) now new) → TakesReadAll takes (row ss at) old new
+    front_taken takes at threads traces old now new p q h t =
+        subst (λ z. TakesReadAll takes (row z at) old new) (sym f.all)
+        (both_taken one x end takes begun (f.threads ∷ f.traces ∷ []) at threads old old new (p ∙ begun_seen at) (integers_taken takes 2 begun at old (each.0, (each.1.0, tt)) (refl, (f.start_is, (f.duration_is, tt))))
+        (both_taken one x end takes (f.threads ∷ []) (f.traces ∷ []) threads traces old now new (q ∙ thread_seen threads)
+        (key_taken takes thread (f.threads ∷ []) threads old now (each.1.1.0, tt) (f.threads, refl, f.thread_is) h)
+        (key_taken takes trace (f.traces ∷ []) traces now new (each.1.1.1.0, tt) (f.traces, refl, f.trace_is) t)))
+
+-- the row of the class at a place
+pub row_layouts : (k : Classes) (o : Option Class) (row : ClassLayout) → IfSome o (λ c. IsRow k c row) → IfSome o (λ c. AreFieldLayouts k c.fields row.layouts.items)
+row_layouts k None row h = h
+row_layouts k (Some c) row h = h.layouts
+
+pub row_fused : (k : Classes) (place : ℕ) (row : ClassLayout) → place < length k → IfSome (slice_get k place) (λ c. IsRow k c row) → AreFused row.layouts.items row.fused_fields.items
+row_fused k place row l h = let c = get_within k place l in (subst (λ o. IfSome o (λ c. IsRow k c row)) c.1 h).fused_fields
+
+-- the leaps from a number on
+module _ (ss : List FieldLayout) (fused_fields : List FusedFields) where
+  abbrev pub left_by : ℕ → List FieldLayout
+  left_by i = flat_map (passed_by ss) (drop i fused_fields)
+
+  pub fused_there : (i : ℕ) (d : FusedFields) → i < length fused_fields → AllByRecursion (IsFused ss) fused_fields → IsFused ss (get_or fused_fields i d)
+  fused_there i d h a = all_get fused_fields i d h a
+    where
+      all_get : (ls : List FusedFields) (i : ℕ) (d : FusedFields) → i < length ls → AllByRecursion (IsFused ss) ls → IsFused ss (get_or ls i d)
+      all_get [] i d h a = absurd (omega arith)
+      all_get (l ∷ ls) zero d h a = a.0
+      all_get (l ∷ ls) (suc i) d h a = all_get ls i d (omega arith) a.1
+
+  left_next : (i : ℕ) (d : FusedFields) → i < length fused_fields → left_by i ≡ passed_by ss (get_or fused_fields i d) ++ left_by (i + 1)
+  left_next i d h = ap (flat_map (passed_by ss)) (drop_more fused_fields i d h)
+
+  module _ (k : Classes) (levels : ℕ) (x : List ℕ) (end : ℕ) where
+    abbrev by_fused : ℕ → ℕ → Answer (List Value)
+    by_fused i at = run (row_format (levels + 1) k (left_by i)) x end at
+
+    left_none : (i : ℕ) → length fused_fields ≤ i → left_by i ≡ []
+    left_none i h = ap (flat_map (passed_by ss)) (drop_all i fused_fields h)
+
+    pub fused_end : (i at : ℕ) → length fused_fields ≤ i → seen (by_fused i at) ≡ Ok at
+    unfolding run
+    fused_end i at h = ap (λ z. seen (run (row_format (levels + 1) k z) x end at)) (left_none i h)
+
+    pub fused_taken : {A : Type 0} (takes : ℕ × ℕ → A → A → Type 0) (all : Answer (List Value)) (i at : ℕ) (old now : A) → length fused_fields ≤ i → TakesLeft takes all (by_fused i at) old now → TakesReadAll takes all old now
+    unfolding run
+    fused_taken takes all i at old now h l = l.then_all now (subst (λ z. TakesReadAll takes (run (row_format (levels + 1) k z) x end at) now now) (sym (left_none i h)) refl)
+
+    pub fused_step : (i at : ℕ) (d : FusedFields) → i < length fused_fields → seen (by_fused i at) ≡ then_at (seen (run (row_format (levels + 1) k (passed_by ss (get_or fused_fields i d))) x end at)) (λ p. seen (by_fused (i + 1) p))
+    fused_step i at d h =
+        ap (λ z. seen (run (row_format (levels + 1) k z) x end at)) (left_next i d h)
+        ∙ both_seen (λ (s : FieldLayout). shape_format (class_format (levels + 1) k) s.shape) x end (passed_by ss (get_or fused_fields i d)) (left_by (i + 1)) at
+
+    pub fused_goes : {A : Type 0} (takes : ℕ × ℕ → A → A → Type 0) (all : Answer (List Value)) (i at to : ℕ) (d : FusedFields) (old now new : A) → i < length fused_fields → TakesLeft takes all (by_fused i at) old now
+        → Ok to ≡ seen (run (row_format (levels + 1) k (passed_by ss (get_or fused_fields i d))) x end at) → TakesReadAll takes (run (row_format (levels + 1) k (passed_by ss (get_or fused_fields i d))) x end at) now new
+        → TakesLeft takes all (by_fused (i + 1) to) old new
+    fused_goes takes all i at to d old now new h l e t = record {
+      then_all = λ last u. l.then_all last
+          (subst (λ z. TakesReadAll takes (run (row_format (levels + 1) k z) x end at) now last) (sym (left_next i d h))
+          (both_taken (λ (s : FieldLayout). shape_format (class_format (levels + 1) k) s.shape) x end takes (passed_by ss (get_or fused_fields i d)) (left_by (i + 1)) at to now new last e t u));
+    }

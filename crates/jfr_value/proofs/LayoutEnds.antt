@@ -1,0 +1,109 @@
+-- Where a value of a slot ends, and what is taken of it, by the slot's form.
+use Rattle.std.specs.Prelude.{◌≡◌, ◌≢◌, ℕ, ◌+◌, ◌-◌, ◌≤◌, Bool, true, false, List, [], ◌∷◌, map, slice_get, Some, IfOk, IfSome, option_map, option_to_list, if◌then◌else◌}
+use Rattle.std.specs.List.{AllByRecursion}
+use Rattle.std.proofs.Common.{ap, arith, subst, sym, ◌∙◌}
+use Rattle.jfr_base.specs.Formats.{Answer, Format, Done, Int, for_each, run, seen, unchecked}
+use Rattle.jfr_layout.specs.Classes.{AreFieldLayouts, Classes, Field, IsFieldLayout, item_of}
+use Rattle.jfr_layout.specs.declared.form.Form.{Form}
+use Rattle.jfr_layout.specs.declared.form.Form.TheVariants as forms
+use Rattle.jfr_layout.specs.declared.kind.Kind.TheVariants as kinds
+use Rattle.jfr_layout.specs.declared.shape.Shape.{Shape}
+use Rattle.jfr_layout.specs.declared.field_layout.FieldLayout.{FieldLayout}
+use Rattle.jfr_text.specs.Strings.{string_format}
+use Rattle.jfr_value.specs.declared.leaf.LeafKind.TheVariants as leaf_kinds
+use Rattle.jfr_value.specs.Values.{IsPlaced, Value, Single, key_of}
+use Rattle.jfr_value.specs.Reading.{base_format, class_format, shape_format}
+use Rattle.jfr_value.specs.Visits.{TakesAll, TakesRead, TakesReadAll}
+use Rattle.jfr_value.specs.Walks.{Room}
+use Rattle.jfr_value.proofs.EndLaws.{shape_item, layout_base, layout_fields}
+use Rattle.jfr_value.proofs.FormLaws.{Inline, fields_kind, inline_there, other_kind, text_kind}
+use Rattle.jfr_value.proofs.LayoutLaws.{layout_class}
+use Rattle.jfr_value.proofs.StackLaws.{inner_room}
+use Rattle.jfr_value.proofs.TakingLaws.{fields_taken, item_taken, string_taken}
+
+-- an inline value by its class
+abbrev item : (Shape → Format Value) → Shape → Bool → Format Value
+item inline s t = if t then Int unchecked (λ key b. Done (Single (item_of s) (leaf_kinds.Key key) b (Some key))) else inline (item_of s)
+
+inline_ends : (inline : Shape → Format Value) (s : Shape) (x : List ℕ) (end at : ℕ) → s.array ≡ false → s.constant ≡ false → seen (run (inline (item_of s)) x end at) ≡ seen (run (shape_format inline s) x end at)
+inline_ends inline s x end at a o = ap (λ t. seen (run (item inline s t) x end at)) (sym o) ∙ sym (shape_item inline s x end at a)
+
+module _ (k : Classes) (s : FieldLayout) (levels : ℕ) (x : List ℕ) (end at : ℕ) (p : IsPlaced k s) where
+  abbrev reading : Answer Value
+  reading = run (shape_format (class_format (levels + 1) k) s.shape) x end at
+
+  pub base_ends : (f : Form) → Inline s f → f ≢ forms.Fields → seen (run (base_format s.kind) x end at) ≡ seen reading
+  base_ends f i n =
+      sym (layout_base (levels + 1) k s x end at (omega arith) (p.of_class i.constant) (other_kind f s.kind kinds.Composite i.form n))
+      ∙ inline_ends (class_format (levels + 1) k) s.shape x end at i.array i.constant
+
+  pub text_ends : s.form ≡ forms.Text → seen (run (base_format kinds.Text) x end at) ≡ seen reading
+  text_ends e =
+      let i = inline_there s p.form forms.Text e tt in
+      ap (λ kind. seen (run (base_format kind) x end at)) (sym (text_kind s.kind i.form)) ∙ base_ends forms.Text i (λ q. cc)
+
+  -- the class of a slot of inline fields
+  pub record FieldsThere : Type 0 where
+    pub of_class : IsFieldLayout k s
+    pub array : s.shape.array ≡ false
+    pub constant : s.shape.constant ≡ false
+    pub composite : s.kind ≡ kinds.Composite
+
+  pub fields_there : s.form ≡ forms.Fields → FieldsThere
+  fields_there e =
+      let i = inline_there s p.form forms.Fields e tt in
+      record { of_class = p.of_class i.constant; array = i.array; constant = i.constant; composite = fields_kind s.kind i.form }
+
+  -- there is an inline step less for its fields
+  pub room_left : s.form ≡ forms.Fields → Room k levels s.shape → 1 ≤ levels
+  room_left e r =
+      let f = fields_there e in
+      let c = layout_class k s f.of_class in
+      (inner_room k levels s.shape c.class r f.constant c.found (sym c.kind ∙ f.composite)).0
+
+  pub fields_end : (ss : List FieldLayout) → s.form ≡ forms.Fields → Room k levels s.shape → IfSome (slice_get k s.place) (λ c. AreFieldLayouts k c.fields ss)
+      → seen (run (for_each ss (λ z. shape_format (class_format (levels - 1 + 1) k) z.shape)) x end at) ≡ seen reading
+  fields_end ss e r a =
+      let f = fields_there e in
+      let l : 1 ≤ levels = room_left e r in
+      let m : levels - 1 + 1 ≡ levels + 1 - 1 = omega arith in
+      ap (λ n. seen (run (for_each ss (λ z. shape_format (class_format n k) z.shape)) x end at)) m
+      ∙ (sym (layout_fields (levels + 1) k s ss x end at (omega arith) f.of_class f.composite a)
+      ∙ inline_ends (class_format (levels + 1) k) s.shape x end at f.array f.constant)
+
+  module _ {A : Type 0} (takes : ℕ × ℕ → A → A → Type 0) (old new : A) where
+    pub inline_taken : s.shape.array ≡ false → s.shape.constant ≡ false → TakesRead takes (run (class_format (levels + 1) k (item_of s.shape)) x end at) old new → TakesRead takes reading old new
+    inline_taken a o h =
+        item_taken takes x end at (class_format (levels + 1) k) s.shape old new a
+        (subst (λ t. TakesRead takes (run (item (class_format (levels + 1) k) s.shape t) x end at) old new) (sym o) h)
+
+    pub text_taken : s.form ≡ forms.Text → IfOk (run (string_format true) x end at) (λ got. TakesAll takes (option_to_list (option_map (λ key. (s.shape.class, key)) (key_of got.value))) old new) → TakesRead takes reading old new
+    text_taken e h =
+        let i = inline_there s p.form forms.Text e tt in
+        inline_taken i.array i.constant (string_taken takes x end at (levels + 1) k s old new (omega arith) (p.of_class i.constant) (text_kind s.kind i.form) h)
+
+    pub fields_go : (ss : List FieldLayout) → s.form ≡ forms.Fields → Room k levels s.shape → IfSome (slice_get k s.place) (λ c. AreFieldLayouts k c.fields ss)
+        → TakesReadAll takes (run (for_each ss (λ z. shape_format (class_format (levels - 1 + 1) k) z.shape)) x end at) old new → TakesRead takes reading old new
+    fields_go ss e r a h =
+        let f = fields_there e in
+        let l : 1 ≤ levels = room_left e r in
+        let m : levels - 1 + 1 ≡ levels + 1 - 1 = omega arith in
+        inline_taken f.array f.constant (fields_taken takes x end at (levels + 1) k s ss old new (omega arith) f.of_class f.composite a
+        (subst (λ n. TakesReadAll takes (run (for_each ss (λ z. shape_format (class_format n k) z.shape)) x end at) old new) m h))
+
+-- the room for each field of a slot's class
+room_each : (k : Classes) (levels : ℕ) (fs : List Field) (ss : List FieldLayout) → map (λ s. s.shape) ss ≡ map (λ f. f.shape) fs → AllByRecursion (λ f. Room k levels f.shape) fs → AllByRecursion (λ s. Room k levels s.shape) ss
+room_each k levels fs [] e a = tt
+room_each k levels [] (s ∷ ss) e a = cc
+room_each k levels (f ∷ fs) (s ∷ ss) e a =
+    let q : f.shape ≡ s.shape = (let z : s.shape ∷ map (λ s. s.shape) ss ≡ f.shape ∷ map (λ f. f.shape) fs = e in cc) in
+    let r : map (λ s. s.shape) ss ≡ map (λ f. f.shape) fs = (let z : s.shape ∷ map (λ s. s.shape) ss ≡ f.shape ∷ map (λ f. f.shape) fs = e in cc) in
+    (subst (Room k levels) q a.0, room_each k levels fs ss r a.1)
+
+pub room_within : (k : Classes) (s : FieldLayout) (levels : ℕ) (ss : List FieldLayout) → IsPlaced k s → s.form ≡ forms.Fields → Room k levels s.shape → IfSome (slice_get k s.place) (λ c. AreFieldLayouts k c.fields ss)
+    → AllByRecursion (λ z. Room k (levels - 1) z.shape) ss
+room_within k s levels ss p e r a =
+    let i = inline_there s p.form forms.Fields e tt in
+    let c = layout_class k s (p.of_class i.constant) in
+    room_each k (levels - 1) c.class.fields ss (subst (λ o. IfSome o (λ c. AreFieldLayouts k c.fields ss)) c.there a).shapes
+    (inner_room k levels s.shape c.class r i.constant c.found (sym c.kind ∙ fields_kind s.kind i.form)).1
