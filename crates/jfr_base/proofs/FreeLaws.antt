@@ -1,8 +1,18 @@
 -- Formats without places: what they read somewhere, they read exactly from these bytes.
-use Rattle.std.specs.Prelude.{◌≡◌, ℕ, zero, suc, ◌+◌, ◌-◌, ◌≤◌, List, [], ◌∷◌, ◌++◌, length, slice_range, slice_index, Bool, true, false, if◌then◌else◌}
+use Rattle.std.specs.Prelude.{⊤, ◌≡◌, ℕ, zero, suc, ◌+◌, ◌-◌, ◌≤◌, List, [], ◌∷◌, ◌++◌, length, slice_range, slice_index, Bool, true, false, if◌then◌else◌}
 use Rattle.std.proofs.Common.{ap, arith, refl, ◌∙◌}
-use Rattle.jfr_base.specs.Formats.{Format, Done, Stop, Int, Byte, Run, Here, Refuse, ◌>>=◌, with_bytes, times, for_each, Exactly, Reads, PlaceFree}
+use Rattle.jfr_base.specs.Formats.{Format, Done, Stop, Int, Byte, Run, Here, Refuse, ◌>>=◌, with_bytes, times, for_each, Exactly, Reads}
 use Rattle.jfr_base.proofs.Ranges.{range_split, range_length, range_one}
+
+-- No unit asks for a place or for the end.
+abbrev pub PlaceFree : {A : Type 0} → Format A → Type 0
+PlaceFree (Done a) = ⊤
+PlaceFree (Stop next) = ⊥
+PlaceFree (Int check next) = (v : ℕ) (s : List ℕ) → PlaceFree (next v s)
+PlaceFree (Byte check next) = (c : ℕ) → PlaceFree (next c)
+PlaceFree (Run n next) = (s : List ℕ) → PlaceFree (next s)
+PlaceFree (Here next) = ⊥
+PlaceFree (Refuse why) = ⊤
 
 pub record ReadExactly {A : Type 0} (f : Format A) (x : List ℕ) (end at : ℕ) (a : A) (to : ℕ) : Type 0 where
   pub order : at ≤ to

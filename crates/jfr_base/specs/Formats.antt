@@ -85,7 +85,7 @@ Fails (Run n next) x end at o why =
 Fails (Here next) x end at o why = Fails (next at) x end at o why
 Fails (Refuse r) x end at o why = (o ≡ at) × (why ≡ r)
 
--- These bytes, and no others, are read as the value, at whatever place.
+-- These bytes, and no others, are read as the value, at whatever place. A format that asks for a place or for the end reads no bytes so.
 abbrev pub Exactly : {A : Type 0} → Format A → List ℕ → A → Type 0
 Exactly (Done a) b value = (value ≡ a) × (b ≡ [])
 Exactly (Stop next) b value = ⊥
@@ -95,17 +95,7 @@ Exactly (Run n next) b value = (h r : List ℕ) × (b ≡ h ++ r) × (length h �
 Exactly (Here next) b value = ⊥
 Exactly (Refuse why) b value = ⊥
 
--- No unit asks for a place or for the end.
-abbrev pub PlaceFree : {A : Type 0} → Format A → Type 0
-PlaceFree (Done a) = ⊤
-PlaceFree (Stop next) = ⊥
-PlaceFree (Int check next) = (v : ℕ) (s : List ℕ) → PlaceFree (next v s)
-PlaceFree (Byte check next) = (c : ℕ) → PlaceFree (next c)
-PlaceFree (Run n next) = (s : List ℕ) → PlaceFree (next s)
-PlaceFree (Here next) = ⊥
-PlaceFree (Refuse why) = ⊤
-
--- The same by computing, over the bytes of x before an end: the value and the place after it, or the place and the reason.
+-- A format read by computing, over the bytes of x before an end: the value and the place after it, or the place and the reason.
 pub record Got (A : Type 0) : Type 0 where
   pub value : A
   pub place : ℕ

@@ -52,7 +52,7 @@ pub fn read_within(bytes: &[u8], at: usize, end: usize) -> Result<Var, Flaw>
     var_within(bytes, at, end)
 }
 
-/// The same, by computing.
+/// Reads the integer at a place that ends before an end, stated by what the definition computes.
 #[inline(always)]
 fn var_within(bytes: &[u8], at: usize, end: usize) -> Result<Var, Flaw>
     requires order { at ≤ end }
@@ -81,6 +81,7 @@ pub fn read_short(bytes: &[u8], at: usize, end: usize) -> Option<Var>
     requires order { at ≤ end }
     requires within { end ≤ length bytes.now }
     ensures range { IfSome result (λ v. (at < v.end) × (v.end ≤ end)) }
+    ensures ok { IfSome result (λ v. IntAt bytes.now at v.end v.value) }
     ensures exact { IfSome result (λ v. int_at bytes.now at end ≡ Some v) }
     ensures longer { result ≡ None → IfSome (int_at bytes.now at end) (λ v. at + 2 < v.end) }
 {
@@ -107,7 +108,7 @@ pub fn read_short(bytes: &[u8], at: usize, end: usize) -> Option<Var>
     None
 }
 
-/// The same, where there is room for all groups, by a loop of a fixed length.
+/// Reads an integer where nine bytes are there, by a loop of a fixed length.
 #[inline(always)]
 fn read_groups(bytes: &[u8], at: usize) -> Var
     requires room { at + 8 < length bytes.now }
@@ -132,7 +133,7 @@ fn read_groups(bytes: &[u8], at: usize) -> Var
     }
 }
 
-/// The same among the last eight bytes, where no ninth group has room.
+/// Reads an integer among the last eight bytes, where no ninth group is possible.
 #[cold]
 fn read_last(bytes: &[u8], at: usize, end: usize) -> Result<Var, Flaw>
     requires order { at ≤ end }

@@ -1,4 +1,4 @@
--- Numbers that are noted one after another.
+-- Numbers of entries, added one after another.
 use Rattle.std.specs.Prelude.{◌≡◌, ℕ, ◌+◌, ◌≤◌, false, List, ◌++◌, length}
 use Rattle.jfr_chunk.specs.declared.refs.ConstantRefs.{ConstantRefs}
 

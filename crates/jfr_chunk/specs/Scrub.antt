@@ -11,7 +11,7 @@ use Rattle.jfr_chunk.specs.Parts.{Parts, EventAt, metadata_at}
 use Rattle.jfr_chunk.specs.Reach.{remain}
 use Rattle.jfr_chunk.specs.Written.{Group, by_pool, distance, checkpoint_bytes}
 
--- What stays of a record: the whole of it, or, of a chained checkpoint, what is written of it. Checkpoints are numbered in file order.
+-- What is written of a record: the whole of it, or, of a chained checkpoint, the pools that have an entry left. Checkpoints are numbered in file order.
 pub data OutputRecord : Type 0 where
   Whole : (frame : Framed) → OutputRecord
   Chained : (number : ℕ) (link : Link) → OutputRecord
@@ -28,7 +28,7 @@ output_records_whole p kept r = list_any (λ e. e.record_of.at == r.at) kept || 
 abbrev pub output_record_of : Parts → List EventAt → Framed → Option OutputRecord
 output_record_of p kept r = output_record_by (find (λ l. l.1.frame.at == r.at) (enumerate_from 0 (reverse p.chain))) (output_records_whole p kept r) r
 
--- What stays of the records, in order.
+-- The output records of a chunk, in order.
 abbrev pub output_records : Parts → List EventAt → List OutputRecord
 output_records p kept = filter_map (output_record_of p kept) p.records
 
@@ -53,7 +53,7 @@ abbrev pub older_after : OutputRecord → ℕ → Option ℕ → Option ℕ
 older_after (Whole r) at older = older
 older_after (Chained number l) at older = Some at
 
--- What stays, one behind another.
+-- The output records, one behind another.
 abbrev pub written : List ℕ → List EntryAt → ℕ → Option ℕ → List OutputRecord → List Written
 written c left at older [] = []
 written c left at older (s ∷ ss) = record { output_record = s; at = at; older = older } ∷ written c left (at + length (bytes_of c left s at older)) (older_after s at older) ss
@@ -64,7 +64,7 @@ last_at None [] = 0
 last_at (Some at) [] = at
 last_at older (w ∷ ws) = last_at (older_after w.output_record w.at older) ws
 
--- The record that stays.
+-- The record of which it is written.
 abbrev pub record_of : OutputRecord → Framed
 record_of (Whole r) = r
 record_of (Chained number l) = l.frame
@@ -77,7 +77,7 @@ moved ws at = option_map_or (λ w. w.at) (find (λ w. (record_of w.output_record
 abbrev pub header_with : List ℕ → ℕ → ℕ → ℕ → List ℕ
 header_with c size pools metadata = header_bytes (record (header_of (take 68 c)) { size = size; pools = pools; metadata = metadata })
 
--- The chunk of what stays, with these entries left.
+-- The chunk of these output records, with these entries left.
 abbrev pub assembled : Parts → List EntryAt → List OutputRecord → List ℕ
 assembled p left ss =
     let ws = written p.bytes left 68 None ss in

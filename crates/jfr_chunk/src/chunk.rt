@@ -41,7 +41,7 @@ const NO_CHECKPOINT: Flaw = Flaw {
 };
 
 /// Where the fields of an event stand: the number of its record, with which nearly all end; and how many
-/// numbers of entries are noted up to the last one to which it refers. A chunk has so many events that
+/// numbers of entries are indexed up to the last one to which it refers. A chunk has so many events that
 /// these are kept short: none is larger than the chunk.
 #[derive(Clone, Copy, Debug)]
 pub(crate) struct EventIndexEntry {
@@ -88,13 +88,13 @@ impl<'a> Chunk<'a> {
         ensures ok { IfOk result (λ chunk. chunk.bytes ≡ bytes.now) }
         ensures refused { IfErr result (IfFlawed (Refused bytes.now)) }
 
-        // The same by computing.
+        // By computing: what the definition gives.
         ensures exact { MatchResult result (λ chunk. read_parts bytes.now ≡ Ok chunk) (TellsFlaw (read_parts bytes.now)) }
     {
         Chunk::read_in(alloc, Room::new(alloc), bytes)
     }
 
-    /// The same, where the indexes are kept in the room of an earlier chunk.
+    /// Reads a whole chunk as `read` does, with the indexes in the room of an earlier chunk.
     pub fn read_in(alloc: Global, room: Room, bytes: &'a [u8]) -> Result<Chunk<'a>, ReadFault>
         requires { Whole bytes.now }
         ensures ok { IfOk result (λ chunk. chunk.bytes ≡ bytes.now) }
@@ -292,7 +292,7 @@ fn end_of_fields(early: &BTreeMap<u32, u32>, number: u32, frame: Framed) -> usiz
     }
 }
 
-// How many numbers are noted of the events before the one of a number.
+// How many references the events before the one of a number have.
 #[inline]
 fn refs_before(events: &[EventIndexEntry], number: usize) -> usize
     requires { number < length events.now }

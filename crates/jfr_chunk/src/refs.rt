@@ -1,4 +1,4 @@
-// The numbers of the entries to which values refer, noted while their ends are looked for.
+// The numbers of the entries to which values refer, collected while their ends are looked for.
 ghost use Rattle.std.specs.Prelude.{◌≡◌, ◌<◌, ◌^◌, [], ◌∷◌, false};
 ghost use Rattle.jfr_chunk.specs.Refs.{AddsRefs};
 
@@ -27,7 +27,7 @@ impl ConstantRefs {
         }
     }
 
-    /// Notes a number.
+    /// Adds a number.
     #[inline(always)]
     fn add(&mut self, number: usize)
         requires { number < 2 ^ 32 }
@@ -50,7 +50,7 @@ impl Visit<Pools> for ConstantRefs {
 
     ghost takes = { λ pools target old new. AddsRefs (those (number_in_force pools) (target ∷ [])) old new };
 
-    /// Notes the number of the entry in force to which a target refers, where there is one.
+    /// Adds the number of the entry in force to which a target refers, where there is one.
     #[inline(always)]
     fn visit(&mut self, pools: &Pools, class: u64, key: u64) {
         if let Some(number) = pools.entry(class, key) {

@@ -28,7 +28,7 @@ given_at ExcludeCategories g = g.exclude_categories
 given_at IncludeThreads g = g.include_threads
 given_at ExcludeThreads g = g.exclude_threads
 
--- The same, and this option with these patterns.
+-- A filter that has this option with these patterns besides.
 abbrev pub with_patterns : Side → List (List ℕ) → Given → Given
 with_patterns IncludeEvents patterns g = record g { include_events = Some patterns }
 with_patterns ExcludeEvents patterns g = record g { exclude_events = Some patterns }

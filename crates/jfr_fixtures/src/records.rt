@@ -42,7 +42,7 @@ pub const RINGS: &[u8] = &[
     4, 3, 1, 0x72, 4, 3, 3, 1, 0x73,
 ];
 
-/// The same, with a byte after the last field of the second event.
+/// These events, with a byte after the last field of the second event.
 pub const BYTES_LEFT: &[u8] = &[
     5, 8, 0xAC, 2, 1, 4, 9, 3, 0xFF, 0x1D, 1, 0, 0, 0, 0, 1, 7, 4, 1, 2, 3, 1, 0x70, 2, 1, 3, 1,
     0x71, 3, 4, 3, 1, 0x72, 4, 3, 3, 1, 0x73,

@@ -63,7 +63,7 @@ abbrev pub Rising : ℕ → List Framed → Type 0
 Rising p [] = ⊤
 Rising p (r ∷ rs) = (p ≤ r.at) × Rising (r.at + 1) rs
 
--- The same by computing: the record that starts at a place, if one does; its size and its type are read, and it has to cover both and to end within the chunk.
+-- By computing: the record that starts at a place, if one does; its size and its type are read, and it has to cover both and to end within the chunk.
 abbrev pub covering : List ℕ → ℕ → Var → Var → Option Framed
 covering c at size id =
     if nat_le id.end (at + size.value) && nat_le (at + size.value) (length c)

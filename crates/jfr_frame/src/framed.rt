@@ -1,5 +1,5 @@
 // One record of a chunk.
-ghost use Rattle.std.specs.Prelude.{ℕ, ◌≡◌, ◌≢◌, ◌+◌, ◌<◌, ◌≤◌, ◌↔◌, length, None, Some, Ok, IfOk, IfErr, IfSome, MatchResult};
+ghost use Rattle.std.specs.Prelude.{ℕ, ◌≡◌, ◌≢◌, ◌+◌, ◌^◌, ◌<◌, ◌≤◌, ◌↔◌, length, None, Some, Ok, IfOk, IfErr, IfSome, MatchResult};
 ghost use Rattle.jfr_base.specs.Formats.{int_at};
 ghost use Rattle.jfr_base.specs.Integer.{IntAt};
 ghost use Rattle.jfr_base.specs.declared.reason.Reason.TheVariants as reasons;
@@ -19,7 +19,18 @@ pub struct Framed {
     pub body: usize,
 }
 
-ghost use Rattle.jfr_frame.specs.Records.{covering, IsRecord, NoRecord, record_at};
+impl Framed {
+    /// Where the record ends.
+    #[inline(always)]
+    pub fn end(&self) -> usize
+        requires { record_end self.now < 2 ^ 64 }
+        ensures { result ≡ record_end self.now }
+    {
+        self.at + self.size
+    }
+}
+
+ghost use Rattle.jfr_frame.specs.Records.{covering, IsRecord, NoRecord, record_at, record_end};
 
 /// So many bytes the size and the type of a usual record take at most. The JDK writes a size in one byte
 /// or pads it to four, and nearly all types take one or two.
@@ -35,7 +46,7 @@ pub fn next_record(chunk: &[u8], at: usize) -> Result<Option<Framed>, Flaw>
     ensures ok { IfOk result (λ found. IfSome found (λ r. (r.at ≡ at) × IsRecord chunk.now r)) }
     ensures refused { IfErr result (λ flaw. (flaw ≡ record { offset = at; reason = reasons.RecordSize }) × (at < length chunk.now) × NoRecord chunk.now at) }
 
-    // The same by computing.
+    // By computing: what the definition gives.
     ensures exact { at < length chunk.now → MatchResult result (λ found. (found ≡ record_at chunk.now at) × (found ≢ None)) (λ flaw. record_at chunk.now at ≡ None) }
 {
     if at == chunk.len() {
@@ -70,8 +81,8 @@ fn framed_at(chunk: &[u8], at: usize) -> Option<Framed>
     }
 }
 
-/// The same, whatever the size and the type are spelled in. What the call out of line gives is taken
-/// apart in a function of its own: else the usual way would write zeros where it is to lie.
+/// A record whose size and type are spelled in any number of bytes. What the call out of line gives is
+/// taken apart in a function of its own, so that the fast path's result stays in registers.
 #[inline(always)]
 fn unusual_at(chunk: &[u8], at: usize) -> Option<Framed>
     requires { at < length chunk.now }
@@ -80,7 +91,7 @@ fn unusual_at(chunk: &[u8], at: usize) -> Option<Framed>
     Some(unusual_out_of_line(chunk, at)?)
 }
 
-/// The same, out of line, with integers of any length.
+/// A record, out of line, with integers of any length.
 #[cold]
 #[inline(never)]
 #[tactic(auto, unfolding(crate::specs::Records::record_at))]

@@ -42,13 +42,13 @@ impl<'a> Frames<'a> {
         ensures ok { IfOk result (λ rs. AreRecords chunk.now rs) }
         ensures refused { IfErr result (λ fault. RefusedAt chunk.now fault) }
 
-        // The same by computing.
+        // By computing: what the definition gives.
         ensures exact { IfOk result (λ rs. records_of chunk.now ≡ Ok rs) }
     {
         Frames::read_in(FrameRoom::new(alloc), chunk)
     }
 
-    /// The same, where the starts are kept in this room, whose content is given up. `Memory` also for
+    /// Reads the records of a chunk, and keeps their starts in this room, whose content is given up. `Memory` also for
     /// 2 ^ 32 bytes and more, as there.
     pub fn read_in(room: FrameRoom, chunk: &'a [u8]) -> Result<Frames<'a>, ReadFault>
         requires { 68 ≤ length chunk.now }
@@ -64,7 +64,7 @@ impl<'a> Frames<'a> {
         let mut at = 68;
         'records: while let Some(record) = next_record(chunk, at)? {
             starts.push(Start::of(record))?;
-            at = record.at + record.size;
+            at = record.end();
         }
         Ok(Frames { chunk, starts })
     }

@@ -30,13 +30,20 @@ pub record Given (old new : Cutter) : Type 0 where
   pub given : new.given ≡ true
   pub live : new.live ≡ true
 
+-- no chunk was given: the cutter is closed, and knows the last chunk's number as before
+pub record Closed (old new : Cutter) : Type 0 where
+  pub start : new.start ≡ old.start
+  pub number : new.number ≡ old.number
+  pub given : new.given ≡ old.given
+  pub live : new.live ≡ false
+
 -- what an answer says, whether the place tells its content or not
 abbrev pub CutOf : Cut → Cutter → Cutter → Type 0
 CutOf Chunk old new = Given old new
-CutOf End old new = (old.given ≡ true) × (new.live ≡ false)
-CutOf (Refused r) old new = (r.chunk ≡ old.number) × (new.live ≡ false)
-CutOf Failed old new = new.live ≡ false
-CutOf Memory old new = new.live ≡ false
+CutOf End old new = (old.given ≡ true) × Closed old new
+CutOf (Refused r) old new = (r.chunk ≡ old.number) × Closed old new
+CutOf Failed old new = Closed old new
+CutOf Memory old new = Closed old new
 
 -- the count of failed reads rises where the answer is Failed, and stays else
 abbrev pub Counted : Cut → ℕ → ℕ → Type 0

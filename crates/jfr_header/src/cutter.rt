@@ -89,13 +89,6 @@ impl ChunkCutter {
         self.number - 1
     }
 
-    /// The number of the chunk that comes next.
-    pub fn upcoming(&self) -> u64
-        ensures { result ≡ self.now.number }
-    {
-        self.number
-    }
-
     // Takes the next chunk. What each answer says is one clause.
     fn advance<P: Place>(&mut self, place: &mut P) -> Cut
         ensures cut { CutOf result self.old self.new }

@@ -69,7 +69,7 @@ module _ (c : List ℕ) (k : Classes) (b : List ℕ) (end : ℕ) (checkpoint : �
       (entries_from checkpoint (pool + 1) (placed_each (group_bytes c) (placed_group c k) next gs))
       (entries_same g.entries pool g.class first s.0.1 a.0 r.1) (groups_same gs (pool + 1) next s.1 a.1 p.1)
 
--- The same of the parts of two chunks.
+-- Copies among the entries of two chunks.
 pub are_copied : (p q : Parts) (es fs : List EntryAt) → Each (IsCopy p.bytes q.bytes) es fs → AreCopied p q es fs
 are_copied p q [] [] a = tt
 are_copied p q [] (f ∷ fs) a = absurd a
@@ -92,7 +92,7 @@ copied_last p q n (e ∷ es) (f ∷ fs) target a =
     let same : fits e target ≡ fits f target = ap (λ z. (z == target.0) && (e.key == target.1)) a.0.class ∙ ap (λ z. (f.class == target.0) && (z == target.1)) a.0.key in
     ap (λ z. or_later n z (last_from (n + 1) es target)) same ∙ ap (or_later n (fits f target)) (copied_last p q (n + 1) es fs target a.1)
 
--- The same are in force.
+-- Copies are in force where the originals are.
 pub copied_force : (p q : Parts) (es fs : List EntryAt) (target : ℕ × ℕ) → AreCopied p q es fs → number_in_force es target ≡ number_in_force fs target
 unfolding number_in_force
 copied_force p q es fs target a = copied_last p q 0 es fs target a

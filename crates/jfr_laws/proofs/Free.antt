@@ -1,10 +1,10 @@
 -- A format that asks for no place reads the same value from the same bytes anywhere.
 use Rattle.std.specs.Prelude.{◌≡◌, ℕ, ◌+◌, ◌-◌, ◌≤◌, List, [], ◌∷◌, ◌++◌, length, slice_range, Ok}
 use Rattle.std.proofs.Common.{ap, arith, refl, sym, ◌∙◌, subst}
-use Rattle.jfr_base.specs.Formats.{Got, Format, Done, Stop, Int, Byte, Run, Here, Refuse, PlaceFree, Reads, run}
+use Rattle.jfr_base.specs.Formats.{Got, Format, Done, Stop, Int, Byte, Run, Here, Refuse, Reads, run}
 use Rattle.jfr_base.proofs.AlikeLaws.{Alike, Each}
 use Rattle.jfr_base.proofs.Exact.{Says, run_says}
-use Rattle.jfr_base.proofs.FreeLaws.{reads_exact}
+use Rattle.jfr_base.proofs.FreeLaws.{PlaceFree, reads_exact}
 use Rattle.jfr_base.proofs.Ranges.{range_split, range_length}
 use Rattle.jfr_base.proofs.RunLaws.{Stands, exact_run}
 use Rattle.jfr_base.proofs.UnitLaws.{one_run}

@@ -72,7 +72,7 @@ composite_event : (k : Classes) (id : ℕ) → is_event_class k id ≡ true → 
 unfolding is_event_class
 composite_event k id e = event_kind (nat_lt 1 id) (find_class k id) e
 
--- the slot of the fields of an event
+-- the layout of the fields of an event
 pub event_layout : (k : Classes) (id p : ℕ) (s : FieldLayout) → Some p ≡ event_place k id → s ≡ layout_with (record { class = id; constant = false; array = false }) p Composite → IsEventLayout k id s
 event_layout k id p s o q =
     let e = is_placed (is_event_class k id) (class_place k id) p o in

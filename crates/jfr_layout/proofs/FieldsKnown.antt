@@ -22,7 +22,7 @@ use Rattle.jfr_layout.proofs.Stages.{rest, stage_next, stage_tells, stage_none}
 abbrev pub found_unknown : Classes → ℕ → ℕ → Field → List ClassFlaw
 found_unknown k i j f = flaw_if (is_unknown k f) i (Some j) UnknownType
 
--- the classes of the fields before a number are known, and these are their slots
+-- the classes of the fields before a number are known, and these are their layouts
 pub record FieldsKnown (k : Classes) (i : ℕ) (fs : List Field) (n : ℕ) (layouts : List FieldLayout) : Type 0 where
   pub left : flaws_in UnknownType (is_unknown k) i fs ≡ rest (found_unknown k i) fs n
   pub found : AreFieldLayouts k (take n fs) layouts

@@ -1,4 +1,4 @@
--- Leaps that grow field by field, and rows that are passed leap by leap.
+-- Fused fields that grow field by field, and classes whose fields are passed group by group.
 use Rattle.std.specs.Prelude.{◌≡◌, ℕ, ◌+◌, ◌-◌, ◌<◌, ◌≤◌, List, [], ◌∷◌, ◌++◌, length, take, drop, slice_get, slice_range, Some, IfSome}
 use Rattle.std.specs.List.{AllByRecursion, flat_map}
 use Rattle.std.proofs.Common.{ap, arith, refl, subst, sym, ◌∙◌}

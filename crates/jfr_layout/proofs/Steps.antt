@@ -21,7 +21,7 @@ by_kind : (o : Option Class) (kind : Kind) → option_map (λ (d : Class). kind_
 by_kind None kind e = cc
 by_kind (Some c) kind e = ap (λ z. if is_composite z then Some c else None) (same_Some (kind_of c.name) kind e)
 
--- an inline step goes to the place of a slot, where its kind is composite
+-- an inline step goes to the place of a layout, where its kind is composite
 layout_step : (k : Classes) (f : Field) (s : FieldLayout) → s.shape ≡ f.shape → IsFieldLayout k s → step_class k f ≡ (if s.shape.constant then None else if is_composite s.kind then slice_get k s.place else None)
 layout_step k f s e i =
     ap (λ (z : Shape). if z.constant then None else option_and_then (λ (d : Class). if is_composite (kind_of d.name) then Some d else None) (find_class k z.class)) (sym e)
@@ -41,7 +41,7 @@ not_composite Float n = refl
 not_composite Double n = refl
 not_composite Text n = refl
 
--- the three cases of a slot of a field
+-- the three cases of a layout of a field
 pub step_key : (k : Classes) (place number : ℕ) (s : FieldLayout) → HasLayout k place number s → s.shape.constant ≡ true → IfSome (field_at k place number) (λ f. None ≡ step_class k f)
 step_key k place number s f t = rw f.there (sym (layout_step k f.field s f.shape f.of_class ∙ ap (λ b. if b then None else if is_composite s.kind then slice_get k s.place else None) t))
 

@@ -72,7 +72,7 @@ inline_form Composite = forms.Fields
 abbrev pub form_of : Shape → Kind → Form
 form_of s kind = if s.array then forms.Array else if s.constant then forms.Key else inline_form kind
 
--- the slot of a shape whose class has this place and this kind
+-- the layout of a shape whose class has this place and this kind
 abbrev pub layout_with : Shape → ℕ → Kind → FieldLayout
 layout_with s place kind = record { shape = s; place = place; kind = kind; form = form_of s kind }
 
@@ -89,19 +89,19 @@ extends_event c = is_composite (kind_of c.name) && option_map_or (λ n. bytes_eq
 unfoldable pub is_event_class : Classes → ℕ → Bool
 is_event_class k id = nat_lt 1 id && option_map_or extends_event (find_class k id) false
 
--- the slot has the place and the kind of the class of its shape, and the form that these give
+-- the layout has the place and the kind of the class of its shape, and the form that these give
 pub record IsFieldLayout (k : Classes) (s : FieldLayout) : Type 0 where
   pub place : class_place k s.shape.class ≡ Some s.place
   pub kind : option_map (λ c. kind_of c.name) (find_class k s.shape.class) ≡ Some s.kind
   pub form : s.form ≡ form_of s.shape s.kind
 
--- the slot of the fields of an event whose class has this id
+-- the layout of the fields of an event whose class has this id
 pub record IsEventLayout (k : Classes) (id : ℕ) (s : FieldLayout) : Type 0 where
   pub event : is_event_class k id ≡ true
   pub shape : s.shape ≡ record { class = id; constant = false; array = false }
   pub layout : IsFieldLayout k s
 
--- one slot for each field, in order, with the field's shape
+-- one layout for each field, in order, with the field's shape
 pub record AreFieldLayouts (k : Classes) (fs : List Field) (layouts : List FieldLayout) : Type 0 where
   pub shapes : map (λ s. s.shape) layouts ≡ map (λ f. f.shape) fs
   pub each : AllByRecursion (IsFieldLayout k) layouts

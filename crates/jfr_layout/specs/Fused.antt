@@ -1,4 +1,4 @@
--- Leaps over the fields of a row.
+-- Fields of a class that a walk passes at once.
 use Rattle.std.specs.Prelude.{◌≡◌, ℕ, ◌+◌, ◌<◌, ◌≤◌, List, [], ◌∷◌, length, slice_range, ⊤}
 use Rattle.std.specs.List.{AllByRecursion, flat_map}
 use Rattle.jfr_layout.specs.declared.form.Form.{Form}
@@ -8,7 +8,7 @@ use Rattle.jfr_layout.specs.declared.fused.FusedKind.{FusedKind}
 use Rattle.jfr_layout.specs.declared.fused.FusedKind.TheVariants as fused_kinds
 use Rattle.jfr_layout.specs.declared.field_layout.FieldLayout.{FieldLayout}
 
--- the slots of the fields that a leap passes
+-- the layouts of the fields that are passed at once
 abbrev pub passed_by : List FieldLayout → FusedFields → List FieldLayout
 passed_by layouts l = slice_range layouts l.first (l.first + l.fields)
 
@@ -37,7 +37,7 @@ AreRaw count (s ∷ ss) = (bytes rest : ℕ) × (s.form ≡ forms.Raw bytes) × 
 abbrev pub AreIntegers : ℕ → List FieldLayout → Type 0
 AreIntegers count layouts = (length layouts ≡ count) × AllByRecursion (λ s. s.form ≡ forms.Integer) layouts
 
--- the slots have the forms that a leap passes
+-- the layouts have the forms that the kind says
 abbrev pub Passes : FusedKind → List FieldLayout → Type 0
 Passes (fused_kinds.EventPrelude thread trace) layouts = IsEventPrelude thread trace layouts
 Passes fused_kinds.OneInteger layouts = AreIntegers 1 layouts
@@ -49,18 +49,18 @@ Passes (fused_kinds.Key class) layouts = (s : FieldLayout) × (layouts ≡ s ∷
 Passes (fused_kinds.Text class) layouts = (s : FieldLayout) × (layouts ≡ s ∷ []) × IsOf forms.Text class s
 Passes fused_kinds.Any layouts = ⊤
 
--- the leap passes fields of the row, of the forms that it says
+-- the fused fields are fields of the class, of the forms that their kind says
 pub record IsFused (layouts : List FieldLayout) (l : FusedFields) : Type 0 where
   pub within : l.first + l.fields ≤ length layouts
   pub passes : Passes l.kind (passed_by layouts l)
 
--- a leap from the field of this number on
+-- fields that are passed at once from the field of this number on
 pub record BeginsAt (layouts : List FieldLayout) (first : ℕ) (l : FusedFields) : Type 0 where
   pub first_is : l.first ≡ first
   pub some : 0 < l.fields
   pub fused : IsFused layouts l
 
--- leaps over a row, which together pass each of its fields once, in order
+-- groups of fields of a class, which together pass each of its fields once, in order
 pub record AreFused (layouts : List FieldLayout) (fused_fields : List FusedFields) : Type 0 where
   pub each : AllByRecursion (IsFused layouts) fused_fields
   pub all : flat_map (passed_by layouts) fused_fields ≡ layouts

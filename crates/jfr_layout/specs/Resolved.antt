@@ -17,13 +17,13 @@ place_in index id = unwrap_or (slice_get index.near.items id) (tree.get nat_cmp 
 pub record IsIndex (k : Classes) (index : Index) : Type 0 where
   pub at : (id : ℕ) → place_in index id ≡ class_place k id
 
--- a row has the slots of the class's fields, and leaps over them
+-- the layout of a class has those of its fields, and groups of fields that are passed at once
 pub record IsClassLayout (k : Classes) (c : Class) (class_layout : ClassLayout) : Type 0 where
   pub layouts : AreFieldLayouts k c.fields class_layout.layouts.items
   pub fused_fields : AreFused class_layout.layouts.items class_layout.fused_fields.items
   pub event : class_layout.is_event ≡ extends_event c
 
--- the rows of these classes, in order
+-- the layouts of these classes, in order
 abbrev pub AreClassLayouts : Classes → List Class → List ClassLayout → Type 0
 AreClassLayouts k cs class_layouts = AllZip (IsClassLayout k) cs class_layouts
 

@@ -1,4 +1,4 @@
-// What stands beside a class for walks over many values.
+// What is worked out once for a class, for walks over many values.
 
 use crate::{FieldLayout, FusedFields};
 
@@ -7,7 +7,7 @@ use crate::{FieldLayout, FusedFields};
 pub struct ClassLayout {
     /// How the values of the fields are spelled, in order.
     pub layouts: Vec<FieldLayout>,
-    /// The leaps over them.
+    /// The fields in groups that a walk passes at once.
     pub fused_fields: Vec<FusedFields>,
     /// Whether the class is composite and has the super type of events.
     pub is_event: bool,

@@ -106,19 +106,14 @@ impl Classes {
         self.event_layout(id).is_some()
     }
 
-    /// The slot of the fields of an event of this type; `None` exactly where records of the type are no
+    /// The layout of the fields of an event of this type; `None` exactly where records of the type are no
     /// events.
     #[inline]
     pub fn event_layout(&self, id: u64) -> Option<FieldLayout>
         ensures { MatchOption result (is_event_class self.now id ≡ false) (IsEventLayout self.now id) }
     {
         let place = self.event_place(id)?;
-        let shape = Shape {
-            class: id,
-            constant: false,
-            array: false,
-        };
-        Some(FieldLayout::new(shape, place, Kind::Composite))
+        Some(FieldLayout::new(Shape::inline(id), place, Kind::Composite))
     }
 
     // The place of the class of an id, where records of this type are events.
@@ -132,7 +127,7 @@ impl Classes {
         }
     }
 
-    // The same for an id that the table doesn't have.
+    // The place of the class of an id that is past the table, as ids above the direct table's bound are.
     #[cold]
     #[inline(never)]
     fn far_event_place(&self, id: u64) -> Option<usize>
@@ -167,7 +162,8 @@ impl Classes {
         self.resolved.kind_at(place)
     }
 
-    /// The row of the class at a place: how the values of its fields are spelled, and the leaps over them.
+    /// The layout of the class at a place: how the values of its fields are spelled, and which of them are
+    /// passed at once.
     pub fn class_layout(&self, place: usize) -> &ClassLayout
         requires { place < length self.now }
         ensures { IfSome (slice_get self.now place) (λ c. IsClassLayout self.now c result.now) }

@@ -19,7 +19,7 @@ pub struct FieldLayout {
 impl FieldLayout {
     ghost use Rattle.jfr_layout.specs.Classes.{layout_with};
 
-    /// The slot of a shape whose class has this place and this kind.
+    /// The layout of a field whose shape's class has this place and this kind.
     pub fn new(shape: Shape, place: usize, kind: Kind) -> FieldLayout
         ensures { result ≡ layout_with shape place kind }
     {

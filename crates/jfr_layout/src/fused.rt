@@ -8,10 +8,10 @@ use crate::{FieldLayout, Form};
 use jfr_base::NoMemory;
 use std::alloc::Global;
 
-/// A leap passes so many fields at most.
+/// How many fields are fused at most.
 const MOST: usize = 4;
 
-/// Fields of a row, one behind another, that a walk over many values passes at once.
+/// Fields of a class, one behind another, that a walk over many values passes at once.
 #[derive(Clone, Copy, Debug, PartialEq, Eq)]
 pub struct FusedFields {
     /// The number of the first of them.
@@ -21,7 +21,7 @@ pub struct FusedFields {
     pub kind: FusedKind,
 }
 
-/// What a leap passes.
+/// What stands in fused fields.
 #[derive(Clone, Copy, Debug, PartialEq, Eq)]
 pub enum FusedKind {
     /// Two integers and two references, of these classes: when most events began, how long they took,
@@ -42,7 +42,7 @@ pub enum FusedKind {
     Any,
 }
 
-/// The leaps over a row, from its first field to its last.
+/// The fields of a class in groups that are passed at once, from the first field to the last.
 pub(crate) fn fused_of(alloc: Global, layouts: &[FieldLayout]) -> Result<Vec<FusedFields>, NoMemory>
     ensures { IfOk result (λ fused_fields. AreFused layouts.now fused_fields.items) }
 {
@@ -56,7 +56,7 @@ pub(crate) fn fused_of(alloc: Global, layouts: &[FieldLayout]) -> Result<Vec<Fus
     Ok(fused_fields)
 }
 
-/// The leap from the field of a number on.
+/// The fields that are passed at once from the field of a number on.
 fn fused_from(layouts: &[FieldLayout], first: usize) -> FusedFields
     requires { first < length layouts.now }
     ensures { BeginsAt layouts.now first result }
@@ -74,7 +74,7 @@ fn fused_from(layouts: &[FieldLayout], first: usize) -> FusedFields
     }
 }
 
-/// A leap over one field.
+/// One field by itself.
 fn fused_one(first: usize, kind: FusedKind) -> FusedFields
     ensures { result ≡ record { first = first; fields = 1; kind = kind } }
 {
@@ -85,8 +85,8 @@ fn fused_one(first: usize, kind: FusedKind) -> FusedFields
     }
 }
 
-/// The leap over the front of most events, if it begins at the field of a number. Ids of classes have
-/// room in it up to 32 bits.
+/// The event prelude, if it begins at the field of a number. It holds ids of classes up to 32 bits, so
+/// that a `FusedFields` stays small.
 fn prelude_from(layouts: &[FieldLayout], first: usize) -> Option<FusedFields>
     requires { first < length layouts.now }
     ensures { IfSome result (BeginsAt layouts.now first) }
@@ -115,7 +115,7 @@ fn prelude_from(layouts: &[FieldLayout], first: usize) -> Option<FusedFields>
     })
 }
 
-/// The leap over the integers from the field of a number on.
+/// The integers from the field of a number on.
 fn integers_from(layouts: &[FieldLayout], first: usize) -> FusedFields
     requires within { first < length layouts.now }
     requires integer { IfSome (slice_get layouts.now first) (λ s. s.form ≡ forms.Integer) }
@@ -136,7 +136,7 @@ fn integers_from(layouts: &[FieldLayout], first: usize) -> FusedFields
     }
 }
 
-/// What a leap over so many integers passes.
+/// The kind of so many integers.
 fn fused_integers(count: usize) -> FusedKind
     requires { (1 ≤ count) × (count ≤ 4) }
     ensures { (layouts : List FieldLayout) → AreIntegers count layouts → Passes result layouts }
@@ -149,7 +149,7 @@ fn fused_integers(count: usize) -> FusedKind
     }
 }
 
-/// The leap over the raw bytes from the field of a number on, which has so many.
+/// The raw bytes from the field of a number on, which has so many.
 fn raw_from(layouts: &[FieldLayout], first: usize, bytes: u8) -> FusedFields
     requires within { first < length layouts.now }
     requires raw { IfSome (slice_get layouts.now first) (λ s. s.form ≡ forms.Raw bytes) }

@@ -58,7 +58,7 @@ fn extends_event(class: &ClassInfo) -> bool
     }
 }
 
-// The slots of the fields of one class. A field's class that isn't defined is a fault.
+// The layouts of the fields of one class. A field's class that isn't defined is a fault.
 fn layouts_of(
     alloc: Global,
     list: &ClassList,
@@ -90,7 +90,7 @@ fn layouts_of(
     Ok(layouts)
 }
 
-// The row of one class. A field's class that isn't defined is a fault.
+// The layout of one class. A field's class that isn't defined is a fault.
 fn class_layout_of(
     alloc: Global,
     list: &ClassList,
@@ -113,7 +113,7 @@ fn class_layout_of(
     })
 }
 
-// The rows of all classes, in order.
+// The layouts of all classes, in order.
 fn class_layouts_of(
     alloc: Global,
     list: &ClassList,
@@ -193,7 +193,7 @@ impl Resolved {
         self.kinds[place]
     }
 
-    /// The row of the class at a place.
+    /// The layout of the class at a place.
     pub fn class_layout(&self, place: usize) -> &ClassLayout
         requires { place < length self.now }
         ensures { IfSome (slice_get self.now place) (λ c. IsClassLayout self.now c result.now) }
@@ -209,7 +209,7 @@ impl Resolved {
         self.class_layout(place).is_event
     }
 
-    /// The slots of the fields of the class at a place, in order.
+    /// The layouts of the fields of the class at a place, in order.
     pub fn layouts(&self, place: usize) -> &[FieldLayout]
         requires { place < length self.now }
         ensures { IfSome (slice_get self.now place) (λ c. AreFieldLayouts self.now c.fields result.now) }

@@ -1,4 +1,5 @@
 // The shapes of values.
+ghost use Rattle.std.specs.Prelude.{◌≡◌, false};
 
 /// A class with two marks. With the constant mark the value, or each item of an array, is a key into
 /// the constant pool of the class.
@@ -8,4 +9,18 @@ pub struct Shape {
     pub class: u64,
     pub constant: bool,
     pub array: bool,
+}
+
+impl Shape {
+    /// The shape of the values of a class that stand where they are, one by one.
+    #[inline(always)]
+    pub fn inline(class: u64) -> Shape
+        ensures { result ≡ record { class = class; constant = false; array = false } }
+    {
+        Shape {
+            class,
+            constant: false,
+            array: false,
+        }
+    }
 }

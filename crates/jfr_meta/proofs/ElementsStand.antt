@@ -14,7 +14,7 @@ use Rattle.jfr_meta.specs.Body.{Body, table_string, index, index_check, pair, el
 use Rattle.jfr_meta.specs.Described.{IsMetadata}
 use Rattle.jfr_meta.specs.Heads.{head_format}
 use Rattle.jfr_meta.specs.Laws.{RootStands}
-use Rattle.jfr_meta.proofs.Bodies.{behind_head, behind_strings, body_of}
+use Rattle.jfr_meta.proofs.Bodies.{Four, behind_head, behind_strings, body_of}
 use Rattle.jfr_meta.proofs.Parts.{behind_name, behind_count, behind_pairs, behind_number}
 
 module _ (x : List ℕ) (end : ℕ) where
@@ -88,21 +88,40 @@ module _ (x : List ℕ) (end : ℕ) where
       let b = reads_parted (times n f) (λ rest. Done (a.value ∷ rest)) x end a.place vs p a.second in
       ap length b.second.0 ∙ ap (λ m. suc m) (times_length n f a.place b.value b.place b.first)
 
-  -- the root of a body
-  root_is : (at : ℕ) (b : Body) (to : ℕ) → Reads meta_format x end at b to → (p : ℕ) × IsElement x (length b.strings) 16 p to b.root
+  -- the four integers of a head
+  head_is : (at : ℕ) (h : Four) (q : ℕ) → Reads head_format x end at h q → (a b c : ℕ) × IntAt x at a h.0 × IntAt x a b h.1 × IntAt x b c h.2 × IntAt x c q h.3
+  head_is at h q r =
+      let d = r.5.5.5 in
+      let e = sym d.5.0 in (
+        r.0,
+        r.5.0,
+        r.5.5.0,
+        subst (λ (z : Four). IntAt x at r.0 z.0) e r.2,
+        subst (λ (z : Four). IntAt x r.0 r.5.0 z.1) e r.5.2,
+        subst (λ (z : Four). IntAt x r.5.0 r.5.5.0 z.2) e r.5.5.2,
+        subst (λ (z : Four). IntAt x r.5.5.0 q z.3) e (subst (λ p. IntAt x r.5.5.0 p d.1) (sym d.5.1) d.2),
+      )
+
+  -- the parts of a body, which ends at the end
+  parts_are : (r : Framed) (b : Body) → record_end r ≡ end → Reads meta_format x end r.body b end → RootStands x r b
   unfolding meta_format body_format
-  root_is at b to r =
-      let s = reads_parted body_format (λ b. Stop (Done b)) x end at b to r in
-      let h = reads_parted head_format behind_head x end at s.value s.place s.first in
+  parts_are record_of b ends r =
+      let s = reads_parted body_format (λ b. Stop (Done b)) x end record_of.body b end r in
+      let h = reads_parted head_format behind_head x end record_of.body s.value s.place s.first in
       let c = reads_parted (times h.value.3 table_string) (behind_strings h.value) x end h.place s.value s.place h.second in
       let e = reads_parted (element_format 16 h.value.3) (λ root. Done (body_of h.value c.value root)) x end c.place s.value s.place c.second in
-      let same : b ≡ body_of h.value c.value e.value = s.second.1.0 ∙ e.second.0 in
-      let end_at : to ≡ e.place = s.second.1.1 ∙ e.second.1 in
-      let count : length b.strings ≡ h.value.3 = ap (λ z. length z.strings) same ∙ times_length h.value.3 table_string h.place c.value c.place c.first in
+      let same : body_of h.value c.value e.value ≡ b = sym (s.second.1.0 ∙ e.second.0) in
+      let there : e.place ≡ end = sym (s.second.1.1 ∙ e.second.1) in
+      let count : h.value.3 ≡ length c.value = sym (times_length h.value.3 table_string h.place c.value c.place c.first) in
+      let i = head_is record_of.body h.value h.place h.first in
       let stands : IsElement x h.value.3 16 c.place e.place e.value = element_is 16 h.value.3 c.place e.value e.place e.first in
-      let whole : IsElement x h.value.3 16 c.place to e.value = subst (λ z. IsElement x h.value.3 16 c.place z e.value) (sym end_at) stands in
-      let rooted : IsElement x h.value.3 16 c.place to b.root = subst (λ z. IsElement x h.value.3 16 c.place to z) (sym (ap (λ z. z.root) same)) whole in
-      (c.place, subst (λ z. IsElement x z 16 c.place to b.root) (sym count) rooted)
+      subst (RootStands x record_of) same (record {
+        behind_head = h.place;
+        behind_strings = c.place;
+        head = record { behind_start = i.0; behind_duration = i.1; behind_id = i.2; start = i.3; duration = i.4; id = i.5; count = subst (IntAt x i.2 h.place) count i.6 };
+        strings = subst (λ z. Reads (times z table_string) x (record_end record_of) h.place c.value c.place) count (subst (λ z. Reads (times h.value.3 table_string) x z h.place c.value c.place) (sym ends) c.first);
+        root = subst (λ z. IsElement x z 16 c.place (record_end record_of) e.value) count (subst (λ z. IsElement x h.value.3 16 c.place z e.value) (there ∙ sym ends) stands);
+      })
 
 pub root_stands : (x : List ℕ) (r : Framed) (b : Body) (k : Classes) → IsMetadata x r b k → RootStands x r b
-root_stands x r b k m = root_is x (record_end r) r.body b (record_end r) m.body
+root_stands x r b k m = parts_are x (record_end r) r b refl m.body

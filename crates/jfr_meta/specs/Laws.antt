@@ -1,18 +1,35 @@
 -- What holds of every metadata record.
-use Rattle.std.specs.Prelude.{◌≡◌, ℕ, List, length}
+use Rattle.std.specs.Prelude.{◌≡◌, ◌⊎◌, ℕ, List, length}
 use Rattle.jfr_base.specs.declared.flaw.Flaw.{Flaw}
 use Rattle.jfr_frame.specs.declared.framed.Framed.{Framed}
 use Rattle.jfr_frame.specs.Records.{record_end}
 use Rattle.jfr_layout.specs.Classes.{Classes}
-use Rattle.jfr_meta.specs.Body.{Body, IsElement}
+use Rattle.jfr_base.specs.Integer.{IntAt}
+use Rattle.jfr_base.specs.Formats.{Reads, times}
+use Rattle.jfr_meta.specs.Body.{Body, IsElement, table_string}
 use Rattle.jfr_meta.specs.Described.{IsMetadata, IsMetadataFlaw}
 
--- The record is read or refused, not both, and with one answer.
+-- The record is read or refused: one of the two, with one answer.
 pub record HasOneDescription (x : List ℕ) (r : Framed) : Type 0 where
+  pub some : ((b : Body) × (k : Classes) × IsMetadata x r b k) ⊎ ((f : Flaw) × IsMetadataFlaw x r f)
   pub not_both : (b : Body) (k : Classes) (f : Flaw) → IsMetadata x r b k → IsMetadataFlaw x r f → ⊥
   pub one_reading : (b c : Body) (k m : Classes) → IsMetadata x r b k → IsMetadata x r c m → (b ≡ c) × (k ≡ m)
   pub one_flaw : (f g : Flaw) → IsMetadataFlaw x r f → IsMetadataFlaw x r g → f ≡ g
 
--- The tree of the record stands from some place up to its end, with sixteen levels at most and with indices of strings.
-abbrev pub RootStands : List ℕ → Framed → Body → Type 0
-RootStands x r b = (p : ℕ) × IsElement x (length b.strings) 16 p (record_end r) b.root
+-- The body's first four integers stand one after another from p to q: its start, its duration, its id, and how many strings there are.
+pub record HeadStands (x : List ℕ) (p q : ℕ) (b : Body) : Type 0 where
+  pub behind_start : ℕ
+  pub behind_duration : ℕ
+  pub behind_id : ℕ
+  pub start : IntAt x p behind_start b.start
+  pub duration : IntAt x behind_start behind_duration b.duration
+  pub id : IntAt x behind_duration behind_id b.id
+  pub count : IntAt x behind_id q (length b.strings)
+
+-- The body of the record stands part by part: the head, the strings behind it, and behind these, up to the record's end, the tree, with sixteen levels at most and with indices of strings.
+pub record RootStands (x : List ℕ) (r : Framed) (b : Body) : Type 0 where
+  pub behind_head : ℕ
+  pub behind_strings : ℕ
+  pub head : HeadStands x r.body behind_head b
+  pub strings : Reads (times (length b.strings) table_string) x (record_end r) behind_head b.strings behind_strings
+  pub root : IsElement x (length b.strings) 16 behind_strings (record_end r) b.root

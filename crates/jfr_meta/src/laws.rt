@@ -7,12 +7,13 @@ ghost use Rattle.jfr_meta.specs.Body.{Body};
 ghost use Rattle.jfr_meta.specs.Described.{IsMetadata};
 ghost use Rattle.jfr_meta.specs.Laws.{HasOneDescription, RootStands};
 
-/// A metadata record is not both read and refused, and it has one reading at most, or one flaw.
+/// A metadata record is read or refused: one of the two, with one reading or one flaw.
 pub fn one_description()
     ensures { (x : List ℕ) (r : Framed) → IsRecord x r → HasOneDescription x r }
 {}
 
-/// The tree of a record that is read stands in its bytes, element by element.
+/// The body of a record that is read stands in its bytes: its four numbers, its strings, and its tree,
+/// element by element.
 pub fn elements_stand()
     ensures { (x : List ℕ) (r : Framed) (b : Body) (k : Classes) → IsMetadata x r b k → RootStands x r b }
 {}

@@ -112,7 +112,7 @@ pub fn make_stream<P: Place, M: Make>(
     ensures counts { Tallied File (way_of result)
         (alone (P.state place.old)) (alone (P.state place.new)) }
 
-    // The same for each answer, where the place tells its files.
+    // What stands after each answer, where the place tells its files.
     ensures done { result ≡ Ending.Done → Ended (making output.now (M.refusal make) (M.becomes make)) input.now Fine
         (alone (P.state place.old)) (alone (P.state place.new)) }
     ensures refused { (r : Refusal) → result ≡ Ending.Refused r

@@ -67,7 +67,7 @@ pub record IsReadFrom (c : List ℕ) (links : List Link) : Type 0 where
   pub cover : AreRecords c records
   pub chain : IsChain c records last (reverse links)
 
--- The same by computing: where a delta leads, if it leads to an earlier place.
+-- By computing: where a delta leads, if it leads to an earlier place.
 abbrev pub earlier_place : ℕ → ℤ → Option ℕ
 earlier_place at (pos to) = if nat_lt to at then Some to else None
 earlier_place at (negsuc n) = None

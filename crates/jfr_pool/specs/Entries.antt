@@ -78,7 +78,7 @@ abbrev pub IsRefusedEntries : List ℕ → Classes → List Link → ReadFault �
 IsRefusedEntries c k ls (Flawed flaw) = EntriesFlaw c k ls flaw.offset flaw.reason
 IsRefusedEntries c k ls Memory = Unit {0}
 
--- The same by computing: the entries, or the first flaw in file order.
+-- By computing: the entries, or the first flaw in file order.
 abbrev pub before_entries : List EntryAt → Result (List EntryAt) Flaw → Result (List EntryAt) Flaw
 before_entries es (Ok later) = Ok (es ++ later)
 before_entries es (Err flaw) = Err flaw

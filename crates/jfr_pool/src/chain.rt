@@ -40,7 +40,7 @@ impl Chain {
         ensures read { IfOk result (λ chain. IsReadFrom chunk.now chain) }
         ensures refused { IfErr result (λ fault. IsRefusedChain chunk.now frames.now last fault) }
 
-        // The same by computing.
+        // By computing: what the definition gives.
         ensures exact { IfSome (checkpoint_at frames.now last) (λ r. MatchResult result (λ chain. chain_of chunk.now frames.now r ≡ Ok (reverse chain)) (TellsFlaw (chain_of chunk.now frames.now r))) }
     {
         let mut links = Vec::new(alloc);
@@ -83,7 +83,7 @@ fn read_link(chunk: &[u8], frame: Framed) -> Result<Link, Flaw>
     requires { IsRecord chunk.now frame }
     ensures exact { result ≡ linked frame (run head_format chunk.now (record_end frame) frame.body) }
 {
-    let end = frame.at + frame.size;
+    let end = frame.end();
     let start = read_within(chunk, frame.body, end)?;
     let duration = read_within(chunk, start.end, end)?;
     let delta = read_within(chunk, duration.end, end)?;

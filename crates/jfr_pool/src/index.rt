@@ -104,7 +104,7 @@ impl Index {
         self.number_past(home, class, key)
     }
 
-    /// The same, of a class and a key whose home is not open to them.
+    /// The number of a class and a key whose home slot another pair took.
     #[inline(never)]
     fn number_past(&self, place: usize, class: u64, key: u64) -> Option<usize>
         requires home { place ≡ home self.now.slots.items (class, key) }
@@ -121,7 +121,7 @@ impl Index {
         }
     }
 
-    /// The same, of a class and a key that stand in no slot.
+    /// The number of a class and a key that stand in no slot of the table.
     #[cold]
     fn other_number(&self, class: u64, key: u64) -> Option<usize>
         ensures { result ≡ number_at self.now (class, key) None }

@@ -49,7 +49,7 @@ impl Pools {
         ensures ok { IfOk result (λ pools. AreEntries chunk.now classes.now 0 chain.now pools) }
         ensures refused { IfErr result (λ fault. IsRefusedEntries chunk.now classes.now chain.now fault) }
 
-        // The same by computing.
+        // By computing: what the definition gives.
         ensures exact { MatchResult result (λ pools. entries_of chunk.now classes.now 0 chain.now ≡ Ok pools) (TellsFlaw (entries_of chunk.now classes.now 0 chain.now)) }
     {
         let mut entries = Vec::new(alloc);
@@ -93,7 +93,7 @@ impl Pools {
         }
     }
 
-    /// The same, of a class and a key that have no place in a row.
+    /// The number of the entry in force for a class and a key that the direct table doesn't hold.
     #[inline(never)]
     fn indexed(&self, class: u64, key: u64) -> Option<usize>
         ensures { result ≡ number_in_force self.now (class, key) }

@@ -10,7 +10,7 @@ use Rattle.jfr_scrub.specs.declared.body.Body.{Body}
 use Rattle.jfr_scrub.specs.Pieces.{more}
 use Rattle.jfr_scrub.specs.Fits.{LinkFits}
 
--- What stays fits where it stood.
+-- The output record fits where its record stood.
 abbrev pub OutputRecordFits : List ℕ → List EntryAt → OutputRecord → ℕ → Option ℕ → Type 0
 OutputRecordFits c left (Whole r) at older = IsRecord c r
 OutputRecordFits c left (Chained number l) at older = LinkFits c l (distance at older) (groups_of left number)
@@ -26,13 +26,13 @@ place_seen (Some place) now at = Some place
 place_seen None true at = Some at
 place_seen None false at = None
 
--- The body with one more that stays: its bytes, the place behind it, the last checkpoint, and where the metadata record stands, which stood at a place.
+-- The body with one output record more: its bytes, the place behind it, the last checkpoint, and where the metadata record stands, which stood at a place.
 abbrev pub body_with : List EntryAt → ℕ → Body → OutputRecord → Body
 body_with left metadata b s =
     let bytes = bytes_of b.output.chunk left s b.at b.older in
     record { output = more b.output bytes; at = b.at + length bytes; older = older_after s b.at b.older; metadata = place_seen b.metadata ((record_of s).at == metadata) b.at }
 
--- The body of all that stays.
+-- The body of all output records.
 pub record IsBody (p : Parts) (left : List EntryAt) (ss : List OutputRecord) (b : Body) : Type 0 where
   pub output : b.output ≡ record { chunk = p.bytes; bytes = flat_map (written_bytes p.bytes left) (written p.bytes left 68 None ss) }
   pub at : b.at ≡ 68 + length (flat_map (written_bytes p.bytes left) (written p.bytes left 68 None ss))

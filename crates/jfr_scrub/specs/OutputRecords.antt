@@ -1,4 +1,4 @@
--- What stays of the records of a chunk, one after another.
+-- The output records of a chunk, one after another.
 use Rattle.std.specs.Prelude.{◌≡◌, ℕ, ◌+◌, Bool, false, ◌&&◌, ◌==◌, List, drop, slice_get, find, reverse, Option, Some, None, option_and_then, unwrap_or, if◌then◌else◌}
 use Rattle.std.specs.List.{filter_map, enumerate_from}
 use Rattle.std.specs.Option.{option_map_or}
@@ -11,7 +11,7 @@ use Rattle.jfr_scrub.specs.declared.output_records.KeptRecord.{KeptRecord}
 use Rattle.jfr_scrub.specs.declared.output_records.KeptRecord.TheVariants as kept_records
 use Rattle.jfr_scrub.specs.declared.output_records.Cursor.{Cursor}
 
--- What stays, as it is told.
+-- The output record that the code names.
 abbrev pub output_record_as : KeptRecord → OutputRecord
 output_record_as (kept_records.Whole r) = Whole r
 output_record_as (kept_records.Chained number l) = Chained number l
@@ -35,7 +35,7 @@ pub record IsCursor (p : Parts) (flags : List Bool) (c : Cursor) : Type 0 where
   pub kept : marked (drop c.event flags) (drop c.event (events_of p)) ≡ filter_map (event_there (kept_by p flags)) (drop c.frame p.records)
   pub links : enumerate_from c.link (drop c.link (reverse p.chain)) ≡ filter_map (link_there p) (drop c.frame p.records)
 
--- What stays of the records from the cursor's on.
+-- The output records of the records from the cursor's on.
 abbrev pub still_output_records : Parts → List Bool → Cursor → List OutputRecord
 still_output_records p flags c = filter_map (output_record_of p (kept_by p flags)) (drop c.frame p.records)
 

@@ -1,4 +1,4 @@
-// How many events stand one behind another.
+// How many events stand one behind another, by a galloping search.
 ghost use Rattle.std.specs.Prelude.{◌≡◌, ◌+◌, ◌*◌, ◌<◌, ◌≤◌, ◌↔◌, ℕ, IsTrue};
 ghost use Rattle.jfr_chunk.specs.Parts.{AreParts};
 ghost use Rattle.jfr_scrub.specs.Runs.{HasEventAt, HasRoom, IsAtEvents};

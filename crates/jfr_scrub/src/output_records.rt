@@ -1,4 +1,4 @@
-// What stays of the records of a chunk.
+// The output records of a chunk: what is written of each of its records.
 ghost use Rattle.std.specs.Prelude.{◌≡◌, ◌||◌, ◌+◌, ◌-◌, ◌^◌, ◌<◌, [], ◌∷◌, length, slice_get, option_map, IfSome, MatchOption, Some};
 ghost use Rattle.jfr_chunk.specs.Parts.{AreParts, events_of};
 ghost use Rattle.jfr_chunk.specs.Reach.{kept_by};
@@ -9,7 +9,7 @@ use jfr_chunk::{Chunk, Kept};
 use jfr_frame::{Framed, Frames};
 use jfr_pool::{Chain, Link};
 
-/// What stays of a record: the whole of it, or, of a chained checkpoint, what is written of it.
+/// What is written of a record: the whole of it, or, of a chained checkpoint, the pools that have an entry left.
 /// Checkpoints are numbered in the order of the file.
 #[derive(Clone, Copy, Debug)]
 pub(crate) enum KeptRecord {
@@ -25,7 +25,7 @@ pub(crate) struct Cursor {
     pub(crate) link: usize,
 }
 
-/// What stays next, if anything does. A record is read only where the whole of it stays.
+/// The next output record, if there is one. A record is read only where the whole of it is written.
 #[inline(always)]
 pub(crate) fn next_output_record(
     chunk: &Chunk,
@@ -59,7 +59,7 @@ fn place_of(frames: &Frames, number: usize) -> usize
     }
 }
 
-// What stays of the cursor's record, which starts at a place. The cursor moves behind it.
+// The output record of the cursor's record, which starts at a place. The cursor moves behind it.
 #[inline(always)]
 fn pass_record(chunk: &Chunk, kept: &Kept, cursor: &mut Cursor, at: usize) -> Option<KeptRecord>
     requires cursor { IsCursor chunk.now kept.now cursor.old }
@@ -77,7 +77,7 @@ fn pass_record(chunk: &Chunk, kept: &Kept, cursor: &mut Cursor, at: usize) -> Op
     chosen(link, is_kept, is_metadata, chunk.frames(), number)
 }
 
-// What stays of the record of a number: a chained checkpoint as one, and another record whole or not
+// The output record of the record of a number: a chained checkpoint as one, and another record whole or not
 // at all.
 #[inline(always)]
 fn chosen(

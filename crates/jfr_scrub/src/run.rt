@@ -49,7 +49,7 @@ fn pass_kept(chunk: &Chunk, kept: &Kept, cursor: &mut Cursor)
     pass_each(chunk, kept, cursor);
 }
 
-// The same, of one record after another.
+// Passes one record after another.
 fn pass_each(chunk: &Chunk, kept: &Kept, cursor: &mut Cursor)
     requires accepted { IsAccepted chunk.now }
     requires cursor { IsCursor chunk.now kept.now cursor.old }

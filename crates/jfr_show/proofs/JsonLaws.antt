@@ -68,7 +68,7 @@ module _ (k : Classes) (refer : ℕ × ℕ → Data) where
   one_item d made new v vs x n =
       sym (append_assoc made (json_of k refer v ∷ []) (json_of_all k refer vs)) ∙ ap (λ z. z ++ json_of_all k refer vs) (sym (n ∙ ap (λ z. made ++ z ∷ []) x))
 
--- What was made of the value of a slot.
+-- What was made of the value of a layout.
 module _ (k : Classes) (refer : ℕ × ℕ → Data) (c : List ℕ) (at to end : ℕ) (s : FieldLayout) (l : to ≤ end) (w : end ≤ length c) (is : IsLayoutIfKnown k s) (v : Value) (i : IsNode k c (node_at s.shape at to) v) (json : Data) where
   -- It ends there, and this is its JSON.
   abbrev pub IsMade : ℕ → Type 0

@@ -62,7 +62,7 @@ event_counted k rs r ts place v none is e a = record {
       ∙ ap Some (sym (class_tally-push k i rs r ∙ ap (λ o. both (class_tally k rs i) (single (option_map_or (λ n. n == i) o false) r)) is));
 }
 
--- the place in an event's slot is that of its class
+-- the place in an event's layout is that of its class
 pub layout_place : (k : Classes) (id : ℕ) (s : FieldLayout) → IsEventLayout k id s → event_place k id ≡ Some s.place
 layout_place k id s e = ap (λ b. cond b (class_place k id) None) e.event ∙ (ap (λ z. class_place k z.class) (sym e.shape) ∙ e.layout.place)
 

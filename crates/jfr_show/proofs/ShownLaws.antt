@@ -52,7 +52,7 @@ module _ (k : Classes) (refer : ℕ → ℕ × ℕ → List ℕ) (level : ℕ) w
       let texts : List (List ℕ) = shown_all k refer (level + 1) parts in
       ap (shown k refer level) e ∙ ap (λ z. if z then items_shown level texts else option_map_or (λ c. fields_shown level c texts) (find_class k s.class) []) a
 
--- What was added for the value of a slot.
+-- What was added for the value of a layout.
 module _ (k : Classes) (refer : ℕ → ℕ × ℕ → List ℕ) (level : ℕ) (c : List ℕ) (at to end : ℕ) (s : FieldLayout) (l : to ≤ end) (w : end ≤ length c) (is : IsLayoutIfKnown k s) (v : Value) (i : IsNode k c (node_at s.shape at to) v) (was new : List ℕ) where
   -- It ends there, and its text was added.
   abbrev pub IsShown : ℕ → Type 0

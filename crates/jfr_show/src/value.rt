@@ -39,7 +39,7 @@ pub(crate) fn show_node(
     Ok(())
 }
 
-/// Adds the value of a slot that begins at a place and ends at the limit or before it, and says where
+/// Adds the value of a layout that begins at a place and ends at the limit or before it, and says where
 /// it ends.
 #[cycle(show)]
 fn show_value(

@@ -76,7 +76,7 @@ fn run_words(
     Ok(())
 }
 
-// The same over a steady place and steady sinks.
+// Runs the program over a steady place and steady sinks.
 fn run_steadily(
     rt: &impl Abort,
     alloc: Global,

@@ -1,13 +1,15 @@
 -- What an answer that the format computes says of the string.
 use Rattle.std.specs.Prelude.{◌≡◌, ℕ, ◌+◌, ◌<◌, ◌≤◌, List, length, slice_range, slice_index, true, Result, Ok, Err, IfOk, IfErr}
-use Rattle.std.proofs.Common.{sym, subst, arith}
+use Rattle.std.proofs.Common.{ap, sym, subst, arith}
 use Rattle.jfr_base.specs.declared.flaw.Flaw.{Flaw}
-use Rattle.jfr_base.specs.Formats.{Reads, Fails, run}
+use Rattle.jfr_base.specs.Formats.{Reads, Fails, after_int, run, unchecked}
+use Rattle.jfr_base.specs.Integer.{IntAt}
 use Rattle.jfr_base.proofs.Exact.{run_says, Says}
+use Rattle.jfr_base.proofs.OneAnswer.{int_computed}
 use Rattle.jfr_base.proofs.FreeLaws.{reads_exact}
 use Rattle.jfr_base.proofs.ReadLaws.{reads_order}
 use Rattle.jfr_text.specs.declared.span.StringSpan.{StringSpan}
-use Rattle.jfr_text.specs.Strings.{Content, IsString, after_kind, string_format}
+use Rattle.jfr_text.specs.Strings.{Content, Key, IsString, after_kind, key_format, string_format}
 use Rattle.jfr_text.specs.Spans.{content_of, answer_of}
 use Rattle.jfr_text.proofs.StringLaws.{string_free, string_of_format}
 
@@ -29,6 +31,12 @@ module _ (x : List ℕ) (end at : ℕ) (order : at ≤ end) (within : end ≤ le
       (string_of_format true (slice_range x at s.end) (content_of s) i.exact).0
   spells (Err f) e = tt
 
+  -- bytes that the format reads by computing are a string of the content
+  pub computed : (s : Content) (to : ℕ) → run (string_format true) x end at ≡ Ok (record { value = s; place = to }) → IsString (slice_range x at to) s
+  computed s to e =
+      let i = reads_exact (string_format true) x end at s to within order (string_free true) (subst (Says (string_format true) x end at) e (run_says (string_format true) x end at order within)) in
+      (string_of_format true (slice_range x at to) s i.exact).0
+
   after : (s : Content) (to : ℕ) → Reads (string_format true) x end at s to → at < to
   unfolding string_format
   after s to r = omega (arith, reads_order (after_kind (slice_index x at)) x end (at + 1) s to r.2)
@@ -39,3 +47,9 @@ module _ (x : List ℕ) (end at : ℕ) (order : at ≤ end) (within : end ≤ le
       let i = reads_exact (string_format true) x end at (content_of s) s.end within order (string_free true) read in
       (after (content_of s) s.end read, i.within)
   ranges (Err f) e = tt
+
+-- the key that stands at a place is the one that its format computes
+pub key_computed : (x : List ℕ) (end at to key : ℕ) → at ≤ end → end ≤ length x → IntAt x at to key → to ≤ end → run key_format x end at ≡ Ok (record { value = Key key; place = to })
+unfolding run
+key_computed x end at to key order within stands before =
+    ap (after_int x at unchecked (λ v s p. Ok (record { value = Key v; place = p }))) (int_computed x at end to key order within stands before)

@@ -3,9 +3,9 @@ use Rattle.std.specs.Prelude.{◌≡◌, ℕ, zero, suc, ◌-◌, ◌<◌, ◌�
 use Rattle.std.proofs.Common.{ap, refl, sym, subst, arith, ◌∙◌, append-nil, take_all}
 use Rattle.jfr_base.specs.declared.reason.Reason.TheVariants.{StringKind}
 use Rattle.jfr_base.specs.Integer.{Spells}
-use Rattle.jfr_base.specs.Formats.{Done, times, integer, Exactly, PlaceFree, Answer, run}
+use Rattle.jfr_base.specs.Formats.{Done, times, integer, Exactly, Answer, run}
 use Rattle.jfr_base.proofs.ExactLaws.{exact_bind, bind_exact}
-use Rattle.jfr_base.proofs.FreeLaws.{bind_free, times_free, if_free}
+use Rattle.jfr_base.proofs.FreeLaws.{PlaceFree, bind_free, times_free, if_free}
 use Rattle.jfr_base.proofs.RunLaws.{Stands, exact_run}
 use Rattle.jfr_text.specs.Strings.{Content, Null, Empty, Key, Utf8, Units, Latin, SpellAll, IsBody, IsString, IsAllowed, kind_fault, after_kind, string_format}
 use Rattle.jfr_text.proofs.SpellLaws.{times_spelled, spelled_times}

@@ -1,8 +1,9 @@
 // Reading a string where it stands.
 ghost use Rattle.std.specs.Prelude.{◌≡◌, ◌↔◌, ℕ, ◌+◌, ◌-◌, ◌<◌, ◌≤◌, ◌^◌, List, [], length, IfOk, IfErr, IfSome, IsTrue, MatchOption, MatchResult, Ok, Err, slice_index, slice_range, true};
+ghost use Rattle.jfr_base.specs.Integer.{IntAt};
 ghost use Rattle.jfr_base.specs.Formats.{Reads, Fails, times, integer, checked, run, seen};
 ghost use Rattle.jfr_text.specs.Spans.{content_of, first_integers, answer_of, AreShort, IsShortUnits, IsSpanAt};
-ghost use Rattle.jfr_text.specs.Strings.{Units, SpellAll, IsString, kind_fault, counted_bytes, counted_integers, after_kind, bare_content, key_format, string_format};
+ghost use Rattle.jfr_text.specs.Strings.{Key, Units, SpellAll, IsString, kind_fault, counted_bytes, counted_integers, after_kind, bare_content, key_format, string_format};
 
 use crate::{StringKind, StringSpan};
 use jfr_base::{Flaw, Reason, read_within};
@@ -26,7 +27,7 @@ pub fn read_string<'a>(bytes: &'a [u8], at: usize, end: usize) -> Result<StringS
 
     ensures refused { IfErr result (λ e. Fails (string_format true) bytes.now end at e.offset e.reason) }
 
-    // The same as the format computes it.
+    // By computing: what the format's run gives.
     ensures exact { answer_of result ≡ run (string_format true) bytes.now end at }
 {
     if at == end {
@@ -44,6 +45,7 @@ pub fn is_bare(bytes: &[u8], at: usize, end: usize) -> bool
     requires order { at ≤ end }
     requires within { end ≤ length bytes.now }
     ensures exact { IsTrue result ↔ ((at < end) × (slice_index bytes.now at < 2)) }
+    ensures spelled { IsTrue result → IsString (slice_range bytes.now at (at + 1)) (bare_content (slice_index bytes.now at)) }
     ensures bare { IsTrue result → run (string_format true) bytes.now end at ≡ Ok (record { value = bare_content (slice_index bytes.now at); place = at + 1 }) }
 {
     at < end && bytes[at] < 2
@@ -55,6 +57,7 @@ pub fn is_key(bytes: &[u8], at: usize, end: usize) -> bool
     requires order { at ≤ end }
     requires within { end ≤ length bytes.now }
     ensures exact { IsTrue result ↔ ((at < end) × (slice_index bytes.now at ≡ 2)) }
+    ensures spelled { IsTrue result → (to key : ℕ) → IntAt bytes.now (at + 1) to key → to ≤ end → IsString (slice_range bytes.now at to) (Key key) }
     ensures key { IsTrue result → run (string_format true) bytes.now end at ≡ run key_format bytes.now end (at + 1) }
 {
     at < end && bytes[at] == 2
@@ -68,6 +71,7 @@ pub fn short_units_end(bytes: &[u8], at: usize, end: usize) -> Option<usize>
     requires within { end ≤ length bytes.now }
     ensures range { IfSome result (λ to. (at ≤ to) × (to ≤ end)) }
     ensures exact { MatchOption result ((to : ℕ) → to ≤ end → ¬ IsShortUnits bytes.now at to) (IsShortUnits bytes.now at) }
+    ensures spelled { IfSome result (λ to. (units : List ℕ) × IsString (slice_range bytes.now at to) (Units units)) }
     ensures units { IfSome result (λ to. (units : List ℕ) × (run (string_format true) bytes.now end at ≡ Ok (record { value = Units units; place = to }))) }
 {
     if end - at < 2 || bytes[at] != 4 {

@@ -170,7 +170,7 @@ module _ (k : Classes) (c : List ℕ) (n : NodeAt) (v : Value) (sound : Sound k)
       let f = fields_in k c n v d i a o q m in
       (f.parts, f.row, field_picked n.shape (children k c n) j a ∙ ap (λ z. slice_get z j) (children_are k c n v sound i ∙ f.is))
 
-  -- the same by the slots of the class
+  -- the same by the layouts of the class
   pub field_row : (j place : ℕ) (kind : Kind) (ss : List FieldLayout) → n.shape.array ≡ false → n.shape.constant ≡ false → slice_get k place ≡ find_class k n.shape.class → place < length k → IfSome (slice_get k place) (λ c. kind ≡ kind_of c.name) → kind ≡ kinds.Composite → IfSome (slice_get k place) (λ c. AreFieldLayouts k c.fields ss)
       → (vs : Values) × IsRow k c n.at n.end (map (λ s. s.shape) ss) vs × (child k c n (steps.Field j) ≡ slice_get (laid n.at (list_of vs)) j)
   field_row j place kind ss a o q l e m h =

@@ -93,7 +93,7 @@ pub no_more : {A : Type 0} (n i : ℕ) (f : Format A) (x : List ℕ) (end at : �
 unfolding run
 no_more n i f x end at h = let e : n - i ≡ 0 = omega arith in ap (λ k. seen (run (times k f) x end at)) e
 
--- the fields of a class by their slots
+-- the fields of a class by their layouts
 each_by : {X Y A : Type 0} (v : X → Y) (f : Y → Format A) (xs : List X) → for_each xs (λ x. f (v x)) ≡ for_each (map v xs) f
 each_by v f [] = refl
 each_by v f (x ∷ xs) = ap (λ z. f (v x) >>= λ a. z >>= λ rest. Done (a ∷ rest)) (each_by v f xs)

@@ -1,4 +1,4 @@
--- What the form of a slot says of its shape and its kind.
+-- What the form of a layout says of its shape and its kind.
 use Rattle.std.specs.Prelude.{◌≡◌, ◌≢◌, ◌⊎◌, ℕ, Bool, true, false, ⊤, if◌then◌else◌}
 use Rattle.std.proofs.Common.{ap, inl, inr, refl, subst, sym, ◌∙◌}
 use Rattle.jfr_layout.specs.Classes.{form_of, inline_form}
@@ -29,7 +29,7 @@ inline_is kinds.Double = tt
 inline_is kinds.Text = tt
 inline_is kinds.Composite = tt
 
--- then the slot has neither mark, and its kind has the form
+-- then the layout has neither mark, and its kind has the form
 pub record Inline (s : FieldLayout) (f : Form) : Type 0 where
   pub array : s.shape.array ≡ false
   pub constant : s.shape.constant ≡ false

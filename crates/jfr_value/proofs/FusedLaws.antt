@@ -91,7 +91,7 @@ module _ (k : Classes) (levels : ℕ) (x : List ℕ) (end : ℕ) where
   placed : (s : FieldLayout) → IsFieldLayout k s → IsPlaced k s
   placed s i = record { form = i.form; of_class = λ o. i }
 
-  -- a row of one field
+  -- one field
   alone_seen : (s : FieldLayout) (at : ℕ) → seen (row (s ∷ []) at) ≡ seen (run (one s) x end at)
   unfolding run
   alone_seen s at = seen-for_each s [] one x end at ∙ then_at_ok (seen (run (one s) x end at))
@@ -269,7 +269,7 @@ module _ (k : Classes) (levels : ℕ) (x : List ℕ) (end : ℕ) where
         (key_taken takes thread (f.threads ∷ []) threads old now (each.1.1.0, tt) (f.threads, refl, f.thread_is) h)
         (key_taken takes trace (f.traces ∷ []) traces now new (each.1.1.1.0, tt) (f.traces, refl, f.trace_is) t)))
 
--- the row of the class at a place
+-- the layout of the class at a place
 pub row_layouts : (k : Classes) (o : Option Class) (row : ClassLayout) → IfSome o (λ c. IsRow k c row) → IfSome o (λ c. AreFieldLayouts k c.fields row.layouts.items)
 row_layouts k None row h = h
 row_layouts k (Some c) row h = h.layouts
@@ -277,7 +277,7 @@ row_layouts k (Some c) row h = h.layouts
 pub row_fused : (k : Classes) (place : ℕ) (row : ClassLayout) → place < length k → IfSome (slice_get k place) (λ c. IsRow k c row) → AreFused row.layouts.items row.fused_fields.items
 row_fused k place row l h = let c = get_within k place l in (subst (λ o. IfSome o (λ c. IsRow k c row)) c.1 h).fused_fields
 
--- the leaps from a number on
+-- the fused fields from a number on
 module _ (ss : List FieldLayout) (fused_fields : List FusedFields) where
   abbrev pub left_by : ℕ → List FieldLayout
   left_by i = flat_map (passed_by ss) (drop i fused_fields)

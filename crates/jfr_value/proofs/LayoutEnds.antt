@@ -1,4 +1,4 @@
--- Where a value of a slot ends, and what is taken of it, by the slot's form.
+-- Where a value of a layout ends, and what is taken of it, by the layout's form.
 use Rattle.std.specs.Prelude.{◌≡◌, ◌≢◌, ℕ, ◌+◌, ◌-◌, ◌≤◌, Bool, true, false, List, [], ◌∷◌, map, slice_get, Some, IfOk, IfSome, option_map, option_to_list, if◌then◌else◌}
 use Rattle.std.specs.List.{AllByRecursion}
 use Rattle.std.proofs.Common.{ap, arith, subst, sym, ◌∙◌}
@@ -42,7 +42,7 @@ module _ (k : Classes) (s : FieldLayout) (levels : ℕ) (x : List ℕ) (end at :
       let i = inline_there s p.form forms.Text e tt in
       ap (λ kind. seen (run (base_format kind) x end at)) (sym (text_kind s.kind i.form)) ∙ base_ends forms.Text i (λ q. cc)
 
-  -- the class of a slot of inline fields
+  -- the class of a layout of inline fields
   pub record FieldsThere : Type 0 where
     pub of_class : IsFieldLayout k s
     pub array : s.shape.array ≡ false
@@ -91,7 +91,7 @@ module _ (k : Classes) (s : FieldLayout) (levels : ℕ) (x : List ℕ) (end at :
         inline_taken f.array f.constant (fields_taken takes x end at (levels + 1) k s ss old new (omega arith) f.of_class f.composite a
         (subst (λ n. TakesReadAll takes (run (for_each ss (λ z. shape_format (class_format n k) z.shape)) x end at) old new) m h))
 
--- the room for each field of a slot's class
+-- the room for each field of a layout's class
 room_each : (k : Classes) (levels : ℕ) (fs : List Field) (ss : List FieldLayout) → map (λ s. s.shape) ss ≡ map (λ f. f.shape) fs → AllByRecursion (λ f. Room k levels f.shape) fs → AllByRecursion (λ s. Room k levels s.shape) ss
 room_each k levels fs [] e a = tt
 room_each k levels [] (s ∷ ss) e a = cc

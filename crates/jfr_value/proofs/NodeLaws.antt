@@ -4,8 +4,8 @@ use Rattle.std.specs.Option.{option_map_or, option_and_then}
 use Rattle.std.proofs.Common.{ap, arith, refl, sym, subst}
 use Rattle.jfr_base.specs.Formats.{Reads, Exactly, run}
 use Rattle.jfr_base.proofs.RunLaws.{Stands, stands_split, exact_run}
-use Rattle.jfr_base.proofs.FreeLaws.{reads_exact, bind_free, with_free, times_free, each_free, if_free}
-use Rattle.jfr_base.specs.Formats.{Format, Int, Done, PlaceFree, times, unchecked, with_bytes}
+use Rattle.jfr_base.proofs.FreeLaws.{PlaceFree, reads_exact, bind_free, with_free, times_free, each_free, if_free}
+use Rattle.jfr_base.specs.Formats.{Format, Int, Done, times, unchecked, with_bytes}
 use Rattle.jfr_layout.specs.Classes.{Class, Classes, find_class, kind_of, item_of, Sound}
 use Rattle.jfr_layout.specs.declared.kind.Kind.{Kind}
 use Rattle.jfr_layout.specs.declared.kind.Kind.TheVariants as kinds

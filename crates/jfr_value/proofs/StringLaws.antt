@@ -4,11 +4,11 @@ use Rattle.std.proofs.Common.{ap, arith, refl, sym, ◌∙◌, subst}
 use Rattle.std.proofs.lemmas.List.{append-nil}
 use Rattle.std.proofs.lemmas.Map.Views.{exact_unsigned_eq}
 use Rattle.jfr_base.specs.Integer.{Spells}
-use Rattle.jfr_base.specs.Formats.{Done, Int, Run, ◌>>=◌, times, integer, unchecked, Exactly, PlaceFree}
+use Rattle.jfr_base.specs.Formats.{Done, Int, Run, ◌>>=◌, times, integer, unchecked, Exactly}
 use Rattle.jfr_base.specs.declared.reason.Reason.TheVariants.{StringKind}
 use Rattle.jfr_text.specs.Strings.{Content, Null, Empty, Key, Utf8, Units, Latin, SpellAll, Counted, IsBody, IsString, kind_fault, after_kind, string_format}
 use Rattle.jfr_base.proofs.ExactLaws.{exact_bind, bind_exact}
-use Rattle.jfr_base.proofs.FreeLaws.{bind_free, times_free, if_free}
+use Rattle.jfr_base.proofs.FreeLaws.{PlaceFree, bind_free, times_free, if_free}
 
 no_rest : (b h r : List ℕ) → b ≡ h ++ r → r ≡ [] → b ≡ h
 no_rest b h r e d = e ∙ (ap (λ z. h ++ z) d ∙ append-nil h)

@@ -100,7 +100,7 @@ mutual
       later vs (inl j) f g = (0, v, refl, f j)
       later vs (inr j) f g = let r = g j in (suc r.0, r.1, r.2, r.3)
 
--- The same among nodes.
+-- Two options that are there together, taken one step further.
 pub both_then : {A B C D : Type 0} (R : A → B → Type 0) (S : C → D → Type 0) (f : A → Option C) (g : B → Option D) (x : Option A) (y : Option B) → Both R x y → ((a : A) (b : B) → R a b → Both S (f a) (g b)) → Both S (option_and_then f x) (option_and_then g y)
 both_then R S f g None None r h = tt
 both_then R S f g (Some a) (Some b) r h = h a b r

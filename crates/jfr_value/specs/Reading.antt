@@ -52,7 +52,7 @@ unfoldable pub class_format : ℕ → Classes → Shape → Format Value
 class_format zero k s = Refuse InlineDeep
 class_format (suc n) k s = inline_format (class_format n k) s (find_class k s.class)
 
--- the values of these slots, one behind another, in each at most so many classes within one another
+-- the values of these layouts, one behind another, in each at most so many classes within one another
 abbrev pub row_format : ℕ → Classes → List FieldLayout → Format (List Value)
 row_format depth k layouts = for_each layouts (λ s. shape_format (class_format depth k) s.shape)
 

@@ -127,7 +127,7 @@ IsHollow c = (kind_of c.name ≡ kinds.Composite) × (c.fields ≡ [])
 abbrev pub IsHollowArray : Shape → Class → Type 0
 IsHollowArray s c = (s.array ≡ true) × (s.constant ≡ false) × IsHollow c
 
--- the slot has its form, and is that of its class; of a constant the class doesn't matter
+-- the layout has its form, and is that of its class; of a constant the class doesn't matter
 pub record IsPlaced (k : Classes) (s : FieldLayout) : Type 0 where
   pub form : s.form ≡ form_of s.shape s.kind
   pub of_class : s.shape.constant ≡ false → IsFieldLayout k s

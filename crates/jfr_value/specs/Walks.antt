@@ -34,7 +34,7 @@ shapes_left k (f ∷ fs) = shapes_left k fs ++ frame_shapes k f
 abbrev pub IsPlacedIfKnown : Classes → Shape → ℕ → Type 0
 IsPlacedIfKnown k s place = s.constant ≡ false → IsSome (find_class k s.class) → class_place k s.class ≡ Some place
 
--- the slot has its form, and is that of its class, if the class is known
+-- the layout has its form, and is that of its class, if the class is known
 pub record IsLayoutIfKnown (k : Classes) (s : FieldLayout) : Type 0 where
   pub form : s.form ≡ form_of s.shape s.kind
   pub of_class : s.shape.constant ≡ false → IsSome (find_class k s.shape.class) → IsFieldLayout k s

@@ -45,7 +45,7 @@ pub fn end_of(
     value_end(classes, &layout, bytes, at, end, &mut NoVisit, &())
 }
 
-/// Where a value of a slot ends, as `end_of` says it. On the way the class and the key of each reference,
+/// Where a value of a layout ends, as `end_of` says it. On the way the class and the key of each reference,
 /// and of each string that is a key, are handed to a visitor, from left to right. After a flaw it has
 /// taken some of them.
 #[inline(always)]
@@ -63,6 +63,8 @@ pub fn end_visiting<C, V: Visit<C>>(
     requires order { at ≤ end }
     requires within { end ≤ length bytes.now }
     requires ready { V.ready visitor.old with.now }
+    ensures ok { IfOk result (λ to. EndsAt classes.now bytes.now layout.now.shape at to × (to ≤ end)) }
+    ensures refused { IfErr result (IsRefused classes.now bytes.now layout.now.shape at end) }
     ensures exact { result ≡ seen (run (value_format classes.now layout.now.shape) bytes.now end at) }
     ensures reason { IfErr result (λ flaw. IsValueReason flaw.reason) }
     ensures visited { IfOk result (λ to. TakesAll (V.takes with.now) (targets classes.now bytes.now (node_at layout.now.shape at to)) visitor.old visitor.new) }
@@ -71,7 +73,7 @@ pub fn end_visiting<C, V: Visit<C>>(
     value_end(classes, layout, bytes, at, end, visitor, with)
 }
 
-/// The same, as the format computes it.
+/// Where a value ends, stated by the format's run.
 #[inline(always)]
 fn value_end<C, V: Visit<C>>(
     classes: &Classes,
@@ -109,7 +111,7 @@ fn value_end<C, V: Visit<C>>(
     }
 }
 
-/// The same, of a value that is no row of fields.
+/// Where a value ends that isn't the fields of a composite class.
 #[inline]
 fn other_end<C, V: Visit<C>>(
     classes: &Classes,
@@ -150,7 +152,7 @@ impl Visit<()> for NoVisit {
     fn visit(&mut self, _with: &(), _class: u64, _key: u64) {}
 }
 
-/// The slot of a shape. Where its class isn't known, only the shape says something.
+/// The layout of a shape. Where its class isn't known, only the shape says something.
 pub fn layout_of(classes: &Classes, shape: Shape) -> FieldLayout
     ensures shape { result.shape ≡ shape }
     ensures form { result.form ≡ form_of result.shape result.kind }
@@ -163,7 +165,7 @@ pub fn layout_of(classes: &Classes, shape: Shape) -> FieldLayout
     }
 }
 
-/// Whether the slot is one of arrays of inline values without bytes: its class is composite and has no fields.
+/// Whether the layout is one of arrays of inline values without bytes: its class is composite and has no fields.
 fn is_hollow_array(classes: &Classes, layout: &FieldLayout) -> bool
     requires { layout.now.place < length classes.now }
     ensures { IfSome (slice_get classes.now layout.now.place) (λ c. IsTrue result ↔ IsHollowArray layout.now.shape c) }
@@ -239,7 +241,7 @@ pub(crate) fn base_end(kind: Kind, bytes: &[u8], at: usize, end: usize) -> Resul
     }
 }
 
-/// Where a value of a slot ends.
+/// Where a value of a layout ends.
 #[cycle(ends)]
 #[tactic(auto, using(jfr_base::proofs::SeenLaws::ends), unfolding(jfr_base::specs::Formats::run, crate::specs::Reading::class_format))]
 #[inline(always)]
@@ -313,7 +315,7 @@ fn compound_end<C, V: Visit<C>>(
     }
 }
 
-/// Where the values of slots end, one after another.
+/// Where the values of layouts end, one after another.
 #[cycle(ends)]
 #[tactic(auto, using(jfr_base::proofs::SeenLaws::ends), unfolding(jfr_base::specs::Formats::run, crate::specs::Reading::class_format))]
 #[inline(always)]
@@ -344,7 +346,7 @@ fn row_end<C, V: Visit<C>>(
     Ok(to)
 }
 
-/// The same, apart from the walk over the value in which they stand.
+/// Where items end, kept out of line of the walk over the value in which they stand.
 #[cycle(ends)]
 #[tactic(auto, using(jfr_base::proofs::SeenLaws::ends), unfolding(jfr_base::specs::Formats::run, crate::specs::Reading::class_format))]
 #[inline(never)]
@@ -371,7 +373,8 @@ pub(crate) fn fields_end<C, V: Visit<C>>(
     row_end(classes, layouts, bytes, at, end, levels, visitor, with)
 }
 
-/// The same of the row of an event or of another value that stands by itself, leap by leap.
+/// Where the fields of an event, or of another value that stands by itself, end: group by group of fused
+/// fields.
 #[inline(always)]
 fn whole_row_end<C, V: Visit<C>>(
     classes: &Classes,
@@ -445,7 +448,7 @@ fn array_end<C, V: Visit<C>>(
     Ok(to)
 }
 
-/// The slot of an array's items.
+/// The layout of an array's items.
 pub fn item_layout(array: &FieldLayout) -> FieldLayout
     ensures { result ≡ layout_with (item_of array.now.shape) array.now.place array.now.kind }
 {

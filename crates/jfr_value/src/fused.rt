@@ -1,4 +1,4 @@
-// Where the fields end that a leap passes.
+// Where fused fields end.
 ghost use Rattle.std.specs.Prelude.{◌≡◌, ℕ, ◌+◌, ◌≤◌, List, length, IfOk};
 ghost use Rattle.std.specs.List.{AllByRecursion};
 ghost use Rattle.jfr_base.specs.Formats.{run, seen};
@@ -16,8 +16,7 @@ use crate::keys::{key_end, text_end};
 use jfr_base::Flaw;
 use jfr_layout::{ClassLayout, Classes, FusedFields, FusedKind};
 
-/// Where the values of the fields end that a leap passes. Where it can't pass them at once, they are
-/// walked one by one.
+/// Where the values of fused fields end. Where they can't be passed at once, they are walked one by one.
 #[inline(always)]
 pub(crate) fn fused_end<C, V: Visit<C>>(
     classes: &Classes,
@@ -74,7 +73,8 @@ pub(crate) fn fused_end<C, V: Visit<C>>(
     }
 }
 
-/// The same, field by field. What the call answers is taken apart here, as in `compound_end`.
+/// The end of fused fields, walked field by field. What the call answers is taken apart here, as in
+/// `compound_end`.
 #[inline(always)]
 fn each_end<C, V: Visit<C>>(
     classes: &Classes,
@@ -103,7 +103,7 @@ fn each_end<C, V: Visit<C>>(
     Ok(to)
 }
 
-/// Where the front of most events ends: two integers, and references of these classes.
+/// Where the event prelude ends: two integers, and references of these classes.
 #[inline(always)]
 fn prelude_end<C, V: Visit<C>>(
     thread: u64,

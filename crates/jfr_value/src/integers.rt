@@ -60,7 +60,7 @@ pub(crate) fn integers_end(bytes: &[u8], at: usize, end: usize, count: usize) ->
     }
 }
 
-/// The same, where one look shows the last groups of all. Whether it showed them is tested once, behind
+/// Where integers end whose last groups one look at 32 bytes shows. Whether it showed them is tested once, behind
 /// the last integer: until then one may seem to end past the vector.
 #[inline(always)]
 fn integers_at_once(bytes: &[u8], at: usize, end: usize, count: usize) -> Option<usize>
@@ -85,7 +85,7 @@ fn integers_at_once(bytes: &[u8], at: usize, end: usize, count: usize) -> Option
     Some(to)
 }
 
-/// The same, one integer after another. What the call answers is taken apart here, as in
+/// Where integers end, one after another. What the call answers is taken apart here, as in
 /// `compound_end`.
 #[inline(always)]
 fn far_integers_end(bytes: &[u8], at: usize, end: usize, count: usize) -> Result<usize, Flaw>
@@ -98,7 +98,7 @@ fn far_integers_end(bytes: &[u8], at: usize, end: usize, count: usize) -> Result
     Ok(to)
 }
 
-/// The same, out of line.
+/// Where integers end, one after another, out of line.
 #[inline(never)]
 fn each_integer_end(bytes: &[u8], at: usize, end: usize, count: usize) -> Result<usize, Flaw>
     requires order { at ≤ end }
@@ -135,7 +135,7 @@ fn groups_with_more(lasts: u64, from: usize) -> usize
     ((lasts >> from) | NINTH_GROUP).trailing_zeros() as usize
 }
 
-/// The same as `integer_end`, near the end of the bytes. What the call answers is taken apart here, as in
+/// Where an integer ends near the end of the bytes. What the call answers is taken apart here, as in
 /// `compound_end`.
 #[inline(always)]
 fn near_end(bytes: &[u8], at: usize, end: usize) -> Result<usize, Flaw>
@@ -148,7 +148,7 @@ fn near_end(bytes: &[u8], at: usize, end: usize) -> Result<usize, Flaw>
     Ok(to)
 }
 
-/// The same, group by group.
+/// Where an integer ends, group by group.
 #[cold]
 #[inline(never)]
 fn last_integer_end(bytes: &[u8], at: usize, end: usize) -> Result<usize, Flaw>

@@ -38,7 +38,7 @@ pub(crate) fn key_end<C, V: Visit<C>>(
     }
 }
 
-/// The same, of a key that may have more bytes. What the call answers is taken apart here, as in
+/// Where a key ends that may have more than one byte. What the call answers is taken apart here, as in
 /// `compound_end`.
 #[inline(always)]
 fn far_key_end<C, V: Visit<C>>(
@@ -61,7 +61,7 @@ fn far_key_end<C, V: Visit<C>>(
     Ok(to)
 }
 
-/// The same, where the key has more bytes, or does not end in time.
+/// Where a key of several bytes ends, or the flaw of one that does not end in time.
 #[tactic(auto, unfolding(jfr_base::specs::Formats::run))]
 #[inline(never)]
 fn long_key_end<C, V: Visit<C>>(
@@ -121,8 +121,7 @@ pub(crate) fn text_end<C, V: Visit<C>>(
     far_text_end(class, bytes, at, end, visitor, with)
 }
 
-/// The same, of a string that may be no key. What the call answers is taken apart here, as in
-/// `compound_end`.
+/// Where a string of any kind ends. What the call answers is taken apart here, as in `compound_end`.
 #[inline(always)]
 fn far_text_end<C, V: Visit<C>>(
     class: u64,
@@ -145,7 +144,7 @@ fn far_text_end<C, V: Visit<C>>(
     Ok(to)
 }
 
-/// The same, read whole.
+/// Where a string ends that is read whole.
 #[inline(never)]
 fn long_text_end<C, V: Visit<C>>(
     class: u64,

@@ -94,7 +94,7 @@ fn part_end(classes: &Classes, layout: &FieldLayout, bytes: &[u8], at: usize, en
     }
 }
 
-/// The field of a number, where values of these slots are the fields.
+/// The field of a number, where values of these layouts are the fields.
 fn nth_field<'a>(
     classes: &Classes,
     layouts: &[FieldLayout],

@@ -47,7 +47,7 @@ pub(crate) fn node_json(
     Ok(made.json)
 }
 
-/// The value of a slot that begins at a place and ends at the limit or before it.
+/// The value of a layout that begins at a place and ends at the limit or before it.
 #[cycle(json)]
 fn value_json(
     alloc: Global,

@@ -1,4 +1,4 @@
-use Rattle.jfr_value.proofs.AnswerLaws.{end_reason}
+use Rattle.jfr_value.proofs.AnswerLaws.{end_ok, end_reason, end_refused}
 use Rattle.jfr_value.proofs.LayoutLaws.{layout_known}
 use Rattle.jfr_value.proofs.TakingLaws.{node_taken}
 use Rattle.jfr_value.proofs.extent.end_visiting.Goals as goal
@@ -11,3 +11,9 @@ pub returns-clause-visited : goal.returns-clause-visited
 returns-clause-visited g c =
     node_taken (g.V.Visit.takes c.args.with.now) c.args.classes.now c.args.layout.now.shape c.args.bytes.now c.args.end c.args.at c.args.visitor.now c.value_end.new.visitor c.requires.sound c.requires.order c.requires.within c.value_end.result
     c.value_end.ensures.exact c.value_end.ensures.visited
+
+pub returns-clause-ok : goal.returns-clause-ok
+returns-clause-ok g c = end_ok c.args.classes.now c.args.bytes.now c.args.layout.now.shape c.args.at c.args.end c.requires.order c.requires.within c.value_end.result c.value_end.ensures.exact
+
+pub returns-clause-refused : goal.returns-clause-refused
+returns-clause-refused g c = end_refused c.args.classes.now c.args.bytes.now c.args.layout.now.shape c.args.at c.args.end c.requires.order c.requires.within c.value_end.result c.value_end.ensures.exact

@@ -1,6 +1,6 @@
-use Rattle.std.proofs.Common.{arith, refl}
+use Rattle.std.proofs.Common.{arith, refl, subst, sym}
 use Rattle.std.proofs.lemmas.Result.{err_from_is_err_and}
-use Rattle.jfr_frame.proofs.Reading.{read_more, read_all, read_computed, read_stops}
+use Rattle.jfr_frame.proofs.Reading.{Read, read_more, read_all, read_computed, read_stops}
 use Rattle.jfr_frame.proofs.StartLaws.{head_short}
 use Rattle.jfr_frame.proofs.frames.Frames.read_in.Goals as goal
 
@@ -16,7 +16,8 @@ of-requires-clause-short c =
 
 pub records-preserved : goal.records-preserved
 records-preserved c =
-    read_more _ _ _ _ _ _ c.records.invariant (rw c.in-Some.is at c.in_ok-record.ensures.ok) c.of.ensures c.in_ok-push.ensures.items
+    subst (Read c.args.chunk.now c.push.new.self.items) (sym c.end-at.ensures)
+    (read_more _ _ _ _ _ _ c.records.invariant (rw c.in-Some.is at c.in_ok-record.ensures.ok) c.of.ensures c.in_ok-push.ensures.items)
 
 pub invariant_of-result : goal.invariant_of-result
 invariant_of-result c = read_all _ _ _ c.records.invariant (c.in_ok-record.ensures.end.0 (rw c.in_default.is refl))
