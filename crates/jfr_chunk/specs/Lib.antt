@@ -7,7 +7,7 @@ pub mod Written
 pub mod Scrub
 pub mod Meaning
 pub mod Seen
-pub mod ConstantRefs
+pub mod Refs
 pub mod Rooms
 pub mod Stages
 pub mod Laws

@@ -27,29 +27,13 @@ use Rattle.jfr_chunk.specs.Refusal.{read_parts, refusal_of, flaw_in}
 use Rattle.jfr_chunk.proofs.ChainAnswers.{is_computed}
 use Rattle.jfr_laws.specs.Laws.{IsSettled}
 use Rattle.jfr_laws.proofs.Settled.{settled}
-use Rattle.jfr_scrub.specs.Headline.{IsScrubbed, AreScrubbed, IsByPlan, Scrubs, before_refused, unless_refused}
+use Rattle.jfr_scrub.specs.Headline.{AreScrubbed, IsByPlan, IsScrubOf, Scrubs, before_refused, recording_scrubbed, unless_refused}
 use Rattle.jfr_scrub.specs.Scrubbing.{IsAccepted}
 use Rattle.jfr_scrub.specs.Scrubs.{scrubbed, scrubbed_by, scrubbing}
+use Rattle.jfr_scrub.proofs.AgainLaws.{is_scrubbed, recording_chunks}
 use Rattle.jfr_scrub.proofs.MadeFile.{made}
 
-scrubbed_one : (g : Given) (c : List ℕ) (r : Result Parts Flaw) → Whole c → read_parts c ≡ r → flaw_in r ≡ None → IsScrubbed g c (scrubbed_by g r)
-scrubbed_one g c (Ok p) w e n =
-    let h : (p.bytes ≡ c) × AreParts p = ((is_computed c w.long).parts p).1 e in
-    record {
-      parts = p;
-      bytes = h.0;
-      stand = h.1;
-      becomes = refl;
-      settled = settled g p (subst Whole (sym h.0) w) h.1;
-    }
-scrubbed_one g c (Err flaw) w e n = cc
-
--- each chunk that isn't refused is scrubbed
-pub is_scrubbed : (g : Given) (c : List ℕ) → Whole c → refusal_of c ≡ None → IsScrubbed g c (scrubbed g c)
-unfolding refusal_of scrubbed
-is_scrubbed g c w n = scrubbed_one g c (read_parts c) w refl n
-
--- and so is each before the first refused one
+-- each chunk before the first refused one is scrubbed
 are_scrubbed : (g : Given) (cs : List (List ℕ)) → AllByRecursion Whole cs → AreScrubbed g (before_refused refusal_of cs) (map (scrubbed g) (before_refused refusal_of cs))
 are_scrubbed g [] w = tt
 are_scrubbed g (c ∷ cs) w = by_flaw (refusal_of c) refl (are_scrubbed g cs w.1)
@@ -59,21 +43,21 @@ are_scrubbed g (c ∷ cs) w = by_flaw (refusal_of c) refl (are_scrubbed g cs w.1
     by_flaw None e later = (is_scrubbed g c w.0 e, later)
     by_flaw (Some flaw) e later = tt
 
+-- what a recording becomes is its scrub
+pub is_scrub_of : (g : Given) (x : List ℕ) → IsScrubOf g x (recording_scrubbed g x)
+is_scrub_of g x =
+    let cs : List (List ℕ) = (cut x 0 true).chunks in
+    record {
+      results = map (scrubbed g) (before_refused refusal_of cs);
+      scrubbed = are_scrubbed g cs (all_whole cs (cut x 0 true).flaw x 0 true (are_cut x 0 true));
+      bytes = refl;
+      chunks = recording_chunks g x;
+    }
+
 scrubs_world : (g : Given) (input output : List ℕ) (e : End) (w v : World) (p q : Option (List ℕ)) → AllDone (plan_in (scrubbing g output) input w) e (stand w p) (stand v q) → Scrubs g input output w v
 scrubs_world g input output e w v p q d =
     let h = made refusal_of (scrubbed g) input output w v p q e d in
-    let cs : List (List ℕ) = (cut h.recording 0 true).chunks in
-    record {
-      recording = h.recording;
-      read = h.read;
-      written = joined (map (scrubbed g) (before_refused refusal_of cs));
-      stands = h.stands;
-      scrub = record {
-        results = map (scrubbed g) (before_refused refusal_of cs);
-        scrubbed = are_scrubbed g cs (all_whole cs (cut h.recording 0 true).flaw h.recording 0 true (are_cut h.recording 0 true));
-        bytes = refl;
-      };
-    }
+    record { recording = h.recording; read = h.read; written = recording_scrubbed g h.recording; stands = h.stands; scrub = is_scrub_of g h.recording }
 
 -- where all effects of the plan are done, the output holds the scrub of the input
 scrubs : (g : Given) (input output : List ℕ) (e : End) (a b : State) → Ended (scrubbing g output) input e (alone a) (alone b) → Told a.told b.told (Scrubs g input output)

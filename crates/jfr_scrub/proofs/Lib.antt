@@ -9,5 +9,6 @@ pub mod FitLaws
 pub mod GallopingLaws
 pub mod RunLaws
 pub mod CountLaws
+pub mod AgainLaws
 pub mod HeadlineLaws
 mod MadeFile

@@ -1,5 +1,5 @@
--- What a scrub writes: a result for each chunk of the recording before the first that is refused.
-use Rattle.std.specs.Prelude.{◌≡◌, ℕ, List, [], ◌∷◌, Option, Some, None, true, ⊤}
+-- What a scrub writes: a recording with a chunk for each chunk before the first that is refused.
+use Rattle.std.specs.Prelude.{◌≡◌, ℕ, List, [], ◌∷◌, map, Option, Some, None, true, ⊤}
 use Rattle.jfr_base.specs.declared.flaw.Flaw.{Flaw}
 use Rattle.jfr_filter.specs.Filters.{Given}
 use Rattle.jfr_outside.specs.World.{World, file}
@@ -11,6 +11,7 @@ use Rattle.jfr_chunk.specs.Chosen.{kept_of}
 use Rattle.jfr_chunk.specs.Scrub.{scrub_of}
 use Rattle.jfr_chunk.specs.Refusal.{refusal_of}
 use Rattle.jfr_laws.specs.Laws.{IsSettled}
+use Rattle.jfr_scrub.specs.Scrubs.{scrubbed}
 
 -- The chunks before the first that a rule refuses.
 abbrev pub unless_refused : Option Flaw → List (List ℕ) → List (List ℕ)
@@ -36,11 +37,21 @@ AreScrubbed g (c ∷ cs) (b ∷ bs) = IsScrubbed g c b × AreScrubbed g cs bs
 AreScrubbed g [] (b ∷ bs) = ⊥
 AreScrubbed g (c ∷ cs) [] = ⊥
 
--- The bytes y are the results for the recording x, one after another.
+-- The bytes y are cut into just these chunks to their end; without a chunk there are no bytes.
+abbrev pub AreChunksOf : List (List ℕ) → List ℕ → Type 0
+AreChunksOf [] y = y ≡ []
+AreChunksOf (c ∷ cs) y = cut y 0 true ≡ record { chunks = c ∷ cs; flaw = None }
+
+-- The bytes y are the results for the recording x, one after another: a recording of just these chunks.
 pub record IsScrubOf (g : Given) (x y : List ℕ) : Type 0 where
   pub results : List (List ℕ)
   pub scrubbed : AreScrubbed g (before_refused refusal_of (cut x 0 true).chunks) results
   pub bytes : y ≡ joined results
+  pub chunks : AreChunksOf results y
+
+-- What a recording becomes: the chunks before the first that is refused, each scrubbed, one after another.
+abbrev pub recording_scrubbed : Given → List ℕ → List ℕ
+recording_scrubbed g x = joined (map (scrubbed g) (before_refused refusal_of (cut x 0 true).chunks))
 
 -- The answer is one that the plan ends with.
 abbrev pub IsByPlan : Ending → Type 0

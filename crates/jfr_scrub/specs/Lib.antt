@@ -1,7 +1,7 @@
 pub mod Pieces
 pub mod Left
 pub mod Fits
-pub mod KeptRecord
+pub mod OutputRecords
 pub mod Bodies
 pub mod Runs
 pub mod Scrubbing

@@ -7,6 +7,7 @@
 mod body;
 mod checkpoint;
 mod galloping;
+mod laws;
 mod output;
 mod output_records;
 mod piece;
@@ -17,6 +18,7 @@ mod run;
 mod scrub;
 mod scrubber;
 
+pub use laws::{output_is_a_recording, scrubbed_again_stays_the_same};
 pub use piece::Piece;
 pub use scrub::scrub_stream;
 pub use scrubber::Scrubber;

@@ -270,12 +270,12 @@ module _ (k : Classes) (levels : ℕ) (x : List ℕ) (end : ℕ) where
         (key_taken takes trace (f.traces ∷ []) traces now new (each.1.1.1.0, tt) (f.traces, refl, f.trace_is) t)))
 
 -- the layout of the class at a place
-pub row_layouts : (k : Classes) (o : Option Class) (row : ClassLayout) → IfSome o (λ c. IsRow k c row) → IfSome o (λ c. AreFieldLayouts k c.fields row.layouts.items)
+pub row_layouts : (k : Classes) (o : Option Class) (row : ClassLayout) → IfSome o (λ c. IsClassLayout k c row) → IfSome o (λ c. AreFieldLayouts k c.fields row.layouts.items)
 row_layouts k None row h = h
 row_layouts k (Some c) row h = h.layouts
 
-pub row_fused : (k : Classes) (place : ℕ) (row : ClassLayout) → place < length k → IfSome (slice_get k place) (λ c. IsRow k c row) → AreFused row.layouts.items row.fused_fields.items
-row_fused k place row l h = let c = get_within k place l in (subst (λ o. IfSome o (λ c. IsRow k c row)) c.1 h).fused_fields
+pub row_fused : (k : Classes) (place : ℕ) (row : ClassLayout) → place < length k → IfSome (slice_get k place) (λ c. IsClassLayout k c row) → AreFused row.layouts.items row.fused_fields.items
+row_fused k place row l h = let c = get_within k place l in (subst (λ o. IfSome o (λ c. IsClassLayout k c row)) c.1 h).fused_fields
 
 -- the fused fields from a number on
 module _ (ss : List FieldLayout) (fused_fields : List FusedFields) where

@@ -1,6 +1,6 @@
 use Rattle.std.proofs.Common.{ap}
 use Rattle.jfr_plan.specs.Effects.{Outside}
-use Rattle.jfr_scrub.proofs.HeadlineLaws.{is_scrubbed}
+use Rattle.jfr_scrub.proofs.AgainLaws.{is_scrubbed}
 use Rattle.jfr_cli.proofs.Clauses.{usage_told, usage_only, untouched, headline_told, done_told, refused_told, halted_told, broken_told, parts_told, memory_told, memory_said, statuses, no_read_passed, no_write_passed, no_text_passed, one_count, complete, can_read, can_create, sink_told, place_told, same_told}
 use Rattle.jfr_cli.proofs.top.run.Goals as goal
 

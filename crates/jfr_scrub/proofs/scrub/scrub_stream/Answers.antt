@@ -1,4 +1,5 @@
-use Rattle.jfr_scrub.proofs.HeadlineLaws.{headline, is_scrubbed}
+use Rattle.jfr_scrub.proofs.AgainLaws.{is_scrubbed}
+use Rattle.jfr_scrub.proofs.HeadlineLaws.{headline}
 use Rattle.jfr_scrub.proofs.scrub.scrub_stream.Goals as goal
 
 pub returns-clause-headline : goal.returns-clause-headline
