@@ -1,4 +1,4 @@
-// What the first bytes of what is left say.
+// Checking the next header.
 ghost use Rattle.std.specs.Prelude.{◌≡◌, ◌≤◌, length};
 ghost use Rattle.jfr_header.specs.Fronts.{flaw_at};
 ghost use Rattle.jfr_header.specs.Judging.{IsJudged};
@@ -9,7 +9,7 @@ use jfr_base::{Flaw, Reason};
 /// A chunk starts below this byte of the recording.
 const START_LIMIT: u64 = 1 << 40;
 
-/// What the first 68 bytes of what is left say, or all of them where fewer are left.
+/// Result of checking the next header: of the first 68 bytes of what is left, or of all where fewer are left.
 #[derive(Clone, Copy)]
 pub enum Verdict {
     /// The recording ends here.

@@ -10,7 +10,7 @@ use jfr_base::{NoMemory, Reason};
 use std::alloc::Global;
 use std::collections::BTreeMap;
 
-/// So many ids have a place in the table in any list, and so many more for each class.
+/// Minimum size of the direct table, and how much larger it may be for each class.
 const FEW_IDS: u64 = 16384;
 
 const IDS_A_CLASS: u64 = 4;
@@ -48,7 +48,7 @@ impl Index {
         Ok(old.is_some())
     }
 
-    /// So many ids, from 0 on, have a place in the table.
+    /// The size of the direct table: ids below it have a place there.
     pub fn near_len(&self) -> usize
         ensures { result ≡ length self.now.near.items }
     {

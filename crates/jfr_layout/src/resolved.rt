@@ -180,7 +180,8 @@ impl Resolved {
         self.index.place(id)
     }
 
-    /// So many ids, from 0 on, are found in the table of the index.
+    /// The size of the index's direct table, which is a good size for other tables by id. Nothing else is
+    /// promised of it.
     pub fn near_len(&self) -> usize {
         self.index.near_len()
     }

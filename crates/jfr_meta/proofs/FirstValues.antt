@@ -18,8 +18,7 @@ use Rattle.std.specs.Option.{option_map_or}
 use Rattle.jfr_meta.specs.Attributes.{text_at, first_value, value_key, values_from}
 use Rattle.jfr_meta.specs.Values.{HasFirst, value_under}
 use Rattle.jfr_meta.proofs.Categories.{find_at}
-use Rattle.jfr_meta.proofs.Texts.{word_ascii}
-use Rattle.jfr_base.proofs.TextLaws.{bytes_eq-encodes}
+use Rattle.jfr_base.proofs.TextLaws.{bytes_eq-encodes, word_ascii}
 
 -- the key is its text, spelled
 spelled : (b t : List ℕ) → IsUtf8 b → chars b ≡ t → b ≡ encode_utf8_all t

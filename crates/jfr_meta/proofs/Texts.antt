@@ -4,7 +4,7 @@ use Rattle.std.specs.Prelude.{Option, Some, None, unwrap_or, suc, Bool, true, fa
 use Rattle.jfr_meta.specs.Attributes.{not_empty}
 use Rattle.std.specs.Borrow.{Bor}
 use Rattle.jfr_base.specs.Texts.{text_in}
-use Rattle.jfr_base.proofs.TextLaws.{bytes_eq-chars}
+use Rattle.jfr_base.proofs.TextLaws.{bytes_eq-chars, word_ascii}
 use Rattle.std.specs.Str.{chars, bytes_eq, IsUtf8, IsAscii, encode_utf8_all}
 use Rattle.std.proofs.lemmas.Str.{encodes-chars, chars-nil, chars-IsAscii}
 use Rattle.std.proofs.lemmas.Str.Ascii.{IsAscii-cons, IsAscii-nil}
@@ -35,13 +35,5 @@ not_empty-some t u e = by_chars (chars t) (encodes-chars t u)
     by_chars (c ∷ cs) f = refl
 
 -- a word's bytes are its characters
-pub word_ascii : (ws : List ℕ) → list_all is_ascii ws ≡ true → IsAscii ws
-word_ascii [] e = IsAscii-nil
-word_ascii (c ∷ cs) e = by_test (is_ascii c) refl e (word_ascii cs)
-  where
-    by_test : (t : Bool) → is_ascii c ≡ t → (t && list_all is_ascii cs) ≡ true → (list_all is_ascii cs ≡ true → IsAscii cs) → IsAscii (c ∷ cs)
-    by_test true f g h = IsAscii-cons c cs (grind (arith, nat_tests)) (h g)
-    by_test false f g h = cc
-
 pub word_eq : (t ws : List ℕ) → IsUtf8 t → IsUtf8 ws → list_all is_ascii ws ≡ true → bytes_eq t ws ≡ bytes_eq (chars t) ws
 word_eq t ws u v e = bytes_eq-chars t ws u v ∙ ap (bytes_eq (chars t)) (chars-IsAscii ws (word_ascii ws e))

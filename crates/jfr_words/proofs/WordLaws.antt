@@ -9,7 +9,7 @@ use Rattle.std.proofs.lemmas.Bool.Decides.{nat_tests}
 use Rattle.std.proofs.lemmas.Slice.Eq.{bytes_eq-Decides}
 use Rattle.std.proofs.lemmas.Str.{chars-IsAscii, IsUtf8-from_ascii}
 use Rattle.std.proofs.lemmas.Str.Ascii.{IsAscii-cons, IsAscii-nil}
-use Rattle.jfr_base.proofs.TextLaws.{bytes_eq-chars}
+use Rattle.jfr_base.proofs.TextLaws.{bytes_eq-chars, word_ascii}
 
 -- past the end nothing is left
 pub none_left : {X : Type 0} (xs : List X) (i : ℕ) → slice_get xs i ≡ None → drop i xs ≡ []
@@ -21,22 +21,13 @@ pub no_first : {X : Type 0} (xs : List X) → slice_get xs 0 ≡ None → xs ≡
 no_first [] e = refl
 no_first (x ∷ xs) e = cc
 
--- a word in ASCII
-is_ascii_word : (word : List ℕ) → list_all is_ascii word ≡ true → IsAscii word
-is_ascii_word [] e = IsAscii-nil
-is_ascii_word (c ∷ cs) e = by_test (is_ascii c) refl e (is_ascii_word cs)
-  where
-    by_test : (t : Bool) → is_ascii c ≡ t → (t && list_all is_ascii cs) ≡ true → (list_all is_ascii cs ≡ true → IsAscii cs) → IsAscii (c ∷ cs)
-    by_test true f g h = IsAscii-cons c cs (grind (arith, nat_tests)) (h g)
-    by_test false f g h = cc
-
 -- the characters of a text that is a word in ASCII
 pub chars_of : (t word : List ℕ) → list_all is_ascii word ≡ true → t ≡ word → chars t ≡ word
-chars_of t word a e = ap chars e ∙ chars-IsAscii word (is_ascii_word word a)
+chars_of t word a e = ap chars e ∙ chars-IsAscii word (word_ascii word a)
 
 -- another text has other characters
 pub is_other : (t word : List ℕ) → IsUtf8 t → list_all is_ascii word ≡ true → (t ≡ word → ⊥) → bytes_eq (chars t) word ≡ false
-is_other t word u a n = by_test (bytes_eq t word) (bytes_eq-chars t word u (IsUtf8-from_ascii word (is_ascii_word word a)) ∙ ap (bytes_eq (chars t)) (chars-IsAscii word (is_ascii_word word a))) (bytes_eq-Decides t word).0
+is_other t word u a n = by_test (bytes_eq t word) (bytes_eq-chars t word u (IsUtf8-from_ascii word (word_ascii word a)) ∙ ap (bytes_eq (chars t)) (chars-IsAscii word (word_ascii word a))) (bytes_eq-Decides t word).0
   where
     by_test : (r : Bool) → r ≡ bytes_eq (chars t) word → (r ≡ true → t ≡ word) → bytes_eq (chars t) word ≡ false
     by_test true e d = absurd (n (d refl))
