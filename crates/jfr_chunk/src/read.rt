@@ -156,7 +156,7 @@ fn add_early(early: &mut BTreeMap<u32, u32>, number: u32, end: u32) -> Result<()
     Ok(())
 }
 
-/// Where the fields of an event end. The entries to which they refer are noted.
+/// Where the fields of an event end. The numbers of the entries to which they refer are added.
 #[inline]
 fn fields_end(
     chunk: &[u8],

@@ -31,7 +31,7 @@ pub(crate) fn read_checkpoint(
     requires { IsRecord chunk.now frame }
     ensures exact { Adds (listed (entries_from number 0) (run (checkpoint_format classes.now) chunk.now (record_end frame) frame.body)) entries.old.items entries.new.items result }
 {
-    let limit = frame.end();
+    let limit = frame.at + frame.size;
     let count = pool_count(chunk, frame.body, limit)?;
     let to = read_pools(
         chunk,
@@ -180,7 +180,11 @@ fn read_entry(
     ensures range { IfOk result (λ e. e.end ≤ limit) }
 {
     let key = read_within(chunk, at, limit)?;
-    let shape = Shape::inline(pool.class);
+    let shape = Shape {
+        class: pool.class,
+        constant: false,
+        array: false,
+    };
     let end = end_of(classes, shape, chunk, key.end, limit)?;
     Ok(EntryAt {
         class: pool.class,

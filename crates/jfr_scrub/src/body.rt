@@ -30,7 +30,7 @@ pub(crate) struct Body<'a> {
     pub(crate) metadata: Option<usize>,
 }
 
-/// Lays out all that stays, with the entries that remain.
+/// Appends all output records, with the entries that remain.
 pub(crate) fn lay_body<'a>(
     alloc: Global,
     chunk: &Chunk<'a>,
@@ -76,7 +76,7 @@ fn lay_run(body: &mut Body, run: Run) -> Result<(), NoMemory>
     Ok(())
 }
 
-// Lays out one that stays.
+// Appends one output record.
 #[inline(always)]
 fn lay_record(
     body: &mut Body,
