@@ -1,5 +1,5 @@
 -- Members of lists, and the values that a function has at them.
-use Rattle.std.specs.Prelude.{◌≡◌, zero, suc, List, [], ◌∷◌, ◌++◌, Contains, Option, Some, None, ◌⊎◌}
+use Rattle.std.specs.Prelude.{◌≡◌, ℕ, zero, suc, List, [], ◌∷◌, ◌++◌, Contains, slice_get, Option, Some, None, ◌⊎◌}
 use Rattle.std.proofs.Common.{ap, arith, refl, ◌∙◌, inl, inr}
 use Rattle.jfr_chunk.specs.Reach.{add, those}
 
@@ -17,6 +17,11 @@ pub in_contains : {X : Type 0} (xs : List X) (x : X) → In xs x → Contains xs
 in_contains [] x i = absurd i
 in_contains (y ∷ ys) x (inl e) = (0, omega arith, e)
 in_contains (y ∷ ys) x (inr i) = let r = in_contains ys x i in (suc r.0, omega (arith, r.1), r.2)
+
+pub get_in : {A : Type 0} (xs : List A) (i : ℕ) (x : A) → slice_get xs i ≡ Some x → In xs x
+get_in [] i x e = cc
+get_in (y ∷ ys) zero x e = inl (let h : Some y ≡ Some x = e in cc)
+get_in (y ∷ ys) (suc i) x e = inr (get_in ys i x e)
 
 pub in_left : {X : Type 0} (xs ys : List X) (x : X) → In xs x → In (xs ++ ys) x
 in_left [] ys x i = absurd i

@@ -1,5 +1,5 @@
 -- The parts of a chunk stand: its classes are sound, and its entries and events are nodes.
-use Rattle.std.specs.Prelude.{◌≡◌, ℕ, zero, suc, ◌+◌, ◌≤◌, List, [], ◌∷◌, ◌++◌, length, map, reverse, Option, Some, None, Ok, Err}
+use Rattle.std.specs.Prelude.{◌≡◌, ℕ, zero, suc, ◌+◌, ◌≤◌, List, [], ◌∷◌, ◌++◌, length, map, reverse, slice_get, Option, Some, None, Ok, Err}
 use Rattle.std.specs.List.{AllByRecursion}
 use Rattle.std.proofs.Common.{refl, sym, subst}
 use Rattle.jfr_base.specs.declared.flaw.Flaw.{Flaw}
@@ -15,14 +15,15 @@ use Rattle.jfr_meta.specs.Described.{class_elements, classes_of, tree_flaws, cla
 use Rattle.std.specs.List.{flat_map}
 use Rattle.jfr_value.specs.Values.{Value}
 use Rattle.jfr_value.specs.Reading.{value_format}
-use Rattle.jfr_value.specs.Nodes.{IsNode}
+use Rattle.jfr_value.specs.declared.node.Node.{Node}
+use Rattle.jfr_value.specs.Nodes.{IsNode, IsValue, node_of}
 use Rattle.jfr_value.proofs.NodeLaws.{read_node}
 use Rattle.jfr_pool.specs.declared.link.Link.{Link}
 use Rattle.jfr_pool.specs.declared.entry.EntryAt.{EntryAt}
 use Rattle.jfr_pool.specs.Chains.{IsLink, IsChain}
 use Rattle.jfr_pool.specs.Entries.{inline, Constant, constant_format, PoolAt, pool_format, checkpoint_format, entry_of, entries_from, AreEntries, entry_node}
 use Rattle.jfr_chunk.specs.Parts.{Parts, EventAt, event_by, event_of, event_records, events_of, AreParts, pools_at}
-use Rattle.jfr_chunk.proofs.Members.{In, contains_in}
+use Rattle.jfr_chunk.proofs.Members.{In, contains_in, get_in}
 use Rattle.jfr_chunk.proofs.AllLaws.{all_get, all_append, all_reverse, all_in, in_filter, in_filter_map}
 use Rattle.jfr_chunk.proofs.ForceLaws.{numbered}
 use Rattle.jfr_chunk.proofs.PathLaws.{Standing}
@@ -161,3 +162,14 @@ module _ (p : Parts) (parts : AreParts p) where
           let n = read_node p.classes (inline r.type_id) p.bytes (record_end r) r.body g.place g.value k.within k.covers s in
           let h : record { record_of = r; node = record { shape = inline r.type_id; at = r.body; end = g.place } } ≡ e = cc in
           subst (IsEvent p) h (record { listed = j; shape = refl; at = refl; within = n.1; value = g.value; node = n.0; reads = s })
+
+  -- the event, or the entry, of a number is a value where the code says that it stands
+  pub event_value : (number : ℕ) (e : EventAt) (n : Node) → slice_get (events_of p) number ≡ Some e → node_of n ≡ e.node → n.bytes.now ≡ p.bytes → IsValue p.classes n
+  event_value number e n q h b =
+      let i = event_is e (get_in (events_of p) number e q) in
+      (i.value, subst (λ z. IsNode p.classes z (node_of n) i.value) (sym b) (subst (λ z. IsNode p.classes p.bytes z i.value) (sym h) i.node))
+
+  pub entry_value : (number : ℕ) (e : EntryAt) (n : Node) → slice_get p.entries number ≡ Some e → node_of n ≡ entry_node e → n.bytes.now ≡ p.bytes → IsValue p.classes n
+  entry_value number e n q h b =
+      let v = all_get (IsEntryNode p.bytes p.classes) p.entries number e entry_nodes q in
+      (v.0, subst (λ z. IsNode p.classes z (node_of n) v.0) (sym b) (subst (λ z. IsNode p.classes p.bytes z v.0) (sym h) v.1))

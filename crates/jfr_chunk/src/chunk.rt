@@ -3,7 +3,10 @@ ghost use Rattle.std.specs.Prelude.{◌≡◌, ◌+◌, ◌<◌, ◌^◌, ℕ, t
 ghost use Rattle.jfr_frame.specs.Records.{record_end};
 ghost use Rattle.jfr_header.specs.Fronts.{Whole};
 ghost use Rattle.jfr_header.specs.Headers.{header_of};
+ghost use Rattle.jfr_layout.specs.Classes.{Sound};
 ghost use Rattle.jfr_meta.specs.Answers.{IfFlawed};
+ghost use Rattle.jfr_value.specs.Nodes.{IsValue, node_of};
+ghost use Rattle.jfr_pool.specs.Entries.{entry_node};
 ghost use Rattle.jfr_pool.specs.Faults.{TellsFlaw};
 ghost use Rattle.jfr_chunk.specs.Parts.{AreParts, StartsAt, events_of, is_inert, metadata_at};
 ghost use Rattle.jfr_chunk.specs.Reach.{node_entries, roots};
@@ -144,6 +147,15 @@ impl<'a> Chunk<'a> {
         self.bytes
     }
 
+    /// What holds of every chunk, and what laws of parts and of values require. This call does nothing.
+    pub fn parts_stand(&self)
+        ensures parts { AreParts self.now }
+        ensures sound { Sound self.now.classes }
+    {
+        // An invariant is known where a field is looked at.
+        let _ = &self.bytes;
+    }
+
     /// The header.
     pub fn header(&self) -> &Header
         ensures { result.now ≡ header_of (take 68 self.now.bytes) }
@@ -186,6 +198,27 @@ impl<'a> Chunk<'a> {
         &self.pools
     }
 
+    /// The node of the value of the entry of a number, from 0, in the order of the file; `None` exactly past
+    /// the end.
+    pub fn entry_node(&self, number: usize) -> Option<Node<'a>>
+        ensures exact { option_map node_of result ≡ option_map entry_node (slice_get self.now.entries number) }
+        ensures bytes { IfSome result (λ node. node.bytes.now ≡ self.now.bytes) }
+        ensures value { IfSome result (IsValue self.now.classes) }
+    {
+        let entry = self.pools.get(number)?;
+        let shape = Shape {
+            class: entry.class,
+            constant: false,
+            array: false,
+        };
+        Some(Node {
+            shape,
+            bytes: self.bytes,
+            at: entry.value_at,
+            end: entry.end,
+        })
+    }
+
     /// How many records are neither events, nor the metadata record that the header names, nor chained
     /// checkpoints.
     pub fn inert_count(&self) -> u64
@@ -214,6 +247,7 @@ impl<'a> Chunk<'a> {
     pub fn event(&self, number: usize) -> Option<Event<'a>>
         ensures exact { option_map event_at result ≡ slice_get (events_of self.now) number }
         ensures of_chunk { IfSome result (IsOfChunk self.now number) }
+        ensures value { IfSome result (λ event. IsValue self.now.classes event.node) }
     {
         let fields = fields_at(&self.events, number)?;
         let frame = self.frames.get(fields.record as usize)?;

@@ -12,13 +12,12 @@ use Rattle.jfr_chunk.specs.declared.event.Event.{Event}
 use Rattle.jfr_chunk.specs.Chosen.{chosen, is_chosen}
 use Rattle.jfr_chunk.specs.Parts.{EventAt, Parts, AreParts, events_of}
 use Rattle.jfr_chunk.specs.Seen.{event_at}
-use Rattle.jfr_chunk.proofs.Members.{In, in_contains}
+use Rattle.jfr_chunk.proofs.Members.{In, get_in, in_contains}
 use Rattle.jfr_path.specs.declared.verdict.ClassVerdict.{ClassVerdict}
 use Rattle.jfr_path.specs.declared.verdict.ClassVerdict.TheVariants.{ByThread, Dropped, Kept}
 use Rattle.jfr_path.specs.Verdicts.{IsVerdict, Says, is_kept}
 use Rattle.jfr_path.proofs.EventLaws.{event_known, event_shape}
 use Rattle.jfr_path.proofs.ListLaws.{zip_at}
-use Rattle.jfr_path.proofs.NameLaws.{get_in}
 
 module _ (p : Parts) (parts : AreParts p) (e : Event) (q : slice_get (events_of p) e.number ≡ Some (event_at e)) (k : Classes) (h : k ≡ p.classes) (fields : Node) (f : node_of fields ≡ node_of e.node) where
   abbrev listed : In (events_of p) (event_at e)

@@ -1,20 +1,14 @@
 -- Names, one after another, and the text that they lead to.
-use Rattle.std.specs.Prelude.{◌≡◌, ℕ, zero, suc, ◌+◌, List, [], ◌∷◌, drop, slice_get, Option, Some, None, option_and_then}
-use Rattle.std.proofs.Common.{ap, refl, sym, ◌∙◌, inl, inr, drop-cons, add-one}
+use Rattle.std.specs.Prelude.{◌≡◌, ℕ, suc, ◌+◌, List, [], ◌∷◌, drop, slice_get, Option, Some, None, option_and_then}
+use Rattle.std.proofs.Common.{ap, refl, sym, ◌∙◌, drop-cons, add-one}
 use Rattle.std.proofs.lemmas.Option.{slice_get_within, get_or_from_slice_get}
 use Rattle.jfr_value.specs.Nodes.{NodeAt}
 use Rattle.jfr_chunk.specs.Parts.{Parts}
 use Rattle.jfr_chunk.specs.Paths.{named_node, named_field, named_text, follow_while, is_reference, text_of}
-use Rattle.jfr_chunk.proofs.Members.{In}
 
 drop_at : {A : Type 0} (xs : List A) (i : ℕ) (x : A) → Some x ≡ slice_get xs i → drop i xs ≡ x ∷ drop (i + 1) xs
 drop_at xs i x e =
     drop-cons xs i x (slice_get_within xs i x (sym e)) ∙ (ap (λ z. z ∷ drop (suc i) xs) (get_or_from_slice_get xs i x x (sym e)) ∙ ap (λ z. x ∷ drop z xs) (sym (add-one i)))
-
-pub get_in : {A : Type 0} (xs : List A) (i : ℕ) (x : A) → slice_get xs i ≡ Some x → In xs x
-get_in [] i x e = cc
-get_in (y ∷ ys) zero x e = inl (let h : Some y ≡ Some x = e in cc)
-get_in (y ∷ ys) (suc i) x e = inr (get_in ys i x e)
 
 then_then : {A B C : Type 0} (f : B → Option C) (g : A → Option B) (o : Option A) → option_and_then f (option_and_then g o) ≡ option_and_then (λ x. option_and_then f (g x)) o
 then_then f g None = refl

@@ -5,14 +5,13 @@ ghost use Rattle.jfr_chunk.specs.Paths.{follow, is_reference, leads, step, strin
 ghost use Rattle.jfr_chunk.specs.Seen.{event_at};
 ghost use Rattle.jfr_text.specs.Spans.{content_of};
 ghost use Rattle.jfr_value.specs.Nodes.{IsValue, node_of, target};
-ghost use Rattle.jfr_value.specs.Values.{key_of};
 
 use crate::Path;
 use jfr_base::read_within;
 use jfr_chunk::{Chunk, Event};
-use jfr_layout::{Kind, Shape};
-use jfr_text::{StringKind, StringSpan, read_string};
-use jfr_value::{Node, Step, child};
+use jfr_layout::Kind;
+use jfr_text::{StringSpan, read_string};
+use jfr_value::{Node, Step, child, target};
 
 /// The value of an event's fields, where paths begin.
 pub fn fields_of<'a>(chunk: &Chunk<'a>, event: &Event<'_>) -> Node<'a>
@@ -75,37 +74,9 @@ pub(crate) fn follow<'a>(chunk: &Chunk<'a>, node: &Node<'a>) -> Option<Node<'a>>
     ensures bytes { IfSome result (λ to. to.bytes.now ≡ chunk.now.bytes) }
     ensures value { IfSome result (IsValue chunk.now.classes) }
 {
-    let key = key_in(chunk, node)?;
-    let number = chunk.pools().entry(node.shape.class, key)?;
-    let entry = chunk.pools().get(number)?;
-    let shape = Shape {
-        class: entry.class,
-        constant: false,
-        array: false,
-    };
-    Some(Node {
-        shape,
-        bytes: chunk.bytes(),
-        at: entry.value_at,
-        end: entry.end,
-    })
-}
-
-/// The key of a reference, or of a string that is one.
-fn key_in(chunk: &Chunk<'_>, node: &Node<'_>) -> Option<u64>
-    requires parts { AreParts chunk.now }
-    requires value { IsValue chunk.now.classes node.now }
-    requires of_chunk { node.now.bytes.now ≡ chunk.now.bytes }
-    ensures { option_map (λ key. (node.now.shape.class, key)) result ≡ target chunk.now.classes chunk.now.bytes (node_of node.now) }
-{
-    if node.shape.array {
-        return None;
-    }
-    if node.shape.constant {
-        return Some(reference_key(chunk, node));
-    }
-    let span = string_of(chunk, node)?;
-    key_of(&span)
+    let (class, key) = target(chunk.classes(), node)?;
+    let number = chunk.pools().entry(class, key)?;
+    chunk.entry_node(number)
 }
 
 /// The key of a reference.
@@ -119,16 +90,6 @@ pub(crate) fn reference_key(chunk: &Chunk<'_>, node: &Node<'_>) -> u64
     match read_within(node.bytes, node.at, node.end) {
         Ok(key) => key.value,
         Err(_) => unreachable!(),
-    }
-}
-
-/// The key of a string that is one.
-fn key_of(span: &StringSpan<'_>) -> Option<u64>
-    ensures { result ≡ key_of (content_of span.now) }
-{
-    match span.kind {
-        StringKind::Key => Some(span.key),
-        _ => None,
     }
 }
 

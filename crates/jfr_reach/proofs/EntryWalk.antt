@@ -1,29 +1,19 @@
 -- The loop over the marked entries.
-use Rattle.std.specs.Prelude.{◌≡◌, ◌↔◌, ℕ, zero, suc, ◌+◌, ◌<◌, ◌≤◌, Bool, true, false, List, [], ◌∷◌, length, replicate, slice_get, slice_index, Some, option_and_then}
+use Rattle.std.specs.Prelude.{◌≡◌, ◌↔◌, ℕ, zero, suc, ◌+◌, ◌<◌, ◌≤◌, Bool, true, false, List, [], ◌∷◌, length, replicate, slice_index}
 use Rattle.std.proofs.Common.{ap, arith, refl, sym, ◌∙◌, inl, inr, subst}
 use Rattle.std.proofs.lemmas.List.{length-replicate}
-use Rattle.jfr_layout.specs.Classes.{Classes}
-use Rattle.jfr_value.specs.Values.{Value}
-use Rattle.jfr_value.specs.Nodes.{NodeAt, IsNode}
-use Rattle.jfr_pool.specs.declared.entry.EntryAt.{EntryAt}
-use Rattle.jfr_pool.specs.Entries.{IsInForce, entry_node, in_force, number_in_force}
+use Rattle.jfr_pool.specs.Entries.{number_in_force}
 use Rattle.jfr_chunk.specs.Parts.{Parts, EventAt, AreParts, events_of}
 use Rattle.jfr_chunk.specs.Reach.{IsMarked, Reached, all_targets, nodes_of, roots, next_entries, marked, kept_by, marked_at, swept, reached_marks, led_to}
-use Rattle.jfr_chunk.proofs.ForceLaws.{force_within, last_in_force}
+use Rattle.jfr_chunk.proofs.ForceLaws.{force_within}
 use Rattle.jfr_chunk.proofs.Members.{In, in_those}
 use Rattle.jfr_chunk.proofs.ReachedLaws.{reached_marked}
 use Rattle.jfr_chunk.proofs.StandingLaws.{standing, event_is}
-use Rattle.jfr_chunk.proofs.SweepLaws.{Reach, root, more, AllBelow, marks_reach}
+use Rattle.jfr_chunk.proofs.SweepLaws.{AllBelow, marks_reach}
 use Rattle.jfr_reach.specs.Worklists.{ordered_all}
 use Rattle.jfr_reach.specs.Walks.{event_leaves, entry_leaves}
 use Rattle.jfr_reach.proofs.BoundLaws.{leaves_bound}
-use Rattle.jfr_reach.proofs.WalkLaws.{Walking, all_size, listed_found, walking_ends, started, went_on}
-
--- an entry that something refers to is in force
-force_of : (es : List EntryAt) (t : ℕ × ℕ) (i : ℕ) → number_in_force es t ≡ Some i → IsInForce es i
-force_of es t i q =
-    let l = (last_in_force es t i).0 q in
-    record { entry = l.entry; stands = l.there; last = subst (λ a. number_in_force es (a, l.entry.key) ≡ Some i) (sym l.class) (subst (λ b. number_in_force es (t.0, b) ≡ Some i) (sym l.key) q) }
+use Rattle.jfr_reach.proofs.WalkLaws.{Walking, all_size, walking_ends, started, went_on}
 
 module _ (p : Parts) where
   next_below : (j : ℕ) → AllBelow (length p.entries) (next_entries p j)
@@ -31,19 +21,6 @@ module _ (p : Parts) where
 
   pub roots_below : (kept : List EventAt) → AllBelow (length p.entries) (roots p kept)
   roots_below kept i k = let t = in_those (number_in_force p.entries) (all_targets p (nodes_of kept)) i k in force_within p.entries t.0 i t.2
-
-  reach_force : (kept : List EventAt) {i : ℕ} → Reach (next_entries p) (roots p kept) i → IsInForce p.entries i
-  reach_force kept {i} (root k) = let t = in_those (number_in_force p.entries) (all_targets p (nodes_of kept)) i k in force_of p.entries t.0 i t.2
-  reach_force kept {i} (more {j = j} r k) = let t = in_those (number_in_force p.entries) _ i k in force_of p.entries t.0 i t.2
-
-  -- a value stands where an entry in force has one
-  pub force_value : AreParts p → (k : Classes) (b : List ℕ) (n : NodeAt) (i : ℕ) (e : EntryAt) → k ≡ p.classes → b ≡ p.bytes → n ≡ entry_node e → Some e ≡ slice_get p.entries i → IsInForce p.entries i → (v : Value) × IsNode k b n v
-  force_value parts k b n i e x y z h f =
-      let g : f.entry ≡ e = (let q : slice_get p.entries i ≡ Some f.entry = f.stands in cc) in
-      let q : in_force p.entries (f.entry.class, f.entry.key) ≡ Some f.entry = ap (option_and_then (λ n. slice_get p.entries n)) f.last ∙ f.stands in
-      let v = (standing p parts).entries (f.entry.class, f.entry.key) f.entry q in
-      let w : IsNode p.classes p.bytes (entry_node e) v.0 = subst (λ (u : EntryAt). IsNode p.classes p.bytes (entry_node u) v.0) g v.1 in
-      (v.0, subst (λ u. IsNode u b n v.0) (sym x) (subst (λ u. IsNode p.classes u n v.0) (sym y) (subst (λ u. IsNode p.classes p.bytes u v.0) (sym z) w)))
 
   length_swept : (k : ℕ) (ms : List Bool) → length (swept k (next_entries p) ms) ≡ length ms
   length_swept zero ms = refl
@@ -72,10 +49,6 @@ module _ (p : Parts) where
         → Going steps g q (at + 1) t
     going_on steps f g o q at s t j h w e x y z =
         went_on (length p.entries) (next_entries p) (roots p (kept_by p keep)) (entry_leaves p) (roots_below (kept_by p keep)) next_below (steps + event_leaves p (kept_by p keep)) f g o q at s t j h w e x y z
-
-    pub going_force : (steps : ℕ) (f : List Bool) (o : List ℕ) (at s j : ℕ) → at < length o → Going steps f o at s → j ≡ slice_index o at → IsInForce p.entries j
-    going_force steps f o at s j h w e =
-        subst (IsInForce p.entries) (sym e) (reach_force (kept_by p keep) (listed_found (length p.entries) (next_entries p) (roots p (kept_by p keep)) (entry_leaves p) (steps + event_leaves p (kept_by p keep)) f o at s h w))
 
     same_flags : (f g : List Bool) → length f ≡ length g → ((i : ℕ) → IsMarked f i ↔ IsMarked g i) → f ≡ g
     same_flags [] [] l h = refl

@@ -94,10 +94,6 @@ module _ (n : ℕ) (next : ℕ → List ℕ) (roots : List ℕ) (weight : ℕ �
     pub weights : waiting o weight ≡ weigh f weight
     pub cost : s ≤ steps + waiting (take at o) weight
 
-  -- a number that is listed
-  pub listed_found : (steps : ℕ) (f : List Bool) (o : List ℕ) (at s : ℕ) → at < length o → Walking steps f o at s → Reach next roots (slice_index o at)
-  listed_found steps f o at s h w = w.work.found (slice_index o at) (w.work.listed (slice_index o at) (here_in o at h))
-
   -- what holds after the last round
   pub record Walked (steps : ℕ) (f : List Bool) (s : ℕ) : Type 0 where
     pub size : length f ≡ n

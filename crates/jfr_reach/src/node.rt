@@ -1,6 +1,5 @@
 // What a node refers to.
 ghost use Rattle.std.specs.Prelude.{◌≡◌, ◌+◌, length};
-ghost use Rattle.jfr_layout.specs.Classes.{Sound};
 ghost use Rattle.jfr_value.specs.Leaves.{leaves};
 ghost use Rattle.jfr_value.specs.Nodes.{IsValue, node_of};
 ghost use Rattle.jfr_chunk.specs.Reach.{node_entries};
@@ -40,7 +39,6 @@ pub(crate) fn put_node<L: Ledger>(
     steps: &mut Steps<L>,
 )
     requires size { length list.old.flags.items ≡ length pools.now }
-    requires sound { Sound classes.now }
     requires value { IsValue classes.now node }
     ensures puts { Puts (node_entries pools.now classes.now node.entry.bytes.now (node_of node.entry)) list.old list.new }
     ensures cost { steps.new ≡ steps.old + length (leaves classes.now node.entry.bytes.now (node_of node.entry)) }

@@ -1,7 +1,5 @@
 // The walk from the kept events on.
 ghost use Rattle.std.specs.Prelude.{◌≡◌, ◌+◌, ◌≤◌, false, length, replicate};
-ghost use Rattle.jfr_value.specs.Nodes.{node_of};
-ghost use Rattle.jfr_pool.specs.Entries.{IsInForce, entry_node};
 ghost use Rattle.jfr_chunk.specs.Parts.{AreParts};
 ghost use Rattle.jfr_chunk.specs.Reach.{kept_by, next_entries, reached_marks};
 ghost use Rattle.jfr_reach.specs.Walks.{Puts, entry_leaves};
@@ -10,9 +8,7 @@ use crate::node::put_node;
 use crate::roots::put_roots;
 use crate::worklist::Worklist;
 use jfr_chunk::{Chunk, Kept};
-use jfr_layout::Shape;
-use jfr_pool::EntryAt;
-use jfr_value::{Node, Steps};
+use jfr_value::Steps;
 use std::sync::ledger::Ledger;
 
 /// Marks the entries that the kept events reach: those to which the events refer, and then, entry by
@@ -28,50 +24,23 @@ pub(crate) fn put_reached<L: Ledger>(
     ensures cost { steps.new ≤ steps.old + length chunk.now.bytes }
     ensures parts { AreParts chunk.now }
 {
-    let bytes = chunk.bytes();
+    chunk.parts_stand();
     put_roots(list, chunk, kept, steps);
     let mut next: usize = 0;
     while next < list.order.len() {
         let number = list.order[next];
-        put_entry(list, chunk, bytes, number, steps);
+        put_entry(list, chunk, number, steps);
         next += 1;
     }
 }
 
 /// Marks the entries in force to which the entry of a number refers.
-fn put_entry<L: Ledger>(
-    list: &mut Worklist,
-    chunk: &Chunk<'_>,
-    bytes: &[u8],
-    number: usize,
-    steps: &mut Steps<L>,
-)
+fn put_entry<L: Ledger>(list: &mut Worklist, chunk: &Chunk<'_>, number: usize, steps: &mut Steps<L>)
     requires size { length list.old.flags.items ≡ length chunk.now.entries }
-    requires parts { AreParts chunk.now }
-    requires bytes { bytes.now ≡ chunk.now.bytes }
-    requires in_force { IsInForce chunk.now.entries number }
     ensures puts { Puts (next_entries chunk.now number) list.old list.new }
     ensures cost { steps.new ≡ steps.old + entry_leaves chunk.now number }
 {
-    if let Some(entry) = chunk.pools().get(number) {
-        let node = value_node(bytes, entry);
+    if let Some(node) = chunk.entry_node(number) {
         put_node(list, chunk.classes(), chunk.pools(), node, steps);
-    }
-}
-
-/// Where the value of an entry stands.
-fn value_node<'a>(bytes: &'a [u8], entry: &EntryAt) -> Node<'a>
-    ensures node { node_of result ≡ entry_node entry.now }
-    ensures bytes { result.bytes.now ≡ bytes.now }
-{
-    Node {
-        shape: Shape {
-            class: entry.class,
-            constant: false,
-            array: false,
-        },
-        bytes,
-        at: entry.value_at,
-        end: entry.end,
     }
 }

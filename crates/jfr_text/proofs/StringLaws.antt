@@ -1,11 +1,14 @@
 -- The grammar of strings and their format agree.
-use Rattle.std.specs.Prelude.{◌≡◌, ℕ, zero, suc, ◌-◌, ◌<◌, ◌≤◌, ◌==◌, nat_lt, Bool, true, false, List, [], ◌∷◌, ◌++◌, length, Some, None, Ok, Err}
+use Rattle.std.specs.Prelude.{◌≡◌, ℕ, zero, suc, ◌-◌, ◌<◌, ◌≤◌, ◌==◌, nat_lt, Bool, true, false, List, [], ◌∷◌, ◌++◌, length, slice_range, Some, None, Ok, Err}
 use Rattle.std.proofs.Common.{ap, refl, sym, subst, arith, ◌∙◌, append-nil, take_all}
+use Rattle.jfr_base.specs.declared.reason.Reason.{Reason}
 use Rattle.jfr_base.specs.declared.reason.Reason.TheVariants.{StringKind}
 use Rattle.jfr_base.specs.Integer.{Spells}
-use Rattle.jfr_base.specs.Formats.{Done, times, integer, Exactly, Answer, run}
+use Rattle.jfr_base.specs.Formats.{Done, times, integer, Exactly, Answer, Fails, Reads, run}
+use Rattle.jfr_base.proofs.Exact.{Says, run_says}
 use Rattle.jfr_base.proofs.ExactLaws.{exact_bind, bind_exact}
 use Rattle.jfr_base.proofs.FreeLaws.{PlaceFree, bind_free, times_free, if_free}
+use Rattle.jfr_base.proofs.OneAnswer.{has_one_answer}
 use Rattle.jfr_base.proofs.RunLaws.{Stands, exact_run}
 use Rattle.jfr_text.specs.Strings.{Content, Null, Empty, Key, Utf8, Units, Latin, SpellAll, IsBody, IsString, IsAllowed, kind_fault, after_kind, string_format}
 use Rattle.jfr_text.proofs.SpellLaws.{times_spelled, spelled_times}
@@ -136,3 +139,15 @@ one_content b s t e f =
     let read : (u : Content) → IsString b u → run (string_format true) b (length b) 0 ≡ Ok (record { value = u; place = length b }) =
     λ u g. exact_run b (length b) within (string_format true) 0 (length b) b u (format_of_string true b u g (always u)) all within in
     ap held (sym (read s e) ∙ read t f)
+
+-- ---- where a string stands, it is read, and not refused
+
+module _ (x : List ℕ) (at to end : ℕ) (s : Content) (order : at ≤ to) (within : to ≤ end) (bound : end ≤ length x) (is : IsString (slice_range x at to) s) where
+  pub string_read : Reads (string_format true) x end at s to
+  string_read =
+      let all : Stands x at to (slice_range x at to) = record { order = order; within = omega arith; bytes = refl } in
+      let e = exact_run x end bound (string_format true) at to (slice_range x at to) s (format_of_string true (slice_range x at to) s is (always s)) all within in
+      subst (λ (a : Answer Content). Says (string_format true) x end at a) e (run_says (string_format true) x end at (omega arith) bound)
+
+  pub not_refused : (o : ℕ) (why : Reason) → Fails (string_format true) x end at o why → ⊥
+  not_refused o why f = (has_one_answer (string_format true) x end at (omega arith) bound).not_both (s, to, string_read) (o, why, f)

@@ -1,6 +1,7 @@
 // Laws of strings, each the whole contract of a function that does nothing.
-ghost use Rattle.std.specs.Prelude.{◌≡◌, ℕ, List, Bool, length};
-ghost use Rattle.jfr_base.specs.Formats.{Exactly};
+ghost use Rattle.std.specs.Prelude.{◌≡◌, ◌≤◌, ℕ, List, Bool, length, slice_range, true};
+ghost use Rattle.jfr_base.specs.declared.reason.Reason.{Reason};
+ghost use Rattle.jfr_base.specs.Formats.{Exactly, Fails, Reads};
 ghost use Rattle.jfr_text.specs.Spans.{first_integers};
 ghost use Rattle.jfr_text.specs.Strings.{Content, SpellAll, IsString, IsAllowed, string_format};
 
@@ -13,6 +14,12 @@ pub fn one_content()
 pub fn format_reads_strings()
     ensures grammar { (keyed : Bool) (bytes : List ℕ) (content : Content) → Exactly (string_format keyed) bytes content → IsString bytes content × IsAllowed keyed content }
     ensures format { (keyed : Bool) (bytes : List ℕ) (content : Content) → IsString bytes content → IsAllowed keyed content → Exactly (string_format keyed) bytes content }
+{}
+
+/// Where a string stands, it is read, whatever comes behind it, and it isn't refused.
+pub fn strings_are_read()
+    ensures read { (chunk : List ℕ) (at to end : ℕ) (content : Content) → at ≤ to → to ≤ end → end ≤ length chunk → IsString (slice_range chunk at to) content → Reads (string_format true) chunk end at content to }
+    ensures not_refused { (chunk : List ℕ) (at to end : ℕ) (content : Content) → at ≤ to → to ≤ end → end ≤ length chunk → IsString (slice_range chunk at to) content → (o : ℕ) (why : Reason) → Fails (string_format true) chunk end at o why → ⊥ }
 {}
 
 /// Where bytes are the spellings of integers, one after another, these are the integers read from the

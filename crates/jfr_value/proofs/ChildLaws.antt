@@ -1,5 +1,5 @@
 -- When a node has a field or an item, and which.
-use Rattle.std.specs.Prelude.{◌≡◌, ◌≢◌, ℕ, zero, suc, ◌+◌, ◌<◌, ◌≤◌, Bool, true, false, List, [], ◌∷◌, ◌++◌, length, map, replicate, slice_get, Some, None, IsSome, IfSome, if◌then◌else◌}
+use Rattle.std.specs.Prelude.{◌≡◌, ◌≢◌, ℕ, zero, suc, ◌+◌, ◌<◌, ◌≤◌, Bool, true, false, List, [], ◌∷◌, ◌++◌, length, map, replicate, slice_get, Option, Some, None, IsSome, IfSome, if◌then◌else◌}
 use Rattle.std.proofs.Common.{ap, arith, refl, sym, ◌∙◌, subst, inl, inr}
 use Rattle.std.proofs.lemmas.List.{length-map}
 use Rattle.jfr_base.specs.declared.integer.Var.{Var}
@@ -12,11 +12,13 @@ use Rattle.jfr_layout.specs.declared.kind.Kind.{Kind}
 use Rattle.jfr_layout.specs.declared.kind.Kind.TheVariants as kinds
 use Rattle.jfr_layout.specs.declared.shape.Shape.{Shape}
 use Rattle.jfr_layout.specs.declared.field_layout.FieldLayout.{FieldLayout}
+use Rattle.jfr_value.specs.declared.node.Node.{Node}
+use Rattle.jfr_value.specs.declared.node.Step.{Step}
 use Rattle.jfr_value.specs.declared.node.Step.TheVariants as steps
 use Rattle.jfr_value.specs.Values.{Value, Values, Single, Group, Nil, Cons, list_of, shape_of, shapes_of, head_of, parts_of, bytes_of, bytes_of_all, IsBase, IsSingle, IsHead, Fits}
-use Rattle.jfr_value.specs.Nodes.{NodeAt, IsNode, IsRow, laid, laid_in, children, picked, child}
+use Rattle.jfr_value.specs.Nodes.{NodeAt, IsNode, IsValue, IsRow, Both, node_of, laid, laid_in, children, picked, child}
 use Rattle.jfr_value.proofs.PlaceLaws.{get_within, kind_there}
-use Rattle.jfr_value.proofs.NodeLaws.{children_are, node_stands}
+use Rattle.jfr_value.proofs.NodeLaws.{part, child_is, children_are, node_stands}
 use Rattle.jfr_value.proofs.LayoutLaws.{layouts_of}
 
 -- A value that is neither an array nor a constant is of a known class.
@@ -33,7 +35,7 @@ inline_known k (Group s h vs) a o f = by_case f.0
     by_case (inr p) = subst (λ z. IsSome z) (sym p.3) refl
 
 -- A constant that is no array has no parts, and neither has a value of a base name.
-constant_alone : (k : Classes) (v : Value) → (shape_of v).array ≡ false → (shape_of v).constant ≡ true → Fits k v → parts_of v ≡ []
+pub constant_alone : (k : Classes) (v : Value) → (shape_of v).array ≡ false → (shape_of v).constant ≡ true → Fits k v → parts_of v ≡ []
 constant_alone k (Single s kind b key) a o f = refl
 constant_alone k (Group s h vs) a o f = by_case f.0
   where
@@ -41,7 +43,7 @@ constant_alone k (Group s h vs) a o f = by_case f.0
     by_case (inl p) = cc
     by_case (inr p) = cc
 
-base_alone : (k : Classes) (v : Value) (c : Class) → (shape_of v).array ≡ false → find_class k (shape_of v).class ≡ Some c → kind_of c.name ≢ kinds.Composite → Fits k v → parts_of v ≡ []
+pub base_alone : (k : Classes) (v : Value) (c : Class) → (shape_of v).array ≡ false → find_class k (shape_of v).class ≡ Some c → kind_of c.name ≢ kinds.Composite → Fits k v → parts_of v ≡ []
 base_alone k (Single s kind b key) c a q n f = refl
 base_alone k (Group s h vs) c a q n f = by_case f.0
   where
@@ -208,3 +210,12 @@ module _ (k : Classes) (c : List ℕ) (n : NodeAt) (v : Value) (sound : Sound k)
       by_row (suc m) (Cons u vs) l r =
           let q : shape_of u ≡ item_of n.shape = (let x : shape_of u ∷ shapes_of vs ≡ item_of n.shape ∷ replicate m (item_of n.shape) = r.of_shapes in cc) in
           subst (λ (z : Shape). IsSome (find_class k z.class)) q (inline_known k u (ap (λ (z : Shape). z.array) q) (ap (λ (z : Shape). z.constant) q ∙ o) r.fit.0)
+
+-- what the code hands out as a step's end is a value
+pub child_value : (k : Classes) (n m : Node) (step : Step) → Sound k → IsValue k n → m.bytes.now ≡ n.bytes.now → child k n.bytes.now (node_of n) step ≡ Some (node_of m) → IsValue k m
+child_value k n m step sound (v, i) b e =
+    by_part (part v step) (subst (λ z. Both (IsNode k n.bytes.now) z (part v step)) e (child_is k n.bytes.now (node_of n) v sound i step))
+  where
+    by_part : (o : Option Value) → Both (IsNode k n.bytes.now) (Some (node_of m)) o → IsValue k m
+    by_part None r = absurd r
+    by_part (Some w) r = (w, subst (λ z. IsNode k z (node_of m) w) (sym b) r)

@@ -28,3 +28,5 @@ pub mod TextKeys
 pub mod TreeLaws
 pub mod VisitLaws
 pub mod WalkLaws
+mod ChildrenLaws
+mod ReferenceLaws

@@ -108,7 +108,7 @@ laid_is k c at to (Cons v vs) s g i =
     by_place zero n m = n
     by_place (suc i) n m = m i
 
-inner_is : (k : Classes) (c : List ℕ) (at to : ℕ) (v : Value) → Stands c at to (bytes_of v) → Fits k v → (i : ℕ) → Both (IsNode k c) (slice_get (laid_in at v) i) (slice_get (parts_of v) i)
+pub inner_is : (k : Classes) (c : List ℕ) (at to : ℕ) (v : Value) → Stands c at to (bytes_of v) → Fits k v → (i : ℕ) → Both (IsNode k c) (slice_get (laid_in at v) i) (slice_get (parts_of v) i)
 inner_is k c at to (Single s kind b key) x g i = tt
 inner_is k c at to (Group s h vs) x g i =
     let y = stands_split c at to (h ++ bytes_of_all vs) h (bytes_of_all vs) x refl in

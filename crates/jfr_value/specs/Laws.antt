@@ -1,14 +1,17 @@
 -- What holds of every value, wherever it stands.
-use Rattle.std.specs.Prelude.{◌≡◌, ◌↔◌, ◌⊎◌, ℕ, ◌≤◌, List, Some, Contains}
+use Rattle.std.specs.Prelude.{◌≡◌, ◌↔◌, ◌⊎◌, ℕ, ◌≤◌, List, [], ◌∷◌, ◌++◌, flat_map, replicate, Some, Contains, if◌then◌else◌}
 use Rattle.std.specs.List.{filter_map}
 use Rattle.jfr_base.specs.declared.flaw.Flaw.{Flaw}
-use Rattle.jfr_base.specs.Formats.{Exactly}
-use Rattle.jfr_layout.specs.Classes.{Classes}
+use Rattle.jfr_base.specs.declared.integer.Var.{Var}
+use Rattle.jfr_base.specs.Formats.{Exactly, int_at}
+use Rattle.jfr_base.specs.Integer.{worth_within}
+use Rattle.jfr_layout.specs.Classes.{Classes, item_of}
 use Rattle.jfr_layout.specs.declared.shape.Shape.{Shape}
+use Rattle.jfr_value.specs.declared.leaf.LeafKind.TheVariants as leaf_kinds
 use Rattle.jfr_value.specs.declared.node.Step.{Step}
-use Rattle.jfr_value.specs.Values.{Value, shape_of, bytes_of, Fits}
+use Rattle.jfr_value.specs.Values.{Value, Single, Group, shape_of, bytes_of, Fits}
 use Rattle.jfr_value.specs.Reading.{value_format}
-use Rattle.jfr_value.specs.Nodes.{NodeAt, node_at, node_bytes, IsNode, EndsAt, IsRefused, IsValueReason, child, inside, target, targets, Both}
+use Rattle.jfr_value.specs.Nodes.{NodeAt, node_at, node_bytes, IsNode, EndsAt, IsRefused, IsValueReason, child, children, inside, target, targets, Both}
 use Rattle.jfr_value.specs.Leaves.{leaves, leaf_target}
 
 -- the trees that fit are those that the format reads, each from its own bytes alone
@@ -40,3 +43,21 @@ RefersInside k c n t = (path : List Step) × (m : NodeAt) × (inside k c n path 
 pub record RefersByParts (k : Classes) (c : List ℕ) (n : NodeAt) : Type 0 where
   pub paths : (t : ℕ × ℕ) → Contains (targets k c n) t ↔ RefersInside k c n t
   pub leaves_too : filter_map leaf_target (leaves k c n) ≡ targets k c n
+
+-- the nodes are where values of these shapes stand, one behind another, from one place up to the other
+abbrev pub Cover : Classes → List ℕ → ℕ → ℕ → List Shape → List NodeAt → Type 0
+Cover k c at to [] [] = at ≡ to
+Cover k c at to (s ∷ ss) (n ∷ ns) = (n.at ≡ at) × (n.shape ≡ s) × ((v : Value) × IsNode k c n v) × Cover k c n.end to ss ns
+Cover k c at to [] (n ∷ ns) = ⊥
+Cover k c at to (s ∷ ss) [] = ⊥
+
+-- an array's items cover what stands behind its count, which is read at its start
+pub record ItemsCover (k : Classes) (c : List ℕ) (n : NodeAt) : Type 0 where
+  pub count : Var
+  pub counted : int_at c n.at n.end ≡ Some count
+  pub cover : Cover k c count.end n.end (replicate count.value (item_of n.shape)) (children k c n)
+
+-- the leaves of a node where this value stands: the value alone if it has no parts; or those of its children in order, and before them an array's count
+abbrev pub LeavesInOrder : Classes → List ℕ → NodeAt → Value → Type 0
+LeavesInOrder k c n (Single s kind b key) = leaves k c n ≡ record { kind = kind; class = s.class; at = n.at; spelled = b } ∷ []
+LeavesInOrder k c n (Group s h vs) = leaves k c n ≡ (if s.array then record { kind = leaf_kinds.Count (worth_within 8 h); class = s.class; at = n.at; spelled = h } ∷ [] else []) ++ flat_map (leaves k c) (children k c n)

@@ -1,11 +1,14 @@
 // Laws of values and of nodes that no other contract states. These calls do nothing.
-ghost use Rattle.std.specs.Prelude.{◌≡◌, ℕ, ◌-◌, ◌≤◌, List, length, IsSome};
-ghost use Rattle.jfr_layout.specs.Classes.{Agree, Classes, Sound, find_class};
+ghost use Rattle.std.specs.Prelude.{◌≡◌, ◌↔◌, ℕ, ◌-◌, ◌≤◌, false, true, List, ◌++◌, flat_map, length, map, slice_get, Some, IsSome, option_to_list};
+ghost use Rattle.jfr_base.specs.Formats.{Reads};
+ghost use Rattle.jfr_layout.specs.Classes.{Agree, Class, Classes, Sound, find_class, kind_of};
+ghost use Rattle.jfr_layout.specs.declared.kind.Kind.TheVariants as kinds;
 ghost use Rattle.jfr_layout.specs.declared.shape.Shape.{Shape};
-ghost use Rattle.jfr_value.specs.Laws.{AreRead, HasOneAnswer, RefersByParts, SameNode, SameSteps};
+ghost use Rattle.jfr_value.specs.Laws.{AreRead, Cover, HasOneAnswer, ItemsCover, LeavesInOrder, RefersByParts, SameNode, SameSteps};
 ghost use Rattle.jfr_value.specs.Leaves.{leaves};
-ghost use Rattle.jfr_value.specs.Nodes.{IsNode, NodeAt};
-ghost use Rattle.jfr_value.specs.Values.{Value};
+ghost use Rattle.jfr_value.specs.Nodes.{Both, IsNode, NodeAt, children, node_at, target, targets, value_of};
+ghost use Rattle.jfr_value.specs.Reading.{value_format};
+ghost use Rattle.jfr_value.specs.Values.{Value, parts_of};
 
 /// What the format of values reads is what fits. In sound classes no value is too deep for it.
 pub fn values_are_read()
@@ -32,4 +35,30 @@ pub fn refers_by_parts()
 /// A node has at most as many leaves as bytes.
 pub fn leaves_within_bytes()
     ensures { (k : Classes) (c : List ℕ) (n : NodeAt) (v : Value) → Sound k → IsNode k c n v → length (leaves k c n) ≤ n.end - n.at }
+{}
+
+/// A value is read from one place up to another exactly where it stands as a node between them.
+pub fn nodes_are_read()
+    ensures { (k : Classes) (c : List ℕ) (s : Shape) (at to end : ℕ) (v : Value) → Sound k → at ≤ end → end ≤ length c → Reads (value_format k s) c end at v to ↔ (IsNode k c (node_at s at to) v × (to ≤ end)) }
+{}
+
+/// The children of a node are the parts of its value, each where it stands. The fields of a composite
+/// value cover the node, one behind another, and the items of an array what is behind its count.
+pub fn children_are_parts()
+    ensures value { (k : Classes) (c : List ℕ) (n : NodeAt) (v : Value) → Sound k → IsNode k c n v → value_of k c n ≡ Some v }
+    ensures parts { (k : Classes) (c : List ℕ) (n : NodeAt) (v : Value) → Sound k → IsNode k c n v → (i : ℕ) → Both (IsNode k c) (slice_get (children k c n) i) (slice_get (parts_of v) i) }
+    ensures fields { (k : Classes) (c : List ℕ) (n : NodeAt) (v : Value) (d : Class) → Sound k → IsNode k c n v → n.shape.array ≡ false → n.shape.constant ≡ false → find_class k n.shape.class ≡ Some d → kind_of d.name ≡ kinds.Composite
+        → Cover k c n.at n.end (map (λ f. f.shape) d.fields) (children k c n) }
+    ensures items { (k : Classes) (c : List ℕ) (n : NodeAt) (v : Value) → Sound k → IsNode k c n v → n.shape.array ≡ true → ItemsCover k c n }
+{}
+
+/// A node refers to what it refers to by itself, and then to what its children refer to, in order.
+pub fn refers_in_order()
+    ensures { (k : Classes) (c : List ℕ) (n : NodeAt) (v : Value) → Sound k → IsNode k c n v → targets k c n ≡ option_to_list (target k c n) ++ flat_map (targets k c) (children k c n) }
+{}
+
+/// The leaves of a node are those of its children, in order; before them stands an array's count. A
+/// value without parts is its one leaf.
+pub fn leaves_in_order()
+    ensures { (k : Classes) (c : List ℕ) (n : NodeAt) (v : Value) → Sound k → IsNode k c n v → LeavesInOrder k c n v }
 {}

@@ -1,10 +1,11 @@
 //! The values of classes: where they end, their parts, their leaves, and what they refer to.
 //!
 //! `end_of` says where a value ends that begins at a place, and `end_visiting` hands out on the way
-//! what the value refers to. `child` leads to a field or an item of a node, `Leaves` hands out a node's
-//! leaves from left to right, and `visit_targets` what a node refers to. Read `specs/Values.antt`
-//! first, then `specs/Reading.antt`, `specs/Nodes.antt`, `specs/Leaves.antt` and `specs/Visits.antt`;
-//! what holds of every value is in `specs/Laws.antt`.
+//! what the value refers to. `child` leads to a field or an item of a node, and `target` says
+//! what the node refers to by itself. `Leaves` hands out a node's leaves from left to right, and
+//! `visit_targets` all that it refers to. Read `specs/Values.antt` first, then `specs/Reading.antt`,
+//! `specs/Nodes.antt`, `specs/Leaves.antt` and `specs/Visits.antt`; what holds of every value is in
+//! `specs/Laws.antt`.
 #![tactic(auto)]
 
 mod extent;
@@ -16,16 +17,21 @@ mod leaf;
 mod leaves;
 mod node;
 mod part;
+mod reference;
 mod stack;
 mod steps;
 mod visit;
 mod walk;
 
 pub use extent::{end_of, end_visiting, item_layout, layout_of};
-pub use laws::{leaves_within_bytes, one_answer, refers_by_parts, same_bytes, values_are_read};
+pub use laws::{
+    children_are_parts, leaves_in_order, leaves_within_bytes, nodes_are_read, one_answer,
+    refers_by_parts, refers_in_order, same_bytes, values_are_read,
+};
 pub use leaf::{Leaf, LeafKind};
 pub use leaves::Leaves;
 pub use node::{Node, Step};
 pub use part::child;
+pub use reference::target;
 pub use steps::Steps;
 pub use visit::{Visit, visit_targets};

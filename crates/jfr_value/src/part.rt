@@ -18,6 +18,7 @@ pub fn child<'a>(classes: &Classes, node: &Node<'a>, step: &Step) -> Option<Node
     requires { IsValue classes.now node.now }
     ensures exact { option_map node_of result ≡ child classes.now node.now.bytes.now (node_of node.now) step.now }
     ensures bytes { IfSome result (λ part. part.bytes.now ≡ node.now.bytes.now) }
+    ensures value { IfSome result (IsValue classes.now) }
 {
     match step {
         Step::Field(number) => field(classes, node, *number),
@@ -31,6 +32,7 @@ fn field<'a>(classes: &Classes, node: &Node<'a>, number: usize) -> Option<Node<'
     requires { IsValue classes.now node.now }
     ensures exact { option_map node_of result ≡ child classes.now node.now.bytes.now (node_of node.now) (Step.Field number) }
     ensures bytes { IfSome result (λ part. part.bytes.now ≡ node.now.bytes.now) }
+    ensures value { IfSome result (IsValue classes.now) }
 {
     let Some(place) = classes.place(node.shape.class) else {
         return None;
@@ -54,6 +56,7 @@ fn item<'a>(classes: &Classes, node: &Node<'a>, number: u64) -> Option<Node<'a>>
     requires { IsValue classes.now node.now }
     ensures exact { option_map node_of result ≡ child classes.now node.now.bytes.now (node_of node.now) (Step.Item number) }
     ensures bytes { IfSome result (λ part. part.bytes.now ≡ node.now.bytes.now) }
+    ensures value { IfSome result (IsValue classes.now) }
 {
     let layout = layout_of(classes, item_of(node.shape));
     if !node.shape.array {

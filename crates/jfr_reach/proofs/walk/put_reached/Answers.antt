@@ -3,7 +3,7 @@ use Rattle.std.proofs.lemmas.List.{nil_from_length}
 use Rattle.std.proofs.lemmas.Grind.{get_or_default_zero}
 use Rattle.jfr_reach.specs.Worklists.{marked_count}
 use Rattle.jfr_reach.proofs.Counts.{count_le, count_none}
-use Rattle.jfr_reach.proofs.EntryWalk.{going_starts, going_on, going_force, going_ends, going_cost}
+use Rattle.jfr_reach.proofs.EntryWalk.{going_starts, going_on, going_ends, going_cost}
 use Rattle.jfr_reach.proofs.walk.put_reached.Goals as goal
 
 pub loop-next-init : goal.loop-next-init
@@ -13,12 +13,6 @@ loop-next-init g c =
     let o : c.args.list.now.order.items ≡ [] = nil_from_length c.args.list.now.order.items (omega arith) in
     going_starts c.args.chunk.now c.args.kept.now c.args.steps.now c.args.list.now.flags.items c.put_roots.new.list.flags.items c.args.list.now.order.items c.put_roots.new.list.order.items c.put_roots.new.steps
     c.requires o c.put_roots.ensures.puts.marks c.put_roots.ensures.puts.order c.put_roots.ensures.cost
-
-pub put_entry-requires-clause-in_force : goal.put_entry-requires-clause-in_force
-put_entry-requires-clause-in_force g c =
-    let h : c.loop-next.next < length c.loop-next.list.order.items = omega arith in
-    let e : c.index-number.result.now ≡ slice_index c.loop-next.list.order.items c.loop-next.next = c.index-number.ensures ∙ get_or_default_zero c.loop-next.list.order.items c.loop-next.next c.index-number.result.now h in
-    going_force c.args.chunk.now c.args.kept.now c.args.steps.now c.loop-next.list.flags.items c.loop-next.list.order.items c.loop-next.next c.loop-next.steps c.index-number.result.now h c.loop-next.invariant e
 
 pub loop-next-smaller : goal.loop-next-smaller
 loop-next-smaller g c =
@@ -42,4 +36,4 @@ returns-clause-exact g c =
 pub returns-clause-cost : goal.returns-clause-cost
 returns-clause-cost g c =
     let h : length c.loop-next.list.order.items ≤ c.loop-next.next = omega arith in
-    going_cost c.args.chunk.now c.args.kept.now c.bytes-bytes.ensures.parts c.args.steps.now c.loop-next.list.flags.items c.loop-next.list.order.items c.loop-next.next c.loop-next.steps h c.loop-next.invariant
+    going_cost c.args.chunk.now c.args.kept.now c.parts_stand.ensures.parts c.args.steps.now c.loop-next.list.flags.items c.loop-next.list.order.items c.loop-next.next c.loop-next.steps h c.loop-next.invariant

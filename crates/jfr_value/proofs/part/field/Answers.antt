@@ -1,7 +1,8 @@
 -- A node has a field where it is an inline value of a composite class that has it.
 use Rattle.std.proofs.Common.{sym, ◌∙◌}
+use Rattle.jfr_value.specs.declared.node.Step.TheVariants as steps
 use Rattle.jfr_value.specs.Nodes.{node_of}
-use Rattle.jfr_value.proofs.ChildLaws.{no_field_of_array, no_field_of_constant, no_field_of_kind, no_field_of_unknown, no_field_past, field_row}
+use Rattle.jfr_value.proofs.ChildLaws.{child_value, no_field_of_array, no_field_of_constant, no_field_of_kind, no_field_of_unknown, no_field_past, field_row}
 use Rattle.jfr_value.proofs.LayoutLaws.{layouts_of}
 use Rattle.jfr_value.proofs.part.field.Goals as goal
 use Rattle.jfr_value.proofs.part.field.Goals.{then-node-via-then-node, then-node-via-else-node+then-node-2}
@@ -16,6 +17,7 @@ pub returns-in_default : goal.returns-in_default
 returns-in_default c = record {
   exact = sym (no_field_of_unknown c.args.classes.now c.args.node.now.bytes.now (node_of c.args.node.now) c.requires.0 c.place.ensures.sound c.requires.1 c.args.number (sym c.in_default.ensures.class));
   bytes = tt;
+  value = tt;
 }
 
 pub returns-in_default-kind_at : goal.returns-in_default-kind_at
@@ -23,6 +25,7 @@ returns-in_default-kind_at c = record {
   exact = sym (no_field_of_kind c.args.classes.now c.args.node.now.bytes.now (node_of c.args.node.now) c.requires.0 c.place.ensures.sound c.requires.1 c.args.number c.in-Some.place c.kind_at.result c.if-node.false c.in-Some.ensures.class
       c.in-Some.ensures.within c.kind_at.ensures c.in_default-kind_at.not-Composite);
   bytes = tt;
+  value = tt;
 }
 
 pub returns-then-number-layouts-clause-exact : goal.returns-then-number-layouts-clause-exact
@@ -43,3 +46,6 @@ returns-clause-exact c =
     let f = field_row c.args.classes.now c.args.node.now.bytes.now (node_of c.args.node.now) c.requires.0 c.place.ensures.sound c.requires.1 c.args.number c.in-Some.place c.kind_at.result c.layouts-layouts.result.now c.if-node.false c.if-node-2.false c.in-Some.ensures.class
     c.in-Some.ensures.within c.kind_at.ensures c.in-Composite.is c.layouts-layouts.ensures.exact in
     sym (f.2 ∙ c.nth_field.ensures.exact f.0 f.1)
+
+pub returns-clause-value : goal.returns-clause-value
+returns-clause-value c = child_value c.args.classes.now c.args.node.now c.nth_field.result (steps.Field c.args.number) c.place.ensures.sound c.requires c.nth_field.ensures.bytes (sym (returns-clause-exact c))
