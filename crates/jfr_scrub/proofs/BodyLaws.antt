@@ -11,8 +11,7 @@ use Rattle.jfr_header.specs.declared.header.Header.{Header}
 use Rattle.jfr_chunk.specs.Reach.{remain}
 use Rattle.jfr_chunk.specs.Parts.{Parts, EventAt, metadata_at}
 use Rattle.jfr_chunk.specs.Scrub.{OutputRecord, Whole, Chained, Written, bytes_of, written_bytes, older_after, written, last_at, record_of, moved, output_records, scrub_of}
-use Rattle.jfr_scrub.specs.declared.body.Body.{Body}
-use Rattle.jfr_scrub.specs.Bodies.{OutputRecordFits, IsBefore, place_seen, body_with, IsBody, NotFalling}
+use Rattle.jfr_scrub.specs.Bodies.{Progress, OutputRecordFits, IsBefore, place_seen, body_with, IsBody, NotFalling}
 use Rattle.jfr_scrub.specs.Left.{HasRange}
 use Rattle.jfr_scrub.specs.Pieces.{Laying, more}
 use Rattle.jfr_scrub.proofs.CheckpointLaws.{more_more}
@@ -35,7 +34,7 @@ or_place (Some place) later = place
 or_place None later = later
 
 -- what is laid out, and what is left
-pub record Going (p : Parts) (left : List EntryAt) (all ss : List OutputRecord) (b : Body) : Type 0 where
+pub record Going (p : Parts) (left : List EntryAt) (all ss : List OutputRecord) (b : Progress) : Type 0 where
   pub chunk : b.output.chunk ≡ p.bytes
   pub output : more b.output (flat_map (written_bytes p.bytes left) (written p.bytes left b.at b.older ss)) ≡ record { chunk = p.bytes; bytes = flat_map (written_bytes p.bytes left) (written p.bytes left 68 None all) }
   pub at : b.at ≡ 68 + length b.output.bytes
@@ -45,12 +44,12 @@ pub record Going (p : Parts) (left : List EntryAt) (all ss : List OutputRecord) 
   pub before : IsBefore b.older b.at
   pub within : 68 + length (flat_map (written_bytes p.bytes left) (written p.bytes left 68 None all)) ≤ length p.bytes
 
-pub going_none : (p : Parts) (left : List EntryAt) (all : List OutputRecord) (b : Body) → b ≡ record { output = record { chunk = p.bytes; bytes = [] }; at = 68; older = None; metadata = None } →
+pub going_none : (p : Parts) (left : List EntryAt) (all : List OutputRecord) (b : Progress) → b ≡ record { output = record { chunk = p.bytes; bytes = [] }; at = 68; older = None; metadata = None } →
     AllByRecursion (WrittenFits p.bytes left) (written p.bytes left 68 None all) → 68 + length (flat_map (written_bytes p.bytes left) (written p.bytes left 68 None all)) ≤ length p.bytes → Going p left all all b
 going_none p left all b e f w = subst (Going p left all all) (sym e) (record { chunk = refl; output = refl; at = refl; older = refl; metadata = refl; fits = f; before = tt; within = w })
 
 -- what is left is no longer than all
-pub going_room : (p : Parts) (left : List EntryAt) (all ss : List OutputRecord) (s : OutputRecord) (b : Body) → Going p left all (s ∷ ss) b → b.at + length (bytes_of p.bytes left s b.at b.older) ≤ length p.bytes
+pub going_room : (p : Parts) (left : List EntryAt) (all ss : List OutputRecord) (s : OutputRecord) (b : Progress) → Going p left all (s ∷ ss) b → b.at + length (bytes_of p.bytes left s b.at b.older) ≤ length p.bytes
 going_room p left all ss s b g =
     let x = bytes_of p.bytes left s b.at b.older in
     let y = flat_map (written_bytes p.bytes left) (written p.bytes left (b.at + length x) (older_after s b.at b.older) ss) in
@@ -73,7 +72,7 @@ moved_next None w ws at = by_test ((record_of w.output_record).at == at)
     by_test true = refl
     by_test false = refl
 
-pub going_next : (p : Parts) (left : List EntryAt) (all ss : List OutputRecord) (s : OutputRecord) (b next : Body) (m : ℕ) → Going p left all (s ∷ ss) b → m ≡ metadata_at p.bytes → next ≡ body_with left m b s → 1 ≤ length (bytes_of p.bytes left s b.at b.older) → Going p left all ss next
+pub going_next : (p : Parts) (left : List EntryAt) (all ss : List OutputRecord) (s : OutputRecord) (b next : Progress) (m : ℕ) → Going p left all (s ∷ ss) b → m ≡ metadata_at p.bytes → next ≡ body_with left m b s → 1 ≤ length (bytes_of p.bytes left s b.at b.older) → Going p left all ss next
 going_next p left all ss s b next m g e n k =
     let c = g.chunk in
     let same : next ≡ record { output = more b.output (bytes_of p.bytes left s b.at b.older); at = b.at + length (bytes_of p.bytes left s b.at b.older); older = older_after s b.at b.older; metadata = place_seen b.metadata ((record_of s).at == metadata_at p.bytes) b.at } =
@@ -113,7 +112,7 @@ or_none : (o : Option ℕ) → or_place o 0 ≡ unwrap_or o 0
 or_none None = refl
 or_none (Some at) = refl
 
-pub going_all : (p : Parts) (left : List EntryAt) (all ss : List OutputRecord) (b : Body) → Going p left all ss b → ss ≡ [] → IsBody p left all b
+pub going_all : (p : Parts) (left : List EntryAt) (all ss : List OutputRecord) (b : Progress) → Going p left all ss b → ss ≡ [] → IsBody p left all b
 going_all p left all ss b g e = done (subst (λ z. Going p left all z b) e g)
   where
     done : Going p left all [] b → IsBody p left all b
@@ -236,7 +235,7 @@ entries_between es rest here n k m r t h a b i c d =
     t ∙ (ap (take m) r ∙ entries_here es n k m h a b (subst (λ z. m ≤ length z) r i) (subst (λ z. AllWithin (λ e. leb e.checkpoint n ≡ true) z 0 m) r c) (subst (λ z. AllWithin (λ e. leb e.checkpoint n ≡ false) z m (length z)) r d))
 
 -- the header before the body is what the chunk becomes
-pub laid_all : (p : Parts) (kept : List EventAt) (left : List EntryAt) (b : Body) (h : Header) (front joined : List ℕ) → left ≡ remain p kept → IsBody p left (output_records p kept) b → h ≡ header_of (take 68 p.bytes) →
+pub laid_all : (p : Parts) (kept : List EventAt) (left : List EntryAt) (b : Progress) (h : Header) (front joined : List ℕ) → left ≡ remain p kept → IsBody p left (output_records p kept) b → h ≡ header_of (take 68 p.bytes) →
     front ≡ header_bytes (record h { size = b.at; pools = unwrap_or b.older 0; metadata = unwrap_or b.metadata 0 }) → joined ≡ front ++ b.output.bytes → joined ≡ scrub_of p kept
 unfolding scrub_of
 laid_all p kept left b h front joined l i e f j =

@@ -1,7 +1,7 @@
 -- What is written of a checkpoint, part by part.
-use Rattle.std.specs.Prelude.{◌≡◌, ℕ, ◌+◌, ◌-◌, ◌^◌, ◌<◌, ◌≤◌, Bool, true, false, ◌&&◌, ◌==◌, List, [], ◌∷◌, ◌++◌, length, take, drop, slice_range, slice_get, Some, if◌then◌else◌}
+use Rattle.std.specs.Prelude.{◌≡◌, ℕ, zero, suc, ◌+◌, ◌-◌, ◌^◌, ◌<◌, ◌≤◌, Bool, true, false, ◌&&◌, ◌==◌, List, [], ◌∷◌, ◌++◌, length, take, drop, slice_range, slice_get, Some, if◌then◌else◌}
 use Rattle.std.specs.List.{flat_map, AllByRecursion}
-use Rattle.std.proofs.Common.{ap, arith, refl, sym, ◌∙◌, subst, append_assoc, length-append}
+use Rattle.std.proofs.Common.{ap, arith, refl, sym, ◌∙◌, subst, get_or, add-one, append_assoc, length-append}
 use Rattle.std.proofs.lemmas.List.{append-nil}
 use Rattle.jfr_base.specs.Integer.{spell, spell_in}
 use Rattle.jfr_base.proofs.Ranges.{range_split, range_length}
@@ -9,6 +9,8 @@ use Rattle.jfr_pool.specs.declared.link.Link.{Link}
 use Rattle.jfr_pool.specs.declared.entry.EntryAt.{EntryAt}
 use Rattle.jfr_chunk.specs.Written.{Group, add_entry, by_pool, entry_bytes, group_bytes, checkpoint_tail, checkpoint_bytes}
 use Rattle.jfr_scrub.specs.Left.{HasRange, leading, entries_size, pool_size, groups_size, capped}
+use Rattle.jfr_scrub.specs.declared.piece.MadePart.TheVariants.{EntryCount, PoolClass}
+use Rattle.jfr_scrub.specs.Bodies.{pool_parts}
 use Rattle.jfr_scrub.specs.Fits.{LinkFits}
 use Rattle.jfr_scrub.specs.Pieces.{Laying, more}
 use Rattle.jfr_scrub.proofs.Widths.{spelled_length}
@@ -83,6 +85,19 @@ tail_length c l delta gs f a =
 -- one part behind another
 pub more_more : (o : Laying) (a b : List ℕ) → more (more o a) b ≡ more o (a ++ b)
 more_more o a b = λ i. record { chunk = o.chunk; bytes = append_assoc o.bytes a b i }
+
+-- one entry behind another
+flat_map_suc : (f : EntryAt → List ℕ) (es : List EntryAt) (i : ℕ) (d : EntryAt) → i < length es → flat_map f (take (suc i) es) ≡ flat_map f (take i es) ++ f (get_or es i d)
+flat_map_suc f [] i d h = absurd (omega arith)
+flat_map_suc f (e ∷ es) zero d h = append-nil (f e)
+flat_map_suc f (e ∷ es) (suc i) d h = ap (λ z. f e ++ z) (flat_map_suc f es i d (omega arith)) ∙ sym (append_assoc (f e) (flat_map f (take i es)) (f (get_or es i d)))
+
+pub entry_laid : (o now next : Laying) (es : List EntryAt) (i : ℕ) (d : EntryAt) → i < length es → now ≡ more o (flat_map (entry_bytes o.chunk) (take i es)) → next ≡ more now (entry_bytes now.chunk (get_or es i d)) →
+    next ≡ more o (flat_map (entry_bytes o.chunk) (take (i + 1) es))
+entry_laid o now next es i d h l n =
+    let f = entry_bytes o.chunk in
+    let t : flat_map f (take (i + 1) es) ≡ flat_map f (take i es) ++ f (get_or es i d) = ap (λ m. flat_map f (take m es)) (add-one i) ∙ flat_map_suc f es i d h in
+    n ∙ (ap (λ (z : Laying). more z (entry_bytes z.chunk (get_or es i d))) l ∙ (more_more o (flat_map f (take i es)) (f (get_or es i d)) ∙ ap (more o) (sym t)))
 
 regrouped : (o s a t m d k n g : List ℕ) → a ≡ t ++ m → (((((o ++ s) ++ a) ++ d) ++ k) ++ n) ++ g ≡ o ++ (s ++ (t ++ (m ++ (d ++ (k ++ (n ++ g))))))
 regrouped o s a t m d k n g e = rw e (simp append_assoc)
@@ -167,3 +182,12 @@ checkpoint_length c l delta gs f =
     let a : length (spell_in w n ++ checkpoint_tail c l delta gs) ≡ length (spell_in w n) + length (checkpoint_tail c l delta gs) = length-append (spell_in w n) (checkpoint_tail c l delta gs) in
     let b : length (spell_in w n) ≡ w = spelled_length c l.frame n f.framed f.room in
     omega arith
+
+-- what is made of the first pool, and of the others
+pub pools_parts : (es others : List EntryAt) (e : EntryAt) (n : ℕ) → slice_get es 0 ≡ Some e → n ≡ leading e es → others ≡ drop n es → flat_map pool_parts (by_pool es) ≡ (PoolClass ∷ EntryCount ∷ []) ++ flat_map pool_parts (by_pool others)
+pools_parts [] others e n g l o = cc
+pools_parts (x ∷ es) others e n g l o =
+    let same : x ≡ e = cc in
+    let rest : List EntryAt = x ∷ es in
+    let d : others ≡ drop (leading x rest) rest = o ∙ (ap (λ m. drop m rest) l ∙ ap (λ z. drop (leading z rest) rest) (sym same)) in
+    ap (flat_map pool_parts) (by_leading x es) ∙ ap (λ z. PoolClass ∷ EntryCount ∷ flat_map pool_parts (by_pool z)) (sym d)

@@ -105,7 +105,7 @@ constants_number : (checkpoint number class : ℕ) (xs : List Constant) (ys : Li
 constants_number checkpoint number class [] ys b = b
 constants_number checkpoint number class (x ∷ xs) ys b = (refl, constants_number checkpoint number class xs ys b)
 
-pools_number : (checkpoint number : ℕ) (ps : List PoolAt) → AllByRecursion (λ e. e.checkpoint ≡ checkpoint) (entries_from checkpoint number ps)
+pub pools_number : (checkpoint number : ℕ) (ps : List PoolAt) → AllByRecursion (λ e. e.checkpoint ≡ checkpoint) (entries_from checkpoint number ps)
 pools_number checkpoint number [] = tt
 pools_number checkpoint number (p ∷ ps) = constants_number checkpoint number p.class p.constants (entries_from checkpoint (number + 1) ps) (pools_number checkpoint (number + 1) ps)
 
@@ -118,7 +118,7 @@ module _ (c : List ℕ) (k : Classes) where
   constants_range : (checkpoint number class at : ℕ) (xs : List Constant) (to : ℕ) (ys : List EntryAt) → Constants c k class at xs to → AllByRecursion (HasRange (length c)) ys → AllByRecursion (HasRange (length c)) (map (entry_of checkpoint number class) xs ++ ys)
   constants_range checkpoint number class at [] to ys s b = b
   constants_range checkpoint number class at (x ∷ xs) to ys s b =
-      let i : x.key_at ≤ x.value_at = s.0.key.order in
+      let i : x.key_at < x.value_at = int_some c x.key_at x.value_at x.key s.0.key in
       let j : x.value_at ≤ x.end = s.0.order in
       (record { order = omega arith; within = s.0.within }, constants_range checkpoint number class x.end xs to ys s.1 b)
 

@@ -8,6 +8,8 @@ pub mod BodyLaws
 pub mod FitLaws
 pub mod GallopingLaws
 pub mod RunLaws
+pub mod CopiedLaws
+pub mod AllCopied
 pub mod CountLaws
 pub mod AgainLaws
 pub mod HeadlineLaws

@@ -2,14 +2,17 @@
 use Rattle.std.specs.Prelude.{◌≡◌, ℕ, zero, suc, ◌+◌, ◌-◌, ◌<◌, ◌≤◌, List, [], ◌∷◌, ◌++◌, length, take, drop, slice_range, Vec, vec_len, vec_capacity}
 use Rattle.std.specs.Global.{Global}
 use Rattle.std.specs.List.{flat_map, AllByRecursion}
-use Rattle.std.proofs.Common.{ap, arith, refl, sym, ◌∙◌, get_or, drop-cons, add-one, append_assoc, length-append}
+use Rattle.std.proofs.Common.{ap, arith, refl, sym, ◌∙◌, subst, get_or, drop-cons, add-one, append_assoc, length-append}
 use Rattle.std.proofs.Math.Seq.{drop-append_seam}
 use Rattle.std.proofs.lemmas.Grind.{flat_map-append}
 use Rattle.std.proofs.lemmas.List.{take_all, drop_all, take-append-le, drop-append-le, append-nil, length-drop}
 use Rattle.jfr_base.proofs.Ranges.{range_split}
+use Rattle.jfr_chunk.proofs.AllLaws.{all_append}
+use Rattle.jfr_scrub.specs.declared.piece.MadePart.{MadePart}
+use Rattle.jfr_scrub.specs.declared.piece.MadePart.TheVariants.{ChunkHeader}
 use Rattle.jfr_scrub.specs.declared.piece.Part.{Part}
 use Rattle.jfr_scrub.specs.declared.piece.Part.TheVariants as parts
-use Rattle.jfr_scrub.specs.Pieces.{part_bytes, Lies, Laying, more}
+use Rattle.jfr_scrub.specs.Pieces.{IsHeaded, IsHeader, IsNumber, IsNumberIn, Laid, Laying, Lies, joined, laying_of, more, part_bytes}
 
 -- what is made later changes no range of what was made
 pub range_front : (xs ys : List ℕ) (p q : ℕ) → p ≤ q → q ≤ length xs → slice_range (xs ++ ys) p q ≡ slice_range xs p q
@@ -24,12 +27,12 @@ range_last xs ys =
 pub lies_more : (n m k : ℕ) (ps : List Part) → m ≤ k → AllByRecursion (Lies n m) ps → AllByRecursion (Lies n k) ps
 lies_more n m k [] h a = tt
 lies_more n m k (parts.Copied from to ∷ ps) h a = (a.0, lies_more n m k ps h a.1)
-lies_more n m k (parts.Made from to ∷ ps) h a = ((a.0.0, omega (arith, a.0.1)), lies_more n m k ps h a.1)
+lies_more n m k (parts.Made part from to ∷ ps) h a = ((a.0.0, omega (arith, a.0.1)), lies_more n m k ps h a.1)
 
 pub same_pieces : (c made x : List ℕ) (ps : List Part) → AllByRecursion (Lies (length c) (length made)) ps → flat_map (part_bytes c (made ++ x)) ps ≡ flat_map (part_bytes c made) ps
 same_pieces c made x [] a = refl
 same_pieces c made x (parts.Copied from to ∷ ps) a = ap (λ z. slice_range c from to ++ z) (same_pieces c made x ps a.1)
-same_pieces c made x (parts.Made from to ∷ ps) a = ap (λ z. z ++ flat_map (part_bytes c (made ++ x)) ps) (range_front made x from to a.0.0 a.0.1) ∙ ap (λ z. slice_range made from to ++ z) (same_pieces c made x ps a.1)
+same_pieces c made x (parts.Made part from to ∷ ps) a = ap (λ z. z ++ flat_map (part_bytes c (made ++ x)) ps) (range_front made x from to a.0.0 a.0.1) ∙ ap (λ z. slice_range made from to ++ z) (same_pieces c made x ps a.1)
 
 made_last : (made x more : List ℕ) (from to : ℕ) → more ≡ made ++ x → from ≡ length made → to ≡ length more → slice_range more from to ≡ x
 made_last made x more from to e f t =
@@ -37,17 +40,17 @@ made_last made x more from to e f t =
     ap (λ z. slice_range z from to) e ∙ (ap (λ n. slice_range (made ++ x) n to) f ∙ (ap (λ n. slice_range (made ++ x) (length made) n) g ∙ range_last made x))
 
 -- bytes that are made last, as the last piece
-pub put_last : (c made x more : List ℕ) (ps qs : List Part) (from to : ℕ) → AllByRecursion (Lies (length c) (length made)) ps → more ≡ made ++ x → from ≡ length made → to ≡ length more →
-    qs ≡ ps ++ parts.Made from to ∷ [] → flat_map (part_bytes c more) qs ≡ flat_map (part_bytes c made) ps ++ x
-put_last c made x more ps qs from to a e f t q =
-    ap (flat_map (part_bytes c more)) q ∙ (flat_map-append (part_bytes c more) ps (parts.Made from to ∷ [])
+pub put_last : (c made x more : List ℕ) (ps qs : List Part) (part : MadePart) (from to : ℕ) → AllByRecursion (Lies (length c) (length made)) ps → more ≡ made ++ x → from ≡ length made → to ≡ length more →
+    qs ≡ ps ++ parts.Made part from to ∷ [] → flat_map (part_bytes c more) qs ≡ flat_map (part_bytes c made) ps ++ x
+put_last c made x more ps qs part from to a e f t q =
+    ap (flat_map (part_bytes c more)) q ∙ (flat_map-append (part_bytes c more) ps (parts.Made part from to ∷ [])
     ∙ (ap (λ z. z ++ (slice_range more from to ++ [])) (ap (λ z. flat_map (part_bytes c z) ps) e ∙ same_pieces c made x ps a)
     ∙ ap (λ z. flat_map (part_bytes c made) ps ++ z) (append-nil (slice_range more from to) ∙ made_last made x more from to e f t)))
 
 -- the same as the first piece
-pub put_first : (c made x more : List ℕ) (ps qs : List Part) (from to : ℕ) → AllByRecursion (Lies (length c) (length made)) ps → more ≡ made ++ x → from ≡ length made → to ≡ length more →
-    qs ≡ parts.Made from to ∷ ps → flat_map (part_bytes c more) qs ≡ x ++ flat_map (part_bytes c made) ps
-put_first c made x more ps qs from to a e f t q =
+pub put_first : (c made x more : List ℕ) (ps qs : List Part) (part : MadePart) (from to : ℕ) → AllByRecursion (Lies (length c) (length made)) ps → more ≡ made ++ x → from ≡ length made → to ≡ length more →
+    qs ≡ parts.Made part from to ∷ ps → flat_map (part_bytes c more) qs ≡ x ++ flat_map (part_bytes c made) ps
+put_first c made x more ps qs part from to a e f t q =
     ap (flat_map (part_bytes c more)) q
     ∙ (ap (λ z. slice_range more from to ++ z) (ap (λ z. flat_map (part_bytes c z) ps) e ∙ same_pieces c made x ps a)
     ∙ ap (λ z. z ++ flat_map (part_bytes c made) ps) (made_last made x more from to e f t))
@@ -93,20 +96,79 @@ lies_get n m [] i d a h = absurd (omega arith)
 lies_get n m (p ∷ ps) zero d a h = a.0
 lies_get n m (p ∷ ps) (suc i) d a h = lies_get n m ps i d a.1 (omega arith)
 
+-- the pieces, and behind them a range of the chunk
+abbrev pub pending : Laid → ℕ → ℕ → Laid
+pending l from to = record { chunk = l.chunk; made = l.made; pieces = l.pieces ++ parts.Copied from to ∷ [] }
+
+pub pending_bytes : (l : Laid) (from to : ℕ) → joined (pending l from to) ≡ joined l ++ slice_range l.chunk from to
+pending_bytes l from to =
+    flat_map-append (part_bytes l.chunk l.made) l.pieces (parts.Copied from to ∷ []) ∙ ap (λ z. joined l ++ z) (append-nil (slice_range l.chunk from to))
+
+laying_pending : (l : Laid) (from to : ℕ) → laying_of (pending l from to) ≡ record { chunk = l.chunk; bytes = joined l ++ slice_range l.chunk from to }
+laying_pending l from to = λ i. record { chunk = l.chunk; bytes = pending_bytes l from to i }
+
 -- a range that goes on where the last one ends
-pub longer_laid : (c bytes : List ℕ) (from middle at to : ℕ) (l : Laying) → record { chunk = c; bytes = bytes ++ slice_range c from middle } ≡ l → at ≡ middle → from ≤ middle → at ≤ to →
-    record { chunk = c; bytes = bytes ++ slice_range c from to } ≡ more l (slice_range l.chunk at to)
-longer_laid c bytes from middle at to l v e h i =
-    let split : bytes ++ slice_range c from to ≡ (bytes ++ slice_range c from middle) ++ slice_range c at to =
-    ap (λ z. bytes ++ z) (range_split c from middle to h (omega arith)) ∙ (sym (append_assoc bytes (slice_range c from middle) (slice_range c middle to)) ∙ ap (λ n. (bytes ++ slice_range c from middle) ++ slice_range c n to) (sym e)) in
-    (λ i. record { chunk = c; bytes = split i }) ∙ ap (λ (z : Laying). more z (slice_range z.chunk at to)) v
+pub longer_laid : (l o : Laid) (from middle at to : ℕ) → pending l from middle ≡ o → at ≡ middle → from ≤ middle → at ≤ to → laying_of (pending l from to) ≡ more (laying_of o) (slice_range o.chunk at to)
+longer_laid l o from middle at to v e h i =
+    let c = l.chunk in
+    let split : joined l ++ slice_range c from to ≡ (joined l ++ slice_range c from middle) ++ slice_range c at to =
+    ap (λ z. joined l ++ z) (range_split c from middle to h (omega arith)) ∙ (sym (append_assoc (joined l) (slice_range c from middle) (slice_range c middle to)) ∙ ap (λ n. (joined l ++ slice_range c from middle) ++ slice_range c n to) (sym e)) in
+    laying_pending l from to ∙ ((λ i. record { chunk = c; bytes = split i })
+    ∙ (ap (λ z. more z (slice_range c at to)) (sym (laying_pending l from middle)) ∙ ap (λ (z : Laid). more (laying_of z) (slice_range z.chunk at to)) v))
+
+-- the last range is a piece now
+settled : (l m o : Laid) (from to : ℕ) → pending l from to ≡ o → m.chunk ≡ l.chunk → joined m ≡ joined l ++ slice_range l.chunk from to → laying_of m ≡ laying_of o
+settled l m o from to v e f = (λ i. record { chunk = e i; bytes = f i }) ∙ (sym (laying_pending l from to) ∙ ap laying_of v)
 
 -- another range
-pub next_laid : (c d bytes all : List ℕ) (from to at end : ℕ) (l : Laying) → record { chunk = c; bytes = bytes ++ slice_range c from to } ≡ l → d ≡ c → all ≡ bytes ++ slice_range c from to →
-    record { chunk = d; bytes = all ++ slice_range d at end } ≡ more l (slice_range l.chunk at end)
-next_laid c d bytes all from to at end l v e f = ap (λ (z : Laying). more z (slice_range z.chunk at end)) ((λ i. record { chunk = e i; bytes = f i }) ∙ v)
+pub next_laid : (l m o : Laid) (from to at end : ℕ) → pending l from to ≡ o → m.chunk ≡ l.chunk → joined m ≡ joined l ++ slice_range l.chunk from to → laying_of (pending m at end) ≡ more (laying_of o) (slice_range o.chunk at end)
+next_laid l m o from to at end v e f = laying_pending m at end ∙ ap (λ (z : Laying). more z (slice_range z.chunk at end)) (settled l m o from to v e f)
 
 -- bytes that are made behind the last range
-pub made_laid : (c d bytes all new x : List ℕ) (from to : ℕ) (l : Laying) → record { chunk = c; bytes = bytes ++ slice_range c from to } ≡ l → d ≡ c → all ≡ bytes ++ slice_range c from to → new ≡ all ++ x →
-    record { chunk = d; bytes = new ++ slice_range d 0 0 } ≡ more l x
-made_laid c d bytes all new x from to l v e f g = (λ i. record { chunk = d; bytes = (append-nil new ∙ g) i }) ∙ ap (λ (z : Laying). more z x) ((λ i. record { chunk = e i; bytes = f i }) ∙ v)
+pub made_laid : (l m n o : Laid) (x : List ℕ) (from to : ℕ) → pending l from to ≡ o → m.chunk ≡ l.chunk → joined m ≡ joined l ++ slice_range l.chunk from to → n.chunk ≡ m.chunk → joined n ≡ joined m ++ x → laying_of (pending n 0 0) ≡ more (laying_of o) x
+made_laid l m n o x from to v e f g h =
+    laying_pending n 0 0 ∙ ((λ i. record { chunk = g i; bytes = (append-nil (joined n) ∙ h) i }) ∙ ap (λ z. more z x) (settled l m o from to v e f))
+
+-- the bytes before and with the last range
+pub finished : (l o : Laid) (front all : List ℕ) (from to : ℕ) → pending l from to ≡ o → all ≡ front ++ (joined l ++ slice_range l.chunk from to) → all ≡ front ++ joined o
+finished l o front all from to v e = e ∙ ap (λ z. front ++ z) (sym (pending_bytes l from to) ∙ ap joined v)
+
+-- one more range of the chunk lies in it, and what is made last in what is made
+pub lies_range : (n m : ℕ) (ps qs : List Part) (from to : ℕ) → AllByRecursion (Lies n m) ps → qs ≡ ps ++ parts.Copied from to ∷ [] → from ≤ to → to ≤ n → AllByRecursion (Lies n m) qs
+lies_range n m ps qs from to a q h i = subst (AllByRecursion (Lies n m)) (sym q) (all_append (Lies n m) ps (parts.Copied from to ∷ []) a ((h, i), tt))
+
+pub lies_last : (n : ℕ) (made x more : List ℕ) (ps qs : List Part) (part : MadePart) (from to : ℕ) → AllByRecursion (Lies n (length made)) ps → more ≡ made ++ x → from ≡ length made → to ≡ length more →
+    qs ≡ ps ++ parts.Made part from to ∷ [] → AllByRecursion (Lies n (length more)) qs
+lies_last n made x more ps qs part from to a e f t q =
+    let l : length more ≡ length made + length x = ap length e ∙ length-append made x in
+    subst (AllByRecursion (Lies n (length more))) (sym q)
+    (all_append (Lies n (length more)) ps (parts.Made part from to ∷ []) (lies_more n (length made) (length more) ps (omega arith) a) ((omega arith, omega arith), tt))
+
+-- what is made later changes no number
+pub numbers_more : (n : ℕ) (made x : List ℕ) (ps : List Part) → AllByRecursion (Lies n (length made)) ps → AllByRecursion (IsNumberIn made) ps → AllByRecursion (IsNumberIn (made ++ x)) ps
+numbers_more n made x [] a b = tt
+numbers_more n made x (parts.Copied from to ∷ ps) a b = (tt, numbers_more n made x ps a.1 b.1)
+numbers_more n made x (parts.Made part from to ∷ ps) a b = (subst (IsNumber part) (sym (range_front made x from to a.0.0 a.0.1)) b.0, numbers_more n made x ps a.1 b.1)
+
+-- one more number
+pub numbers_last : (n : ℕ) (made x more : List ℕ) (ps qs : List Part) (part : MadePart) (from to : ℕ) → AllByRecursion (Lies n (length made)) ps → more ≡ made ++ x → from ≡ length made → to ≡ length more →
+    qs ≡ ps ++ parts.Made part from to ∷ [] → IsNumber part x → AllByRecursion (IsNumberIn made) ps → AllByRecursion (IsNumberIn more) qs
+numbers_last n made x more ps qs part from to a e f t q i b =
+    let old : AllByRecursion (IsNumberIn more) ps = subst (λ z. AllByRecursion (IsNumberIn z) ps) (sym e) (numbers_more n made x ps a b) in
+    subst (AllByRecursion (IsNumberIn more)) (sym q) (all_append (IsNumberIn more) ps (parts.Made part from to ∷ []) old (subst (IsNumber part) (sym (made_last made x more from to e f t)) i, tt))
+
+-- one more range of the chunk
+pub numbers_range : (made : List ℕ) (ps qs : List Part) (from to : ℕ) → qs ≡ ps ++ parts.Copied from to ∷ [] → AllByRecursion (IsNumberIn made) ps → AllByRecursion (IsNumberIn made) qs
+numbers_range made ps qs from to q b = subst (AllByRecursion (IsNumberIn made)) (sym q) (all_append (IsNumberIn made) ps (parts.Copied from to ∷ []) b (tt, tt))
+
+-- the header before the numbers
+pub headed_first : (c made x more : List ℕ) (ps qs : List Part) (from to : ℕ) → AllByRecursion (Lies (length c) (length made)) ps → more ≡ made ++ x → from ≡ length made → to ≡ length more →
+    qs ≡ parts.Made ChunkHeader from to ∷ ps → IsHeader x → AllByRecursion (IsNumberIn made) ps → IsHeaded (record { chunk = c; made = more; pieces = qs })
+headed_first c made x more ps qs from to a e f t q i b = record {
+  from = from;
+  to = to;
+  others = ps;
+  pieces = q;
+  header = subst IsHeader (sym (made_last made x more from to e f t)) i;
+  numbers = subst (λ z. AllByRecursion (IsNumberIn z) ps) (sym e) (numbers_more (length c) made x ps a b);
+}

@@ -2,7 +2,7 @@
 use Rattle.std.specs.Prelude.{◌≡◌, ℕ, zero, suc, ◌+◌, ◌-◌, ◌<◌, ◌≤◌, Bool, true, false, ◌&&◌, ◌==◌, List, [], ◌∷◌, ◌++◌, length, take, drop, min, slice_get, Some, if◌then◌else◌}
 use Rattle.std.specs.List.{AllByRecursion}
 use Rattle.std.proofs.Common.{ap, arith, refl, sym, ◌∙◌, subst, get_or, drop-cons, add-one, append_assoc}
-use Rattle.std.proofs.lemmas.List.{drop_all, append-nil}
+use Rattle.std.proofs.lemmas.List.{drop_all, append-nil, length-drop}
 use Rattle.std.proofs.lemmas.Bool.Decides.{nat_tests}
 use Rattle.jfr_pool.specs.declared.entry.EntryAt.{EntryAt}
 use Rattle.jfr_chunk.specs.Reach.{marked, is_marked}
@@ -55,6 +55,15 @@ by_leading e es =
 pub some_leading : (e : EntryAt) (es : List EntryAt) → 1 ≤ leading e (e ∷ es)
 some_leading e es = let l : leading e (e ∷ es) ≡ suc (leading e es) = ap (λ b. if b then suc (leading e es) else 0) (itself e) in omega arith
 
+-- fewer are behind those of the first one's pool
+pub rest_smaller : (es rest : List EntryAt) (e : EntryAt) (n : ℕ) → slice_get es 0 ≡ Some e → n ≡ leading e es → rest ≡ drop n es → length rest < length es
+rest_smaller [] rest e n g l r = cc
+rest_smaller (x ∷ es) rest e n g l r =
+    let same : x ≡ e = cc in
+    let s : 1 ≤ leading e (x ∷ es) = subst (λ z. 1 ≤ leading z (x ∷ es)) same (some_leading x es) in
+    let k : length rest ≡ suc (length es) - n = ap length r ∙ length-drop n (x ∷ es) in
+    omega arith
+
 pub leading_within : (e : EntryAt) (es : List EntryAt) → leading e es ≤ length es
 leading_within e [] = omega arith
 leading_within e (f ∷ fs) = by_test (same_pool e f) (leading_within e fs)
@@ -101,6 +110,9 @@ pub range_get : (n : ℕ) (es : List EntryAt) (i : ℕ) (d : EntryAt) → AllByR
 range_get n [] i d a h = absurd (omega arith)
 range_get n (e ∷ es) zero d a h = a.0
 range_get n (e ∷ es) (suc i) d a h = range_get n es i d a.1 (omega arith)
+
+pub range_order : (n : ℕ) (es : List EntryAt) (i : ℕ) (d : EntryAt) → AllByRecursion (HasRange n) es → i < length es → (get_or es i d).key_at ≤ (get_or es i d).end
+range_order n es i d a h = let l = (range_get n es i d a h).order in omega arith
 
 pub range_drop : (n : ℕ) (es : List EntryAt) (i : ℕ) → AllByRecursion (HasRange n) es → AllByRecursion (HasRange n) (drop i es)
 range_drop n es zero a = a

@@ -18,10 +18,9 @@ use Rattle.jfr_chunk.specs.Reach.{kept_by}
 use Rattle.jfr_chunk.specs.Scrub.{OutputRecord, Whole, output_record_by, output_record_of, written, written_bytes}
 use Rattle.jfr_chunk.proofs.AllLaws.{all_append, all_get}
 use Rattle.jfr_laws.proofs.Quiet.{IsQuiet, quiet_records}
-use Rattle.jfr_scrub.specs.declared.body.Body.{Body}
 use Rattle.jfr_scrub.specs.declared.run.Run.{Run}
 use Rattle.jfr_scrub.specs.declared.output_records.Cursor.{Cursor}
-use Rattle.jfr_scrub.specs.Bodies.{body_with, place_seen}
+use Rattle.jfr_scrub.specs.Bodies.{Progress, body_with, place_seen}
 use Rattle.jfr_scrub.specs.Pieces.{Laying, more}
 use Rattle.jfr_scrub.specs.Runs.{HasEventAt, IsRun, Passes, body_with_run, is_in_run, record_start}
 use Rattle.jfr_scrub.specs.OutputRecords.{IsCursor, is_kept_at, link_behind, link_there, linked_at, still_output_records}
@@ -60,7 +59,7 @@ unlinked ls n at e = by_link (slice_get ls n) e
     by_link (Some l) e = by_test l (l.frame.at == at) e
 
 -- an event is neither the metadata record nor a chained checkpoint
-event_alone : (p : Parts) (a : AreParts p) (n : ℕ) (r : Framed) → slice_get p.records n ≡ Some r → is_event_class p.classes r.type_id ≡ true → ((r.at == metadata_at p.bytes) ≡ false) × (link_there p r ≡ None)
+pub event_alone : (p : Parts) (a : AreParts p) (n : ℕ) (r : Framed) → slice_get p.records n ≡ Some r → is_event_class p.classes r.type_id ≡ true → ((r.at == metadata_at p.bytes) ≡ false) × (link_there p r ≡ None)
 event_alone p a n r e t = (by_test (r.at == metadata_at p.bytes) q.on_metadata, by_link (link_there p r) q.on_chained)
   where
     q : IsQuiet p a r
@@ -197,17 +196,17 @@ seen_before : (before : Option ℕ) (at : ℕ) → place_seen before false at �
 seen_before None at = refl
 seen_before (Some place) at = refl
 
-abbrev with_range : Body → ℕ → ℕ → Body
+abbrev with_range : Progress → ℕ → ℕ → Progress
 with_range b from to = body_with_run b (record { from = from; to = to })
 
-no_range : (b : Body) (from to : ℕ) → from ≡ to → with_range b from to ≡ b
+no_range : (b : Progress) (from to : ℕ) → from ≡ to → with_range b from to ≡ b
 no_range b from to e =
     let f : slice_range b.output.chunk from to ≡ [] = range_none b.output.chunk from to (omega arith) in
     let g : b.output.bytes ++ slice_range b.output.chunk from to ≡ b.output.bytes = ap (λ z. b.output.bytes ++ z) f ∙ append-nil b.output.bytes in
     let h : b.at + (to - from) ≡ b.at = omega arith in
     λ i. record { output = record { chunk = b.output.chunk; bytes = g i }; at = h i; older = b.older; metadata = b.metadata }
 
-first_of_range : (b : Body) (r : Framed) (left : List EntryAt) (m to : ℕ) → (r.at == m) ≡ false → IsRecord b.output.chunk r → record_end r ≤ to → with_range (body_with left m b (Whole r)) (record_end r) to ≡ with_range b r.at to
+first_of_range : (b : Progress) (r : Framed) (left : List EntryAt) (m to : ℕ) → (r.at == m) ≡ false → IsRecord b.output.chunk r → record_end r ≤ to → with_range (body_with left m b (Whole r)) (record_end r) to ≡ with_range b r.at to
 first_of_range b r left m to f s h =
     let c = b.output.chunk in
     let i = some_bytes c r s in
@@ -218,7 +217,7 @@ first_of_range b r left m to f s h =
     let d : place_seen b.metadata (r.at == m) b.at ≡ b.metadata = ap (λ t. place_seen b.metadata t b.at) f ∙ seen_before b.metadata b.at in
     λ j. record { output = o j; at = a j; older = b.older; metadata = d j }
 
-laid_run : (p : Parts) (left : List EntryAt) (all ss : List OutputRecord) (rs : List Framed) (from to : ℕ) (b : Body) → Going p left all (map (λ r. Whole r) rs ++ ss) b → Tiles p.bytes from rs to →
+laid_run : (p : Parts) (left : List EntryAt) (all ss : List OutputRecord) (rs : List Framed) (from to : ℕ) (b : Progress) → Going p left all (map (λ r. Whole r) rs ++ ss) b → Tiles p.bytes from rs to →
     AllByRecursion (λ r. (r.at == metadata_at p.bytes) ≡ false) rs → Going p left all ss (with_range b from to)
 laid_run p left all ss [] from to b g t o = subst (Going p left all ss) (sym (no_range b from to t)) g
 laid_run p left all ss (r ∷ rs) from to b g t o =
@@ -229,13 +228,13 @@ laid_run p left all ss (r ∷ rs) from to b g t o =
     subst (Going p left all ss) (e ∙ ap (λ n. with_range b n to) t.0) rest
 
 -- what is left to lay out behind a run
-pub going_run : (p : Parts) (flags : List Bool) (left : List EntryAt) (all rest : List OutputRecord) (c d : Cursor) (run : Run) (b next : Body) → IsRun p flags c d run.from run.to → Going p left all (still_output_records p flags c) b → next ≡ body_with_run b run → still_output_records p flags d ≡ rest → Going p left all rest next
+pub going_run : (p : Parts) (flags : List Bool) (left : List EntryAt) (all rest : List OutputRecord) (c d : Cursor) (run : Run) (b next : Progress) → IsRun p flags c d run.from run.to → Going p left all (still_output_records p flags c) b → next ≡ body_with_run b run → still_output_records p flags d ≡ rest → Going p left all rest next
 going_run p flags left all rest c d run b next u g n e =
     let laid = laid_run p left all (still_output_records p flags d) u.records run.from run.to b (subst (λ ss. Going p left all ss b) u.output_records g) u.tiles u.others in
     subst (λ ss. Going p left all ss next) e (subst (Going p left all (still_output_records p flags d)) (sym n) laid)
 
 -- what is laid out is no longer than the chunk
-pub going_within : (p : Parts) (left : List EntryAt) (all ss : List OutputRecord) (b : Body) → Going p left all ss b → b.at ≤ length p.bytes
+pub going_within : (p : Parts) (left : List EntryAt) (all ss : List OutputRecord) (b : Progress) → Going p left all ss b → b.at ≤ length p.bytes
 going_within p left all ss b g =
     let y = flat_map (written_bytes p.bytes left) (written p.bytes left b.at b.older ss) in
     let k : length (b.output.bytes ++ y) ≡ length (flat_map (written_bytes p.bytes left) (written p.bytes left 68 None all)) = ap (λ (z : Laying). length z.bytes) g.output in

@@ -1,14 +1,28 @@
 -- The output behind the header, while it is laid out.
-use Rattle.std.specs.Prelude.{◌≡◌, ℕ, ◌+◌, ◌<◌, ◌≤◌, Bool, true, false, ◌==◌, List, [], ◌∷◌, length, Option, Some, None, unwrap_or, ⊤}
-use Rattle.std.specs.List.{flat_map}
+use Rattle.std.specs.Prelude.{◌≡◌, ℕ, ◌+◌, ◌<◌, ◌≤◌, Bool, true, false, ◌==◌, List, [], ◌∷◌, length, filter, Option, Some, None, unwrap_or, ⊤}
+use Rattle.std.specs.List.{AllByRecursion, flat_map}
 use Rattle.jfr_frame.specs.Records.{IsRecord}
 use Rattle.jfr_pool.specs.declared.entry.EntryAt.{EntryAt}
-use Rattle.jfr_chunk.specs.Parts.{Parts, metadata_at}
-use Rattle.jfr_chunk.specs.Written.{distance}
-use Rattle.jfr_chunk.specs.Scrub.{OutputRecord, Whole, Chained, groups_of, bytes_of, written_bytes, older_after, written, last_at, record_of, moved}
+use Rattle.jfr_chunk.specs.Parts.{Parts, EventAt, metadata_at}
+use Rattle.jfr_chunk.specs.Reach.{remain}
+use Rattle.jfr_chunk.specs.Written.{Group, distance}
+use Rattle.jfr_chunk.specs.Scrub.{OutputRecord, Whole, Chained, output_records, groups_of, bytes_of, written_bytes, older_after, written, last_at, record_of, moved}
 use Rattle.jfr_scrub.specs.declared.body.Body.{Body}
-use Rattle.jfr_scrub.specs.Pieces.{more}
+use Rattle.jfr_scrub.specs.declared.piece.MadePart.{MadePart}
+use Rattle.jfr_scrub.specs.declared.piece.MadePart.TheVariants.{ChunkHeader, CheckpointSize, CheckpointDelta, PoolCount, PoolClass, EntryCount}
+use Rattle.jfr_scrub.specs.declared.piece.Part.{Part}
+use Rattle.jfr_scrub.specs.Pieces.{Laying, laying_of, more, EntryIsCopied, Keeps, RecordIsCopied}
 use Rattle.jfr_scrub.specs.Fits.{LinkFits}
+
+-- What is laid out behind the header so far, as bytes.
+pub record Progress : Type 0 where
+  pub output : Laying
+  pub at : ℕ
+  pub older : Option ℕ
+  pub metadata : Option ℕ
+
+abbrev pub progress_of : Body → Progress
+progress_of b = record { output = laying_of b.output; at = b.at; older = b.older; metadata = b.metadata }
 
 -- The output record fits where its record stood.
 abbrev pub OutputRecordFits : List ℕ → List EntryAt → OutputRecord → ℕ → Option ℕ → Type 0
@@ -27,13 +41,13 @@ place_seen None true at = Some at
 place_seen None false at = None
 
 -- The body with one output record more: its bytes, the place behind it, the last checkpoint, and where the metadata record stands, which stood at a place.
-abbrev pub body_with : List EntryAt → ℕ → Body → OutputRecord → Body
+abbrev pub body_with : List EntryAt → ℕ → Progress → OutputRecord → Progress
 body_with left metadata b s =
     let bytes = bytes_of b.output.chunk left s b.at b.older in
     record { output = more b.output bytes; at = b.at + length bytes; older = older_after s b.at b.older; metadata = place_seen b.metadata ((record_of s).at == metadata) b.at }
 
 -- The body of all output records.
-pub record IsBody (p : Parts) (left : List EntryAt) (ss : List OutputRecord) (b : Body) : Type 0 where
+pub record IsBody (p : Parts) (left : List EntryAt) (ss : List OutputRecord) (b : Progress) : Type 0 where
   pub output : b.output ≡ record { chunk = p.bytes; bytes = flat_map (written_bytes p.bytes left) (written p.bytes left 68 None ss) }
   pub at : b.at ≡ 68 + length (flat_map (written_bytes p.bytes left) (written p.bytes left 68 None ss))
   pub older : unwrap_or b.older 0 ≡ last_at None (written p.bytes left 68 None ss)
@@ -44,3 +58,29 @@ pub record IsBody (p : Parts) (left : List EntryAt) (ss : List OutputRecord) (b 
 abbrev pub NotFalling : ℕ → List EntryAt → Type 0
 NotFalling n [] = ⊤
 NotFalling n (e ∷ es) = (n ≤ e.checkpoint) × NotFalling e.checkpoint es
+
+-- Of what stays, a whole record and each entry of a chained checkpoint lie in one piece each that is copied.
+abbrev pub OutputRecordIsCopied : List EntryAt → List Part → OutputRecord → Type 0
+OutputRecordIsCopied left ps (Whole r) = RecordIsCopied ps r
+OutputRecordIsCopied left ps (Chained number l) = AllByRecursion (EntryIsCopied ps) (filter (λ e. e.checkpoint == number) left)
+
+-- All that stays is copied, in these pieces and in all that keep what is copied in these.
+abbrev pub OutputRecordsAreCopied : List EntryAt → List OutputRecord → List Part → Type 0
+OutputRecordsAreCopied left ss ps = (qs : List Part) → Keeps ps qs → AllByRecursion (OutputRecordIsCopied left qs) ss
+
+-- What is made of a pool: its class and its number of entries.
+abbrev pub pool_parts : Group → List MadePart
+pool_parts g = PoolClass ∷ EntryCount ∷ []
+
+-- What is made of a checkpoint: its size, its delta, its number of pools, and then pool by pool.
+abbrev pub checkpoint_parts : List Group → List MadePart
+checkpoint_parts gs = CheckpointSize ∷ CheckpointDelta ∷ PoolCount ∷ flat_map pool_parts gs
+
+-- What is made of what stays: nothing of a whole record.
+abbrev pub output_record_parts : List EntryAt → OutputRecord → List MadePart
+output_record_parts left (Whole r) = []
+output_record_parts left (Chained number l) = checkpoint_parts (groups_of left number)
+
+-- All that is made where these events are kept: the header, and then what is made of each chained checkpoint.
+abbrev pub all_made : Parts → List EventAt → List MadePart
+all_made p kept = ChunkHeader ∷ flat_map (output_record_parts (remain p kept)) (output_records p kept)

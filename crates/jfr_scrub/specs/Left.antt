@@ -1,12 +1,12 @@
 -- The entries that remain, as they stand in pools.
-use Rattle.std.specs.Prelude.{ℕ, suc, ◌+◌, ◌-◌, ◌≤◌, Bool, ◌&&◌, ◌==◌, List, [], ◌∷◌, length, min, if◌then◌else◌}
+use Rattle.std.specs.Prelude.{ℕ, suc, ◌+◌, ◌-◌, ◌<◌, ◌≤◌, Bool, ◌&&◌, ◌==◌, List, [], ◌∷◌, length, min, if◌then◌else◌}
 use Rattle.jfr_base.specs.Integer.{spell}
 use Rattle.jfr_pool.specs.declared.entry.EntryAt.{EntryAt}
 use Rattle.jfr_chunk.specs.Written.{Group}
 
--- The entry stands in a chunk of this length.
+-- The entry stands in a chunk of this length. It has a byte at least.
 pub record HasRange (n : ℕ) (e : EntryAt) : Type 0 where
-  pub order : e.key_at ≤ e.end
+  pub order : e.key_at < e.end
   pub within : e.end ≤ n
 
 -- Two entries of one checkpoint are of one pool.

@@ -1,6 +1,15 @@
 -- The pieces of an output: ranges of the chunk, and ranges of the bytes that are made.
-use Rattle.std.specs.Prelude.{◌≡◌, ℕ, ◌+◌, ◌≤◌, List, ◌++◌, length, slice_range, ⊤}
+use Rattle.std.specs.Prelude.{◌≡◌, ℕ, ◌+◌, ◌^◌, ◌<◌, ◌≤◌, List, [], ◌∷◌, ◌++◌, length, slice_get, slice_range, Some, ⊤}
 use Rattle.std.specs.List.{AllByRecursion, flat_map}
+use Rattle.jfr_base.specs.Integer.{FitsIn, spell, spell_in}
+use Rattle.jfr_header.specs.Headers.{header_bytes}
+use Rattle.jfr_header.specs.declared.header.Header.{Header}
+use Rattle.jfr_frame.specs.declared.framed.Framed.{Framed}
+use Rattle.jfr_frame.specs.Records.{record_end}
+use Rattle.jfr_pool.specs.declared.entry.EntryAt.{EntryAt}
+use Rattle.jfr_chunk.specs.Parts.{Parts, EventAt, StartsAt, metadata_at}
+use Rattle.jfr_scrub.specs.declared.piece.MadePart.{MadePart}
+use Rattle.jfr_scrub.specs.declared.piece.MadePart.TheVariants.{ChunkHeader, CheckpointSize, CheckpointDelta, PoolCount, PoolClass, EntryCount}
 use Rattle.jfr_scrub.specs.declared.piece.Part.{Part}
 use Rattle.jfr_scrub.specs.declared.piece.Part.TheVariants as parts
 use Rattle.jfr_scrub.specs.declared.piece.Piece.{Piece}
@@ -16,7 +25,7 @@ pub record Laid : Type 0 where
 -- The bytes of a piece.
 abbrev pub part_bytes : List ℕ → List ℕ → Part → List ℕ
 part_bytes c made (parts.Copied from to) = slice_range c from to
-part_bytes c made (parts.Made from to) = slice_range made from to
+part_bytes c made (parts.Made part from to) = slice_range made from to
 
 -- The pieces, one behind another.
 abbrev pub joined : Laid → List ℕ
@@ -25,7 +34,7 @@ joined l = flat_map (part_bytes l.chunk l.made) l.pieces
 -- A piece lies in the chunk, or in the made bytes, of these lengths.
 abbrev pub Lies : ℕ → ℕ → Part → Type 0
 Lies n m (parts.Copied from to) = (from ≤ to) × (to ≤ n)
-Lies n m (parts.Made from to) = (from ≤ to) × (to ≤ m)
+Lies n m (parts.Made part from to) = (from ≤ to) × (to ≤ m)
 
 -- The pieces lie in the chunk and in the made bytes.
 abbrev pub LieIn : Laid → Type 0
@@ -38,17 +47,119 @@ laid_in c r = record { chunk = c; made = r.made.items; pieces = r.parts.items }
 -- The range that a piece is.
 abbrev pub part_of : Piece → Part
 part_of (pieces.Copied at bytes) = parts.Copied at (at + length bytes.now)
-part_of (pieces.Made from to) = parts.Made from to
+part_of (pieces.Made part from to) = parts.Made part from to
 
 -- What is copied are the chunk's bytes from its place on.
 abbrev pub IsOfChunk : List ℕ → Piece → Type 0
 IsOfChunk c (pieces.Copied at bytes) = bytes.now ≡ slice_range c at (at + length bytes.now)
-IsOfChunk c (pieces.Made from to) = ⊤
+IsOfChunk c (pieces.Made part from to) = ⊤
 
--- A chunk, and what is laid out of it so far.
+-- The range of the chunk from start to end lies in one piece that is copied.
+pub record IsCopied (ps : List Part) (start end : ℕ) : Type 0 where
+  pub number : ℕ
+  pub from : ℕ
+  pub to : ℕ
+  pub piece : slice_get ps number ≡ Some (parts.Copied from to)
+  pub begins : from ≤ start
+  pub ends : end ≤ to
+
+-- A record lies in one piece that is copied.
+abbrev pub RecordIsCopied : List Part → Framed → Type 0
+RecordIsCopied ps r = IsCopied ps r.at (record_end r)
+
+-- The record of an event lies in one piece that is copied.
+abbrev pub EventIsCopied : List Part → EventAt → Type 0
+EventIsCopied ps e = RecordIsCopied ps e.record_of
+
+-- An entry, its key and its value, lies in one piece that is copied.
+abbrev pub EntryIsCopied : List Part → EntryAt → Type 0
+EntryIsCopied ps e = IsCopied ps e.key_at e.end
+
+-- The header's metadata record lies in one piece that is copied.
+pub record MetadataIsCopied (ps : List Part) (p : Parts) : Type 0 where
+  pub frame : Framed
+  pub there : StartsAt p.records (metadata_at p.bytes) 0 frame
+  pub copied : RecordIsCopied ps frame
+
+-- Every range that has a byte and lies in one piece that is copied still does.
+abbrev pub Keeps : List Part → List Part → Type 0
+Keeps ps qs = (start end : ℕ) → start < end → IsCopied ps start end → IsCopied qs start end
+
+-- What the pieces are that are made, in order.
+abbrev pub made_parts : List Part → List MadePart
+made_parts [] = []
+made_parts (parts.Copied from to ∷ ps) = made_parts ps
+made_parts (parts.Made part from to ∷ ps) = part ∷ made_parts ps
+
+-- What was copied still is, and behind what was made these are made.
+pub record Grows (ps qs : List Part) (these : List MadePart) : Type 0 where
+  pub keeps : Keeps ps qs
+  pub made : made_parts qs ≡ made_parts ps ++ these
+
+-- The bytes are the 68 bytes of a header.
+pub record IsHeader (b : List ℕ) : Type 0 where
+  pub header : Header
+  pub bytes : b ≡ header_bytes header
+
+-- The bytes spell an integer of 64 bits shortest, in nine bytes at most.
+pub record IsShortest (b : List ℕ) : Type 0 where
+  pub value : ℕ
+  pub small : value < 2 ^ 64
+  pub bytes : b ≡ spell value
+
+-- The bytes spell an integer in so many bytes, nine at most, for which they have room.
+pub record IsInWidth (b : List ℕ) : Type 0 where
+  pub width : ℕ
+  pub value : ℕ
+  pub least : 1 ≤ width
+  pub most : width ≤ 9
+  pub fits : FitsIn value width
+  pub bytes : b ≡ spell_in width value
+
+-- The bytes are an integer, spelled as one of this kind is. The header is none.
+abbrev pub IsNumber : MadePart → List ℕ → Type 0
+IsNumber ChunkHeader b = ⊥
+IsNumber CheckpointSize b = IsInWidth b
+IsNumber CheckpointDelta b = IsShortest b
+IsNumber PoolCount b = IsShortest b
+IsNumber PoolClass b = IsShortest b
+IsNumber EntryCount b = IsShortest b
+
+-- An integer of this kind is spelled shortest.
+abbrev pub TakesShortest : MadePart → Type 0
+TakesShortest ChunkHeader = ⊥
+TakesShortest CheckpointSize = ⊥
+TakesShortest CheckpointDelta = ⊤
+TakesShortest PoolCount = ⊤
+TakesShortest PoolClass = ⊤
+TakesShortest EntryCount = ⊤
+
+-- A piece that is made is an integer of its kind.
+abbrev pub IsNumberIn : List ℕ → Part → Type 0
+IsNumberIn made (parts.Copied from to) = ⊤
+IsNumberIn made (parts.Made part from to) = IsNumber part (slice_range made from to)
+
+-- Each piece that is made is an integer of its kind.
+abbrev pub AreNumbers : Laid → Type 0
+AreNumbers l = AllByRecursion (IsNumberIn l.made) l.pieces
+
+-- The first piece is the header, and each other one that is made is an integer of its kind.
+pub record IsHeaded (l : Laid) : Type 0 where
+  pub from : ℕ
+  pub to : ℕ
+  pub others : List Part
+  pub pieces : l.pieces ≡ parts.Made ChunkHeader from to ∷ others
+  pub header : IsHeader (slice_range l.made from to)
+  pub numbers : AllByRecursion (IsNumberIn l.made) others
+
+-- A chunk, and the bytes that are laid out of it so far.
 pub record Laying : Type 0 where
   pub chunk : List ℕ
   pub bytes : List ℕ
+
+-- The bytes of the pieces so far.
+abbrev pub laying_of : Laid → Laying
+laying_of l = record { chunk = l.chunk; bytes = joined l }
 
 -- More bytes are laid.
 abbrev pub more : Laying → List ℕ → Laying

@@ -6,9 +6,9 @@ use Rattle.jfr_frame.specs.declared.framed.Framed.{Framed}
 use Rattle.jfr_frame.specs.Records.{Tiles}
 use Rattle.jfr_chunk.specs.Parts.{Parts, EventAt, events_of, metadata_at}
 use Rattle.jfr_chunk.specs.Scrub.{Whole}
-use Rattle.jfr_scrub.specs.declared.body.Body.{Body}
 use Rattle.jfr_scrub.specs.declared.run.Run.{Run}
 use Rattle.jfr_scrub.specs.declared.output_records.Cursor.{Cursor}
+use Rattle.jfr_scrub.specs.Bodies.{Progress}
 use Rattle.jfr_scrub.specs.Pieces.{more}
 use Rattle.jfr_scrub.specs.Scrubbing.{IsAccepted}
 use Rattle.jfr_scrub.specs.OutputRecords.{IsCursor, events_from, is_kept_at, still_output_records}
@@ -51,5 +51,5 @@ pub record Passes (p : Parts) (flags : List Bool) (c d : Cursor) : Type 0 where
   pub run : IsRun p flags c d (record_start p c.frame) (record_start p d.frame)
 
 -- The body with a range of the chunk more.
-abbrev pub body_with_run : Body → Run → Body
+abbrev pub body_with_run : Progress → Run → Progress
 body_with_run b run = record b { output = more b.output (slice_range b.output.chunk run.from run.to); at = b.at + (run.to - run.from) }

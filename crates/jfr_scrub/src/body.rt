@@ -1,12 +1,13 @@
 // What comes behind the header.
 ghost use Rattle.std.specs.Prelude.{◌≡◌, ◌+◌, ◌-◌, ◌^◌, ◌<◌, ◌≤◌, ◌==◌, [], None, filter, length, IfOk, OnOk};
-ghost use Rattle.std.specs.List.{AllByRecursion};
+ghost use Rattle.std.specs.List.{AllByRecursion, flat_map};
 ghost use Rattle.jfr_chunk.specs.Parts.{metadata_at};
 ghost use Rattle.jfr_chunk.specs.Reach.{kept_by, remain};
 ghost use Rattle.jfr_chunk.specs.Scrub.{bytes_of, output_records};
 ghost use Rattle.jfr_chunk.specs.Written.{distance};
-ghost use Rattle.jfr_scrub.specs.Bodies.{IsBefore, IsBody, NotFalling, OutputRecordFits, body_with, place_seen};
+ghost use Rattle.jfr_scrub.specs.Bodies.{IsBefore, IsBody, NotFalling, OutputRecordFits, OutputRecordIsCopied, OutputRecordsAreCopied, body_with, place_seen, progress_of, output_record_parts};
 ghost use Rattle.jfr_scrub.specs.Left.{HasRange};
+ghost use Rattle.jfr_scrub.specs.Pieces.{Grows, IsCopied, made_parts};
 ghost use Rattle.jfr_scrub.specs.Runs.{body_with_run};
 ghost use Rattle.jfr_scrub.specs.Scrubbing.{IsAccepted};
 ghost use Rattle.jfr_scrub.specs.OutputRecords.{output_record_as};
@@ -38,7 +39,9 @@ pub(crate) fn lay_body<'a>(
     left: &[EntryAt],
 ) -> Result<Body<'a>, NoMemory>
     requires { left.now ≡ remain chunk.now (kept_by chunk.now kept.now) }
-    ensures ok { IfOk result (IsBody chunk.now left.now (output_records chunk.now (kept_by chunk.now kept.now))) }
+    ensures ok { IfOk result (λ body. IsBody chunk.now left.now (output_records chunk.now (kept_by chunk.now kept.now)) (progress_of body)) }
+    ensures copied { IfOk result (λ body. OutputRecordsAreCopied left.now (output_records chunk.now (kept_by chunk.now kept.now)) body.output.pieces) }
+    ensures made { IfOk result (λ body. made_parts body.output.pieces ≡ flat_map (output_record_parts left.now) (output_records chunk.now (kept_by chunk.now kept.now))) }
     ensures accepted { IsAccepted chunk.now }
 {
     let metadata = chunk.header().metadata;
@@ -69,7 +72,9 @@ fn lay_run(body: &mut Body, run: Run) -> Result<(), NoMemory>
     requires within { run.to ≤ length body.old.output.chunk }
     requires room { body.old.at + (run.to - run.from) ≤ length body.old.output.chunk }
     requires small { length body.old.output.chunk < 2 ^ 64 }
-    ensures ok { OnOk result (body.new ≡ body_with_run body.old run) }
+    ensures ok { OnOk result (progress_of body.new ≡ body_with_run (progress_of body.old) run) }
+    ensures copied { OnOk result (IsCopied body.new.output.pieces run.from run.to) }
+    ensures grows { OnOk result (Grows body.old.output.pieces body.new.output.pieces []) }
 {
     body.output.copy(run.from, run.to)?;
     body.at += run.to - run.from;
@@ -90,7 +95,9 @@ fn lay_record(
     requires before { IsBefore body.old.older body.old.at }
     requires room { body.old.at + length (bytes_of body.old.output.chunk left.now (output_record_as output_record) body.old.at body.old.older) ≤ length body.old.output.chunk }
     requires small { length body.old.output.chunk < 2 ^ 64 }
-    ensures ok { OnOk result (body.new ≡ body_with left.now metadata body.old (output_record_as output_record)) }
+    ensures ok { OnOk result (progress_of body.new ≡ body_with left.now metadata (progress_of body.old) (output_record_as output_record)) }
+    ensures copied { OnOk result (OutputRecordIsCopied left.now body.new.output.pieces (output_record_as output_record)) }
+    ensures grows { OnOk result (Grows body.old.output.pieces body.new.output.pieces (output_record_parts left.now (output_record_as output_record))) }
 {
     let at = body.at;
     match output_record {

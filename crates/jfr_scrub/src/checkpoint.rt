@@ -1,13 +1,15 @@
 // What is written of a chained checkpoint.
-ghost use Rattle.std.specs.Prelude.{◌≡◌, ℕ, ◌+◌, ◌-◌, ◌^◌, ◌<◌, ◌≤◌, ◌++◌, length, slice_range, IfOk, OnOk};
+ghost use Rattle.std.specs.Prelude.{◌≡◌, ℕ, ◌+◌, ◌-◌, ◌^◌, ◌<◌, ◌≤◌, ◌++◌, [], length, slice_range, IfOk, OnOk};
 ghost use Rattle.std.specs.List.{AllByRecursion, flat_map};
 ghost use Rattle.jfr_base.specs.Integer.{spell};
 ghost use Rattle.jfr_chunk.specs.Written.{by_pool, checkpoint_bytes, entry_bytes, group_bytes};
+ghost use Rattle.jfr_scrub.specs.Bodies.{checkpoint_parts, pool_parts};
 ghost use Rattle.jfr_scrub.specs.Left.{HasRange};
 ghost use Rattle.jfr_scrub.specs.Fits.{LinkFits};
-ghost use Rattle.jfr_scrub.specs.Pieces.{more};
+ghost use Rattle.jfr_scrub.specs.Pieces.{EntryIsCopied, Grows, laying_of, more};
 
 use crate::output::Output;
+use crate::piece::MadePart;
 use crate::remaining::{measured, pool_len};
 use jfr_base::var_len;
 use jfr_outside::NoMemory;
@@ -24,7 +26,9 @@ pub(crate) fn lay_checkpoint(
     requires fits { LinkFits output.old.chunk link.now delta (by_pool entries.now) }
     requires ranges { AllByRecursion (HasRange (length output.old.chunk)) entries.now }
     requires small { length output.old.chunk < 2 ^ 64 }
-    ensures ok { OnOk result (output.new ≡ more output.old (checkpoint_bytes output.old.chunk link.now delta (by_pool entries.now))) }
+    ensures ok { OnOk result (laying_of output.new ≡ more (laying_of output.old) (checkpoint_bytes output.old.chunk link.now delta (by_pool entries.now))) }
+    ensures copied { OnOk result (AllByRecursion (EntryIsCopied output.new.pieces) entries.now) }
+    ensures grows { OnOk result (Grows output.old.pieces output.new.pieces (checkpoint_parts (by_pool entries.now))) }
     ensures size { IfOk result (λ size. size ≡ length (checkpoint_bytes output.old.chunk link.now delta (by_pool entries.now))) }
 {
     let frame = link.frame;
@@ -34,9 +38,9 @@ pub(crate) fn lay_checkpoint(
     let size = (head + var_len(pools.count as u64)) as u64 + pools.bytes;
     output.put_size(size, width)?;
     output.copy(frame.type_at, link.delta_at)?;
-    output.put_integer(delta)?;
+    output.put_integer(MadePart::CheckpointDelta, delta)?;
     output.copy(link.delta_end, link.delta_end + 1)?;
-    output.put_integer(pools.count as u64)?;
+    output.put_integer(MadePart::PoolCount, pools.count as u64)?;
     lay_pools(output, entries)?;
     Ok(size as usize)
 }
@@ -44,13 +48,15 @@ pub(crate) fn lay_checkpoint(
 // Lays out the pools of a checkpoint's entries.
 fn lay_pools(output: &mut Output, entries: &[EntryAt]) -> Result<(), NoMemory>
     requires { AllByRecursion (HasRange (length output.old.chunk)) entries.now }
-    ensures ok { OnOk result (output.new ≡ more output.old (flat_map (group_bytes output.old.chunk) (by_pool entries.now))) }
+    ensures ok { OnOk result (laying_of output.new ≡ more (laying_of output.old) (flat_map (group_bytes output.old.chunk) (by_pool entries.now))) }
+    ensures copied { OnOk result (AllByRecursion (EntryIsCopied output.new.pieces) entries.now) }
+    ensures grows { OnOk result (Grows output.old.pieces output.new.pieces (flat_map pool_parts (by_pool entries.now))) }
 {
     let mut rest = entries;
     'pools: while let Some(first) = rest.first() {
         let (pool, others) = rest.split_at(pool_len(first, rest));
-        output.put_integer(first.class)?;
-        output.put_integer(pool.len() as u64)?;
+        output.put_integer(MadePart::PoolClass, first.class)?;
+        output.put_integer(MadePart::EntryCount, pool.len() as u64)?;
         lay_entries(output, pool)?;
         rest = others;
     }
@@ -60,7 +66,9 @@ fn lay_pools(output: &mut Output, entries: &[EntryAt]) -> Result<(), NoMemory>
 // Lays out the entries of a pool.
 fn lay_entries(output: &mut Output, entries: &[EntryAt]) -> Result<(), NoMemory>
     requires { AllByRecursion (HasRange (length output.old.chunk)) entries.now }
-    ensures ok { OnOk result (output.new ≡ more output.old (flat_map (entry_bytes output.old.chunk) entries.now)) }
+    ensures ok { OnOk result (laying_of output.new ≡ more (laying_of output.old) (flat_map (entry_bytes output.old.chunk) entries.now)) }
+    ensures copied { OnOk result (AllByRecursion (EntryIsCopied output.new.pieces) entries.now) }
+    ensures grows { OnOk result (Grows output.old.pieces output.new.pieces []) }
 {
     for entry in entries {
         output.copy(entry.key_at, entry.end)?;

@@ -19,6 +19,6 @@ mod scrub;
 mod scrubber;
 
 pub use laws::{output_is_a_recording, scrubbed_again_stays_the_same};
-pub use piece::Piece;
+pub use piece::{MadePart, Piece};
 pub use scrub::scrub_stream;
 pub use scrubber::Scrubber;

@@ -1,8 +1,10 @@
 // An output while it is laid out.
-ghost use Rattle.std.specs.Prelude.{◌≡◌, ◌≤◌, ◌<◌, ◌++◌, [], length, slice_range, IfOk, OnOk};
+ghost use Rattle.std.specs.Prelude.{◌≡◌, ◌≤◌, ◌<◌, ◌++◌, [], ◌∷◌, length, slice_range, IfOk, OnOk};
 ghost use Rattle.jfr_base.specs.Integer.{FitsIn, spell, spell_in};
-ghost use Rattle.jfr_scrub.specs.Pieces.{joined, more};
+ghost use Rattle.jfr_scrub.specs.declared.piece.MadePart.TheVariants.{CheckpointSize, ChunkHeader};
+ghost use Rattle.jfr_scrub.specs.Pieces.{Grows, IsCopied, IsHeaded, IsHeader, IsNumber, joined, Keeps, laying_of, made_parts, more, TakesShortest};
 
+use crate::piece::MadePart;
 use crate::pieces::Pieces;
 use jfr_base::{write_in, write_var};
 use jfr_outside::NoMemory;
@@ -19,20 +21,22 @@ pub(crate) struct Output<'a> {
 }
 
 impl<'a> Model for Output<'a> {
-    ghost use Rattle.std.specs.Prelude.{length, slice_range, ◌++◌, ◌≤◌, ◌≡◌};
-    ghost use Rattle.jfr_scrub.specs.Pieces.{Laying, joined};
+    ghost use Rattle.std.specs.Prelude.{length, ◌∷◌, [], ◌++◌, ◌≤◌, ◌≡◌};
+    ghost use Rattle.jfr_scrub.specs.declared.piece.Part.TheVariants.{Copied};
+    ghost use Rattle.jfr_scrub.specs.Pieces.{AreNumbers, Laid};
 
-    ghost Value = { Laying };
+    ghost Value = { Laid };
 
-    ghost view = { λ o. record { chunk = o.pieces.chunk; bytes = joined o.pieces ++ slice_range o.pieces.chunk o.from o.to } };
+    ghost view = { λ o. record { chunk = o.pieces.chunk; made = o.pieces.made; pieces = o.pieces.pieces ++ Copied o.from o.to ∷ [] } };
 
-    ghost invariant = { λ o. (o.from ≤ o.to) × (o.to ≤ length o.pieces.chunk) };
+    ghost invariant = { λ o. (o.from ≤ o.to) × (o.to ≤ length o.pieces.chunk) × AreNumbers o.pieces };
 }
 
 impl<'a> Output<'a> {
     /// Nothing is laid out yet.
     pub(crate) fn new(alloc: Global, chunk: &'a [u8]) -> Output<'a>
-        ensures { result ≡ record { chunk = chunk.now; bytes = [] } }
+        ensures bytes { laying_of result ≡ record { chunk = chunk.now; bytes = [] } }
+        ensures made { made_parts result.pieces ≡ [] }
     {
         Output {
             pieces: Pieces::new(alloc, chunk),
@@ -45,7 +49,9 @@ impl<'a> Output<'a> {
     pub(crate) fn copy(&mut self, from: usize, to: usize) -> Result<(), NoMemory>
         requires order { from ≤ to }
         requires within { to ≤ length self.old.chunk }
-        ensures ok { OnOk result (self.new ≡ more self.old (slice_range self.old.chunk from to)) }
+        ensures ok { OnOk result (laying_of self.new ≡ more (laying_of self.old) (slice_range self.old.chunk from to)) }
+        ensures copied { OnOk result (IsCopied self.new.pieces from to) }
+        ensures grows { OnOk result (Grows self.old.pieces self.new.pieces []) }
     {
         if from == self.to {
             self.to = to;
@@ -57,41 +63,50 @@ impl<'a> Output<'a> {
         Ok(())
     }
 
-    /// Adds bytes that are made.
-    pub(crate) fn put(&mut self, bytes: &[u8]) -> Result<(), NoMemory>
-        ensures ok { OnOk result (self.new ≡ more self.old bytes.now) }
+    // Adds an integer that is made.
+    fn put(&mut self, part: MadePart, bytes: &[u8]) -> Result<(), NoMemory>
+        requires { IsNumber part bytes.now }
+        ensures ok { OnOk result (laying_of self.new ≡ more (laying_of self.old) bytes.now) }
+        ensures grows { OnOk result (Grows self.old.pieces self.new.pieces (part ∷ [])) }
     {
         self.pieces.copy(self.from, self.to)?;
         self.from = 0;
         self.to = 0;
-        self.pieces.put(bytes)?;
+        self.pieces.put(part, bytes)?;
         Ok(())
     }
 
     /// Adds an integer, spelled shortest.
-    pub(crate) fn put_integer(&mut self, value: u64) -> Result<(), NoMemory>
-        ensures ok { OnOk result (self.new ≡ more self.old (spell value)) }
+    pub(crate) fn put_integer(&mut self, part: MadePart, value: u64) -> Result<(), NoMemory>
+        requires { TakesShortest part }
+        ensures ok { OnOk result (laying_of self.new ≡ more (laying_of self.old) (spell value)) }
+        ensures grows { OnOk result (Grows self.old.pieces self.new.pieces (part ∷ [])) }
     {
         let mut spelled = [0; 9];
         let len = write_var(value, &mut spelled);
-        self.put(&spelled[..len])
+        self.put(part, &spelled[..len])
     }
 
-    /// Adds an integer in so many bytes.
+    /// Adds a checkpoint's size in so many bytes.
     pub(crate) fn put_size(&mut self, value: u64, width: usize) -> Result<(), NoMemory>
         requires width { (1 ≤ width) × (width ≤ 9) }
         requires fits { FitsIn value width }
-        ensures ok { OnOk result (self.new ≡ more self.old (spell_in width value)) }
+        ensures ok { OnOk result (laying_of self.new ≡ more (laying_of self.old) (spell_in width value)) }
+        ensures grows { OnOk result (Grows self.old.pieces self.new.pieces (CheckpointSize ∷ [])) }
     {
         let mut spelled = [0; 9];
         write_in(value, width, &mut spelled);
-        self.put(&spelled[..width])
+        self.put(MadePart::CheckpointSize, &spelled[..width])
     }
 
-    /// The pieces, with bytes that are made before them.
+    /// The pieces, with the header before them.
     pub(crate) fn finish(self, front: &[u8]) -> Result<Pieces<'a>, NoMemory>
+        requires { IsHeader front.now }
         ensures chunk { IfOk result (λ p. p.chunk ≡ self.entry.chunk) }
-        ensures ok { IfOk result (λ p. joined p ≡ front.now ++ self.entry.bytes) }
+        ensures ok { IfOk result (λ p. joined p ≡ front.now ++ joined self.entry) }
+        ensures keeps { IfOk result (λ p. Keeps self.entry.pieces p.pieces) }
+        ensures made { IfOk result (λ p. made_parts p.pieces ≡ ChunkHeader ∷ made_parts self.entry.pieces) }
+        ensures headed { IfOk result (λ p. IsHeaded p) }
     {
         let mut pieces = self.pieces;
         pieces.copy(self.from, self.to)?;

@@ -1,9 +1,10 @@
 // The pieces of an output, in order.
-ghost use Rattle.std.specs.Prelude.{◌≡◌, ℕ, ◌≤◌, ◌+◌, ◌++◌, [], length, slice_get, slice_range, option_map, vec_len, vec_capacity, IfSome, OnOk};
+ghost use Rattle.std.specs.Prelude.{◌≡◌, ℕ, ◌<◌, ◌≤◌, ◌+◌, ◌++◌, [], ◌∷◌, length, slice_get, slice_range, option_map, vec_len, vec_capacity, IfSome, OnOk};
 ghost use Rattle.std.specs.List.{AllByRecursion, flat_map};
-ghost use Rattle.jfr_scrub.specs.Pieces.{IsOfChunk, joined, laid_in, LieIn, Lies, part_bytes, part_of};
+ghost use Rattle.jfr_scrub.specs.declared.piece.MadePart.TheVariants.{ChunkHeader};
+ghost use Rattle.jfr_scrub.specs.Pieces.{AreNumbers, Grows, IsCopied, IsHeaded, IsHeader, IsNumber, IsOfChunk, joined, Keeps, laid_in, LieIn, Lies, made_parts, part_bytes, part_of};
 
-use crate::piece::{Part, Piece};
+use crate::piece::{MadePart, Part, Piece};
 use crate::ranges::{Ranges, bytes_of};
 use jfr_outside::NoMemory;
 use std::alloc::Global;
@@ -45,6 +46,9 @@ impl<'a> Pieces<'a> {
         requires within { to ≤ length self.old.chunk }
         ensures chunk { self.new.chunk ≡ self.old.chunk }
         ensures ok { OnOk result (joined self.new ≡ joined self.old ++ slice_range self.old.chunk from to) }
+        ensures copied { OnOk result (from < to → IsCopied self.new.pieces from to) }
+        ensures grows { Grows self.old.pieces self.new.pieces [] }
+        ensures numbers { AreNumbers self.old → AreNumbers self.new }
     {
         if from == to {
             return Ok(());
@@ -53,30 +57,39 @@ impl<'a> Pieces<'a> {
         Ok(())
     }
 
-    /// Adds bytes that are made.
-    pub(crate) fn put(&mut self, bytes: &[u8]) -> Result<(), NoMemory>
+    /// Adds an integer that is made.
+    pub(crate) fn put(&mut self, part: MadePart, bytes: &[u8]) -> Result<(), NoMemory>
+        requires { IsNumber part bytes.now }
         ensures chunk { self.new.chunk ≡ self.old.chunk }
         ensures ok { OnOk result (joined self.new ≡ joined self.old ++ bytes.now) }
+        ensures grows { OnOk result (Grows self.old.pieces self.new.pieces (part ∷ [])) }
+        ensures numbers { AreNumbers self.old → AreNumbers self.new }
     {
         let from = self.made.len();
         self.made.extend_from_slice(bytes)?;
         self.parts.push(Part::Made {
+            part,
             from,
             to: self.made.len(),
         })?;
         Ok(())
     }
 
-    /// Puts bytes that are made before all pieces.
+    /// Puts the header before all pieces.
     pub(crate) fn put_front(&mut self, bytes: &[u8]) -> Result<(), NoMemory>
+        requires { IsHeader bytes.now }
         ensures chunk { self.new.chunk ≡ self.old.chunk }
         ensures ok { OnOk result (joined self.new ≡ bytes.now ++ joined self.old) }
+        ensures keeps { OnOk result (Keeps self.old.pieces self.new.pieces) }
+        ensures made { OnOk result (made_parts self.new.pieces ≡ ChunkHeader ∷ made_parts self.old.pieces) }
+        ensures headed { OnOk result (AreNumbers self.old → IsHeaded self.new) }
     {
         let from = self.made.len();
         self.made.extend_from_slice(bytes)?;
         self.parts.insert(
             0,
             Part::Made {
+                part: MadePart::ChunkHeader,
                 from,
                 to: self.made.len(),
             },
@@ -138,7 +151,7 @@ fn piece_of<'a>(chunk: &'a [u8], part: Part) -> Piece<'a>
             at: from,
             bytes: &chunk[from..to],
         },
-        Part::Made { from, to } => Piece::Made { from, to },
+        Part::Made { part, from, to } => Piece::Made { part, from, to },
     }
 }
 

@@ -51,6 +51,6 @@ pub(crate) fn bytes_of<'c>(chunk: &'c [u8], made: &'c [u8], part: Part) -> &'c [
 {
     match part {
         Part::Copied { from, to } => &chunk[from..to],
-        Part::Made { from, to } => &made[from..to],
+        Part::Made { from, to, .. } => &made[from..to],
     }
 }

@@ -1,13 +1,14 @@
 // The scrubber of one chunk.
 ghost use Rattle.std.specs.Prelude.{◌≡◌, ◌<◌, ◌≤◌, ◌+◌, ◌++◌, List, [], length, slice_get, take, option_map, unwrap_or, IfOk, IfSome};
+ghost use Rattle.std.specs.List.{AllByRecursion};
 ghost use Rattle.jfr_header.specs.Headers.{header_bytes, header_of};
 ghost use Rattle.jfr_chunk.specs.Chosen.{kept_of};
 ghost use Rattle.jfr_chunk.specs.Parts.{events_of};
 ghost use Rattle.jfr_chunk.specs.Reach.{kept_by, reached_marks, remain};
 ghost use Rattle.jfr_chunk.specs.Scrub.{header_with, scrub_of, output_records};
 ghost use Rattle.jfr_laws.specs.Laws.{IsSettled};
-ghost use Rattle.jfr_scrub.specs.Bodies.{IsBody};
-ghost use Rattle.jfr_scrub.specs.Pieces.{IsOfChunk, joined, laid_in, LieIn, part_of};
+ghost use Rattle.jfr_scrub.specs.Bodies.{all_made, IsBody, progress_of};
+ghost use Rattle.jfr_scrub.specs.Pieces.{EntryIsCopied, EventIsCopied, IsHeaded, IsOfChunk, joined, laid_in, LieIn, made_parts, MetadataIsCopied, part_of};
 ghost use Rattle.jfr_scrub.specs.Scrubbing.{IsAccepted, all_written};
 
 use crate::Piece;
@@ -60,6 +61,14 @@ impl<'a> Scrubber<'a> {
         ensures joined { IfOk result (λ s. joined s.laid ≡ scrub_of chunk.now (kept_of filter.now chunk.now)) }
         ensures chunk { IfOk result (λ s. s.laid.chunk ≡ chunk.now.bytes) }
         ensures empty { IfOk result (λ s. s.written ≡ []) }
+
+        // The header and single integers are made, and all else is copied: each kept event, each entry
+        // that remains, and the metadata record lie in one piece each.
+        ensures made { IfOk result (λ s. IsHeaded s.laid) }
+        ensures kinds { IfOk result (λ s. made_parts s.laid.pieces ≡ all_made chunk.now (kept_of filter.now chunk.now)) }
+        ensures events_copied { IfOk result (λ s. AllByRecursion (EventIsCopied s.laid.pieces) (kept_of filter.now chunk.now)) }
+        ensures entries_copied { IfOk result (λ s. AllByRecursion (EntryIsCopied s.laid.pieces) (remain chunk.now (kept_of filter.now chunk.now))) }
+        ensures metadata_copied { IfOk result (λ s. MetadataIsCopied s.laid.pieces chunk.now) }
 
         // What the chunk becomes is accepted, is no longer than it, and holds exactly the events that the
         // filter keeps and the entries that they reach; it means the same, and with this filter it becomes
@@ -150,6 +159,11 @@ fn lay_out<'a>(
     ensures events { IfOk result (λ s. s.events ≡ length (kept_by chunk.now kept.now)) }
     ensures entries { IfOk result (λ s. s.entries ≡ length (remain chunk.now (kept_by chunk.now kept.now))) }
     ensures accepted { IfOk result (λ s. IsAccepted chunk.now) }
+    ensures made { IfOk result (λ s. IsHeaded s.laid) }
+    ensures kinds { IfOk result (λ s. made_parts s.laid.pieces ≡ all_made chunk.now (kept_by chunk.now kept.now)) }
+    ensures events_copied { IfOk result (λ s. AllByRecursion (EventIsCopied s.laid.pieces) (kept_by chunk.now kept.now)) }
+    ensures entries_copied { IfOk result (λ s. AllByRecursion (EntryIsCopied s.laid.pieces) (remain chunk.now (kept_by chunk.now kept.now))) }
+    ensures metadata_copied { IfOk result (λ s. MetadataIsCopied s.laid.pieces chunk.now) }
 {
     let left = remaining(alloc, chunk.pools(), marks)?;
     let body = lay_body(alloc, chunk, kept, &left)?;

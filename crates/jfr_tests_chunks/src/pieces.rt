@@ -17,7 +17,7 @@ fn joined(alloc: Global, scrubber: &Scrubber<'_>) -> Result<Vec<u8>, Fail> {
     for number in 0..scrubber.piece_count() {
         match scrubber.piece(number) {
             Some(Piece::Copied { bytes: copied, .. }) => bytes.extend_from_slice(copied)?,
-            Some(Piece::Made { from, to }) => {
+            Some(Piece::Made { from, to, .. }) => {
                 bytes.extend_from_slice(scrubber.made().get(from..to).ok_or("no such bytes")?)?
             }
             None => Err("no such piece")?,

@@ -1,14 +1,15 @@
-use Rattle.std.proofs.Common.{ap, refl, sym, ◌∙◌, ◌+◌, ◌-◌, ◌≤◌, subst, length, List, [], None}
+use Rattle.std.proofs.Common.{ap, refl, sym, ◌∙◌, ◌+◌, ◌-◌, ◌≤◌, subst, ◌++◌, length, map, List, [], None}
 use Rattle.std.specs.List.{AllByRecursion, flat_map}
 use Rattle.jfr_header.specs.declared.header.Header.{Header}
 use Rattle.jfr_frame.proofs.RecordLaws.{tiles_order}
 use Rattle.jfr_pool.specs.declared.entry.EntryAt.{EntryAt}
 use Rattle.jfr_chunk.specs.Reach.{kept_by}
-use Rattle.jfr_chunk.specs.Scrub.{output_records, bytes_of, written, written_bytes}
-use Rattle.jfr_scrub.specs.Bodies.{NotFalling, OutputRecordFits}
+use Rattle.jfr_chunk.specs.Scrub.{Whole, output_records, bytes_of, written, written_bytes}
+use Rattle.jfr_scrub.specs.Bodies.{NotFalling, OutputRecordFits, output_record_parts}
 use Rattle.jfr_scrub.specs.Left.{HasRange}
 use Rattle.jfr_scrub.specs.OutputRecords.{output_record_as}
 use Rattle.jfr_scrub.proofs.BodyLaws.{WrittenFits, going_none, going_next, going_all, going_room}
+use Rattle.jfr_scrub.proofs.CopiedLaws.{parts_all, parts_next, so_far_none, so_far_done, so_far_run, so_far_output_record}
 use Rattle.jfr_scrub.proofs.CursorLaws.{cursor_first}
 use Rattle.jfr_scrub.proofs.RunLaws.{going_run, going_within}
 use Rattle.jfr_scrub.proofs.FitLaws.{all_fit, all_within, left_order, left_ranges, some_written}
@@ -19,13 +20,15 @@ output_records-init c =
     let p = c.args.chunk.now in
     let a = c.bytes.ensures.parts in
     let kept = kept_by p c.args.kept.now in
-    let new = c.new.ensures in
+    let new = c.new.ensures.bytes in
     let start = new ∙ ap (λ (z : List _). record { chunk = z; bytes = [] }) c.bytes.ensures.exact in
     record {
       cursor = cursor_first p c.args.kept.now a;
       body = going_none p c.args.left.now (output_records p kept) _ (λ i. record { output = start i; at = 68; older = None; metadata = None })
           (subst (λ (z : List EntryAt). AllByRecursion (WrittenFits p.bytes z) (written p.bytes z 68 None (output_records p kept))) (sym c.requires) (all_fit p a kept))
           (subst (λ (z : List EntryAt). 68 + length (flat_map (written_bytes p.bytes z) (written p.bytes z 68 None (output_records p kept))) ≤ length p.bytes) (sym c.requires) (all_within p a kept));
+      copied = so_far_none _ _ _;
+      made = ap (λ z. z ++ flat_map (output_record_parts c.args.left.now) (output_records p kept)) c.new.ensures.made;
     }
 
 pub lay_run-requires-clause-order : goal.lay_run-requires-clause-order
@@ -41,6 +44,17 @@ lay_run-requires-clause-room c =
 
 pub returns-in_default-clause-ok : goal.returns-in_default-clause-ok
 returns-in_default-clause-ok c = going_all _ _ _ _ _ (going_run _ _ _ _ _ _ _ _ _ _ c.pass_run.ensures.run c.output_records.invariant.body c.in_ok-lay_run.ensures.ok c.in_default.ensures.exact) refl
+
+pub returns-in_default-clause-copied : goal.returns-in_default-clause-copied
+returns-in_default-clause-copied c =
+    let u = c.pass_run.ensures.run in
+    let s = so_far_done _ _ _ _ (so_far_run c.args.chunk.now.bytes c.args.left.now _ _ _ _ _ u.records _ _ u.output_records u.tiles c.output_records.invariant.copied c.in_ok-lay_run.ensures.grows.keeps c.in_ok-lay_run.ensures.copied) c.in_default.ensures.exact in
+    λ qs k. s qs k tt
+
+pub returns-in_default-clause-made : goal.returns-in_default-clause-made
+returns-in_default-clause-made c =
+    let u = c.pass_run.ensures.run in
+    parts_all c.args.left.now _ _ u.records _ _ _ u.output_records c.in_default.ensures.exact c.in_ok-lay_run.ensures.grows c.output_records.invariant.made
 
 pub lay_record-requires-clause-fits : goal.lay_record-requires-clause-fits
 lay_record-requires-clause-fits c =
@@ -68,4 +82,14 @@ output_records-preserved c =
     record {
       cursor = c.in-Some.ensures.cursor;
       body = going_next _ _ _ _ _ _ _ _ g (ap (λ (h : Header). h.metadata) c.header.ensures) c.in_ok-lay_record.ensures.ok (some_written c.args.chunk.now.bytes c.args.left.now (output_record_as c.in-Some.output_record) c.lay_run.new.body.at c.lay_run.new.body.older g.fits.0);
+      copied =
+          let p = c.args.chunk.now in
+          let u = c.pass_run.ensures.run in
+          let ranges : AllByRecursion (HasRange (length p.bytes)) c.args.left.now = subst (AllByRecursion (HasRange (length p.bytes))) (sym c.requires) (left_ranges p c.bytes.ensures.parts (kept_by p c.args.kept.now)) in
+          so_far_output_record p.bytes c.args.left.now _ _ _ _ _ _ _ ranges g.fits.0
+          (so_far_run p.bytes c.args.left.now _ _ _ _ _ u.records _ _ (u.output_records ∙ ap (λ ss. map (λ r. Whole r) u.records ++ ss) c.in-Some.ensures.exact) u.tiles c.output_records.invariant.copied c.in_ok-lay_run.ensures.grows.keeps c.in_ok-lay_run.ensures.copied)
+          c.in_ok-lay_record.ensures.grows.keeps c.in_ok-lay_record.ensures.copied;
+      made =
+          let u = c.pass_run.ensures.run in
+          parts_next c.args.left.now _ _ _ u.records _ _ _ _ _ u.output_records c.in-Some.ensures.exact c.in_ok-lay_run.ensures.grows c.in_ok-lay_record.ensures.grows c.output_records.invariant.made;
     }

@@ -1,9 +1,11 @@
-use Rattle.std.proofs.Common.{arith, ap, sym, ◌∙◌, length}
+use Rattle.std.proofs.Common.{arith, ap, sym, ◌∙◌, ◌∷◌, [], length}
 use Rattle.std.specs.List.{flat_map}
 use Rattle.jfr_base.specs.Integer.{spell}
 use Rattle.jfr_chunk.specs.Written.{by_pool, group_bytes}
-use Rattle.jfr_scrub.specs.Pieces.{more}
+use Rattle.jfr_scrub.specs.declared.piece.MadePart.TheVariants.{CheckpointDelta, CheckpointSize, PoolCount}
+use Rattle.jfr_scrub.specs.Pieces.{laying_of, more}
 use Rattle.jfr_scrub.proofs.CheckpointLaws.{size_is, checkpoint_length, laid_checkpoint, groups_range, laid_parts}
+use Rattle.jfr_scrub.proofs.CopiedLaws.{grows_then}
 use Rattle.jfr_scrub.proofs.Widths.{size_width, size_fits}
 use Rattle.jfr_scrub.proofs.checkpoint.lay_checkpoint.Goals as goal
 
@@ -31,11 +33,16 @@ pub returns-clause-ok : goal.returns-clause-ok
 returns-clause-ok c =
     let s = size_is c.args.output.now.chunk c.args.link.now c.args.delta (by_pool c.args.entries.now) c.measured-pools.result.bytes c.var_len.result c.var_len-2.result c.requires.fits (groups_range _ _ c.requires.ranges) c.requires.small c.measured-pools.ensures.bytes c.var_len.ensures.exact (c.var_len-2.ensures.exact ∙ ap (λ n. length (spell n)) c.measured-pools.ensures.count) in
     let count = c.measured-pools.ensures.count in
-    laid_parts c.args.output.now c.put_size.new.self c.copy.new.self c.put_integer.new.self c.copy-2.new.self c.put_integer-2.new.self c.lay_pools.new.output
+    laid_parts (laying_of c.args.output.now) (laying_of c.put_size.new.self) (laying_of c.copy.new.self) (laying_of c.put_integer.new.self) (laying_of c.copy-2.new.self) (laying_of c.put_integer-2.new.self) (laying_of c.lay_pools.new.output)
     _ _ _ _ _ _ _ (λ z. flat_map (group_bytes z) (by_pool c.args.entries.now))
-    c.in_ok-put_size.ensures.ok c.in_ok-copy.ensures.ok c.in_ok-put_integer.ensures.ok c.in_ok-copy-2.ensures.ok (c.in_ok-put_integer-2.ensures.ok ∙ ap (λ n. more c.copy-2.new.self (spell n)) count) c.in_ok-lay_pools.ensures.ok
-    ∙ laid_checkpoint c.args.output.now c.args.link.now c.args.delta _ (by_pool c.args.entries.now) c.requires.fits s
+    c.in_ok-put_size.ensures.ok c.in_ok-copy.ensures.ok c.in_ok-put_integer.ensures.ok c.in_ok-copy-2.ensures.ok (c.in_ok-put_integer-2.ensures.ok ∙ ap (λ n. more (laying_of c.copy-2.new.self) (spell n)) count) c.in_ok-lay_pools.ensures.ok
+    ∙ laid_checkpoint (laying_of c.args.output.now) c.args.link.now c.args.delta _ (by_pool c.args.entries.now) c.requires.fits s
 
 pub returns-clause-size : goal.returns-clause-size
 returns-clause-size c =
     size_is c.args.output.now.chunk c.args.link.now c.args.delta (by_pool c.args.entries.now) c.measured-pools.result.bytes c.var_len.result c.var_len-2.result c.requires.fits (groups_range _ _ c.requires.ranges) c.requires.small c.measured-pools.ensures.bytes c.var_len.ensures.exact (c.var_len-2.ensures.exact ∙ ap (λ n. length (spell n)) c.measured-pools.ensures.count) ∙ sym (checkpoint_length _ _ _ _ c.requires.fits)
+
+pub returns-clause-grows : goal.returns-clause-grows
+returns-clause-grows c =
+    grows_then _ _ _ (CheckpointSize ∷ []) _ c.in_ok-put_size.ensures.grows (grows_then _ _ _ [] _ c.in_ok-copy.ensures.grows (grows_then _ _ _ (CheckpointDelta ∷ []) _ c.in_ok-put_integer.ensures.grows
+    (grows_then _ _ _ [] _ c.in_ok-copy-2.ensures.grows (grows_then _ _ _ (PoolCount ∷ []) _ c.in_ok-put_integer-2.ensures.grows c.in_ok-lay_pools.ensures.grows))))
