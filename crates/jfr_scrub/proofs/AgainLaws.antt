@@ -85,8 +85,8 @@ begins_early rest c start first e w = by_order (nat_le (2 ^ 40) start) refl
           where
             by_length : (d : List ℕ) → Whole d → Rattle.std.specs.Prelude.take (length d) [] ≡ d → ⊥
             by_length [] v k = let l : 68 ≤ 0 = v.long in omega arith
-            by_length (a ∷ as) v k = cc
-    some (a ∷ as) b q = subst (λ (z : List ℕ). 0 < length z) q (omega arith)
+            by_length (a ∷ more) v k = cc
+    some (a ∷ more) b q = subst (λ (z : List ℕ). 0 < length z) q (omega arith)
 
     by_order : (t : Bool) → nat_le (2 ^ 40) start ≡ t → start < 2 ^ 40
     by_order true h =
@@ -115,9 +115,10 @@ written_cut g (c ∷ cs) flaw rest start later first h a =
         let s = is_scrubbed g c w e in
         let b : List ℕ = scrubbed g c in
         let bs : List (List ℕ) = map (scrubbed g) (before_refused refusal_of cs) in
-        let early : later < 2 ^ 40 = begins_early rest c later first a.0 w in
-        (whole_front b (joined bs) start false (becomes_whole g c b s) (omega (arith, h, early)),
-        subst (λ z. AreCut bs None z (start + length b) false) (sym (drop-append_seam b (joined bs))) (tail (length b) (becomes_short g c b s)))
+        let early : later < 2 ^ 40 = begins_early rest c later first a.0 w in (
+          whole_front b (joined bs) start false (becomes_whole g c b s) (omega (arith, h, early)),
+          subst (λ z. AreCut bs None z (start + length b) false) (sym (drop-append_seam b (joined bs))) (tail (length b) (becomes_short g c b s)),
+        )
 
 are_chunks : (bs : List (List ℕ)) → AllByRecursion Whole bs → AreCut bs None (joined bs) 0 false → AreChunksOf bs (joined bs)
 are_chunks [] w a = refl
@@ -144,9 +145,10 @@ all_same g (c ∷ cs) w = by_flaw (refusal_of c) refl (all_same g cs w.1)
     by_flaw None e later =
         let s = is_scrubbed g c w.0 e in
         let b : List ℕ = scrubbed g c in
-        let bs : List (List ℕ) = map (scrubbed g) (before_refused refusal_of cs) in
-        (ap (λ o. unless_refused o (b ∷ before_refused refusal_of bs)) (accepted_again g c b s) ∙ ap (λ z. b ∷ z) later.0,
-        ap (λ z. z ∷ map (scrubbed g) bs) (same_again g c b s) ∙ ap (λ z. b ∷ z) later.1)
+        let bs : List (List ℕ) = map (scrubbed g) (before_refused refusal_of cs) in (
+          ap (λ o. unless_refused o (b ∷ before_refused refusal_of bs)) (accepted_again g c b s) ∙ ap (λ z. b ∷ z) later.0,
+          ap (λ z. z ∷ map (scrubbed g) bs) (same_again g c b s) ∙ ap (λ z. b ∷ z) later.1,
+        )
 
 by_chunks : (g : Given) (bs : List (List ℕ)) → AreChunksOf bs (joined bs) → Same g bs → recording_scrubbed g (joined bs) ≡ joined bs
 unfolding front
