@@ -200,6 +200,7 @@ impl<'a> Chunk<'a> {
 
     /// The node of the value of the entry of a number, from 0, in the order of the file; `None` exactly past
     /// the end.
+    #[inline]
     pub fn entry_node(&self, number: usize) -> Option<Node<'a>>
         ensures exact { option_map node_of result ≡ option_map entry_node (slice_get self.now.entries number) }
         ensures bytes { IfSome result (λ node. node.bytes.now ≡ self.now.bytes) }

@@ -1,5 +1,5 @@
--- What stands in a chunk: its classes are sound, and its events and its entries in force are values.
-use Rattle.std.specs.Prelude.{◌≡◌, ◌≢◌, ℕ, Some, slice_get}
+-- What stands in a chunk: its classes are sound, and its events are values.
+use Rattle.std.specs.Prelude.{◌≡◌, ◌≢◌, Some, slice_get}
 use Rattle.std.proofs.Common.{refl, subst}
 use Rattle.jfr_layout.specs.Classes.{Sound}
 use Rattle.jfr_value.specs.declared.node.Node.{Node}
@@ -7,8 +7,6 @@ use Rattle.jfr_value.specs.declared.node.Step.{Step}
 use Rattle.jfr_value.specs.declared.node.Step.TheVariants as steps
 use Rattle.jfr_value.specs.Values.{Value}
 use Rattle.jfr_value.specs.Nodes.{NodeAt, IsNode, IsValue, child, node_of}
-use Rattle.jfr_pool.specs.declared.entry.EntryAt.{EntryAt}
-use Rattle.jfr_pool.specs.Entries.{in_force, entry_node}
 use Rattle.jfr_chunk.specs.declared.event.Event.{Event}
 use Rattle.jfr_chunk.specs.Parts.{Parts, AreParts, events_of}
 use Rattle.jfr_chunk.specs.Paths.{step}
@@ -33,9 +31,6 @@ module _ (p : Parts) (parts : AreParts p) where
 
   pub event_place : (e : Event) → slice_get (events_of p) e.number ≡ Some (event_at e) → IsPlace p (node_of e.node)
   event_place e q = let i = event_is p parts (event_at e) (get_in (events_of p) e.number (event_at e) q) in (i.value, i.node)
-
-  pub entry_place : (t : ℕ × ℕ) (e : EntryAt) → in_force p.entries t ≡ Some e → IsPlace p (entry_node e)
-  entry_place t e q = stands.entries t e q
 
 -- a step to a field or an item
 pub step_child : (p : Parts) (n : NodeAt) (by : Step) → by ≢ steps.Follow → step p n by ≡ child p.classes p.bytes n by

@@ -8,7 +8,6 @@ ghost use Rattle.jfr_pool.specs.Entries.{entry_node, in_force};
 
 use jfr_base::{Var, read_within};
 use jfr_chunk::Chunk;
-use jfr_layout::Shape;
 use jfr_text::{StringSpan, read_string};
 use jfr_value::Node;
 
@@ -57,16 +56,5 @@ pub(crate) fn constant<'a>(chunk: &Chunk<'a>, class: u64, key: u64) -> Option<No
     ensures value { IfSome result (IsValue chunk.now.classes) }
 {
     let number = chunk.pools().entry(class, key)?;
-    let entry = chunk.pools().get(number)?;
-    let shape = Shape {
-        class: entry.class,
-        constant: false,
-        array: false,
-    };
-    Some(Node {
-        shape,
-        bytes: chunk.bytes(),
-        at: entry.value_at,
-        end: entry.end,
-    })
+    chunk.entry_node(number)
 }

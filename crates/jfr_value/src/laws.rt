@@ -58,7 +58,7 @@ pub fn refers_in_order()
 {}
 
 /// The leaves of a node are those of its children, in order; before them stands an array's count. A
-/// value without parts is its one leaf.
+/// reference, or a value of a base name, is its one leaf.
 pub fn leaves_in_order()
     ensures { (k : Classes) (c : List ℕ) (n : NodeAt) (v : Value) → Sound k → IsNode k c n v → LeavesInOrder k c n v }
 {}
