@@ -17,7 +17,7 @@ use Rattle.jfr_value.specs.Nodes.{NodeAt}
 use Rattle.jfr_chunk.specs.Parts.{Parts}
 use Rattle.jfr_show.specs.Shown.{event_shown}
 use Rattle.jfr_show.specs.Json.{event_json}
-use Rattle.jfr_report.specs.Reports.{event_bytes}
+use Rattle.jfr_report.specs.Reports.{event_bytes, writer_of}
 use Rattle.jfr_report.specs.Gathered.{Grew, IsGathered, TearsText, WritesSome, TextLeaves, PageLeaves}
 
 -- nothing is written or gathered yet
@@ -161,6 +161,15 @@ last_page all before now (Err e) h i n = i
 -- a text by its characters
 pub text_bytes : (bytes text : List ℕ) → IsUtf8 bytes → chars bytes ≡ text → bytes ≡ encode_utf8_all text
 text_bytes bytes text u e = sym (encodes-chars bytes u) ∙ ap encode_utf8_all e
+
+-- where there is a writer, JSON is asked for, and the writer is of the chunk
+pub json_asked : (json : Bool) (p q : Parts) → Some q ≡ writer_of json p → (json ≡ true) × (q ≡ p)
+json_asked true p q e = (refl, cc)
+json_asked false p q e = cc
+
+pub text_asked : (json : Bool) (p : Parts) → None ≡ writer_of json p → json ≡ false
+text_asked true p e = cc
+text_asked false p e = refl
 
 -- an event's line of JSON, in UTF-8
 pub json_text : (result : Result (Unit {0}) NoMemory) (old new : List ℕ) (json : Bool) (depth : ℕ) (p : Parts) (n : NodeAt) → json ≡ true → OnOk result (new ≡ old ++ event_json p depth n) → OnOk result (encode_utf8_all new ≡ encode_utf8_all old ++ event_bytes json depth p n)

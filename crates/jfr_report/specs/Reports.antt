@@ -1,5 +1,5 @@
 -- What the commands that write text ask of each chunk.
-use Rattle.std.specs.Prelude.{ℕ, ◌+◌, Bool, true, false, List, [], ◌∷◌, length, map, Result, Ok, Err, encode_utf8_all}
+use Rattle.std.specs.Prelude.{ℕ, ◌+◌, Bool, true, false, List, [], ◌∷◌, length, map, Option, Some, None, Result, Ok, Err, encode_utf8_all}
 use Rattle.jfr_base.specs.declared.flaw.Flaw.{Flaw}
 use Rattle.jfr_filter.specs.Filters.{Given}
 use Rattle.jfr_value.specs.Nodes.{NodeAt}
@@ -40,6 +40,11 @@ event_bytes false depth p n = encode_utf8_all (event_shown p depth n)
 -- those of events, in order
 abbrev pub events_bytes : Bool → ℕ → Parts → List EventAt → List (List ℕ)
 events_bytes json depth p es = map (λ e. event_bytes json depth p e.node) es
+
+-- what writes the events of a chunk as JSON, as the chunk that it is of
+abbrev pub writer_of : Bool → Parts → Option Parts
+writer_of true p = Some p
+writer_of false p = None
 
 -- each event that a filter keeps is shown
 abbrev pub printing : Given → ℕ → Bool → Rule

@@ -1,5 +1,5 @@
 // The command that shows the events of a recording.
-ghost use Rattle.std.specs.Prelude.{◌≡◌, ◌≤◌, ◌<◌, ◌+◌, [], ◌∷◌, ◌++◌, ℕ, List, Option, OnOk, Some, length, drop, slice_get, encode_utf8_all};
+ghost use Rattle.std.specs.Prelude.{◌≡◌, ◌≤◌, ◌<◌, ◌+◌, [], ◌∷◌, ◌++◌, ℕ, List, Option, IfOk, OnOk, Some, length, drop, slice_get, encode_utf8_all};
 ghost use Rattle.jfr_plan.specs.Ends.{way_of};
 ghost use Rattle.jfr_plan.specs.Effects.{outside};
 ghost use Rattle.jfr_plan.specs.Walks.{Text};
@@ -8,7 +8,7 @@ ghost use Rattle.jfr_value.specs.Nodes.{node_of};
 ghost use Rattle.jfr_chunk.specs.Parts.{events_of};
 ghost use Rattle.jfr_chunk.specs.Seen.{event_at};
 ghost use Rattle.jfr_chunk.specs.Reach.{kept_by, marked};
-ghost use Rattle.jfr_report.specs.Reports.{printing, event_bytes, events_bytes};
+ghost use Rattle.jfr_report.specs.Reports.{printing, event_bytes, events_bytes, writer_of};
 ghost use Rattle.jfr_report.specs.Gathered.{IsGathered, PageLeaves, TextLeaves, TextCounted};
 
 use crate::pages::{write_full_page, write_page};
@@ -18,7 +18,7 @@ use jfr_filter::Filter;
 use jfr_header::Ending;
 use jfr_outside::{NoMemory, Place, Sink};
 use jfr_path::choose;
-use jfr_show::{TextBuilder, show_event, show_json};
+use jfr_show::{JsonWriter, TextBuilder, show_event};
 use std::alloc::Global;
 
 /// How events are shown: how many references deep, and as text or as lines of JSON.
@@ -78,23 +78,58 @@ fn print_kept<O: Sink>(
     ensures texts { TextLeaves (events_bytes style.json style.depth chunk.now (kept_by chunk.now kept.now)) result (O.state out.old).written (O.state out.new).written }
     ensures faults { TextCounted result (O.state out.old).faults (O.state out.new).faults }
 {
-    page.clear();
-    for number in 0..chunk.event_count() {
-        print_if_kept(alloc, out, page, chunk, kept, style, number)?;
+    match writer_of(alloc, chunk, style.json) {
+        Ok(writer) => print_events(out, page, chunk, kept, style, &writer),
+        Err(NoMemory) => Err(Ending::Memory),
     }
-    write_page(out, page)
 }
 
-/// Shows the event of a number if it is kept.
-fn print_if_kept<O: Sink>(
-    alloc: Global,
+/// Shows the kept events of a chunk, with what writes them as JSON.
+fn print_events<O: Sink>(
     out: &mut O,
     page: &mut TextBuilder,
     chunk: &Chunk<'_>,
     kept: &Kept,
     style: Style,
+    writer: &Option<JsonWriter<'_, '_>>,
+) -> Result<(), Ending>
+    requires writer { writer.now ≡ writer_of style.json chunk.now }
+    ensures texts { TextLeaves (events_bytes style.json style.depth chunk.now (kept_by chunk.now kept.now)) result (O.state out.old).written (O.state out.new).written }
+    ensures faults { TextCounted result (O.state out.old).faults (O.state out.new).faults }
+{
+    page.clear();
+    for number in 0..chunk.event_count() {
+        print_if_kept(out, page, chunk, kept, style, writer, number)?;
+    }
+    write_page(out, page)
+}
+
+/// What writes the events of a chunk as JSON, where they are shown so.
+fn writer_of<'c, 'a>(
+    alloc: Global,
+    chunk: &'c Chunk<'a>,
+    json: bool,
+) -> Result<Option<JsonWriter<'c, 'a>>, NoMemory>
+    ensures ok { IfOk result (λ writer. writer ≡ writer_of json chunk.now) }
+{
+    if !json {
+        return Ok(None);
+    }
+    let writer = JsonWriter::new(alloc, chunk)?;
+    Ok(Some(writer))
+}
+
+/// Shows the event of a number if it is kept.
+fn print_if_kept<O: Sink>(
+    out: &mut O,
+    page: &mut TextBuilder,
+    chunk: &Chunk<'_>,
+    kept: &Kept,
+    style: Style,
+    writer: &Option<JsonWriter<'_, '_>>,
     number: usize,
 ) -> Result<(), Ending>
+    requires writer { writer.now ≡ writer_of style.json chunk.now }
     requires number { number < length (events_of chunk.now) }
     ensures texts { (all : List (List ℕ)) (before : Option (List ℕ))
         → IsGathered all before (O.state out.old).written (encode_utf8_all page.old)
@@ -110,25 +145,26 @@ fn print_if_kept<O: Sink>(
     let Some(event) = chunk.event(number) else {
         unreachable!()
     };
-    print_event(alloc, out, page, chunk, &event, style)
+    print_event(out, page, chunk, &event, style, writer)
 }
 
 /// Shows an event to a page, which is written where it is full.
 fn print_event<O: Sink>(
-    alloc: Global,
     out: &mut O,
     page: &mut TextBuilder,
     chunk: &Chunk<'_>,
     event: &Event<'_>,
     style: Style,
+    writer: &Option<JsonWriter<'_, '_>>,
 ) -> Result<(), Ending>
+    requires writer { writer.now ≡ writer_of style.json chunk.now }
     requires event { slice_get (events_of chunk.now) event.now.number ≡ Some (event_at event.now) }
     ensures texts { (all rest : List (List ℕ)) (before : Option (List ℕ))
         → IsGathered all before (O.state out.old).written (encode_utf8_all page.old) (event_bytes style.json style.depth chunk.now (node_of event.now.node) ∷ rest)
         → PageLeaves all before result (encode_utf8_all page.new) rest (O.state out.new).written }
     ensures faults { TextCounted result (O.state out.old).faults (O.state out.new).faults }
 {
-    match show(alloc, page, chunk, event, style) {
+    match show(page, chunk, event, style, writer) {
         Ok(()) => write_full_page(out, page),
         Err(NoMemory) => Err(Ending::Memory),
     }
@@ -136,19 +172,20 @@ fn print_event<O: Sink>(
 
 /// Adds an event to a page, in the style.
 fn show(
-    alloc: Global,
     page: &mut TextBuilder,
     chunk: &Chunk<'_>,
     event: &Event<'_>,
     style: Style,
+    writer: &Option<JsonWriter<'_, '_>>,
 ) -> Result<(), NoMemory>
+    requires writer { writer.now ≡ writer_of style.json chunk.now }
     requires event { slice_get (events_of chunk.now) event.now.number ≡ Some (event_at event.now) }
     ensures ok { OnOk result (encode_utf8_all page.new ≡ encode_utf8_all page.old ++ event_bytes style.json style.depth chunk.now (node_of event.now.node)) }
 {
-    if style.json {
-        return show_json(alloc, chunk, event, style.depth, page);
+    match writer {
+        Some(writer) => writer.show(event, style.depth, page),
+        None => show_event(chunk, event, style.depth, page),
     }
-    show_event(chunk, event, style.depth, page)
 }
 
 /// Writes the events of a recording that the filter keeps, with references followed so many deep, as text

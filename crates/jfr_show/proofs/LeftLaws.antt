@@ -26,6 +26,13 @@ module _ {A : Type 0} (k : Classes) (c : List ℕ) (to : ℕ) (whole : A) where
       let m : f.others ≡ Nil = no_values f.others (f.row.of_shapes ∙ e) in
       (n.ends, sym z ∙ (sym (ap (onto made) m) ∙ f.rest))
 
+  -- Where something closes what was made, it stands behind all.
+  pub left_closes : (onto : A → Values → A) (ss : List Shape) (from : ℕ) (made : A) → Left k c to whole onto ss from made → ss ≡ [] → (from ≡ to) × (onto made Nil ≡ whole)
+  left_closes onto ss from made f e =
+      let n = none_left k c from to ss f.others f.row e in
+      let m : f.others ≡ Nil = no_values f.others (f.row.of_shapes ∙ e) in
+      (n.ends, sym (ap (onto made) m) ∙ f.rest)
+
   -- The value that stands first.
   pub record FirstLeft (s : Shape) (from : ℕ) : Type 0 where
     pub place : ℕ

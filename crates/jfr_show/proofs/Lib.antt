@@ -1,6 +1,8 @@
-mod FloatLaws
 mod FormLaws
 mod JsonLaws
+mod OrderLaws
+mod EscapeLaws
+mod PlacedLaws
 mod LeftLaws
 mod LineLaws
 mod ReferLaws

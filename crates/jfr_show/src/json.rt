@@ -1,26 +1,97 @@
-// Events as JSON.
-ghost use Rattle.std.specs.Prelude.{◌≡◌, ◌≤◌, ◌++◌, Some, IfOk, OnOk, slice_get};
+// The JSON of events, written as it is read.
+//
+// A line is the compact text of a value of `serde_json`, and no such value is made for it: the parts of an
+// event are walked as for its text, and what `serde_json` would write for them is added to a string. An
+// object has its members in the order of their keys, and a class its fields in another, so `Order` says
+// for each class of the chunk in which order its fields are written and what stands before each value; it
+// is worked out once a chunk, by `serde_json`'s own map. `places.rt` says where the fields of a value
+// stand, so that they can be written in any order. The definition stays that of the library's text.
+ghost use Rattle.std.specs.Prelude.{◌≡◌, ◌≤◌, ◌++◌, Some, IfOk, OnOk, slice_get, string_bytes};
+ghost use Rattle.serde_json.specs.Written.{compact_text};
 ghost use Rattle.jfr_chunk.specs.Parts.{events_of};
 ghost use Rattle.jfr_chunk.specs.Seen.{event_at};
 ghost use Rattle.jfr_value.specs.Nodes.{node_of};
-ghost use Rattle.serde_json.specs.View.{view};
 ghost use Rattle.jfr_show.specs.Json.{event_data, event_json};
+ghost use Rattle.jfr_show.specs.Orders.{IsSource};
 
 mod leaf;
+mod order;
+mod places;
 mod reference;
+mod source;
+mod string;
 mod value;
 
 use crate::TextBuilder;
 use crate::depth::Reach;
+use crate::reference::class_name;
 use jfr_base::{NoMemory, Text};
 use jfr_chunk::{Chunk, Event};
 use jfr_path::fields_of;
-use reference::class_json;
-use serde_json::{Map, Value, put};
+use order::{Order, orders_of};
+use source::Source;
 use std::alloc::Global;
-use value::node_json;
+use std::marker::Model;
+use string::push_string;
+use value::push_node;
 
-/// Adds a line with the JSON of an event of the chunk, in which references are followed so many deep.
+/// The room for a line, which grows where a line is longer.
+const LINE: usize = 1024;
+
+/// Writes events of a chunk as lines of JSON. Contracts see the chunk.
+#[derive(Drop)]
+pub struct JsonWriter<'c, 'a> {
+    alloc: Global,
+    chunk: &'c Chunk<'a>,
+    orders: Vec<Order>,
+}
+
+impl<'c, 'a> Model for JsonWriter<'c, 'a> {
+    ghost use Rattle.std.specs.Coded.{codes};
+    ghost use Rattle.jfr_meta.specs.Trees.{tree_code};
+    ghost use Rattle.jfr_chunk.specs.Parts.{Parts};
+    ghost use Rattle.jfr_show.specs.Orders.{AreOrders};
+
+    ghost Value = { Parts };
+
+    ghost coded = { Prim.hlevel (codes, tree_code) };
+
+    ghost view = { λ w. w.chunk.now };
+
+    ghost invariant = { λ w. AreOrders w.chunk.now.classes w.orders.items };
+}
+
+impl<'c, 'a> JsonWriter<'c, 'a> {
+    /// A writer of the events of this chunk.
+    pub fn new(alloc: Global, chunk: &'c Chunk<'a>) -> Result<JsonWriter<'c, 'a>, NoMemory>
+        ensures chunk { IfOk result (λ writer. writer ≡ chunk.now) }
+    {
+        Ok(JsonWriter {
+            alloc,
+            chunk,
+            orders: orders_of(alloc, chunk.classes())?,
+        })
+    }
+
+    /// Adds the line with the JSON of an event, in which references are followed so many deep.
+    pub fn show(&self, event: &Event<'_>, depth: u8, out: &mut TextBuilder) -> Result<(), NoMemory>
+        requires event { slice_get (events_of self.now) event.now.number ≡ Some (event_at event.now) }
+        requires depth { depth ≤ 8 }
+        ensures ok { OnOk result (out.new ≡ out.old ++ event_json self.now depth (node_of event.now.node)) }
+    {
+        let source = Source {
+            alloc: self.alloc,
+            chunk: self.chunk,
+            orders: &self.orders,
+        };
+        let mut line = String::with_capacity(self.alloc, LINE)?;
+        push_event(&source, event, depth, &mut line)?;
+        out.push_str(line.as_str())?;
+        out.push_ascii("\n")
+    }
+}
+
+/// Adds the line with the JSON of an event of the chunk, in which references are followed so many deep.
 pub fn show_json(
     alloc: Global,
     chunk: &Chunk<'_>,
@@ -32,9 +103,8 @@ pub fn show_json(
     requires depth { depth ≤ 8 }
     ensures ok { OnOk result (out.new ≡ out.old ++ event_json chunk.now depth (node_of event.now.node)) }
 {
-    let data = event_data(alloc, chunk, event, depth)?;
-    out.push_str(data.to_string(alloc)?.as_str())?;
-    out.push_ascii("\n")
+    let writer = JsonWriter::new(alloc, chunk)?;
+    writer.show(event, depth, out)
 }
 
 /// The line with the JSON of an event of the chunk, by itself.
@@ -53,21 +123,26 @@ pub fn event_json(
     Ok(out.into_text())
 }
 
-/// The JSON of an event: the name of its class, and its fields.
-fn event_data(
-    alloc: Global,
-    chunk: &Chunk<'_>,
+/// Adds the JSON of an event: the name of its class, and its fields.
+fn push_event(
+    source: &Source<'_, '_>,
     event: &Event<'_>,
     depth: u8,
-) -> Result<Value, NoMemory>
-    requires event { slice_get (events_of chunk.now) event.now.number ≡ Some (event_at event.now) }
-    ensures ok { IfOk result (λ json. view json ≡ event_data chunk.now depth (node_of event.now.node)) }
+    out: &mut String,
+) -> Result<(), NoMemory>
+    requires event { slice_get (events_of source.now.chunk.now) event.now.number ≡ Some (event_at event.now) }
+    requires source { IsSource source.now }
+    ensures ok { OnOk result (string_bytes out.new ≡ string_bytes out.old ++ compact_text (event_data source.now.chunk.now depth (node_of event.now.node))) }
 {
-    let node = fields_of(chunk, event);
-    let name = class_json(alloc, chunk, node.shape.class)?;
-    let values = node_json(alloc, chunk, &node, Reach::of_event(depth))?;
-    let mut members = Map::new(alloc);
-    put(&mut members, alloc, "type", name)?;
-    put(&mut members, alloc, "values", values)?;
-    Ok(Value::from(members))
+    let node = fields_of(source.chunk, event);
+    out.push_str("{\"type\":")?;
+    push_string(
+        source.alloc,
+        class_name(source.chunk, node.shape.class),
+        out,
+    )?;
+    out.push_str(",\"values\":")?;
+    push_node(source, &node, Reach::of_event(depth), out)?;
+    out.push_str("}")?;
+    Ok(())
 }

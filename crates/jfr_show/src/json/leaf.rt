@@ -1,5 +1,6 @@
 // The JSON of values without parts.
-ghost use Rattle.std.specs.Prelude.{◌≡◌, ℕ, List, length, IfOk};
+ghost use Rattle.std.specs.Prelude.{◌≡◌, ℕ, ◌++◌, List, length, decimal, OnOk, string_bytes};
+ghost use Rattle.std.specs.Fmt.{signed_decimal};
 ghost use Rattle.std.specs.Option.{option_map_or};
 ghost use Rattle.jfr_base.specs.Integer.{worth_within};
 ghost use Rattle.jfr_layout.specs.Classes.{inline_form};
@@ -7,83 +8,129 @@ ghost use Rattle.jfr_layout.specs.declared.form.Form.TheVariants as forms;
 ghost use Rattle.jfr_text.specs.Spans.{content_of};
 ghost use Rattle.jfr_text.specs.Strings.{text_of};
 ghost use Rattle.serde_json.specs.Data.{null};
-ghost use Rattle.serde_json.specs.View.{view};
+ghost use Rattle.serde_json.specs.Written.{compact_text};
 ghost use Rattle.jfr_show.specs.Json.{base_json, text_json};
 ghost use Rattle.jfr_show.specs.Leaves.{hex};
 
+use super::string::push_string;
 use crate::TextBuilder;
 use crate::leaf::show_hex;
+use itoa::Buffer;
 use jfr_base::{NoMemory, signed};
 use jfr_layout::Kind;
 use jfr_text::{Characters, StringSpan};
-use serde_json::Value;
 use std::alloc::Global;
 
-/// An integer of a kind, by its value.
-pub(crate) fn integer_json(kind: Kind, value: u64) -> Value
+/// Adds an integer of a kind, by its value.
+pub(crate) fn push_integer(kind: Kind, value: u64, out: &mut String) -> Result<(), NoMemory>
     requires integer { inline_form kind ≡ forms.Integer }
-    ensures { (bytes : List ℕ) → worth_within 8 bytes ≡ value → view result ≡ base_json kind bytes }
+    ensures ok { OnOk result ((bytes : List ℕ) → worth_within 8 bytes ≡ value → string_bytes out.new ≡ string_bytes out.old ++ compact_text (base_json kind bytes)) }
 {
     match kind {
-        Kind::Char => Value::from(value % 65536),
-        Kind::Short => Value::from(((value % 65536) as u16).cast_signed()),
-        Kind::Int => Value::from(((value % 4294967296) as u32).cast_signed()),
-        Kind::Long => Value::from(signed(value)),
+        Kind::Char => push_number(value % 65536, out),
+        Kind::Short => push_signed(i64::from(((value % 65536) as u16).cast_signed()), out),
+        Kind::Int => push_signed(i64::from(((value % 4294967296) as u32).cast_signed()), out),
+        Kind::Long => push_signed(signed(value), out),
         _ => unreachable!(),
     }
 }
 
-/// A value of a kind whose values all have so many bytes.
-pub(crate) fn raw_json(alloc: Global, kind: Kind, bytes: &[u8]) -> Result<Value, NoMemory>
+/// Adds an unsigned number in decimal.
+pub(crate) fn push_number(number: u64, out: &mut String) -> Result<(), NoMemory>
+    ensures ok { OnOk result (string_bytes out.new ≡ string_bytes out.old ++ decimal number) }
+{
+    let mut buffer = Buffer::new();
+    out.push_str(buffer.format(number))?;
+    Ok(())
+}
+
+/// Adds a signed number in decimal.
+fn push_signed(number: i64, out: &mut String) -> Result<(), NoMemory>
+    ensures ok { OnOk result (string_bytes out.new ≡ string_bytes out.old ++ signed_decimal number) }
+{
+    let mut buffer = Buffer::new();
+    out.push_str(buffer.format(number))?;
+    Ok(())
+}
+
+/// Adds a value of a kind whose values all have so many bytes.
+pub(crate) fn push_raw(
+    alloc: Global,
+    kind: Kind,
+    bytes: &[u8],
+    out: &mut String,
+) -> Result<(), NoMemory>
     requires raw { inline_form kind ≡ forms.Raw (length bytes.now) }
-    ensures ok { IfOk result (λ json. view json ≡ base_json kind bytes.now) }
+    ensures ok { OnOk result (string_bytes out.new ≡ string_bytes out.old ++ compact_text (base_json kind bytes.now)) }
 {
     match kind {
-        Kind::Boolean => Ok(boolean_json(bytes)),
-        Kind::Byte => Ok(byte_json(bytes)),
-        Kind::Float | Kind::Double => hex_json(alloc, bytes),
+        Kind::Boolean => push_boolean(bytes, out),
+        Kind::Byte => push_byte(bytes, out),
+        Kind::Float | Kind::Double => push_hex(alloc, bytes, out),
         _ => unreachable!(),
     }
 }
 
-fn boolean_json(bytes: &[u8]) -> Value
+fn push_boolean(bytes: &[u8], out: &mut String) -> Result<(), NoMemory>
     requires one { length bytes.now ≡ 1 }
-    ensures { view result ≡ base_json Kind.Boolean bytes.now }
+    ensures ok { OnOk result (string_bytes out.new ≡ string_bytes out.old ++ compact_text (base_json Kind.Boolean bytes.now)) }
 {
-    Value::from(bytes[0] != 0)
+    if bytes[0] == 0 {
+        out.push_str("false")?;
+    } else {
+        out.push_str("true")?;
+    }
+    Ok(())
 }
 
-fn byte_json(bytes: &[u8]) -> Value
+fn push_byte(bytes: &[u8], out: &mut String) -> Result<(), NoMemory>
     requires one { length bytes.now ≡ 1 }
-    ensures { view result ≡ base_json Kind.Byte bytes.now }
+    ensures ok { OnOk result (string_bytes out.new ≡ string_bytes out.old ++ compact_text (base_json Kind.Byte bytes.now)) }
 {
-    Value::from(bytes[0].cast_signed())
+    push_signed(i64::from(bytes[0].cast_signed()), out)
 }
 
-/// A string of bytes in hexadecimal.
-fn hex_json(alloc: Global, bytes: &[u8]) -> Result<Value, NoMemory>
-    ensures ok { IfOk result (λ json. view json ≡ text_json (hex bytes.now)) }
+/// Adds a string of bytes in hexadecimal.
+fn push_hex(alloc: Global, bytes: &[u8], out: &mut String) -> Result<(), NoMemory>
+    ensures ok { OnOk result (string_bytes out.new ≡ string_bytes out.old ++ compact_text (text_json (hex bytes.now))) }
 {
     let mut text = TextBuilder::new(alloc);
     show_hex(bytes, &mut text)?;
-    Ok(Value::from(text.into_string()))
+    let string = text.into_string();
+    push_string(alloc, string.as_str(), out)
 }
 
-/// A string that is no key: its text, or null.
-pub(crate) fn string_json(alloc: Global, span: &StringSpan<'_>) -> Result<Value, NoMemory>
-    ensures ok { IfOk result (λ json. view json ≡ option_map_or text_json (text_of (content_of span.now)) null) }
+/// Adds a string that is no key: its text, or null.
+pub(crate) fn push_text(
+    alloc: Global,
+    span: &StringSpan<'_>,
+    out: &mut String,
+) -> Result<(), NoMemory>
+    ensures ok { OnOk result (string_bytes out.new ≡ string_bytes out.old ++ compact_text (option_map_or text_json (text_of (content_of span.now)) null)) }
 {
     match Characters::of(span) {
-        Some(characters) => characters_json(alloc, characters),
-        None => Ok(Value::Null),
+        Some(characters) => push_characters(alloc, characters, out),
+        None => push_null(out),
     }
 }
 
-/// A string of characters.
-fn characters_json(alloc: Global, characters: Characters<'_>) -> Result<Value, NoMemory>
-    ensures ok { IfOk result (λ json. view json ≡ text_json characters.entry) }
+fn push_null(out: &mut String) -> Result<(), NoMemory>
+    ensures ok { OnOk result (string_bytes out.new ≡ string_bytes out.old ++ compact_text null) }
+{
+    out.push_str("null")?;
+    Ok(())
+}
+
+/// Adds a string of characters.
+fn push_characters(
+    alloc: Global,
+    characters: Characters<'_>,
+    out: &mut String,
+) -> Result<(), NoMemory>
+    ensures ok { OnOk result (string_bytes out.new ≡ string_bytes out.old ++ compact_text (text_json characters.entry)) }
 {
     let mut text = TextBuilder::new(alloc);
     text.push_characters(characters)?;
-    Ok(Value::from(text.into_string()))
+    let string = text.into_string();
+    push_string(alloc, string.as_str(), out)
 }

@@ -1,202 +1,201 @@
 // The JSON of values, by one walk over their bytes.
-ghost use Rattle.std.specs.Prelude.{◌≡◌, ℕ, ◌+◌, ◌≤◌, ◌<◌, ◌-◌, ◌*◌, ◌++◌, length, true, Some, IfOk, slice_get};
+ghost use Rattle.std.specs.Prelude.{◌≡◌, ℕ, ◌+◌, ◌≤◌, ◌<◌, ◌-◌, ◌*◌, ◌++◌, length, true, Some, IfOk, OnOk, slice_get, string_bytes};
 ghost use Rattle.std.specs.List.{AllByRecursion};
 ghost use Rattle.serde_json.specs.Data.{no_members, object};
-ghost use Rattle.serde_json.specs.View.{view};
+ghost use Rattle.serde_json.specs.Written.{comma_if, compact_text};
 ghost use Rattle.jfr_layout.specs.Classes.{Class};
 ghost use Rattle.jfr_value.specs.Nodes.{EndsAt, IsNode, IsRow, IsValue, node_at, node_of};
 ghost use Rattle.jfr_value.specs.Values as tree;
 ghost use Rattle.jfr_value.specs.Visits.{field_shapes};
 ghost use Rattle.jfr_value.specs.Walks.{IsLayoutIfKnown, Room};
 ghost use Rattle.jfr_show.specs.Json.{json_of, json_of_all, members_with, node_json, referred_json};
+ghost use Rattle.jfr_show.specs.Orders.{IsSource};
 
-use super::leaf::{integer_json, raw_json, string_json};
-use super::reference::{missing_json, reference_json};
+use super::leaf::{push_integer, push_raw, push_text};
+use super::places::field_places;
+use super::reference::{push_missing, push_reference};
+use super::source::Source;
 use crate::depth::Reach;
 use crate::reading::{bytes_at, constant, integer_at, string_at};
 use jfr_base::NoMemory;
-use jfr_chunk::Chunk;
 use jfr_layout::{FieldLayout, Form};
 use jfr_text::StringKind;
 use jfr_value::{Node, item_layout, layout_of};
-use serde_json::{Map, Value, push, put};
-use std::alloc::Global;
 
-/// The JSON of a value, and where the value ends.
-#[derive(Drop)]
-struct Made {
-    json: Value,
-    end: usize,
-}
-
-/// The value of a node of the chunk.
+/// Adds the value of a node of the chunk.
 #[cycle(json)]
-pub(crate) fn node_json(
-    alloc: Global,
-    chunk: &Chunk<'_>,
+pub(crate) fn push_node(
+    source: &Source<'_, '_>,
     node: &Node<'_>,
     reach: Reach,
-) -> Result<Value, NoMemory>
-    requires of_chunk { node.now.bytes.now ≡ chunk.now.bytes }
-    requires value { IsValue chunk.now.classes node.now }
+    out: &mut String,
+) -> Result<(), NoMemory>
+    requires source { IsSource source.now }
+    requires of_chunk { node.now.bytes.now ≡ source.now.chunk.now.bytes }
+    requires value { IsValue source.now.chunk.now.classes node.now }
     requires composites { reach.composites ≡ 33 }
-    ensures ok { IfOk result (λ json. view json ≡ node_json chunk.now (referred_json chunk.now reach.references) (node_of node.now)) }
+    ensures ok { OnOk result (string_bytes out.new ≡ string_bytes out.old ++ compact_text (node_json source.now.chunk.now (referred_json source.now.chunk.now reach.references) (node_of node.now))) }
 {
-    let layout = layout_of(chunk.classes(), node.shape);
-    let made = value_json(alloc, chunk, &layout, node.at, node.end, reach)?;
-    Ok(made.json)
+    let layout = layout_of(source.chunk.classes(), node.shape);
+    let _end = push_value(source, &layout, node.at, node.end, reach, out)?;
+    Ok(())
 }
 
-/// The value of a layout that begins at a place and ends at the limit or before it.
+/// Adds the value of a layout that begins at a place and ends at the limit or before it, and says where it
+/// ends.
 #[cycle(json)]
-fn value_json(
-    alloc: Global,
-    chunk: &Chunk<'_>,
+fn push_value(
+    source: &Source<'_, '_>,
     layout: &FieldLayout,
     at: usize,
     limit: usize,
     reach: Reach,
-) -> Result<Made, NoMemory>
-    requires within { limit ≤ length chunk.now.bytes }
-    requires layout { IsLayoutIfKnown chunk.now.classes layout.now }
-    requires room { Room chunk.now.classes reach.composites layout.now.shape }
-    requires stands { (to : ℕ) × EndsAt chunk.now.classes chunk.now.bytes layout.now.shape at to × (to ≤ limit) }
+    out: &mut String,
+) -> Result<usize, NoMemory>
+    requires source { IsSource source.now }
+    requires within { limit ≤ length source.now.chunk.now.bytes }
+    requires layout { IsLayoutIfKnown source.now.chunk.now.classes layout.now }
+    requires room { Room source.now.chunk.now.classes reach.composites layout.now.shape }
+    requires stands { (to : ℕ) × EndsAt source.now.chunk.now.classes source.now.chunk.now.bytes layout.now.shape at to × (to ≤ limit) }
     requires composites { reach.composites ≤ 33 }
-    ensures ok { IfOk result (λ made. (to : ℕ) (v : tree.Value) → IsNode chunk.now.classes chunk.now.bytes (node_at layout.now.shape at to) v → to ≤ limit
-        → (made.end ≡ to) × (view made.json ≡ json_of chunk.now.classes (referred_json chunk.now reach.references) v)) }
+    ensures ok { IfOk result (λ end. (to : ℕ) (v : tree.Value) → IsNode source.now.chunk.now.classes source.now.chunk.now.bytes (node_at layout.now.shape at to) v → to ≤ limit
+        → (end ≡ to) × (string_bytes out.new ≡ string_bytes out.old ++ compact_text (json_of source.now.chunk.now.classes (referred_json source.now.chunk.now reach.references) v))) }
 {
     match layout.form {
         Form::Integer => {
-            let number = integer_at(chunk, at, limit);
-            Ok(Made {
-                json: integer_json(layout.kind, number.value),
-                end: number.end,
-            })
+            let number = integer_at(source.chunk, at, limit);
+            push_integer(layout.kind, number.value, out)?;
+            Ok(number.end)
         }
         Form::Raw(count) => {
-            let bytes = bytes_at(chunk, at, usize::from(count));
-            Ok(Made {
-                json: raw_json(alloc, layout.kind, bytes)?,
-                end: at + bytes.len(),
-            })
+            let bytes = bytes_at(source.chunk, at, usize::from(count));
+            push_raw(source.alloc, layout.kind, bytes, out)?;
+            Ok(at + bytes.len())
         }
         Form::Key => {
-            let key = integer_at(chunk, at, limit);
-            Ok(Made {
-                json: referred_json(alloc, chunk, layout.shape.class, key.value, reach)?,
-                end: key.end,
-            })
+            let key = integer_at(source.chunk, at, limit);
+            push_referred(source, layout.shape.class, key.value, reach, out)?;
+            Ok(key.end)
         }
         Form::Text => {
-            let string = string_at(chunk, at, limit);
+            let string = string_at(source.chunk, at, limit);
             match string.kind {
-                StringKind::Key => Ok(Made {
-                    json: referred_json(alloc, chunk, layout.shape.class, string.key, reach)?,
-                    end: string.end,
-                }),
-                _ => Ok(Made {
-                    json: string_json(alloc, &string)?,
-                    end: string.end,
-                }),
+                StringKind::Key => push_referred(
+                    source,
+                    layout.shape.class,
+                    string.key,
+                    reach,
+                    out,
+                )?,
+                _ => push_text(source.alloc, &string, out)?,
             }
+            Ok(string.end)
         }
-        Form::Fields => fields_json(alloc, chunk, layout.place, at, limit, reach),
-        Form::Array => items_json(alloc, chunk, layout, at, limit, reach),
+        Form::Fields => push_fields(source, layout.place, at, limit, reach, out),
+        Form::Array => push_items(source, layout, at, limit, reach, out),
     }
 }
 
-/// A value of the class at a place.
+/// Adds a value of the class at a place, and says where it ends.
 #[cycle(json)]
-fn fields_json(
-    alloc: Global,
-    chunk: &Chunk<'_>,
+fn push_fields(
+    source: &Source<'_, '_>,
     place: usize,
     at: usize,
     limit: usize,
     reach: Reach,
-) -> Result<Made, NoMemory>
-    requires within { limit ≤ length chunk.now.bytes }
-    requires placed { place < length chunk.now.classes }
+    out: &mut String,
+) -> Result<usize, NoMemory>
+    requires source { IsSource source.now }
+    requires within { limit ≤ length source.now.chunk.now.bytes }
+    requires placed { place < length source.now.chunk.now.classes }
     requires inner { 1 ≤ reach.composites }
-    requires room { AllByRecursion (Room chunk.now.classes (reach.composites - 1)) (field_shapes chunk.now.classes place) }
-    requires stand { (to : ℕ) × (vs : tree.Values) × IsRow chunk.now.classes chunk.now.bytes at to (field_shapes chunk.now.classes place) vs × (to ≤ limit) }
+    requires room { AllByRecursion (Room source.now.chunk.now.classes (reach.composites - 1)) (field_shapes source.now.chunk.now.classes place) }
+    requires stand { (to : ℕ) × (vs : tree.Values) × IsRow source.now.chunk.now.classes source.now.chunk.now.bytes at to (field_shapes source.now.chunk.now.classes place) vs × (to ≤ limit) }
     requires composites { reach.composites ≤ 33 }
-    ensures ok { IfOk result (λ made. (to : ℕ) (vs : tree.Values) (class : Class) → IsRow chunk.now.classes chunk.now.bytes at to (field_shapes chunk.now.classes place) vs → to ≤ limit
-        → slice_get chunk.now.classes place ≡ Some class → (made.end ≡ to) × (view made.json ≡ object (members_with no_members class.fields (json_of_all chunk.now.classes (referred_json chunk.now reach.references) vs)))) }
+    ensures ok { IfOk result (λ end. (to : ℕ) (vs : tree.Values) (class : Class) → IsRow source.now.chunk.now.classes source.now.chunk.now.bytes at to (field_shapes source.now.chunk.now.classes place) vs → to ≤ limit
+        → slice_get source.now.chunk.now.classes place ≡ Some class → (end ≡ to) × (string_bytes out.new ≡ string_bytes out.old ++ compact_text (object (members_with no_members class.fields (json_of_all source.now.chunk.now.classes (referred_json source.now.chunk.now reach.references) vs))))) }
 {
-    let classes = chunk.classes();
-    let fields = &classes.class_at(place).fields;
+    let places = field_places(source.alloc, source.chunk, place, at, limit)?;
+    let layouts = source.chunk.classes().layouts(place);
     let inner = reach.of_fields();
-    let mut members = Map::new(alloc);
-    let mut to = at;
-    let mut number = 0;
-    for layout in classes.layouts(place) {
-        let made = value_json(alloc, chunk, layout, to, limit, inner)?;
-        put(
-            &mut members,
-            alloc,
-            fields.at(number).name.as_str(),
-            made.json,
+    out.push_str("{")?;
+    for lead in &source.orders[place].leads {
+        out.push_str(lead.text.as_str())?;
+        let _end = push_value(
+            source,
+            &layouts[lead.field],
+            places.starts[lead.field],
+            limit,
+            inner,
+            out,
         )?;
-        to = made.end;
-        number += 1;
     }
-    Ok(Made {
-        json: Value::from(members),
-        end: to,
-    })
+    out.push_str("}")?;
+    Ok(places.end)
 }
 
-/// An array.
+/// Adds an array, and says where it ends.
 #[cycle(json)]
-fn items_json(
-    alloc: Global,
-    chunk: &Chunk<'_>,
+fn push_items(
+    source: &Source<'_, '_>,
     layout: &FieldLayout,
     at: usize,
     limit: usize,
     reach: Reach,
-) -> Result<Made, NoMemory>
-    requires within { limit ≤ length chunk.now.bytes }
+    out: &mut String,
+) -> Result<usize, NoMemory>
+    requires source { IsSource source.now }
+    requires within { limit ≤ length source.now.chunk.now.bytes }
     requires array { layout.now.shape.array ≡ true }
-    requires layout { IsLayoutIfKnown chunk.now.classes layout.now }
-    requires room { Room chunk.now.classes reach.composites layout.now.shape }
-    requires stands { (to : ℕ) × EndsAt chunk.now.classes chunk.now.bytes layout.now.shape at to × (to ≤ limit) }
+    requires layout { IsLayoutIfKnown source.now.chunk.now.classes layout.now }
+    requires room { Room source.now.chunk.now.classes reach.composites layout.now.shape }
+    requires stands { (to : ℕ) × EndsAt source.now.chunk.now.classes source.now.chunk.now.bytes layout.now.shape at to × (to ≤ limit) }
     requires composites { reach.composites ≤ 33 }
-    ensures ok { IfOk result (λ made. (to : ℕ) (v : tree.Value) → IsNode chunk.now.classes chunk.now.bytes (node_at layout.now.shape at to) v → to ≤ limit
-        → (made.end ≡ to) × (view made.json ≡ json_of chunk.now.classes (referred_json chunk.now reach.references) v)) }
+    ensures ok { IfOk result (λ end. (to : ℕ) (v : tree.Value) → IsNode source.now.chunk.now.classes source.now.chunk.now.bytes (node_at layout.now.shape at to) v → to ≤ limit
+        → (end ≡ to) × (string_bytes out.new ≡ string_bytes out.old ++ compact_text (json_of source.now.chunk.now.classes (referred_json source.now.chunk.now reach.references) v))) }
 {
-    let count = integer_at(chunk, at, limit);
+    let count = integer_at(source.chunk, at, limit);
+    out.push_str("[")?;
     let item = item_layout(layout);
-    let mut values = Vec::new(alloc);
     let mut to = count.end;
+    let mut later = false;
     'items: for _ in 0..count.value {
-        let made = value_json(alloc, chunk, &item, to, limit, reach)?;
-        push(&mut values, made.json)?;
-        to = made.end;
+        push_comma(later, out)?;
+        to = push_value(source, &item, to, limit, reach, out)?;
+        later = true;
     }
-    Ok(Made {
-        json: Value::from(values),
-        end: to,
-    })
+    out.push_str("]")?;
+    Ok(to)
 }
 
-/// What a class and a key refer to.
+/// Adds a comma where something stands before.
+fn push_comma(later: bool, out: &mut String) -> Result<(), NoMemory>
+    ensures ok { OnOk result (string_bytes out.new ≡ string_bytes out.old ++ comma_if later) }
+{
+    if later {
+        out.push_str(",")?;
+    }
+    Ok(())
+}
+
+/// Adds what a class and a key refer to.
 #[cycle(json)]
-fn referred_json(
-    alloc: Global,
-    chunk: &Chunk<'_>,
+fn push_referred(
+    source: &Source<'_, '_>,
     class: u64,
     key: u64,
     reach: Reach,
-) -> Result<Value, NoMemory>
-    ensures ok { IfOk result (λ json. view json ≡ referred_json chunk.now reach.references (class, key)) }
+    out: &mut String,
+) -> Result<(), NoMemory>
+    requires source { IsSource source.now }
+    ensures ok { OnOk result (string_bytes out.new ≡ string_bytes out.old ++ compact_text (referred_json source.now.chunk.now reach.references (class, key))) }
 {
-    let Some(node) = constant(chunk, class, key) else {
-        return missing_json(alloc, chunk, class, key);
+    let Some(node) = constant(source.chunk, class, key) else {
+        return push_missing(source, class, key, out);
     };
     if reach.references == 0 {
-        return reference_json(alloc, chunk, class, key);
+        return push_reference(source, class, key, out);
     }
-    node_json(alloc, chunk, &node, reach.of_constant())
+    push_node(source, &node, reach.of_constant(), out)
 }

@@ -1,41 +1,39 @@
-use Rattle.std.proofs.Common.{◌≡◌, ℕ, ◌+◌, ◌*◌, ◌-◌, ◌≤◌, drop, if◌then◌else◌}
-use Rattle.std.specs.Prelude.{map, replicate, slice_get, Some}
-use Rattle.serde_json.specs.Data.{no_members}
-use Rattle.serde_json.specs.View.{view, members_view}
-use Rattle.jfr_layout.specs.Classes.{Class, item_of}
+use Rattle.std.proofs.Common.{◌≡◌, ℕ, ◌+◌, ◌*◌, ◌-◌, ◌≤◌, ◌++◌, drop, false, if◌then◌else◌}
+use Rattle.std.specs.Prelude.{map, replicate, string_bytes}
+use Rattle.serde_json.specs.View.{items_of}
+use Rattle.serde_json.specs.Written.{items_text}
+use Rattle.jfr_layout.specs.Classes.{item_of}
 use Rattle.jfr_value.specs.Nodes.{IsRow}
 use Rattle.jfr_value.specs.Values.{Values}
 use Rattle.jfr_value.specs.Visits.{field_shapes}
-use Rattle.jfr_show.specs.Json.{json_of_all, members_with, referred_json}
-use Rattle.jfr_show.proofs.JsonLaws.{onto_list, onto_members}
+use Rattle.jfr_show.specs.Json.{json_of_all, referred_json}
+use Rattle.jfr_show.specs.Orders.{laid_out, lead_of}
+use Rattle.jfr_show.proofs.JsonLaws.{onto_items}
 use Rattle.jfr_show.proofs.LeftLaws.{Left}
 use Rattle.jfr_show.proofs.json.value.+json.Given as goal
 
 -- References first, then composite values, then the steps within one.
-abbrev pub decreases-referred_json : goal.decreases-referred_json
-decreases-referred_json l = 400 * l.reach.references
+abbrev pub decreases-push_referred : goal.decreases-push_referred
+decreases-push_referred l = 400 * l.reach.references
 
-abbrev pub decreases-fields_json : goal.decreases-fields_json
-decreases-fields_json l = 400 * l.reach.references + 4 * l.reach.composites
+abbrev pub decreases-push_fields : goal.decreases-push_fields
+decreases-push_fields l = 400 * l.reach.references + 4 * l.reach.composites
 
-abbrev pub decreases-items_json : goal.decreases-items_json
-decreases-items_json l = 400 * l.reach.references + 4 * l.reach.composites + 2
+abbrev pub decreases-push_items : goal.decreases-push_items
+decreases-push_items l = 400 * l.reach.references + 4 * l.reach.composites + 2
 
-abbrev pub decreases-value_json : goal.decreases-value_json
-decreases-value_json l = 400 * l.reach.references + 4 * l.reach.composites + (if l.layout.now.shape.array then 3 else 1)
+abbrev pub decreases-push_value : goal.decreases-push_value
+decreases-push_value l = 400 * l.reach.references + 4 * l.reach.composites + (if l.layout.now.shape.array then 3 else 1)
 
-abbrev pub decreases-node_json : goal.decreases-node_json
-decreases-node_json l = 400 * l.reach.references + 4 * l.reach.composites + 5
+abbrev pub decreases-push_node : goal.decreases-push_node
+decreases-push_node l = 400 * l.reach.references + 4 * l.reach.composites + 5
 
-abbrev pub invariant-items_json-items : goal.invariant-items_json-items
-invariant-items_json-items l = (to : ℕ) (vs : Values) → IsRow l.chunk.classes l.chunk.bytes l.initial.to to (replicate l.end (item_of l.layout.shape)) vs → to ≤ l.limit
-    → Left l.chunk.classes l.chunk.bytes to (json_of_all l.chunk.classes (referred_json l.chunk l.reach.references) vs)
-    (onto_list l.chunk.classes (referred_json l.chunk l.reach.references)) (replicate (l.end - l.counter) (item_of l.layout.shape)) l.to (map view l.values.items)
+abbrev pub invariant-push_items-items : goal.invariant-push_items-items
+invariant-push_items-items l = (to : ℕ) (vs : Values) → IsRow l.source.chunk.now.classes l.source.chunk.now.bytes l.initial.to to (replicate l.end (item_of l.layout.shape)) vs → to ≤ l.limit
+    → Left l.source.chunk.now.classes l.source.chunk.now.bytes to (string_bytes l.initial.out ++ items_text false (items_of (json_of_all l.source.chunk.now.classes (referred_json l.source.chunk.now l.reach.references) vs)))
+    (onto_items l.source.chunk.now.classes (referred_json l.source.chunk.now l.reach.references) l.later) (replicate (l.end - l.counter) (item_of l.layout.shape)) l.to (string_bytes l.out)
 
-abbrev pub invariant-fields_json-loop-layout : goal.invariant-fields_json-loop-layout
-invariant-fields_json-loop-layout l = record {
-  number : l.number ≡ l.layout-index;
-  left : (to : ℕ) (vs : Values) (class : Class) → IsRow l.chunk.classes l.chunk.bytes l.at to (field_shapes l.chunk.classes l.place) vs → to ≤ l.limit → slice_get l.chunk.classes l.place ≡ Some class
-      → Left l.chunk.classes l.chunk.bytes to (members_with no_members class.fields (json_of_all l.chunk.classes (referred_json l.chunk l.fn.reach.references) vs))
-      (onto_members l.chunk.classes (referred_json l.chunk l.fn.reach.references) (drop l.layout-index class.fields)) (drop l.layout-index (field_shapes l.chunk.classes l.place)) l.to (members_view l.members.entries);
-}
+abbrev pub invariant-push_fields-loop-lead : goal.invariant-push_fields-loop-lead
+invariant-push_fields-loop-lead l = (to : ℕ) (vs : Values) → IsRow l.source.chunk.now.classes l.source.chunk.now.bytes l.at to (field_shapes l.source.chunk.now.classes l.place) vs → to ≤ l.limit
+    → string_bytes l.out ++ laid_out (map lead_of (drop l.lead-index l.lead-items)) (json_of_all l.source.chunk.now.classes (referred_json l.source.chunk.now l.fn.reach.references) vs)
+    ≡ string_bytes l.initial.out ++ laid_out (map lead_of l.lead-items) (json_of_all l.source.chunk.now.classes (referred_json l.source.chunk.now l.fn.reach.references) vs)

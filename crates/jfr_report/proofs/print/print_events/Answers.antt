@@ -6,7 +6,7 @@ use Rattle.jfr_report.specs.Reports.{events_bytes}
 use Rattle.jfr_report.specs.Gathered.{IsGathered}
 use Rattle.jfr_report.proofs.PageLaws.{begins, last_page}
 use Rattle.jfr_report.proofs.KeptLaws.{kept_past}
-use Rattle.jfr_report.proofs.print.print_kept.Goals as goal
+use Rattle.jfr_report.proofs.print.print_events.Goals as goal
 
 pub loop-number-init : goal.loop-number-init
 loop-number-init g c =

@@ -4,7 +4,7 @@ use Rattle.jfr_chunk.specs.Parts.{events_of}
 use Rattle.jfr_chunk.specs.Reach.{kept_by, marked}
 use Rattle.jfr_report.specs.Reports.{events_bytes}
 use Rattle.jfr_report.specs.Gathered.{IsGathered}
-use Rattle.jfr_report.proofs.print.print_kept.Given as goal
+use Rattle.jfr_report.proofs.print.print_events.Given as goal
 
 -- the kept events so far are written or gathered
 abbrev pub invariant-loop-number : goal.invariant-loop-number

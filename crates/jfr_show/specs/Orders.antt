@@ -1,0 +1,63 @@
+-- The members of an object in the order of their keys, by the numbers of the fields.
+use Rattle.std.specs.Prelude.{◌≡◌, ℕ, zero, suc, ◌+◌, ◌<◌, List, [], ◌∷◌, ◌++◌, length, map, slice_get, string_bytes, unwrap_or, option_and_then, Bool, true, false, Some}
+use Rattle.std.specs.List.{AllByRecursion}
+use Rattle.serde_json.specs.Data.{Data, null, number, string, unsigned, Members, no_members, member}
+use Rattle.serde_json.specs.Find.{as_number, as_u64}
+use Rattle.serde_json.specs.Written.{comma_if, compact_text, members_text}
+use Rattle.jfr_layout.specs.Classes.{Class, Classes, Field, Sound}
+use Rattle.jfr_value.specs.Values.{Values, Nil, Cons, bytes_of}
+use Rattle.jfr_show.specs.declared.json.order.Lead.{Lead}
+use Rattle.jfr_show.specs.declared.json.order.Order.{Order}
+use Rattle.jfr_show.specs.declared.json.source.Source.{Source}
+use Rattle.jfr_show.specs.Json.{members_with}
+
+-- The value of a number, or null past the end.
+abbrev pub nth : List Data → ℕ → Data
+nth [] n = null
+nth (d ∷ ds) zero = d
+nth (d ∷ ds) (suc n) = nth ds n
+
+-- The values by their numbers, each behind what is written before it, and the end of the object.
+abbrev pub laid_out : List (List ℕ × ℕ) → List Data → List ℕ
+laid_out [] ds = 125 ∷ []
+laid_out (m ∷ ms) ds = m.0 ++ (compact_text (nth ds m.1) ++ laid_out ms ds)
+
+-- So laid out, values of all fields are the members of the object.
+pub record IsOrder (fs : List Field) (ms : List (List ℕ × ℕ)) : Type 0 where
+  pub within : AllByRecursion (λ m. m.1 < length fs) ms
+  pub exact : (ds : List Data) → length ds ≡ length fs → members_text false (members_with no_members fs ds) ≡ laid_out ms ds
+
+-- What the code keeps of a member, and of a class.
+abbrev pub lead_of : Lead → List ℕ × ℕ
+lead_of m = (string_bytes m.text, m.field)
+
+abbrev pub leads_of : Order → List (List ℕ × ℕ)
+leads_of o = map lead_of o.leads.items
+
+-- Each class of a sound list has its order, at its place.
+pub record AreOrders (k : Classes) (os : List Order) : Type 0 where
+  pub sound : Sound k
+  pub count : length os ≡ length k
+  pub each : (place : ℕ) (c : Class) (o : Order) → slice_get k place ≡ Some c → slice_get os place ≡ Some o → IsOrder c.fields (leads_of o)
+
+abbrev pub IsSource : Source → Type 0
+IsSource s = AreOrders s.chunk.now.classes s.orders.now
+
+-- The numbers of fields, from one on.
+abbrev pub numbers : ℕ → List Field → List Data
+numbers n [] = []
+numbers n (f ∷ fs) = number (unsigned n) ∷ numbers (suc n) fs
+
+-- The number that a value is.
+abbrev pub number_in : Data → ℕ
+number_in d = unwrap_or (option_and_then as_u64 (as_number d)) 0
+
+-- What is written before each member, and the number that is its value.
+abbrev pub leads : Bool → Members → List (List ℕ × ℕ)
+leads later no_members = []
+leads later (member key d ms) = (comma_if later ++ (compact_text (string key) ++ 58 ∷ []), number_in d) ∷ leads true ms
+
+-- Where values begin that stand one behind another.
+abbrev pub starts : ℕ → Values → List ℕ
+starts at Nil = []
+starts at (Cons v vs) = at ∷ starts (at + length (bytes_of v)) vs

@@ -1,0 +1,83 @@
+// The order in which the fields of a class are written.
+ghost use Rattle.std.specs.Prelude.{◌≡◌, [], ◌∷◌, ◌++◌, IfOk, string_bytes};
+ghost use Rattle.serde_json.specs.Data.{no_members, string};
+ghost use Rattle.serde_json.specs.View.{members_view};
+ghost use Rattle.serde_json.specs.Written.{comma_if, compact_text};
+ghost use Rattle.jfr_show.specs.Json.{members_with};
+ghost use Rattle.jfr_show.specs.Orders.{AreOrders, IsOrder, leads_of, numbers};
+
+use super::string::push_string;
+use jfr_base::NoMemory;
+use jfr_layout::{Classes, Fields};
+use serde_json::{Map, Value, put};
+use std::alloc::Global;
+
+/// A member of an object: what is written before its value, and the number of its field.
+#[derive(Drop)]
+pub(crate) struct Lead {
+    pub(crate) text: String,
+    pub(crate) field: usize,
+}
+
+/// The members of the objects of a class, in the order of their keys.
+#[derive(Drop)]
+pub(crate) struct Order {
+    pub(crate) leads: Vec<Lead>,
+}
+
+/// The orders of the classes, each at the place of its class.
+pub(crate) fn orders_of(alloc: Global, classes: &Classes) -> Result<Vec<Order>, NoMemory>
+    ensures ok { IfOk result (λ orders. AreOrders classes.now orders.items) }
+{
+    let mut orders = Vec::new(alloc);
+    for place in 0..classes.len() {
+        orders.push(order_of(alloc, &classes.class_at(place).fields)?)?;
+    }
+    Ok(orders)
+}
+
+/// The order of the fields of a class: that in which `serde_json`'s map has them.
+fn order_of(alloc: Global, fields: &Fields) -> Result<Order, NoMemory>
+    ensures ok { IfOk result (λ order. IsOrder fields.now (leads_of order)) }
+{
+    let members = numbered(alloc, fields)?;
+    let mut leads = Vec::new(alloc);
+    let mut later = false;
+    for (name, number) in members.iter() {
+        leads.push(Lead {
+            text: lead_text(alloc, later, name.as_str())?,
+            field: number.as_u64().unwrap_or(0) as usize,
+        })?;
+        later = true;
+    }
+    Ok(Order { leads })
+}
+
+/// A member for each field: its number, under its name.
+fn numbered(alloc: Global, fields: &Fields) -> Result<Map<String, Value>, NoMemory>
+    ensures ok { IfOk result (λ members. members_view members.entries ≡ members_with no_members fields.now (numbers 0 fields.now)) }
+{
+    let mut members = Map::new(alloc);
+    for number in 0..fields.len() {
+        put(
+            &mut members,
+            alloc,
+            fields.at(number).name.as_str(),
+            Value::from(number),
+        )?;
+    }
+    Ok(members)
+}
+
+/// What is written before the value of a member: a comma behind another member, the key, and a colon.
+fn lead_text(alloc: Global, later: bool, key: &str) -> Result<String, NoMemory>
+    ensures ok { IfOk result (λ text. string_bytes text ≡ comma_if later ++ (compact_text (string key.now) ++ 58 ∷ [])) }
+{
+    let mut text = String::new(alloc);
+    if later {
+        text.push_str(",")?;
+    }
+    push_string(alloc, key, &mut text)?;
+    text.push_str(":")?;
+    Ok(text)
+}
