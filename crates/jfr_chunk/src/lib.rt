@@ -2,6 +2,9 @@
 //!
 //! Read `specs/Parts.antt` first, then `specs/Refusal.antt`, `specs/Paths.antt`, `specs/Reach.antt`,
 //! `specs/Scrub.antt`, `specs/Meaning.antt` and `specs/Laws.antt`.
+//!
+//! `Chunk::event` hands out events as nodes; `child` and `target` of `jfr_value` go on from there, and
+//! `Chunk::entry_node` to the value of an entry. `jfr_example` is such a walk.
 #![tactic(auto)]
 
 mod chunk;
