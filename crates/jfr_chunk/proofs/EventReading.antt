@@ -14,7 +14,7 @@ use Rattle.jfr_frame.specs.Records.{IsRecord, AreRecords, record_end}
 use Rattle.jfr_value.specs.Values.{Value}
 use Rattle.jfr_value.specs.Reading.{value_format}
 use Rattle.jfr_pool.specs.Entries.{inline}
-use Rattle.jfr_chunk.specs.declared.chunk.EventIndexEntry.{EventIndexEntry}
+use Rattle.jfr_chunk.specs.declared.event_index.EventIndexEntry.{EventIndexEntry}
 use Rattle.jfr_chunk.specs.Parts.{HasFields, event_records, event_by, event_of}
 use Rattle.jfr_chunk.specs.Refusal.{fields_by, events_checked}
 use Rattle.jfr_chunk.specs.Seen.{event_with, event_kept}

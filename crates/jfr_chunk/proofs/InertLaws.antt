@@ -17,7 +17,7 @@ use Rattle.jfr_pool.specs.declared.link.Link.{Link}
 use Rattle.jfr_pool.specs.Chains.{IsLink, IsChain}
 use Rattle.jfr_pool.specs.Entries.{inline}
 use Rattle.jfr_chunk.specs.Parts.{Parts, HasFields, event_by, event_of, event_records, events_of, is_inert, AreParts, metadata_at, pools_at}
-use Rattle.jfr_chunk.specs.declared.chunk.EventIndexEntry.{EventIndexEntry}
+use Rattle.jfr_chunk.specs.declared.event_index.EventIndexEntry.{EventIndexEntry}
 use Rattle.jfr_chunk.specs.Seen.{event_kept}
 use Rattle.jfr_chunk.proofs.SeenLaws.{each_length}
 use Rattle.jfr_chunk.proofs.Members.{In, contains_in}

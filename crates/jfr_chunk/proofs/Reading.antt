@@ -1,7 +1,6 @@
 -- Reading a chunk, stage by stage: what each refuses refuses the chunk, and all together give its parts.
 use Rattle.std.specs.Prelude.{◌≡◌, ℕ, ◌≤◌, List, length, take, reverse, IsTrue, Option, Some, None, Result, Ok, Err, IfErr, MatchResult}
 use Rattle.std.specs.List.{AllByRecursion}
-use Rattle.std.specs.BTreeMap.{BTreeMap}
 use Rattle.std.specs.Result.{IsErr}
 use Rattle.std.proofs.Common.{ap, refl, sym, subst}
 use Rattle.std.proofs.lemmas.List.{reverse-reverse}
@@ -25,7 +24,7 @@ use Rattle.jfr_pool.specs.Chains.{IsChain, IsRefusedChain}
 use Rattle.jfr_pool.specs.Entries.{AreEntries, entries_of}
 use Rattle.jfr_pool.specs.Faults.{TellsFlaw}
 use Rattle.jfr_pool.proofs.Among.{found_any}
-use Rattle.jfr_chunk.specs.declared.chunk.EventIndexEntry.{EventIndexEntry}
+use Rattle.jfr_chunk.specs.declared.event_index.EventIndex.{EventIndex}
 use Rattle.jfr_chunk.specs.Parts.{Parts, StartsAt, AreParts, events_of, metadata_at, pools_at}
 use Rattle.jfr_chunk.specs.Refusal.{Framing, Chained, Described, Refused, framing, metadata_position, pool_position, chain, metadata, checkpoints, events, found_or, read_parts}
 use Rattle.jfr_chunk.specs.Seen.{AreRefs, IsIndexed, due, parts_in}
@@ -157,9 +156,9 @@ module _ (c : List ℕ) (h : Header) (rs : List Framed) (m : Framed) (n : Named 
           pub entries_within : length es ≤ length c
           entries_within = entries_few c rs n.records (pools_at c) (reverse ls) links k (described_sound b k d.classes) es there
 
-          pub indexed : (fields : List EventIndexEntry) (early : BTreeMap ℕ ℕ) (numbers : List ℕ) → Whole c → AreFields c k rs fields early → AreRefs (due es k c rs early) 0 fields numbers → IsIndexed (parts_in c rs ls b k es) h m fields early numbers
+          pub indexed : (index : EventIndex) → Whole c → AreFields c k rs index.fields.items index.early → AreRefs (due es k c rs index.early) 0 index.fields.items index.numbers.items → IsIndexed (parts_in c rs ls b k es) h m index
           unfolding events_of
-          indexed fields early numbers whole f refs_end = record {
+          indexed index whole f refs_end = record {
             whole = whole;
             parts = record { records = n.records; chain = links; metadata_record = m; metadata_there = metadata_there; metadata = d; entries = there; events = f.stand };
             header_is = n.header_is;

@@ -13,7 +13,7 @@ use Rattle.jfr_value.specs.Nodes.{node_at}
 use Rattle.jfr_value.specs.Visits.{TakesAll}
 use Rattle.jfr_pool.specs.declared.entry.EntryAt.{EntryAt}
 use Rattle.jfr_pool.specs.Entries.{inline, number_in_force}
-use Rattle.jfr_chunk.specs.declared.chunk.EventIndexEntry.{EventIndexEntry}
+use Rattle.jfr_chunk.specs.declared.event_index.EventIndexEntry.{EventIndexEntry}
 use Rattle.jfr_chunk.specs.declared.refs.ConstantRefs.{ConstantRefs}
 use Rattle.jfr_chunk.specs.Refs.{AddsRefs}
 use Rattle.jfr_chunk.specs.Parts.{EventAt}

@@ -6,7 +6,7 @@ use Rattle.std.proofs.Common.{ap, refl, sym, ◌∙◌}
 use Rattle.jfr_frame.specs.declared.framed.Framed.{Framed}
 use Rattle.jfr_value.specs.Nodes.{targets}
 use Rattle.jfr_pool.specs.Entries.{number_in_force}
-use Rattle.jfr_chunk.specs.declared.chunk.EventIndexEntry.{EventIndexEntry}
+use Rattle.jfr_chunk.specs.declared.event_index.EventIndexEntry.{EventIndexEntry}
 use Rattle.jfr_chunk.specs.Parts.{EventAt, Parts, events_of}
 use Rattle.jfr_chunk.specs.Reach.{all_targets, node_entries, nodes_of, roots}
 use Rattle.jfr_chunk.specs.Seen.{AreRefs, due, end_in, event_kept, event_with}

@@ -1,7 +1,7 @@
 -- Room for the indexes of a chunk.
 use Rattle.std.specs.Prelude.{◌≡◌, []}
 use Rattle.std.specs.BTreeMap as tree
-use Rattle.jfr_chunk.specs.declared.read.EventIndex.{EventIndex}
+use Rattle.jfr_chunk.specs.declared.event_index.EventIndex.{EventIndex}
 use Rattle.jfr_chunk.specs.declared.room.Room.{Room}
 
 -- There are no events, no early ends, and no numbers of entries.

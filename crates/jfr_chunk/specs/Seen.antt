@@ -16,7 +16,8 @@ use Rattle.jfr_value.specs.Nodes.{node_at, node_of}
 use Rattle.jfr_pool.specs.declared.link.Link.{Link}
 use Rattle.jfr_pool.specs.declared.entry.EntryAt.{EntryAt}
 use Rattle.jfr_pool.specs.Entries.{inline}
-use Rattle.jfr_chunk.specs.declared.chunk.EventIndexEntry.{EventIndexEntry}
+use Rattle.jfr_chunk.specs.declared.event_index.EventIndexEntry.{EventIndexEntry}
+use Rattle.jfr_chunk.specs.declared.event_index.EventIndex.{EventIndex}
 use Rattle.jfr_chunk.specs.declared.event.Event.{Event}
 use Rattle.jfr_chunk.specs.Parts.{Parts, EventAt, StartsAt, AreParts, events_of, metadata_at}
 use Rattle.jfr_chunk.specs.Reach.{node_entries}
@@ -43,13 +44,13 @@ AreRefs due from [] numbers = numbers ≡ []
 AreRefs due from (f ∷ fs) numbers = (rest : List ℕ) × (numbers ≡ due f ++ rest) × (f.refs_end ≡ from + length (due f)) × AreRefs due f.refs_end fs rest
 
 -- The parts stand in a whole chunk; the header, the metadata record, the events and what they refer to are those of the parts.
-pub record IsIndexed (p : Parts) (header : Header) (metadata : Framed) (fields : List EventIndexEntry) (early : BTreeMap ℕ ℕ) (numbers : List ℕ) : Type 0 where
+pub record IsIndexed (p : Parts) (header : Header) (metadata : Framed) (index : EventIndex) : Type 0 where
   pub whole : Whole p.bytes
   pub parts : AreParts p
   pub header_is : header ≡ header_of (take 68 p.bytes)
   pub metadata_there : StartsAt p.records (metadata_at p.bytes) 0 metadata
-  pub events : map (event_kept p.records early) fields ≡ map Some (events_of p)
-  pub refs_end : AreRefs (due p.entries p.classes p.bytes p.records early) 0 fields numbers
+  pub events : map (event_kept p.records index.early) index.fields.items ≡ map Some (events_of p)
+  pub refs_end : AreRefs (due p.entries p.classes p.bytes p.records index.early) 0 index.fields.items index.numbers.items
 
 -- What a metadata record's body holds, as it was read.
 abbrev pub body_in : Metadata → Body

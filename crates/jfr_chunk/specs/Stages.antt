@@ -9,7 +9,7 @@ use Rattle.jfr_frame.specs.declared.framed.Framed.{Framed}
 use Rattle.jfr_frame.specs.Records.{record_end}
 use Rattle.jfr_value.specs.Reading.{value_format}
 use Rattle.jfr_pool.specs.Entries.{inline}
-use Rattle.jfr_chunk.specs.declared.chunk.EventIndexEntry.{EventIndexEntry}
+use Rattle.jfr_chunk.specs.declared.event_index.EventIndexEntry.{EventIndexEntry}
 use Rattle.jfr_chunk.specs.Parts.{HasFields, event_records, event_of}
 use Rattle.jfr_chunk.specs.Refusal.{FirstFails}
 use Rattle.jfr_chunk.specs.Seen.{event_kept}

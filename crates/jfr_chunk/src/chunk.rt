@@ -14,6 +14,7 @@ ghost use Rattle.jfr_chunk.specs.Refusal.{Refused, read_parts};
 ghost use Rattle.jfr_chunk.specs.Rooms.{IsEmpty};
 ghost use Rattle.jfr_chunk.specs.Seen.{IsOfChunk, end_in, event_at};
 
+use crate::event_index::EventIndex;
 use crate::read::{header_in, read_events, record_named};
 use crate::{Event, Kept, Room};
 use jfr_base::{Flaw, NoMemory, ReadFault, Reason};
@@ -24,7 +25,6 @@ use jfr_meta::{Metadata, read_metadata};
 use jfr_pool::{Chain, Pools};
 use jfr_value::Node;
 use std::alloc::Global;
-use std::collections::BTreeMap;
 use std::marker::Model;
 
 // The types of metadata records and of checkpoints.
@@ -43,15 +43,6 @@ const NO_CHECKPOINT: Flaw = Flaw {
     reason: Reason::PoolPosition,
 };
 
-/// Where the fields of an event stand: the number of its record, with which nearly all end; and how many
-/// numbers of entries are indexed up to the last one to which it refers. A chunk has so many events that
-/// these are kept short: none is larger than the chunk.
-#[derive(Clone, Copy, Debug)]
-pub(crate) struct EventIndexEntry {
-    pub record: u32,
-    pub refs_end: u32,
-}
-
 /// A chunk inside the grammar, with the indexes over it. None of its bytes is copied.
 #[derive(Drop)]
 pub struct Chunk<'a> {
@@ -62,9 +53,7 @@ pub struct Chunk<'a> {
     chain: Chain,
     metadata: Metadata,
     pools: Pools,
-    events: Vec<EventIndexEntry>,
-    early: BTreeMap<u32, u32>,
-    numbers: Vec<u32>,
+    events: EventIndex,
 }
 
 impl<'a> Model for Chunk<'a> {
@@ -79,7 +68,7 @@ impl<'a> Model for Chunk<'a> {
 
     ghost view = { λ c. parts_in c.bytes.now c.frames c.chain (body_in c.metadata) c.metadata.classes c.pools };
 
-    ghost invariant = { λ c. IsIndexed (parts_in c.bytes.now c.frames c.chain (body_in c.metadata) c.metadata.classes c.pools) c.header c.metadata_frame c.events.items c.early c.numbers.items };
+    ghost invariant = { λ c. IsIndexed (parts_in c.bytes.now c.frames c.chain (body_in c.metadata) c.metadata.classes c.pools) c.header c.metadata_frame c.events };
 }
 
 impl<'a> Chunk<'a> {
@@ -111,7 +100,7 @@ impl<'a> Chunk<'a> {
         let chain = Chain::read(alloc, bytes, &frames, header.pools)?;
         let metadata = read_metadata(alloc, bytes, &metadata_frame)?;
         let pools = Pools::read(alloc, bytes, &metadata.classes, &chain)?;
-        let index = read_events(room.events, bytes, &frames, &metadata.classes, &pools)?;
+        let events = read_events(room.events, bytes, &frames, &metadata.classes, &pools)?;
         Ok(Chunk {
             bytes,
             header,
@@ -120,9 +109,7 @@ impl<'a> Chunk<'a> {
             chain,
             metadata,
             pools,
-            events: index.fields,
-            early: index.early,
-            numbers: index.numbers,
+            events,
         })
     }
 
@@ -130,12 +117,7 @@ impl<'a> Chunk<'a> {
     pub fn into_room(self) -> Room
         ensures { IsEmpty result }
     {
-        Room::of(
-            self.frames.into_room(),
-            self.events,
-            self.early,
-            self.numbers,
-        )
+        Room::of(self.frames.into_room(), self.events)
     }
 
     /// The bytes of the chunk.
@@ -225,14 +207,14 @@ impl<'a> Chunk<'a> {
     pub fn inert_count(&self) -> u64
         ensures { result ≡ length (filter (is_inert self.now) self.now.records) }
     {
-        (self.frames.len() - self.events.len() - self.chain.len() - 1) as u64
+        (self.frames.len() - self.events.fields.len() - self.chain.len() - 1) as u64
     }
 
     /// How many events there are.
     pub fn event_count(&self) -> usize
         ensures { result ≡ length (events_of self.now) }
     {
-        self.events.len()
+        self.events.fields.len()
     }
 
     /// All events, kept.
@@ -240,7 +222,7 @@ impl<'a> Chunk<'a> {
         ensures ok { IfOk result (λ kept. kept ≡ replicate (length (events_of self.now)) true) }
         ensures parts { AreParts self.now }
     {
-        Kept::all(alloc, self.events.len())
+        Kept::all(alloc, self.events.fields.len())
     }
 
     /// The event of a number, from 0, in the order of the file; `None` exactly past the end.
@@ -250,7 +232,7 @@ impl<'a> Chunk<'a> {
         ensures of_chunk { IfSome result (IsOfChunk self.now number) }
         ensures value { IfSome result (λ event. IsValue self.now.classes event.node) }
     {
-        let fields = fields_at(&self.events, number)?;
+        let fields = self.events.fields_at(number)?;
         let frame = self.frames.get(fields.record as usize)?;
         let shape = Shape {
             class: frame.type_id,
@@ -261,7 +243,7 @@ impl<'a> Chunk<'a> {
             shape,
             bytes: self.bytes,
             at: frame.body,
-            end: end_of_fields(&self.early, fields.record, frame),
+            end: self.events.end_of_fields(fields.record, frame),
         };
         Some(Event {
             number,
@@ -276,7 +258,7 @@ impl<'a> Chunk<'a> {
     pub fn event_place(&self, number: usize) -> Option<usize>
         ensures { result ≡ option_map (λ e. e.record_of.at) (slice_get (events_of self.now) number) }
     {
-        let fields = fields_at(&self.events, number)?;
+        let fields = self.events.fields_at(number)?;
         self.frames.place(fields.record as usize)
     }
 
@@ -285,7 +267,7 @@ impl<'a> Chunk<'a> {
     pub fn event_record(&self, number: usize) -> Option<usize>
         ensures { option_map (slice_get self.now.records) result ≡ option_map (λ e. Some e.record_of) (slice_get (events_of self.now) number) }
     {
-        let fields = fields_at(&self.events, number)?;
+        let fields = self.events.fields_at(number)?;
         Some(fields.record as usize)
     }
 
@@ -293,7 +275,7 @@ impl<'a> Chunk<'a> {
     pub fn all_entries(&self) -> &[u32]
         ensures { result.now ≡ roots self.now (events_of self.now) }
     {
-        self.numbers.as_slice()
+        self.events.numbers.as_slice()
     }
 
     /// The numbers of the entries in force to which the event of a number refers, from left to right;
@@ -301,41 +283,8 @@ impl<'a> Chunk<'a> {
     pub fn event_entries(&self, number: usize) -> Option<&[u32]>
         ensures { option_map (λ s. s.now) result ≡ option_map (λ e. node_entries self.now.entries self.now.classes self.now.bytes e.node) (slice_get (events_of self.now) number) }
     {
-        let fields = fields_at(&self.events, number)?;
-        let start = refs_before(&self.events, number);
-        self.numbers.get(start..fields.refs_end as usize)
-    }
-}
-
-// Where the fields of the event of a number stand.
-#[inline]
-fn fields_at(events: &[EventIndexEntry], number: usize) -> Option<EventIndexEntry>
-    ensures { result ≡ slice_get events.now number }
-{
-    events.get(number).copied()
-}
-
-// Where the fields of the event of a record end, by the record's number.
-#[inline]
-fn end_of_fields(early: &BTreeMap<u32, u32>, number: u32, frame: Framed) -> usize
-    requires { record_end frame < 2 ^ 64 }
-    ensures { result ≡ end_in early.now number frame }
-{
-    match early.get(&number) {
-        Some(end) => *end as usize,
-        None => frame.at + frame.size,
-    }
-}
-
-// How many references the events before the one of a number have.
-#[inline]
-fn refs_before(events: &[EventIndexEntry], number: usize) -> usize
-    requires { number < length events.now }
-    ensures first { number ≡ 0 → result ≡ 0 }
-    ensures later { (before : ℕ) → number ≡ before + 1 → Some result ≡ option_map (λ f. f.refs_end) (slice_get events.now before) }
-{
-    match number.checked_sub(1) {
-        Some(before) => events[before].refs_end as usize,
-        None => 0,
+        let fields = self.events.fields_at(number)?;
+        let start = self.events.refs_before(number);
+        self.events.numbers.get(start..fields.refs_end as usize)
     }
 }

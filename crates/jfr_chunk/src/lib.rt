@@ -9,6 +9,7 @@
 
 mod chunk;
 mod event;
+mod event_index;
 mod kept;
 mod laws;
 mod read;

@@ -14,11 +14,10 @@ ghost use Rattle.jfr_pool.specs.Entries.{inline};
 ghost use Rattle.jfr_chunk.specs.Refs.{AddsRefs};
 ghost use Rattle.jfr_chunk.specs.Reach.{node_entries};
 ghost use Rattle.jfr_chunk.specs.Refusal.{found_or};
-ghost use Rattle.jfr_chunk.specs.Rooms.{HasNoEvents};
 ghost use Rattle.jfr_chunk.specs.Seen.{AreRefs, due};
 ghost use Rattle.jfr_chunk.specs.Stages.{AreFields, IsRefusedEvents};
 
-use crate::chunk::EventIndexEntry;
+use crate::event_index::{EventIndex, EventIndexEntry};
 use crate::refs::ConstantRefs;
 use jfr_base::{Flaw, NoMemory, ReadFault};
 use jfr_frame::{Framed, Frames};
@@ -55,38 +54,6 @@ pub(crate) fn record_named(
     match frames.find(at, type_id) {
         Some(record) => Ok(record),
         None => Err(flaw),
-    }
-}
-
-/// Where the fields of the events stand, in the order of the file, and the numbers of the entries in
-/// force to which they refer.
-#[derive(Drop)]
-pub(crate) struct EventIndex {
-    pub fields: Vec<EventIndexEntry>,
-    /// Where the fields of the few events end that do so before their record, by its number.
-    pub early: BTreeMap<u32, u32>,
-    pub numbers: Vec<u32>,
-}
-
-impl EventIndex {
-    /// The index of no events. It takes no memory.
-    pub fn new(alloc: Global) -> EventIndex
-        ensures { HasNoEvents result }
-    {
-        EventIndex {
-            fields: Vec::new(alloc),
-            early: BTreeMap::new(alloc),
-            numbers: Vec::new(alloc),
-        }
-    }
-
-    /// Gives up what is there, and keeps the room.
-    pub fn clear(&mut self)
-        ensures { HasNoEvents self.new }
-    {
-        self.fields.clear();
-        self.early.clear();
-        self.numbers.clear();
     }
 }
 

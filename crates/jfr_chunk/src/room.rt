@@ -2,11 +2,9 @@
 ghost use Rattle.std.specs.Prelude.{◌≡◌};
 ghost use Rattle.jfr_chunk.specs.Rooms.{IsEmpty};
 
-use crate::chunk::EventIndexEntry;
-use crate::read::EventIndex;
+use crate::event_index::EventIndex;
 use jfr_frame::FrameRoom;
 use std::alloc::Global;
-use std::collections::BTreeMap;
 
 /// The room that the indexes of a chunk took, to be used again for those of the next one.
 #[derive(Drop)]
@@ -27,22 +25,10 @@ impl Room {
     }
 
     /// The room of indexes, which are given up.
-    pub(crate) fn of(
-        frames: FrameRoom,
-        fields: Vec<EventIndexEntry>,
-        early: BTreeMap<u32, u32>,
-        numbers: Vec<u32>,
-    ) -> Room
+    pub(crate) fn of(frames: FrameRoom, events: EventIndex) -> Room
         ensures { IsEmpty result }
     {
-        let mut room = Room {
-            frames,
-            events: EventIndex {
-                fields,
-                early,
-                numbers,
-            },
-        };
+        let mut room = Room { frames, events };
         room.frames.clear();
         room.events.clear();
         room

@@ -1,7 +1,6 @@
-use Rattle.std.proofs.Common.{rules, ◌≡◌, ap, arith, sym, ◌∙◌, ◌≤◌, map, subst, length}
-use Rattle.std.specs.Prelude.{Some, slice_get, slice_range, option_map}
+use Rattle.std.proofs.Common.{rules, ◌≡◌, ap, sym, ◌∙◌, ◌≤◌, map, subst, length}
+use Rattle.std.specs.Prelude.{Some, slice_get, slice_range}
 use Rattle.std.proofs.lemmas.Option.{slice_get_within}
-use Rattle.jfr_chunk.specs.declared.chunk.EventIndexEntry.{EventIndexEntry}
 use Rattle.jfr_chunk.specs.Parts.{Parts, events_of}
 use Rattle.jfr_chunk.specs.Seen.{AreRefs, due, event_kept}
 use Rattle.jfr_chunk.proofs.RefLaws.{refs_range, range_got}
@@ -10,19 +9,18 @@ use Rattle.jfr_chunk.proofs.chunk.Chunk.event_entries.Goals as goal
 
 pub refs_before-start-requires : goal.refs_before-start-requires
 refs_before-start-requires c =
-    let g : slice_get c.self.inside.events.items c.args.number ≡ Some c.in_ok-fields.fields = search rules in
-    let l = slice_get_within c.self.inside.events.items c.args.number c.in_ok-fields.fields g in
-    omega (arith, c.deref-2.ensures.len)
+    let g : slice_get c.self.inside.events.fields.items c.args.number ≡ Some c.in_ok-fields.fields = search rules in
+    slice_get_within c.self.inside.events.fields.items c.args.number c.in_ok-fields.fields g
 
 pub returns : goal.returns
 returns c =
-    let e : map (event_kept c.args.self.now.records c.self.inside.early) c.self.inside.events.items ≡ map Some (events_of c.args.self.now) = search rules in
-    let g : slice_get c.self.inside.events.items c.args.number ≡ Some c.in_ok-fields.fields = search rules in
-    let a = subst (λ (p : Parts). AreRefs (due p.entries p.classes p.bytes p.records c.self.inside.early) 0 c.self.inside.events.items c.self.inside.numbers.items) c.self.view_is c.self.invariant.refs_end in
-    let r = refs_range (due c.args.self.now.entries c.args.self.now.classes c.args.self.now.bytes c.args.self.now.records c.self.inside.early) c.self.inside.events.items c.self.inside.numbers.items c.args.number c.in_ok-fields.fields c.refs_before-start.result a g
-    c.refs_before-start.ensures.first (λ b h. c.refs_before-start.ensures.later b h ∙ ap (λ z. option_map (λ (f : EventIndexEntry). f.refs_end) (slice_get z b)) c.deref-2.ensures.value) in
-    let d = event_due c.args.self.now c.self.inside.early c.self.inside.events.items c.args.number c.in_ok-fields.fields e g in
-    let n = c.deref-3.ensures.value in
-    let w : c.in_ok-fields.fields.refs_end ≤ length c.deref-3.result.now = subst (λ z. c.in_ok-fields.fields.refs_end ≤ length z) (sym n) r.within in
-    range_got c.get.result c.deref-3.result.now c.refs_before-start.result c.in_ok-fields.fields.refs_end c.get.ensures.lookup.0 r.order w
+    let e : map (event_kept c.args.self.now.records c.self.inside.events.early) c.self.inside.events.fields.items ≡ map Some (events_of c.args.self.now) = search rules in
+    let g : slice_get c.self.inside.events.fields.items c.args.number ≡ Some c.in_ok-fields.fields = search rules in
+    let a = subst (λ (p : Parts). AreRefs (due p.entries p.classes p.bytes p.records c.self.inside.events.early) 0 c.self.inside.events.fields.items c.self.inside.events.numbers.items) c.self.view_is c.self.invariant.refs_end in
+    let r = refs_range (due c.args.self.now.entries c.args.self.now.classes c.args.self.now.bytes c.args.self.now.records c.self.inside.events.early) c.self.inside.events.fields.items c.self.inside.events.numbers.items c.args.number c.in_ok-fields.fields c.refs_before-start.result a g
+    c.refs_before-start.ensures.first c.refs_before-start.ensures.later in
+    let d = event_due c.args.self.now c.self.inside.events.early c.self.inside.events.fields.items c.args.number c.in_ok-fields.fields e g in
+    let n = c.deref.ensures.value in
+    let w : c.in_ok-fields.fields.refs_end ≤ length c.deref.result.now = subst (λ z. c.in_ok-fields.fields.refs_end ≤ length z) (sym n) r.within in
+    range_got c.get.result c.deref.result.now c.refs_before-start.result c.in_ok-fields.fields.refs_end c.get.ensures.lookup.0 r.order w
     ∙ (ap (λ z. Some (slice_range z c.refs_before-start.result c.in_ok-fields.fields.refs_end)) n ∙ (ap (λ z. Some z) r.range ∙ d))

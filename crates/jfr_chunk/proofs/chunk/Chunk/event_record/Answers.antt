@@ -7,6 +7,6 @@ use Rattle.jfr_chunk.proofs.chunk.Chunk.event_record.Goals as goal
 
 pub returns : goal.returns
 returns c =
-    let e : map (event_kept c.args.self.now.records c.self.inside.early) c.self.inside.events.items ≡ map Some (events_of c.args.self.now) = search rules in
-    let g : slice_get c.self.inside.events.items c.args.number ≡ Some c.in_ok-fields.fields = search rules in
-    event_recorded c.args.self.now c.self.inside.early c.self.inside.events.items c.args.number c.in_ok-fields.fields e g
+    let e : map (event_kept c.args.self.now.records c.self.inside.events.early) c.self.inside.events.fields.items ≡ map Some (events_of c.args.self.now) = search rules in
+    let g : slice_get c.self.inside.events.fields.items c.args.number ≡ Some c.in_ok-fields.fields = search rules in
+    event_recorded c.args.self.now c.self.inside.events.early c.self.inside.events.fields.items c.args.number c.in_ok-fields.fields e g

@@ -57,16 +57,16 @@ returns-in_err-pools-clause-exact c = told_of _ _ _ c.requires.long c.from_resid
 pub read_events-requires-clause-entries : goal.read_events-requires-clause-entries
 read_events-requires-clause-entries c = entries_within _ _ _ _ (named _ _ _ _ c.header_in-header.ensures c.in_ok-frames.ensures.ok (sym c.in_ok-metadata_frame.was ∙ c.record_named.ensures)) _ (sym c.in_ok-record_named.was ∙ c.record_named-2.ensures) c.in_ok-chain.chain c.in_ok-chain.ensures.ok _ _ c.in_ok-metadata.ensures.ok c.in_ok-pools.pools c.in_ok-pools.ensures.ok
 
-pub returns-in_err-index-clause-refused : goal.returns-in_err-index-clause-refused
-returns-in_err-index-clause-refused c =
-    let p = err_from_is_err_and c.from_residual-in_err-index.result c.from_residual-in_err-index.ensures.1 in
-    rw (p.1, p.2) (events_refused _ _ _ _ (named _ _ _ _ c.header_in-header.ensures c.in_ok-frames.ensures.ok (sym c.in_ok-metadata_frame.was ∙ c.record_named.ensures)) _ (sym c.in_ok-record_named.was ∙ c.record_named-2.ensures) c.in_ok-chain.chain c.in_ok-chain.ensures.ok _ _ c.in_ok-metadata.ensures.ok c.in_ok-pools.pools c.in_ok-pools.ensures.ok c.in_err-index.field-0.0 c.in_err-index.ensures.refused)
+pub returns-in_err-events-clause-refused : goal.returns-in_err-events-clause-refused
+returns-in_err-events-clause-refused c =
+    let p = err_from_is_err_and c.from_residual-in_err-events.result c.from_residual-in_err-events.ensures.1 in
+    rw (p.1, p.2) (events_refused _ _ _ _ (named _ _ _ _ c.header_in-header.ensures c.in_ok-frames.ensures.ok (sym c.in_ok-metadata_frame.was ∙ c.record_named.ensures)) _ (sym c.in_ok-record_named.was ∙ c.record_named-2.ensures) c.in_ok-chain.chain c.in_ok-chain.ensures.ok _ _ c.in_ok-metadata.ensures.ok c.in_ok-pools.pools c.in_ok-pools.ensures.ok c.in_err-events.field-0.0 c.in_err-events.ensures.refused)
 
-pub returns-in_err-index-clause-exact : goal.returns-in_err-index-clause-exact
-returns-in_err-index-clause-exact c = told_of _ _ _ c.requires.long c.from_residual-in_err-index.ensures.0 (returns-in_err-index-clause-refused c)
+pub returns-in_err-events-clause-exact : goal.returns-in_err-events-clause-exact
+returns-in_err-events-clause-exact c = told_of _ _ _ c.requires.long c.from_residual-in_err-events.ensures.0 (returns-in_err-events-clause-refused c)
 
 pub invariant_of-result : goal.invariant_of-result
-invariant_of-result c = indexed _ _ _ _ (named _ _ _ _ c.header_in-header.ensures c.in_ok-frames.ensures.ok (sym c.in_ok-metadata_frame.was ∙ c.record_named.ensures)) _ (sym c.in_ok-record_named.was ∙ c.record_named-2.ensures) c.in_ok-chain.chain c.in_ok-chain.ensures.ok _ _ c.in_ok-metadata.ensures.ok c.in_ok-pools.pools c.in_ok-pools.ensures.ok c.in_ok-index.index.fields.items c.in_ok-index.index.early c.in_ok-index.index.numbers.items c.requires c.in_ok-index.ensures.ok c.in_ok-index.ensures.refs_end
+invariant_of-result c = indexed _ _ _ _ (named _ _ _ _ c.header_in-header.ensures c.in_ok-frames.ensures.ok (sym c.in_ok-metadata_frame.was ∙ c.record_named.ensures)) _ (sym c.in_ok-record_named.was ∙ c.record_named-2.ensures) c.in_ok-chain.chain c.in_ok-chain.ensures.ok _ _ c.in_ok-metadata.ensures.ok c.in_ok-pools.pools c.in_ok-pools.ensures.ok c.in_ok-events.events c.requires c.in_ok-events.ensures.ok c.in_ok-events.ensures.refs_end
 
 pub returns-clause-exact : goal.returns-clause-exact
-returns-clause-exact c = parts_told _ _ c.requires.long refl (indexed _ _ _ _ (named _ _ _ _ c.header_in-header.ensures c.in_ok-frames.ensures.ok (sym c.in_ok-metadata_frame.was ∙ c.record_named.ensures)) _ (sym c.in_ok-record_named.was ∙ c.record_named-2.ensures) c.in_ok-chain.chain c.in_ok-chain.ensures.ok _ _ c.in_ok-metadata.ensures.ok c.in_ok-pools.pools c.in_ok-pools.ensures.ok c.in_ok-index.index.fields.items c.in_ok-index.index.early c.in_ok-index.index.numbers.items c.requires c.in_ok-index.ensures.ok c.in_ok-index.ensures.refs_end).parts
+returns-clause-exact c = parts_told _ _ c.requires.long refl (indexed _ _ _ _ (named _ _ _ _ c.header_in-header.ensures c.in_ok-frames.ensures.ok (sym c.in_ok-metadata_frame.was ∙ c.record_named.ensures)) _ (sym c.in_ok-record_named.was ∙ c.record_named-2.ensures) c.in_ok-chain.chain c.in_ok-chain.ensures.ok _ _ c.in_ok-metadata.ensures.ok c.in_ok-pools.pools c.in_ok-pools.ensures.ok c.in_ok-events.events c.requires c.in_ok-events.ensures.ok c.in_ok-events.ensures.refs_end).parts
