@@ -1,8 +1,11 @@
 // The commands that write text, those that split and join, and the sample.
+ghost use Rattle.std.specs.Prelude.{◌≤◌};
+
 use crate::calls::words;
 use jfr_cli::run;
 use jfr_fixtures::{PLAIN, RINGS, STRINGS, inert, with_classes};
 use jfr_outside::{Call, MemoryPlace, MemorySink};
+use jfr_sample::sample;
 use std::alloc::Global;
 use std::process::Abort;
 use std::test::Fail;
@@ -139,6 +142,53 @@ fn the_sample_is_counted(rt: HostRuntime) -> Result<(), Fail> {
         SAMPLE,
         "",
     )
+}
+
+// Scrubs the recording of a sample, put into a place as a file, and counts the bytes of what is left.
+fn scrubbed_size(rt: &impl Abort, alloc: Global, seed: u32, events: u32) -> Result<usize, Fail>
+    requires some { 1 ≤ events }
+    requires most { events ≤ 1000000 }
+{
+    let mut place = MemoryPlace::new(alloc);
+    place.put("a.jfr", &sample(alloc, seed, events)?)?;
+    let line = &["scrub", "--include-events", "t.A", "a.jfr", "b.jfr"];
+    says(rt, alloc, &mut place, line, 0, "", "")?;
+    match place.file("b.jfr") {
+        Some(bytes) => Ok(bytes.len()),
+        None => Ok(0),
+    }
+}
+
+// The last line of the command `sample`.
+fn last_line(alloc: Global, seed: &str, events: &str) -> Result<String, Fail> {
+    let mut place = MemoryPlace::new(alloc);
+    let mut out = MemorySink::new(alloc);
+    let mut err = MemorySink::new(alloc);
+    let line = words(alloc, &["sample", seed, events])?;
+    run(alloc, &line, &mut place, &mut out, &mut err);
+    let bytes = out.bytes();
+    let start = bytes
+        .iter()
+        .rposition(|byte| *byte == b'k')
+        .unwrap_or(bytes.len());
+    let mut last = String::new(alloc);
+    for byte in &bytes[start..] {
+        last.push(char::from(*byte))?;
+    }
+    Ok(last)
+}
+
+// What is left of a sample has as many bytes as the command says.
+#[test]
+fn the_sample_is_scrubbed_as_a_file(rt: HostRuntime) -> Result<(), Fail> {
+    let alloc = rt.alloc();
+    for (seed, events, words) in [(0u32, 7u32, ["0", "7"]), (1, 1_000_000, ["1", "1000000"])] {
+        let size = scrubbed_size(&rt, alloc, seed, events)?;
+        let expected = format!(in alloc; "kept bytes {size}\n")?;
+        let line = last_line(alloc, words[0], words[1])?;
+        assert_eq!(&rt; line.as_str(), expected.as_str());
+    }
+    Ok(())
 }
 
 // A place with a recording of three plain chunks.

@@ -1,0 +1,82 @@
+// Runs of a command over a place in memory, and what they leave there.
+use jfr_cli::run;
+use jfr_fixtures::{RINGS, STRINGS, with_classes};
+use jfr_outside::{Call, MemoryPlace, MemorySink, Words};
+use std::alloc::Global;
+use std::test::Fail;
+
+/// The names of all outputs that the commands of these tests make.
+pub(crate) const OUTPUTS: [&str; 4] = ["b.jfr", "p/a_000001.jfr", "p/a_000002.jfr", "o.jfr"];
+
+/// Where a run is to fail: at the nth call of a kind of the place, or at the nth write of the output stream.
+#[derive(Clone, Copy)]
+pub(crate) enum Fault {
+    Never,
+    Of(Call, u64),
+    Write(u64),
+}
+
+/// What a run leaves.
+#[derive(Drop)]
+pub(crate) struct Run {
+    pub status: u8,
+    pub place: MemoryPlace,
+    pub out: MemorySink,
+    pub err: MemorySink,
+}
+
+impl Run {
+    /// An output file, where it is there.
+    pub(crate) fn file(&self, name: &str) -> Option<&[u8]> {
+        self.place.file(name)
+    }
+}
+
+// The first of two chunks, so many of them, in a.jfr, and one in each file of the folder d.
+fn place_with(alloc: Global, chunks: usize) -> Result<MemoryPlace, Fail> {
+    let rings = with_classes(alloc, RINGS, 333)?;
+    let strings = with_classes(alloc, STRINGS, 330)?;
+    let mut place = MemoryPlace::new(alloc);
+    let mut recording = Vec::new(alloc);
+    if chunks > 0 {
+        recording.extend_from_slice(&rings)?;
+        place.put("d/1.jfr", &rings)?;
+    }
+    if chunks > 1 {
+        recording.extend_from_slice(&strings)?;
+        place.put("d/2.jfr", &strings)?;
+    }
+    place.put("a.jfr", &recording)?;
+    Ok(place)
+}
+
+/// Runs a command over the first chunks, with reads of at most 50 bytes, and a call that fails and keeps at most
+/// so many bytes.
+pub(crate) fn run_once(
+    alloc: Global,
+    command: &[&str],
+    chunks: usize,
+    fault: Fault,
+    keep: usize,
+) -> Result<Run, Fail> {
+    let mut words = Words::new(alloc);
+    for word in command {
+        words.push(word)?;
+    }
+    let mut place = place_with(alloc, chunks)?;
+    let mut out = MemorySink::new(alloc);
+    let mut err = MemorySink::new(alloc);
+    place.cut(50);
+    match fault {
+        Fault::Never => {}
+        Fault::Of(call, nth) => place.fail(call, nth, keep)?,
+        Fault::Write(nth) => out.fail(nth, keep)?,
+    }
+    let status = run(alloc, &words, &mut place, &mut out, &mut err);
+    Ok(Run {
+        status,
+        place,
+        out,
+        err,
+    })
+}
