@@ -1,7 +1,7 @@
 -- What a scrub writes is the scrub of each chunk.
 use Rattle.std.specs.Prelude.{◌≡◌, ℕ, List, [], ◌∷◌, map, true, Option, Some, None, Result, Ok, Err, IfOk}
 use Rattle.std.specs.List.{AllByRecursion}
-use Rattle.std.proofs.Common.{ap, refl, sym, ◌∙◌, subst}
+use Rattle.std.proofs.Common.{ap, refl, sym, ◌∙◌}
 use Rattle.jfr_base.specs.declared.flaw.Flaw.{Flaw}
 use Rattle.jfr_base.specs.declared.flaw.Refusal.{Refusal}
 use Rattle.jfr_base.specs.declared.flaw.ReadFault.{ReadFault}
@@ -9,7 +9,7 @@ use Rattle.jfr_base.specs.declared.flaw.ReadFault.TheVariants.{Flawed, Memory}
 use Rattle.jfr_outside.specs.World.{World, State, Told}
 use Rattle.jfr_header.specs.declared.ending.Ending.{Ending}
 use Rattle.jfr_header.specs.declared.ending.Ending.TheVariants as ending
-use Rattle.jfr_header.specs.Cuts.{cut, joined}
+use Rattle.jfr_header.specs.Cuts.{cut}
 use Rattle.jfr_header.specs.Fronts.{Whole}
 use Rattle.jfr_header.proofs.CutLaws.{are_cut, all_whole}
 use Rattle.jfr_filter.specs.Filters.{Given}
@@ -21,10 +21,9 @@ use Rattle.jfr_plan.specs.Clauses.{Ended}
 use Rattle.jfr_plan.specs.Makes.{IsFlawOf}
 use Rattle.jfr_pool.specs.Faults.{TellsFlaw}
 use Rattle.jfr_chunk.specs.Scrub.{scrub_of}
-use Rattle.jfr_chunk.specs.Parts.{Parts, AreParts}
+use Rattle.jfr_chunk.specs.Parts.{Parts}
 use Rattle.jfr_chunk.specs.Chosen.{kept_of}
 use Rattle.jfr_chunk.specs.Refusal.{read_parts, refusal_of, flaw_in}
-use Rattle.jfr_chunk.proofs.ChainAnswers.{is_computed}
 use Rattle.jfr_laws.specs.Laws.{IsSettled}
 use Rattle.jfr_laws.proofs.Settled.{settled}
 use Rattle.jfr_scrub.specs.Headline.{AreScrubbed, IsByPlan, IsScrubOf, Scrubs, before_refused, recording_scrubbed, unless_refused}

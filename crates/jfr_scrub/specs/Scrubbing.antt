@@ -9,6 +9,13 @@ pub record IsAccepted (p : Parts) : Type 0 where
   pub whole : Whole p.bytes
   pub parts : AreParts p
 
+-- The pieces of what the chunk becomes, a bound on their bytes, and how many events and entries are kept.
+pub record Prepared : Type 0 where
+  pub laid : Laid
+  pub size : ℕ
+  pub events : ℕ
+  pub entries : ℕ
+
 -- The pieces of what the chunk becomes, the bytes that are written, and how many events and entries are kept.
 pub record Scrubbing : Type 0 where
   pub laid : Laid

@@ -7,6 +7,7 @@
 mod body;
 mod checkpoint;
 mod galloping;
+mod laid;
 mod laws;
 mod output;
 mod output_records;

@@ -14,7 +14,7 @@ ghost use Rattle.jfr_chunk.specs.Refusal.{refusal_of};
 ghost use Rattle.jfr_scrub.specs.Headline.{IsByPlan, IsScrubbed, Scrubs};
 ghost use Rattle.jfr_scrub.specs.Scrubs.{scrubbed, scrubbing};
 
-use crate::Scrubber;
+use crate::laid::LaidOut;
 use crate::ranges::Ranges;
 use jfr_base::ReadFault;
 use jfr_chunk::{Chunk, Room};
@@ -51,8 +51,8 @@ impl<'f> Make for Scrub<'f> {
     fn make(&mut self, alloc: Global, chunk: &[u8]) -> Result<(), ReadFault> {
         let room = mem::replace(&mut self.room, Room::new(alloc));
         let chunk = Chunk::read_in(alloc, room, chunk)?;
-        let scrubber = Scrubber::prepare(alloc, &chunk, self.filter)?;
-        self.ranges = scrubber.into_ranges();
+        let laid = LaidOut::make(alloc, &chunk, self.filter)?;
+        self.ranges = laid.into_ranges();
         self.room = chunk.into_room();
         Ok(())
     }

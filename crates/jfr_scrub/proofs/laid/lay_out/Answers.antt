@@ -10,7 +10,7 @@ use Rattle.jfr_scrub.proofs.AllCopied.{entries_are_copied, events_are_copied, me
 use Rattle.jfr_scrub.proofs.BodyLaws.{laid_all}
 use Rattle.jfr_scrub.proofs.CountLaws.{marked_count}
 use Rattle.jfr_scrub.proofs.FitLaws.{marks_length, left_is}
-use Rattle.jfr_scrub.proofs.scrubber.lay_out.Goals as goal
+use Rattle.jfr_scrub.proofs.laid.lay_out.Goals as goal
 
 pub remaining-requires : goal.remaining-requires
 remaining-requires c = ap length c.requires.marks ∙ (marks_length c.args.chunk.now (kept_by c.args.chunk.now c.args.kept.now) ∙ ap (λ (z : List EntryAt). length z) (sym c.pools.ensures))

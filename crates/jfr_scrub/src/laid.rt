@@ -1,0 +1,186 @@
+// What a chunk becomes, laid out as pieces.
+ghost use Rattle.std.specs.Prelude.{◌≡◌, ◌<◌, ◌≤◌, ◌+◌, ◌++◌, List, [], length, slice_get, take, option_map, unwrap_or, IfOk, IfSome};
+ghost use Rattle.std.specs.List.{AllByRecursion};
+ghost use Rattle.jfr_header.specs.Headers.{header_bytes, header_of};
+ghost use Rattle.jfr_chunk.specs.Chosen.{kept_of};
+ghost use Rattle.jfr_chunk.specs.Parts.{events_of};
+ghost use Rattle.jfr_chunk.specs.Reach.{kept_by, reached_marks, remain};
+ghost use Rattle.jfr_chunk.specs.Scrub.{header_with, scrub_of, output_records};
+ghost use Rattle.jfr_laws.specs.Laws.{IsSettled};
+ghost use Rattle.jfr_scrub.specs.Bodies.{all_made, IsBody, progress_of};
+ghost use Rattle.jfr_scrub.specs.Pieces.{EntryIsCopied, EventIsCopied, IsHeaded, joined, laid_in, LieIn, made_parts, MetadataIsCopied};
+ghost use Rattle.jfr_scrub.specs.Scrubbing.{IsAccepted};
+
+use crate::body::{Body, lay_body};
+use crate::pieces::Pieces;
+use crate::ranges::Ranges;
+use crate::remaining::remaining;
+use jfr_chunk::{Chunk, Kept};
+use jfr_filter::Filter;
+use jfr_header::{Header, write_header};
+use jfr_outside::NoMemory;
+use jfr_path::choose;
+use jfr_reach::Marks;
+use jfr_value::Steps;
+use std::alloc::Global;
+use std::marker::{Brand, Model};
+use std::sync::ledger::{Blank, Ledger};
+
+/// What an accepted chunk becomes, as pieces, and how much is kept.
+#[derive(Drop)]
+pub(crate) struct LaidOut<'a> {
+    pieces: Pieces<'a>,
+    size: usize,
+    kept_events: usize,
+    kept_entries: usize,
+}
+
+impl<'a> Model for LaidOut<'a> {
+    ghost use Rattle.std.specs.Prelude.{◌≤◌, length};
+    ghost use Rattle.jfr_scrub.specs.Pieces.{joined};
+    ghost use Rattle.jfr_scrub.specs.Scrubbing.{Prepared};
+
+    ghost Value = { Prepared };
+
+    ghost view = { λ s. record { laid = s.pieces; size = s.size; events = s.kept_events; entries = s.kept_entries } };
+
+    ghost invariant = { λ s. length (joined s.pieces) ≤ s.size };
+}
+
+impl<'a> LaidOut<'a> {
+    /// Lays out what an accepted chunk becomes, with the events that a filter keeps.
+    pub(crate) fn make(
+        alloc: Global,
+        chunk: &Chunk<'a>,
+        filter: &Filter,
+    ) -> Result<LaidOut<'a>, NoMemory>
+        // The pieces joined are what the chunk becomes.
+        ensures joined { IfOk result (λ s. joined s.laid ≡ scrub_of chunk.now (kept_of filter.now chunk.now)) }
+        ensures chunk { IfOk result (λ s. s.laid.chunk ≡ chunk.now.bytes) }
+
+        // The header and single integers are made, and all else is copied: each kept event, each entry
+        // that remains, and the metadata record lie in one piece each.
+        ensures made { IfOk result (λ s. IsHeaded s.laid) }
+        ensures kinds { IfOk result (λ s. made_parts s.laid.pieces ≡ all_made chunk.now (kept_of filter.now chunk.now)) }
+        ensures events_copied { IfOk result (λ s. AllByRecursion (EventIsCopied s.laid.pieces) (kept_of filter.now chunk.now)) }
+        ensures entries_copied { IfOk result (λ s. AllByRecursion (EntryIsCopied s.laid.pieces) (remain chunk.now (kept_of filter.now chunk.now))) }
+        ensures metadata_copied { IfOk result (λ s. MetadataIsCopied s.laid.pieces chunk.now) }
+
+        // What the chunk becomes is accepted, is no longer than it, and holds exactly the events that the
+        // filter keeps and the entries that they reach; it means the same, and with this filter it becomes
+        // itself.
+        ensures settled { IfOk result (λ s. IsSettled filter.now chunk.now) }
+
+        // How much is kept.
+        ensures events { IfOk result (λ s. s.events ≡ length (kept_of filter.now chunk.now)) }
+        ensures entries { IfOk result (λ s. s.entries ≡ length (remain chunk.now (kept_of filter.now chunk.now))) }
+    {
+        let kept = choose(alloc, chunk, filter)?;
+        let marks = marks_of::<Brand>(alloc, Blank::new(1), chunk, &kept)?;
+        lay_out(alloc, chunk, &kept, &marks)
+    }
+
+    /// The pieces.
+    pub(crate) fn pieces(&self) -> &Pieces<'a>
+        ensures { result.now ≡ self.now.laid }
+    {
+        &self.pieces
+    }
+
+    /// How many bytes the pieces have at most.
+    pub(crate) fn size(&self) -> usize
+        ensures exact { result ≡ self.now.size }
+        ensures enough { length (joined self.now.laid) ≤ result }
+    {
+        self.size
+    }
+
+    /// How many events are kept.
+    pub(crate) fn kept_events(&self) -> usize
+        ensures { result ≡ self.now.events }
+    {
+        self.kept_events
+    }
+
+    /// How many entries remain.
+    pub(crate) fn kept_entries(&self) -> usize
+        ensures { result ≡ self.now.entries }
+    {
+        self.kept_entries
+    }
+
+    /// The ranges that the pieces are, apart from the chunk.
+    pub(crate) fn into_ranges(self) -> Ranges
+        ensures same { laid_in self.entry.laid.chunk result ≡ self.entry.laid }
+        ensures lie { LieIn (laid_in self.entry.laid.chunk result) }
+    {
+        self.pieces.into_ranges()
+    }
+}
+
+// Lays out what a chunk becomes where these events are kept and these entries are reached.
+fn lay_out<'a>(
+    alloc: Global,
+    chunk: &Chunk<'a>,
+    kept: &Kept,
+    marks: &Marks,
+) -> Result<LaidOut<'a>, NoMemory>
+    requires marks { marks.now ≡ reached_marks chunk.now (kept_by chunk.now kept.now) }
+    requires kept { length kept.now ≡ length (events_of chunk.now) }
+    ensures joined { IfOk result (λ s. joined s.laid ≡ scrub_of chunk.now (kept_by chunk.now kept.now)) }
+    ensures chunk { IfOk result (λ s. s.laid.chunk ≡ chunk.now.bytes) }
+    ensures events { IfOk result (λ s. s.events ≡ length (kept_by chunk.now kept.now)) }
+    ensures entries { IfOk result (λ s. s.entries ≡ length (remain chunk.now (kept_by chunk.now kept.now))) }
+    ensures accepted { IfOk result (λ s. IsAccepted chunk.now) }
+    ensures made { IfOk result (λ s. IsHeaded s.laid) }
+    ensures kinds { IfOk result (λ s. made_parts s.laid.pieces ≡ all_made chunk.now (kept_by chunk.now kept.now)) }
+    ensures events_copied { IfOk result (λ s. AllByRecursion (EventIsCopied s.laid.pieces) (kept_by chunk.now kept.now)) }
+    ensures entries_copied { IfOk result (λ s. AllByRecursion (EntryIsCopied s.laid.pieces) (remain chunk.now (kept_by chunk.now kept.now))) }
+    ensures metadata_copied { IfOk result (λ s. MetadataIsCopied s.laid.pieces chunk.now) }
+{
+    let left = remaining(alloc, chunk.pools(), marks)?;
+    let body = lay_body(alloc, chunk, kept, &left)?;
+    let size = body.at;
+    let front = front_of(chunk.header(), &body);
+    let pieces = body.output.finish(&front)?;
+    Ok(LaidOut {
+        pieces,
+        size,
+        kept_events: kept.kept_count(),
+        kept_entries: left.len(),
+    })
+}
+
+// The entries that the kept events reach.
+fn marks_of<L: Ledger>(
+    alloc: Global,
+    blank: Blank,
+    chunk: &Chunk<'_>,
+    kept: &Kept,
+) -> Result<Marks, NoMemory>
+    requires name { blank.name ≡ L.name }
+    requires parts { blank.parts ≡ L.parts }
+    requires some { 0 < blank.parts }
+    requires kept { length kept.now ≡ length (events_of chunk.now) }
+    ensures { IfOk result (λ marks. marks ≡ reached_marks chunk.now (kept_by chunk.now kept.now)) }
+{
+    let mut steps: Steps<L> = Steps::new(blank);
+    let mut marks = Marks::make(alloc, chunk.pools())?;
+    marks.mark(chunk, kept, &mut steps);
+    Ok(marks)
+}
+
+// The header with the size and the positions of what is laid out.
+fn front_of(header: &Header, body: &Body) -> [u8; 68]
+    ensures { result ≡ header_bytes (record (header.now) { size = body.now.at; pools = unwrap_or body.now.older 0; metadata = unwrap_or body.now.metadata 0 }) }
+{
+    let moved = Header {
+        size: body.at as u64,
+        pools: body.older.unwrap_or(0) as u64,
+        metadata: body.metadata.unwrap_or(0) as u64,
+        ..*header
+    };
+    let mut front = [0; 68];
+    write_header(&moved, &mut front);
+    front
+}
