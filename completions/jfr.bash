@@ -1,5 +1,6 @@
 # Completion of jfr for bash, 4.3 or later: `. completions/jfr.bash`, or a copy named `jfr` in the folder
-# ~/.local/share/bash-completion/completions. It serves `jfr` under any path, so `./jfr`, too.
+# ~/.local/share/bash-completion/completions. It serves `jfr` under any path, so `./jfr`, and
+# the JDK's `jfr`, too, which has other options.
 
 _jfr() {
     local current=${COMP_WORDS[COMP_CWORD]} options='' names=() word
