@@ -1,0 +1,87 @@
+# Completion of jfr for bash, 4.3 or later: `. completions/jfr.bash`, or a copy named `jfr` in the folder
+# ~/.local/share/bash-completion/completions. It serves `jfr` under any path, so `./jfr`, and
+# the JDK's `jfr`, too, which has other options.
+
+_jfr() {
+    local current=${COMP_WORDS[COMP_CWORD]} options='' names=() word
+    COMPREPLY=()
+
+    if ((COMP_CWORD == 1)); then
+        compopt +o default 2>/dev/null
+        mapfile -t COMPREPLY < <(compgen -W 'print summary metadata scrub disassemble assemble sample' -- "$current")
+        return
+    fi
+
+    # What stands where the names do: a file, a folder, or nothing that can be offered.
+    case ${COMP_WORDS[1]} in
+        print)
+            options='--events --categories --depth --json'
+            names=(file)
+            ;;
+        summary | metadata) names=(file) ;;
+        scrub)
+            options='--include-events --exclude-events --include-categories --exclude-categories'
+            options+=' --include-threads --exclude-threads'
+            names=(file file)
+            ;;
+        disassemble)
+            options='--output --max-chunks --max-size'
+            names=(file)
+            ;;
+        assemble) names=(folder file) ;;
+    esac
+
+    # The words before this one: options, each with its value, and then names, behind which no option stands.
+    local at=2 given=0 option=''
+    while ((at < COMP_CWORD)); do
+        word=${COMP_WORDS[at]}
+        if ((given == 0)) && [[ " $options " == *" $word "* ]]; then
+            options=" $options "
+            options=${options/ $word / }
+            if [[ $word != --json ]]; then
+                ((++at < COMP_CWORD)) || option=$word
+            fi
+        else
+            ((++given))
+        fi
+        ((++at))
+    done
+
+    if ((given == 0)) && [[ -z $option && $current == -* ]]; then
+        compopt +o default 2>/dev/null
+        mapfile -t COMPREPLY < <(compgen -W "$options" -- "$current")
+        return
+    fi
+
+    local kind=${names[given]-}
+    case $option in
+        '') ;;
+        --output) kind=folder ;;
+        --depth) kind=depth ;;
+        *) kind='' ;;
+    esac
+    # No name begins with -.
+    [[ $current != -* ]] || kind=''
+    case $kind in
+        depth)
+            compopt +o default 2>/dev/null
+            mapfile -t COMPREPLY < <(compgen -W '0 1 2 3 4 5 6 7 8' -- "$current")
+            return
+            ;;
+        '')
+            compopt +o default 2>/dev/null
+            return
+            ;;
+    esac
+    compopt -o filenames 2>/dev/null
+    if [[ $kind == folder ]]; then
+        mapfile -t COMPREPLY < <(compgen -d -- "$current")
+    else
+        mapfile -t COMPREPLY < <(compgen -f -- "$current")
+    fi
+    if ((given == 0)) && [[ -z $option && -z $current ]]; then
+        mapfile -t -O "${#COMPREPLY[@]}" COMPREPLY < <(compgen -W "$options" -- "$current")
+    fi
+}
+
+complete -o default -F _jfr jfr
