@@ -15,9 +15,7 @@ use Rattle.jfr_base.specs.declared.memory.NoMemory.{NoMemory}
 use Rattle.jfr_header.specs.declared.ending.Ending.{Ending}
 use Rattle.jfr_value.specs.Nodes.{NodeAt}
 use Rattle.jfr_chunk.specs.Parts.{Parts}
-use Rattle.jfr_show.specs.Shown.{event_shown}
-use Rattle.jfr_show.specs.Json.{event_json}
-use Rattle.jfr_report.specs.Reports.{event_bytes, writer_of}
+use Rattle.jfr_report.specs.Reports.{event_bytes, chunk_of, text_by, writer_of}
 use Rattle.jfr_report.specs.Gathered.{Grew, IsGathered, TearsText, WritesSome, TextLeaves, PageLeaves}
 
 -- nothing is written or gathered yet
@@ -162,21 +160,15 @@ last_page all before now (Err e) h i n = i
 pub text_bytes : (bytes text : List ℕ) → IsUtf8 bytes → chars bytes ≡ text → bytes ≡ encode_utf8_all text
 text_bytes bytes text u e = sym (encodes-chars bytes u) ∙ ap encode_utf8_all e
 
--- where there is a writer, JSON is asked for, and the writer is of the chunk
-pub json_asked : (json : Bool) (p q : Parts) → Some q ≡ writer_of json p → (json ≡ true) × (q ≡ p)
-json_asked true p q e = (refl, cc)
-json_asked false p q e = cc
+-- what is written for an event, by what writes it
+pub writer_chunk : (json : Bool) (p : Parts) → chunk_of (writer_of json p) ≡ p
+writer_chunk true p = refl
+writer_chunk false p = refl
 
-pub text_asked : (json : Bool) (p : Parts) → None ≡ writer_of json p → json ≡ false
-text_asked true p e = cc
-text_asked false p e = refl
+pub writer_bytes : (json : Bool) (p : Parts) (depth : ℕ) (n : NodeAt) → encode_utf8_all (text_by (writer_of json p) depth n) ≡ event_bytes json depth p n
+writer_bytes true p depth n = refl
+writer_bytes false p depth n = refl
 
--- an event's line of JSON, in UTF-8
-pub json_text : (result : Result (Unit {0}) NoMemory) (old new : List ℕ) (json : Bool) (depth : ℕ) (p : Parts) (n : NodeAt) → json ≡ true → OnOk result (new ≡ old ++ event_json p depth n) → OnOk result (encode_utf8_all new ≡ encode_utf8_all old ++ event_bytes json depth p n)
-json_text (Ok x) old new json depth p n e h = ap encode_utf8_all h ∙ (encodes-append old (event_json p depth n) ∙ ap (λ b. encode_utf8_all old ++ event_bytes b depth p n) (sym e))
-json_text (Err x) old new json depth p n e h = tt
-
--- an event's text, in UTF-8
-pub shown_text : (result : Result (Unit {0}) NoMemory) (old new : List ℕ) (json : Bool) (depth : ℕ) (p : Parts) (n : NodeAt) → json ≡ false → OnOk result (new ≡ old ++ event_shown p depth n) → OnOk result (encode_utf8_all new ≡ encode_utf8_all old ++ event_bytes json depth p n)
-shown_text (Ok x) old new json depth p n e h = ap encode_utf8_all h ∙ (encodes-append old (event_shown p depth n) ∙ ap (λ b. encode_utf8_all old ++ event_bytes b depth p n) (sym e))
-shown_text (Err x) old new json depth p n e h = tt
+-- an event's text behind another, in UTF-8
+pub written_more : (old new text : List ℕ) → new ≡ old ++ text → encode_utf8_all new ≡ encode_utf8_all old ++ encode_utf8_all text
+written_more old new text h = ap encode_utf8_all h ∙ encodes-append old text

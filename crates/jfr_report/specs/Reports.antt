@@ -1,5 +1,5 @@
 -- What the commands that write text ask of each chunk.
-use Rattle.std.specs.Prelude.{ℕ, ◌+◌, Bool, true, false, List, [], ◌∷◌, length, map, Option, Some, None, Result, Ok, Err, encode_utf8_all}
+use Rattle.std.specs.Prelude.{ℕ, ◌+◌, Bool, true, false, List, [], ◌∷◌, length, map, Result, Ok, Err, encode_utf8_all}
 use Rattle.jfr_base.specs.declared.flaw.Flaw.{Flaw}
 use Rattle.jfr_filter.specs.Filters.{Given}
 use Rattle.jfr_value.specs.Nodes.{NodeAt}
@@ -13,6 +13,8 @@ use Rattle.jfr_show.specs.Shown.{event_shown}
 use Rattle.jfr_show.specs.Json.{event_json}
 use Rattle.jfr_show.specs.Totals.{totals_of, summary_shown}
 use Rattle.jfr_show.specs.Metadata.{metadata_shown}
+use Rattle.jfr_report.specs.declared.print.Writer.{Writer}
+use Rattle.jfr_report.specs.declared.print.Writer.TheVariants as writers
 
 -- each text is written, one after another
 abbrev pub writes : List (List ℕ) → List Effect
@@ -41,10 +43,18 @@ event_bytes false depth p n = encode_utf8_all (event_shown p depth n)
 abbrev pub events_bytes : Bool → ℕ → Parts → List EventAt → List (List ℕ)
 events_bytes json depth p es = map (λ e. event_bytes json depth p e.node) es
 
--- what writes the events of a chunk as JSON, as the chunk that it is of
-abbrev pub writer_of : Bool → Parts → Option Parts
-writer_of true p = Some p
-writer_of false p = None
+-- what writes the events of a chunk, its chunk, and what it writes for an event
+abbrev pub writer_of : Bool → Parts → Writer
+writer_of true p = writers.Json p
+writer_of false p = writers.Text p
+
+abbrev pub chunk_of : Writer → Parts
+chunk_of (writers.Text p) = p
+chunk_of (writers.Json p) = p
+
+abbrev pub text_by : Writer → ℕ → NodeAt → List ℕ
+text_by (writers.Text p) depth n = event_shown p depth n
+text_by (writers.Json p) depth n = event_json p depth n
 
 -- each event that a filter keeps is shown
 abbrev pub printing : Given → ℕ → Bool → Rule

@@ -8,7 +8,7 @@ ghost use Rattle.jfr_value.specs.Nodes.{node_of};
 ghost use Rattle.jfr_chunk.specs.Parts.{events_of};
 ghost use Rattle.jfr_chunk.specs.Seen.{event_at};
 ghost use Rattle.jfr_chunk.specs.Reach.{kept_by, marked};
-ghost use Rattle.jfr_report.specs.Reports.{printing, event_bytes, events_bytes, writer_of};
+ghost use Rattle.jfr_report.specs.Reports.{printing, chunk_of, event_bytes, events_bytes, text_by, writer_of};
 ghost use Rattle.jfr_report.specs.Gathered.{IsGathered, PageLeaves, TextLeaves, TextCounted};
 
 use crate::pages::{write_full_page, write_page};
@@ -18,7 +18,7 @@ use jfr_filter::Filter;
 use jfr_header::Ending;
 use jfr_outside::{NoMemory, Place, Sink};
 use jfr_path::choose;
-use jfr_show::{JsonWriter, TextBuilder, show_event};
+use jfr_show::{JsonWriter, TextBuilder, TextWriter};
 use std::alloc::Global;
 
 /// How events are shown: how many references deep, and as text or as lines of JSON.
@@ -27,6 +27,28 @@ pub(crate) struct Style {
     pub(crate) depth: u8,
     pub(crate) json: bool,
     ghost shallow: { depth ≤ 8 },
+}
+
+/// What writes the events of a chunk: as text, or as lines of JSON.
+#[derive(Drop)]
+pub(crate) enum Writer<'c, 'a> {
+    Text(TextWriter<'c, 'a>),
+    Json(JsonWriter<'c, 'a>),
+}
+
+impl Writer<'_, '_> {
+    /// Adds an event of its chunk to a page.
+    fn show(&mut self, event: &Event<'_>, depth: u8, page: &mut TextBuilder) -> Result<(), NoMemory>
+        requires event { slice_get (events_of (chunk_of self.old)) event.now.number ≡ Some (event_at event.now) }
+        requires depth { depth ≤ 8 }
+        ensures ok { OnOk result (page.new ≡ page.old ++ text_by self.old depth (node_of event.now.node)) }
+        ensures same { self.new ≡ self.old }
+    {
+        match self {
+            Writer::Text(writer) => writer.show(event, depth, page),
+            Writer::Json(writer) => writer.show(event, depth, page),
+        }
+    }
 }
 
 /// Shows the events that a filter keeps.
@@ -79,21 +101,21 @@ fn print_kept<O: Sink>(
     ensures faults { TextCounted result (O.state out.old).faults (O.state out.new).faults }
 {
     match writer_of(alloc, chunk, style.json) {
-        Ok(writer) => print_events(out, page, chunk, kept, style, &writer),
+        Ok(mut writer) => print_events(out, page, chunk, kept, style, &mut writer),
         Err(NoMemory) => Err(Ending::Memory),
     }
 }
 
-/// Shows the kept events of a chunk, with what writes them as JSON.
+/// Shows the kept events of a chunk, with what writes them.
 fn print_events<O: Sink>(
     out: &mut O,
     page: &mut TextBuilder,
     chunk: &Chunk<'_>,
     kept: &Kept,
     style: Style,
-    writer: &Option<JsonWriter<'_, '_>>,
+    writer: &mut Writer<'_, '_>,
 ) -> Result<(), Ending>
-    requires writer { writer.now ≡ writer_of style.json chunk.now }
+    requires writer { writer.old ≡ writer_of style.json chunk.now }
     ensures texts { TextLeaves (events_bytes style.json style.depth chunk.now (kept_by chunk.now kept.now)) result (O.state out.old).written (O.state out.new).written }
     ensures faults { TextCounted result (O.state out.old).faults (O.state out.new).faults }
 {
@@ -104,19 +126,19 @@ fn print_events<O: Sink>(
     write_page(out, page)
 }
 
-/// What writes the events of a chunk as JSON, where they are shown so.
+/// What writes the events of a chunk, in the style.
 fn writer_of<'c, 'a>(
     alloc: Global,
     chunk: &'c Chunk<'a>,
     json: bool,
-) -> Result<Option<JsonWriter<'c, 'a>>, NoMemory>
+) -> Result<Writer<'c, 'a>, NoMemory>
     ensures ok { IfOk result (λ writer. writer ≡ writer_of json chunk.now) }
 {
-    if !json {
-        return Ok(None);
+    if json {
+        Ok(Writer::Json(JsonWriter::new(alloc, chunk)?))
+    } else {
+        Ok(Writer::Text(TextWriter::new(alloc, chunk)?))
     }
-    let writer = JsonWriter::new(alloc, chunk)?;
-    Ok(Some(writer))
 }
 
 /// Shows the event of a number if it is kept.
@@ -126,10 +148,10 @@ fn print_if_kept<O: Sink>(
     chunk: &Chunk<'_>,
     kept: &Kept,
     style: Style,
-    writer: &Option<JsonWriter<'_, '_>>,
+    writer: &mut Writer<'_, '_>,
     number: usize,
 ) -> Result<(), Ending>
-    requires writer { writer.now ≡ writer_of style.json chunk.now }
+    requires writer { writer.old ≡ writer_of style.json chunk.now }
     requires number { number < length (events_of chunk.now) }
     ensures texts { (all : List (List ℕ)) (before : Option (List ℕ))
         → IsGathered all before (O.state out.old).written (encode_utf8_all page.old)
@@ -137,6 +159,7 @@ fn print_if_kept<O: Sink>(
         → PageLeaves all before result (encode_utf8_all page.new)
         (events_bytes style.json style.depth chunk.now (marked (drop (number + 1) kept.now) (drop (number + 1) (events_of chunk.now)))) (O.state out.new).written }
     ensures faults { TextCounted result (O.state out.old).faults (O.state out.new).faults }
+    ensures same { writer.new ≡ writer.old }
 {
     let keep = kept.get(number).unwrap_or(false);
     if !keep {
@@ -155,36 +178,19 @@ fn print_event<O: Sink>(
     chunk: &Chunk<'_>,
     event: &Event<'_>,
     style: Style,
-    writer: &Option<JsonWriter<'_, '_>>,
+    writer: &mut Writer<'_, '_>,
 ) -> Result<(), Ending>
-    requires writer { writer.now ≡ writer_of style.json chunk.now }
+    requires writer { writer.old ≡ writer_of style.json chunk.now }
     requires event { slice_get (events_of chunk.now) event.now.number ≡ Some (event_at event.now) }
     ensures texts { (all rest : List (List ℕ)) (before : Option (List ℕ))
         → IsGathered all before (O.state out.old).written (encode_utf8_all page.old) (event_bytes style.json style.depth chunk.now (node_of event.now.node) ∷ rest)
         → PageLeaves all before result (encode_utf8_all page.new) rest (O.state out.new).written }
     ensures faults { TextCounted result (O.state out.old).faults (O.state out.new).faults }
+    ensures same { writer.new ≡ writer.old }
 {
-    match show(page, chunk, event, style, writer) {
+    match writer.show(event, style.depth, page) {
         Ok(()) => write_full_page(out, page),
         Err(NoMemory) => Err(Ending::Memory),
-    }
-}
-
-/// Adds an event to a page, in the style.
-fn show(
-    page: &mut TextBuilder,
-    chunk: &Chunk<'_>,
-    event: &Event<'_>,
-    style: Style,
-    writer: &Option<JsonWriter<'_, '_>>,
-) -> Result<(), NoMemory>
-    requires writer { writer.now ≡ writer_of style.json chunk.now }
-    requires event { slice_get (events_of chunk.now) event.now.number ≡ Some (event_at event.now) }
-    ensures ok { OnOk result (encode_utf8_all page.new ≡ encode_utf8_all page.old ++ event_bytes style.json style.depth chunk.now (node_of event.now.node)) }
-{
-    match writer {
-        Some(writer) => writer.show(event, style.depth, page),
-        None => show_event(chunk, event, style.depth, page),
     }
 }
 

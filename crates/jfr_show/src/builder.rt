@@ -51,6 +51,13 @@ impl TextBuilder {
         self.text.as_bytes()
     }
 
+    /// The text as it stands.
+    pub(crate) fn as_str(&self) -> &str
+        ensures { chars result.now ≡ self.now }
+    {
+        self.text.as_str()
+    }
+
     /// The text itself, without a copy.
     pub fn into_text(self) -> Text
         ensures { result ≡ self }

@@ -42,7 +42,7 @@ pub(crate) fn show_node(
 /// Adds the value of a layout that begins at a place and ends at the limit or before it, and says where
 /// it ends.
 #[cycle(show)]
-fn show_value(
+pub(crate) fn show_value(
     chunk: &Chunk<'_>,
     layout: &FieldLayout,
     at: usize,
@@ -171,7 +171,7 @@ fn show_items(
 
 /// Adds what a class and a key refer to.
 #[cycle(show)]
-fn show_reference(
+pub(crate) fn show_reference(
     chunk: &Chunk<'_>,
     class: u64,
     key: u64,

@@ -14,6 +14,7 @@ loop-number-init g c =
     let before = (g.O.Sink.state c.args.out.now).written in
     record {
       gathered = subst (λ z. IsGathered all before before z all) (sym (ap encode_utf8_all c.clear.ensures)) (begins all before);
+      writer = c.requires.writer;
       faults = refl;
     }
 

@@ -2,7 +2,7 @@ use Rattle.std.proofs.Common.{◌≡◌}
 use Rattle.std.specs.Prelude.{drop, encode_utf8_all}
 use Rattle.jfr_chunk.specs.Parts.{events_of}
 use Rattle.jfr_chunk.specs.Reach.{kept_by, marked}
-use Rattle.jfr_report.specs.Reports.{events_bytes}
+use Rattle.jfr_report.specs.Reports.{events_bytes, writer_of}
 use Rattle.jfr_report.specs.Gathered.{IsGathered}
 use Rattle.jfr_report.proofs.print.print_events.Given as goal
 
@@ -11,5 +11,6 @@ abbrev pub invariant-loop-number : goal.invariant-loop-number
 invariant-loop-number g l = record {
   gathered : IsGathered (events_bytes l.fn.style.json l.fn.style.depth l.fn.chunk (kept_by l.fn.chunk l.fn.kept)) (g.O.Sink.state l.fn.out).written (g.O.Sink.state l.out).written (encode_utf8_all l.page)
       (events_bytes l.fn.style.json l.fn.style.depth l.fn.chunk (marked (drop l.number l.fn.kept) (drop l.number (events_of l.fn.chunk))));
+  writer : l.writer ≡ writer_of l.fn.style.json l.fn.chunk;
   faults : (g.O.Sink.state l.out).faults ≡ (g.O.Sink.state l.fn.out).faults;
 }
