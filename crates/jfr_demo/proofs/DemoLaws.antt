@@ -8,7 +8,7 @@ use Rattle.std.proofs.lemmas.Str.{chars-IsAscii}
 use Rattle.jfr_base.specs.declared.flaw.Flaw.{Flaw}
 use Rattle.jfr_base.specs.declared.flaw.ReadFault.{ReadFault}
 use Rattle.jfr_base.specs.declared.flaw.ReadFault.TheVariants.{Flawed, Memory}
-use Rattle.jfr_meta.proofs.Texts.{word_ascii}
+use Rattle.jfr_base.proofs.TextLaws.{word_ascii}
 use Rattle.jfr_pool.specs.Faults.{TellsFlaw}
 use Rattle.jfr_base.specs.declared.memory.NoMemory.{NoMemory}
 use Rattle.jfr_chunk.specs.Parts.{Parts, EventAt}

@@ -159,24 +159,24 @@ fn long_row(alloc: Global) -> Result<Classes, ClassFault> {
 }
 
 #[test]
-fn fused_over_rows(rt: HostRuntime) -> Result<(), Fail> {
+fn fields_are_fused(rt: HostRuntime) -> Result<(), Fail> {
     let classes = long_row(rt.alloc())?;
-    let fused = |first, fields, over| FusedFields {
+    let fused = |first, fields, kind| FusedFields {
         first,
         fields,
-        over,
+        kind,
     };
     let place = classes.place(7).expect(&rt, "an event class");
-    let row = classes.class_layout(place);
-    assert_eq!(rt; row.layouts.len(), 14);
-    assert!(rt; row.is_event);
+    let layout = classes.class_layout(place);
+    assert_eq!(rt; layout.layouts.len(), 14);
+    assert!(rt; layout.is_event);
     assert_eq!(rt;
-        row.fused_fields.as_slice(),
+        layout.fused_fields.as_slice(),
         [
             fused(
                 0,
                 4,
-                FusedKind::Front {
+                FusedKind::EventPrelude {
                     thread: 6,
                     trace: 5
                 }
