@@ -1,15 +1,14 @@
 #!/usr/bin/env python3
 """Runs the commands on mutated recordings: fuzz.py PROGRAM SECONDS SEED FILE..
 
-Takes the given recordings and small ones of hostile.py, changes one in some places (bits, integers at their limits,
-pieces moved, repeated and cut; records, chunks, and the strings and elements of metadata likewise), makes sizes,
-positions and deltas true again half the time, and runs each command that reads chunks on the outcome, with 1 GB of
-memory. Wrong is
+Takes the given recordings and small ones of hostile.py, changes one in some places (mutations.py: bits, integers at
+their limits, pieces moved, repeated and cut; half the time records, classes and values besides, with sizes, positions
+and deltas that are true again), and runs each command that reads chunks on the outcome, with 1 GB of memory. Wrong is
 
 - a signal, more than 20 seconds, a status that isn't one of the command's, 5 of a command other than print;
 - more than 20 times the input's size and 64 MB of memory of a command other than print;
 - another answer of two commands that check the same: status or line on the error stream;
-- a line of `print --json` that Python's json doesn't read, or as many lines as there are not events;
+- a line of `print --json` that Python's json doesn't read, or another number of lines than `summary` tells events;
 - a scrub's output that isn't accepted, that scrubs to something else with the same options, or, without options, of
   which `print --json` tells something else;
 - parts, or files joined, that aren't the input again.

@@ -2,8 +2,9 @@
 # Runs the commands on hostile recordings, and holds them to bounds: bench/hostile.sh PROGRAM [SCALE [KIND..]]
 #
 # Makes a recording of each kind of hostile.py, or of those that are given, at SCALE (from 0 to 1, without it 1), and
-# runs each command that reads chunks on it, with 6 GB of memory and 120 seconds at most. A run has to end with status
-# 0, 2 or 5, in 20 seconds of processor time, and with a peak of at most 20 times the file's size and 64 MB of memory.
+# runs each command that reads chunks on it, with 6 GB of memory (MEMORY, in KB) and 120 seconds (LIMIT) at most. A run
+# has to end with status 0, 2 or 5, in 20 seconds of processor time, and with a peak of at most 20 times the file's size
+# and 64 MB of memory.
 # Seconds of processor time, since those of the clock depend on what else the machine does. Prints a row for each run:
 # kind, bytes, command, status, seconds of the clock and of the processor, peak memory with how many times the file's
 # size it is, the line on the error stream, and which bound was missed; then how many runs there were, and how many
@@ -28,8 +29,8 @@ run() {
     rm -rf "$work/made" "$work/out.jfr"
     mkdir "$work/made"
     (
-        ulimit -v 6000000
-        exec /usr/bin/time -q -o "$work/took" -f '%e %U %S %M' timeout 120 "$program" "$@"
+        ulimit -v "${MEMORY:-6000000}"
+        exec /usr/bin/time -q -o "$work/took" -f '%e %U %S %M' timeout "${LIMIT:-120}" "$program" "$@"
     ) >/dev/null 2>"$work/said"
     status=$?
     read -r clock own system peak <<<"$(tail -n 1 "$work/took")"

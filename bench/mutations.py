@@ -285,6 +285,14 @@ class Classes:
                 shapes = [(int(f["class"]), f.get("constantPool") == "true", f.get("dimension") == "1") for f in fields]
                 self.held[int(given["id"])] = given["name"], shapes, given.get("superType") == "jdk.jfr.Event"
         self.events = [id for id, (_, _, event) in self.held.items() if event]
+        self.steps = 0
+
+    def fields_of(self, id):
+        """The name and the fields of a class; ends a walk that takes too many steps."""
+        self.steps += 1
+        if self.steps > 20000:
+            raise ValueError(self.steps)
+        return self.held[id][:2]
 
     @staticmethod
     def given(texts, node):
@@ -300,7 +308,7 @@ class Classes:
             for _ in range(many):
                 at = self.end(data, at, id, constant)
             return at
-        name, shapes, _ = self.held[id]
+        name, shapes = self.fields_of(id)
         if constant or name in INTEGERS:
             return integer_at(data, at)[1]
         if name in RAW:
@@ -316,7 +324,7 @@ class Classes:
         if array:
             many = rng.choice((0, 1, 2, 3, 10))
             return hostile.integer(many) + b"".join(self.value(rng, id, constant) for _ in range(many))
-        name, shapes, _ = self.held[id]
+        name, shapes = self.fields_of(id)
         if constant:
             return hostile.integer(rng.choice(LIMITS) if rng.random() < 0.1 else rng.randrange(6))
         if name in INTEGERS:
@@ -383,19 +391,18 @@ def change_values(rng, records):
                 head, pools = classes.pools(checkpoint[1])
                 if pools:
                     change_pools(rng, classes, pools)
-                moved = []
                 if len(pools) > 1 and rng.random() < 0.2:
-                    moved = pools[::2]
+                    other = [1, bytearray(spelled_pools(head, pools[::2])), "chain"]
+                    records.insert(rng.randrange(len(records) + 1), other)
                     pools = pools[1::2]
-                    records.insert(rng.randrange(len(records) + 1), [1, bytearray(spelled_pools(head, moved)), "chain"])
                 checkpoint[1] = bytearray(spelled_pools(head, pools))
     except (StopIteration, *NOT_SO):
         return
 
 
 def spelled_pools(head, pools):
-    return head + hostile.integer(len(pools)) + b"".join(hostile.integer(id) + entries for id, entries in
-                                                         (hostile.pool(id, entries) for id, entries in pools))
+    spelled_entries = (hostile.pool(id, entries) for id, entries in pools)
+    return head + hostile.integer(len(pools)) + b"".join(hostile.integer(id) + entries for id, entries in spelled_entries)
 
 
 def mutated(rng, seeds, parsed):
