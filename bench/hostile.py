@@ -303,30 +303,44 @@ def categories(size):
     return chunk(metadata(event_class(annotations=[values])), record(EVENT, b"") * 1000)
 
 
-def inline(steps, size, wide=False):
-    """An event class at which a chain of so many inline steps begins, and an event of it."""
+def long_categories(size):
+    """An event class with 2^18 categories of one text of a megabyte."""
+    long = "c" * count(2**20, size)
+    values = [("value-%d" % n, long) for n in range(count(2**18, size))]
+    return chunk(metadata(event_class(annotations=[values])), record(EVENT, b"") * 1000)
+
+
+def inline(steps, *last, wide=False):
+    """The classes of a chain of so many inline steps, of which the first is of events; the field of the last."""
     def make(of):
-        inner = [class_(of, "t.L%d" % steps, 100 + steps, [field(of, "n", BYTE)])]
+        inner = [class_(of, "t.L%d" % steps, 100 + steps, [field(of, *last)])]
         for step in range(steps):
             below = [field(of, name, 101 + step) for name in ("a", "b")[: 1 + wide]]
             inner.append(class_(of, "t.L%d" % step, EVENT if step == 0 else 100 + step, below, event=step == 0))
         return inner
-    return chunk(metadata(make), b"" if wide else record(EVENT, b"\1") * count(10**6, size))
+    return metadata(make)
 
 
 def inline_32(size):
     """A chain of 32 inline steps, and a million events."""
-    return inline(32, size)
+    return chunk(inline(32, "n", BYTE), record(EVENT, b"\1") * count(10**6, size))
 
 
 def inline_33(size):
     """A chain of 33 inline steps, one too many."""
-    return inline(33, size)
+    return chunk(inline(33, "n", BYTE), record(EVENT, b"\1") * count(10**6, size))
 
 
 def inline_wide(size):
     """A chain of 32 inline steps with two fields at each, so that an event, of which there is none, would have 2^32 bytes."""
-    return inline(32, size, wide=True)
+    return chunk(inline(32, "n", BYTE, wide=True))
+
+
+def inline_array(size):
+    """An event with an array of bytes, behind a chain of 32 inline steps."""
+    described = inline(32, "n", BYTE, False, True)
+    many = left(size, described)
+    return chunk(described, record(EVENT, integer(many) + b"\1" * many))
 
 
 # Constants.
@@ -371,10 +385,10 @@ def chain(size):
 
 
 def thread_name(size):
-    """A thread with a name of 100 megabytes, and a thousand events of it."""
+    """A thread with a name of 100 megabytes, and ten events of it."""
     described = metadata(event_class(("eventThread", THREAD, {"constant": True})))
     threads = pool(THREAD, [(1, text("a" * count(10**8, size)))])
-    return chunk(described, record(EVENT, b"\1") * 1000, checkpoint([threads]))
+    return chunk(described, record(EVENT, b"\1") * 10, checkpoint([threads]))
 
 
 def shared_name(size):
@@ -453,7 +467,7 @@ def cut(kind):
 KINDS = {make.__name__: make for make in (
     constants, distinct_constants, events, checkpoints, inert_checkpoints, inert_empty_checkpoints, pools, references,
     array, array_short, strings, elements, attributes, long_key, long_names, classes, same_names, fields, categories,
-    inline_32, inline_33, inline_wide, ring, string_ring, fan, chain, thread_name, shared_name, shared_text, chunks,
+    long_categories, inline_32, inline_33, inline_wide, inline_array, ring, string_ring, fan, chain, thread_name, shared_name, shared_text, chunks,
     delta_self, delta_forward, delta_amid,
 )}
 for place in ("strings", "string", "attributes", "children", "pools", "entries", "items", "bytes", "units", "characters"):
