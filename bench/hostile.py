@@ -467,8 +467,8 @@ def cut(kind):
 KINDS = {make.__name__: make for make in (
     constants, distinct_constants, events, checkpoints, inert_checkpoints, inert_empty_checkpoints, pools, references,
     array, array_short, strings, elements, attributes, long_key, long_names, classes, same_names, fields, categories,
-    long_categories, inline_32, inline_33, inline_wide, inline_array, ring, string_ring, fan, chain, thread_name, shared_name, shared_text, chunks,
-    delta_self, delta_forward, delta_amid,
+    long_categories, inline_32, inline_33, inline_wide, inline_array, ring, string_ring, fan, chain, thread_name,
+    shared_name, shared_text, chunks, delta_self, delta_forward, delta_amid,
 )}
 for place in ("strings", "string", "attributes", "children", "pools", "entries", "items", "bytes", "units", "characters"):
     KINDS["count_" + place] = lambda size, place=place: counted(place)

@@ -4,11 +4,12 @@
 # Makes a recording of each kind of hostile.py, or of those that are given, at SCALE (from 0 to 1, without it 1), and
 # runs each command that reads chunks on it, with 6 GB of memory (MEMORY, in KB) and 120 seconds (LIMIT) at most. A run
 # has to end with status 0, 2 or 5, in 20 seconds of processor time, and with a peak of at most 20 times the file's size
-# and 64 MB of memory.
-# Seconds of processor time, since those of the clock depend on what else the machine does. Prints a row for each run:
-# kind, bytes, command, status, seconds of the clock and of the processor, peak memory with how many times the file's
-# size it is, the line on the error stream, and which bound was missed; then how many runs there were, and how many
-# missed a bound. The status is 0 where none did. Texts go to /dev/null, files to a temporary folder.
+# and 64 MB of memory. The seconds are of processor time, since those of the clock depend on what else the machine does.
+#
+# Prints a row for each run: kind, bytes, command, status, seconds of the clock and of the processor, peak memory with
+# how many times the file's size it is, the line on the error stream, and which bound was missed; then how many runs
+# there were, how many of them lacked memory, and how many missed a bound. The status is 0 where none did. Texts go to
+# /dev/null, files to a temporary folder.
 set -u
 program=$(readlink -f "$1")
 scale=${2:-1}
@@ -20,6 +21,7 @@ shift $(($# > 2 ? 2 : $#))
 [ -x /usr/bin/time ] || { echo "/usr/bin/time isn't there" >&2; exit 1; }
 if [ $# -gt 0 ]; then kinds=("$@"); else mapfile -t kinds < <("$python" "$here/hostile.py"); fi
 runs=0
+wanting=0
 missed=0
 
 # One run: run LABEL WORD.., with its row.
@@ -36,11 +38,15 @@ run() {
     read -r clock own system peak <<<"$(tail -n 1 "$work/took")"
     own=$(awk "BEGIN { printf \"%.2f\", $own + $system }")
     mb=$(awk "BEGIN { printf \"%.0f\", $peak / 1024 }")
-    case $status in 0 | 2 | 5) ;; *) bound="$bound status" ;; esac
-    awk "BEGIN { exit !($own > 20) }" && bound="$bound seconds"
-    [ "$peak" -gt $((size * 20 / 1024 + 65536)) ] && bound="$bound memory"
+    case $status in
+        0 | 2) ;;
+        5) wanting=$((wanting + 1)) ;;
+        *) bound="$bound status" ;;
+    esac
+    if awk "BEGIN { exit !($own > 20) }"; then bound="$bound seconds"; fi
+    if [ "$peak" -gt $((size * 20 / 1024 + 65536)) ]; then bound="$bound memory"; fi
     line=$(head -c 80 "$work/said" | tr '\n' ' ')
-    echo "| $kind | $size | $label | $status | $clock | $own | $mb | $(awk "BEGIN { printf \"%.1f\", $peak * 1024 / $size }") | ${line% } |${bound# } |"
+    echo "| $kind | $size | $label | $status | $clock | $own | $mb | $(awk "BEGIN { printf \"%.1f\", $peak * 1024 / $size }") | ${line% } | ${bound# } |"
     runs=$((runs + 1))
     [ -z "$bound" ] || missed=$((missed + 1))
 }
@@ -63,5 +69,5 @@ for kind in "${kinds[@]}"; do
     rm -f "$file"
 done
 echo
-echo "$runs runs, $missed missed a bound"
+echo "$runs runs, $wanting lacked memory, $missed missed a bound"
 [ "$missed" = 0 ]
