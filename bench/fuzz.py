@@ -30,6 +30,7 @@ import time
 from collections import Counter
 
 sys.path.insert(0, os.path.dirname(os.path.realpath(__file__)))
+sys.dont_write_bytecode = True
 import hostile
 from mutations import mutated, parsed_or_none
 
