@@ -1,0 +1,493 @@
+#!/usr/bin/env python3
+"""Makes a recording that asks for more than its size: hostile.py OUT KIND [SIZE], or hostile.py alone for the kinds
+
+The recording is spelled by the rules of docs/FORMAT.md, with all sizes, positions and deltas true unless its kind
+says otherwise. SIZE scales what is large in it, from 0 to 1; without it 1, so that the largest recordings are chunks
+of the greatest size. Writes the recording to OUT and prints nothing; the status is 1 where there is no such kind.
+"""
+import struct
+import sys
+
+HEADER = 68
+GREATEST = 2**28 - 1
+MOST = 2**64 - 1
+
+# The ids of the classes that most kinds share.
+LONG, STRING, BYTE, THREAD, CATEGORY, NOTHING, NODE, EVENT = 10, 11, 12, 13, 14, 15, 16, 20
+
+
+def integer(value, width=1):
+    """An integer in as few bytes as it takes, or in `width` where that is more."""
+    value &= MOST
+    groups = bytearray()
+    while len(groups) < 8 and (value > 0x7F or len(groups) + 1 < width):
+        groups.append(value & 0x7F | 0x80)
+        value >>= 7
+    groups.append(value)
+    return bytes(groups)
+
+
+def text(characters):
+    encoded = characters.encode()
+    return b"\x03" + integer(len(encoded)) + encoded
+
+
+def key_text(key):
+    return b"\x02" + integer(key)
+
+
+def record(kind, body):
+    """A record; its size counts the bytes of the size itself."""
+    rest = integer(kind) + body
+    width = 1
+    while len(integer(len(rest) + width)) > width:
+        width += 1
+    return integer(len(rest) + width, width) + rest
+
+
+def checkpoint(pools=(), delta=0, width=1):
+    """A checkpoint of pools, each a class and its spelled entries; its delta in so many bytes at least."""
+    body = b"\0\0" + integer(delta, width) + b"\0" + integer(len(pools))
+    return record(1, body + b"".join(integer(of) + entries for of, entries in pools))
+
+
+def pool(of, entries):
+    """A pool of keys with their spelled values."""
+    return of, integer(len(entries)) + b"".join(integer(key) + value for key, value in entries)
+
+
+class Strings:
+    """The strings of a metadata record, each once."""
+
+    def __init__(self):
+        self.places, self.spelled = {}, []
+
+    def at(self, characters):
+        if characters not in self.places:
+            self.places[characters] = integer(len(self.spelled))
+            self.spelled.append(text(characters))
+        return self.places[characters]
+
+
+def element(strings, name, attributes=(), children=()):
+    """An element; of its attributes each is a pair of texts, and its children are spelled."""
+    return b"".join(
+        [strings.at(name), integer(len(attributes))]
+        + [strings.at(part) for attribute in attributes for part in attribute]
+        + [integer(len(children)), *children]
+    )
+
+
+def field(strings, name, of, constant=False, array=False):
+    marks = [("constantPool", "true")] * constant + [("dimension", "1")] * array
+    return element(strings, "field", [("name", name), ("class", str(of)), *marks])
+
+
+def class_(strings, name, id, children=(), event=False):
+    above = [("superType", "jdk.jfr.Event")] * event
+    return element(strings, "class", [("name", name), ("id", str(id)), *above], children)
+
+
+def metadata_of(strings, root):
+    body = b"\0\0\1" + integer(len(strings.spelled)) + b"".join(strings.spelled) + root
+    return record(0, body)
+
+
+def metadata(make=lambda strings: []):
+    """A metadata record of the shared classes and those that `make` spells."""
+    strings = Strings()
+    of = strings
+    shared = [
+        class_(of, "long", LONG),
+        class_(of, "java.lang.String", STRING),
+        class_(of, "byte", BYTE),
+        class_(of, "java.lang.Thread", THREAD, [field(of, "javaName", STRING)]),
+        class_(of, "jdk.jfr.Category", CATEGORY),
+        class_(of, "t.Nothing", NOTHING),
+        class_(of, "t.Node", NODE, [field(of, "next", NODE, constant=True), field(of, "text", STRING)]),
+    ]
+    classes = element(of, "metadata", [], shared + make(of))
+    return metadata_of(of, element(of, "root", [], [classes]))
+
+
+def event_class(*fields, annotations=()):
+    """What makes the event class t.E of fields, each a name, a class and its marks."""
+    def make(strings):
+        children = [field(strings, name, of, **marks) for name, of, marks in fields]
+        children += [element(strings, "annotation", [("class", str(CATEGORY)), *values]) for values in annotations]
+        return [class_(strings, "t.E", EVENT, children, event=True)]
+    return make
+
+
+def chunk(described, records=b"", last=None, at=None):
+    """A chunk: a metadata record, more records, and a checkpoint that begins the chain unless `at` says where it does."""
+    last = checkpoint() if last is None else last
+    body = described + records + last
+    chain = HEADER + len(described) + len(records) if at is None else at
+    size = HEADER + len(body)
+    assert size <= GREATEST, size
+    numbers = struct.pack(">HHQQQQQQQ", 2, 1, size, chain, HEADER, 1000, 5, 0, 10**9)
+    return b"FLR\0" + numbers + b"\0\0\0\1" + body
+
+
+def count(full, size):
+    return max(2, int(full * size))
+
+
+def left(size, *parts):
+    """How many bytes a chunk of this scale has left beside these parts, an empty checkpoint and the integers of sizes."""
+    return max(64, count(GREATEST, size) - HEADER - sum(map(len, parts)) - 64)
+
+
+# Chunks that are full of something small.
+
+
+def constants(size):
+    """Constants of one byte each: keys of a class without fields."""
+    described = metadata(event_class())
+    many = left(size, described)
+    return chunk(described, last=checkpoint([(NOTHING, integer(many) + b"\1" * many)]))
+
+
+def distinct_constants(size):
+    """Constants of four bytes each, every key another one."""
+    described = metadata(event_class())
+    blocks = max(1, left(size, described) // 65536)
+    block = bytearray(b for high in range(128) for low in range(128) for b in (low | 0x80, high | 0x80, 0x80, 0))
+    if size < 0.001:
+        blocks, block = 1, block[: left(size, described) // 4 * 4]
+    entries = []
+    for number in range(blocks):
+        block[2::4] = bytes([number % 128 | 0x80]) * (len(block) // 4)
+        block[3::4] = bytes([number // 128]) * (len(block) // 4)
+        entries.append(bytes(block))
+    many = integer(blocks * len(block) // 4)
+    return chunk(described, last=checkpoint([(NOTHING, many + b"".join(entries))]))
+
+
+def events(size):
+    """Events of two bytes each, of a class without fields."""
+    described = metadata(event_class())
+    return chunk(described, record(EVENT, b"") * (left(size, described) // 2))
+
+
+def checkpoints(size):
+    """Empty checkpoints in the chain, of 15 bytes each."""
+    described = metadata(event_class())
+    first, later = checkpoint(width=9), checkpoint(delta=-15)
+    return chunk(described, first + later * (left(size, described) // 15 - 2), later)
+
+
+def inert_checkpoints(size):
+    """Checkpoints outside of the chain, of two bytes each: their bodies aren't read."""
+    described = metadata(event_class())
+    return chunk(described, record(1, b"") * (left(size, described) // 2))
+
+
+def inert_empty_checkpoints(size):
+    """Empty checkpoints outside of the chain, of seven bytes each."""
+    described = metadata(event_class())
+    return chunk(described, checkpoint() * (left(size, described) // 7))
+
+
+def pools(size):
+    """One checkpoint with empty pools of two bytes each."""
+    described = metadata(event_class())
+    many = left(size, described) // 2
+    return chunk(described, last=record(1, b"\0\0\0\0" + integer(many) + bytes([NOTHING, 0]) * many))
+
+
+def references(size):
+    """An event with an array of references of one byte each to one constant."""
+    described = metadata(event_class(("all", NOTHING, {"constant": True, "array": True})))
+    many = left(size, described)
+    event = record(EVENT, integer(many) + b"\1" * many)
+    return chunk(described, event, checkpoint([pool(NOTHING, [(1, b"")])]))
+
+
+def array(size):
+    """An event with an array of bytes."""
+    described = metadata(event_class(("all", BYTE, {"array": True})))
+    many = left(size, described)
+    return chunk(described, record(EVENT, integer(many) + b"\1" * many))
+
+
+def array_short(size):
+    """An event with an array of bytes, of which the last isn't there."""
+    described = metadata(event_class(("all", BYTE, {"array": True})))
+    many = left(size, described)
+    return chunk(described, record(EVENT, integer(many + 1) + b"\1" * many))
+
+
+# Metadata.
+
+
+def strings(size):
+    """Metadata with null strings, of one byte each."""
+    of = Strings()
+    root = element(of, "root", [], [element(of, "metadata")])
+    spelled = b"".join(of.spelled)
+    many = left(size, root, spelled)
+    body = b"\0\0\1" + integer(len(of.spelled) + many) + spelled + b"\0" * many + root
+    return chunk(record(0, body))
+
+
+def elements(size):
+    """Metadata with elements of three bytes each, without attributes and children."""
+    of = Strings()
+    classes, empty = element(of, "metadata"), element(of, "root")
+    many = left(size, classes) // 3
+    root = of.at("root") + b"\0" + integer(many + 1) + classes + empty * many
+    return chunk(metadata_of(of, root))
+
+
+def attributes(size):
+    """Metadata with one element that has attributes of two bytes each."""
+    of = Strings()
+    classes = element(of, "metadata")
+    many = left(size, classes) // 2
+    root = of.at("root") + integer(many) + of.at("root") * 2 * many + integer(1) + classes
+    return chunk(metadata_of(of, root))
+
+
+def long_key(size):
+    """A key of a megabyte that stands a million times each in a class, a field and an annotation."""
+    def make(of):
+        many = count(2**20, size)
+        pairs = (of.at("k" * many) + of.at("v")) * many
+
+        def repeated(name, firsts, children=()):
+            given = b"".join(of.at(part) for first in firsts for part in first)
+            return of.at(name) + integer(len(firsts) + many) + given + pairs + integer(len(children)) + b"".join(children)
+
+        inner = repeated("field", [("name", "n"), ("class", str(LONG))])
+        annotation = repeated("annotation", [("class", str(CATEGORY)), ("value-0", "c")])
+        above = ("superType", "jdk.jfr.Event")
+        return [repeated("class", [("name", "t.E"), ("id", str(EVENT)), above], [inner, annotation])]
+    return chunk(metadata(make), record(EVENT, integer(300)))
+
+
+def long_names(size):
+    """A name of four megabytes that fields of 2^18 classes have."""
+    def make(of):
+        name, one = "n" * count(2**22, size), [("name", "t.C")]
+        many = count(2**18, size)
+        return [element(of, "class", one + [("id", str(100 + n))], [field(of, name, LONG)]) for n in range(many)]
+    return chunk(metadata(make))
+
+
+def classes(size):
+    """2^20 event classes, and an event of each."""
+    many = count(2**20, size)
+    described = metadata(lambda of: [class_(of, "t.C%d" % n, 100 + n, event=True) for n in range(many)])
+    return chunk(described, b"".join(record(100 + n, b"") for n in range(many)))
+
+
+def same_names(size):
+    """10,000 event classes of one name, and a hundred events of each."""
+    many = count(10000, size)
+    described = metadata(lambda of: [class_(of, "t.C", 100 + n, event=True) for n in range(many)])
+    return chunk(described, b"".join(record(100 + n, b"") for n in range(many)) * 100)
+
+
+def fields(size):
+    """An event class with 2^20 fields."""
+    many = count(2**20, size)
+    described = metadata(event_class(*[("f%d" % n, BYTE, {}) for n in range(many)]))
+    return chunk(described, record(EVENT, b"\1" * many) * 10)
+
+
+def categories(size):
+    """An event class with a million categories."""
+    values = [("value-%d" % n, "a%d" % n) for n in range(count(10**6, size))]
+    return chunk(metadata(event_class(annotations=[values])), record(EVENT, b"") * 1000)
+
+
+def long_categories(size):
+    """An event class with 2^18 categories of one text of a megabyte."""
+    long = "c" * count(2**20, size)
+    values = [("value-%d" % n, long) for n in range(count(2**18, size))]
+    return chunk(metadata(event_class(annotations=[values])), record(EVENT, b"") * 1000)
+
+
+def inline(steps, *last, wide=False):
+    """The classes of a chain of so many inline steps, of which the first is of events; the field of the last."""
+    def make(of):
+        inner = [class_(of, "t.L%d" % steps, 100 + steps, [field(of, *last)])]
+        for step in range(steps):
+            below = [field(of, name, 101 + step) for name in ("a", "b")[: 1 + wide]]
+            inner.append(class_(of, "t.L%d" % step, EVENT if step == 0 else 100 + step, below, event=step == 0))
+        return inner
+    return metadata(make)
+
+
+def inline_32(size):
+    """A chain of 32 inline steps, and a million events."""
+    return chunk(inline(32, "n", BYTE), record(EVENT, b"\1") * count(10**6, size))
+
+
+def inline_33(size):
+    """A chain of 33 inline steps, one too many."""
+    return chunk(inline(33, "n", BYTE), record(EVENT, b"\1") * count(10**6, size))
+
+
+def inline_wide(size):
+    """A chain of 32 inline steps with two fields at each, so that an event, of which there is none, would have 2^32 bytes."""
+    return chunk(inline(32, "n", BYTE, wide=True))
+
+
+def inline_array(size):
+    """An event with an array of bytes, behind a chain of 32 inline steps."""
+    described = inline(32, "n", BYTE, False, True)
+    many = left(size, described)
+    return chunk(described, record(EVENT, integer(many) + b"\1" * many))
+
+
+# Constants.
+
+
+def ring(size):
+    """200,000 constants in a ring, and an event that refers to one."""
+    many = count(200000, size)
+    nodes = [(n, integer((n + 1) % many) + b"\1") for n in range(many)]
+    described = metadata(event_class(("node", NODE, {"constant": True})))
+    return chunk(described, record(EVENT, b"\0"), checkpoint([pool(NODE, nodes)]))
+
+
+def string_ring(size):
+    """200,000 strings in a ring, each the key of the next; events and threads refer to them."""
+    many = count(200000, size)
+    links = [(n, key_text((n + 1) % many)) for n in range(many)]
+    threads = [(n, key_text(n)) for n in range(many)]
+    described = metadata(event_class(("text", STRING, {}), ("eventThread", THREAD, {"constant": True})))
+    held = b"".join(record(EVENT, key_text(n) + integer(n)) for n in range(many))
+    return chunk(described, held, checkpoint([pool(STRING, links), pool(THREAD, threads)]))
+
+
+def fan(size):
+    """Ten arrays of a thousand references each, to one another in order, so that each is shown a thousand times as often."""
+    many = count(1000, size)
+    described = metadata(lambda of: [
+        class_(of, "t.Fan", 30, [field(of, "all", 30, constant=True, array=True)]),
+        class_(of, "t.E", EVENT, [field(of, "fan", 30, constant=True)], event=True),
+    ])
+    fans = [(n, integer(many) + integer(n + 1) * many) for n in range(10)]
+    return chunk(described, record(EVENT, b"\0"), checkpoint([pool(30, fans)]))
+
+
+def chain(size):
+    """50,000 chained checkpoints with a constant each, of one key."""
+    described = metadata(event_class(("node", NODE, {"constant": True})))
+    node = pool(NODE, [(1, b"\1" + text("n"))])
+    first, later = checkpoint([node], width=9), checkpoint([node], delta=-1)
+    later = checkpoint([node], delta=-len(later))
+    return chunk(described, record(EVENT, b"\1") + first + later * (count(50000, size) - 2), later)
+
+
+def thread_name(size):
+    """A thread with a name of 100 megabytes, and ten events of it."""
+    described = metadata(event_class(("eventThread", THREAD, {"constant": True})))
+    threads = pool(THREAD, [(1, text("a" * count(10**8, size)))])
+    return chunk(described, record(EVENT, b"\1") * 10, checkpoint([threads]))
+
+
+def shared_name(size):
+    """A name of a megabyte that 100,000 threads have, each with an event."""
+    described = metadata(event_class(("eventThread", THREAD, {"constant": True})))
+    many = count(100000, size)
+    threads = pool(THREAD, [(n, key_text(1)) for n in range(many)])
+    name = pool(STRING, [(1, text("a" * count(10**6, size)))])
+    return chunk(described, b"".join(record(EVENT, integer(n)) for n in range(many)), checkpoint([threads, name]))
+
+
+def shared_text(size):
+    """A string of a megabyte to which 100,000 events refer."""
+    described = metadata(event_class(("text", STRING, {})))
+    name = pool(STRING, [(1, text("\u0001" * count(10**6, size)))])
+    return chunk(described, record(EVENT, key_text(1)) * count(100000, size), checkpoint([name]))
+
+
+def chunks(size):
+    """100,000 small chunks."""
+    of = Strings()
+    return chunk(metadata_of(of, element(of, "root", [], [element(of, "metadata")]))) * count(100000, size)
+
+
+# Small ones, in which one integer or the end of the chunk is wrong.
+
+
+def delta_self(size):
+    """A delta to the checkpoint itself: 0, in nine bytes, which ends the chain."""
+    return chunk(metadata(event_class()), checkpoint(), checkpoint(width=9))
+
+
+def delta_forward(size):
+    """Two checkpoints, of which each has a delta to the other."""
+    described = metadata(event_class())
+    later = checkpoint(delta=-7)
+    return chunk(described, checkpoint(delta=7), later)
+
+
+def delta_amid(size):
+    """A delta into the midst of an earlier checkpoint."""
+    return chunk(metadata(event_class()), checkpoint(), checkpoint(delta=-6))
+
+
+def counted(place):
+    """The greatest integer as a count in this place, with nothing of what it counts but a few bytes."""
+    of = Strings()
+    root = element(of, "root", [], [element(of, "metadata")])
+    most, few = integer(MOST), b"\0" * 16
+    spelled = b"".join(of.spelled)
+    strung = integer(len(of.spelled)) + spelled
+    bodies = {
+        "strings": b"\0\0\1" + most + few + root,
+        "string": b"\0\0\1" + integer(len(of.spelled) + 1) + spelled + b"\3" + most + few,
+        "attributes": b"\0\0\1" + strung + of.at("root") + most + few,
+        "children": b"\0\0\1" + strung + of.at("root") + b"\0" + most + few,
+    }
+    if place in bodies:
+        return chunk(record(0, bodies[place]))
+    described = metadata(event_class(("all", BYTE, {"array": True}), ("text", STRING, {})))
+    if place == "pools":
+        return chunk(described, last=record(1, b"\0\0\0\0" + most + bytes([NOTHING, 0]) * 8))
+    if place == "entries":
+        return chunk(described, last=checkpoint([(NOTHING, most + few)]))
+    held = {"items": most + few, "bytes": b"\0\3" + most + few, "units": b"\0\4" + most + few, "characters": b"\0\5" + most + few}
+    return chunk(described, record(EVENT, held[place]))
+
+
+def cut(kind):
+    """An event that ends the chunk in the midst of its string."""
+    described = metadata(event_class(("text", STRING, {})))
+    held = {"kind": b"", "key": b"\2\x80", "utf8": b"\3\5abcd", "utf16": b"\4\3ab\x80", "latin1": b"\5\x05abcd", "length": b"\3\x80"}
+    return chunk(described, checkpoint(), record(EVENT, held[kind]), at=HEADER + len(described))
+
+
+KINDS = {make.__name__: make for make in (
+    constants, distinct_constants, events, checkpoints, inert_checkpoints, inert_empty_checkpoints, pools, references,
+    array, array_short, strings, elements, attributes, long_key, long_names, classes, same_names, fields, categories,
+    long_categories, inline_32, inline_33, inline_wide, inline_array, ring, string_ring, fan, chain, thread_name,
+    shared_name, shared_text, chunks, delta_self, delta_forward, delta_amid,
+)}
+for place in ("strings", "string", "attributes", "children", "pools", "entries", "items", "bytes", "units", "characters"):
+    KINDS["count_" + place] = lambda size, place=place: counted(place)
+for place in ("kind", "key", "length", "utf8", "utf16", "latin1"):
+    KINDS["cut_" + place] = lambda size, place=place: cut(place)
+
+
+def main(words):
+    if not words:
+        print("\n".join(KINDS))
+        return 0
+    if len(words) not in (2, 3) or words[1] not in KINDS:
+        print("usage: hostile.py OUT KIND [SIZE]", file=sys.stderr)
+        return 1
+    made = KINDS[words[1]](float(words[2]) if len(words) == 3 else 1.0)
+    with open(words[0], "wb") as file:
+        file.write(made)
+    return 0
+
+
+if __name__ == "__main__":
+    sys.exit(main(sys.argv[1:]))

@@ -1,0 +1,73 @@
+#!/usr/bin/env bash
+# Runs the commands on hostile recordings, and holds them to bounds: bench/hostile.sh PROGRAM [SCALE [KIND..]]
+#
+# Makes a recording of each kind of hostile.py, or of those that are given, at SCALE (from 0 to 1, without it 1), and
+# runs each command that reads chunks on it, with 6 GB of memory (MEMORY, in KB) and 120 seconds (LIMIT) at most. A run
+# has to end with status 0, 2 or 5, in 20 seconds of processor time, and with a peak of at most 20 times the file's size
+# and 64 MB of memory. The seconds are of processor time, since those of the clock depend on what else the machine does.
+#
+# Prints a row for each run: kind, bytes, command, status, seconds of the clock and of the processor, peak memory with
+# how many times the file's size it is, the line on the error stream, and which bound was missed; then how many runs
+# there were, how many of them lacked memory, and how many missed a bound. The status is 0 where none did. Texts go to
+# /dev/null, files to a temporary folder.
+set -u
+program=$(readlink -f "$1")
+scale=${2:-1}
+here=$(dirname "$(readlink -f "$0")")
+python=$(command -v python3)
+work=$(mktemp -d)
+trap 'rm -rf "$work"' EXIT
+shift $(($# > 2 ? 2 : $#))
+[ -x /usr/bin/time ] || { echo "/usr/bin/time isn't there" >&2; exit 1; }
+if [ $# -gt 0 ]; then kinds=("$@"); else mapfile -t kinds < <("$python" "$here/hostile.py"); fi
+runs=0
+wanting=0
+missed=0
+
+# One run: run LABEL WORD.., with its row.
+run() {
+    local label=$1 clock own system peak status mb bound='' line
+    shift
+    rm -rf "$work/made" "$work/out.jfr"
+    mkdir "$work/made"
+    (
+        ulimit -v "${MEMORY:-6000000}"
+        exec /usr/bin/time -q -o "$work/took" -f '%e %U %S %M' timeout "${LIMIT:-120}" "$program" "$@"
+    ) >/dev/null 2>"$work/said"
+    status=$?
+    read -r clock own system peak <<<"$(tail -n 1 "$work/took")"
+    own=$(awk "BEGIN { printf \"%.2f\", $own + $system }")
+    mb=$(awk "BEGIN { printf \"%.0f\", $peak / 1024 }")
+    case $status in
+        0 | 2) ;;
+        5) wanting=$((wanting + 1)) ;;
+        *) bound="$bound status" ;;
+    esac
+    if awk "BEGIN { exit !($own > 20) }"; then bound="$bound seconds"; fi
+    if [ "$peak" -gt $((size * 20 / 1024 + 65536)) ]; then bound="$bound memory"; fi
+    line=$(head -c 80 "$work/said" | tr '\n' ' ')
+    echo "| $kind | $size | $label | $status | $clock | $own | $mb | $(awk "BEGIN { printf \"%.1f\", $peak * 1024 / $size }") | ${line% } | ${bound# } |"
+    runs=$((runs + 1))
+    [ -z "$bound" ] || missed=$((missed + 1))
+}
+
+echo "| kind | bytes | command | status | seconds | of processor | peak MB | times | said | missed |"
+echo "|---|---:|---|---:|---:|---:|---:|---:|---|---|"
+for kind in "${kinds[@]}"; do
+    file=$work/$kind.jfr
+    "$python" "$here/hostile.py" "$file" "$kind" "$scale" || { echo "$kind isn't made" >&2; exit 1; }
+    size=$(stat -c %s "$file")
+    run summary summary "$file"
+    run metadata metadata "$file"
+    run print print "$file"
+    run 'print --json' print --json "$file"
+    run 'print --depth 8' print --depth 8 "$file"
+    run scrub scrub "$file" "$work/out.jfr"
+    run 'scrub, threads' scrub --include-threads '*a*a*a*b,*a*a*a*c' "$file" "$work/out.jfr"
+    run 'scrub, categories' scrub --include-categories '*a*a*a*b,*a*a*a*c' "$file" "$work/out.jfr"
+    run disassemble disassemble --output "$work/made" "$file"
+    rm -f "$file"
+done
+echo
+echo "$runs runs, $wanting lacked memory, $missed missed a bound"
+[ "$missed" = 0 ]
