@@ -134,7 +134,7 @@ impl<'a> Chunk<'a> {
         ensures parts { AreParts self.now }
         ensures sound { Sound self.now.classes }
     {
-        // An invariant is known where a field is looked at.
+        // The check takes up the invariant of a value where the body reads one of its fields.
         let _ = &self.bytes;
     }
 

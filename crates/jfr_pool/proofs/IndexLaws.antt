@@ -1,5 +1,5 @@
 -- The index leads to the entry in force.
-use Rattle.std.specs.Prelude.{◌≡◌, ◌≢◌, ◌⊎◌, ℕ, zero, suc, ◌+◌, ◌^◌, ◌<◌, Bool, true, false, cond, ◌&&◌, ◌==◌, nat_lt, List, [], ◌∷◌, ◌++◌, length, Option, Some, None, IsSome, option_map, if◌then◌else◌, replicate}
+use Rattle.std.specs.Prelude.{◌≡◌, ◌≢◌, ◌⊎◌, ℕ, zero, suc, ◌+◌, ◌^◌, ◌<◌, Bool, true, false, cond, ◌&&◌, ◌==◌, nat_lt, List, [], ◌∷◌, ◌++◌, length, Option, Some, None, IsSome, is_some, option_map, if◌then◌else◌, replicate}
 use Rattle.std.proofs.Common.{ap, refl, sym, ◌∙◌, inl, inr, subst, get_or, set, length-set}
 use Rattle.std.proofs.lemmas.Bool.{cases_eq}
 use Rattle.std.proofs.lemmas.List.{get_or-set_same, get_or-set_other}
@@ -10,6 +10,8 @@ use Rattle.jfr_pool.specs.declared.entry.EntryAt.{EntryAt}
 use Rattle.jfr_pool.specs.declared.index.Index.{Index}
 use Rattle.jfr_pool.specs.declared.index.Slot.{Slot}
 use Rattle.jfr_pool.specs.declared.index.TheConstants.{REACH}
+use Rattle.jfr_pool.specs.declared.row.Row.{Row}
+use Rattle.jfr_pool.specs.Counts.{count_at}
 use Rattle.jfr_pool.specs.Entries.{number_in_force}
 use Rattle.jfr_pool.specs.Index.{target_cmp, Placed, held, number_in, is_open, slot_at, seat_from, home, seat, number_at, number_of, Indexes}
 use Rattle.jfr_pool.proofs.Targets.{clash, hits, same_target, target_same, eq_target, force_push, force_none, some_push}
@@ -28,9 +30,9 @@ get_replicate (suc n) zero x = refl
 get_replicate (suc n) (suc i) x = get_replicate n i x
 
 -- where all slots are empty and there are no others, nothing has a number
-pub indexes_none : (index : Index) (n : ℕ) → index.slots.items ≡ replicate n empty → IsEmpty index.others → Indexes index []
-indexes_none index n slots o = record {
-  leads = λ t. none_of index t (no_others t) (λ i p q. absurd (differ i p q)) ∙ sym (force_none t);
+pub indexes_none : (rows : List Row) (index : Index) (n : ℕ) → index.slots.items ≡ replicate n empty → IsEmpty index.others → Indexes rows index []
+indexes_none rows index n slots o = record {
+  leads = λ t p. none_of index t (no_others t) (λ i p q. absurd (differ i p q)) ∙ sym (force_none t);
   in_slots = λ i p q. absurd (differ i p q);
   in_others = λ t q. absurd (no_some (get target_cmp index.others t) (no_others t) q);
 }
@@ -109,7 +111,7 @@ module _ (old new : Index) (e : EntryAt) (number place : ℕ) (within : place < 
       by_class true h = rw (homes_stay t) (number_stays t m apart was_open REACH (home old.slots.items t) h)
       by_class false h = ap (λ z. get target_cmp z t) others ∙ h
 
-  module _ (found : seat old.slots.items (e.class, e.key) ≡ Some place) (es : List EntryAt) (h : Indexes old es) where
+  module _ (found : seat old.slots.items (e.class, e.key) ≡ Some place) (rows : List Row) (es : List EntryAt) (h : Indexes rows old es) where
     own : number_of new (e.class, e.key) ≡ Some number
     unfolding seat
     own =
@@ -134,17 +136,17 @@ module _ (old new : Index) (e : EntryAt) (number place : ℕ) (within : place < 
                 clash (hits e t) (target_same e.class e.key t (ap (λ (z : Placed). (z.class, z.key)) g ∙ same)) apart
             by_place (inr r) = no_some (number_in_force es t) none (subst (λ z. IsSome (number_in_force es z)) same (h.in_slots i p (sym (elsewhere i r) ∙ q)))
 
-    seated_number : (t : ℕ × ℕ) → number_of new t ≡ cond (hits e t) (Some number) (number_in_force es t)
-    seated_number t = by_test (hits e t) refl (number_in_force es t) refl
+    seated_number : (t : ℕ × ℕ) → count_at rows t ≡ None → number_of new t ≡ cond (hits e t) (Some number) (number_in_force es t)
+    seated_number t out = by_test (hits e t) refl (number_in_force es t) refl
       where
         by_test : (b : Bool) → hits e t ≡ b → (o : Option ℕ) → number_in_force es t ≡ o → number_of new t ≡ cond b (Some number) o
         by_test true f o g = ap (number_of new) (sym (same_target e.class e.key t f)) ∙ own
         by_test false f None g = nowhere t f g
-        by_test false f (Some m) g = some_stays t m f (seat_open REACH (home old.slots.items (e.class, e.key)) (seat_found old.slots.items (e.class, e.key) place found).1) (h.leads t ∙ g)
+        by_test false f (Some m) g = some_stays t m f (seat_open REACH (home old.slots.items (e.class, e.key)) (seat_found old.slots.items (e.class, e.key) place found).1) (h.leads t out ∙ g)
 
-    pub seated : length es ≡ number → Indexes new (es ++ e ∷ [])
+    pub seated : length es ≡ number → Indexes rows new (es ++ e ∷ [])
     seated n = record {
-      leads = λ t. seated_number t ∙ ap (λ m. cond (hits e t) (Some m) (number_in_force es t)) (sym n) ∙ sym (force_push es e t);
+      leads = λ t out. seated_number t out ∙ ap (λ m. cond (hits e t) (Some m) (number_in_force es t)) (sym n) ∙ sym (force_push es e t);
       in_slots = λ i p q. by_place i p q (cases_eq i place);
       in_others = λ t q. some_push es e t (inr (h.in_others t (subst (λ z. IsSome (get target_cmp z t)) others q)));
     }
@@ -157,9 +159,9 @@ module _ (old new : Index) (e : EntryAt) (number place : ℕ) (within : place < 
         by_place i p q (inr r) = some_push es e (p.class, p.key) (inr (h.in_slots i p (sym (elsewhere i r) ∙ q)))
 
 -- where no slot is open, the entry is put among the others
-pub passed : (old new : Index) (e : EntryAt) (number : ℕ) (es : List EntryAt) → seat old.slots.items (e.class, e.key) ≡ None → new.slots.items ≡ old.slots.items → Updates target_cmp old.others new.others (e.class, e.key) (Some number) → Indexes old es → length es ≡ number → Indexes new (es ++ e ∷ [])
-passed old new e number es none slots u h n = record {
-  leads = λ t. passed_number t (seat old.slots.items t) refl ∙ ap (cond (hits e t) (Some number)) (h.leads t) ∙ ap (λ m. cond (hits e t) (Some m) (number_in_force es t)) (sym n) ∙ sym (force_push es e t);
+pub passed : (rows : List Row) (old new : Index) (e : EntryAt) (number : ℕ) (es : List EntryAt) → seat old.slots.items (e.class, e.key) ≡ None → new.slots.items ≡ old.slots.items → Updates target_cmp old.others new.others (e.class, e.key) (Some number) → Indexes rows old es → length es ≡ number → Indexes rows new (es ++ e ∷ [])
+passed rows old new e number es none slots u h n = record {
+  leads = λ t out. passed_number t (seat old.slots.items t) refl ∙ ap (cond (hits e t) (Some number)) (h.leads t out) ∙ ap (λ m. cond (hits e t) (Some m) (number_in_force es t)) (sym n) ∙ sym (force_push es e t);
   in_slots = λ i p q. some_push es e (p.class, p.key) (inr (h.in_slots i p (ap (λ z. held (slot_at z i)) (sym slots) ∙ q)));
   in_others = λ t q. by_test t (hits e t) refl (subst (λ o. IsSome o) (updated t) q);
 }
@@ -181,3 +183,15 @@ passed old new e number es none slots u h n = record {
     by_test : (t : ℕ × ℕ) (b : Bool) → hits e t ≡ b → IsSome (cond b (Some number) (get target_cmp old.others t)) → IsSome (number_in_force (es ++ e ∷ []) t)
     by_test t true f s = some_push es e t (inl f)
     by_test t false f s = some_push es e t (inr (h.in_others t s))
+
+-- an entry that has a place in the rows is left out
+pub left_out : (rows : List Row) (index : Index) (e : EntryAt) (es : List EntryAt) → is_some (count_at rows (e.class, e.key)) ≡ true → Indexes rows index es → Indexes rows index (es ++ e ∷ [])
+left_out rows index e es place h = record {
+  leads = λ t out. h.leads t out ∙ ap (λ b. cond b (Some (length es)) (number_in_force es t)) (sym (apart t out (hits e t) refl)) ∙ sym (force_push es e t);
+  in_slots = λ i p q. some_push es e (p.class, p.key) (inr (h.in_slots i p q));
+  in_others = λ t q. some_push es e t (inr (h.in_others t q));
+}
+  where
+    apart : (t : ℕ × ℕ) → count_at rows t ≡ None → (b : Bool) → hits e t ≡ b → hits e t ≡ false
+    apart t out true f = absurd (clash (is_some (count_at rows t)) (ap (λ z. is_some (count_at rows z)) (sym (same_target e.class e.key t f)) ∙ place) (ap is_some out))
+    apart t out false f = f

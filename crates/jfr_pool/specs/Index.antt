@@ -1,4 +1,4 @@
--- The index of the entries, by class and key.
+-- The index of the entries that have no place in a row, by class and key.
 use Rattle.std.specs.Prelude.{◌≡◌, ℕ, zero, suc, ◌+◌, ◌-◌, ◌*◌, ◌/◌, ◌%◌, ◌^◌, ◌&&◌, ◌==◌, nat_lt, Bool, true, List, length, Option, Some, None, IsSome, bit_xor, slice_index_or, option_map, if◌then◌else◌}
 use Rattle.std.specs.declared.cmp.Ordering.{Ordering}
 use Rattle.std.specs.Ordering.{nat_cmp, ordering_then}
@@ -7,6 +7,8 @@ use Rattle.jfr_pool.specs.declared.entry.EntryAt.{EntryAt}
 use Rattle.jfr_pool.specs.declared.index.Index.{Index}
 use Rattle.jfr_pool.specs.declared.index.Slot.{Slot}
 use Rattle.jfr_pool.specs.declared.index.TheConstants.{REACH, CLASS_AT, MIX}
+use Rattle.jfr_pool.specs.declared.row.Row.{Row}
+use Rattle.jfr_pool.specs.Counts.{count_at}
 use Rattle.jfr_pool.specs.Entries.{number_in_force}
 
 -- By class, and then by key.
@@ -62,8 +64,8 @@ number_at index t None = get target_cmp index.others t
 abbrev pub number_of : Index → ℕ × ℕ → Option ℕ
 number_of index t = number_at index t (seat index.slots.items t)
 
--- For each class and key the index has the number of the entry in force, where there is one; and only such stand in it.
-pub record Indexes (index : Index) (es : List EntryAt) : Type 0 where
-  pub leads : (t : ℕ × ℕ) → number_of index t ≡ number_in_force es t
+-- For each class and key without a place in the rows the index has the number of the entry in force, where there is one; and only classes and keys of entries stand in it.
+pub record Indexes (rows : List Row) (index : Index) (es : List EntryAt) : Type 0 where
+  pub leads : (t : ℕ × ℕ) → count_at rows t ≡ None → number_of index t ≡ number_in_force es t
   pub in_slots : (place : ℕ) (p : Placed) → held (slot_at index.slots.items place) ≡ Some p → IsSome (number_in_force es (p.class, p.key))
   pub in_others : (t : ℕ × ℕ) → IsSome (get target_cmp index.others t) → IsSome (number_in_force es t)

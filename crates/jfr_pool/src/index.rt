@@ -1,8 +1,9 @@
-// The numbers of the entries in force, by class and key.
-ghost use Rattle.std.specs.Prelude.{None, ◌≡◌, false, ◌+◌, ◌-◌, ◌<◌, ◌≤◌, ◌^◌, [], ◌∷◌, ◌++◌, length, vec_len, IfOk, IsOk, IfSome, IsTrue, OnOk};
+// The numbers of the entries in force that have no place in a row, by class and key.
+ghost use Rattle.std.specs.Prelude.{None, ◌≡◌, false, ◌+◌, ◌-◌, ◌<◌, ◌≤◌, ◌^◌, [], ◌∷◌, ◌++◌, length, vec_len, IfOk, IfSome, IsTrue, OnOk};
 ghost use Rattle.jfr_pool.specs.declared.index.TheConstants.{REACH};
 
 use crate::EntryAt;
+use crate::counts::Counts;
 use jfr_base::NoMemory;
 use std::alloc::Global;
 use std::collections::BTreeMap;
@@ -57,7 +58,7 @@ impl Slot {
     }
 }
 
-/// The numbers of the entries in force. A class and key stand in the first slot, from their home on,
+/// The numbers of the entries in force for the classes and keys that have no place in a row. A class and key stand in the first slot, from their home on,
 /// that was open to them; and among the others where none within reach was, or the class is too large.
 #[derive(Drop)]
 pub(crate) struct Index {
@@ -69,27 +70,24 @@ pub(crate) struct Index {
 impl Index {
     ghost use Rattle.std.specs.Prelude.{List};
     ghost use Rattle.jfr_pool.specs.declared.entry.EntryAt.{EntryAt};
+    ghost use Rattle.jfr_pool.specs.declared.row.Row.{Row};
     ghost use Rattle.jfr_pool.specs.Index.{Indexes, held, home, is_open, number_at, number_of, seat, seat_from, slot_at};
 
-    /// The index of entries. `NoMemory` also for 2 ^ 32 and more, which a slot can't count; a chunk is far
-    /// below that size.
-    pub fn of(alloc: Global, entries: &[EntryAt]) -> Result<Index, NoMemory>
-        ensures ok { IfOk result (λ index. Indexes index entries.now) }
-        ensures counted { IsOk result → length entries.now < 2 ^ 32 }
+    /// The index of the entries that have no place in the rows.
+    pub fn of(alloc: Global, entries: &[EntryAt], counts: &Counts) -> Result<Index, NoMemory>
+        requires { length entries.now < 2 ^ 32 }
+        ensures { IfOk result (λ index. Indexes counts.now.rows.items index entries.now) }
     {
-        if entries.len() > u32::MAX as usize {
-            return Err(NoMemory);
-        }
-        let mut index = Index::new(alloc, entries.len())?;
+        let mut index = Index::new(alloc, count_without_place(entries, counts))?;
         for (number, entry) in entries.iter().enumerate() {
-            index.put(entry, number)?;
+            index.take(entry, number, counts)?;
         }
         Ok(index)
     }
 
     /// The number of the entry in force for a class and a key; `None` exactly where there is none.
     /// Most stand in their home, or nothing does.
-    #[inline(always)]
+    #[inline(never)]
     pub fn number(&self, class: u64, key: u64) -> Option<usize>
         ensures { result ≡ number_of self.now (class, key) }
     {
@@ -131,7 +129,7 @@ impl Index {
 
     /// The index of no entries, with room for so many.
     fn new(alloc: Global, count: usize) -> Result<Index, NoMemory>
-        ensures { IfOk result (λ index. Indexes index []) }
+        ensures { IfOk result (λ index. (rows : List Row) → Indexes rows index []) }
     {
         let empty = Slot {
             key: 0,
@@ -146,10 +144,21 @@ impl Index {
         })
     }
 
+    /// Takes the next entry, which has this number, where it has no place in the rows.
+    fn take(&mut self, entry: &EntryAt, number: usize, counts: &Counts) -> Result<(), NoMemory>
+        requires { number + 1 < 2 ^ 32 }
+        ensures { OnOk result ((es : List EntryAt) → Indexes counts.now.rows.items self.old es → length es ≡ number → Indexes counts.now.rows.items self.new (es ++ entry.now ∷ [])) }
+    {
+        if counts.count(entry.class, entry.key).is_some() {
+            return Ok(());
+        }
+        self.put(entry, number)
+    }
+
     /// Puts in the next entry, which has this number.
     fn put(&mut self, entry: &EntryAt, number: usize) -> Result<(), NoMemory>
         requires { number + 1 < 2 ^ 32 }
-        ensures { OnOk result ((es : List EntryAt) → Indexes self.old es → length es ≡ number → Indexes self.new (es ++ entry.now ∷ [])) }
+        ensures { OnOk result ((rows : List Row) (es : List EntryAt) → Indexes rows self.old es → length es ≡ number → Indexes rows self.new (es ++ entry.now ∷ [])) }
     {
         let (class, key) = (entry.class, entry.key);
         match self.seat(class, key) {
@@ -205,4 +214,17 @@ impl Index {
         let mixed = (key ^ (class << CLASS_AT)).wrapping_mul(MIX);
         ((u128::from(mixed) * homes) >> 64) as usize
     }
+}
+
+/// How many entries have no place in the rows.
+fn count_without_place(entries: &[EntryAt], counts: &Counts) -> usize
+    ensures { result ≤ length entries.now }
+{
+    let mut count = 0;
+    for entry in entries {
+        if counts.count(entry.class, entry.key).is_none() {
+            count += 1;
+        }
+    }
+    count
 }

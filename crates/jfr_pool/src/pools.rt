@@ -31,7 +31,7 @@ impl Model for Pools {
 
     ghost view = { λ pools. pools.entries.items };
 
-    ghost invariant = { λ pools. Indexes pools.index pools.entries.items × AreCounts pools.counts pools.entries.items };
+    ghost invariant = { λ pools. Indexes pools.counts.rows.items pools.index pools.entries.items × AreCounts pools.counts pools.entries.items };
 }
 
 impl Pools {
@@ -57,8 +57,11 @@ impl Pools {
             let frame = chain.at(number).frame;
             read_checkpoint(chunk, classes, number, frame, &mut entries)?;
         }
-        let index = Index::of(alloc, &entries)?;
+        if entries.len() > u32::MAX as usize {
+            return Err(ReadFault::Memory);
+        }
         let counts = Counts::of(alloc, &entries)?;
+        let index = Index::of(alloc, &entries, &counts)?;
         Ok(Pools {
             entries,
             index,
@@ -71,6 +74,13 @@ impl Pools {
         ensures { result ≡ length self.now }
     {
         self.entries.len()
+    }
+
+    /// The entries, in the order of the file.
+    pub fn as_slice(&self) -> &[EntryAt]
+        ensures { result.now ≡ self.now }
+    {
+        self.entries.as_slice()
     }
 
     /// The entry of a number, from 0, in the order of the file; `None` exactly past the end.
@@ -89,16 +99,8 @@ impl Pools {
         match self.counts.count(class, key) {
             Some(0) => None,
             Some(count) => Some(count as usize - 1),
-            None => self.indexed(class, key),
+            None => self.index.number(class, key),
         }
-    }
-
-    /// The number of the entry in force for a class and a key that the direct table doesn't hold.
-    #[inline(never)]
-    fn indexed(&self, class: u64, key: u64) -> Option<usize>
-        ensures { result ≡ number_in_force self.now (class, key) }
-    {
-        self.index.number(class, key)
     }
 
     /// Whether the entry of a number is the one in force for its class and key.

@@ -2,7 +2,7 @@
 use Rattle.std.specs.Prelude.{◌≡◌, ℕ, zero, suc, ◌+◌, ◌-◌, ◌<◌, ◌≤◌, Bool, true, false, ◌&&◌, ◌==◌, List, [], ◌∷◌, ◌++◌, length, take, drop, min, slice_get, Some, if◌then◌else◌}
 use Rattle.std.specs.List.{AllByRecursion}
 use Rattle.std.proofs.Common.{ap, arith, refl, sym, ◌∙◌, subst, get_or, drop-cons, add-one, append_assoc}
-use Rattle.std.proofs.lemmas.List.{drop_all, append-nil, length-drop}
+use Rattle.std.proofs.lemmas.List.{drop_all, append-nil, length-drop, take_all}
 use Rattle.std.proofs.lemmas.Bool.Decides.{nat_tests}
 use Rattle.jfr_pool.specs.declared.entry.EntryAt.{EntryAt}
 use Rattle.jfr_chunk.specs.Reach.{marked, is_marked}
@@ -201,3 +201,17 @@ marked_next ms es left new i e keep h g k l n =
 
 pub marked_all : (ms : List Bool) (es left : List EntryAt) (i : ℕ) → length ms ≤ i → left ++ marked (drop i ms) (drop i es) ≡ marked ms es → left ≡ marked ms es
 marked_all ms es left i h l = sym (append-nil left) ∙ (ap (λ z. left ++ marked z (drop i es)) (sym (drop_all i ms h)) ∙ l)
+
+-- while all members so far are marked
+whole_suc : (ms : List Bool) (es : List EntryAt) (i : ℕ) → i < length ms → length ms ≡ length es → is_marked ms i ≡ true → take (suc i) es ++ marked (drop (suc i) ms) (drop (suc i) es) ≡ take i es ++ marked (drop i ms) (drop i es)
+whole_suc [] es i h n m = absurd (omega arith)
+whole_suc (b ∷ ms) [] i h n m = absurd (omega arith)
+whole_suc (true ∷ ms) (x ∷ es) zero h n m = refl
+whole_suc (false ∷ ms) (x ∷ es) zero h n m = cc
+whole_suc (b ∷ ms) (x ∷ es) (suc i) h n m = ap (λ z. x ∷ z) (whole_suc ms es i (omega arith) (omega arith) m)
+
+pub whole_next : (ms : List Bool) (es : List EntryAt) (i : ℕ) → i < length ms → length ms ≡ length es → is_marked ms i ≡ true → take i es ++ marked (drop i ms) (drop i es) ≡ marked ms es → take (i + 1) es ++ marked (drop (i + 1) ms) (drop (i + 1) es) ≡ marked ms es
+whole_next ms es i h n m l = ap (λ j. take j es ++ marked (drop j ms) (drop j es)) (add-one i) ∙ (whole_suc ms es i h n m ∙ l)
+
+pub whole_all : (ms : List Bool) (es : List EntryAt) (i : ℕ) → length ms ≤ i → length ms ≡ length es → take i es ++ marked (drop i ms) (drop i es) ≡ marked ms es → marked ms es ≡ es
+whole_all ms es i h n l = sym (marked_all ms es (take i es) i h l) ∙ take_all i es (omega arith)

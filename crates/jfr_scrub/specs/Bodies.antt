@@ -59,28 +59,28 @@ abbrev pub NotFalling : ℕ → List EntryAt → Type 0
 NotFalling n [] = ⊤
 NotFalling n (e ∷ es) = (n ≤ e.checkpoint) × NotFalling e.checkpoint es
 
--- Of what stays, a whole record and each entry of a chained checkpoint lie in one piece each that is copied.
+-- An output record is copied: a whole record lies in one copied piece, and so does each entry of a chained checkpoint.
 abbrev pub OutputRecordIsCopied : List EntryAt → List Part → OutputRecord → Type 0
 OutputRecordIsCopied left ps (Whole r) = RecordIsCopied ps r
 OutputRecordIsCopied left ps (Chained number l) = AllByRecursion (EntryIsCopied ps) (filter (λ e. e.checkpoint == number) left)
 
--- All that stays is copied, in these pieces and in all that keep what is copied in these.
+-- The output records are copied in these pieces, and in any pieces in which what these copy lies in one copied piece too.
 abbrev pub OutputRecordsAreCopied : List EntryAt → List OutputRecord → List Part → Type 0
 OutputRecordsAreCopied left ss ps = (qs : List Part) → Keeps ps qs → AllByRecursion (OutputRecordIsCopied left qs) ss
 
--- What is made of a pool: its class and its number of entries.
+-- The parts that are made for a pool: its class and its number of entries.
 abbrev pub pool_parts : Group → List MadePart
 pool_parts g = PoolClass ∷ EntryCount ∷ []
 
--- What is made of a checkpoint: its size, its delta, its number of pools, and then pool by pool.
+-- The parts that are made for a checkpoint: its size, its delta, its number of pools, and then those of each pool.
 abbrev pub checkpoint_parts : List Group → List MadePart
 checkpoint_parts gs = CheckpointSize ∷ CheckpointDelta ∷ PoolCount ∷ flat_map pool_parts gs
 
--- What is made of what stays: nothing of a whole record.
+-- The parts that are made for an output record: none for a whole record, which is copied.
 abbrev pub output_record_parts : List EntryAt → OutputRecord → List MadePart
 output_record_parts left (Whole r) = []
 output_record_parts left (Chained number l) = checkpoint_parts (groups_of left number)
 
--- All that is made where these events are kept: the header, and then what is made of each chained checkpoint.
+-- All parts that are made where these events are kept: the header, and then those of each output record.
 abbrev pub all_made : Parts → List EventAt → List MadePart
 all_made p kept = ChunkHeader ∷ flat_map (output_record_parts (remain p kept)) (output_records p kept)

@@ -3,6 +3,13 @@ use Rattle.std.specs.Prelude.{ℕ, suc, ◌+◌, ◌-◌, ◌<◌, ◌≤◌, Bo
 use Rattle.jfr_base.specs.Integer.{spell}
 use Rattle.jfr_pool.specs.declared.entry.EntryAt.{EntryAt}
 use Rattle.jfr_chunk.specs.Written.{Group}
+use Rattle.jfr_scrub.specs.declared.remaining.RemainingEntries.{RemainingEntries}
+use Rattle.jfr_scrub.specs.declared.remaining.RemainingEntries.TheVariants as remainings
+
+-- The entries that remain.
+abbrev pub entries_in : RemainingEntries → List EntryAt
+entries_in (remainings.All es) = es.now
+entries_in (remainings.Listed es) = es.items
 
 -- The entry stands in a chunk of this length. It has a byte at least.
 pub record HasRange (n : ℕ) (e : EntryAt) : Type 0 where

@@ -3,6 +3,7 @@ pub mod Left
 pub mod Fits
 pub mod OutputRecords
 pub mod Bodies
+pub mod LaysOut
 pub mod Runs
 pub mod Scrubbing
 pub mod Scrubs

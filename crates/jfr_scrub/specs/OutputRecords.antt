@@ -11,7 +11,7 @@ use Rattle.jfr_scrub.specs.declared.output_records.KeptRecord.{KeptRecord}
 use Rattle.jfr_scrub.specs.declared.output_records.KeptRecord.TheVariants as kept_records
 use Rattle.jfr_scrub.specs.declared.output_records.Cursor.{Cursor}
 
--- The output record that the code names.
+-- The output record that a value of the code's own enum stands for.
 abbrev pub output_record_as : KeptRecord → OutputRecord
 output_record_as (kept_records.Whole r) = Whole r
 output_record_as (kept_records.Chained number l) = Chained number l
@@ -20,7 +20,7 @@ output_record_as (kept_records.Chained number l) = Chained number l
 abbrev pub events_from : Parts → List Framed → List EventAt
 events_from p rs = filter_map (event_of p.bytes p.classes) (event_records p.classes rs)
 
--- The event among these that starts at a record's place.
+-- The event, of a list of events, whose record starts where this record does.
 abbrev pub event_there : List EventAt → Framed → Option EventAt
 event_there es r = find (λ e. e.record_of.at == r.at) es
 
@@ -39,14 +39,14 @@ pub record IsCursor (p : Parts) (flags : List Bool) (c : Cursor) : Type 0 where
 abbrev pub still_output_records : Parts → List Bool → Cursor → List OutputRecord
 still_output_records p flags c = filter_map (output_record_of p (kept_by p flags)) (drop c.frame p.records)
 
--- Whether the event of a number starts at a place and is kept, and the number behind it if it starts there.
+-- Whether the event of a number starts at a place and is kept; and the number of the next event, which is one more where it starts there.
 abbrev pub is_kept_at : List EventAt → List Bool → ℕ → ℕ → Bool
 is_kept_at es flags n at = option_map_or (λ e. (e.record_of.at == at) && unwrap_or (slice_get flags n) false) (slice_get es n) false
 
 abbrev pub event_behind : List EventAt → ℕ → ℕ → ℕ
 event_behind es n at = option_map_or (λ e. if e.record_of.at == at then n + 1 else n) (slice_get es n) n
 
--- The checkpoint of a number if it starts at a place, and the number behind it in that case.
+-- The checkpoint of a number, where it starts at a place; and the number of the next checkpoint, which is one more where it starts there.
 abbrev pub linked_at : List Link → ℕ → ℕ → Option (ℕ × Link)
 linked_at ls n at = option_and_then (λ l. if l.frame.at == at then Some (n, l) else None) (slice_get ls n)
 

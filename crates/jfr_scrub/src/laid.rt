@@ -1,14 +1,12 @@
 // What a chunk becomes, laid out as pieces.
-ghost use Rattle.std.specs.Prelude.{◌≡◌, ◌<◌, ◌≤◌, ◌+◌, ◌++◌, List, [], length, slice_get, take, option_map, unwrap_or, IfOk, IfSome};
-ghost use Rattle.std.specs.List.{AllByRecursion};
-ghost use Rattle.jfr_header.specs.Headers.{header_bytes, header_of};
+ghost use Rattle.std.specs.Prelude.{◌≡◌, ◌<◌, ◌≤◌, length, unwrap_or, IfOk};
+ghost use Rattle.jfr_header.specs.Headers.{header_bytes};
 ghost use Rattle.jfr_chunk.specs.Chosen.{kept_of};
 ghost use Rattle.jfr_chunk.specs.Parts.{events_of};
-ghost use Rattle.jfr_chunk.specs.Reach.{kept_by, reached_marks, remain};
-ghost use Rattle.jfr_chunk.specs.Scrub.{header_with, scrub_of, output_records};
+ghost use Rattle.jfr_chunk.specs.Reach.{kept_by, reached_marks};
 ghost use Rattle.jfr_laws.specs.Laws.{IsSettled};
-ghost use Rattle.jfr_scrub.specs.Bodies.{all_made, IsBody, progress_of};
-ghost use Rattle.jfr_scrub.specs.Pieces.{EntryIsCopied, EventIsCopied, IsHeaded, joined, laid_in, LieIn, made_parts, MetadataIsCopied};
+ghost use Rattle.jfr_scrub.specs.LaysOut.{LaysOut};
+ghost use Rattle.jfr_scrub.specs.Pieces.{joined, laid_in, LieIn};
 ghost use Rattle.jfr_scrub.specs.Scrubbing.{IsAccepted};
 
 use crate::body::{Body, lay_body};
@@ -54,26 +52,8 @@ impl<'a> LaidOut<'a> {
         chunk: &Chunk<'a>,
         filter: &Filter,
     ) -> Result<LaidOut<'a>, NoMemory>
-        // The pieces joined are what the chunk becomes.
-        ensures joined { IfOk result (λ s. joined s.laid ≡ scrub_of chunk.now (kept_of filter.now chunk.now)) }
-        ensures chunk { IfOk result (λ s. s.laid.chunk ≡ chunk.now.bytes) }
-
-        // The header and single integers are made, and all else is copied: each kept event, each entry
-        // that remains, and the metadata record lie in one piece each.
-        ensures made { IfOk result (λ s. IsHeaded s.laid) }
-        ensures kinds { IfOk result (λ s. made_parts s.laid.pieces ≡ all_made chunk.now (kept_of filter.now chunk.now)) }
-        ensures events_copied { IfOk result (λ s. AllByRecursion (EventIsCopied s.laid.pieces) (kept_of filter.now chunk.now)) }
-        ensures entries_copied { IfOk result (λ s. AllByRecursion (EntryIsCopied s.laid.pieces) (remain chunk.now (kept_of filter.now chunk.now))) }
-        ensures metadata_copied { IfOk result (λ s. MetadataIsCopied s.laid.pieces chunk.now) }
-
-        // What the chunk becomes is accepted, is no longer than it, and holds exactly the events that the
-        // filter keeps and the entries that they reach; it means the same, and with this filter it becomes
-        // itself.
+        ensures laid { IfOk result (λ s. LaysOut chunk.now (kept_of filter.now chunk.now) s.laid s.events s.entries) }
         ensures settled { IfOk result (λ s. IsSettled filter.now chunk.now) }
-
-        // How much is kept.
-        ensures events { IfOk result (λ s. s.events ≡ length (kept_of filter.now chunk.now)) }
-        ensures entries { IfOk result (λ s. s.entries ≡ length (remain chunk.now (kept_of filter.now chunk.now))) }
     {
         let kept = choose(alloc, chunk, filter)?;
         let marks = marks_of::<Brand>(alloc, Blank::new(1), chunk, &kept)?;
@@ -127,19 +107,12 @@ fn lay_out<'a>(
 ) -> Result<LaidOut<'a>, NoMemory>
     requires marks { marks.now ≡ reached_marks chunk.now (kept_by chunk.now kept.now) }
     requires kept { length kept.now ≡ length (events_of chunk.now) }
-    ensures joined { IfOk result (λ s. joined s.laid ≡ scrub_of chunk.now (kept_by chunk.now kept.now)) }
-    ensures chunk { IfOk result (λ s. s.laid.chunk ≡ chunk.now.bytes) }
-    ensures events { IfOk result (λ s. s.events ≡ length (kept_by chunk.now kept.now)) }
-    ensures entries { IfOk result (λ s. s.entries ≡ length (remain chunk.now (kept_by chunk.now kept.now))) }
+    ensures laid { IfOk result (λ s. LaysOut chunk.now (kept_by chunk.now kept.now) s.laid s.events s.entries) }
     ensures accepted { IfOk result (λ s. IsAccepted chunk.now) }
-    ensures made { IfOk result (λ s. IsHeaded s.laid) }
-    ensures kinds { IfOk result (λ s. made_parts s.laid.pieces ≡ all_made chunk.now (kept_by chunk.now kept.now)) }
-    ensures events_copied { IfOk result (λ s. AllByRecursion (EventIsCopied s.laid.pieces) (kept_by chunk.now kept.now)) }
-    ensures entries_copied { IfOk result (λ s. AllByRecursion (EntryIsCopied s.laid.pieces) (remain chunk.now (kept_by chunk.now kept.now))) }
-    ensures metadata_copied { IfOk result (λ s. MetadataIsCopied s.laid.pieces chunk.now) }
 {
     let left = remaining(alloc, chunk.pools(), marks)?;
-    let body = lay_body(alloc, chunk, kept, &left)?;
+    let left = left.as_slice();
+    let body = lay_body(alloc, chunk, kept, left)?;
     let size = body.at;
     let front = front_of(chunk.header(), &body);
     let pieces = body.output.finish(&front)?;

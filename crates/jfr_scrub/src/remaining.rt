@@ -1,10 +1,10 @@
 // The entries that remain.
-ghost use Rattle.std.specs.Prelude.{◌≡◌, ℕ, ◌<◌, ◌≤◌, ◌++◌, [], ◌∷◌, length, slice_get, Some, IfOk, OnOk, if◌then◌else◌};
+ghost use Rattle.std.specs.Prelude.{◌≡◌, ℕ, ◌<◌, ◌≤◌, ◌++◌, [], ◌∷◌, length, slice_get, Some, IfOk, IsTrue, OnOk, if◌then◌else◌};
 ghost use Rattle.std.specs.List.{AllByRecursion};
 ghost use Rattle.jfr_base.specs.Integer.{spell};
 ghost use Rattle.jfr_chunk.specs.Reach.{marked};
 ghost use Rattle.jfr_chunk.specs.Written.{by_pool};
-ghost use Rattle.jfr_scrub.specs.Left.{HasRange, capped, entries_size, groups_size, leading, pool_size, same_pool};
+ghost use Rattle.jfr_scrub.specs.Left.{HasRange, capped, entries_in, entries_size, groups_size, leading, pool_size, same_pool};
 
 use jfr_base::var_len;
 use jfr_outside::NoMemory;
@@ -12,12 +12,55 @@ use jfr_pool::{EntryAt, Pools};
 use jfr_reach::Marks;
 use std::alloc::Global;
 
+/// The entries that remain, in order: all that the chunk has, which are lent, or a list of those that do.
+#[derive(Drop)]
+pub(crate) enum RemainingEntries<'p> {
+    All(&'p [EntryAt]),
+    Listed(Vec<EntryAt>),
+}
+
+impl RemainingEntries<'_> {
+    /// The entries.
+    pub(crate) fn as_slice(&self) -> &[EntryAt]
+        ensures { result.now ≡ entries_in self.now }
+    {
+        match self {
+            RemainingEntries::All(entries) => entries,
+            RemainingEntries::Listed(entries) => entries.as_slice(),
+        }
+    }
+}
+
 /// The entries that are reached, in order.
-pub(crate) fn remaining(
+pub(crate) fn remaining<'p>(
     alloc: Global,
-    pools: &Pools,
+    pools: &'p Pools,
     marks: &Marks,
-) -> Result<Vec<EntryAt>, NoMemory>
+) -> Result<RemainingEntries<'p>, NoMemory>
+    requires { length marks.now ≡ length pools.now }
+    ensures { IfOk result (λ left. entries_in left ≡ marked marks.now pools.now) }
+{
+    if are_all_reached(pools, marks) {
+        return Ok(RemainingEntries::All(pools.as_slice()));
+    }
+    Ok(RemainingEntries::Listed(reached(alloc, pools, marks)?))
+}
+
+// Whether every entry is reached.
+fn are_all_reached(pools: &Pools, marks: &Marks) -> bool
+    requires { length marks.now ≡ length pools.now }
+    ensures { IsTrue result → marked marks.now pools.now ≡ pools.now }
+{
+    for at in 0..pools.len() {
+        if !marks.is_reached(at) {
+            return false;
+        }
+    }
+    true
+}
+
+// A list of the entries that are reached.
+fn reached(alloc: Global, pools: &Pools, marks: &Marks) -> Result<Vec<EntryAt>, NoMemory>
     requires { length marks.now ≡ length pools.now }
     ensures { IfOk result (λ left. left.items ≡ marked marks.now pools.now) }
 {

@@ -1,12 +1,9 @@
 // The scrubber of one chunk.
 ghost use Rattle.std.specs.Prelude.{◌≡◌, [], length, slice_get, option_map, IfOk, IfSome};
-ghost use Rattle.std.specs.List.{AllByRecursion};
 ghost use Rattle.jfr_chunk.specs.Chosen.{kept_of};
-ghost use Rattle.jfr_chunk.specs.Reach.{remain};
-ghost use Rattle.jfr_chunk.specs.Scrub.{scrub_of};
 ghost use Rattle.jfr_laws.specs.Laws.{IsSettled};
-ghost use Rattle.jfr_scrub.specs.Bodies.{all_made};
-ghost use Rattle.jfr_scrub.specs.Pieces.{EntryIsCopied, EventIsCopied, IsHeaded, IsOfChunk, joined, made_parts, MetadataIsCopied, part_of};
+ghost use Rattle.jfr_scrub.specs.LaysOut.{LaysOut};
+ghost use Rattle.jfr_scrub.specs.Pieces.{IsOfChunk, part_of};
 ghost use Rattle.jfr_scrub.specs.Scrubbing.{all_written};
 
 use crate::Piece;
@@ -45,27 +42,14 @@ impl<'a> Scrubber<'a> {
         chunk: &Chunk<'a>,
         filter: &Filter,
     ) -> Result<Scrubber<'a>, NoMemory>
-        // The pieces joined are what the chunk becomes. Nothing is written yet.
-        ensures joined { IfOk result (λ s. joined s.laid ≡ scrub_of chunk.now (kept_of filter.now chunk.now)) }
-        ensures chunk { IfOk result (λ s. s.laid.chunk ≡ chunk.now.bytes) }
+        // The pieces are what the chunk becomes, and nothing is written yet.
+        ensures laid { IfOk result (λ s. LaysOut chunk.now (kept_of filter.now chunk.now) s.laid s.events s.entries) }
         ensures empty { IfOk result (λ s. s.written ≡ []) }
-
-        // The header and single integers are made, and all else is copied: each kept event, each entry
-        // that remains, and the metadata record lie in one piece each.
-        ensures made { IfOk result (λ s. IsHeaded s.laid) }
-        ensures kinds { IfOk result (λ s. made_parts s.laid.pieces ≡ all_made chunk.now (kept_of filter.now chunk.now)) }
-        ensures events_copied { IfOk result (λ s. AllByRecursion (EventIsCopied s.laid.pieces) (kept_of filter.now chunk.now)) }
-        ensures entries_copied { IfOk result (λ s. AllByRecursion (EntryIsCopied s.laid.pieces) (remain chunk.now (kept_of filter.now chunk.now))) }
-        ensures metadata_copied { IfOk result (λ s. MetadataIsCopied s.laid.pieces chunk.now) }
 
         // What the chunk becomes is accepted, is no longer than it, and holds exactly the events that the
         // filter keeps and the entries that they reach; it means the same, and with this filter it becomes
         // itself.
         ensures settled { IfOk result (λ s. IsSettled filter.now chunk.now) }
-
-        // How much is kept.
-        ensures events { IfOk result (λ s. s.events ≡ length (kept_of filter.now chunk.now)) }
-        ensures entries { IfOk result (λ s. s.entries ≡ length (remain chunk.now (kept_of filter.now chunk.now))) }
     {
         let laid = LaidOut::make(alloc, chunk, filter)?;
         let out = Vec::with_capacity(alloc, laid.size())?;
