@@ -20,7 +20,7 @@ use Rattle.jfr_value.specs.Leaves.{LeafAt, leaves_at, leaves_from}
 use Rattle.jfr_base.specs.Formats.{Done, for_each, Exactly, ◌>>=◌}
 use Rattle.jfr_base.proofs.ExactLaws.{bind_exact}
 use Rattle.jfr_layout.specs.Classes.{Sound}
-use Rattle.jfr_value.specs.declared.walk.Walk.{Walk}
+use Rattle.jfr_value.specs.declared.cursor.Cursor.{Cursor}
 use Rattle.jfr_value.specs.Reading.{value_format}
 use Rattle.jfr_value.proofs.DepthLaws.{fits_good, values_again}
 use Rattle.std.specs.Option.{option_map_or}
@@ -421,26 +421,26 @@ rows_exact k (t ∷ ss) (Cons v vs) s f e =
     bind_exact (value_format k t) (λ a. for_each ss (value_format k) >>= λ rest. Done (a ∷ rest)) (bytes_of v) (bytes_of_all vs) (bytes_of v ++ bytes_of_all vs) v (v ∷ list_of vs) refl (subst (λ z. Exactly (value_format k z) (bytes_of v) v) q (fits_good k v s f.0))
     (bind_exact (for_each ss (value_format k)) (λ rest. Done (v ∷ rest)) (bytes_of_all vs) [] (bytes_of_all vs) (list_of vs) (v ∷ list_of vs) (sym (append-nil (bytes_of_all vs))) (rows_exact k ss vs s f.1 r) (refl, refl))
 
-pub left_is : (k : Classes) (c : List ℕ) (end : ℕ) (walk : Walk) (vs : Values) → Sound k → IsLeft k c end walk vs → values_left k c end walk ≡ vs
+pub left_is : (k : Classes) (c : List ℕ) (end : ℕ) (cursor : Cursor) (vs : Values) → Sound k → IsLeft k c end cursor vs → values_left k c end cursor ≡ vs
 unfolding values_left
-left_is k c end walk vs s r =
-    ap got_values (exact_run c end r.within (for_each (shapes_left k walk.stack) (value_format k)) walk.at end (bytes_of_all vs) (list_of vs) (rows_exact k (shapes_left k walk.stack) vs s r.fit r.of_shapes) (record { order = r.order; within = r.within; bytes = r.bytes }) (omega arith))
+left_is k c end cursor vs s r =
+    ap got_values (exact_run c end r.within (for_each (shapes_left k cursor.stack) (value_format k)) cursor.at end (bytes_of_all vs) (list_of vs) (rows_exact k (shapes_left k cursor.stack) vs s r.fit r.of_shapes) (record { order = r.order; within = r.within; bytes = r.bytes }) (omega arith))
     ∙ values_again vs
 
 -- a walk that goes on
-pub walk_on : (k : Classes) (c : List ℕ) (end : ℕ) (walk : Walk) (ws : Values) → Sound k → AreFrames k 0 walk.stack → IsLeft k c end walk ws → IsWalk k c end walk
-walk_on k c end walk ws s f l = record { sound = s; frames = f; left = subst (IsLeft k c end walk) (sym (left_is k c end walk ws s l)) l }
+pub walk_on : (k : Classes) (c : List ℕ) (end : ℕ) (cursor : Cursor) (ws : Values) → Sound k → AreFrames k 0 cursor.stack → IsLeft k c end cursor ws → IsWalk k c end cursor
+walk_on k c end cursor ws s f l = record { sound = s; frames = f; left = subst (IsLeft k c end cursor) (sym (left_is k c end cursor ws s l)) l }
 
-pub leaves_are_left : (k : Classes) (c : List ℕ) (end : ℕ) (walk : Walk) (ws : Values) → Sound k → IsLeft k c end walk ws → leaves_left k c end walk ≡ leaves_from walk.at ws
-leaves_are_left k c end walk ws s l = ap (leaves_from walk.at) (left_is k c end walk ws s l)
+pub leaves_are_left : (k : Classes) (c : List ℕ) (end : ℕ) (cursor : Cursor) (ws : Values) → Sound k → IsLeft k c end cursor ws → leaves_left k c end cursor ≡ leaves_from cursor.at ws
+leaves_are_left k c end cursor ws s l = ap (leaves_from cursor.at) (left_is k c end cursor ws s l)
 
 -- a walk that begins at a node
-pub walk_begins : (k : Classes) (c : List ℕ) (n : NodeAt) (v : Value) (place : ℕ) (walk : Walk) → Sound k → IsNode k c n v → IsPlacedIfKnown k n.shape place → walk.at ≡ n.at → walk.stack ≡ Items n.shape place 1 33 ∷ []
-    → AreFrames k 0 walk.stack × IsLeft k c n.end walk (Cons v Nil)
-walk_begins k c n v place walk s i p a e =
+pub walk_begins : (k : Classes) (c : List ℕ) (n : NodeAt) (v : Value) (place : ℕ) (cursor : Cursor) → Sound k → IsNode k c n v → IsPlacedIfKnown k n.shape place → cursor.at ≡ n.at → cursor.stack ≡ Items n.shape place 1 33 ∷ []
+    → AreFrames k 0 cursor.stack × IsLeft k c n.end cursor (Cons v Nil)
+walk_begins k c n v place cursor s i p a e =
     let r : IsRow k c n.at n.end (n.shape ∷ []) (Cons v Nil) = record { order = i.order; within = i.within; bytes = i.bytes ∙ sym (append-nil (bytes_of v)); fit = (i.fits, tt); of_shapes = ap (λ z. z ∷ []) (sym i.shape) } in (
       subst (λ (z : List Frame). AreFrames k 0 z) (sym e) ((either_height n.shape.array 67 (omega arith), p, λ o d q m. sound_inline k n.shape.class d s q), tt),
-      subst (λ (z : List Frame). IsRow k c walk.at n.end (shapes_left k z) (Cons v Nil)) (sym e) (subst (λ z. IsRow k c z n.end (n.shape ∷ []) (Cons v Nil)) (sym a) r),
+      subst (λ (z : List Frame). IsRow k c cursor.at n.end (shapes_left k z) (Cons v Nil)) (sym e) (subst (λ z. IsRow k c z n.end (n.shape ∷ []) (Cons v Nil)) (sym a) r),
     )
 
 pub first_leaves : (k : Classes) (c : List ℕ) (n : NodeAt) (v : Value) → Sound k → IsNode k c n v → leaves_from n.at (Cons v Nil) ≡ leaves k c n

@@ -8,9 +8,9 @@ use Rattle.jfr_layout.specs.declared.shape.Shape.{Shape}
 use Rattle.jfr_layout.specs.declared.field_layout.FieldLayout.{FieldLayout}
 use Rattle.jfr_value.specs.declared.stack.Frame.{Frame}
 use Rattle.jfr_value.specs.declared.stack.Frame.TheVariants.{Fields, Items}
-use Rattle.jfr_value.specs.declared.walk.Progress.{Progress}
-use Rattle.jfr_value.specs.declared.walk.Progress.TheVariants.{Ended, Onward, Found}
-use Rattle.jfr_value.specs.declared.walk.Walk.{Walk}
+use Rattle.jfr_value.specs.declared.cursor.Progress.{Progress}
+use Rattle.jfr_value.specs.declared.cursor.Progress.TheVariants.{Ended, Onward, Found}
+use Rattle.jfr_value.specs.declared.cursor.Cursor.{Cursor}
 use Rattle.jfr_value.specs.Values.{Value, Values, Single, Group, Nil, Cons, values_of}
 use Rattle.jfr_value.specs.Reading.{value_format}
 use Rattle.jfr_value.specs.Nodes.{IsRow}
@@ -49,20 +49,20 @@ AreFrames k height [] = ⊤
 AreFrames k height (f ∷ fs) = IsFrame k (suc height) f × AreFrames k (suc height) fs
 
 -- these values are what is left, up to an end
-abbrev pub IsLeft : Classes → List ℕ → ℕ → Walk → Values → Type 0
-IsLeft k c end walk vs = IsRow k c walk.at end (shapes_left k walk.stack) vs
+abbrev pub IsLeft : Classes → List ℕ → ℕ → Cursor → Values → Type 0
+IsLeft k c end cursor vs = IsRow k c cursor.at end (shapes_left k cursor.stack) vs
 
 abbrev pub got_values : Answer (List Value) → Values
 got_values (Ok g) = values_of g.value
 got_values (Err e) = Nil
 
 -- the same by computing
-unfoldable pub values_left : Classes → List ℕ → ℕ → Walk → Values
-values_left k c end walk = got_values (run (for_each (shapes_left k walk.stack) (value_format k)) c end walk.at)
+unfoldable pub values_left : Classes → List ℕ → ℕ → Cursor → Values
+values_left k c end cursor = got_values (run (for_each (shapes_left k cursor.stack) (value_format k)) c end cursor.at)
 
 -- the leaves that are left
-abbrev pub leaves_left : Classes → List ℕ → ℕ → Walk → List LeafAt
-leaves_left k c end walk = leaves_from walk.at (values_left k c end walk)
+abbrev pub leaves_left : Classes → List ℕ → ℕ → Cursor → List LeafAt
+leaves_left k c end cursor = leaves_from cursor.at (values_left k c end cursor)
 
 -- how many values there are, where one with parts counts twice
 abbrev mutual
@@ -75,13 +75,13 @@ abbrev mutual
   size_of_all (Cons v vs) = size_of v + size_of_all vs
 
 -- what one step of a walk does: it ends, hands out the first leaf, or comes closer to it
-abbrev pub GoesOn : Classes → List ℕ → ℕ → ℕ → Values → ℕ → Walk → Progress → Type 0
-GoesOn k c end at vs size walk Ended = (ws : Values) × IsLeft k c end walk ws × (leaves_from at vs ≡ []) × (leaves_from walk.at ws ≡ [])
-GoesOn k c end at vs size walk (Found leaf) = (ws : Values) × IsLeft k c end walk ws × (leaves_from at vs ≡ leaf_of leaf ∷ leaves_from walk.at ws)
-GoesOn k c end at vs size walk Onward = (ws : Values) × IsLeft k c end walk ws × (leaves_from at vs ≡ leaves_from walk.at ws) × (size_of_all ws + length walk.stack < size)
+abbrev pub GoesOn : Classes → List ℕ → ℕ → ℕ → Values → ℕ → Cursor → Progress → Type 0
+GoesOn k c end at vs size cursor Ended = (ws : Values) × IsLeft k c end cursor ws × (leaves_from at vs ≡ []) × (leaves_from cursor.at ws ≡ [])
+GoesOn k c end at vs size cursor (Found leaf) = (ws : Values) × IsLeft k c end cursor ws × (leaves_from at vs ≡ leaf_of leaf ∷ leaves_from cursor.at ws)
+GoesOn k c end at vs size cursor Onward = (ws : Values) × IsLeft k c end cursor ws × (leaves_from at vs ≡ leaves_from cursor.at ws) × (size_of_all ws + length cursor.stack < size)
 
 -- a walk over values that stand there
-pub record IsWalk (k : Classes) (c : List ℕ) (end : ℕ) (walk : Walk) : Type 0 where
+pub record IsWalk (k : Classes) (c : List ℕ) (end : ℕ) (cursor : Cursor) : Type 0 where
   pub sound : Sound k
-  pub frames : AreFrames k 0 walk.stack
-  pub left : IsLeft k c end walk (values_left k c end walk)
+  pub frames : AreFrames k 0 cursor.stack
+  pub left : IsLeft k c end cursor (values_left k c end cursor)

@@ -1,4 +1,6 @@
-// Where values end.
+// The walk to a value's end, over bytes of which nothing is known: a value stands there, or it is refused. On the
+// way it hands out what the value refers to. jfr_chunk goes by it over each event (`end_visiting`), jfr_pool over
+// each constant, and jfr_show where it looks for an object's fields (`end_of`).
 ghost use Rattle.std.specs.Prelude.{◌≡◌, ◌⊎◌, ℕ, ◌+◌, ◌≤◌, ◌<◌, length, IfOk, IfErr, Ok, IfSome, IsSome, IsTrue, ◌↔◌, option_map, option_to_list, slice_get, true};
 ghost use Rattle.std.specs.List.{AllByRecursion};
 ghost use Rattle.jfr_base.specs.Formats.{for_each, integer, run, seen};
@@ -18,7 +20,7 @@ use crate::fused::fused_end;
 use crate::integers::integer_end;
 use crate::keys::{key_end, text_end};
 use crate::part::item_of;
-use crate::walk::STEPS;
+use crate::walk::{STEPS, Walk};
 use jfr_base::{Flaw, Reason, read_within};
 use jfr_layout::{ClassLayout, Classes, FieldLayout, Form, Kind, Shape};
 use jfr_text::read_string;
@@ -42,7 +44,13 @@ pub fn end_of(
     ensures exact { result ≡ seen (run (value_format classes.now shape) bytes.now end at) }
 {
     let layout = layout_of(classes, shape);
-    value_end(classes, &layout, bytes, at, end, &mut NoVisit, &())
+    let walk = Walk {
+        classes,
+        bytes,
+        end,
+        with: &(),
+    };
+    value_end(walk, &layout, at, &mut NoVisit)
 }
 
 /// Where a value of a layout ends, as `end_of` says it. On the way the class and the key of each reference,
@@ -70,71 +78,60 @@ pub fn end_visiting<C, V: Visit<C>>(
     ensures visited { IfOk result (λ to. TakesAll (V.takes with.now) (targets classes.now bytes.now (node_at layout.now.shape at to)) visitor.old visitor.new) }
     ensures ready { V.ready visitor.new with.now }
 {
-    value_end(classes, layout, bytes, at, end, visitor, with)
+    let walk = Walk {
+        classes,
+        bytes,
+        end,
+        with,
+    };
+    value_end(walk, layout, at, visitor)
 }
 
 /// Where a value ends, stated by the format's run.
 #[inline(always)]
 fn value_end<C, V: Visit<C>>(
-    classes: &Classes,
+    walk: Walk<'_, '_, C>,
     layout: &FieldLayout,
-    bytes: &[u8],
     at: usize,
-    end: usize,
     visitor: &mut V,
-    with: &C,
 ) -> Result<usize, Flaw>
-    requires sound { Sound classes.now }
-    requires layout { IsFieldLayout classes.now layout.now }
-    requires order { at ≤ end }
-    requires within { end ≤ length bytes.now }
-    requires ready { V.ready visitor.old with.now }
-    ensures exact { result ≡ seen (run (value_format classes.now layout.now.shape) bytes.now end at) }
-    ensures visited { TakesRead (V.takes with.now) (run (value_format classes.now layout.now.shape) bytes.now end at) visitor.old visitor.new }
-    ensures ready { V.ready visitor.new with.now }
+    requires sound { Sound walk.classes.now }
+    requires layout { IsFieldLayout walk.classes.now layout.now }
+    requires order { at ≤ walk.end }
+    requires ready { V.ready visitor.old walk.with.now }
+    ensures exact { result ≡ seen (run (value_format walk.entry.classes.now layout.now.shape) walk.entry.bytes.now walk.entry.end at) }
+    ensures visited { TakesRead (V.takes walk.entry.with.now) (run (value_format walk.entry.classes.now layout.now.shape) walk.entry.bytes.now walk.entry.end at) visitor.old visitor.new }
+    ensures ready { V.ready visitor.new walk.entry.with.now }
 {
     match layout.form {
         Form::Fields => {
-            let class_layout = classes.class_layout(layout.place);
-            whole_row_end(
-                classes,
-                class_layout,
-                bytes,
-                at,
-                end,
-                STEPS - 1,
-                visitor,
-                with,
-            )
+            let class_layout = walk.classes.class_layout(layout.place);
+            whole_row_end(walk, class_layout, at, STEPS - 1, visitor)
         }
-        _ => other_end(classes, layout, bytes, at, end, visitor, with),
+        _ => other_end(walk, layout, at, visitor),
     }
 }
 
 /// Where a value ends that isn't the fields of a composite class.
 #[inline]
 fn other_end<C, V: Visit<C>>(
-    classes: &Classes,
+    walk: Walk<'_, '_, C>,
     layout: &FieldLayout,
-    bytes: &[u8],
     at: usize,
-    end: usize,
     visitor: &mut V,
-    with: &C,
 ) -> Result<usize, Flaw>
-    requires sound { Sound classes.now }
-    requires layout { IsFieldLayout classes.now layout.now }
-    requires order { at ≤ end }
-    requires within { end ≤ length bytes.now }
-    requires ready { V.ready visitor.old with.now }
-    ensures exact { result ≡ seen (run (value_format classes.now layout.now.shape) bytes.now end at) }
-    ensures visited { TakesRead (V.takes with.now) (run (value_format classes.now layout.now.shape) bytes.now end at) visitor.old visitor.new }
-    ensures ready { V.ready visitor.new with.now }
+    requires sound { Sound walk.classes.now }
+    requires layout { IsFieldLayout walk.classes.now layout.now }
+    requires order { at ≤ walk.end }
+    requires ready { V.ready visitor.old walk.with.now }
+    ensures exact { result ≡ seen (run (value_format walk.entry.classes.now layout.now.shape) walk.entry.bytes.now walk.entry.end at) }
+    ensures visited { TakesRead (V.takes walk.entry.with.now) (run (value_format walk.entry.classes.now layout.now.shape) walk.entry.bytes.now walk.entry.end at) visitor.old visitor.new }
+    ensures ready { V.ready visitor.new walk.entry.with.now }
 {
-    if is_hollow_array(classes, layout) {
-        return integer_end(bytes, at, end);
+    if is_hollow_array(walk.classes, layout) {
+        return integer_end(walk.bytes, at, walk.end);
     }
-    layout_end(classes, layout, bytes, at, end, STEPS, visitor, with)
+    layout_end(walk, layout, at, STEPS, visitor)
 }
 
 /// A visitor that takes nothing.
@@ -246,33 +243,27 @@ pub(crate) fn base_end(kind: Kind, bytes: &[u8], at: usize, end: usize) -> Resul
 #[tactic(auto, using(jfr_base::proofs::SeenLaws::ends), unfolding(jfr_base::specs::Formats::run, crate::specs::Reading::class_format))]
 #[inline(always)]
 pub(crate) fn layout_end<C, V: Visit<C>>(
-    classes: &Classes,
+    walk: Walk<'_, '_, C>,
     layout: &FieldLayout,
-    bytes: &[u8],
     at: usize,
-    end: usize,
     levels: u32,
     visitor: &mut V,
-    with: &C,
 ) -> Result<usize, Flaw>
-    requires placed { IsPlaced classes.now layout.now }
-    requires room { Room classes.now levels layout.now.shape }
-    requires order { at ≤ end }
-    requires within { end ≤ length bytes.now }
-    requires ready { V.ready visitor.old with.now }
-    ensures exact { result ≡ seen (run (shape_format (class_format (levels + 1) classes.now) layout.now.shape) bytes.now end at) }
-    ensures range { IfOk result (λ to. (at ≤ to) × (to ≤ end)) }
-    ensures visited { TakesRead (V.takes with.now) (run (shape_format (class_format (levels + 1) classes.now) layout.now.shape) bytes.now end at) visitor.old visitor.new }
-    ensures ready { V.ready visitor.new with.now }
+    requires placed { IsPlaced walk.classes.now layout.now }
+    requires room { Room walk.classes.now levels layout.now.shape }
+    requires order { at ≤ walk.end }
+    requires ready { V.ready visitor.old walk.with.now }
+    ensures exact { result ≡ seen (run (shape_format (class_format (levels + 1) walk.entry.classes.now) layout.now.shape) walk.entry.bytes.now walk.entry.end at) }
+    ensures range { IfOk result (λ to. (at ≤ to) × (to ≤ walk.entry.end)) }
+    ensures visited { TakesRead (V.takes walk.entry.with.now) (run (shape_format (class_format (levels + 1) walk.entry.classes.now) layout.now.shape) walk.entry.bytes.now walk.entry.end at) visitor.old visitor.new }
+    ensures ready { V.ready visitor.new walk.entry.with.now }
 {
     match layout.form {
-        Form::Integer => integer_end(bytes, at, end),
-        Form::Raw(count) => run_end(usize::from(count), at, end),
-        Form::Key => key_end(layout.shape.class, bytes, at, end, visitor, with),
-        Form::Text => text_end(layout.shape.class, bytes, at, end, visitor, with),
-        Form::Fields | Form::Array => {
-            compound_end(classes, layout, bytes, at, end, levels, visitor, with)
-        }
+        Form::Integer => integer_end(walk.bytes, at, walk.end),
+        Form::Raw(count) => run_end(usize::from(count), at, walk.end),
+        Form::Key => key_end(walk, layout.shape.class, at, visitor),
+        Form::Text => text_end(walk, layout.shape.class, at, visitor),
+        Form::Fields | Form::Array => compound_end(walk, layout, at, levels, visitor),
     }
 }
 
@@ -282,34 +273,30 @@ pub(crate) fn layout_end<C, V: Visit<C>>(
 #[tactic(auto, using(jfr_base::proofs::SeenLaws::ends), unfolding(jfr_base::specs::Formats::run, crate::specs::Reading::class_format))]
 #[inline(always)]
 fn compound_end<C, V: Visit<C>>(
-    classes: &Classes,
+    walk: Walk<'_, '_, C>,
     layout: &FieldLayout,
-    bytes: &[u8],
     at: usize,
-    end: usize,
     levels: u32,
     visitor: &mut V,
-    with: &C,
 ) -> Result<usize, Flaw>
     requires compound { (layout.now.form ≡ forms.Fields) ⊎ (layout.now.form ≡ forms.Array) }
-    requires placed { IsPlaced classes.now layout.now }
-    requires room { Room classes.now levels layout.now.shape }
-    requires order { at ≤ end }
-    requires within { end ≤ length bytes.now }
-    requires ready { V.ready visitor.old with.now }
-    ensures exact { result ≡ seen (run (shape_format (class_format (levels + 1) classes.now) layout.now.shape) bytes.now end at) }
-    ensures range { IfOk result (λ to. (at ≤ to) × (to ≤ end)) }
-    ensures visited { TakesRead (V.takes with.now) (run (shape_format (class_format (levels + 1) classes.now) layout.now.shape) bytes.now end at) visitor.old visitor.new }
-    ensures ready { V.ready visitor.new with.now }
+    requires placed { IsPlaced walk.classes.now layout.now }
+    requires room { Room walk.classes.now levels layout.now.shape }
+    requires order { at ≤ walk.end }
+    requires ready { V.ready visitor.old walk.with.now }
+    ensures exact { result ≡ seen (run (shape_format (class_format (levels + 1) walk.entry.classes.now) layout.now.shape) walk.entry.bytes.now walk.entry.end at) }
+    ensures range { IfOk result (λ to. (at ≤ to) × (to ≤ walk.entry.end)) }
+    ensures visited { TakesRead (V.takes walk.entry.with.now) (run (shape_format (class_format (levels + 1) walk.entry.classes.now) layout.now.shape) walk.entry.bytes.now walk.entry.end at) visitor.old visitor.new }
+    ensures ready { V.ready visitor.new walk.entry.with.now }
 {
     match layout.form {
         Form::Fields => {
-            let fields = classes.layouts(layout.place);
-            let to = fields_end(classes, fields, bytes, at, end, levels - 1, visitor, with)?;
+            let fields = walk.classes.layouts(layout.place);
+            let to = fields_end(walk, fields, at, levels - 1, visitor)?;
             Ok(to)
         }
         _ => {
-            let to = array_end(classes, layout, bytes, at, end, levels, visitor, with)?;
+            let to = array_end(walk, layout, at, levels, visitor)?;
             Ok(to)
         }
     }
@@ -320,28 +307,24 @@ fn compound_end<C, V: Visit<C>>(
 #[tactic(auto, using(jfr_base::proofs::SeenLaws::ends), unfolding(jfr_base::specs::Formats::run, crate::specs::Reading::class_format))]
 #[inline(always)]
 fn row_end<C, V: Visit<C>>(
-    classes: &Classes,
+    walk: Walk<'_, '_, C>,
     layouts: &[FieldLayout],
-    bytes: &[u8],
     at: usize,
-    end: usize,
     levels: u32,
     visitor: &mut V,
-    with: &C,
 ) -> Result<usize, Flaw>
-    requires layouts { AllByRecursion (IsFieldLayout classes.now) layouts.now }
-    requires room { AllByRecursion (λ s. Room classes.now levels s.shape) layouts.now }
-    requires order { at ≤ end }
-    requires within { end ≤ length bytes.now }
-    requires ready { V.ready visitor.old with.now }
-    ensures exact { result ≡ seen (run (row_format (levels + 1) classes.now layouts.now) bytes.now end at) }
-    ensures range { IfOk result (λ to. (at ≤ to) × (to ≤ end)) }
-    ensures visited { TakesReadAll (V.takes with.now) (run (row_format (levels + 1) classes.now layouts.now) bytes.now end at) visitor.old visitor.new }
-    ensures ready { V.ready visitor.new with.now }
+    requires layouts { AllByRecursion (IsFieldLayout walk.classes.now) layouts.now }
+    requires room { AllByRecursion (λ s. Room walk.classes.now levels s.shape) layouts.now }
+    requires order { at ≤ walk.end }
+    requires ready { V.ready visitor.old walk.with.now }
+    ensures exact { result ≡ seen (run (row_format (levels + 1) walk.entry.classes.now layouts.now) walk.entry.bytes.now walk.entry.end at) }
+    ensures range { IfOk result (λ to. (at ≤ to) × (to ≤ walk.entry.end)) }
+    ensures visited { TakesReadAll (V.takes walk.entry.with.now) (run (row_format (levels + 1) walk.entry.classes.now layouts.now) walk.entry.bytes.now walk.entry.end at) visitor.old visitor.new }
+    ensures ready { V.ready visitor.new walk.entry.with.now }
 {
     let mut to = at;
     for layout in layouts {
-        to = layout_end(classes, layout, bytes, to, end, levels, visitor, with)?;
+        to = layout_end(walk, layout, to, levels, visitor)?;
     }
     Ok(to)
 }
@@ -351,65 +334,47 @@ fn row_end<C, V: Visit<C>>(
 #[tactic(auto, using(jfr_base::proofs::SeenLaws::ends), unfolding(jfr_base::specs::Formats::run, crate::specs::Reading::class_format))]
 #[inline(never)]
 pub(crate) fn fields_end<C, V: Visit<C>>(
-    classes: &Classes,
+    walk: Walk<'_, '_, C>,
     layouts: &[FieldLayout],
-    bytes: &[u8],
     at: usize,
-    end: usize,
     levels: u32,
     visitor: &mut V,
-    with: &C,
 ) -> Result<usize, Flaw>
-    requires layouts { AllByRecursion (IsFieldLayout classes.now) layouts.now }
-    requires room { AllByRecursion (λ s. Room classes.now levels s.shape) layouts.now }
-    requires order { at ≤ end }
-    requires within { end ≤ length bytes.now }
-    requires ready { V.ready visitor.old with.now }
-    ensures exact { result ≡ seen (run (row_format (levels + 1) classes.now layouts.now) bytes.now end at) }
-    ensures range { IfOk result (λ to. (at ≤ to) × (to ≤ end)) }
-    ensures visited { TakesReadAll (V.takes with.now) (run (row_format (levels + 1) classes.now layouts.now) bytes.now end at) visitor.old visitor.new }
-    ensures ready { V.ready visitor.new with.now }
+    requires layouts { AllByRecursion (IsFieldLayout walk.classes.now) layouts.now }
+    requires room { AllByRecursion (λ s. Room walk.classes.now levels s.shape) layouts.now }
+    requires order { at ≤ walk.end }
+    requires ready { V.ready visitor.old walk.with.now }
+    ensures exact { result ≡ seen (run (row_format (levels + 1) walk.entry.classes.now layouts.now) walk.entry.bytes.now walk.entry.end at) }
+    ensures range { IfOk result (λ to. (at ≤ to) × (to ≤ walk.entry.end)) }
+    ensures visited { TakesReadAll (V.takes walk.entry.with.now) (run (row_format (levels + 1) walk.entry.classes.now layouts.now) walk.entry.bytes.now walk.entry.end at) visitor.old visitor.new }
+    ensures ready { V.ready visitor.new walk.entry.with.now }
 {
-    row_end(classes, layouts, bytes, at, end, levels, visitor, with)
+    row_end(walk, layouts, at, levels, visitor)
 }
 
 /// Where the fields of an event, or of another value that stands by itself, end: group by group of fused
 /// fields.
 #[inline(always)]
 fn whole_row_end<C, V: Visit<C>>(
-    classes: &Classes,
+    walk: Walk<'_, '_, C>,
     class_layout: &ClassLayout,
-    bytes: &[u8],
     at: usize,
-    end: usize,
     levels: u32,
     visitor: &mut V,
-    with: &C,
 ) -> Result<usize, Flaw>
-    requires layouts { AllByRecursion (IsFieldLayout classes.now) class_layout.now.layouts.items }
-    requires room { AllByRecursion (λ s. Room classes.now levels s.shape) class_layout.now.layouts.items }
+    requires layouts { AllByRecursion (IsFieldLayout walk.classes.now) class_layout.now.layouts.items }
+    requires room { AllByRecursion (λ s. Room walk.classes.now levels s.shape) class_layout.now.layouts.items }
     requires fused_fields { AreFused class_layout.now.layouts.items class_layout.now.fused_fields.items }
-    requires order { at ≤ end }
-    requires within { end ≤ length bytes.now }
-    requires ready { V.ready visitor.old with.now }
-    ensures exact { result ≡ seen (run (row_format (levels + 1) classes.now class_layout.now.layouts.items) bytes.now end at) }
-    ensures range { IfOk result (λ to. (at ≤ to) × (to ≤ end)) }
-    ensures visited { TakesReadAll (V.takes with.now) (run (row_format (levels + 1) classes.now class_layout.now.layouts.items) bytes.now end at) visitor.old visitor.new }
-    ensures ready { V.ready visitor.new with.now }
+    requires order { at ≤ walk.end }
+    requires ready { V.ready visitor.old walk.with.now }
+    ensures exact { result ≡ seen (run (row_format (levels + 1) walk.entry.classes.now class_layout.now.layouts.items) walk.entry.bytes.now walk.entry.end at) }
+    ensures range { IfOk result (λ to. (at ≤ to) × (to ≤ walk.entry.end)) }
+    ensures visited { TakesReadAll (V.takes walk.entry.with.now) (run (row_format (levels + 1) walk.entry.classes.now class_layout.now.layouts.items) walk.entry.bytes.now walk.entry.end at) visitor.old visitor.new }
+    ensures ready { V.ready visitor.new walk.entry.with.now }
 {
     let mut to = at;
     for fused in &class_layout.fused_fields {
-        to = fused_end(
-            classes,
-            class_layout,
-            fused,
-            bytes,
-            to,
-            end,
-            levels,
-            visitor,
-            with,
-        )?;
+        to = fused_end(walk, class_layout, fused, to, levels, visitor)?;
     }
     Ok(to)
 }
@@ -419,31 +384,27 @@ fn whole_row_end<C, V: Visit<C>>(
 #[tactic(auto, using(jfr_base::proofs::SeenLaws::ends), unfolding(jfr_base::specs::Formats::run, crate::specs::Reading::class_format))]
 #[inline(never)]
 fn array_end<C, V: Visit<C>>(
-    classes: &Classes,
+    walk: Walk<'_, '_, C>,
     layout: &FieldLayout,
-    bytes: &[u8],
     at: usize,
-    end: usize,
     levels: u32,
     visitor: &mut V,
-    with: &C,
 ) -> Result<usize, Flaw>
     requires array { layout.now.shape.array ≡ true }
-    requires placed { IsPlaced classes.now layout.now }
-    requires room { Room classes.now levels layout.now.shape }
-    requires order { at ≤ end }
-    requires within { end ≤ length bytes.now }
-    requires ready { V.ready visitor.old with.now }
-    ensures exact { result ≡ seen (run (shape_format (class_format (levels + 1) classes.now) layout.now.shape) bytes.now end at) }
-    ensures range { IfOk result (λ to. (at ≤ to) × (to ≤ end)) }
-    ensures visited { TakesRead (V.takes with.now) (run (shape_format (class_format (levels + 1) classes.now) layout.now.shape) bytes.now end at) visitor.old visitor.new }
-    ensures ready { V.ready visitor.new with.now }
+    requires placed { IsPlaced walk.classes.now layout.now }
+    requires room { Room walk.classes.now levels layout.now.shape }
+    requires order { at ≤ walk.end }
+    requires ready { V.ready visitor.old walk.with.now }
+    ensures exact { result ≡ seen (run (shape_format (class_format (levels + 1) walk.entry.classes.now) layout.now.shape) walk.entry.bytes.now walk.entry.end at) }
+    ensures range { IfOk result (λ to. (at ≤ to) × (to ≤ walk.entry.end)) }
+    ensures visited { TakesRead (V.takes walk.entry.with.now) (run (shape_format (class_format (levels + 1) walk.entry.classes.now) layout.now.shape) walk.entry.bytes.now walk.entry.end at) visitor.old visitor.new }
+    ensures ready { V.ready visitor.new walk.entry.with.now }
 {
-    let count = read_within(bytes, at, end)?;
+    let count = read_within(walk.bytes, at, walk.end)?;
     let item = item_layout(layout);
     let mut to = count.end;
     for _ in 0..count.value {
-        to = layout_end(classes, &item, bytes, to, end, levels, visitor, with)?;
+        to = layout_end(walk, &item, to, levels, visitor)?;
     }
     Ok(to)
 }

@@ -1,4 +1,4 @@
-// Where integers end, whatever they say.
+// The walk to a value's end, where it passes integers, whatever they say: that takes bytes alone.
 ghost use Rattle.std.specs.Prelude.{◌≡◌, ℕ, ◌+◌, ◌≤◌, ◌<◌, length, IfOk, IfSome, Ok};
 ghost use Rattle.std.specs.Int.{bit_at};
 ghost use Rattle.jfr_base.specs.Formats.{integer, run, seen, times};

@@ -1,5 +1,5 @@
-// Where keys end, which are handed on.
-ghost use Rattle.std.specs.Prelude.{◌≡◌, ◌≤◌, length, IfOk, option_map, option_to_list, true};
+// The walk to a value's end, where it passes keys and strings, and hands the keys on.
+ghost use Rattle.std.specs.Prelude.{◌≡◌, ◌≤◌, IfOk, option_map, option_to_list, true};
 ghost use Rattle.jfr_base.specs.Formats.{integer, run, seen};
 ghost use Rattle.jfr_text.specs.Strings.{string_format};
 ghost use Rattle.jfr_layout.specs.declared.kind.Kind.TheVariants as kinds;
@@ -8,33 +8,31 @@ ghost use Rattle.jfr_value.specs.Reading.{base_format};
 ghost use Rattle.jfr_value.specs.Visits.{TakesAll};
 
 use crate::Visit;
+use crate::walk::Walk;
 use jfr_base::{Flaw, read_short, read_within};
 use jfr_text::{StringKind, is_bare, is_key, read_string, short_units_end};
 
 /// Where a reference of a class ends, whose key is handed on. Most keys have one byte or two.
 #[inline(always)]
 pub(crate) fn key_end<C, V: Visit<C>>(
+    walk: Walk<'_, '_, C>,
     class: u64,
-    bytes: &[u8],
     at: usize,
-    end: usize,
     visitor: &mut V,
-    with: &C,
 ) -> Result<usize, Flaw>
-    requires order { at ≤ end }
-    requires within { end ≤ length bytes.now }
-    requires ready { V.ready visitor.old with.now }
-    ensures exact { result ≡ seen (run integer bytes.now end at) }
-    ensures range { IfOk result (λ to. (at ≤ to) × (to ≤ end)) }
-    ensures visited { IfOk (run integer bytes.now end at) (λ key. V.takes with.now (class, key.value) visitor.old visitor.new) }
-    ensures ready { V.ready visitor.new with.now }
+    requires order { at ≤ walk.end }
+    requires ready { V.ready visitor.old walk.with.now }
+    ensures exact { result ≡ seen (run integer walk.entry.bytes.now walk.entry.end at) }
+    ensures range { IfOk result (λ to. (at ≤ to) × (to ≤ walk.entry.end)) }
+    ensures visited { IfOk (run integer walk.entry.bytes.now walk.entry.end at) (λ key. V.takes walk.entry.with.now (class, key.value) visitor.old visitor.new) }
+    ensures ready { V.ready visitor.new walk.entry.with.now }
 {
-    match read_short(bytes, at, end) {
+    match read_short(walk.bytes, at, walk.end) {
         Some(key) => {
-            visitor.visit(with, class, key.value);
+            visitor.visit(walk.with, class, key.value);
             Ok(key.end)
         }
-        None => far_key_end(class, bytes, at, end, visitor, with),
+        None => far_key_end(walk, class, at, visitor),
     }
 }
 
@@ -42,22 +40,19 @@ pub(crate) fn key_end<C, V: Visit<C>>(
 /// `compound_end`.
 #[inline(always)]
 fn far_key_end<C, V: Visit<C>>(
+    walk: Walk<'_, '_, C>,
     class: u64,
-    bytes: &[u8],
     at: usize,
-    end: usize,
     visitor: &mut V,
-    with: &C,
 ) -> Result<usize, Flaw>
-    requires order { at ≤ end }
-    requires within { end ≤ length bytes.now }
-    requires ready { V.ready visitor.old with.now }
-    ensures exact { result ≡ seen (run integer bytes.now end at) }
-    ensures range { IfOk result (λ to. (at ≤ to) × (to ≤ end)) }
-    ensures visited { IfOk (run integer bytes.now end at) (λ key. V.takes with.now (class, key.value) visitor.old visitor.new) }
-    ensures ready { V.ready visitor.new with.now }
+    requires order { at ≤ walk.end }
+    requires ready { V.ready visitor.old walk.with.now }
+    ensures exact { result ≡ seen (run integer walk.entry.bytes.now walk.entry.end at) }
+    ensures range { IfOk result (λ to. (at ≤ to) × (to ≤ walk.entry.end)) }
+    ensures visited { IfOk (run integer walk.entry.bytes.now walk.entry.end at) (λ key. V.takes walk.entry.with.now (class, key.value) visitor.old visitor.new) }
+    ensures ready { V.ready visitor.new walk.entry.with.now }
 {
-    let to = long_key_end(class, bytes, at, end, visitor, with)?;
+    let to = long_key_end(walk, class, at, visitor)?;
     Ok(to)
 }
 
@@ -65,24 +60,21 @@ fn far_key_end<C, V: Visit<C>>(
 #[tactic(auto, unfolding(jfr_base::specs::Formats::run))]
 #[inline(never)]
 fn long_key_end<C, V: Visit<C>>(
+    walk: Walk<'_, '_, C>,
     class: u64,
-    bytes: &[u8],
     at: usize,
-    end: usize,
     visitor: &mut V,
-    with: &C,
 ) -> Result<usize, Flaw>
-    requires order { at ≤ end }
-    requires within { end ≤ length bytes.now }
-    requires ready { V.ready visitor.old with.now }
-    ensures exact { result ≡ seen (run integer bytes.now end at) }
-    ensures range { IfOk result (λ to. (at ≤ to) × (to ≤ end)) }
-    ensures visited { IfOk (run integer bytes.now end at) (λ key. V.takes with.now (class, key.value) visitor.old visitor.new) }
-    ensures ready { V.ready visitor.new with.now }
+    requires order { at ≤ walk.end }
+    requires ready { V.ready visitor.old walk.with.now }
+    ensures exact { result ≡ seen (run integer walk.entry.bytes.now walk.entry.end at) }
+    ensures range { IfOk result (λ to. (at ≤ to) × (to ≤ walk.entry.end)) }
+    ensures visited { IfOk (run integer walk.entry.bytes.now walk.entry.end at) (λ key. V.takes walk.entry.with.now (class, key.value) visitor.old visitor.new) }
+    ensures ready { V.ready visitor.new walk.entry.with.now }
 {
-    match read_within(bytes, at, end) {
+    match read_within(walk.bytes, at, walk.end) {
         Ok(key) => {
-            visitor.visit(with, class, key.value);
+            visitor.visit(walk.with, class, key.value);
             Ok(key.end)
         }
         Err(flaw) => Err(flaw),
@@ -93,80 +85,71 @@ fn long_key_end<C, V: Visit<C>>(
 /// characters, or short ones.
 #[inline(always)]
 pub(crate) fn text_end<C, V: Visit<C>>(
+    walk: Walk<'_, '_, C>,
     class: u64,
-    bytes: &[u8],
     at: usize,
-    end: usize,
     visitor: &mut V,
-    with: &C,
 ) -> Result<usize, Flaw>
-    requires order { at ≤ end }
-    requires within { end ≤ length bytes.now }
-    requires ready { V.ready visitor.old with.now }
-    ensures exact { result ≡ seen (run (base_format kinds.Text) bytes.now end at) }
-    ensures range { IfOk result (λ to. (at ≤ to) × (to ≤ end)) }
-    ensures visited { IfOk (run (string_format true) bytes.now end at) (λ got.
-        TakesAll (V.takes with.now) (option_to_list (option_map (λ key. (class, key)) (key_of got.value))) visitor.old visitor.new) }
-    ensures ready { V.ready visitor.new with.now }
+    requires order { at ≤ walk.end }
+    requires ready { V.ready visitor.old walk.with.now }
+    ensures exact { result ≡ seen (run (base_format kinds.Text) walk.entry.bytes.now walk.entry.end at) }
+    ensures range { IfOk result (λ to. (at ≤ to) × (to ≤ walk.entry.end)) }
+    ensures visited { IfOk (run (string_format true) walk.entry.bytes.now walk.entry.end at) (λ got.
+        TakesAll (V.takes walk.entry.with.now) (option_to_list (option_map (λ key. (class, key)) (key_of got.value))) visitor.old visitor.new) }
+    ensures ready { V.ready visitor.new walk.entry.with.now }
 {
-    if is_bare(bytes, at, end) {
+    if is_bare(walk.bytes, at, walk.end) {
         return Ok(at + 1);
     }
-    if is_key(bytes, at, end) {
-        return key_end(class, bytes, at + 1, end, visitor, with);
+    if is_key(walk.bytes, at, walk.end) {
+        return key_end(walk, class, at + 1, visitor);
     }
-    if let Some(to) = short_units_end(bytes, at, end) {
+    if let Some(to) = short_units_end(walk.bytes, at, walk.end) {
         return Ok(to);
     }
-    far_text_end(class, bytes, at, end, visitor, with)
+    far_text_end(walk, class, at, visitor)
 }
 
 /// Where a string of any kind ends. What the call answers is taken apart here, as in `compound_end`.
 #[inline(always)]
 fn far_text_end<C, V: Visit<C>>(
+    walk: Walk<'_, '_, C>,
     class: u64,
-    bytes: &[u8],
     at: usize,
-    end: usize,
     visitor: &mut V,
-    with: &C,
 ) -> Result<usize, Flaw>
-    requires order { at ≤ end }
-    requires within { end ≤ length bytes.now }
-    requires ready { V.ready visitor.old with.now }
-    ensures exact { result ≡ seen (run (base_format kinds.Text) bytes.now end at) }
-    ensures range { IfOk result (λ to. (at ≤ to) × (to ≤ end)) }
-    ensures visited { IfOk (run (string_format true) bytes.now end at) (λ got.
-        TakesAll (V.takes with.now) (option_to_list (option_map (λ key. (class, key)) (key_of got.value))) visitor.old visitor.new) }
-    ensures ready { V.ready visitor.new with.now }
+    requires order { at ≤ walk.end }
+    requires ready { V.ready visitor.old walk.with.now }
+    ensures exact { result ≡ seen (run (base_format kinds.Text) walk.entry.bytes.now walk.entry.end at) }
+    ensures range { IfOk result (λ to. (at ≤ to) × (to ≤ walk.entry.end)) }
+    ensures visited { IfOk (run (string_format true) walk.entry.bytes.now walk.entry.end at) (λ got.
+        TakesAll (V.takes walk.entry.with.now) (option_to_list (option_map (λ key. (class, key)) (key_of got.value))) visitor.old visitor.new) }
+    ensures ready { V.ready visitor.new walk.entry.with.now }
 {
-    let to = long_text_end(class, bytes, at, end, visitor, with)?;
+    let to = long_text_end(walk, class, at, visitor)?;
     Ok(to)
 }
 
 /// Where a string ends that is read whole.
 #[inline(never)]
 fn long_text_end<C, V: Visit<C>>(
+    walk: Walk<'_, '_, C>,
     class: u64,
-    bytes: &[u8],
     at: usize,
-    end: usize,
     visitor: &mut V,
-    with: &C,
 ) -> Result<usize, Flaw>
-    requires order { at ≤ end }
-    requires within { end ≤ length bytes.now }
-    requires ready { V.ready visitor.old with.now }
-    ensures exact { result ≡ seen (run (base_format kinds.Text) bytes.now end at) }
-    ensures range { IfOk result (λ to. (at ≤ to) × (to ≤ end)) }
-    ensures visited { IfOk (run (string_format true) bytes.now end at) (λ got.
-        TakesAll (V.takes with.now) (option_to_list (option_map (λ key. (class, key)) (key_of got.value))) visitor.old visitor.new) }
-    ensures ready { V.ready visitor.new with.now }
+    requires order { at ≤ walk.end }
+    requires ready { V.ready visitor.old walk.with.now }
+    ensures exact { result ≡ seen (run (base_format kinds.Text) walk.entry.bytes.now walk.entry.end at) }
+    ensures range { IfOk result (λ to. (at ≤ to) × (to ≤ walk.entry.end)) }
+    ensures visited { IfOk (run (string_format true) walk.entry.bytes.now walk.entry.end at) (λ got.
+        TakesAll (V.takes walk.entry.with.now) (option_to_list (option_map (λ key. (class, key)) (key_of got.value))) visitor.old visitor.new) }
+    ensures ready { V.ready visitor.new walk.entry.with.now }
 {
-    match read_string(bytes, at, end) {
+    match read_string(walk.bytes, at, walk.end) {
         Ok(string) => {
             match string.kind {
-                StringKind::Key => visitor.visit(with, class, string.key),
+                StringKind::Key => visitor.visit(walk.with, class, string.key),
                 _ => {}
             }
             Ok(string.end)

@@ -1,10 +1,11 @@
-// The leaves of a node, one after another.
+// The leaves of a node, one after another: the walk over leaves, as its callers see it.
 ghost use Rattle.std.specs.Prelude.{◌≡◌, ◌+◌, ◌∷◌, [], MatchOption, IfSome, OnSome, IsNone};
 ghost use Rattle.jfr_value.specs.Leaves.{leaf_of, leaves};
 ghost use Rattle.jfr_value.specs.Nodes.{IsValue, node_of};
 
+use crate::cursor::{Cursor, next_in};
 use crate::stack::{Frame, Stack};
-use crate::walk::{STEPS, Walk, next_in};
+use crate::walk::{STEPS, Walk};
 use crate::{Leaf, Node, Steps};
 use jfr_layout::Classes;
 use std::marker::Model;
@@ -13,10 +14,8 @@ use std::sync::ledger::Ledger;
 /// The leaves of a value that stands in the bytes of a chunk, from left to right. It takes no memory.
 #[derive(Drop)]
 pub struct Leaves<'c, 'a> {
-    classes: &'c Classes,
-    bytes: &'a [u8],
-    end: usize,
-    walk: Walk,
+    walk: Walk<'c, 'a, ()>,
+    cursor: Cursor,
 }
 
 impl<'c, 'a> Model for Leaves<'c, 'a> {
@@ -27,9 +26,9 @@ impl<'c, 'a> Model for Leaves<'c, 'a> {
 
     ghost use Rattle.jfr_value.specs.Walks.{IsWalk, leaves_left};
 
-    ghost view = { λ l. leaves_left l.classes.now l.bytes.now l.end l.walk };
+    ghost view = { λ l. leaves_left l.walk.classes.now l.walk.bytes.now l.walk.end l.cursor };
 
-    ghost invariant = { λ l. IsWalk l.classes.now l.bytes.now l.end l.walk };
+    ghost invariant = { λ l. IsWalk l.walk.classes.now l.walk.bytes.now l.walk.end l.cursor };
 }
 
 impl<'c, 'a> Leaves<'c, 'a> {
@@ -46,12 +45,14 @@ impl<'c, 'a> Leaves<'c, 'a> {
             left: 1,
             levels: STEPS,
         });
-        Leaves {
+        let walk = Walk {
             classes,
             bytes: node.bytes,
             end: node.end,
-            walk: Walk { at: node.at, stack },
-        }
+            with: &(),
+        };
+        let cursor = Cursor { at: node.at, stack };
+        Leaves { walk, cursor }
     }
 
     /// Hands out the next leaf, at the cost of a step. `None` exactly after the last.
@@ -59,7 +60,7 @@ impl<'c, 'a> Leaves<'c, 'a> {
         ensures exact { MatchOption result ((self.old ≡ []) × (self.new ≡ [])) (λ leaf. self.old ≡ leaf_of leaf ∷ self.new) }
         ensures cost { MatchOption result (steps.new ≡ steps.old) (λ leaf. steps.new ≡ steps.old + 1) }
     {
-        let leaf = next_in(&mut self.walk, self.classes, self.bytes, self.end)?;
+        let leaf = next_in(&mut self.cursor, &self.walk)?;
         steps.tick();
         Some(leaf)
     }

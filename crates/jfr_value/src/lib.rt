@@ -8,6 +8,7 @@
 //! `specs/Laws.antt`.
 #![tactic(auto)]
 
+mod cursor;
 mod extent;
 mod fused;
 mod integers;

@@ -7,7 +7,7 @@ ghost use Rattle.jfr_value.specs.Nodes.{EndsAt, IsRow, IsValue, child, laid, nod
 ghost use Rattle.jfr_value.specs.Values.{IsPlaced, Values, list_of};
 
 use crate::extent::{NoVisit, is_hollow, layout_end, layout_of};
-use crate::walk::STEPS;
+use crate::walk::{STEPS, Walk};
 use crate::{Node, Step};
 use jfr_base::{Var, read_within};
 use jfr_layout::{Classes, FieldLayout, Kind, Shape};
@@ -91,7 +91,13 @@ fn part_end(classes: &Classes, layout: &FieldLayout, bytes: &[u8], at: usize, en
     requires stands { (to : ℕ) × EndsAt classes.now bytes.now layout.now.shape at to × (to ≤ end) }
     ensures { (to : ℕ) → EndsAt classes.now bytes.now layout.now.shape at to → to ≤ end → result ≡ to }
 {
-    match layout_end(classes, layout, bytes, at, end, STEPS, &mut NoVisit, &()) {
+    let walk = Walk {
+        classes,
+        bytes,
+        end,
+        with: &(),
+    };
+    match layout_end(walk, layout, at, STEPS, &mut NoVisit) {
         Ok(to) => to,
         Err(_) => unreachable!(),
     }

@@ -1,4 +1,4 @@
-// What a walk still has to do, as a stack of frames.
+// What the walk over leaves still has to do, as a stack of frames.
 ghost use Rattle.std.specs.Prelude.{◌≡◌, ◌+◌, ◌<◌, ◌↔◌, [], ◌∷◌, ◌++◌, length, option_to_list, IsSome, IfSome};
 ghost use Rattle.jfr_value.specs.Stacks.{far_frames};
 

@@ -1,4 +1,5 @@
-// What a value refers to, handed out by a walk over its parts.
+// The walk over what a value refers to, at a step for each leaf, where the value is known to stand. jfr_reach goes by
+// it over each constant that it marks (`visit_targets`).
 ghost use Rattle.std.specs.Prelude.{◌≡◌, ◌≢◌, ℕ, ◌+◌, ◌≤◌, ◌<◌, length, true, false, IsOk, IfOk, IsSome, IfSome, option_map, option_to_list, slice_get};
 ghost use Rattle.std.specs.List.{AllByRecursion};
 ghost use Rattle.jfr_base.specs.Formats.{int_at, run, seen};
@@ -12,7 +13,7 @@ ghost use Rattle.jfr_value.specs.Visits.{TakesAll, field_shapes};
 ghost use Rattle.jfr_value.specs.Walks.{IsLayoutIfKnown, Room};
 
 use crate::extent::{base_end, is_hollow, item_layout, layout_of};
-use crate::walk::STEPS;
+use crate::walk::{STEPS, Walk};
 use crate::{Node, Steps};
 use jfr_base::read_within;
 use jfr_layout::{Classes, FieldLayout, Form, Kind};
@@ -50,77 +51,66 @@ pub fn visit_targets<C, V: Visit<C>, L: Ledger>(
     ensures cost { steps.new ≡ steps.old + length (leaves classes.now node.entry.bytes.now (node_of node.entry)) }
 {
     let layout = layout_of(classes, node.shape);
-    let _end = visit_value(
-        classes, &node, &layout, STEPS, node.at, visitor, with, steps,
-    );
+    let walk = Walk {
+        classes,
+        bytes: node.bytes,
+        end: node.end,
+        with,
+    };
+    let _end = visit_value(walk, &layout, node.at, STEPS, visitor, steps);
 }
 
 /// Visits a value of a shape, whose class is at a place, and says where it ends.
 #[cycle(visits)]
 #[inline(always)]
 fn visit_value<C, V: Visit<C>, L: Ledger>(
-    classes: &Classes,
-    whole: &Node<'_>,
+    walk: Walk<'_, '_, C>,
     layout: &FieldLayout,
-    levels: u32,
     at: usize,
+    levels: u32,
     visitor: &mut V,
-    with: &C,
     steps: &mut Steps<L>,
 ) -> usize
-    requires sound { Sound classes.now }
-    requires within { whole.now.end ≤ length whole.now.bytes.now }
-    requires layout { IsLayoutIfKnown classes.now layout.now }
-    requires room { Room classes.now levels layout.now.shape }
-    requires stands { (to : ℕ) × EndsAt classes.now whole.now.bytes.now layout.now.shape at to × (to ≤ whole.now.end) }
-    requires ready { V.ready visitor.old with.now }
-    ensures visited { (to : ℕ) (v : Value) → IsNode classes.now whole.now.bytes.now (node_at layout.now.shape at to) v → to ≤ whole.now.end
-        → (result ≡ to) × TakesAll (V.takes with.now) (targets_of v) visitor.old visitor.new × (steps.new ≡ steps.old + length (leaves_at at v)) }
-    ensures ready { V.ready visitor.new with.now }
+    requires sound { Sound walk.classes.now }
+    requires layout { IsLayoutIfKnown walk.classes.now layout.now }
+    requires room { Room walk.classes.now levels layout.now.shape }
+    requires stands { (to : ℕ) × EndsAt walk.classes.now walk.bytes.now layout.now.shape at to × (to ≤ walk.end) }
+    requires ready { V.ready visitor.old walk.with.now }
+    ensures visited { (to : ℕ) (v : Value) → IsNode walk.entry.classes.now walk.entry.bytes.now (node_at layout.now.shape at to) v → to ≤ walk.entry.end
+        → (result ≡ to) × TakesAll (V.takes walk.entry.with.now) (targets_of v) visitor.old visitor.new × (steps.new ≡ steps.old + length (leaves_at at v)) }
+    ensures ready { V.ready visitor.new walk.entry.with.now }
 {
     match layout.form {
-        Form::Integer | Form::Raw(_) => visit_plain(whole, layout.kind, at, steps),
-        Form::Key => visit_key(whole, layout.shape.class, at, visitor, with, steps),
-        Form::Text => visit_string(whole, layout.shape.class, at, visitor, with, steps),
-        Form::Fields => visit_fields(
-            classes,
-            whole,
-            layout.place,
-            levels - 1,
-            at,
-            visitor,
-            with,
-            steps,
-        ),
-        Form::Array => visit_array(classes, whole, layout, levels, at, visitor, with, steps),
+        Form::Integer | Form::Raw(_) => visit_plain(walk, layout.kind, at, steps),
+        Form::Key => visit_key(walk, layout.shape.class, at, visitor, steps),
+        Form::Text => visit_string(walk, layout.shape.class, at, visitor, steps),
+        Form::Fields => visit_fields(walk, layout.place, at, levels - 1, visitor, steps),
+        Form::Array => visit_array(walk, layout, at, levels, visitor, steps),
     }
 }
 
 /// Visits the fields of the class at a place, and says where they end.
 #[cycle(visits)]
 fn visit_fields<C, V: Visit<C>, L: Ledger>(
-    classes: &Classes,
-    whole: &Node<'_>,
+    walk: Walk<'_, '_, C>,
     place: usize,
-    levels: u32,
     at: usize,
+    levels: u32,
     visitor: &mut V,
-    with: &C,
     steps: &mut Steps<L>,
 ) -> usize
-    requires sound { Sound classes.now }
-    requires within { whole.now.end ≤ length whole.now.bytes.now }
-    requires placed { place < length classes.now }
-    requires room { AllByRecursion (Room classes.now levels) (field_shapes classes.now place) }
-    requires stand { (to : ℕ) × (vs : Values) × IsRow classes.now whole.now.bytes.now at to (field_shapes classes.now place) vs × (to ≤ whole.now.end) }
-    requires ready { V.ready visitor.old with.now }
-    ensures visited { (to : ℕ) (vs : Values) → IsRow classes.now whole.now.bytes.now at to (field_shapes classes.now place) vs → to ≤ whole.now.end
-        → (result ≡ to) × TakesAll (V.takes with.now) (targets_of_all vs) visitor.old visitor.new × (steps.new ≡ steps.old + length (leaves_from at vs)) }
-    ensures ready { V.ready visitor.new with.now }
+    requires sound { Sound walk.classes.now }
+    requires placed { place < length walk.classes.now }
+    requires room { AllByRecursion (Room walk.classes.now levels) (field_shapes walk.classes.now place) }
+    requires stand { (to : ℕ) × (vs : Values) × IsRow walk.classes.now walk.bytes.now at to (field_shapes walk.classes.now place) vs × (to ≤ walk.end) }
+    requires ready { V.ready visitor.old walk.with.now }
+    ensures visited { (to : ℕ) (vs : Values) → IsRow walk.entry.classes.now walk.entry.bytes.now at to (field_shapes walk.entry.classes.now place) vs → to ≤ walk.entry.end
+        → (result ≡ to) × TakesAll (V.takes walk.entry.with.now) (targets_of_all vs) visitor.old visitor.new × (steps.new ≡ steps.old + length (leaves_from at vs)) }
+    ensures ready { V.ready visitor.new walk.entry.with.now }
 {
     let mut to = at;
-    for layout in classes.layouts(place) {
-        to = visit_value(classes, whole, layout, levels, to, visitor, with, steps);
+    for layout in walk.classes.layouts(place) {
+        to = visit_value(walk, layout, to, levels, visitor, steps);
     }
     to
 }
@@ -128,40 +118,37 @@ fn visit_fields<C, V: Visit<C>, L: Ledger>(
 /// Visits an array, whose count takes a step, and says where it ends.
 #[cycle(visits)]
 fn visit_array<C, V: Visit<C>, L: Ledger>(
-    classes: &Classes,
-    whole: &Node<'_>,
+    walk: Walk<'_, '_, C>,
     layout: &FieldLayout,
-    levels: u32,
     at: usize,
+    levels: u32,
     visitor: &mut V,
-    with: &C,
     steps: &mut Steps<L>,
 ) -> usize
-    requires sound { Sound classes.now }
-    requires within { whole.now.end ≤ length whole.now.bytes.now }
+    requires sound { Sound walk.classes.now }
     requires array { layout.now.shape.array ≡ true }
-    requires layout { IsLayoutIfKnown classes.now layout.now }
-    requires room { Room classes.now levels layout.now.shape }
-    requires stands { (to : ℕ) × EndsAt classes.now whole.now.bytes.now layout.now.shape at to × (to ≤ whole.now.end) }
-    requires ready { V.ready visitor.old with.now }
-    ensures visited { (to : ℕ) (v : Value) → IsNode classes.now whole.now.bytes.now (node_at layout.now.shape at to) v → to ≤ whole.now.end
-        → (result ≡ to) × TakesAll (V.takes with.now) (targets_of v) visitor.old visitor.new × (steps.new ≡ steps.old + length (leaves_at at v)) }
-    ensures ready { V.ready visitor.new with.now }
+    requires layout { IsLayoutIfKnown walk.classes.now layout.now }
+    requires room { Room walk.classes.now levels layout.now.shape }
+    requires stands { (to : ℕ) × EndsAt walk.classes.now walk.bytes.now layout.now.shape at to × (to ≤ walk.end) }
+    requires ready { V.ready visitor.old walk.with.now }
+    ensures visited { (to : ℕ) (v : Value) → IsNode walk.entry.classes.now walk.entry.bytes.now (node_at layout.now.shape at to) v → to ≤ walk.entry.end
+        → (result ≡ to) × TakesAll (V.takes walk.entry.with.now) (targets_of v) visitor.old visitor.new × (steps.new ≡ steps.old + length (leaves_at at v)) }
+    ensures ready { V.ready visitor.new walk.entry.with.now }
 {
-    let Ok(count) = read_within(whole.bytes, at, whole.end) else {
+    let Ok(count) = read_within(walk.bytes, at, walk.end) else {
         unreachable!()
     };
     steps.tick();
     if count.value == 0 {
         return count.end;
     }
-    if !has_bytes(classes, layout) {
+    if !has_bytes(walk.classes, layout) {
         return count.end;
     }
     let item = item_layout(layout);
     let mut to = count.end;
     'items: for _ in 0..count.value {
-        to = visit_value(classes, whole, &item, levels, to, visitor, with, steps);
+        to = visit_value(walk, &item, to, levels, visitor, steps);
     }
     to
 }
@@ -180,55 +167,51 @@ fn has_bytes(classes: &Classes, layout: &FieldLayout) -> bool
 /// Visits a reference of a class, at a step, and says where it ends.
 #[inline(always)]
 fn visit_key<C, V: Visit<C>, L: Ledger>(
-    whole: &Node<'_>,
+    walk: Walk<'_, '_, C>,
     class: u64,
     at: usize,
     visitor: &mut V,
-    with: &C,
     steps: &mut Steps<L>,
 ) -> usize
-    requires order { at ≤ whole.now.end }
-    requires within { whole.now.end ≤ length whole.now.bytes.now }
-    requires stands { IsSome (int_at whole.now.bytes.now at whole.now.end) }
-    requires ready { V.ready visitor.old with.now }
-    ensures visited { IfSome (int_at whole.now.bytes.now at whole.now.end) (λ key.
-        (result ≡ key.end) × V.takes with.now (class, key.value) visitor.old visitor.new) }
-    ensures ready { V.ready visitor.new with.now }
+    requires order { at ≤ walk.end }
+    requires stands { IsSome (int_at walk.bytes.now at walk.end) }
+    requires ready { V.ready visitor.old walk.with.now }
+    ensures visited { IfSome (int_at walk.entry.bytes.now at walk.entry.end) (λ key.
+        (result ≡ key.end) × V.takes walk.entry.with.now (class, key.value) visitor.old visitor.new) }
+    ensures ready { V.ready visitor.new walk.entry.with.now }
     ensures cost { steps.new ≡ steps.old + 1 }
 {
-    let Ok(key) = read_within(whole.bytes, at, whole.end) else {
+    let Ok(key) = read_within(walk.bytes, at, walk.end) else {
         unreachable!()
     };
     steps.tick();
-    visitor.visit(with, class, key.value);
+    visitor.visit(walk.with, class, key.value);
     key.end
 }
 
 /// Visits a string, at a step, and says where it ends.
 #[inline(always)]
 fn visit_string<C, V: Visit<C>, L: Ledger>(
-    whole: &Node<'_>,
+    walk: Walk<'_, '_, C>,
     class: u64,
     at: usize,
     visitor: &mut V,
-    with: &C,
     steps: &mut Steps<L>,
 ) -> usize
-    requires order { at ≤ whole.now.end }
-    requires within { whole.now.end ≤ length whole.now.bytes.now }
-    requires stands { IsOk (run (string_format true) whole.now.bytes.now whole.now.end at) }
-    requires ready { V.ready visitor.old with.now }
-    ensures visited { IfOk (run (string_format true) whole.now.bytes.now whole.now.end at) (λ got.
-        (result ≡ got.place) × TakesAll (V.takes with.now) (option_to_list (option_map (λ key. (class, key)) (key_of got.value))) visitor.old visitor.new) }
-    ensures ready { V.ready visitor.new with.now }
+    requires order { at ≤ walk.end }
+    requires stands { IsOk (run (string_format true) walk.bytes.now walk.end at) }
+    requires ready { V.ready visitor.old walk.with.now }
+    ensures visited { IfOk (run (string_format true) walk.entry.bytes.now walk.entry.end at) (λ got.
+        (result ≡ got.place) × TakesAll (V.takes walk.entry.with.now) (option_to_list (option_map (λ key. (class, key)) (key_of got.value))) visitor.old visitor.new) }
+    ensures ready { V.ready visitor.new walk.entry.with.now }
     ensures cost { steps.new ≡ steps.old + 1 }
 {
-    let Ok(string) = read_string(whole.bytes, at, whole.end) else {
+    let Ok(string) = read_string(walk.bytes, at, walk.end) else {
         unreachable!()
     };
     steps.tick();
     match string.kind {
-        StringKind::Key => visitor.visit(with, class, string.key),
+        StringKind::Key => visitor.visit(walk.with, class, string.key),
         _ => {}
     }
     string.end
@@ -236,14 +219,18 @@ fn visit_string<C, V: Visit<C>, L: Ledger>(
 
 /// Visits a value of a base name that refers to nothing, at a step, and says where it ends.
 #[inline(always)]
-fn visit_plain<L: Ledger>(whole: &Node<'_>, kind: Kind, at: usize, steps: &mut Steps<L>) -> usize
-    requires order { at ≤ whole.now.end }
-    requires within { whole.now.end ≤ length whole.now.bytes.now }
-    requires stands { IsOk (seen (run (base_format kind) whole.now.bytes.now whole.now.end at)) }
-    ensures ends { IfOk (seen (run (base_format kind) whole.now.bytes.now whole.now.end at)) (λ to. result ≡ to) }
+fn visit_plain<C, L: Ledger>(
+    walk: Walk<'_, '_, C>,
+    kind: Kind,
+    at: usize,
+    steps: &mut Steps<L>,
+) -> usize
+    requires order { at ≤ walk.end }
+    requires stands { IsOk (seen (run (base_format kind) walk.bytes.now walk.end at)) }
+    ensures ends { IfOk (seen (run (base_format kind) walk.entry.bytes.now walk.entry.end at)) (λ to. result ≡ to) }
     ensures cost { steps.new ≡ steps.old + 1 }
 {
-    let Ok(to) = base_end(kind, whole.bytes, at, whole.end) else {
+    let Ok(to) = base_end(kind, walk.bytes, at, walk.end) else {
         unreachable!()
     };
     steps.tick();

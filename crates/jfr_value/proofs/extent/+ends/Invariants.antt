@@ -23,21 +23,21 @@ decreases-fields_end g l = 7 * l.levels + 6
 abbrev pub invariant-row_end-loop-layout : goal.invariant-row_end-loop-layout
 invariant-row_end-loop-layout g l = record {
   from : l.at ≤ l.to;
-  upto : l.to ≤ l.end;
-  same : seen (run (for_each (drop l.layout-index l.layouts) (λ s. shape_format (class_format (l.levels + 1) l.classes) s.shape)) l.bytes l.end l.to)
-      ≡ seen (run (for_each l.layouts (λ s. shape_format (class_format (l.levels + 1) l.classes) s.shape)) l.bytes l.end l.at);
-  ready : g.V.Visit.ready l.visitor l.with;
-  left : TakesLeft (g.V.Visit.takes l.with) (run (for_each l.layouts (λ s. shape_format (class_format (l.levels + 1) l.classes) s.shape)) l.bytes l.end l.at)
-      (run (for_each (drop l.layout-index l.layouts) (λ s. shape_format (class_format (l.levels + 1) l.classes) s.shape)) l.bytes l.end l.to) l.initial.visitor l.visitor;
+  upto : l.to ≤ l.walk.end;
+  same : seen (run (for_each (drop l.layout-index l.layouts) (λ s. shape_format (class_format (l.levels + 1) l.walk.classes.now) s.shape)) l.walk.bytes.now l.walk.end l.to)
+      ≡ seen (run (for_each l.layouts (λ s. shape_format (class_format (l.levels + 1) l.walk.classes.now) s.shape)) l.walk.bytes.now l.walk.end l.at);
+  ready : g.V.Visit.ready l.visitor l.walk.with.now;
+  left : TakesLeft (g.V.Visit.takes l.walk.with.now) (run (for_each l.layouts (λ s. shape_format (class_format (l.levels + 1) l.walk.classes.now) s.shape)) l.walk.bytes.now l.walk.end l.at)
+      (run (for_each (drop l.layout-index l.layouts) (λ s. shape_format (class_format (l.levels + 1) l.walk.classes.now) s.shape)) l.walk.bytes.now l.walk.end l.to) l.initial.visitor l.visitor;
 }
 
 abbrev pub invariant-array_end-loop : goal.invariant-array_end-loop
 invariant-array_end-loop g l = record {
   from : l.at ≤ l.to;
-  upto : l.to ≤ l.end-2;
-  same : seen (run (times (l.end - l.counter) (item_format (class_format (l.levels + 1) l.classes) (item_of l.layout.shape))) l.bytes l.end-2 l.to)
-      ≡ seen (run (times l.end (item_format (class_format (l.levels + 1) l.classes) (item_of l.layout.shape))) l.bytes l.end-2 l.initial.to);
-  ready : g.V.Visit.ready l.visitor l.with;
-  left : TakesLeft (g.V.Visit.takes l.with) (run (times l.end (item_format (class_format (l.levels + 1) l.classes) (item_of l.layout.shape))) l.bytes l.end-2 l.initial.to)
-      (run (times (l.end - l.counter) (item_format (class_format (l.levels + 1) l.classes) (item_of l.layout.shape))) l.bytes l.end-2 l.to) l.initial.visitor l.visitor;
+  upto : l.to ≤ l.walk.end;
+  same : seen (run (times (l.end - l.counter) (item_format (class_format (l.levels + 1) l.walk.classes.now) (item_of l.layout.shape))) l.walk.bytes.now l.walk.end l.to)
+      ≡ seen (run (times l.end (item_format (class_format (l.levels + 1) l.walk.classes.now) (item_of l.layout.shape))) l.walk.bytes.now l.walk.end l.initial.to);
+  ready : g.V.Visit.ready l.visitor l.walk.with.now;
+  left : TakesLeft (g.V.Visit.takes l.walk.with.now) (run (times l.end (item_format (class_format (l.levels + 1) l.walk.classes.now) (item_of l.layout.shape))) l.walk.bytes.now l.walk.end l.initial.to)
+      (run (times (l.end - l.counter) (item_format (class_format (l.levels + 1) l.walk.classes.now) (item_of l.layout.shape))) l.walk.bytes.now l.walk.end l.to) l.initial.visitor l.visitor;
 }

@@ -8,9 +8,9 @@ use Rattle.jfr_value.proofs.extent.whole_row_end.Given as goal
 abbrev pub invariant-loop-fused : goal.invariant-loop-fused
 invariant-loop-fused g l = record {
   from : l.at ≤ l.to;
-  upto : l.to ≤ l.end;
-  same : seen (run (row_format (l.levels + 1) l.classes (left_by l.class_layout.layouts.items l.class_layout.fused_fields.items l.fused-index)) l.bytes l.end l.to) ≡ seen (run (row_format (l.levels + 1) l.classes l.class_layout.layouts.items) l.bytes l.end l.at);
-  ready : g.V.Visit.ready l.visitor l.with;
-  left : TakesLeft (g.V.Visit.takes l.with) (run (row_format (l.levels + 1) l.classes l.class_layout.layouts.items) l.bytes l.end l.at)
-      (run (row_format (l.levels + 1) l.classes (left_by l.class_layout.layouts.items l.class_layout.fused_fields.items l.fused-index)) l.bytes l.end l.to) l.initial.visitor l.visitor;
+  upto : l.to ≤ l.walk.end;
+  same : seen (run (row_format (l.levels + 1) l.walk.classes.now (left_by l.class_layout.layouts.items l.class_layout.fused_fields.items l.fused-index)) l.walk.bytes.now l.walk.end l.to) ≡ seen (run (row_format (l.levels + 1) l.walk.classes.now l.class_layout.layouts.items) l.walk.bytes.now l.walk.end l.at);
+  ready : g.V.Visit.ready l.visitor l.walk.with.now;
+  left : TakesLeft (g.V.Visit.takes l.walk.with.now) (run (row_format (l.levels + 1) l.walk.classes.now l.class_layout.layouts.items) l.walk.bytes.now l.walk.end l.at)
+      (run (row_format (l.levels + 1) l.walk.classes.now (left_by l.class_layout.layouts.items l.class_layout.fused_fields.items l.fused-index)) l.walk.bytes.now l.walk.end l.to) l.initial.visitor l.visitor;
 }

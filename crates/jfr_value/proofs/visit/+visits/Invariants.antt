@@ -18,14 +18,14 @@ decreases-visit_value g l = 4 * l.levels + (if l.layout.now.shape.array then 2 e
 
 abbrev pub invariant-visit_array-items : goal.invariant-visit_array-items
 invariant-visit_array-items g l = record {
-  ready : g.V.Visit.ready l.visitor l.with;
-  left : (to : ℕ) (vs : Values) → IsRow l.classes l.whole.bytes.now l.initial.to to (replicate l.end (item_of l.layout.shape)) vs → to ≤ l.whole.end
-      → Left (g.V.Visit.takes l.with) l.classes l.whole.bytes.now l.initial.to to vs l.initial.visitor l.initial.steps (replicate (l.end - l.counter) (item_of l.layout.shape)) l.to l.visitor l.steps;
+  ready : g.V.Visit.ready l.visitor l.walk.with.now;
+  left : (to : ℕ) (vs : Values) → IsRow l.walk.classes.now l.walk.bytes.now l.initial.to to (replicate l.end (item_of l.layout.shape)) vs → to ≤ l.walk.end
+      → Left (g.V.Visit.takes l.walk.with.now) l.walk.classes.now l.walk.bytes.now l.initial.to to vs l.initial.visitor l.initial.steps (replicate (l.end - l.counter) (item_of l.layout.shape)) l.to l.visitor l.steps;
 }
 
 abbrev pub invariant-visit_fields-loop-layout : goal.invariant-visit_fields-loop-layout
 invariant-visit_fields-loop-layout g l = record {
-  ready : g.V.Visit.ready l.visitor l.with;
-  left : (to : ℕ) (vs : Values) → IsRow l.classes l.whole.bytes.now l.at to (field_shapes l.classes l.place) vs → to ≤ l.whole.end
-      → Left (g.V.Visit.takes l.with) l.classes l.whole.bytes.now l.at to vs l.initial.visitor l.initial.steps (drop l.layout-index (field_shapes l.classes l.place)) l.to l.visitor l.steps;
+  ready : g.V.Visit.ready l.visitor l.walk.with.now;
+  left : (to : ℕ) (vs : Values) → IsRow l.walk.classes.now l.walk.bytes.now l.at to (field_shapes l.walk.classes.now l.place) vs → to ≤ l.walk.end
+      → Left (g.V.Visit.takes l.walk.with.now) l.walk.classes.now l.walk.bytes.now l.at to vs l.initial.visitor l.initial.steps (drop l.layout-index (field_shapes l.walk.classes.now l.place)) l.to l.visitor l.steps;
 }

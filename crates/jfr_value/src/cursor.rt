@@ -1,0 +1,280 @@
+// The walk over leaves, from one to the next: its caller stops or goes on as it likes (`Leaves`). No command of jfr
+// goes by it; it is for other programs that read values.
+ghost use Rattle.std.specs.Prelude.{◌≡◌, ◌≢◌, ◌⊎◌, ℕ, ◌+◌, ◌*◌, ◌≤◌, ◌<◌, [], ◌∷◌, ◌++◌, length, true, false, Some, if◌then◌else◌, IfSome, MatchOption, slice_get, slice_range};
+ghost use Rattle.jfr_layout.specs.Classes.{Sound, find_class, kind_of};
+ghost use Rattle.jfr_layout.specs.declared.class.ClassInfo.{ClassInfo};
+ghost use Rattle.jfr_layout.specs.declared.kind.Kind.TheVariants as kinds;
+ghost use Rattle.jfr_value.specs.Leaves.{leaf_of, leaves_from};
+ghost use Rattle.jfr_value.specs.Nodes.{IsRow};
+ghost use Rattle.jfr_value.specs.Values.{IsHollow, Values};
+ghost use Rattle.jfr_value.specs.declared.stack.Frame.TheVariants.{Fields, Items};
+ghost use Rattle.jfr_value.specs.Walks.{AreFrames, GoesOn, IsFrame, IsLeft, IsPlacedIfKnown, Room, frame_shapes, shapes_left, size_of_all};
+
+use crate::extent::{base_end, is_hollow};
+use crate::part::item_of;
+use crate::stack::{Frame, Stack};
+use crate::walk::Walk;
+use crate::{Leaf, LeafKind};
+use jfr_base::read_within;
+use jfr_layout::{Classes, Kind, Shape};
+
+/// Where a walk stands, and what it has left: the last frame comes first.
+#[derive(Drop)]
+pub(crate) struct Cursor {
+    pub(crate) at: usize,
+    pub(crate) stack: Stack,
+}
+
+/// What a step of a walk came to.
+#[derive(Drop)]
+pub(crate) enum Progress<'a> {
+    Ended,
+    Onward,
+    Found(Leaf<'a>),
+}
+
+/// The next leaf.
+pub(crate) fn next_in<'a>(cursor: &mut Cursor, walk: &Walk<'_, 'a, ()>) -> Option<Leaf<'a>>
+    requires sound { Sound walk.now.classes.now }
+    requires frames { AreFrames walk.now.classes.now 0 cursor.old.stack }
+    requires left { (vs : Values) × IsLeft walk.now.classes.now walk.now.bytes.now walk.now.end cursor.old vs }
+    ensures frames { AreFrames walk.now.classes.now 0 cursor.new.stack }
+    ensures left { (vs : Values) → IsLeft walk.now.classes.now walk.now.bytes.now walk.now.end cursor.old vs → MatchOption result ((ws : Values) × IsLeft walk.now.classes.now walk.now.bytes.now walk.now.end cursor.new ws × (leaves_from cursor.old.at vs ≡ []) × (leaves_from cursor.new.at ws ≡ [])) (λ leaf. (ws : Values) × IsLeft walk.now.classes.now walk.now.bytes.now walk.now.end cursor.new ws × (leaves_from cursor.old.at vs ≡ leaf_of leaf ∷ leaves_from cursor.new.at ws)) }
+{
+    loop {
+        match advance(cursor, walk) {
+            Progress::Ended => return None,
+            Progress::Onward => {}
+            Progress::Found(leaf) => return Some(leaf),
+        }
+    }
+}
+
+/// One step: the last frame's next value, or the end of that frame.
+fn advance<'a>(cursor: &mut Cursor, walk: &Walk<'_, 'a, ()>) -> Progress<'a>
+    requires sound { Sound walk.now.classes.now }
+    requires frames { AreFrames walk.now.classes.now 0 cursor.old.stack }
+    requires left { (vs : Values) × IsLeft walk.now.classes.now walk.now.bytes.now walk.now.end cursor.old vs }
+    ensures frames { AreFrames walk.now.classes.now 0 cursor.new.stack }
+    ensures left { (vs : Values) → IsLeft walk.now.classes.now walk.now.bytes.now walk.now.end cursor.old vs → GoesOn walk.now.classes.now walk.now.bytes.now walk.now.end cursor.old.at vs (size_of_all vs + length cursor.old.stack) cursor.new result }
+{
+    match cursor.stack.pop() {
+        None => Progress::Ended,
+        Some(
+            Frame::Fields {
+                place,
+                number,
+                levels,
+            },
+        ) => next_field(cursor, walk, place, number, levels),
+        Some(
+            Frame::Items {
+                shape,
+                place,
+                left,
+                levels,
+            },
+        ) => next_item(cursor, walk, shape, place, left, levels),
+    }
+}
+
+/// Enters the next field of a frame that was taken from the stack, where one is left.
+fn next_field<'a>(
+    cursor: &mut Cursor,
+    walk: &Walk<'_, 'a, ()>,
+    place: usize,
+    number: usize,
+    levels: u32,
+) -> Progress<'a>
+    requires sound { Sound walk.now.classes.now }
+    requires frames { AreFrames walk.now.classes.now 0 cursor.old.stack }
+    requires frame { IsFrame walk.now.classes.now (length cursor.old.stack + 1) (Fields place number levels) }
+    requires left { (vs : Values) × IsRow walk.now.classes.now walk.now.bytes.now cursor.old.at walk.now.end (frame_shapes walk.now.classes.now (Fields place number levels) ++ shapes_left walk.now.classes.now cursor.old.stack) vs }
+    ensures frames { AreFrames walk.now.classes.now 0 cursor.new.stack }
+    ensures left { (vs : Values) → IsRow walk.now.classes.now walk.now.bytes.now cursor.old.at walk.now.end (frame_shapes walk.now.classes.now (Fields place number levels) ++ shapes_left walk.now.classes.now cursor.old.stack) vs → GoesOn walk.now.classes.now walk.now.bytes.now walk.now.end cursor.old.at vs (size_of_all vs + (length cursor.old.stack + 1)) cursor.new result }
+{
+    let layouts = walk.classes.layouts(place);
+    if number >= layouts.len() {
+        return Progress::Onward;
+    }
+    let layout = layouts[number];
+    cursor.stack.push(Frame::Fields {
+        place,
+        number: number + 1,
+        levels,
+    });
+    enter(cursor, walk, layout.shape, layout.place, levels)
+}
+
+/// Enters the next item of a frame that was taken from the stack, where one is left.
+fn next_item<'a>(
+    cursor: &mut Cursor,
+    walk: &Walk<'_, 'a, ()>,
+    shape: Shape,
+    place: usize,
+    left: u64,
+    levels: u32,
+) -> Progress<'a>
+    requires sound { Sound walk.now.classes.now }
+    requires frames { AreFrames walk.now.classes.now 0 cursor.old.stack }
+    requires frame { IsFrame walk.now.classes.now (length cursor.old.stack + 1) (Items shape place left levels) }
+    requires left { (vs : Values) × IsRow walk.now.classes.now walk.now.bytes.now cursor.old.at walk.now.end (frame_shapes walk.now.classes.now (Items shape place left levels) ++ shapes_left walk.now.classes.now cursor.old.stack) vs }
+    ensures frames { AreFrames walk.now.classes.now 0 cursor.new.stack }
+    ensures left { (vs : Values) → IsRow walk.now.classes.now walk.now.bytes.now cursor.old.at walk.now.end (frame_shapes walk.now.classes.now (Items shape place left levels) ++ shapes_left walk.now.classes.now cursor.old.stack) vs → GoesOn walk.now.classes.now walk.now.bytes.now walk.now.end cursor.old.at vs (size_of_all vs + (length cursor.old.stack + 1)) cursor.new result }
+{
+    if left == 0 {
+        return Progress::Onward;
+    }
+    cursor.stack.push(Frame::Items {
+        shape,
+        place,
+        left: left - 1,
+        levels,
+    });
+    enter(cursor, walk, shape, place, levels)
+}
+
+/// Enters the value of a shape that stands next.
+fn enter<'a>(
+    cursor: &mut Cursor,
+    walk: &Walk<'_, 'a, ()>,
+    shape: Shape,
+    place: usize,
+    levels: u32,
+) -> Progress<'a>
+    requires sound { Sound walk.now.classes.now }
+    requires frames { AreFrames walk.now.classes.now 0 cursor.old.stack }
+    requires height { length cursor.old.stack + 2 * levels ≤ (if shape.array then 67 else 68) }
+    requires placed { IsPlacedIfKnown walk.now.classes.now shape place }
+    requires room { Room walk.now.classes.now levels shape }
+    requires left { (vs : Values) × IsRow walk.now.classes.now walk.now.bytes.now cursor.old.at walk.now.end (shape ∷ shapes_left walk.now.classes.now cursor.old.stack) vs }
+    ensures frames { AreFrames walk.now.classes.now 0 cursor.new.stack }
+    ensures left { (vs : Values) → IsRow walk.now.classes.now walk.now.bytes.now cursor.old.at walk.now.end (shape ∷ shapes_left walk.now.classes.now cursor.old.stack) vs → GoesOn walk.now.classes.now walk.now.bytes.now walk.now.end cursor.old.at vs (size_of_all vs + length cursor.old.stack) cursor.new result }
+{
+    if shape.array {
+        return enter_array(cursor, walk, shape, place, levels);
+    }
+    if shape.constant {
+        return enter_key(cursor, walk, shape);
+    }
+    match walk.classes.kind_at(place) {
+        Kind::Composite => {
+            cursor.stack.push(Frame::Fields {
+                place,
+                number: 0,
+                levels: levels - 1,
+            });
+            Progress::Onward
+        }
+        kind => enter_base(cursor, walk, shape, kind),
+    }
+}
+
+/// Enters an array: its count is a leaf, and its items are what comes next.
+fn enter_array<'a>(
+    cursor: &mut Cursor,
+    walk: &Walk<'_, 'a, ()>,
+    shape: Shape,
+    place: usize,
+    levels: u32,
+) -> Progress<'a>
+    requires array { shape.array ≡ true }
+    requires frames { AreFrames walk.now.classes.now 0 cursor.old.stack }
+    requires height { length cursor.old.stack + 2 * levels ≤ 67 }
+    requires placed { IsPlacedIfKnown walk.now.classes.now shape place }
+    requires room { Room walk.now.classes.now levels shape }
+    requires left { (vs : Values) × IsRow walk.now.classes.now walk.now.bytes.now cursor.old.at walk.now.end (shape ∷ shapes_left walk.now.classes.now cursor.old.stack) vs }
+    ensures frames { AreFrames walk.now.classes.now 0 cursor.new.stack }
+    ensures left { (vs : Values) → IsRow walk.now.classes.now walk.now.bytes.now cursor.old.at walk.now.end (shape ∷ shapes_left walk.now.classes.now cursor.old.stack) vs → GoesOn walk.now.classes.now walk.now.bytes.now walk.now.end cursor.old.at vs (size_of_all vs + length cursor.old.stack) cursor.new result }
+{
+    let Ok(count) = read_within(walk.bytes, cursor.at, walk.end) else {
+        unreachable!()
+    };
+    let leaf = leaf_to(
+        walk.bytes,
+        cursor.at,
+        count.end,
+        LeafKind::Count(count.value),
+        shape.class,
+    );
+    cursor.at = count.end;
+    cursor.stack.push(Frame::Items {
+        shape: item_of(shape),
+        place,
+        left: items_to_walk(walk.classes, shape, place, count.value),
+        levels,
+    });
+    Progress::Found(leaf)
+}
+
+/// How many items of an array there are to walk over: none where they have no bytes.
+fn items_to_walk(classes: &Classes, shape: Shape, place: usize, count: u64) -> u64
+    ensures { (result ≡ count) ⊎ ((result ≡ 0) × (shape.constant ≡ false) × (place < length classes.now) × IfSome (slice_get classes.now place) IsHollow) }
+{
+    if shape.constant || place >= classes.len() {
+        return count;
+    }
+    if is_hollow(classes, place) {
+        return 0;
+    }
+    count
+}
+
+/// Hands out the key of a reference.
+fn enter_key<'a>(cursor: &mut Cursor, walk: &Walk<'_, 'a, ()>, shape: Shape) -> Progress<'a>
+    requires array { shape.array ≡ false }
+    requires constant { shape.constant ≡ true }
+    requires left { (vs : Values) × IsRow walk.now.classes.now walk.now.bytes.now cursor.old.at walk.now.end (shape ∷ shapes_left walk.now.classes.now cursor.old.stack) vs }
+    ensures stack { cursor.new.stack ≡ cursor.old.stack }
+    ensures left { (vs : Values) → IsRow walk.now.classes.now walk.now.bytes.now cursor.old.at walk.now.end (shape ∷ shapes_left walk.now.classes.now cursor.old.stack) vs → GoesOn walk.now.classes.now walk.now.bytes.now walk.now.end cursor.old.at vs (size_of_all vs + length cursor.old.stack) cursor.new result }
+{
+    let Ok(key) = read_within(walk.bytes, cursor.at, walk.end) else {
+        unreachable!()
+    };
+    let leaf = leaf_to(
+        walk.bytes,
+        cursor.at,
+        key.end,
+        LeafKind::Key(key.value),
+        shape.class,
+    );
+    cursor.at = key.end;
+    Progress::Found(leaf)
+}
+
+/// Hands out a value of a base name.
+fn enter_base<'a>(
+    cursor: &mut Cursor,
+    walk: &Walk<'_, 'a, ()>,
+    shape: Shape,
+    kind: Kind,
+) -> Progress<'a>
+    requires array { shape.array ≡ false }
+    requires constant { shape.constant ≡ false }
+    requires class { (c : ClassInfo) × (find_class walk.now.classes.now shape.class ≡ Some c) × (kind ≡ kind_of c.name) }
+    requires base { kind ≢ kinds.Composite }
+    requires left { (vs : Values) × IsRow walk.now.classes.now walk.now.bytes.now cursor.old.at walk.now.end (shape ∷ shapes_left walk.now.classes.now cursor.old.stack) vs }
+    ensures stack { cursor.new.stack ≡ cursor.old.stack }
+    ensures left { (vs : Values) → IsRow walk.now.classes.now walk.now.bytes.now cursor.old.at walk.now.end (shape ∷ shapes_left walk.now.classes.now cursor.old.stack) vs → GoesOn walk.now.classes.now walk.now.bytes.now walk.now.end cursor.old.at vs (size_of_all vs + length cursor.old.stack) cursor.new result }
+{
+    let Ok(to) = base_end(kind, walk.bytes, cursor.at, walk.end) else {
+        unreachable!()
+    };
+    let leaf = leaf_to(walk.bytes, cursor.at, to, LeafKind::Base(kind), shape.class);
+    cursor.at = to;
+    Progress::Found(leaf)
+}
+
+/// The leaf from one place to another.
+fn leaf_to<'a>(bytes: &'a [u8], at: usize, to: usize, kind: LeafKind, class: u64) -> Leaf<'a>
+    requires order { at ≤ to }
+    requires within { to ≤ length bytes.now }
+    ensures { leaf_of result ≡ record { kind = kind; class = class; at = at; spelled = slice_range bytes.now at to } }
+{
+    Leaf {
+        kind,
+        class,
+        at,
+        spelled: &bytes[at..to],
+    }
+}
