@@ -1,9 +1,11 @@
 #!/usr/bin/env python3
-"""Runs the commands on mutated recordings: fuzz.py PROGRAM SECONDS SEED FILE..
+"""Runs the commands on mutated recordings: fuzz.py [--jobs N] [--inputs N] PROGRAM SECONDS SEED FILE..
 
 Takes the given recordings and small ones of hostile.py, changes one in some places (mutations.py: bits, integers at
 their limits, pieces moved, repeated and cut; half the time records, classes and values besides, with sizes, positions
-and deltas that are true again), and runs each command that reads chunks on the outcome, with 1 GB of memory. Wrong is
+and deltas that are true again), and runs commands on the outcome, with 1 GB of memory: `summary` first. On an input that
+it accepts each command that reads chunks is run, scrub without options and with one of them; on one that it refuses, and
+those are four of five, one group of them in turn. Wrong is
 
 - a signal, more than 20 seconds, a status that isn't one of the command's, 5 of a command other than print;
 - more than 20 times the input's size and 64 MB of memory of a command other than print;
@@ -13,11 +15,15 @@ and deltas that are true again), and runs each command that reads chunks on the 
   which `print --json` tells something else;
 - parts, or files joined, that aren't the input again.
 
-An input with such a run is kept in the folder `found` where the script is run, and told by its number, which the seed
-and the files determine; after 20 of them it stops. Prints at the end how often each status of each command came, and
-how often each reason of refusal; the status is 0 where nothing was wrong.
+With --jobs so many processes work at once, each on every Nth input; with --inputs it stops after so many inputs, if
+SECONDS are enough for them. Inputs have numbers: the seed and the files determine each, and which commands are run on it.
+An input with a wrong run is kept in the folder `found` where the script is run, and told by its number; a process stops
+after 20 of them. Prints at the end how often each status of each command came, and how often each reason of refusal; the
+status is 0 where nothing was wrong.
 """
+import argparse
 import json
+import multiprocessing
 import os
 import random
 import re
@@ -28,6 +34,7 @@ import sys
 import tempfile
 import time
 from collections import Counter
+from concurrent.futures import ProcessPoolExecutor
 
 sys.path.insert(0, os.path.dirname(os.path.realpath(__file__)))
 sys.dont_write_bytecode = True
@@ -35,52 +42,89 @@ import hostile
 from mutations import mutated, parsed_or_none
 
 LARGEST_TEXT = 64 << 20
-
-
-# Runs.
+REFUSAL = re.compile(r"chunk [0-9]+ offset [0-9]+: [A-Za-z]+\n")
 
 
 class Wrong(Exception):
     pass
 
 
+class Stream:
+    """A file that stays open, to which runs write in turn: opening one costs more than what most of them write."""
+
+    def __init__(self, path):
+        self.place = os.open(path, os.O_RDWR | os.O_CREAT, 0o600)
+
+    def empty(self):
+        os.lseek(self.place, 0, os.SEEK_SET)
+        os.truncate(self.place, 0)
+
+    def size(self):
+        return os.fstat(self.place).st_size
+
+    def bytes(self):
+        return os.pread(self.place, self.size(), 0)
+
+
+class Tally:
+    """What came of some inputs."""
+
+    def __init__(self):
+        self.inputs = self.size = self.runs = self.wrong = 0
+        self.counts, self.reasons = Counter(), Counter()
+
+    def add(self, other):
+        for name in vars(self):
+            setattr(self, name, getattr(self, name) + getattr(other, name))
+
+
+# Runs.
+
+
 class Trial:
     """The runs on one input, in a folder of their own."""
 
-    def __init__(self, program, work, counts, reasons):
-        self.program, self.work, self.counts, self.reasons = program, work, counts, reasons
-        self.runs = 0
+    def __init__(self, program, work, tally):
+        self.program, self.work, self.tally = program, work, tally
+        self.source, self.folder = self.name("in", "i.jfr"), self.name("parts")
+        os.mkdir(self.name("in"))
+        os.mkdir(self.folder)
+        self.nowhere = os.open(os.devnull, os.O_WRONLY)
+        self.said, self.totals, self.lines, self.told = map(Stream, map(self.name, ("said", "totals", "lines", "told")))
+        self.child = None
+        self.late = False
+        signal.signal(signal.SIGALRM, self.end)
+
+    def end(self, *_):
+        self.late = True
+        os.kill(self.child, signal.SIGKILL)
 
     def name(self, *parts):
         return os.path.join(self.work, *parts)
 
-    def run(self, label, words, statuses, text=os.devnull, most=None):
+    def run(self, label, words, statuses, text=None, most=None):
         """One run: its status and the line that it said."""
-        said = self.name("said")
-        making = os.O_WRONLY | os.O_CREAT | os.O_TRUNC
-        actions = [(os.POSIX_SPAWN_OPEN, 1, text, making, 0o600), (os.POSIX_SPAWN_OPEN, 2, said, making, 0o600)]
-        child = os.posix_spawn(self.program, [self.program, *words], {}, file_actions=actions)
-        late = []
-
-        def end(*_):
-            late.append(True)
-            os.kill(child, signal.SIGKILL)
-        signal.signal(signal.SIGALRM, end)
+        self.said.empty()
+        if text:
+            text.empty()
+        out = text.place if text else self.nowhere
+        actions = [(os.POSIX_SPAWN_DUP2, out, 1), (os.POSIX_SPAWN_DUP2, self.said.place, 2)]
+        self.late = False
+        self.child = os.posix_spawn(self.program, [self.program, *words], {}, file_actions=actions)
         signal.alarm(20)
-        _, answer, used = os.wait4(child, 0)
+        _, answer, used = os.wait4(self.child, 0)
         signal.alarm(0)
-        self.runs += 1
+        self.tally.runs += 1
         status = os.waitstatus_to_exitcode(answer)
-        self.counts[label, "late" if late else status] += 1
-        with open(said, "rb") as file:
-            line = file.read().decode()
-        if late:
+        self.tally.counts[label, "late" if self.late else status] += 1
+        line = self.said.bytes().decode()
+        if self.late:
             raise Wrong("%s takes more than 20 seconds" % label)
-        if status == 4 and text != os.devnull and os.path.getsize(text) >= LARGEST_TEXT:
+        if status == 4 and text and text.size() >= LARGEST_TEXT:
             return status, line
         if status not in statuses:
             raise Wrong("%s: status %d, %s" % (label, status, line.strip()))
-        if (status == 2) != bool(re.fullmatch(r"chunk [0-9]+ offset [0-9]+: [A-Za-z]+\n", line)) or status == 0 and line:
+        if (status == 2) != bool(REFUSAL.fullmatch(line)) or status == 0 and line:
             raise Wrong("%s: status %d, said %r" % (label, status, line))
         if most is not None and used.ru_maxrss * 1024 > most:
             raise Wrong("%s takes %d KB" % (label, used.ru_maxrss))
@@ -88,34 +132,60 @@ class Trial:
 
     def fresh(self, name):
         path = self.name(name)
-        if os.path.exists(path):
+        try:
             os.remove(path)
+        except FileNotFoundError:
+            pass
         return path
 
     def bytes_of(self, *parts):
         with open(self.name(*parts), "rb") as file:
             return file.read()
 
-    def lines_of(self, path):
-        """How many lines of JSON a text has."""
-        with open(path, encoding="utf-8", newline="\n") as file:
-            many = 0
+    def count_lines(self):
+        """How many lines of JSON there are, each the text of an event."""
+        many = 0
+        with open(self.name("lines"), encoding="utf-8", newline="\n") as file:
             for line in file:
-                value = json.loads(line)
-                if set(value) != {"type", "values"} or not line.endswith("\n"):
+                if set(json.loads(line)) != {"type", "values"} or not line.endswith("\n"):
                     raise ValueError(line[:80])
                 many += 1
         return many
 
-    def scrubs(self, data, filters, verdict):
-        """A scrub with these options, and one of its output."""
+    def agrees(self, label, answer, verdict):
+        if answer != verdict:
+            raise Wrong("%s answers otherwise than summary" % label)
+
+    def metadata(self):
+        self.agrees("metadata", self.run("metadata", ["metadata", self.source], (0, 2), most=self.most), self.verdict)
+
+    def print_text(self, *options):
+        label = " ".join(["print", *options])
+        answer = self.run(label, ["print", *options, self.source], (0, 2, 5))
+        if answer[0] != 5:
+            self.agrees(label, answer, self.verdict)
+
+    def print_json(self):
+        """The lines of the input, and whether all of them were printed."""
+        answer = self.run("print --json", ["print", "--json", self.source], (0, 2, 5), self.lines)
+        if answer[0] in (4, 5):
+            return False
+        self.agrees("print --json", answer, self.verdict)
+        try:
+            many = self.count_lines()
+        except (ValueError, TypeError, RecursionError) as error:
+            raise Wrong("a line isn't JSON of an event: %s" % error)
+        if self.verdict[0] == 0 and b"\nevents %d\n" % many not in self.totals.bytes():
+            raise Wrong("print --json has other events than summary")
+        return True
+
+    def scrub(self, *filters):
+        """A scrub with these options, and one of its output, where that has a chunk: its name."""
         label = " ".join(["scrub", *filters[:1]])
         out, again = self.fresh("out.jfr"), self.fresh("again.jfr")
-        most = 20 * len(data) + (64 << 20)
-        if self.run(label, ["scrub", *filters, self.name("in", "i.jfr"), out], (0, 2), most=most) != verdict:
-            raise Wrong("%s answers otherwise than summary" % label)
+        self.agrees(label, self.run(label, ["scrub", *filters, self.source, out], (0, 2), most=self.most), self.verdict)
         made = self.bytes_of("out.jfr")
-        if len(made) > len(data):
+        if len(made) > len(self.data):
             raise Wrong("%s makes more bytes" % label)
         if not made:
             return None
@@ -123,65 +193,57 @@ class Trial:
             raise Wrong("%s of its output makes something else" % label)
         return out
 
-    def tried(self, data, filters):
-        """All runs on an input."""
-        source = self.name("in", "i.jfr")
-        with open(source, "wb") as file:
-            file.write(data)
-        most = 20 * len(data) + (64 << 20)
-        totals, lines = self.name("totals"), self.name("lines")
-        verdict = self.run("summary", ["summary", source], (0, 2), totals, most)
-        self.reasons[verdict[1].split()[-1] if verdict[0] else "accepted"] += 1
-        if self.run("metadata", ["metadata", source], (0, 2), most=most) != verdict:
-            raise Wrong("metadata answers otherwise than summary")
-        for words in (["print"], ["print", "--depth", "8"]):
-            answer = self.run(" ".join(words), [*words, source], (0, 2, 5))
-            if answer[0] != 5 and answer != verdict:
-                raise Wrong("%s answers otherwise than summary" % " ".join(words))
-        answer = self.run("print --json", ["print", "--json", source], (0, 2, 5), lines)
-        if answer[0] not in (4, 5):
-            if answer != verdict:
-                raise Wrong("print --json answers otherwise than summary")
-            try:
-                many = self.lines_of(lines)
-            except (ValueError, TypeError, RecursionError) as error:
-                raise Wrong("a line isn't JSON of an event: %s" % error)
-            if verdict[0] == 0 and b"\nevents %d\n" % many not in self.bytes_of("totals"):
-                raise Wrong("print --json has other events than summary")
-        out = self.scrubs(data, [], verdict)
-        if out and answer[0] not in (4, 5):
-            told = self.name("told")
-            self.run("print --json, scrubbed", ["print", "--json", out], (0,), told)
-            if self.bytes_of("told") != self.bytes_of("lines"):
+    def scrub_and_print(self):
+        all_printed = self.print_json()
+        out = self.scrub()
+        if out and all_printed:
+            self.run("print --json, scrubbed", ["print", "--json", out], (0,), self.told)
+            if self.told.bytes() != self.lines.bytes():
                 raise Wrong("print --json tells something else of the scrub's output")
-        for option, pattern in filters:
-            self.scrubs(data, [option, pattern], verdict)
-        self.parts(data, source, verdict, most)
 
-    def parts(self, data, source, verdict, most):
-        folder = self.name("parts")
-        shutil.rmtree(folder, ignore_errors=True)
-        os.mkdir(folder)
-        cut = self.run("disassemble", ["disassemble", "--max-chunks", "1", "--output", folder, source], (0, 2), most=most)
-        together = b"".join(self.bytes_of("parts", name) for name in sorted(os.listdir(folder)))
-        joined = self.run("assemble", ["assemble", self.name("in"), self.fresh("joined.jfr")], (0, 2), most=most)
+    def parts(self):
+        for name in os.listdir(self.folder):
+            os.remove(self.name("parts", name))
+        words = ["disassemble", "--max-chunks", "1", "--output", self.folder, self.source]
+        cut = self.run("disassemble", words, (0, 2), most=self.most)
+        together = b"".join(self.bytes_of("parts", name) for name in sorted(os.listdir(self.folder)))
+        joined = self.run("assemble", ["assemble", self.name("in"), self.fresh("joined.jfr")], (0, 2), most=self.most)
         if cut != joined:
             raise Wrong("assemble answers otherwise than disassemble")
-        if verdict[0] == 0 and cut[0] != 0:
+        if self.verdict[0] == 0 and cut[0] != 0:
             raise Wrong("disassemble refuses what summary accepts")
         for made in (together, self.bytes_of("joined.jfr")):
-            if not data.startswith(made) or cut[0] == 0 and made != data:
+            if not self.data.startswith(made) or cut[0] == 0 and made != self.data:
                 raise Wrong("disassemble or assemble makes other bytes")
 
+    def tried(self, data, number, option):
+        """The runs on the input of this number; one of its scrubs has this option."""
+        self.data, self.most = data, 20 * len(data) + (64 << 20)
+        with open(self.source, "wb") as file:
+            file.write(data)
+        self.verdict = self.run("summary", ["summary", self.source], (0, 2), self.totals, self.most)
+        self.tally.reasons[self.verdict[1].split()[-1] if self.verdict[0] else "accepted"] += 1
+        groups = (
+            self.metadata,
+            self.print_text,
+            lambda: self.print_text("--depth", "8"),
+            self.scrub_and_print,
+            lambda: self.scrub(*option),
+            self.parts,
+        )
+        for group in groups if self.verdict[0] == 0 else (groups[number % len(groups)],):
+            group()
 
-def filters_of(rng):
-    """Three options of a scrub, each with its pattern."""
+
+def option_of(rng):
+    """An option of a scrub with its pattern."""
     patterns = {
         "threads": ["*", "main*", "worker*", "*e*", "nosuch", "*a*a*b"],
         "categories": ["*", "Java*", "*System", "a?", "nosuch", "*a*a*b"],
         "events": ["*", "A", "t.*", "*E", "nosuch", "ThreadPark"],
     }
-    return [("--%s-%s" % (rng.choice(("include", "exclude")), name), rng.choice(given)) for name, given in patterns.items()]
+    name, given = rng.choice(list(patterns.items()))
+    return "--%s-%s" % (rng.choice(("include", "exclude")), name), rng.choice(given)
 
 
 def seeds_of(files):
@@ -196,42 +258,84 @@ def seeds_of(files):
     return seeds
 
 
+class Task:
+    """The inputs of a run, which several processes share."""
+
+    def __init__(self, given):
+        self.program, self.seed = os.path.realpath(given.program), given.seed
+        self.seconds, self.inputs, self.jobs = given.seconds, given.inputs, given.jobs
+        self.seeds = seeds_of(given.files)
+        self.parsed = [parsed_or_none(data) for data in self.seeds]
+
+    def numbers(self, job):
+        """The numbers of a process's inputs, until the seconds are over."""
+        start, number = time.monotonic(), job
+        while time.monotonic() - start < self.seconds and (self.inputs is None or number < self.inputs):
+            yield number
+            number += self.jobs
+
+    def done(self, job):
+        """What comes of a process's inputs."""
+        resource.setrlimit(resource.RLIMIT_AS, (1 << 30, 1 << 30))
+        resource.setrlimit(resource.RLIMIT_FSIZE, (LARGEST_TEXT, LARGEST_TEXT))
+        work = tempfile.mkdtemp(dir="/dev/shm" if os.path.isdir("/dev/shm") else None)
+        tally = Tally()
+        try:
+            trial = Trial(self.program, work, tally)
+            for number in self.numbers(job):
+                rng = random.Random("%d %d" % (self.seed, number))
+                data, option = mutated(rng, self.seeds, self.parsed), option_of(rng)
+                tally.inputs, tally.size = tally.inputs + 1, tally.size + len(data)
+                try:
+                    trial.tried(data, number, option)
+                except Wrong as error:
+                    self.keep(number, data, "%s; %s" % (error, option))
+                    tally.wrong += 1
+                    if tally.wrong == 20:
+                        break
+        finally:
+            shutil.rmtree(work)
+        return tally
+
+    def keep(self, number, data, error):
+        os.makedirs("found", exist_ok=True)
+        path = os.path.join("found", "%d-%d.jfr" % (self.seed, number))
+        with open(path, "wb") as file:
+            file.write(data)
+        print("%s: %s" % (path, error), flush=True)
+
+
+def tallied(task):
+    """What comes of all inputs."""
+    tally = Tally()
+    with ProcessPoolExecutor(task.jobs, multiprocessing.get_context("fork")) as processes:
+        for one in processes.map(task.done, range(task.jobs)):
+            tally.add(one)
+    return tally
+
+
 def main(words):
-    program, seconds, seed = os.path.realpath(words[0]), float(words[1]), int(words[2])
-    seeds = seeds_of(words[3:])
-    parsed = [parsed_or_none(data) for data in seeds]
-    counts, reasons, wrong = Counter(), Counter(), 0
-    work = tempfile.mkdtemp(dir="/dev/shm" if os.path.isdir("/dev/shm") else None)
-    os.mkdir(os.path.join(work, "in"))
-    resource.setrlimit(resource.RLIMIT_AS, (1 << 30, 1 << 30))
-    resource.setrlimit(resource.RLIMIT_FSIZE, (LARGEST_TEXT, LARGEST_TEXT))
-    trial = Trial(program, work, counts, reasons)
-    start, inputs, size = time.monotonic(), 0, 0
-    try:
-        while time.monotonic() - start < seconds and wrong < 20:
-            rng = random.Random("%d %d" % (seed, inputs))
-            data, filters = mutated(rng, seeds, parsed), filters_of(rng)
-            inputs, size = inputs + 1, size + len(data)
-            try:
-                trial.tried(data, filters)
-            except Wrong as error:
-                wrong += 1
-                os.makedirs("found", exist_ok=True)
-                path = os.path.join("found", "%d-%d.jfr" % (seed, inputs - 1))
-                shutil.copy(os.path.join(work, "in", "i.jfr"), path)
-                print("%s: %s; %s" % (path, error, filters), flush=True)
-    finally:
-        shutil.rmtree(work)
+    parser = argparse.ArgumentParser(usage="fuzz.py [--jobs N] [--inputs N] PROGRAM SECONDS SEED FILE..")
+    parser.add_argument("program")
+    parser.add_argument("seconds", type=float)
+    parser.add_argument("seed", type=int)
+    parser.add_argument("files", nargs="*")
+    parser.add_argument("--jobs", type=int, default=1)
+    parser.add_argument("--inputs", type=int)
+    task = Task(parser.parse_intermixed_args(words))
+    start = time.monotonic()
+    tally = tallied(task)
     took = time.monotonic() - start
-    print("%d inputs of %d bytes on average, of %d seeds, of which %d are taken apart; %d runs in %.0f s; %d inputs wrong" %
-          (inputs, size / max(1, inputs), len(seeds), sum(one is not None for one in parsed), trial.runs, took, wrong))
+    print("%d inputs of %d bytes on average, of %d seeds, of which %d are taken apart; %d runs in %.0f s by %d processes; %d inputs wrong" %
+          (tally.inputs, tally.size / max(1, tally.inputs), len(task.seeds), sum(one is not None for one in task.parsed),
+           tally.runs, took, task.jobs, tally.wrong))
     print("| command | status | runs |\n|---|---|---:|")
-    for (label, status), many in sorted(counts.items(), key=str):
+    for (label, status), many in sorted(tally.counts.items(), key=str):
         print("| %s | %s | %d |" % (label, status, many))
     print("| answer of summary | inputs |\n|---|---:|")
-    for reason, many in reasons.most_common():
+    for reason, many in tally.reasons.most_common():
         print("| %s | %d |" % (reason, many))
-    return 1 if wrong else 0
+    return 1 if tally.wrong else 0
 
 
 if __name__ == "__main__":

@@ -4,7 +4,7 @@ ghost use Rattle.std.specs.Prelude.{◌≤◌};
 use crate::calls::words;
 use jfr_cli::run;
 use jfr_fixtures::{PLAIN, RINGS, STRINGS, inert, with_classes};
-use jfr_outside::{Call, MemoryPlace, MemorySink};
+use jfr_outside::{Call, MemoryPlace, MemorySink, Place};
 use jfr_sample::sample;
 use std::alloc::Global;
 use std::process::Abort;
@@ -235,17 +235,36 @@ fn parts_come_back(rt: HostRuntime) -> Result<(), Fail> {
     Ok(())
 }
 
+// The second part can't be created: the first one, of so many chunks, is whole and was finished, so that the next
+// output that is finished is the second.
+fn see_first_part(rt: &impl Abort, alloc: Global, chunks: &str, size: usize) -> Result<(), Fail> {
+    let mut place = three_chunks(alloc)?;
+    place.fail(Call::Create, 2, 0)?;
+    place.fail(Call::Finish, 2, 0)?;
+    let line = &[
+        "disassemble",
+        "--output",
+        "d",
+        "--max-chunks",
+        chunks,
+        "r.jfr",
+    ];
+    says(rt, alloc, &mut place, line, 4, "", "write fault\n")?;
+    have(
+        rt,
+        &place,
+        &[("d/r_000001.jfr", Some(size)), ("d/r_000002.jfr", None)],
+    );
+    assert!(rt; place.create_output("other").is_ok());
+    assert!(rt; place.finish_output().is_err());
+    Ok(())
+}
+
 // Calls of the outside that fail, and what stands then.
 #[test]
 fn faults_of_parts_are_told(rt: HostRuntime) -> Result<(), Fail> {
-    let mut place = three_chunks(rt.alloc())?;
-    place.fail(Call::Create, 2, 0)?;
-    says(&rt, rt.alloc(), &mut place, SPLIT, 4, "", "write fault\n")?;
-    have(
-        &rt,
-        &place,
-        &[("d/r_000001.jfr", Some(206)), ("d/r_000002.jfr", None)],
-    );
+    see_first_part(&rt, rt.alloc(), "1", 103)?;
+    see_first_part(&rt, rt.alloc(), "2", 206)?;
     for (call, nth, size) in [(Call::List, 1, None), (Call::Open, 2, Some(103))] {
         let mut place = MemoryPlace::new(rt.alloc());
         place.put("d/a.jfr", &PLAIN)?;

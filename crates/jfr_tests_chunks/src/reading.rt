@@ -76,12 +76,13 @@ fn events_end_with_their_last_field(rt: HostRuntime) -> Result<(), Fail> {
 // The places of bytes and what they become, and the flaw.
 type Edit = (&'static [(usize, u8)], u64, Reason);
 
-const EDITS_OF_PLAIN: [Edit; 13] = [
+const EDITS_OF_PLAIN: [Edit; 14] = [
     (&[(96, 8)], 96, Reason::RecordSize),
     (&[(96, 1)], 96, Reason::RecordSize),
     (&[(31, 69)], 24, Reason::MetadataPosition),
     (&[(23, 68)], 16, Reason::PoolPosition),
     (&[(100, 1)], 100, Reason::ChainDelta),
+    (&[(73, 0x7F)], 96, Reason::Short),
     (&[(74, 2)], 74, Reason::StringKind),
     (&[(74, 6)], 74, Reason::StringKind),
     (&[(90, 2)], 90, Reason::StringIndex),
@@ -92,7 +93,7 @@ const EDITS_OF_PLAIN: [Edit; 13] = [
     (&[(74, 2), (100, 1)], 100, Reason::ChainDelta),
 ];
 
-const EDITS_OF_RINGS: [Edit; 11] = [
+const EDITS_OF_RINGS: [Edit; 13] = [
     (&[(250, 9)], 245, Reason::ClassBad),
     (&[(257, 15)], 252, Reason::ClassTwice),
     (&[(280, 21)], 275, Reason::FieldBad),
@@ -101,6 +102,8 @@ const EDITS_OF_RINGS: [Edit; 11] = [
     (&[(248, 13)], 291, Reason::EmptyInline),
     (&[(272, 8)], 259, Reason::InlineDeep),
     (&[(340, 10)], 340, Reason::PoolType),
+    (&[(341, 5)], 362, Reason::Short),
+    (&[(341, 3)], 357, Reason::Trailing),
     (&[(332, 0x83)], 332, Reason::Short),
     (&[(250, 9), (340, 10)], 245, Reason::ClassBad),
     (&[(332, 0x83), (340, 10)], 340, Reason::PoolType),

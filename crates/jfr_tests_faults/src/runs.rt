@@ -1,12 +1,18 @@
 // Runs of a command over a place in memory, and what they leave there.
 use jfr_cli::run;
 use jfr_fixtures::{RINGS, STRINGS, with_classes};
-use jfr_outside::{Call, MemoryPlace, MemorySink, Words};
+use jfr_outside::{Call, MemoryPlace, MemorySink, Place, Words};
 use std::alloc::Global;
 use std::test::Fail;
 
 /// The names of all outputs that the commands of these tests make.
 pub(crate) const OUTPUTS: [&str; 4] = ["b.jfr", "p/a_000001.jfr", "p/a_000002.jfr", "o.jfr"];
+
+/// How many bytes the first chunk has.
+pub(crate) const FIRST: usize = 362;
+
+/// How many bytes both chunks have.
+pub(crate) const BOTH: usize = 717;
 
 /// Where a run is to fail: at the nth call of a kind of the place, or at the nth write of the output stream.
 #[derive(Clone, Copy)]
@@ -29,6 +35,28 @@ impl Run {
     /// An output file, where it is there.
     pub(crate) fn file(&self, name: &str) -> Option<&[u8]> {
         self.place.file(name)
+    }
+
+    /// Whether an output file is there.
+    pub(crate) fn has_file(&self) -> bool {
+        for name in OUTPUTS.iter() {
+            if self.file(name).is_some() {
+                return true;
+            }
+        }
+        false
+    }
+
+    /// How many bytes of the open input were not taken; none where no input is open. They are taken then.
+    pub(crate) fn bytes_left(&mut self) -> Option<usize> {
+        let mut rest = [0; BOTH];
+        self.place.cut(BOTH);
+        self.place.read(&mut rest).ok()
+    }
+
+    /// Whether an output is open. It is finished then.
+    pub(crate) fn has_open_output(&mut self) -> bool {
+        self.place.finish_output().is_ok()
     }
 }
 

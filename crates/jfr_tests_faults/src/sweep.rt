@@ -1,203 +1,227 @@
-// Each kind of call fails, at its first time, at its second and so on, until a run meets no failure.
-use crate::runs::{Fault, OUTPUTS, Run, run_once};
+// Each call of each command fails in turn, keeping nothing or ten bytes.
+use crate::left::{Command, Left, is_left, leaves_same};
+use crate::runs::{BOTH, FIRST, Fault, Run, run_once};
 use jfr_outside::Call;
 use std::alloc::Global;
 use std::process::Abort;
 use std::test::Fail;
 
-// A command; whether its text comes at the end alone; and how often it opens an input, creates, appends to and
-// finishes an output, lists a folder, and writes to the output stream, over two chunks.
+// A command over two chunks; for each file that it reads, how many bytes each read gives; and what stands after each
+// call that fails: those of `KINDS`, and the writes to the output stream.
 struct Case {
-    words: &'static [&'static str],
-    at_end: bool,
-    calls: [u64; 5],
-    writes: u64,
+    command: Command,
+    reads: &'static [&'static [usize]],
+    calls: [&'static [Left]; 5],
+    writes: &'static [Left],
 }
-
-#[rattlefmt::skip]
-static CASES: [Case; 9] = [
-    Case { words: &["print", "a.jfr"], at_end: false, calls: [1, 0, 0, 0, 0], writes: 2 },
-    Case { words: &["print", "--json", "--depth", "8", "a.jfr"], at_end: false, calls: [1, 0, 0, 0, 0], writes: 2 },
-    Case { words: &["summary", "a.jfr"], at_end: true, calls: [1, 0, 0, 0, 0], writes: 1 },
-    Case { words: &["metadata", "a.jfr"], at_end: false, calls: [1, 0, 0, 0, 0], writes: 2 },
-    Case { words: &["scrub", "a.jfr", "b.jfr"], at_end: false, calls: [1, 1, 2, 1, 0], writes: 0 },
-    Case { words: &["scrub", "--exclude-events", "B", "a.jfr", "b.jfr"], at_end: false, calls: [1, 1, 2, 1, 0], writes: 0 },
-    Case { words: &["disassemble", "--output", "p", "--max-chunks", "1", "a.jfr"], at_end: false, calls: [1, 2, 2, 2, 0], writes: 0 },
-    Case { words: &["assemble", "d", "o.jfr"], at_end: false, calls: [2, 1, 2, 1, 1], writes: 0 },
-    Case { words: &["sample", "3", "5"], at_end: true, calls: [0, 0, 0, 0, 0], writes: 1 },
-];
 
 static KINDS: [Call; 5] = [
     Call::Open,
+    Call::List,
     Call::Create,
     Call::Append,
     Call::Finish,
-    Call::List,
 ];
 
-// More often than that no run calls anything.
-const MOST: u64 = 200;
+// A read gives at most 50 bytes: first of the 68 of a header, then of what its chunk lacks, and none at the end.
+const OF_BOTH: &[usize] = &[
+    50, 18, 50, 50, 50, 50, 50, 44, 50, 18, 50, 50, 50, 50, 50, 37, 0,
+];
 
-// Whether bytes are the first ones of others.
-fn is_start(part: &[u8], whole: &[u8]) -> bool {
-    if part.len() > whole.len() {
-        return false;
+const OF_FIRST: &[usize] = &[50, 18, 50, 50, 50, 50, 50, 44, 0];
+
+const OF_SECOND: &[usize] = &[50, 18, 50, 50, 50, 50, 50, 37, 0];
+
+const ONCE: &[Left] = &[Left::Nothing];
+
+const EACH: &[Left] = &[Left::PartOf(1), Left::PartOf(2)];
+
+const WHOLE: &[Left] = &[Left::Chunks(2)];
+
+const TEXT: &[Left] = &[Left::PartOf(2)];
+
+#[rattlefmt::skip]
+static CASES: [Case; 9] = [
+    Case {
+        command: Command { words: &["print", "a.jfr"], at_end: false },
+        reads: &[OF_BOTH], calls: [ONCE, &[], &[], &[], &[]], writes: EACH,
+    },
+    Case {
+        command: Command { words: &["print", "--json", "--depth", "8", "a.jfr"], at_end: false },
+        reads: &[OF_BOTH], calls: [ONCE, &[], &[], &[], &[]], writes: EACH,
+    },
+    Case {
+        command: Command { words: &["summary", "a.jfr"], at_end: true },
+        reads: &[OF_BOTH], calls: [ONCE, &[], &[], &[], &[]], writes: TEXT,
+    },
+    Case {
+        command: Command { words: &["metadata", "a.jfr"], at_end: false },
+        reads: &[OF_BOTH], calls: [ONCE, &[], &[], &[], &[]], writes: EACH,
+    },
+    Case {
+        command: Command { words: &["scrub", "a.jfr", "b.jfr"], at_end: false },
+        reads: &[OF_BOTH], calls: [ONCE, &[], ONCE, EACH, WHOLE], writes: &[],
+    },
+    Case {
+        command: Command { words: &["scrub", "--exclude-events", "B", "a.jfr", "b.jfr"], at_end: false },
+        reads: &[OF_BOTH], calls: [ONCE, &[], ONCE, EACH, WHOLE], writes: &[],
+    },
+    Case {
+        command: Command { words: &["disassemble", "--output", "p", "--max-chunks", "1", "a.jfr"], at_end: false },
+        reads: &[OF_BOTH],
+        calls: [ONCE, &[], &[Left::Nothing, Left::Chunks(1)], EACH, &[Left::Chunks(1), Left::Chunks(2)]],
+        writes: &[],
+    },
+    Case {
+        command: Command { words: &["assemble", "d", "o.jfr"], at_end: false },
+        reads: &[OF_FIRST, OF_SECOND],
+        calls: [&[Left::Chunks(0), Left::Chunks(1)], ONCE, ONCE, EACH, WHOLE],
+        writes: &[],
+    },
+    Case {
+        command: Command { words: &["sample", "3", "5"], at_end: true },
+        reads: &[], calls: [&[], &[], &[], &[], &[]], writes: TEXT,
+    },
+];
+
+// The status and the line of a run in which such a call fails.
+fn answer_to(fault: Fault) -> (u8, &'static str) {
+    match fault {
+        Fault::Of(Call::Open | Call::Read | Call::List, _) => (3, "read fault\n"),
+        _ => (4, "write fault\n"),
     }
-    part == &whole[..part.len()]
 }
 
-// Whether a file isn't there, or has the first bytes of another.
-fn is_start_of(part: Option<&[u8]>, whole: Option<&[u8]>) -> bool {
-    match (part, whole) {
-        (None, _) => true,
-        (Some(_), None) => false,
-        (Some(part), Some(whole)) => is_start(part, whole),
-    }
-}
-
-// Whether a file has the same bytes as another, or neither is there.
-fn is_same(file: Option<&[u8]>, other: Option<&[u8]>) -> bool {
-    match (file, other) {
-        (None, None) => true,
-        (Some(file), Some(other)) => file == other,
+// Whether no output is open after such a call fails.
+fn closes_output(fault: Fault) -> bool {
+    match fault {
+        Fault::Of(Call::Create | Call::Finish, _) => true,
         _ => false,
     }
 }
 
-// Whether the output stream and each file have the first bytes of another run's.
-fn begins(run: &Run, whole: &Run) -> bool {
-    for name in OUTPUTS.iter() {
-        if !is_start_of(run.file(name), whole.file(name)) {
-            return false;
-        }
-    }
-    is_start(run.out.bytes(), whole.out.bytes())
+// A run in which a call fails: its status, its line, and what stands.
+fn see_fault(
+    rt: &impl Abort,
+    alloc: Global,
+    command: &Command,
+    fault: Fault,
+    left: Left,
+    keep: usize,
+) -> Result<Run, Fail> {
+    let mut run = run_once(alloc, command.words, 2, fault, keep)?;
+    let (status, line) = answer_to(fault);
+    assert_eq!(rt; run.status, status);
+    assert_eq!(rt; run.err.bytes(), line.as_bytes());
+    let stands = is_left(alloc, command, &run, left, keep)?;
+    assert!(rt; stands);
+    let open = run.has_file() && !closes_output(fault);
+    assert_eq!(rt; run.has_open_output(), open);
+    Ok(run)
 }
 
-// Whether each file is the same as another run's.
-fn has_files_of(run: &Run, other: &Run) -> bool {
-    for name in OUTPUTS.iter() {
-        if !is_same(run.file(name), other.file(name)) {
-            return false;
-        }
-    }
-    true
-}
-
-// Whether nothing stands of a run.
-fn is_nothing(run: &Run) -> bool {
-    for name in OUTPUTS.iter() {
-        if run.file(name).is_some() {
-            return false;
-        }
-    }
-    run.out.bytes().is_empty()
-}
-
-// Whether a run over the whole recording leaves what one over its first chunks does, but for a text at the end.
-fn is_of_chunks(alloc: Global, case: &Case, run: &Run, chunks: usize) -> Result<bool, Fail> {
-    let first = run_once(alloc, case.words, chunks, Fault::Never, 0)?;
-    if !has_files_of(run, &first) {
-        return Ok(false);
-    }
-    if case.at_end {
-        return Ok(run.out.bytes().is_empty());
-    }
-    Ok(run.out.bytes() == first.out.bytes())
-}
-
-// After a failed read: the effects of the first chunks stand, or nothing.
-fn is_halted(alloc: Global, case: &Case, run: &Run) -> Result<bool, Fail> {
-    if is_nothing(run) {
-        return Ok(true);
-    }
-    for chunks in 0..3 {
-        if is_of_chunks(alloc, case, run, chunks)? {
-            return Ok(true);
-        }
-    }
-    Ok(false)
-}
-
-// Looks at a run whose read failed.
-fn see_halted(rt: &impl Abort, alloc: Global, case: &Case, run: &Run) -> Result<(), Fail> {
-    assert_eq!(rt; run.status, 3);
-    assert_eq!(rt; run.err.bytes(), b"read fault\n".as_slice());
-    let halted = is_halted(alloc, case, run)?;
-    assert!(rt; halted);
+// A run that makes fewer calls than the one that were to fail: it is done.
+fn see_whole(rt: &impl Abort, alloc: Global, command: &Command, fault: Fault) -> Result<(), Fail> {
+    let run = run_once(alloc, command.words, 2, fault, 0)?;
+    assert_eq!(rt; run.status, 0);
+    assert!(rt; run.err.bytes().is_empty());
+    let whole = run_once(alloc, command.words, 2, Fault::Never, 0)?;
+    assert!(rt; leaves_same(&run, &whole));
     Ok(())
 }
 
-// Looks at a run whose write failed: a part of what the whole run leaves stands.
-fn see_broken(rt: &impl Abort, run: &Run, whole: &Run) {
-    assert_eq!(rt; run.status, 4);
-    assert_eq!(rt; run.err.bytes(), b"write fault\n".as_slice());
-    assert!(rt; begins(run, whole));
-}
-
-// Whether a run met no failure, and left what the whole run leaves.
-fn is_whole(run: &Run, whole: &Run) -> bool {
-    if run.status != 0 || !run.err.bytes().is_empty() {
-        return false;
-    }
-    has_files_of(run, whole) && run.out.bytes() == whole.out.bytes()
-}
-
-// How many calls of a kind a run makes: each of them fails once.
-fn count_calls(
+// Each call of a kind fails.
+fn see_calls(
     rt: &impl Abort,
     alloc: Global,
-    case: &Case,
-    whole: &Run,
+    command: &Command,
     call: Call,
+    lefts: &[Left],
     keep: usize,
-) -> Result<u64, Fail> {
-    for nth in 1..MOST {
-        let run = run_once(alloc, case.words, 2, Fault::Of(call, nth), keep)?;
-        if is_whole(&run, whole) {
-            return Ok(nth - 1);
-        }
-        match call {
-            Call::Open | Call::Read | Call::List => see_halted(rt, alloc, case, &run)?,
-            Call::Create | Call::Append | Call::Finish => see_broken(rt, &run, whole),
-        }
+) -> Result<(), Fail> {
+    let mut nth = 1u64;
+    for left in lefts {
+        see_fault(rt, alloc, command, Fault::Of(call, nth), *left, keep)?;
+        nth = nth.saturating_add(1);
     }
-    Ok(MOST)
+    see_whole(rt, alloc, command, Fault::Of(call, nth))
 }
 
-// How many writes to the output stream a run makes: each of them fails once.
-fn count_writes(
+// Each write to the output stream fails.
+fn see_writes(
     rt: &impl Abort,
     alloc: Global,
-    case: &Case,
-    whole: &Run,
+    command: &Command,
+    lefts: &[Left],
     keep: usize,
-) -> Result<u64, Fail> {
-    for nth in 1..MOST {
-        let run = run_once(alloc, case.words, 2, Fault::Write(nth), keep)?;
-        if is_whole(&run, whole) {
-            return Ok(nth - 1);
-        }
-        see_broken(rt, &run, whole);
+) -> Result<(), Fail> {
+    let mut nth = 1u64;
+    for left in lefts {
+        see_fault(rt, alloc, command, Fault::Write(nth), *left, keep)?;
+        nth = nth.saturating_add(1);
     }
-    Ok(MOST)
+    see_whole(rt, alloc, command, Fault::Write(nth))
 }
 
-// Each call of a command fails, keeping nothing or ten bytes.
-fn see_case(rt: &impl Abort, alloc: Global, case: &Case) -> Result<(), Fail> {
-    let whole = run_once(alloc, case.words, 2, Fault::Never, 0)?;
-    assert_eq!(rt; whole.status, 0);
-    for keep in [0, 10] {
-        for (number, call) in KINDS.iter().enumerate() {
-            let count = count_calls(rt, alloc, case, &whole, *call, keep)?;
-            assert_eq!(rt; Some(&count), case.calls.get(number));
-        }
-        let writes = count_writes(rt, alloc, case, &whole, keep)?;
-        assert_eq!(rt; writes, case.writes);
+// How many chunks lie whole in so many bytes of the recording.
+fn chunks_in(bytes: usize) -> usize {
+    if bytes < FIRST {
+        0
+    } else if bytes < BOTH {
+        1
+    } else {
+        2
     }
-    let reads = count_calls(rt, alloc, case, &whole, Call::Read, 0)?;
-    assert!(rt; reads < MOST);
+}
+
+// A read fails after so many bytes of the recording were taken: the chunks among them stand, and of the file that is
+// open so many bytes are left.
+fn see_read(
+    rt: &impl Abort,
+    alloc: Global,
+    command: &Command,
+    nth: u64,
+    taken: usize,
+    rest: usize,
+) -> Result<(), Fail> {
+    let left = Left::Chunks(chunks_in(taken));
+    let mut run = see_fault(rt, alloc, command, Fault::Of(Call::Read, nth), left, 0)?;
+    assert_eq!(rt; run.bytes_left(), Some(rest));
     Ok(())
+}
+
+// The sum of sizes.
+fn total(sizes: &[usize]) -> usize {
+    let mut total = 0usize;
+    for size in sizes {
+        total = total.saturating_add(*size);
+    }
+    total
+}
+
+// Each read of each file fails.
+fn see_reads(rt: &impl Abort, alloc: Global, case: &Case) -> Result<(), Fail> {
+    let mut nth = 1u64;
+    let mut taken = 0usize;
+    for file in case.reads {
+        for at in 0..file.len() {
+            see_read(rt, alloc, &case.command, nth, taken, total(&file[at..]))?;
+            taken = taken.saturating_add(file[at]);
+            nth = nth.saturating_add(1);
+        }
+    }
+    see_whole(rt, alloc, &case.command, Fault::Of(Call::Read, nth))
+}
+
+// Each call of a command fails.
+fn see_case(rt: &impl Abort, alloc: Global, case: &Case) -> Result<(), Fail> {
+    for keep in [0, 10] {
+        for (call, lefts) in KINDS.iter().zip(case.calls.iter()) {
+            see_calls(rt, alloc, &case.command, *call, lefts, keep)?;
+        }
+        see_writes(rt, alloc, &case.command, case.writes, keep)?;
+    }
+    see_reads(rt, alloc, case)
 }
 
 #[test]
