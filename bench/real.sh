@@ -1,77 +1,142 @@
 #!/bin/bash
-# Scrubs recordings and checks what comes out: bench/real.sh PROGRAM FILE..
+# Times each command on recordings beside the JDK's, and checks what comes out: bench/real.sh PROGRAM FILE..
 #
-# For each file: the scrub ends with status 0; a scrub of its output gives the same bytes; the JDK's own
-# `jfr summary` counts the same events in both. Prints a table: bytes in and out; seconds, MB/s and peak
-# memory of the scrub; seconds of a scrub that keeps the most frequent type of event alone; and the
-# seconds of `cp`, of `jfr summary`, and of `jfr scrub` where the JDK has it, with how many times as long
-# that takes. Seconds are the least of five runs; the two scrubs take turns, so that both meet a shared
-# machine in the same minutes. The JDK is the one whose `jfr` is on the PATH, or in the folder JFR_BIN.
-# Says what it skipped where a tool is missing.
+# For each file: each command ends with status 0. A scrub of a scrub's output gives the same bytes. The JDK's own
+# `jfr summary` counts the same events in the file, in what a scrub without options made of it and in its parts
+# together; in a scrub that keeps the most frequent type of event alone it counts those; and `summary` tells the
+# same counts. The parts joined are the file again, byte for byte. On a file of less than a megabyte the values of
+# `print --json` are those that the JDK prints (values.py).
+#
+# Prints a row for each command: seconds, MB of the file a second, bytes written to the output stream or to files,
+# peak memory, and the seconds of the JDK's command, with how many times as long that takes. Seconds are the least of
+# five runs, or of RUNS; the two take turns, so that both meet a shared machine in the same minutes; texts go to
+# /dev/null. The row `cp` is a copy of the file, for comparison. With ONLY, a pattern as 'scrub*', just the rows whose
+# command it matches. The JDK is the one whose `jfr` is on the PATH, or in the folder JFR_BIN. Says what it skips
+# where a tool is missing.
 set -u
 program=$(realpath "$1"); shift
+here=$(dirname "$(readlink -f "$0")")
 jdk=${JFR_BIN:+$JFR_BIN/}jfr
 work=$(mktemp -d); trap 'rm -rf "$work"' EXIT
+made=$work/made
 bad=0
 
-# The status and the seconds of one run of a command that writes the file named first, in `status` and
-# `took`.
+fail() { echo "$name: $*"; bad=1; }
+
+# One run of a command whose text goes to the file named first, and which may write files to the folder `made`: its
+# status and its seconds, in `status` and `took`.
 once() {
-    local made=$1 from to; shift
-    rm -f "$made"
-    from=$(date +%s.%N); "$@" >"$work/said" 2>&1; status=$?; to=$(date +%s.%N)
+    local text=$1 from to; shift
+    rm -rf "$made"; mkdir "$made"
+    from=$(date +%s.%N); "$@" >"$text" 2>"$work/errors"; status=$?; to=$(date +%s.%N)
     took=$(awk "BEGIN { printf \"%.3f\", $to - $from }")
 }
 
 # The lesser of two numbers of seconds, of which the first may be missing.
 lesser() { awk "BEGIN { print (\"$1\" == \"\" || $2 < \"$1\" + 0) ? \"$2\" : \"$1\" }"; }
 
-# The least seconds of five such runs, in `seconds`.
-timed() {
-    seconds=
-    for _ in 1 2 3 4 5; do once "$@"; seconds=$(lesser "$seconds" "$took"); done
+# The least seconds of the JDK's runs in turn with those of this program, in `theirs` and `ours`. The words up to `--`
+# are this program's command, those behind it the JDK's; where there are none, or its command ends with another status
+# than 0, it has no seconds.
+race() {
+    local mine=() its=()
+    ours='' theirs=''
+    while [ $# -gt 0 ] && [ "$1" != -- ]; do mine+=("$1"); shift; done
+    [ -z "$has_jfr" ] || its=("${@:2}")
+    for ((round = 0; round < ${RUNS:-5}; round++)); do
+        if [ ${#its[@]} -gt 0 ]; then
+            once /dev/null "$jdk" "${its[@]}"
+            if [ "$status" = 0 ]; then theirs=$(lesser "$theirs" "$took"); else its=() theirs=''; fi
+        fi
+        once /dev/null "${mine[@]}"; ours=$(lesser "$ours" "$took")
+        [ "$status" = 0 ] || return
+    done
 }
 
-# The events of a recording and their numbers, without the records of metadata and checkpoints.
-counts() { "$jdk" summary "$1" | awk 'NF == 3 && $2 > 0 && $1 != "jdk.Metadata" && $1 != "jdk.CheckPoint" { print $1, $2 }' | sort; }
+# A row: a label, and what `race` takes, without the program. What was written stands in `text` and in `made` then.
+# Fails where the row isn't asked for, or the command has another status than 0.
+row() {
+    local label=$1 peak=- times=- mine=(); shift
+    # shellcheck disable=SC2053 # ONLY is a pattern
+    [[ $label == ${ONLY:-*} ]] || return 1
+    race "$program" "$@"
+    if [ "$status" != 0 ]; then fail "status $status of $label: $(cat "$work/errors")"; return 1; fi
+    while [ $# -gt 0 ] && [ "$1" != -- ]; do mine+=("$1"); shift; done
+    if [ -n "$has_time" ]; then
+        once "$work/text" /usr/bin/time -o "$work/peak" -f %M "$program" "${mine[@]}"
+        peak=$(awk '{ printf "%.0f", $1 / 1024 }' "$work/peak")
+    else
+        once "$work/text" "$program" "${mine[@]}"
+    fi
+    [ -z "$theirs" ] || times=$(awk "BEGIN { printf \"%.1f\", $theirs / ($ours > 0 ? $ours : 0.001) }")
+    echo "| $name | $label | $ours | $(speed "$ours") | $(written) | $peak | ${theirs:--} | $times |"
+}
+
+# MB of the file in a second.
+speed() { awk "BEGIN { printf \"%.0f\", $size / 1000000 / ($1 > 0 ? $1 : 0.001) }"; }
+
+# How many bytes stand in `text` and in `made`.
+written() { find "$work/text" "$made" -type f -printf '%s\n' | awk '{ sum += $1 } END { print sum + 0 }'; }
+
+# The events of recordings and their numbers together, as the JDK counts them, without the records of metadata and
+# checkpoints.
+counts() {
+    for one in "$@"; do "$jdk" summary "$one"; done |
+        awk 'NF == 3 && $2 > 0 && $1 !~ /:$/ && tolower($1) !~ /^jdk\.(metadata|checkpoint)$/ { sum[$1] += $2 }
+             END { for (type in sum) print type, sum[type] }' | sort
+}
+
+# Compares events and their numbers: those of the file, and others of this name.
+same_counts() { diff "$1" "$2" >"$work/diff" || { fail "other events: $3"; head -n 10 "$work/diff"; }; }
+
+# All commands on a file.
+commands() {
+    local parts=$work/parts type=''
+    if [ -n "$has_jfr" ]; then
+        counts "$file" >"$work/counts"
+        type=$(sort -k2 -n -r "$work/counts" | head -1 | cut -d' ' -f1)
+        grep "^$type " "$work/counts" >"$work/one"
+    fi
+    if row scrub scrub "$file" "$made/out.jfr" -- scrub "$file" "$made/jdk.jfr"; then
+        mv "$made/out.jfr" "$work/out.jfr"; rm -f "$work/again.jfr"
+        "$program" scrub "$work/out.jfr" "$work/again.jfr"
+        cmp -s "$work/out.jfr" "$work/again.jfr" || fail "a second scrub differs"
+        [ -z "$has_jfr" ] || same_counts "$work/counts" <(counts "$work/out.jfr") scrub
+    fi
+    if [ -n "$type" ] && row "scrub of one type" scrub --include-events "$type" "$file" "$made/out.jfr" -- scrub --include-events "$type" "$file" "$made/jdk.jfr"; then
+        same_counts "$work/one" <(counts "$made/out.jfr") "scrub of $type"
+    fi
+    for depth in 0 1 2; do row "print --depth $depth" print --depth $depth "$file" -- print "$file"; done
+    row "print --json" print --json "$file" -- print --json "$file"
+    row metadata metadata "$file" -- metadata "$file"
+    if row summary summary "$file" -- summary "$file" && [ -n "$has_jfr" ]; then
+        same_counts "$work/counts" <(awk 'NF == 3 && $2 > 0 { print $1, $2 }' "$work/text" | sort) summary
+    fi
+    if row disassemble disassemble --output "$made" --max-chunks 1 "$file" -- disassemble --output "$made" --max-chunks 1 "$file"; then
+        rm -rf "$parts"; mv "$made" "$parts"
+        [ -z "$has_jfr" ] || same_counts "$work/counts" <(counts "$parts"/*) parts
+        if row assemble assemble "$parts" "$made/joined.jfr" -- assemble "$parts" "$made/joined.jfr"; then
+            cmp -s "$file" "$made/joined.jfr" || fail "other bytes come back from the parts"
+        fi
+    fi
+    if [ -n "$has_jfr" ] && [ "$size" -lt 1000000 ]; then
+        "$program" print --json "$file" >"$work/ours"; "$jdk" print --json "$file" >"$work/theirs"
+        python3 "$here/values.py" "$work/ours" "$work/theirs" || fail "other values"
+    fi
+    race cp "$file" "$made/copy.jfr"
+    echo "| $name | cp | $ours | $(speed "$ours") | $size | - | - | - |"
+}
 
 has_jfr=$(command -v "$jdk" || true)
 [ -n "$has_jfr" ] || echo "skipped: the JDK's jfr isn't there"
-has_scrub=
-if [ -n "$has_jfr" ] && "$jdk" help scrub >/dev/null 2>&1; then has_scrub=1; else echo "skipped: no jfr scrub (JDK 19 or later)"; fi
-has_time=$([ -x /usr/bin/time ] && echo 1 || true)
+if [ -n "$has_jfr" ] && ! "$jdk" help scrub >/dev/null 2>&1; then echo "skipped: no jfr scrub (JDK 19 or later)"; fi
+has_time=$(command -v /usr/bin/time || true)
 [ -n "$has_time" ] || echo "skipped: peak memory (no /usr/bin/time)"
 
-echo "| file | bytes in | bytes out | seconds | MB/s | peak MB | one type | cp | jfr summary | jfr scrub | times |"
-echo "|---|---:|---:|---:|---:|---:|---:|---:|---:|---:|---:|"
+echo "| file | command | seconds | MB/s | bytes written | peak MB | the JDK's | times |"
+echo "|---|---|---:|---:|---:|---:|---:|---:|"
 for file in "$@"; do
-    name=$(basename "$file"); out=$work/out.jfr; again=$work/again.jfr
-    ours= scrub= times=-
-    for _ in 1 2 3 4 5; do
-        once "$out" "$program" scrub "$file" "$out"; ours=$(lesser "$ours" "$took")
-        [ "$status" = 0 ] || break
-        [ -n "$has_scrub" ] || continue
-        once "$work/jdk.jfr" "$jdk" scrub "$file" "$work/jdk.jfr"; scrub=$(lesser "$scrub" "$took")
-        status=0
-    done
-    [ "$status" = 0 ] || { echo "$name: status $status: $(cat "$work/said")"; bad=1; continue; }
-    [ -z "$scrub" ] || times=$(awk "BEGIN { printf \"%.1f\", $scrub / ($ours > 0 ? $ours : 0.001) }")
-    rm -f "$again"
-    "$program" scrub "$out" "$again" && cmp -s "$out" "$again" || { echo "$name: a second scrub differs"; bad=1; }
-    peak=-
-    if [ -n "$has_time" ]; then
-        rm -f "$again"
-        peak=$(/usr/bin/time -f %M "$program" scrub "$file" "$again" 2>&1 | awk '{ printf "%.0f", $1 / 1024 }')
-    fi
-    timed "$work/copy.jfr" cp "$file" "$work/copy.jfr"; copy=$seconds
-    one=- summary=-
-    if [ -n "$has_jfr" ]; then
-        counts "$file" >"$work/counts"
-        timed "$again" "$program" scrub --include-events "$(sort -k2 -n -r "$work/counts" | head -1 | cut -d' ' -f1)" "$file" "$again"; one=$seconds
-        timed "$work/none" "$jdk" summary "$file"; summary=$seconds
-        diff "$work/counts" <(counts "$out") >"$work/diff" || { echo "$name: other events"; cat "$work/diff"; bad=1; }
-    fi
-    in=$(stat -c %s "$file"); size=$(stat -c %s "$out")
-    echo "| $name | $in | $size | $ours | $(awk "BEGIN { printf \"%.0f\", $in / 1000000 / ($ours > 0 ? $ours : 0.001) }") | $peak | $one | $copy | $summary | ${scrub:--} | $times |"
+    name=$(basename "$file"); size=$(stat -c %s "$file")
+    commands
 done
 exit $bad

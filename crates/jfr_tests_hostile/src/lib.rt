@@ -1,11 +1,11 @@
-//! Tests of recordings that are cut anywhere, and of chunks that nest as deep as they may or have many
-//! constants and checkpoints.
+//! Tests of recordings that are cut anywhere, and of chunks whose classes nest as deep as they may or that have
+//! many checkpoints.
 #![tactic(auto)]
 
 #[cfg(test)]
-mod cuts;
+mod chains;
 #[cfg(test)]
-mod many;
+mod cuts;
 #[cfg(test)]
 mod nested;
 #[cfg(test)]

@@ -1,5 +1,5 @@
 // Classes that hold one another.
-use crate::scrubs::{record_of, see_scrub};
+use crate::scrubs::see_scrub;
 use jfr_fixtures::{NO_POOLS, plain_with};
 use std::alloc::{AllocError, Global};
 use std::test::Fail;
@@ -19,6 +19,18 @@ const LONG: [u8; 7] = [2, 2, 3, 6, 4, 7, 0];
 fn class_of(number: u8, inner: u8) -> [u8; 14] {
     let id = number.saturating_add(10);
     [2, 2, 3, 8, 4, id, 1, 5, 2, 3, 9, 2, inner, 0]
+}
+
+// A record of this body, its size spelled in four bytes.
+fn record_of(alloc: Global, body: &[u8]) -> Result<Vec<u8>, AllocError> {
+    let size = body.len().saturating_add(4);
+    let mut record = Vec::new(alloc);
+    record.push((size % 128) as u8 | 0x80)?;
+    record.push((size / 128 % 128) as u8 | 0x80)?;
+    record.push((size / 16384 % 128) as u8 | 0x80)?;
+    record.push((size / 2097152 % 128) as u8)?;
+    record.extend_from_slice(body)?;
+    Ok(record)
 }
 
 // A chunk without events, whose metadata has `long` and so many classes from 100 on, each with an inline field of

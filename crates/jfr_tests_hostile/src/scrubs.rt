@@ -1,7 +1,7 @@
 // Scrubs over a place in memory.
 use jfr_cli::run;
 use jfr_outside::{MemoryPlace, MemorySink, Words};
-use std::alloc::{AllocError, Global};
+use std::alloc::Global;
 use std::process::Abort;
 use std::test::Fail;
 
@@ -30,16 +30,4 @@ pub(crate) fn see_scrub(
     assert_eq!(rt; err.bytes(), line.as_bytes());
     assert_eq!(rt; place.file("b.jfr"), Some(output));
     Ok(())
-}
-
-/// A record of this body, its size spelled in four bytes.
-pub(crate) fn record_of(alloc: Global, body: &[u8]) -> Result<Vec<u8>, AllocError> {
-    let size = body.len().saturating_add(4);
-    let mut record = Vec::new(alloc);
-    record.push((size % 128) as u8 | 0x80)?;
-    record.push((size / 128 % 128) as u8 | 0x80)?;
-    record.push((size / 16384 % 128) as u8 | 0x80)?;
-    record.push((size / 2097152 % 128) as u8)?;
-    record.extend_from_slice(body)?;
-    Ok(record)
 }

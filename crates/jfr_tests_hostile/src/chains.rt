@@ -1,47 +1,10 @@
-// Chunks with many constants, and with many checkpoints.
-use crate::scrubs::{record_of, see_scrub};
-use jfr_base::write_var;
+// Chunks with many checkpoints.
+use crate::scrubs::see_scrub;
 use jfr_fixtures::{NO_POOLS, with_classes};
 use std::alloc::{AllocError, Global};
 use std::test::Fail;
 
-const NODES: u64 = 200_000;
-
 const CHECKPOINTS: u64 = 50_000;
-
-// An event of `t.A` with the node 1.
-const EVENT: [u8; 5] = [5, 8, 0xAC, 2, 1];
-
-// A checkpoint's type, start, duration, delta and type byte, and one pool, of `t.Node`.
-const ONE_POOL: [u8; 7] = [1, 0, 0, 0, 0, 1, 7];
-
-fn push_integer(bytes: &mut Vec<u8>, value: u64) -> Result<(), AllocError> {
-    let mut spelled = [0; 9];
-    let len = write_var(value, &mut spelled);
-    bytes.extend_from_slice(&spelled[..len])
-}
-
-// Nodes in order of their keys, with empty texts. From each to its next the key grows by 77,777, or falls as far as
-// it has to; since that number and theirs have no common factor, they are one ring.
-fn one_ring(alloc: Global) -> Result<Vec<u8>, AllocError> {
-    let mut body = Vec::from_slice(alloc, ONE_POOL.as_slice())?;
-    push_integer(&mut body, NODES)?;
-    for number in 0..NODES {
-        push_integer(&mut body, number + 1)?;
-        push_integer(&mut body, (number + 77_777) % NODES + 1)?;
-        body.push(1)?;
-    }
-    let mut records = Vec::from_slice(alloc, EVENT.as_slice())?;
-    records.extend_from_slice(&record_of(alloc, &body)?)?;
-    with_classes(alloc, &records, 330)
-}
-
-// All nodes are reached from one.
-#[test]
-fn a_long_ring_stays(rt: HostRuntime) -> Result<(), Fail> {
-    let ring = one_ring(rt.alloc())?;
-    see_scrub(&rt, rt.alloc(), &ring, 0, "", &ring)
-}
 
 // The first checkpoint of a chain, the second, and each one behind it.
 struct Chain {
