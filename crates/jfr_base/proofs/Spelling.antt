@@ -36,7 +36,7 @@ pub spell_spells : (v : ℕ) → Spells (spell v) v
 unfolding spell
 spell_spells v = let p = spelled_within 8 v in record { form = p.0; worth = sym p.1 }
 
--- no spelling of a number that is not smaller is shorter
+-- the shortest spelling is no longer than any spelling of the value or of a larger one
 shortest : (k v : ℕ) (b : List ℕ) → IsSpellingWithin k b → v ≤ worth_within k b → length (spell_within k v) ≤ length b
 shortest k v [] s h = absurd s
 shortest zero v (b ∷ bs) s h = omega arith
@@ -69,7 +69,7 @@ pub spell_most : (v : ℕ) → length (spell v) ≤ 9
 unfolding spell
 spell_most v = within_most 8 v
 
--- in as many bytes as a number that is not smaller was spelled in
+-- a value can be spelled in as many bytes as a larger one was
 spelled_as : (k v : ℕ) (b : List ℕ) → IsSpellingWithin k b → v ≤ worth_within k b → IsOf k v (spell_as (length b) v) × (length (spell_as (length b) v) ≡ length b)
 spelled_as k v [] s h = absurd s
 spelled_as zero v (b ∷ []) s h = ((refl, refl), refl)

@@ -1,4 +1,4 @@
--- A format is a tree of units: which unit comes next is decided by the values of those before it.
+-- A format says which units stand one after another, as an integer, a byte or a run of bytes. The values of the units that were read decide which one comes next.
 use Rattle.std.specs.Prelude.{◌≡◌, ℕ, zero, suc, ◌+◌, ◌<◌, ◌≤◌, List, [], ◌∷◌, ◌++◌, length, Option, Some, None, ◌⊎◌, Result, Ok, Err, nat_lt, nat_le, slice_range, slice_index, if◌then◌else◌, ⊤}
 use Rattle.std.specs.Option.{option_map}
 use Rattle.jfr_base.specs.declared.reason.Reason.{Reason}
@@ -10,7 +10,7 @@ use Rattle.jfr_base.specs.Integer.{IntAt, Spells, worth_within}
 pub data Format (A : Type 0) : Type 0 where
   -- the value is this, whatever follows
   Done : (value : A) → Format A
-  -- no bytes are left
+  -- the bytes end here
   Stop : (next : Format A) → Format A
   -- an integer; a check says for what reason it is faulty, or none
   Int : (check : ℕ → Option Reason) → (next : ℕ → List ℕ → Format A) → Format A
@@ -33,7 +33,7 @@ abbrev pub ◌>>=◌ : {A B : Type 0} → Format A → (A → Format B) → Form
 (Here next) >>= g = Here (λ at. next at >>= g)
 (Refuse why) >>= g = Refuse why
 
--- the same, where what follows takes the bytes too; some were read before
+-- as >>=, where the next format also takes the bytes that the first one read, behind those in b
 abbrev pub with_bytes : {A B : Type 0} → List ℕ → Format A → (A → List ℕ → Format B) → Format B
 with_bytes b (Done a) g = g a b
 with_bytes b (Stop next) g = Stop (with_bytes b next g)
@@ -49,17 +49,17 @@ unchecked v = None
 abbrev pub integer : Format ℕ
 integer = Int unchecked (λ v s. Done v)
 
--- the values of so many, in order
+-- the format n times, one after another: the list of its values
 abbrev pub times : {A : Type 0} → ℕ → Format A → Format (List A)
 times zero f = Done []
 times (suc n) f = f >>= λ a. times n f >>= λ rest. Done (a ∷ rest)
 
--- one for each of the list, in order
+-- a format for each item of the list, one after another: the list of their values
 abbrev pub for_each : {X A : Type 0} → List X → (X → Format A) → Format (List A)
 for_each [] f = Done []
 for_each (x ∷ xs) f = f x >>= λ a. for_each xs f >>= λ rest. Done (a ∷ rest)
 
--- From a place of x the format gives the value, and ends at another place, before the end.
+-- The format, read in the bytes of x from the place `at` and not beyond `end`, gives the value and stops at the place `to`.
 abbrev pub Reads : {A : Type 0} → Format A → List ℕ → ℕ → ℕ → A → ℕ → Type 0
 Reads (Done a) x end at value to = (value ≡ a) × (to ≡ at)
 Reads (Stop next) x end at value to = (end ≤ at) × Reads next x end at value to
@@ -69,7 +69,7 @@ Reads (Run n next) x end at value to = (at + n ≤ end) × Reads (next (slice_ra
 Reads (Here next) x end at value to = Reads (next at) x end at value to
 Reads (Refuse why) x end at value to = ⊥
 
--- The units before the place o stand, and the one there is faulty for this reason.
+-- The format, read so, fails: all units before the place o are good, and the one at o is faulty for this reason.
 abbrev pub Fails : {A : Type 0} → Format A → List ℕ → ℕ → ℕ → ℕ → Reason → Type 0
 Fails (Done a) x end at o why = ⊥
 Fails (Stop next) x end at o why = ((at < end) × (o ≡ at) × (why ≡ Trailing)) ⊎ ((end ≤ at) × Fails next x end at o why)
@@ -110,7 +110,7 @@ abbrev pub checked : {A : Type 0} → ℕ → Option Reason → Answer A → Ans
 checked at None r = r
 checked at (Some why) r = refused at why
 
--- the length of the spelling at the front
+-- how many bytes the integer at the front of the list takes, where it ends in the list
 abbrev pub front_within : ℕ → List ℕ → Option ℕ
 front_within k [] = None
 front_within zero (b ∷ bs) = Some 1
@@ -120,7 +120,7 @@ front_within (suc k) (b ∷ bs) = if nat_lt b 128 then Some 1 else option_map (�
 unfoldable pub int_at : List ℕ → ℕ → ℕ → Option Var
 int_at x at end = option_map (λ n. record { value = worth_within 8 (slice_range x at (at + n)); end = at + n }) (front_within 8 (slice_range x at end))
 
--- what comes after an answer
+-- goes on from a value and the place after it; a flaw stays as it is
 abbrev pub on : {A B : Type 0} → Answer A → (A → ℕ → Answer B) → Answer B
 on (Ok g) f = f g.value g.place
 on (Err e) f = Err e

@@ -1,7 +1,7 @@
 -- A compressed integer: little-endian groups of seven bits, a ninth byte with eight.
 use Rattle.std.specs.Prelude.{◌≡◌, ℕ, zero, suc, ◌+◌, ◌*◌, ◌%◌, ◌/◌, ◌^◌, ◌<◌, ◌≤◌, ◌⊎◌, List, [], ◌∷◌, length, slice_range, nat_lt, if◌then◌else◌}
 
--- at most so many bytes of seven bits, and then one of eight, are left
+-- The bytes of an integer, of which at most k have seven bits of it: each of these but the last has its top bit set, and after k of them one more byte ends the integer.
 abbrev pub IsSpellingWithin : ℕ → List ℕ → Type 0
 IsSpellingWithin k [] = ⊥
 IsSpellingWithin zero (b ∷ bs) = bs ≡ []
@@ -32,7 +32,7 @@ spell_within (suc k) v = if nat_lt v 128 then v ∷ [] else (v % 128 + 128) ∷ 
 unfoldable pub spell : ℕ → List ℕ
 spell v = spell_within 8 v
 
--- in so many bytes, one or more
+-- the spelling in n bytes, of which there is at least one
 abbrev pub spell_as : ℕ → ℕ → List ℕ
 spell_as zero v = []
 spell_as (suc zero) v = v ∷ []

@@ -9,7 +9,7 @@ use Rattle.jfr_base.specs.Formats.{Format, Reads, Fails, run, refused}
 abbrev pub OneSpelling : Type 0
 OneSpelling = (a b x y : List ℕ) (v w : ℕ) → Spells a v → Spells b w → a ++ x ≡ b ++ y → (a ≡ b) × (v ≡ w)
 
--- no spelling of a value that isn't smaller is shorter
+-- no spelling of this value, or of a larger one, is shorter than the shortest
 abbrev pub IsShortest : ℕ → Type 0
 IsShortest value = (b : List ℕ) (w : ℕ) → Spells b w → value ≤ w → length (spell value) ≤ length b
 
@@ -31,7 +31,7 @@ pub record HasOneAnswer {A : Type 0} (f : Format A) (x : List ℕ) (end at : ℕ
   pub one_reading : (v w : A) (p q : ℕ) → Reads f x end at v p → Reads f x end at w q → (v ≡ w) × (p ≡ q)
   pub one_failure : (o p : ℕ) (why other : Reason) → Fails f x end at o why → Fails f x end at p other → (o ≡ p) × (why ≡ other)
 
--- That answer is the one that is computed.
+-- What a format reads or how it fails, as `Reads` and `Fails` say it, is what `run` computes.
 pub record IsComputed {A : Type 0} (f : Format A) (x : List ℕ) (end at : ℕ) : Type 0 where
   pub reads : (v : A) (to : ℕ) → Reads f x end at v to ↔ (run f x end at ≡ Ok (record { value = v; place = to }))
   pub fails : (o : ℕ) (why : Reason) → Fails f x end at o why ↔ (run f x end at ≡ refused o why)

@@ -5,14 +5,14 @@ ghost use Rattle.jfr_base.specs.declared.flaw.ReadFault.TheVariants.{Flawed, Mem
 use crate::{NoMemory, Reason};
 use std::alloc::{AllocError, AllocFailed};
 
-/// A fault of a chunk: the place, counted from the chunk's first byte, and the reason.
+/// Why a chunk is refused: the place, counted from the chunk's first byte, and the reason.
 #[derive(Clone, Copy, Debug, PartialEq, Eq)]
 pub struct Flaw {
     pub offset: u64,
     pub reason: Reason,
 }
 
-/// A fault of a recording: the number of the chunk, from 1, the place in it, and the reason.
+/// Why a recording is refused: the number of the chunk, from 1, the place in it, and the reason.
 #[derive(Clone, Copy, Debug, PartialEq, Eq)]
 pub struct Refusal {
     pub chunk: u64,
@@ -20,7 +20,7 @@ pub struct Refusal {
     pub reason: Reason,
 }
 
-/// Why something could not be read: it is refused, or memory was wanting.
+/// Why something could not be read: it is refused, or an allocation failed.
 #[derive(Clone, Copy, Debug, PartialEq, Eq)]
 pub enum ReadFault {
     Flawed(Flaw),

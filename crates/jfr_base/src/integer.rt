@@ -18,7 +18,7 @@ pub struct Var {
 #[derive(Clone, Copy, Debug, PartialEq, Eq)]
 pub struct Short;
 
-/// So many groups of an integer have seven bits. Behind them comes one of eight.
+/// How many groups of an integer have seven bits. The one behind them, the ninth, has eight.
 const SHORT_GROUPS: usize = 8;
 
 /// Where the ninth byte's eight bits stand in the value.
@@ -52,7 +52,8 @@ pub fn read_within(bytes: &[u8], at: usize, end: usize) -> Result<Var, Flaw>
     var_within(bytes, at, end)
 }
 
-/// Reads the integer at a place that ends before an end, stated by what the definition computes.
+/// The body of `read_within`. Its clauses name only what `int_at` computes; `read_within` proves those
+/// about spellings from them.
 #[inline(always)]
 fn var_within(bytes: &[u8], at: usize, end: usize) -> Result<Var, Flaw>
     requires order { at ≤ end }
@@ -64,7 +65,8 @@ fn var_within(bytes: &[u8], at: usize, end: usize) -> Result<Var, Flaw>
         return Ok(var);
     }
     if at >= bytes.len().saturating_sub(SHORT_GROUPS) {
-        // Taken apart, so that the result of the other way needn't lie in memory.
+        // Not `return read_last(..)`: so the compiler keeps the results of the two ways apart, and the
+        // result of the fast one below in registers.
         return Ok(read_last(bytes, at, end)?);
     }
     let var = read_groups(bytes, at);
@@ -158,7 +160,7 @@ fn read_last(bytes: &[u8], at: usize, end: usize) -> Result<Var, Flaw>
     Err(ends_early(at))
 }
 
-/// The flaw of a place where no integer ends in time.
+/// The flaw where the bytes end before the integer at a place does.
 fn ends_early(at: usize) -> Flaw
     ensures { result ≡ record { offset = at; reason = Reason.Short } }
 {

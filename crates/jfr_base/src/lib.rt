@@ -10,6 +10,7 @@ pub mod laws;
 mod memory;
 mod reason;
 mod text;
+mod words;
 
 pub use flaw::{Flaw, ReadFault, Refusal};
 pub use integer::{
@@ -17,4 +18,5 @@ pub use integer::{
 };
 pub use memory::NoMemory;
 pub use reason::Reason;
-pub use text::{Text, Words};
+pub use text::Text;
+pub use words::Words;

@@ -1,8 +1,8 @@
-// Want of memory.
+// Failed allocations.
 
 use std::alloc::{AllocError, AllocFailed};
 
-/// Memory was wanting.
+/// An allocation failed.
 #[derive(Clone, Copy, Debug, PartialEq, Eq)]
 pub struct NoMemory;
 

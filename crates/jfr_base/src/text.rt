@@ -1,25 +1,88 @@
-// A text of its own, and a list of texts. Contracts see a text as the list of its characters.
-ghost use Rattle.std.specs.Prelude.{◌≡◌, [], ◌∷◌, ◌++◌, length, string_bytes, IfOk, OnOk, OnErr, slice_get};
+// A text that several owners can share. Contracts see it as the list of its characters.
+ghost use Rattle.std.specs.Prelude.{◌≡◌, ◌≤◌, length, string_bytes, IfOk};
 ghost use Rattle.std.specs.Str.{chars};
-ghost use Rattle.jfr_base.specs.Texts.{text_in};
+ghost use Rattle.jfr_base.specs.Texts.{bytes_of};
 
 use crate::NoMemory;
 use std::alloc::Global;
 use std::marker::Model;
+use std::rc::RcStr;
 
-/// A text that owns its bytes.
+/// How many bytes a text may have that is kept in place, so that it takes 16 bytes and no allocation.
+const IN_PLACE: usize = 14;
+
+/// A text of at most `IN_PLACE` bytes of UTF-8. Contracts see these bytes.
 #[derive(Drop)]
-pub struct Text {
-    text: String,
+struct Brief {
+    len: u8,
+    bytes: [u8; IN_PLACE],
 }
 
-impl Model for Text {
-    ghost use Rattle.std.specs.Prelude.{ℕ, List, string_bytes};
-    ghost use Rattle.std.specs.Str.{chars};
+impl Model for Brief {
+    ghost use Rattle.std.specs.Prelude.{ℕ, List, ◌≤◌, length, take, IsUtf8};
 
     ghost Value = { List ℕ };
 
-    ghost view = { λ t. chars (string_bytes t.text) };
+    ghost view = { λ brief. take brief.len brief.bytes };
+
+    ghost invariant = { λ brief. (brief.len ≤ length brief.bytes) × IsUtf8 (take brief.len brief.bytes) };
+}
+
+impl Brief {
+    /// A copy of the text.
+    fn of(text: &str) -> Brief
+        requires { length text.now ≤ IN_PLACE }
+        ensures { result ≡ text.now }
+    {
+        let mut bytes = [0; IN_PLACE];
+        bytes[..text.len()].copy_from_slice(text.as_bytes());
+        Brief {
+            len: text.len() as u8,
+            bytes,
+        }
+    }
+
+    /// A copy.
+    fn copy(&self) -> Brief
+        ensures { result ≡ self.now }
+    {
+        Brief {
+            len: self.len,
+            bytes: self.bytes,
+        }
+    }
+
+    /// The text as it stands.
+    fn as_str(&self) -> &str
+        ensures { result.now ≡ self.now }
+    {
+        // It is proved to be UTF-8. A test at run time would cost `print` some nanoseconds for each field of
+        // each event, whose name it asks for.
+        unsafe { str::from_utf8_unchecked(&self.bytes[..self.len as usize]) }
+    }
+}
+
+/// The UTF-8 of a text: a short one in place, a longer one shared by all its owners.
+#[derive(Drop)]
+enum Bytes {
+    Brief(Brief),
+    Shared(RcStr),
+}
+
+/// A text. `share` gives another owner of it, without a copy.
+#[derive(Drop)]
+pub struct Text {
+    bytes: Bytes,
+}
+
+impl Model for Text {
+    ghost use Rattle.std.specs.Prelude.{ℕ, List};
+    ghost use Rattle.std.specs.Str.{chars};
+    ghost use Rattle.jfr_base.specs.Texts.{bytes_of};
+
+    ghost Value = { List ℕ };
+
+    ghost view = { λ text. chars (bytes_of text.bytes) };
 }
 
 impl Text {
@@ -27,79 +90,51 @@ impl Text {
     pub fn make(alloc: Global, text: &str) -> Result<Text, NoMemory>
         ensures ok { IfOk result (λ made. made ≡ chars text.now) }
     {
+        if text.len() <= IN_PLACE {
+            return Ok(Text {
+                bytes: Bytes::Brief(Brief::of(text)),
+            });
+        }
         Ok(Text {
-            text: String::from_str(alloc, text)?,
+            bytes: Bytes::Shared(RcStr::from_str(alloc, text)?),
         })
+    }
+
+    /// The text of the string. Where it has more than `IN_PLACE` bytes, it isn't copied.
+    pub fn from_string(string: String) -> Result<Text, NoMemory>
+        ensures ok { IfOk result (λ made. made ≡ chars (string_bytes string)) }
+    {
+        if string.len() <= IN_PLACE {
+            return Ok(Text {
+                bytes: Bytes::Brief(Brief::of(string.as_str())),
+            });
+        }
+        Ok(Text {
+            bytes: Bytes::Shared(RcStr::from_string(string)?),
+        })
+    }
+
+    /// Another owner of the text. It takes no memory.
+    pub fn share(&self) -> Result<Text, NoMemory>
+        ensures ok { IfOk result (λ shared. shared ≡ self.now) }
+    {
+        match &self.bytes {
+            Bytes::Brief(brief) => Ok(Text {
+                bytes: Bytes::Brief(brief.copy()),
+            }),
+            Bytes::Shared(text) => Ok(Text {
+                bytes: Bytes::Shared(text.clone()?),
+            }),
+        }
     }
 
     /// The text as it stands.
     pub fn as_str(&self) -> &str
         ensures { chars result.now ≡ self.now }
     {
-        self.text.as_str()
-    }
-}
-
-impl From<String> for Text {
-    ghost from_gives = { λ string text. text ≡ chars (string_bytes string) };
-
-    /// The text itself, without a copy.
-    fn from(text: String) -> Self {
-        Text { text }
-    }
-}
-
-/// A list of texts.
-#[derive(Drop)]
-pub struct Words {
-    alloc: Global,
-    texts: Vec<Text>,
-}
-
-impl Model for Words {
-    ghost use Rattle.std.specs.Prelude.{ℕ, List};
-
-    ghost Value = { List (List ℕ) };
-
-    ghost view = { λ words. words.texts.items };
-}
-
-impl Words {
-    /// The list without texts. It takes no memory.
-    pub fn new(alloc: Global) -> Words
-        ensures { result ≡ [] }
-    {
-        Words {
-            alloc,
-            texts: Vec::new(alloc),
-        }
-    }
-
-    /// Adds a copy of the text at the end.
-    pub fn push(&mut self, text: &str) -> Result<(), NoMemory>
-        ensures ok { OnOk result (self.new ≡ self.old ++ chars text.now ∷ []) }
-        ensures unchanged { OnErr result (self.new ≡ self.old) }
-    {
-        let text = Text::make(self.alloc, text)?;
-        self.texts.push(text)?;
-        Ok(())
-    }
-
-    /// How many texts the list has.
-    pub fn len(&self) -> usize
-        ensures { result ≡ length self.now }
-    {
-        self.texts.len()
-    }
-
-    /// The text at a place, from 0; `None` exactly past the end.
-    pub fn get(&self, at: usize) -> Option<&str>
-        ensures { text_in result ≡ slice_get self.now at }
-    {
-        if at < self.texts.len() {
-            Some(self.texts[at].as_str())
-        } else {
-            None
+        match &self.bytes {
+            Bytes::Brief(brief) => brief.as_str(),
+            Bytes::Shared(text) => text.as_str(),
         }
     }
 }

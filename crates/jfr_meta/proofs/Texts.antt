@@ -1,6 +1,6 @@
 -- Texts as lists of characters.
-use Rattle.std.proofs.Common.{◌≡◌, ℕ, List, [], ◌∙◌, ap, arith, refl, eqb-true}
-use Rattle.std.specs.Prelude.{Option, Some, None, unwrap_or, suc, Bool, true, false, ◌&&◌, ◌==◌, ◌∷◌, length}
+use Rattle.std.proofs.Common.{◌≡◌, ℕ, List, [], ◌∙◌, ap, arith, refl, sym, eqb-true, get_or}
+use Rattle.std.specs.Prelude.{Option, Some, None, unwrap_or, slice_get, suc, Bool, true, false, ◌&&◌, ◌==◌, ◌∷◌, length}
 use Rattle.jfr_meta.specs.Attributes.{not_empty}
 use Rattle.std.specs.Borrow.{Bor}
 use Rattle.jfr_base.specs.Texts.{text_in}
@@ -9,6 +9,7 @@ use Rattle.std.specs.Str.{chars, bytes_eq, IsUtf8, IsAscii, encode_utf8_all}
 use Rattle.std.proofs.lemmas.Str.{encodes-chars, chars-nil, chars-IsAscii}
 use Rattle.std.proofs.lemmas.Str.Ascii.{IsAscii-cons, IsAscii-nil}
 use Rattle.std.proofs.lemmas.Bool.Decides.{nat_tests}
+use Rattle.std.proofs.lemmas.Option.{unwrap_or-slice_get}
 use Rattle.std.specs.Char.{is_ascii}
 use Rattle.std.specs.List.{list_all}
 
@@ -37,3 +38,10 @@ not_empty-some t u e = by_chars (chars t) (encodes-chars t u)
 -- a word's bytes are its characters
 pub word_eq : (t ws : List ℕ) → IsUtf8 t → IsUtf8 ws → list_all is_ascii ws ≡ true → bytes_eq t ws ≡ bytes_eq (chars t) ws
 word_eq t ws u v e = bytes_eq-chars t ws u v ∙ ap (bytes_eq (chars t)) (chars-IsAscii ws (word_ascii ws e))
+
+-- the text of an index, where the table has it, and where it doesn't
+pub text_there : (texts : List (List ℕ)) (i : ℕ) (t : List ℕ) → slice_get texts i ≡ Some t → get_or texts i [] ≡ t
+text_there texts i t e = sym (unwrap_or-slice_get texts i []) ∙ ap (λ z. unwrap_or z []) e
+
+pub text_missing : (texts : List (List ℕ)) (i : ℕ) → slice_get texts i ≡ None → get_or texts i [] ≡ []
+text_missing texts i e = sym (unwrap_or-slice_get texts i []) ∙ ap (λ z. unwrap_or z []) e

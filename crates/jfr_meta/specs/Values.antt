@@ -1,5 +1,5 @@
 -- The attributes of an element by their keys.
-use Rattle.std.specs.Prelude.{◌≡◌, ℕ, List, Option, find, option_map}
+use Rattle.std.specs.Prelude.{◌≡◌, ◌≤◌, ℕ, List, Option, find, length, option_map}
 use Rattle.std.specs.Borrow.{Bor}
 use Rattle.std.specs.BTreeMap.{BTreeMap, get_by}
 use Rattle.std.specs.Cmp.Lexicographic.{slice_cmp}
@@ -11,6 +11,10 @@ use Rattle.jfr_meta.specs.Attributes.{text_at}
 abbrev pub value_under : BTreeMap (Bor (List ℕ)) ℕ → List ℕ → Option ℕ
 value_under values key = get_by (λ k. slice_cmp nat_cmp (encode_utf8_all key) k.now) values
 
--- each key leads to the value of the first attribute that has it
+-- a key that can be asked for: `value-` and a number below 2 ^ 64 take 26 bytes at most
+abbrev pub CanBeAsked : List ℕ → Type 0
+CanBeAsked key = length (encode_utf8_all key) ≤ 26
+
+-- each key that can be asked for leads to the value of the first attribute that has it
 abbrev pub HasFirst : List (List ℕ) → List (ℕ × ℕ) → BTreeMap (Bor (List ℕ)) ℕ → Type 0
-HasFirst texts ps values = (key : List ℕ) → value_under values key ≡ option_map (λ p. p.1) (find (λ p. bytes_eq (text_at texts p.0) key) ps)
+HasFirst texts ps values = (key : List ℕ) → CanBeAsked key → value_under values key ≡ option_map (λ p. p.1) (find (λ p. bytes_eq (text_at texts p.0) key) ps)

@@ -1,14 +1,15 @@
 // The attributes of elements, as texts.
-ghost use Rattle.std.specs.Prelude.{◌≡◌};
+ghost use Rattle.std.specs.Prelude.{◌≡◌, option_map};
 ghost use Rattle.std.specs.Char.{is_ascii_digit};
 ghost use Rattle.std.specs.List.{list_all};
+ghost use Rattle.std.specs.Option.{option_copied};
 ghost use Rattle.std.specs.Str.{chars, bytes_eq};
 ghost use Rattle.jfr_base.specs.Texts.{text_in};
 ghost use Rattle.jfr_meta.specs.Attributes.{IsWord, text_at, first_value, not_empty, attribute, id_of, flag_of};
 ghost use Rattle.jfr_meta.specs.Trees.{pairs_of};
 
 use crate::Element;
-use jfr_base::Words;
+use jfr_base::{Text, Words};
 
 /// Whether the text is this word.
 pub(crate) fn is_word(text: &str, word: &str) -> bool
@@ -25,31 +26,45 @@ pub(crate) fn text_at<'a>(strings: &'a Words, index: u64) -> &'a str
     strings.get(index as usize).unwrap_or("")
 }
 
-/// The value of the element's first attribute with this key.
-pub(crate) fn first_value<'a>(strings: &'a Words, element: &Element, key: &str) -> Option<&'a str>
+/// The text of an index into the table, to be shared, where it isn't empty.
+pub(crate) fn full_text(strings: &Words, index: u64) -> Option<&Text>
+    ensures { option_copied result ≡ not_empty (text_at strings.now index) }
+{
+    let text = strings.text(index as usize)?;
+    if text.as_str().is_empty() {
+        None
+    } else {
+        Some(text)
+    }
+}
+
+/// The index of the value of the element's first attribute with this key.
+fn first_index(strings: &Words, element: &Element, key: &str) -> Option<u64>
     requires { IsWord key.now }
-    ensures { text_in result ≡ first_value strings.now key.now (pairs_of element.now) }
+    ensures { option_map (text_at strings.now) result ≡ first_value strings.now key.now (pairs_of element.now) }
 {
     let pairs = element.attributes().as_slice();
     let pair = pairs
         .iter()
         .find(|pair| is_word(text_at(strings, pair.0), key))?;
-    Some(text_at(strings, pair.1))
+    Some(pair.1)
+}
+
+/// The value of the element's first attribute with this key.
+pub(crate) fn first_value<'a>(strings: &'a Words, element: &Element, key: &str) -> Option<&'a str>
+    requires { IsWord key.now }
+    ensures { text_in result ≡ first_value strings.now key.now (pairs_of element.now) }
+{
+    let index = first_index(strings, element, key)?;
+    Some(text_at(strings, index))
 }
 
 /// The value of the element's attribute with this key; an empty value counts as absent.
-pub(crate) fn attribute<'a>(strings: &'a Words, element: &Element, key: &str) -> Option<&'a str>
+pub(crate) fn attribute<'a>(strings: &'a Words, element: &Element, key: &str) -> Option<&'a Text>
     requires { IsWord key.now }
-    ensures { text_in result ≡ attribute strings.now element.now key.now }
+    ensures { option_copied result ≡ attribute strings.now element.now key.now }
 {
-    not_empty(first_value(strings, element, key)?)
-}
-
-/// The text, where it isn't empty.
-pub(crate) fn not_empty(text: &str) -> Option<&str>
-    ensures { text_in result ≡ not_empty (chars text.now) }
-{
-    if text.is_empty() { None } else { Some(text) }
+    full_text(strings, first_index(strings, element, key)?)
 }
 
 /// How many digits an id has at most.

@@ -24,6 +24,11 @@ pub(crate) struct Body {
 /// How many levels of elements a tree has at most.
 const LEVELS: u32 = 16;
 
+/// How many bytes an attribute and an element have at least.
+const PAIR_LEN: usize = 2;
+
+const ELEMENT_LEN: usize = 3;
+
 /// The integers before the strings, and the place after them.
 #[derive(Clone, Copy)]
 struct Head {
@@ -101,7 +106,7 @@ fn read_index(bytes: &[u8], at: usize, end: usize, limit: u64) -> Result<Var, Fl
     }
 }
 
-/// So many attributes.
+/// So many attributes. The list has room for all that can follow, so that it never grows.
 fn read_pairs(
     alloc: Global,
     bytes: &[u8],
@@ -115,7 +120,8 @@ fn read_pairs(
     ensures exact { Tells (run (times count (pair limit)) bytes.now end at) result }
     ensures range { IfOk result (λ r. (at ≤ r.1) × (r.1 ≤ end)) }
 {
-    let mut pairs = Pairs::new(alloc);
+    let room = count.min(((end - at) / PAIR_LEN) as u64) as usize;
+    let mut pairs = Pairs::with_room(alloc, room)?;
     let mut place = at;
     for _ in 0..count {
         let key = read_index(bytes, place, end, limit)?;
@@ -163,7 +169,8 @@ fn read_element(
     Ok((Element::new(at, name.value, pairs, children), place))
 }
 
-/// So many elements, each with so many levels left.
+/// So many elements, each with so many levels left. The list has room for all that can follow, so that
+/// it never grows.
 #[cycle(elements)]
 fn read_elements(
     alloc: Global,
@@ -179,7 +186,8 @@ fn read_elements(
     ensures exact { Tells (run (times count (element_format levels limit)) bytes.now end at) result }
     ensures range { IfOk result (λ r. (at ≤ r.1) × (r.1 ≤ end)) }
 {
-    let mut elements = Elements::new(alloc);
+    let room = count.min(((end - at) / ELEMENT_LEN) as u64) as usize;
+    let mut elements = Elements::with_room(alloc, room)?;
     let mut place = at;
     for _ in 0..count {
         let (element, next) = read_element(alloc, bytes, place, end, limit, levels)?;

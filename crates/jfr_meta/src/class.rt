@@ -4,8 +4,6 @@ ghost use Rattle.std.specs.BTreeSet.{contains};
 ghost use Rattle.std.specs.List.{filter_map, flat_map};
 ghost use Rattle.std.specs.Option.{option_copied, option_to_list};
 ghost use Rattle.std.specs.Ordering.{nat_cmp};
-ghost use Rattle.std.specs.Str.{chars};
-ghost use Rattle.jfr_base.specs.Texts.{text_in};
 ghost use Rattle.jfr_base.specs.declared.flaw.ReadFault.TheVariants.{Flawed};
 ghost use Rattle.jfr_meta.specs.Answers.{Judges};
 ghost use Rattle.jfr_meta.specs.Attributes.{values_of};
@@ -35,27 +33,27 @@ pub(crate) fn refused(element: &Element, reason: Reason) -> ReadFault
 }
 
 /// The id and the name of a class element, where it has both.
-fn class_head<'a>(strings: &'a Words, element: &Element) -> Option<(u64, &'a str)>
-    ensures { option_map (λ h. (h.0, chars h.1.now)) result ≡ class_head strings.now element.now }
+fn class_head<'a>(strings: &'a Words, element: &Element) -> Option<(u64, &'a Text)>
+    ensures { option_map (λ h. (h.0, h.1.now)) result ≡ class_head strings.now element.now }
 {
     let name = attribute(strings, element, "name")?;
     let id = id_attribute(strings, element, "id")?;
     Some((id, name))
 }
 
-/// A copy of the text, where there is one.
-fn copied(alloc: Global, text: Option<&str>) -> Result<Option<Text>, NoMemory>
-    ensures { IfOk result (λ copy. copy ≡ text_in text.entry) }
+/// The text, shared, where there is one.
+fn shared(text: Option<&Text>) -> Result<Option<Text>, NoMemory>
+    ensures { IfOk result (λ shared. shared ≡ option_copied text.entry) }
 {
     match text {
-        Some(text) => Ok(Some(Text::make(alloc, text)?)),
+        Some(text) => Ok(Some(text.share()?)),
         None => Ok(None),
     }
 }
 
 /// The field of a field element.
 #[tactic(auto, unfolding(crate::specs::Described::field_of))]
-fn read_field(alloc: Global, strings: &Words, element: &Element) -> Result<FieldInfo, ReadFault>
+fn read_field(strings: &Words, element: &Element) -> Result<FieldInfo, ReadFault>
     ensures ok { IfOk result (λ field. field_of strings.now element.now ≡ Some field) }
     ensures judged { Judges (field_flaws strings.now element.now) result }
 {
@@ -66,7 +64,7 @@ fn read_field(alloc: Global, strings: &Words, element: &Element) -> Result<Field
         return Err(refused(element, Reason::FieldBad));
     };
     Ok(FieldInfo {
-        name: Text::make(alloc, name)?,
+        name: name.share()?,
         shape,
     })
 }
@@ -79,7 +77,7 @@ fn read_fields(alloc: Global, strings: &Words, element: &Element) -> Result<Fiel
     let elements = named(alloc, strings, element, "field")?;
     let mut fields = Fields::new(alloc);
     for at in 0..elements.len() {
-        let field = read_field(alloc, strings, elements[at])?;
+        let field = read_field(strings, elements[at])?;
         fields.push(field)?;
     }
     Ok(fields)
@@ -96,7 +94,7 @@ fn add_category(
     let Some((id, name)) = class_head(strings, element) else {
         return Ok(());
     };
-    if is_word(name, CATEGORY) {
+    if is_word(name.as_str(), CATEGORY) {
         ids.insert(id)?;
     }
     Ok(())
@@ -143,8 +141,8 @@ fn read_class(
         return Err(refused(element, Reason::ClassBad));
     };
     let fields = read_fields(alloc, strings, element)?;
-    let name = Text::make(alloc, name)?;
-    let super_name = copied(alloc, attribute(strings, element, "superType"))?;
+    let name = name.share()?;
+    let super_name = shared(attribute(strings, element, "superType"))?;
     let categories = categories_of(alloc, strings, ids, element)?;
     Ok(ClassInfo {
         id,

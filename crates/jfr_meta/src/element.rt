@@ -1,5 +1,5 @@
 // The tree of elements.
-ghost use Rattle.std.specs.Prelude.{◌≡◌, [], ◌∷◌, ◌++◌, length, OnOk, OnErr, slice_get};
+ghost use Rattle.std.specs.Prelude.{◌≡◌, [], ◌∷◌, ◌++◌, length, IfOk, OnOk, OnErr, slice_get};
 ghost use Rattle.std.specs.Option.{option_copied};
 ghost use Rattle.jfr_meta.specs.Trees.{tree, place_of, name_of, pairs_of, children_of};
 
@@ -108,6 +108,15 @@ impl Elements {
         Elements {
             items: Vec::new(alloc),
         }
+    }
+
+    /// The list without elements, with room for so many.
+    pub fn with_room(alloc: Global, count: usize) -> Result<Elements, NoMemory>
+        ensures ok { IfOk result (λ elements. elements ≡ []) }
+    {
+        Ok(Elements {
+            items: Vec::with_capacity(alloc, count)?,
+        })
     }
 
     /// Adds an element at the end.

@@ -41,7 +41,7 @@ pub(crate) fn id_attribute(strings: &Words, element: &Element, key: &str) -> Opt
     requires { IsWord key.now }
     ensures { result ≡ id_attribute strings.now element.now key.now }
 {
-    id_of(attribute(strings, element, key)?)
+    id_of(attribute(strings, element, key)?.as_str())
 }
 
 /// The shape of a field element, where its class is an id and its marks are good.

@@ -1,5 +1,5 @@
 // The attributes of an element.
-ghost use Rattle.std.specs.Prelude.{◌≡◌, [], ◌∷◌, ◌++◌, length, OnOk, OnErr, slice_get};
+ghost use Rattle.std.specs.Prelude.{◌≡◌, [], ◌∷◌, ◌++◌, length, IfOk, OnOk, OnErr, slice_get};
 
 use jfr_base::NoMemory;
 use std::alloc::Global;
@@ -27,6 +27,15 @@ impl Pairs {
         Pairs {
             items: Vec::new(alloc),
         }
+    }
+
+    /// The list without attributes, with room for so many.
+    pub fn with_room(alloc: Global, count: usize) -> Result<Pairs, NoMemory>
+        ensures ok { IfOk result (λ pairs. pairs ≡ []) }
+    {
+        Ok(Pairs {
+            items: Vec::with_capacity(alloc, count)?,
+        })
     }
 
     /// Adds an attribute at the end.

@@ -57,7 +57,8 @@ fn read_text(alloc: Global, bytes: &[u8], at: usize, end: usize) -> Result<(Text
     Ok((text, string.end))
 }
 
-/// So many strings of the table, as their texts.
+/// So many strings of the table, as their texts. A string takes a byte at least, so that the list has
+/// room for all that can follow, and never grows.
 pub(crate) fn read_strings(
     alloc: Global,
     bytes: &[u8],
@@ -70,11 +71,12 @@ pub(crate) fn read_strings(
     ensures exact { Tells (run (times count table_string) bytes.now end at) result }
     ensures range { IfOk result (λ r. (at ≤ r.1) × (r.1 ≤ end)) }
 {
-    let mut strings = Words::new(alloc);
+    let room = count.min((end - at) as u64) as usize;
+    let mut strings = Words::with_room(alloc, room)?;
     let mut place = at;
     for _ in 0..count {
         let (text, next) = read_text(alloc, bytes, place, end)?;
-        strings.push(text.as_str())?;
+        strings.push_text(text)?;
         place = next;
     }
     Ok((strings, place))

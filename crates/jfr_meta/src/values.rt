@@ -1,18 +1,21 @@
 // The values of annotations.
 ghost use Rattle.std.specs.Prelude.{◌≡◌, ℕ, List, length, option_and_then, IfOk};
-ghost use Rattle.std.specs.Option.{option_to_list};
-ghost use Rattle.jfr_base.specs.Texts.{text_in};
+ghost use Rattle.std.specs.Option.{option_copied, option_to_list};
 ghost use Rattle.jfr_meta.specs.Attributes.{attribute, first_value, not_empty, value_key, values_from, values_of};
 ghost use Rattle.jfr_meta.specs.Trees.{pairs_of};
 ghost use Rattle.jfr_meta.specs.Values.{HasFirst};
 
 use crate::Element;
-use crate::attributes::{attribute, not_empty, text_at};
-use jfr_base::{NoMemory, Words};
+use crate::attributes::{attribute, full_text, text_at};
+use jfr_base::{NoMemory, Text, Words};
 use std::alloc::Global;
 use std::collections::BTreeMap;
 
-/// The values of the attributes by their keys; the first attribute of a key counts.
+/// How many bytes the longest key has: `value-` and the digits of the largest number.
+const KEY_LEN: usize = 26;
+
+/// The values of the attributes by their keys; the first attribute of a key counts. Longer keys are
+/// left out, so that a recording with many long ones costs no comparisons of them.
 fn first_values<'a>(
     alloc: Global,
     strings: &'a Words,
@@ -22,8 +25,12 @@ fn first_values<'a>(
 {
     let mut values = BTreeMap::new(alloc);
     for behind in 0..pairs.len() {
-        let (key, value) = pairs[pairs.len() - 1 - behind];
-        values.insert(text_at(strings, key), value)?;
+        let (index, value) = pairs[pairs.len() - 1 - behind];
+        let key = text_at(strings, index);
+        if key.len() > KEY_LEN {
+            continue;
+        }
+        values.insert(key, value)?;
     }
     Ok(values)
 }
@@ -34,12 +41,12 @@ fn value_at<'a>(
     strings: &'a Words,
     values: &BTreeMap<&str, u64>,
     number: usize,
-) -> Result<Option<&'a str>, NoMemory>
-    ensures ok { IfOk result (λ found. (ps : List (ℕ × ℕ)) → HasFirst strings.now ps values.now → text_in found ≡ option_and_then not_empty (first_value strings.now (value_key number) ps)) }
+) -> Result<Option<&'a Text>, NoMemory>
+    ensures ok { IfOk result (λ found. (ps : List (ℕ × ℕ)) → HasFirst strings.now ps values.now → option_copied found ≡ option_and_then not_empty (first_value strings.now (value_key number) ps)) }
 {
     let key = format!(in alloc; "value-{number}")?;
     match values.get(key.as_str()) {
-        Some(value) => Ok(not_empty(text_at(strings, *value))),
+        Some(value) => Ok(full_text(strings, *value)),
         None => Ok(None),
     }
 }
@@ -53,7 +60,7 @@ fn numbered(alloc: Global, strings: &Words, annotation: &Element) -> Result<Word
     let mut words = Words::new(alloc);
     for number in 0..pairs.len() {
         match value_at(alloc, strings, &values, number)? {
-            Some(text) => words.push(text)?,
+            Some(text) => words.push_text(text.share()?)?,
             None => return Ok(words),
         }
     }
@@ -61,12 +68,12 @@ fn numbered(alloc: Global, strings: &Words, annotation: &Element) -> Result<Word
 }
 
 /// The list of the text, where there is one.
-fn single(alloc: Global, text: Option<&str>) -> Result<Words, NoMemory>
-    ensures ok { IfOk result (λ words. words ≡ option_to_list (text_in text.entry)) }
+fn single(alloc: Global, text: Option<&Text>) -> Result<Words, NoMemory>
+    ensures ok { IfOk result (λ words. words ≡ option_to_list (option_copied text.entry)) }
 {
     let mut words = Words::new(alloc);
     if let Some(text) = text {
-        words.push(text)?;
+        words.push_text(text.share()?)?;
     }
     Ok(words)
 }

@@ -1,5 +1,5 @@
 // A text that grows at its end.
-ghost use Rattle.std.specs.Prelude.{◌≡◌, ◌<◌, [], ◌∷◌, ◌++◌, IsTrue, OnOk, decimal, string_bytes};
+ghost use Rattle.std.specs.Prelude.{◌≡◌, ◌<◌, [], ◌∷◌, ◌++◌, IsTrue, IfOk, OnOk, decimal, string_bytes};
 ghost use Rattle.std.specs.Char.{digit_char};
 ghost use Rattle.std.specs.Fmt.{signed_decimal};
 ghost use Rattle.std.specs.Str.{chars, encode_utf8_all};
@@ -58,11 +58,11 @@ impl TextBuilder {
         self.text.as_str()
     }
 
-    /// The text itself, without a copy.
-    pub fn into_text(self) -> Text
-        ensures { result ≡ self }
+    /// The text, which is copied only where it has a few bytes.
+    pub fn into_text(self) -> Result<Text, NoMemory>
+        ensures ok { IfOk result (λ text. text ≡ self) }
     {
-        Text::from(self.text)
+        Text::from_string(self.text)
     }
 
     /// The text as a string, without a copy.

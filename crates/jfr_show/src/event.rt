@@ -42,5 +42,5 @@ pub fn event_text(
 {
     let mut out = TextBuilder::new(alloc);
     show_event(chunk, event, depth, &mut out)?;
-    Ok(out.into_text())
+    out.into_text()
 }

@@ -122,7 +122,7 @@ pub fn event_json(
 {
     let mut out = TextBuilder::new(alloc);
     show_json(alloc, chunk, event, depth, &mut out)?;
-    Ok(out.into_text())
+    out.into_text()
 }
 
 /// Adds the JSON of an event: the name of its class, and its fields.

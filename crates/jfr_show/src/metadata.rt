@@ -18,7 +18,7 @@ pub fn metadata_text(alloc: Global, chunk: &Chunk<'_>, number: u64) -> Result<Te
 {
     let mut out = TextBuilder::new(alloc);
     show_metadata(chunk, number, &mut out)?;
-    Ok(out.into_text())
+    out.into_text()
 }
 
 /// Adds these lines to a text.

@@ -97,7 +97,7 @@ pub fn summary_text(alloc: Global, summary: &Summary) -> Result<Text, NoMemory>
 {
     let mut out = TextBuilder::new(alloc);
     show_summary(summary, &mut out)?;
-    Ok(out.into_text())
+    out.into_text()
 }
 
 // Adds the totals to a text.

@@ -125,5 +125,5 @@ pub fn part_name(
     ensures { IfOk result (λ name. name ≡ chars (name_of_part (slice_of folder.entry) file.now number)) }
 {
     let name = part_string(alloc, folder, file, number)?;
-    Ok(Text::from(name))
+    Text::from_string(name)
 }

@@ -28,7 +28,7 @@ fn made_of(alloc: Global, characters: Characters<'_>) -> Result<Text, NoMemory>
     for character in characters {
         add(&mut text, character)?;
     }
-    Ok(Text::from(text))
+    Text::from_string(text)
 }
 
 /// Adds a character at the end.

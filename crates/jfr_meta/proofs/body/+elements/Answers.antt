@@ -77,7 +77,7 @@ read_element-returns-clause-exact t c =
 pub read_elements-returns-in_err-element-clause-exact :
     goal.read_elements-returns-in_err-element-clause-exact
 read_elements-returns-in_err-element-clause-exact t c =
-    let p = err_from_is_err_and c.from_residual.result c.from_residual.ensures.1 in
+    let p = err_from_is_err_and c.from_residual-in_err-element.result c.from_residual-in_err-element.ensures.1 in
     rw (p.1, p.2) (carried (run (element_format c.args.levels c.args.limit) c.args.bytes.now c.args.end c.loop.place) (run (times c.args.count (element_format c.args.levels c.args.limit)) c.args.bytes.now c.args.end c.args.at) c.in_err-element.field-0.0 c.in_err-element.ensures.exact
     (λ w e. reading_err (element_format c.args.levels c.args.limit) c.args.bytes.now c.args.end c.args.at c.args.count c.loop.counter c.loop.place c.loop.elements w c.loop.invariant c.loop-test.true e))
 

@@ -6,7 +6,7 @@ use Rattle.jfr_meta.proofs.body.read_pairs.Goals as goal
 
 pub returns-in_err-key-clause-exact : goal.returns-in_err-key-clause-exact
 returns-in_err-key-clause-exact c =
-    let p = err_from_is_err_and c.from_residual.result c.from_residual.ensures.1 in
+    let p = err_from_is_err_and c.from_residual-in_err-key.result c.from_residual-in_err-key.ensures.1 in
     let l = c.loop in
     rw (p.1, p.2) (reading_err (pair c.args.limit) c.args.bytes.now c.args.end c.args.at c.args.count l.counter l.place l.pairs c.in_err-key.field-0.0 l.invariant c.loop-test.true
     (pair_no_key c.args.limit c.args.bytes.now c.args.end l.place c.in_err-key.field-0.0 (sym c.in_err-key.ensures.exact)))

@@ -1,7 +1,6 @@
 use Rattle.std.proofs.Common.{ℕ, ◌<◌, ◌≤◌, ◌∙◌, ap, sym, ◌++◌, ◌-◌, ◌∷◌, [], ◌+◌, arith, append-nil, append_assoc, length}
 use Rattle.std.specs.Prelude.{option_and_then}
-use Rattle.std.specs.Str.{chars}
-use Rattle.jfr_base.specs.Texts.{text_in}
+use Rattle.std.specs.Option.{option_copied}
 use Rattle.jfr_meta.specs.Attributes.{attribute, first_value, not_empty, value_key, values_from}
 use Rattle.jfr_meta.specs.Trees.{pairs_of}
 use Rattle.jfr_meta.proofs.FirstValues.{values_next, values_stop, values_end}
@@ -14,7 +13,7 @@ returns-in-None c =
     let pairs = c.as_slice-pairs.ensures ∙ c.attributes.ensures in
     let at = sym (c.in_ok-text.ensures.ok c.as_slice-pairs.result.now c.in_ok-values.ensures.ok ∙ ap (λ ps. option_and_then not_empty (first_value c.args.strings.now (value_key c.loop-number.number) ps)) pairs) in
     let within : c.loop-number.number < n = omega (arith, ap length pairs) in
-    record { ok = sym (c.loop-number.invariant ∙ (ap (λ z. c.loop-number.words ++ z) (values_stop value c.loop-number.number n within (at ∙ ap text_in c.in-None.is)) ∙ append-nil c.loop-number.words)) }
+    record { ok = sym (c.loop-number.invariant ∙ (ap (λ z. c.loop-number.words ++ z) (values_stop value c.loop-number.number n within (at ∙ ap option_copied c.in-None.is)) ∙ append-nil c.loop-number.words)) }
 
 pub loop-number-preserved : goal.loop-number-preserved
 loop-number-preserved c =
@@ -24,8 +23,8 @@ loop-number-preserved c =
     let at = sym (c.in_ok-text.ensures.ok c.as_slice-pairs.result.now c.in_ok-values.ensures.ok ∙ ap (λ ps. option_and_then not_empty (first_value c.args.strings.now (value_key c.loop-number.number) ps)) pairs) in
     let within : c.loop-number.number < n = omega (arith, ap length pairs) in
     let rest = values_from value (c.loop-number.number + 1) (n - (c.loop-number.number + 1)) in
-    rw c.in_ok-push-in-Some.ensures.ok (c.loop-number.invariant ∙ (ap (λ z. c.loop-number.words ++ z) (values_next value c.loop-number.number n (chars c.in-Some.text.now) within (at ∙ ap text_in c.in-Some.is))
-    ∙ sym (append_assoc c.loop-number.words (chars c.in-Some.text.now ∷ []) rest)))
+    rw (c.in_ok-push_text-in-Some.ensures.ok, c.in_ok-share-in-Some.ensures.ok) (c.loop-number.invariant ∙ (ap (λ z. c.loop-number.words ++ z) (values_next value c.loop-number.number n (c.in-Some.text.now) within (at ∙ ap option_copied c.in-Some.is))
+    ∙ sym (append_assoc c.loop-number.words (c.in-Some.text.now ∷ []) rest)))
 
 pub returns : goal.returns
 returns c =
