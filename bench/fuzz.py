@@ -4,8 +4,8 @@
 Takes the given recordings and small ones of hostile.py, changes one in some places (mutations.py: bits, integers at
 their limits, pieces moved, repeated and cut; half the time records, classes and values besides, with sizes, positions
 and deltas that are true again), and runs commands on the outcome, with 1 GB of memory: `summary` first. On an input that
-it accepts each command that reads chunks is run, scrub without options and with one of them; on one that it refuses, and
-those are four of five, one group of them in turn. Wrong is
+it accepts come `print --json` and scrub, a scrub with one option, and half of the other commands that read chunks; on
+one that it refuses, and those are four of five, one of all these. Which, goes round by the input's number. Wrong is
 
 - a signal, more than 20 seconds, a status that isn't one of the command's, 5 of a command other than print;
 - more than 20 times the input's size and 64 MB of memory of a command other than print;
@@ -223,15 +223,11 @@ class Trial:
             file.write(data)
         self.verdict = self.run("summary", ["summary", self.source], (0, 2), self.totals, self.most)
         self.tally.reasons[self.verdict[1].split()[-1] if self.verdict[0] else "accepted"] += 1
-        groups = (
-            self.metadata,
-            self.print_text,
-            lambda: self.print_text("--depth", "8"),
-            self.scrub_and_print,
-            lambda: self.scrub(*option),
-            self.parts,
-        )
-        for group in groups if self.verdict[0] == 0 else (groups[number % len(groups)],):
+        first = self.scrub_and_print, lambda: self.scrub(*option)
+        others = self.metadata, self.print_text, lambda: self.print_text("--depth", "8"), self.parts
+        groups = first + others
+        accepted = self.verdict[0] == 0
+        for group in first + others[number % 2::2] if accepted else groups[number % len(groups)::len(groups)]:
             group()
 
 
