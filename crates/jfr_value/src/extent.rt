@@ -131,7 +131,7 @@ fn other_end<C, V: Visit<C>>(
     if is_hollow_array(walk.classes, layout) {
         return integer_end(walk.bytes, at, walk.end);
     }
-    layout_end(walk, layout, at, STEPS, visitor)
+    layout_end(&walk, layout, at, STEPS, visitor)
 }
 
 /// A visitor that takes nothing.
@@ -243,26 +243,26 @@ pub(crate) fn base_end(kind: Kind, bytes: &[u8], at: usize, end: usize) -> Resul
 #[tactic(auto, using(jfr_base::proofs::SeenLaws::ends), unfolding(jfr_base::specs::Formats::run, crate::specs::Reading::class_format))]
 #[inline(always)]
 pub(crate) fn layout_end<C, V: Visit<C>>(
-    walk: Walk<'_, '_, C>,
+    walk: &Walk<'_, '_, C>,
     layout: &FieldLayout,
     at: usize,
     levels: u32,
     visitor: &mut V,
 ) -> Result<usize, Flaw>
-    requires placed { IsPlaced walk.classes.now layout.now }
-    requires room { Room walk.classes.now levels layout.now.shape }
-    requires order { at ≤ walk.end }
-    requires ready { V.ready visitor.old walk.with.now }
-    ensures exact { result ≡ seen (run (shape_format (class_format (levels + 1) walk.entry.classes.now) layout.now.shape) walk.entry.bytes.now walk.entry.end at) }
-    ensures range { IfOk result (λ to. (at ≤ to) × (to ≤ walk.entry.end)) }
-    ensures visited { TakesRead (V.takes walk.entry.with.now) (run (shape_format (class_format (levels + 1) walk.entry.classes.now) layout.now.shape) walk.entry.bytes.now walk.entry.end at) visitor.old visitor.new }
-    ensures ready { V.ready visitor.new walk.entry.with.now }
+    requires placed { IsPlaced walk.now.classes.now layout.now }
+    requires room { Room walk.now.classes.now levels layout.now.shape }
+    requires order { at ≤ walk.now.end }
+    requires ready { V.ready visitor.old walk.now.with.now }
+    ensures exact { result ≡ seen (run (shape_format (class_format (levels + 1) walk.now.classes.now) layout.now.shape) walk.now.bytes.now walk.now.end at) }
+    ensures range { IfOk result (λ to. (at ≤ to) × (to ≤ walk.now.end)) }
+    ensures visited { TakesRead (V.takes walk.now.with.now) (run (shape_format (class_format (levels + 1) walk.now.classes.now) layout.now.shape) walk.now.bytes.now walk.now.end at) visitor.old visitor.new }
+    ensures ready { V.ready visitor.new walk.now.with.now }
 {
     match layout.form {
         Form::Integer => integer_end(walk.bytes, at, walk.end),
         Form::Raw(count) => run_end(usize::from(count), at, walk.end),
-        Form::Key => key_end(walk, layout.shape.class, at, visitor),
-        Form::Text => text_end(walk, layout.shape.class, at, visitor),
+        Form::Key => key_end(*walk, layout.shape.class, at, visitor),
+        Form::Text => text_end(*walk, layout.shape.class, at, visitor),
         Form::Fields | Form::Array => compound_end(walk, layout, at, levels, visitor),
     }
 }
@@ -273,21 +273,21 @@ pub(crate) fn layout_end<C, V: Visit<C>>(
 #[tactic(auto, using(jfr_base::proofs::SeenLaws::ends), unfolding(jfr_base::specs::Formats::run, crate::specs::Reading::class_format))]
 #[inline(always)]
 fn compound_end<C, V: Visit<C>>(
-    walk: Walk<'_, '_, C>,
+    walk: &Walk<'_, '_, C>,
     layout: &FieldLayout,
     at: usize,
     levels: u32,
     visitor: &mut V,
 ) -> Result<usize, Flaw>
     requires compound { (layout.now.form ≡ forms.Fields) ⊎ (layout.now.form ≡ forms.Array) }
-    requires placed { IsPlaced walk.classes.now layout.now }
-    requires room { Room walk.classes.now levels layout.now.shape }
-    requires order { at ≤ walk.end }
-    requires ready { V.ready visitor.old walk.with.now }
-    ensures exact { result ≡ seen (run (shape_format (class_format (levels + 1) walk.entry.classes.now) layout.now.shape) walk.entry.bytes.now walk.entry.end at) }
-    ensures range { IfOk result (λ to. (at ≤ to) × (to ≤ walk.entry.end)) }
-    ensures visited { TakesRead (V.takes walk.entry.with.now) (run (shape_format (class_format (levels + 1) walk.entry.classes.now) layout.now.shape) walk.entry.bytes.now walk.entry.end at) visitor.old visitor.new }
-    ensures ready { V.ready visitor.new walk.entry.with.now }
+    requires placed { IsPlaced walk.now.classes.now layout.now }
+    requires room { Room walk.now.classes.now levels layout.now.shape }
+    requires order { at ≤ walk.now.end }
+    requires ready { V.ready visitor.old walk.now.with.now }
+    ensures exact { result ≡ seen (run (shape_format (class_format (levels + 1) walk.now.classes.now) layout.now.shape) walk.now.bytes.now walk.now.end at) }
+    ensures range { IfOk result (λ to. (at ≤ to) × (to ≤ walk.now.end)) }
+    ensures visited { TakesRead (V.takes walk.now.with.now) (run (shape_format (class_format (levels + 1) walk.now.classes.now) layout.now.shape) walk.now.bytes.now walk.now.end at) visitor.old visitor.new }
+    ensures ready { V.ready visitor.new walk.now.with.now }
 {
     match layout.form {
         Form::Fields => {
@@ -307,20 +307,20 @@ fn compound_end<C, V: Visit<C>>(
 #[tactic(auto, using(jfr_base::proofs::SeenLaws::ends), unfolding(jfr_base::specs::Formats::run, crate::specs::Reading::class_format))]
 #[inline(always)]
 fn row_end<C, V: Visit<C>>(
-    walk: Walk<'_, '_, C>,
+    walk: &Walk<'_, '_, C>,
     layouts: &[FieldLayout],
     at: usize,
     levels: u32,
     visitor: &mut V,
 ) -> Result<usize, Flaw>
-    requires layouts { AllByRecursion (IsFieldLayout walk.classes.now) layouts.now }
-    requires room { AllByRecursion (λ s. Room walk.classes.now levels s.shape) layouts.now }
-    requires order { at ≤ walk.end }
-    requires ready { V.ready visitor.old walk.with.now }
-    ensures exact { result ≡ seen (run (row_format (levels + 1) walk.entry.classes.now layouts.now) walk.entry.bytes.now walk.entry.end at) }
-    ensures range { IfOk result (λ to. (at ≤ to) × (to ≤ walk.entry.end)) }
-    ensures visited { TakesReadAll (V.takes walk.entry.with.now) (run (row_format (levels + 1) walk.entry.classes.now layouts.now) walk.entry.bytes.now walk.entry.end at) visitor.old visitor.new }
-    ensures ready { V.ready visitor.new walk.entry.with.now }
+    requires layouts { AllByRecursion (IsFieldLayout walk.now.classes.now) layouts.now }
+    requires room { AllByRecursion (λ s. Room walk.now.classes.now levels s.shape) layouts.now }
+    requires order { at ≤ walk.now.end }
+    requires ready { V.ready visitor.old walk.now.with.now }
+    ensures exact { result ≡ seen (run (row_format (levels + 1) walk.now.classes.now layouts.now) walk.now.bytes.now walk.now.end at) }
+    ensures range { IfOk result (λ to. (at ≤ to) × (to ≤ walk.now.end)) }
+    ensures visited { TakesReadAll (V.takes walk.now.with.now) (run (row_format (levels + 1) walk.now.classes.now layouts.now) walk.now.bytes.now walk.now.end at) visitor.old visitor.new }
+    ensures ready { V.ready visitor.new walk.now.with.now }
 {
     let mut to = at;
     for layout in layouts {
@@ -334,20 +334,20 @@ fn row_end<C, V: Visit<C>>(
 #[tactic(auto, using(jfr_base::proofs::SeenLaws::ends), unfolding(jfr_base::specs::Formats::run, crate::specs::Reading::class_format))]
 #[inline(never)]
 pub(crate) fn fields_end<C, V: Visit<C>>(
-    walk: Walk<'_, '_, C>,
+    walk: &Walk<'_, '_, C>,
     layouts: &[FieldLayout],
     at: usize,
     levels: u32,
     visitor: &mut V,
 ) -> Result<usize, Flaw>
-    requires layouts { AllByRecursion (IsFieldLayout walk.classes.now) layouts.now }
-    requires room { AllByRecursion (λ s. Room walk.classes.now levels s.shape) layouts.now }
-    requires order { at ≤ walk.end }
-    requires ready { V.ready visitor.old walk.with.now }
-    ensures exact { result ≡ seen (run (row_format (levels + 1) walk.entry.classes.now layouts.now) walk.entry.bytes.now walk.entry.end at) }
-    ensures range { IfOk result (λ to. (at ≤ to) × (to ≤ walk.entry.end)) }
-    ensures visited { TakesReadAll (V.takes walk.entry.with.now) (run (row_format (levels + 1) walk.entry.classes.now layouts.now) walk.entry.bytes.now walk.entry.end at) visitor.old visitor.new }
-    ensures ready { V.ready visitor.new walk.entry.with.now }
+    requires layouts { AllByRecursion (IsFieldLayout walk.now.classes.now) layouts.now }
+    requires room { AllByRecursion (λ s. Room walk.now.classes.now levels s.shape) layouts.now }
+    requires order { at ≤ walk.now.end }
+    requires ready { V.ready visitor.old walk.now.with.now }
+    ensures exact { result ≡ seen (run (row_format (levels + 1) walk.now.classes.now layouts.now) walk.now.bytes.now walk.now.end at) }
+    ensures range { IfOk result (λ to. (at ≤ to) × (to ≤ walk.now.end)) }
+    ensures visited { TakesReadAll (V.takes walk.now.with.now) (run (row_format (levels + 1) walk.now.classes.now layouts.now) walk.now.bytes.now walk.now.end at) visitor.old visitor.new }
+    ensures ready { V.ready visitor.new walk.now.with.now }
 {
     row_end(walk, layouts, at, levels, visitor)
 }
@@ -384,21 +384,21 @@ fn whole_row_end<C, V: Visit<C>>(
 #[tactic(auto, using(jfr_base::proofs::SeenLaws::ends), unfolding(jfr_base::specs::Formats::run, crate::specs::Reading::class_format))]
 #[inline(never)]
 fn array_end<C, V: Visit<C>>(
-    walk: Walk<'_, '_, C>,
+    walk: &Walk<'_, '_, C>,
     layout: &FieldLayout,
     at: usize,
     levels: u32,
     visitor: &mut V,
 ) -> Result<usize, Flaw>
     requires array { layout.now.shape.array ≡ true }
-    requires placed { IsPlaced walk.classes.now layout.now }
-    requires room { Room walk.classes.now levels layout.now.shape }
-    requires order { at ≤ walk.end }
-    requires ready { V.ready visitor.old walk.with.now }
-    ensures exact { result ≡ seen (run (shape_format (class_format (levels + 1) walk.entry.classes.now) layout.now.shape) walk.entry.bytes.now walk.entry.end at) }
-    ensures range { IfOk result (λ to. (at ≤ to) × (to ≤ walk.entry.end)) }
-    ensures visited { TakesRead (V.takes walk.entry.with.now) (run (shape_format (class_format (levels + 1) walk.entry.classes.now) layout.now.shape) walk.entry.bytes.now walk.entry.end at) visitor.old visitor.new }
-    ensures ready { V.ready visitor.new walk.entry.with.now }
+    requires placed { IsPlaced walk.now.classes.now layout.now }
+    requires room { Room walk.now.classes.now levels layout.now.shape }
+    requires order { at ≤ walk.now.end }
+    requires ready { V.ready visitor.old walk.now.with.now }
+    ensures exact { result ≡ seen (run (shape_format (class_format (levels + 1) walk.now.classes.now) layout.now.shape) walk.now.bytes.now walk.now.end at) }
+    ensures range { IfOk result (λ to. (at ≤ to) × (to ≤ walk.now.end)) }
+    ensures visited { TakesRead (V.takes walk.now.with.now) (run (shape_format (class_format (levels + 1) walk.now.classes.now) layout.now.shape) walk.now.bytes.now walk.now.end at) visitor.old visitor.new }
+    ensures ready { V.ready visitor.new walk.now.with.now }
 {
     let count = read_within(walk.bytes, at, walk.end)?;
     let item = item_layout(layout);

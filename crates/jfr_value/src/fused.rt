@@ -74,7 +74,7 @@ fn each_end<C, V: Visit<C>>(
     ensures ready { V.ready visitor.new walk.entry.with.now }
 {
     let fields = &class_layout.layouts[fused.first..fused.first + fused.fields];
-    let to = fields_end(walk, fields, at, levels, visitor)?;
+    let to = fields_end(&walk, fields, at, levels, visitor)?;
     Ok(to)
 }
 

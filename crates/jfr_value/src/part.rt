@@ -97,7 +97,7 @@ fn part_end(classes: &Classes, layout: &FieldLayout, bytes: &[u8], at: usize, en
         end,
         with: &(),
     };
-    match layout_end(walk, layout, at, STEPS, &mut NoVisit) {
+    match layout_end(&walk, layout, at, STEPS, &mut NoVisit) {
         Ok(to) => to,
         Err(_) => unreachable!(),
     }

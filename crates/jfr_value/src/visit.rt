@@ -57,28 +57,28 @@ pub fn visit_targets<C, V: Visit<C>, L: Ledger>(
         end: node.end,
         with,
     };
-    let _end = visit_value(walk, &layout, node.at, STEPS, visitor, steps);
+    let _end = visit_value(&walk, &layout, node.at, STEPS, visitor, steps);
 }
 
 /// Visits a value of a shape, whose class is at a place, and says where it ends.
 #[cycle(visits)]
 #[inline(always)]
 fn visit_value<C, V: Visit<C>, L: Ledger>(
-    walk: Walk<'_, '_, C>,
+    walk: &Walk<'_, '_, C>,
     layout: &FieldLayout,
     at: usize,
     levels: u32,
     visitor: &mut V,
     steps: &mut Steps<L>,
 ) -> usize
-    requires sound { Sound walk.classes.now }
-    requires layout { IsLayoutIfKnown walk.classes.now layout.now }
-    requires room { Room walk.classes.now levels layout.now.shape }
-    requires stands { (to : ℕ) × EndsAt walk.classes.now walk.bytes.now layout.now.shape at to × (to ≤ walk.end) }
-    requires ready { V.ready visitor.old walk.with.now }
-    ensures visited { (to : ℕ) (v : Value) → IsNode walk.entry.classes.now walk.entry.bytes.now (node_at layout.now.shape at to) v → to ≤ walk.entry.end
-        → (result ≡ to) × TakesAll (V.takes walk.entry.with.now) (targets_of v) visitor.old visitor.new × (steps.new ≡ steps.old + length (leaves_at at v)) }
-    ensures ready { V.ready visitor.new walk.entry.with.now }
+    requires sound { Sound walk.now.classes.now }
+    requires layout { IsLayoutIfKnown walk.now.classes.now layout.now }
+    requires room { Room walk.now.classes.now levels layout.now.shape }
+    requires stands { (to : ℕ) × EndsAt walk.now.classes.now walk.now.bytes.now layout.now.shape at to × (to ≤ walk.now.end) }
+    requires ready { V.ready visitor.old walk.now.with.now }
+    ensures visited { (to : ℕ) (v : Value) → IsNode walk.now.classes.now walk.now.bytes.now (node_at layout.now.shape at to) v → to ≤ walk.now.end
+        → (result ≡ to) × TakesAll (V.takes walk.now.with.now) (targets_of v) visitor.old visitor.new × (steps.new ≡ steps.old + length (leaves_at at v)) }
+    ensures ready { V.ready visitor.new walk.now.with.now }
 {
     match layout.form {
         Form::Integer | Form::Raw(_) => visit_plain(walk, layout.kind, at, steps),
@@ -92,21 +92,21 @@ fn visit_value<C, V: Visit<C>, L: Ledger>(
 /// Visits the fields of the class at a place, and says where they end.
 #[cycle(visits)]
 fn visit_fields<C, V: Visit<C>, L: Ledger>(
-    walk: Walk<'_, '_, C>,
+    walk: &Walk<'_, '_, C>,
     place: usize,
     at: usize,
     levels: u32,
     visitor: &mut V,
     steps: &mut Steps<L>,
 ) -> usize
-    requires sound { Sound walk.classes.now }
-    requires placed { place < length walk.classes.now }
-    requires room { AllByRecursion (Room walk.classes.now levels) (field_shapes walk.classes.now place) }
-    requires stand { (to : ℕ) × (vs : Values) × IsRow walk.classes.now walk.bytes.now at to (field_shapes walk.classes.now place) vs × (to ≤ walk.end) }
-    requires ready { V.ready visitor.old walk.with.now }
-    ensures visited { (to : ℕ) (vs : Values) → IsRow walk.entry.classes.now walk.entry.bytes.now at to (field_shapes walk.entry.classes.now place) vs → to ≤ walk.entry.end
-        → (result ≡ to) × TakesAll (V.takes walk.entry.with.now) (targets_of_all vs) visitor.old visitor.new × (steps.new ≡ steps.old + length (leaves_from at vs)) }
-    ensures ready { V.ready visitor.new walk.entry.with.now }
+    requires sound { Sound walk.now.classes.now }
+    requires placed { place < length walk.now.classes.now }
+    requires room { AllByRecursion (Room walk.now.classes.now levels) (field_shapes walk.now.classes.now place) }
+    requires stand { (to : ℕ) × (vs : Values) × IsRow walk.now.classes.now walk.now.bytes.now at to (field_shapes walk.now.classes.now place) vs × (to ≤ walk.now.end) }
+    requires ready { V.ready visitor.old walk.now.with.now }
+    ensures visited { (to : ℕ) (vs : Values) → IsRow walk.now.classes.now walk.now.bytes.now at to (field_shapes walk.now.classes.now place) vs → to ≤ walk.now.end
+        → (result ≡ to) × TakesAll (V.takes walk.now.with.now) (targets_of_all vs) visitor.old visitor.new × (steps.new ≡ steps.old + length (leaves_from at vs)) }
+    ensures ready { V.ready visitor.new walk.now.with.now }
 {
     let mut to = at;
     for layout in walk.classes.layouts(place) {
@@ -118,22 +118,22 @@ fn visit_fields<C, V: Visit<C>, L: Ledger>(
 /// Visits an array, whose count takes a step, and says where it ends.
 #[cycle(visits)]
 fn visit_array<C, V: Visit<C>, L: Ledger>(
-    walk: Walk<'_, '_, C>,
+    walk: &Walk<'_, '_, C>,
     layout: &FieldLayout,
     at: usize,
     levels: u32,
     visitor: &mut V,
     steps: &mut Steps<L>,
 ) -> usize
-    requires sound { Sound walk.classes.now }
+    requires sound { Sound walk.now.classes.now }
     requires array { layout.now.shape.array ≡ true }
-    requires layout { IsLayoutIfKnown walk.classes.now layout.now }
-    requires room { Room walk.classes.now levels layout.now.shape }
-    requires stands { (to : ℕ) × EndsAt walk.classes.now walk.bytes.now layout.now.shape at to × (to ≤ walk.end) }
-    requires ready { V.ready visitor.old walk.with.now }
-    ensures visited { (to : ℕ) (v : Value) → IsNode walk.entry.classes.now walk.entry.bytes.now (node_at layout.now.shape at to) v → to ≤ walk.entry.end
-        → (result ≡ to) × TakesAll (V.takes walk.entry.with.now) (targets_of v) visitor.old visitor.new × (steps.new ≡ steps.old + length (leaves_at at v)) }
-    ensures ready { V.ready visitor.new walk.entry.with.now }
+    requires layout { IsLayoutIfKnown walk.now.classes.now layout.now }
+    requires room { Room walk.now.classes.now levels layout.now.shape }
+    requires stands { (to : ℕ) × EndsAt walk.now.classes.now walk.now.bytes.now layout.now.shape at to × (to ≤ walk.now.end) }
+    requires ready { V.ready visitor.old walk.now.with.now }
+    ensures visited { (to : ℕ) (v : Value) → IsNode walk.now.classes.now walk.now.bytes.now (node_at layout.now.shape at to) v → to ≤ walk.now.end
+        → (result ≡ to) × TakesAll (V.takes walk.now.with.now) (targets_of v) visitor.old visitor.new × (steps.new ≡ steps.old + length (leaves_at at v)) }
+    ensures ready { V.ready visitor.new walk.now.with.now }
 {
     let Ok(count) = read_within(walk.bytes, at, walk.end) else {
         unreachable!()
@@ -167,18 +167,18 @@ fn has_bytes(classes: &Classes, layout: &FieldLayout) -> bool
 /// Visits a reference of a class, at a step, and says where it ends.
 #[inline(always)]
 fn visit_key<C, V: Visit<C>, L: Ledger>(
-    walk: Walk<'_, '_, C>,
+    walk: &Walk<'_, '_, C>,
     class: u64,
     at: usize,
     visitor: &mut V,
     steps: &mut Steps<L>,
 ) -> usize
-    requires order { at ≤ walk.end }
-    requires stands { IsSome (int_at walk.bytes.now at walk.end) }
-    requires ready { V.ready visitor.old walk.with.now }
-    ensures visited { IfSome (int_at walk.entry.bytes.now at walk.entry.end) (λ key.
-        (result ≡ key.end) × V.takes walk.entry.with.now (class, key.value) visitor.old visitor.new) }
-    ensures ready { V.ready visitor.new walk.entry.with.now }
+    requires order { at ≤ walk.now.end }
+    requires stands { IsSome (int_at walk.now.bytes.now at walk.now.end) }
+    requires ready { V.ready visitor.old walk.now.with.now }
+    ensures visited { IfSome (int_at walk.now.bytes.now at walk.now.end) (λ key.
+        (result ≡ key.end) × V.takes walk.now.with.now (class, key.value) visitor.old visitor.new) }
+    ensures ready { V.ready visitor.new walk.now.with.now }
     ensures cost { steps.new ≡ steps.old + 1 }
 {
     let Ok(key) = read_within(walk.bytes, at, walk.end) else {
@@ -192,18 +192,18 @@ fn visit_key<C, V: Visit<C>, L: Ledger>(
 /// Visits a string, at a step, and says where it ends.
 #[inline(always)]
 fn visit_string<C, V: Visit<C>, L: Ledger>(
-    walk: Walk<'_, '_, C>,
+    walk: &Walk<'_, '_, C>,
     class: u64,
     at: usize,
     visitor: &mut V,
     steps: &mut Steps<L>,
 ) -> usize
-    requires order { at ≤ walk.end }
-    requires stands { IsOk (run (string_format true) walk.bytes.now walk.end at) }
-    requires ready { V.ready visitor.old walk.with.now }
-    ensures visited { IfOk (run (string_format true) walk.entry.bytes.now walk.entry.end at) (λ got.
-        (result ≡ got.place) × TakesAll (V.takes walk.entry.with.now) (option_to_list (option_map (λ key. (class, key)) (key_of got.value))) visitor.old visitor.new) }
-    ensures ready { V.ready visitor.new walk.entry.with.now }
+    requires order { at ≤ walk.now.end }
+    requires stands { IsOk (run (string_format true) walk.now.bytes.now walk.now.end at) }
+    requires ready { V.ready visitor.old walk.now.with.now }
+    ensures visited { IfOk (run (string_format true) walk.now.bytes.now walk.now.end at) (λ got.
+        (result ≡ got.place) × TakesAll (V.takes walk.now.with.now) (option_to_list (option_map (λ key. (class, key)) (key_of got.value))) visitor.old visitor.new) }
+    ensures ready { V.ready visitor.new walk.now.with.now }
     ensures cost { steps.new ≡ steps.old + 1 }
 {
     let Ok(string) = read_string(walk.bytes, at, walk.end) else {
@@ -220,14 +220,14 @@ fn visit_string<C, V: Visit<C>, L: Ledger>(
 /// Visits a value of a base name that refers to nothing, at a step, and says where it ends.
 #[inline(always)]
 fn visit_plain<C, L: Ledger>(
-    walk: Walk<'_, '_, C>,
+    walk: &Walk<'_, '_, C>,
     kind: Kind,
     at: usize,
     steps: &mut Steps<L>,
 ) -> usize
-    requires order { at ≤ walk.end }
-    requires stands { IsOk (seen (run (base_format kind) walk.bytes.now walk.end at)) }
-    ensures ends { IfOk (seen (run (base_format kind) walk.entry.bytes.now walk.entry.end at)) (λ to. result ≡ to) }
+    requires order { at ≤ walk.now.end }
+    requires stands { IsOk (seen (run (base_format kind) walk.now.bytes.now walk.now.end at)) }
+    ensures ends { IfOk (seen (run (base_format kind) walk.now.bytes.now walk.now.end at)) (λ to. result ≡ to) }
     ensures cost { steps.new ≡ steps.old + 1 }
 {
     let Ok(to) = base_end(kind, walk.bytes, at, walk.end) else {
