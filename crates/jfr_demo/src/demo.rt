@@ -72,7 +72,7 @@ fn lines_of(alloc: Global, chunk: &Chunk<'_>, scrubber: &Scrubber<'_>) -> Result
     push_count(&mut text, "kept constants", scrubber.kept_entries())?;
     push_count(&mut text, "bytes", chunk.bytes().len())?;
     push_count(&mut text, "kept bytes", scrubber.bytes().len())?;
-    text.into_text()
+    Ok(text.into_text()?)
 }
 
 /// The filter that keeps the events of `t.A`.

@@ -11,7 +11,7 @@ pub returns : goal.returns
 returns c = record {
   ok = λ kept e n w.
       let p = c.args.chunk.now in
-      c.into_text.ensures ∙ six_lines
+      c.in_ok-into_text.ensures.ok ∙ six_lines
       (number_line (codes "events") (length (events_of p))) (number_line (codes "kept events") (length kept)) (number_line (codes "constants") (length p.entries))
       (number_line (codes "kept constants") (length (remain p kept))) (number_line (codes "bytes") (length p.bytes)) (number_line (codes "kept bytes") (length (scrub_of p kept)))
       c.push_count.new.text c.push_count-2.new.text c.push_count-3.new.text c.push_count-4.new.text c.push_count-5.new.text c.push_count-6.new.text
