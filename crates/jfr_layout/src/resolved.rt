@@ -182,7 +182,7 @@ impl Resolved {
 
     /// The size of the index's direct table, which is a good size for other tables by id. Nothing else is
     /// promised of it.
-    pub fn near_len(&self) -> usize {
+    pub(crate) fn near_len(&self) -> usize {
         self.index.near_len()
     }
 
