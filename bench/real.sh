@@ -8,10 +8,10 @@
 # `print --json` are those that the JDK prints (values.py).
 #
 # Prints a row for each command: seconds, MB of the file a second, bytes written to the output stream or to files,
-# peak memory, and the seconds of the JDK's command, with how many times as long that takes. Seconds are the least of
-# five runs, or of RUNS; the two take turns, so that both meet a shared machine in the same minutes; texts go to
-# /dev/null. The row `cp` is a copy of the file, for comparison. With ONLY, a pattern as 'scrub*', just the rows whose
-# command it matches. The JDK is the one whose `jfr` is on the PATH, or in the folder JFR_BIN. Says what it skips
+# peak memory, and the seconds of the JDK's command, with how many times as long that takes. Seconds are the least and
+# the middle of five runs, or of RUNS; the two take turns, so that both meet a shared machine in the same minutes; texts
+# go to /dev/null. The row `cp` is a copy of the file, for comparison. With ONLY, a pattern as 'scrub*', just the rows
+# whose command it matches. The JDK is the one whose `jfr` is on the PATH, or in the folder JFR_BIN. Says what it skips
 # where a tool is missing.
 set -u
 program=$(realpath "$1"); shift
@@ -32,23 +32,26 @@ once() {
     took=$(awk "BEGIN { printf \"%.3f\", $to - $from }")
 }
 
-# The lesser of two numbers of seconds, of which the first may be missing.
-lesser() { awk "BEGIN { print (\"$1\" == \"\" || $2 < \"$1\" + 0) ? \"$2\" : \"$1\" }"; }
+# The least and the middle of numbers of seconds, of which there may be none.
+least_and_middle() { printf '%s\n' "$@" | sort -n | awk '$1 != "" { of[NR] = $1 } END { print of[1] + 0, of[int((NR + 1) / 2)] + 0 }'; }
 
-# The least seconds of the JDK's runs in turn with those of this program, in `theirs` and `ours`. The words up to `--`
-# are this program's command, those behind it the JDK's; where there are none, or its command ends with another status
-# than 0, it has no seconds.
+# How many times as long as the first number of seconds the second is.
+times_of() { awk "BEGIN { printf \"%.1f\", $2 / ($1 > 0 ? $1 : 0.001) }"; }
+
+# The seconds of the JDK's runs in turn with those of this program, in the lists `theirs` and `ours`. The words up to
+# `--` are this program's command, those behind it the JDK's; where there are none, or its command ends with another
+# status than 0, it has no seconds.
 race() {
     local mine=() its=()
-    ours='' theirs=''
+    ours=() theirs=()
     while [ $# -gt 0 ] && [ "$1" != -- ]; do mine+=("$1"); shift; done
     [ -z "$has_jfr" ] || its=("${@:2}")
     for ((round = 0; round < ${RUNS:-5}; round++)); do
         if [ ${#its[@]} -gt 0 ]; then
             once /dev/null "$jdk" "${its[@]}"
-            if [ "$status" = 0 ]; then theirs=$(lesser "$theirs" "$took"); else its=() theirs=''; fi
+            if [ "$status" = 0 ]; then theirs+=("$took"); else its=() theirs=(); fi
         fi
-        once /dev/null "${mine[@]}"; ours=$(lesser "$ours" "$took")
+        once /dev/null "${mine[@]}"; ours+=("$took")
         [ "$status" = 0 ] || return
     done
 }
@@ -56,7 +59,7 @@ race() {
 # A row: a label, and what `race` takes, without the program. What was written stands in `text` and in `made` then.
 # Fails where the row isn't asked for, or the command has another status than 0.
 row() {
-    local label=$1 peak=- times=- mine=(); shift
+    local label=$1 peak=- least middle its_least=- its_middle=- times=- by_middle=- mine=(); shift
     # shellcheck disable=SC2053 # ONLY is a pattern
     [[ $label == ${ONLY:-*} ]] || return 1
     race "$program" "$@"
@@ -68,8 +71,12 @@ row() {
     else
         once "$work/text" "$program" "${mine[@]}"
     fi
-    [ -z "$theirs" ] || times=$(awk "BEGIN { printf \"%.1f\", $theirs / ($ours > 0 ? $ours : 0.001) }")
-    echo "| $name | $label | $ours | $(speed "$ours") | $(written) | $peak | ${theirs:--} | $times |"
+    read -r least middle < <(least_and_middle "${ours[@]}")
+    if [ ${#theirs[@]} -gt 0 ]; then
+        read -r its_least its_middle < <(least_and_middle "${theirs[@]}")
+        times=$(times_of "$least" "$its_least") by_middle=$(times_of "$middle" "$its_middle")
+    fi
+    echo "| $name | $label | $least | $middle | $(speed "$least") | $(written) | $peak | $its_least | $its_middle | $times | $by_middle |"
 }
 
 # MB of the file in a second.
@@ -91,7 +98,7 @@ same_counts() { diff "$1" "$2" >"$work/diff" || { fail "other events: $3"; head 
 
 # All commands on a file.
 commands() {
-    local parts=$work/parts type=''
+    local parts=$work/parts type='' least middle
     if [ -n "$has_jfr" ]; then
         counts "$file" >"$work/counts"
         type=$(sort -k2 -n -r "$work/counts" | head -1 | cut -d' ' -f1)
@@ -124,7 +131,8 @@ commands() {
         python3 "$here/values.py" "$work/ours" "$work/theirs" || fail "other values"
     fi
     race cp "$file" "$made/copy.jfr"
-    echo "| $name | cp | $ours | $(speed "$ours") | $size | - | - | - |"
+    read -r least middle < <(least_and_middle "${ours[@]}")
+    echo "| $name | cp | $least | $middle | $(speed "$least") | $size | - | - | - | - | - |"
 }
 
 has_jfr=$(command -v "$jdk" || true)
@@ -133,8 +141,8 @@ if [ -n "$has_jfr" ] && ! "$jdk" help scrub >/dev/null 2>&1; then echo "skipped:
 has_time=$(command -v /usr/bin/time || true)
 [ -n "$has_time" ] || echo "skipped: peak memory (no /usr/bin/time)"
 
-echo "| file | command | seconds | MB/s | bytes written | peak MB | the JDK's | times |"
-echo "|---|---|---:|---:|---:|---:|---:|---:|"
+echo "| file | command | seconds | middle | MB/s | bytes written | peak MB | the JDK's | middle | times | by the middle |"
+echo "|---|---|---:|---:|---:|---:|---:|---:|---:|---:|---:|"
 for file in "$@"; do
     name=$(basename "$file"); size=$(stat -c %s "$file")
     commands
