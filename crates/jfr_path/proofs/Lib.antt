@@ -6,5 +6,6 @@ pub mod NameLaws
 pub mod StepLaws
 pub mod TargetBytes
 pub mod TextLaws
+pub mod TextVerdictLaws
 pub mod ThreadLaws
 pub mod VerdictLaws

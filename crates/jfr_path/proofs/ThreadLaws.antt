@@ -15,7 +15,7 @@ use Rattle.jfr_value.proofs.ChildLaws.{no_field_of_constant}
 use Rattle.jfr_pool.specs.Entries.{in_force, entry_node}
 use Rattle.jfr_chunk.specs.Parts.{Parts, AreParts}
 use Rattle.jfr_chunk.specs.Paths.{follow, follow_while, is_reference, named_field, named_text}
-use Rattle.jfr_path.specs.Threads.{Asked, AreVerdicts, IsReferenceTo, allows_behind, target_cmp}
+use Rattle.jfr_path.specs.Threads.{Asked, AreVerdicts, IsReferenceTo, allows_behind, pair_cmp}
 use Rattle.jfr_path.proofs.FollowLaws.{followed, ends}
 use Rattle.jfr_path.proofs.NameLaws.{named_next}
 use Rattle.jfr_path.proofs.StepLaws.{sound, value_place}
@@ -59,15 +59,15 @@ reference_to a p n key reference q v b e t h =
     record { value = w.0; node = w.1; reference = sym e ∙ t; target = h }
 
 -- a verdict that was kept
-pub verdict_kept : (g : Given) (p : Parts) (verdicts : BTreeMap (ℕ × ℕ) Bool) (t : ℕ × ℕ) (n : NodeAt) (allowed : Bool) → AreVerdicts g p verdicts → IsReferenceTo p t n → Some allowed ≡ tree.get target_cmp verdicts t → allowed ≡ allows_behind g p n
+pub verdict_kept : (g : Given) (p : Parts) (verdicts : BTreeMap (ℕ × ℕ) Bool) (t : ℕ × ℕ) (n : NodeAt) (allowed : Bool) → AreVerdicts g p verdicts → IsReferenceTo p t n → Some allowed ≡ tree.get pair_cmp verdicts t → allowed ≡ allows_behind g p n
 verdict_kept g p verdicts t n allowed a r e = subst (λ z. IfSome z (λ allowed. allowed ≡ allows_behind g p n)) (sym e) (a.each t n r)
 
 -- a verdict more
-pub verdicts_next : (g : Given) (p : Parts) (old new : BTreeMap (ℕ × ℕ) Bool) (t : ℕ × ℕ) (n : NodeAt) (allowed : Bool) → AreParts p → AreVerdicts g p old → IsReferenceTo p t n → allowed ≡ allows_behind g p n → tree.Updates target_cmp old new t (Some allowed) → AreVerdicts g p new
-verdicts_next g p old new t n allowed parts a r e up = record { each = λ u m s. subst (λ z. IfSome z (λ allowed. allowed ≡ allows_behind g p m)) (sym (up.0 u)) (by_key u m s (is_at (target_cmp t) u) refl) }
+pub verdicts_next : (g : Given) (p : Parts) (old new : BTreeMap (ℕ × ℕ) Bool) (t : ℕ × ℕ) (n : NodeAt) (allowed : Bool) → AreParts p → AreVerdicts g p old → IsReferenceTo p t n → allowed ≡ allows_behind g p n → tree.Updates pair_cmp old new t (Some allowed) → AreVerdicts g p new
+verdicts_next g p old new t n allowed parts a r e up = record { each = λ u m s. subst (λ z. IfSome z (λ allowed. allowed ≡ allows_behind g p m)) (sym (up.0 u)) (by_key u m s (is_at (pair_cmp t) u) refl) }
   where
-    by_key : (u : ℕ × ℕ) (m : NodeAt) → IsReferenceTo p u m → (b : Bool) → is_at (target_cmp t) u ≡ b → IfSome (cond b (Some allowed) (tree.get target_cmp old u)) (λ allowed. allowed ≡ allows_behind g p m)
+    by_key : (u : ℕ × ℕ) (m : NodeAt) → IsReferenceTo p u m → (b : Bool) → is_at (pair_cmp t) u ≡ b → IfSome (cond b (Some allowed) (tree.get pair_cmp old u)) (λ allowed. allowed ≡ allows_behind g p m)
     by_key u m s true q =
-        let same : t ≡ u = exact_pairs nat_cmp nat_cmp exact_unsigned exact_unsigned t u ((Equal-is (target_cmp t u)).0 q) in
+        let same : t ≡ u = exact_pairs nat_cmp nat_cmp exact_unsigned exact_unsigned t u ((Equal-is (pair_cmp t u)).0 q) in
         e ∙ same_allowed p parts t n m r (subst (λ z. IsReferenceTo p z m) (sym same) s) g
     by_key u m s false q = a.each u m s

@@ -10,6 +10,7 @@ mod chosen;
 mod names;
 mod path;
 mod steps;
+mod texts;
 mod threads;
 mod verdict;
 

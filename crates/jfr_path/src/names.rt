@@ -99,7 +99,7 @@ pub(crate) fn is_reference(node: &Node<'_>) -> bool
 }
 
 /// Where references and keys of strings lead that follow one another.
-fn behind_keys<'a>(chunk: &Chunk<'a>, node: &Node<'a>) -> Node<'a>
+pub(crate) fn behind_keys<'a>(chunk: &Chunk<'a>, node: &Node<'a>) -> Node<'a>
     requires parts { AreParts chunk.now }
     requires value { IsValue chunk.now.classes node.now }
     requires of_chunk { node.now.bytes.now ≡ chunk.now.bytes }
@@ -118,11 +118,7 @@ fn behind_keys<'a>(chunk: &Chunk<'a>, node: &Node<'a>) -> Node<'a>
 }
 
 /// The text of a value, where it has one.
-pub(crate) fn text_at<'a>(
-    alloc: Global,
-    chunk: &Chunk<'a>,
-    node: &Node<'a>,
-) -> Result<Option<Text>, NoMemory>
+fn text_at<'a>(alloc: Global, chunk: &Chunk<'a>, node: &Node<'a>) -> Result<Option<Text>, NoMemory>
     requires parts { AreParts chunk.now }
     requires value { IsValue chunk.now.classes node.now }
     requires of_chunk { node.now.bytes.now ≡ chunk.now.bytes }

@@ -2,11 +2,12 @@
 ghost use Rattle.std.specs.Prelude.{◌≡◌, IfOk};
 ghost use Rattle.jfr_chunk.specs.Parts.{AreParts};
 ghost use Rattle.jfr_value.specs.Nodes.{IsValue, node_of};
-ghost use Rattle.jfr_path.specs.Threads.{allows_behind, text_behind};
+ghost use Rattle.jfr_path.specs.Threads.{allows_behind};
 
-use crate::names::{behind_references, is_reference, named_field, text_at};
+use crate::names::is_reference;
 use crate::steps::reference_key;
-use jfr_base::{NoMemory, Text};
+use crate::texts::TextVerdicts;
+use jfr_base::NoMemory;
 use jfr_chunk::Chunk;
 use jfr_filter::Filter;
 use jfr_value::Node;
@@ -18,9 +19,7 @@ use std::marker::Model;
 /// the class and the key of the reference. Contracts see the filter and the chunk.
 #[derive(Drop)]
 pub(crate) struct ThreadVerdicts<'c, 'a> {
-    alloc: Global,
-    filter: &'c Filter,
-    chunk: &'c Chunk<'a>,
+    texts: TextVerdicts<'c, 'a>,
     verdicts: BTreeMap<(u64, u64), bool>,
 }
 
@@ -33,9 +32,9 @@ impl<'c, 'a> Model for ThreadVerdicts<'c, 'a> {
 
     ghost coded = { Prim.hlevel (codes, tree_code) };
 
-    ghost view = { λ t. record { filter = t.filter.now; chunk = t.chunk.now } };
+    ghost view = { λ t. t.texts };
 
-    ghost invariant = { λ t. AreVerdicts t.filter.now t.chunk.now t.verdicts };
+    ghost invariant = { λ t. AreVerdicts t.texts.filter t.texts.chunk t.verdicts };
 }
 
 impl<'c, 'a> ThreadVerdicts<'c, 'a> {
@@ -49,15 +48,13 @@ impl<'c, 'a> ThreadVerdicts<'c, 'a> {
         ensures chunk { result.chunk ≡ chunk.now }
     {
         ThreadVerdicts {
-            alloc,
-            filter,
-            chunk,
+            texts: TextVerdicts::new(alloc, chunk, filter),
             verdicts: BTreeMap::new(alloc),
         }
     }
 
     /// Whether the filter allows the thread behind a value. For all references to one class and key the
-    /// text is made once, and the filter asked once.
+    /// answer is found once.
     pub(crate) fn allows(&mut self, thread: &Node<'a>) -> Result<bool, NoMemory>
         requires parts { AreParts self.old.chunk }
         requires value { IsValue self.old.chunk.classes thread.now }
@@ -66,52 +63,17 @@ impl<'c, 'a> ThreadVerdicts<'c, 'a> {
         ensures same { self.new ≡ self.old }
     {
         if !is_reference(thread) {
-            return allows_behind(self.alloc, self.chunk, self.filter, thread);
+            return self.texts.allows_behind(thread);
         }
-        let target = (thread.shape.class, reference_key(self.chunk, thread));
+        let target = (
+            thread.shape.class,
+            reference_key(self.texts.chunk(), thread),
+        );
         if let Some(allowed) = self.verdicts.get(&target) {
             return Ok(*allowed);
         }
-        let allowed = allows_behind(self.alloc, self.chunk, self.filter, thread)?;
+        let allowed = self.texts.allows_behind(thread)?;
         self.verdicts.insert(target, allowed)?;
         Ok(allowed)
-    }
-}
-
-/// Whether the filter allows the thread behind a value.
-fn allows_behind(
-    alloc: Global,
-    chunk: &Chunk<'_>,
-    filter: &Filter,
-    thread: &Node<'_>,
-) -> Result<bool, NoMemory>
-    requires parts { AreParts chunk.now }
-    requires value { IsValue chunk.now.classes thread.now }
-    requires of_chunk { thread.now.bytes.now ≡ chunk.now.bytes }
-    ensures ok { IfOk result (λ allowed. allowed ≡ allows_behind filter.now chunk.now (node_of thread.now)) }
-{
-    let text = text_behind(alloc, chunk, thread)?;
-    let text = match &text {
-        Some(text) => Some(text.as_str()),
-        None => None,
-    };
-    Ok(filter.allows_thread(text))
-}
-
-/// The thread text behind a value.
-fn text_behind(
-    alloc: Global,
-    chunk: &Chunk<'_>,
-    thread: &Node<'_>,
-) -> Result<Option<Text>, NoMemory>
-    requires parts { AreParts chunk.now }
-    requires value { IsValue chunk.now.classes thread.now }
-    requires of_chunk { thread.now.bytes.now ≡ chunk.now.bytes }
-    ensures ok { IfOk result (λ text. text ≡ text_behind chunk.now (node_of thread.now)) }
-{
-    let holder = behind_references(chunk, thread);
-    match named_field(chunk, &holder, "javaName") {
-        Some(name) => text_at(alloc, chunk, &name),
-        None => Ok(None),
     }
 }
