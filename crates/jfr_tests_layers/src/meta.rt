@@ -4,8 +4,9 @@ use jfr_base::{Flaw, ReadFault, Reason};
 use jfr_fixtures::{CLASSES, NO_CLASSES};
 use jfr_frame::next_record;
 use jfr_meta::{Element, Elements, Metadata, Pairs, metadata_len, read_metadata, write_metadata};
-use jfr_outside::Words;
+use jfr_outside::{NoMemory, Words};
 use std::alloc::Global;
+use std::process::Abort;
 use std::test::Fail;
 
 // The place of a byte of the record, what it becomes, and the flaw.
@@ -55,18 +56,20 @@ fn flawed(offset: u64, reason: Reason) -> Option<ReadFault> {
 }
 
 #[test]
-fn reads_classes(rt: HostRuntime) -> Result<(), Fail> {
-    let alloc = rt.alloc();
-    let none = read(alloc, NO_CLASSES)?;
+fn reads_no_classes(rt: HostRuntime) -> Result<(), Fail> {
+    let none = read(rt.alloc(), NO_CLASSES)?;
     assert_eq!(rt; (none.start, none.duration, none.id), (0, 0, 1));
     assert_eq!(rt; none.strings.get(1), Some("metadata"));
     assert_eq!(rt; none.classes.len(), 0);
-    let some = read(alloc, CLASSES)?;
-    assert_eq!(rt; some.strings.len(), 24);
-    assert_eq!(rt; some.classes.len(), 5);
+    Ok(())
+}
+
+#[test]
+fn reads_classes(rt: HostRuntime) -> Result<(), Fail> {
+    let some = read(rt.alloc(), CLASSES)?;
+    assert_eq!(rt; (some.strings.len(), some.classes.len()), (24, 5));
     assert_eq!(rt; some.classes.field_named(8, "node"), Some(1));
-    assert!(rt; some.classes.is_event(9));
-    assert!(rt; !some.classes.is_event(7));
+    assert!(rt; some.classes.is_event(9) && !some.classes.is_event(7));
     Ok(())
 }
 
@@ -114,9 +117,8 @@ const WRITTEN: [u8; 31] = [
     0x08, 0x6d, 0x65, 0x74, 0x61, 0x64, 0x61, 0x74, 0x61, 0x00, 0x00, 0x01, 0x01, 0x00, 0x00,
 ];
 
-#[test]
-fn writes_a_record(rt: HostRuntime) -> Result<(), Fail> {
-    let alloc = rt.alloc();
+// That record as it is written. Its length is told before, without the number of strings.
+fn written(rt: &impl Abort, alloc: Global) -> Result<Vec<u8>, NoMemory> {
     let mut strings = Words::new(alloc);
     strings.push("root")?;
     strings.push("metadata")?;
@@ -124,9 +126,19 @@ fn writes_a_record(rt: HostRuntime) -> Result<(), Fail> {
     children.push(Element::new(0, 1, Pairs::new(alloc), Elements::new(alloc)))?;
     let root = Element::new(0, 0, Pairs::new(alloc), children);
     assert_eq!(rt; metadata_len(&strings, &root), 22);
-    let written = write_metadata(alloc, 0, 0, 1, &strings, &root)?;
-    assert_eq!(rt; written.as_slice(), WRITTEN.as_slice());
-    let again = read(alloc, &written)?;
+    write_metadata(alloc, 0, 0, 1, &strings, &root)
+}
+
+#[test]
+fn writes_a_record(rt: HostRuntime) -> Result<(), Fail> {
+    let record = written(&rt, rt.alloc())?;
+    assert_eq!(rt; record.as_slice(), WRITTEN.as_slice());
+    Ok(())
+}
+
+#[test]
+fn reads_what_is_written(rt: HostRuntime) -> Result<(), Fail> {
+    let again = read(rt.alloc(), &WRITTEN)?;
     assert_eq!(rt; again.root.children().len(), 1);
     assert_eq!(rt; again.strings.get(0), Some("root"));
     Ok(())

@@ -29,13 +29,17 @@ fn write_twice<S: Sink>(sink: &mut S) -> Result<(), Fault> {
     sink.write(b"cde")
 }
 
-// Calls for which a place without scripts has a cause to fail; the file a is there.
+// Calls for which a place without scripts and without an open file has a cause to fail.
 fn misuse<P: Place>(rt: &impl Abort, place: &mut P) {
     assert_eq!(rt; place.open_input("c"), Err(Fault::Failed));
     assert_eq!(rt; place.read(&mut [0; 4]), Err(Fault::Failed));
     assert_eq!(rt; place.append(b"x"), Err(Fault::Failed));
     assert_eq!(rt; place.append_pieces(&[b"x"]), Err(Fault::Failed));
     assert_eq!(rt; place.finish_output(), Err(Fault::Failed));
+}
+
+// Creates whose names are there, or for which another output is open; the file a is there.
+fn miscreate<P: Place>(rt: &impl Abort, place: &mut P) {
     assert_eq!(rt; place.create_output("a"), Err(Fault::Failed));
     assert_eq!(rt; place.create_output("b"), Ok(()));
     assert_eq!(rt; place.create_output("c"), Err(Fault::Failed));
@@ -111,12 +115,17 @@ fn a_place_fails_for_a_cause(rt: HostRuntime) -> Result<(), Fail> {
     let mut steady = SteadyPlace::new(rt.alloc());
     steady.put("a", b"abcdefg")?;
     misuse(&rt, &mut steady);
+    miscreate(&rt, &mut steady);
 
     let mut place = MemoryPlace::new(rt.alloc());
     place.put("a", b"abcdefg")?;
     misuse(&rt, &mut place);
+    miscreate(&rt, &mut place);
+    Ok(())
+}
 
-    // A file may be set while it is the output.
+#[test]
+fn a_file_may_be_set_while_it_is_the_output(rt: HostRuntime) -> Result<(), Fail> {
     let mut place = SteadyPlace::new(rt.alloc());
     assert_eq!(rt; place.create_output("a"), Ok(()));
     place.put("a", b"abc")?;

@@ -5,6 +5,7 @@ use jfr_header::Ending;
 use jfr_outside::{Call, MemoryPlace, NoMemory, Place, SteadyPlace};
 use jfr_plan::{Make, make_stream};
 use std::alloc::{AllocError, Global};
+use std::process::Abort;
 use std::test::Fail;
 
 // Makes of each chunk the chunk itself, in two pieces, and refuses every chunk where it is strict.
@@ -110,31 +111,47 @@ fn copies_by_its_rows(rt: HostRuntime) -> Result<(), Fail> {
     Ok(())
 }
 
+// Copies, and compares the answer and what b has then.
+fn see_copy(
+    rt: &impl Abort,
+    alloc: Global,
+    place: &mut SteadyPlace,
+    answer: Ending,
+    copied: Option<&[u8]>,
+) {
+    assert_eq!(rt; copy(alloc, place, false), answer);
+    assert_eq!(rt; place.file("b"), copied);
+}
+
 #[test]
 fn copies_over_a_steady_place(rt: HostRuntime) -> Result<(), Fail> {
     let alloc = rt.alloc();
     let mut place = SteadyPlace::new(alloc);
-    assert_eq!(rt; copy(alloc, &mut place, false), Ending::ReadFault);
-    assert_eq!(rt; place.file("b"), None);
-
+    see_copy(&rt, alloc, &mut place, Ending::ReadFault, None);
     place.put("a", &PLAIN)?;
     assert_eq!(rt; place.create_output("c"), Ok(()));
-    assert_eq!(rt; copy(alloc, &mut place, false), Ending::WriteFault);
-    assert_eq!(rt; place.file("b"), None);
+    see_copy(&rt, alloc, &mut place, Ending::WriteFault, None);
+    see_copy(&rt, alloc, &mut place, Ending::Done, Some(PLAIN.as_slice()));
+    see_copy(
+        &rt,
+        alloc,
+        &mut place,
+        Ending::WriteFault,
+        Some(PLAIN.as_slice()),
+    );
+    Ok(())
+}
 
-    assert_eq!(rt; copy(alloc, &mut place, false), Ending::Done);
-    assert_eq!(rt; place.file("b"), Some(PLAIN.as_slice()));
-    assert_eq!(rt; copy(alloc, &mut place, false), Ending::WriteFault);
-    assert_eq!(rt; place.file("b"), Some(PLAIN.as_slice()));
-
+#[test]
+fn a_refused_chunk_is_not_copied(rt: HostRuntime) -> Result<(), Fail> {
     let refused = Ending::Refused(Refusal {
         chunk: 1,
         offset: 100,
         reason: Reason::ChainDelta,
     });
-    let mut place = SteadyPlace::new(alloc);
+    let mut place = SteadyPlace::new(rt.alloc());
     place.put("a", &PLAIN)?;
-    assert_eq!(rt; copy(alloc, &mut place, true), refused);
+    assert_eq!(rt; copy(rt.alloc(), &mut place, true), refused);
     assert_eq!(rt; place.file("b"), Some(&PLAIN[..0]));
     Ok(())
 }

@@ -6,6 +6,7 @@ use jfr_frame::Frames;
 use jfr_layout::{ClassFault, ClassList, Classes};
 use jfr_pool::{Chain, EntryAt, Pools};
 use std::alloc::{AllocError, Global};
+use std::process::Abort;
 use std::test::Fail;
 
 const HEADER: usize = 68;
@@ -31,55 +32,60 @@ fn pools_of(alloc: Global, classes: &Classes, chunk: &[u8], last: u64) -> Result
     Pools::read(alloc, chunk, classes, &chain)
 }
 
+// The entries of the chunk of these records, whose last checkpoint stands at a place.
+fn pools_in(alloc: Global, records: &[u8], last: u64) -> Result<Pools, Fail> {
+    let classes = classes(alloc)?;
+    let chunk = chunk_of(alloc, &[records], last, 68)?;
+    Ok(pools_of(alloc, &classes, &chunk, last)?)
+}
+
+// The second of the two entries of a key.
+const SECOND: EntryAt = EntryAt {
+    class: 7,
+    key: 1,
+    key_at: 104,
+    value_at: 105,
+    end: 109,
+    checkpoint: 1,
+    pool: 0,
+};
+
 #[test]
 fn last_entry_of_a_key_is_in_force(rt: HostRuntime) -> Result<(), Fail> {
-    let alloc = rt.alloc();
-    let classes = classes(alloc)?;
-    let chunk = chunk_of(alloc, &[TWICE], 87, 68)?;
-    let pools = pools_of(alloc, &classes, &chunk, 87)?;
-    assert_eq!(rt; pools.len(), 2);
-    let second = EntryAt {
-        class: 7,
-        key: 1,
-        key_at: 104,
-        value_at: 105,
-        end: 109,
-        checkpoint: 1,
-        pool: 0,
-    };
-    assert_eq!(rt; pools.get(1).copied(), Some(second));
-    assert_eq!(rt; pools.entry(7, 1), Some(1));
-    assert_eq!(rt; pools.entry(7, 2), None);
-    assert!(rt; !pools.in_force(0));
-    assert!(rt; pools.in_force(1));
+    let pools = pools_in(rt.alloc(), TWICE, 87)?;
+    assert_eq!(rt; pools.get(1).copied(), Some(SECOND));
+    assert_eq!(rt; (pools.entry(7, 1), pools.entry(7, 2)), (Some(1), None));
+    assert!(rt; pools.len() == 2);
+    assert!(rt; !pools.in_force(0) && pools.in_force(1));
+    Ok(())
+}
+
+// The class, key, checkpoint and pool of an entry.
+type Expected = (u64, u64, usize, usize);
+
+const OF_THREE: [Expected; 2] = [(7, 1, 0, 0), (7, 3, 1, 0)];
+
+const OF_STRINGS: [Expected; 4] = [(7, 1, 0, 0), (6, 1, 0, 1), (6, 2, 0, 1), (6, 3, 0, 1)];
+
+// Compares each entry, of which each is in force, and looks for one of the key 0.
+fn see_entries(rt: &impl Abort, pools: &Pools, expected: &[Expected]) -> Result<(), Fail> {
+    assert_eq!(rt; pools.len(), expected.len());
+    for (number, (class, key, checkpoint, pool)) in expected.iter().enumerate() {
+        let entry = pools.get(number).ok_or("no entry")?;
+        let found = (entry.class, entry.key, entry.checkpoint, entry.pool);
+        assert_eq!(rt; found, (*class, *key, *checkpoint, *pool));
+        assert_eq!(rt; pools.entry(*class, *key), Some(number));
+    }
+    assert_eq!(rt; pools.entry(7, 0), None);
     Ok(())
 }
 
 #[test]
 fn entries_follow_the_chain(rt: HostRuntime) -> Result<(), Fail> {
-    let alloc = rt.alloc();
-    let classes = classes(alloc)?;
-    // class, key, checkpoint and pool of each entry
-    let three: &[(u64, u64, usize, usize)] = &[(7, 1, 0, 0), (7, 3, 1, 0)];
-    let strings: &[(u64, u64, usize, usize)] = &[
-        (7, 1, 0, 0),
-        (6, 1, 0, 1),
-        (6, 2, 0, 1),
-        (6, 3, 0, 1),
-    ];
-    for (records, last, expected) in [(THREE, 109, three), (STRINGS, 73, strings)] {
-        let chunk = chunk_of(alloc, &[records], last, 68)?;
-        let pools = pools_of(alloc, &classes, &chunk, last)?;
-        assert_eq!(rt; pools.len(), expected.len());
-        for (number, (class, key, checkpoint, pool)) in expected.iter().enumerate() {
-            let entry = pools.get(number).ok_or("no entry")?;
-            assert_eq!(rt; (entry.class, entry.key), (*class, *key));
-            assert_eq!(rt; (entry.checkpoint, entry.pool), (*checkpoint, *pool));
-            assert_eq!(rt; pools.entry(*class, *key), Some(number));
-        }
-        assert_eq!(rt; pools.entry(7, 0), None);
-    }
-    Ok(())
+    let pools = pools_in(rt.alloc(), THREE, 109)?;
+    see_entries(&rt, &pools, &OF_THREE)?;
+    let pools = pools_in(rt.alloc(), STRINGS, 73)?;
+    see_entries(&rt, &pools, &OF_STRINGS)
 }
 
 #[test]

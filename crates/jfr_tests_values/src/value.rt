@@ -125,77 +125,89 @@ fn values_end(rt: HostRuntime) -> Result<(), Fail> {
     Ok(())
 }
 
+// Two pairs: the keys 7 and 8, and none.
+const TWO_PAIRS: [u8; 21] = [
+    2, 2, 7, 8, 0x3f, 0xf0, 0, 0, 0, 0, 0, 0, 0, 0x40, 0, 0, 0, 0, 0, 0, 0,
+];
+
+const OF_TWO_PAIRS: [(LeafKind, usize); 7] = [
+    (LeafKind::Count(2), 0),
+    (LeafKind::Count(2), 1),
+    (LeafKind::Key(7), 2),
+    (LeafKind::Key(8), 3),
+    (LeafKind::Base(Kind::Double), 4),
+    (LeafKind::Count(0), 12),
+    (LeafKind::Base(Kind::Double), 13),
+];
+
 #[test]
 fn leaves_follow_one_another(rt: HostRuntime) -> Result<(), Fail> {
-    let alloc = rt.alloc();
-    let classes = some_classes(alloc)?;
-    // two pairs: the keys 7 and 8, and none
-    let bytes = [
-        2, 2, 7, 8, 0x3f, 0xf0, 0, 0, 0, 0, 0, 0, 0, 0x40, 0, 0, 0, 0, 0, 0, 0,
-    ];
-    let node = node_at_front(&classes, items(4), &bytes).ok_or("no value")?;
-    let seen = leaves_of::<Brand>(alloc, Blank::new(1), &classes, node)?;
-    let double = LeafKind::Base(Kind::Double);
-    let expected = [
-        (LeafKind::Count(2), 0),
-        (LeafKind::Count(2), 1),
-        (LeafKind::Key(7), 2),
-        (LeafKind::Key(8), 3),
-        (double, 4),
-        (LeafKind::Count(0), 12),
-        (double, 13),
-    ];
-    assert_eq!(rt; seen.as_slice(), expected.as_slice());
+    let classes = some_classes(rt.alloc())?;
+    let node = node_at_front(&classes, items(4), &TWO_PAIRS).ok_or("no value")?;
+    let seen = leaves_of::<Brand>(rt.alloc(), Blank::new(1), &classes, node)?;
+    assert_eq!(rt; seen.as_slice(), OF_TWO_PAIRS.as_slice());
+    Ok(())
+}
+
+#[test]
+fn an_item_stands_behind_the_one_before(rt: HostRuntime) -> Result<(), Fail> {
+    let classes = some_classes(rt.alloc())?;
+    let node = node_at_front(&classes, items(4), &TWO_PAIRS).ok_or("no value")?;
     let second = child(&classes, &node, &Step::Item(1)).ok_or("no item")?;
     assert_eq!(rt; (second.at, second.end), (12, 21));
     Ok(())
 }
 
+// A constant of a recording of JDK 17: three frames.
+const TRACE: [u8; 29] = [
+    0x00, 0x03, 0xa1, 0x80, 0xc8, 0x39, 0xd9, 0x01, 0x0f, 0x00, 0x81, 0x80, 0xa4, 0x3c, 0xff, 0xff,
+    0xff, 0xff, 0x0f, 0x08, 0x00, 0x8e, 0x80, 0xf8, 0x08, 0xc8, 0x06, 0x0b, 0x00,
+];
+
+const INT: LeafKind = LeafKind::Base(Kind::Int);
+
+const OF_TRACE: [(LeafKind, usize); 14] = [
+    (LeafKind::Base(Kind::Boolean), 0),
+    (LeafKind::Count(3), 1),
+    (LeafKind::Key(120_717_345), 2),
+    (INT, 6),
+    (INT, 8),
+    (LeafKind::Key(0), 9),
+    (LeafKind::Key(126_418_945), 10),
+    (INT, 14),
+    (INT, 19),
+    (LeafKind::Key(0), 20),
+    (LeafKind::Key(18_743_310), 21),
+    (INT, 25),
+    (INT, 27),
+    (LeafKind::Key(0), 28),
+];
+
 #[test]
 fn stack_traces_are_read(rt: HostRuntime) -> Result<(), Fail> {
-    let alloc = rt.alloc();
-    let classes = trace_classes(alloc)?;
-    // a constant of a recording of JDK 17: three frames
-    let bytes = [
-        0x00, 0x03, 0xa1, 0x80, 0xc8, 0x39, 0xd9, 0x01, 0x0f, 0x00, 0x81, 0x80, 0xa4, 0x3c, 0xff,
-        0xff, 0xff, 0xff, 0x0f, 0x08, 0x00, 0x8e, 0x80, 0xf8, 0x08, 0xc8, 0x06, 0x0b, 0x00,
-    ];
-    let node = node_at_front(&classes, inline(188), &bytes).ok_or("no value")?;
+    let classes = trace_classes(rt.alloc())?;
+    let node = node_at_front(&classes, inline(188), &TRACE).ok_or("no value")?;
     assert_eq!(rt; node.end, 29);
-    let seen = leaves_of::<Brand>(alloc, Blank::new(1), &classes, node)?;
-    let int = LeafKind::Base(Kind::Int);
-    let expected = [
-        (LeafKind::Base(Kind::Boolean), 0),
-        (LeafKind::Count(3), 1),
-        (LeafKind::Key(120_717_345), 2),
-        (int, 6),
-        (int, 8),
-        (LeafKind::Key(0), 9),
-        (LeafKind::Key(126_418_945), 10),
-        (int, 14),
-        (int, 19),
-        (LeafKind::Key(0), 20),
-        (LeafKind::Key(18_743_310), 21),
-        (int, 25),
-        (int, 27),
-        (LeafKind::Key(0), 28),
-    ];
-    assert_eq!(rt; seen.as_slice(), expected.as_slice());
+    let seen = leaves_of::<Brand>(rt.alloc(), Blank::new(1), &classes, node)?;
+    assert_eq!(rt; seen.as_slice(), OF_TRACE.as_slice());
     Ok(())
+}
+
+// Arrays of one item, 33 times, and of two numbers in the last.
+fn deep_bytes(alloc: Global) -> Result<Vec<u8>, AllocError> {
+    let mut bytes = Vec::new(alloc);
+    for _ in 0..33 {
+        bytes.push(1)?;
+    }
+    bytes.extend_from_slice(&[2, 5, 6])?;
+    Ok(bytes)
 }
 
 #[test]
 fn values_stand_within_one_another(rt: HostRuntime) -> Result<(), Fail> {
     let alloc = rt.alloc();
     let classes = deep_classes(alloc)?;
-    // arrays of one item, 33 times, and of two numbers in the last
-    let mut bytes = Vec::new(alloc);
-    for _ in 0..33 {
-        bytes.push(1u8)?;
-    }
-    bytes.push(2)?;
-    bytes.push(5)?;
-    bytes.push(6)?;
+    let bytes = deep_bytes(alloc)?;
     let node = node_at_front(&classes, items(0), &bytes).ok_or("no value")?;
     let seen = leaves_of::<Brand>(alloc, Blank::new(1), &classes, node)?;
     assert_eq!(rt; seen.len(), 36);
