@@ -131,21 +131,45 @@ fn text_of(
     Ok(named(alloc, chunk, &event, &words)?)
 }
 
+// The number of an event, names, and the text to which they lead from it.
+type Named<'n> = (usize, &'n [&'n str], Option<&'n str>);
+
+// Compares a text to which names lead.
+fn compare_text(
+    rt: &impl Abort,
+    alloc: Global,
+    chunk: &Chunk<'_>,
+    (number, names, expected): Named<'_>,
+) -> Result<(), Fail> {
+    let text = text_of(alloc, chunk, number, names)?;
+    assert_eq!(rt; text.as_ref().map(Text::as_str), expected);
+    Ok(())
+}
+
+// Compares the texts to which names lead in a chunk.
+fn compare_texts_in(
+    rt: &impl Abort,
+    alloc: Global,
+    chunk: &Chunk<'_>,
+    texts: &[Named<'_>],
+) -> Result<(), Fail> {
+    for text in texts {
+        compare_text(rt, alloc, chunk, *text)?;
+    }
+    Ok(())
+}
+
 // Compares the texts to which names lead in the chunk of these records.
 fn compare_texts(
     rt: &impl Abort,
     alloc: Global,
     records: &[u8],
     last: u64,
-    texts: &[(usize, &[&str], Option<&str>)],
+    texts: &[Named<'_>],
 ) -> Result<(), Fail> {
     let bytes = with_classes(alloc, records, last)?;
     let chunk = read(alloc, &bytes)?;
-    for (number, names, expected) in texts {
-        let text = text_of(alloc, &chunk, *number, names)?;
-        assert_eq!(rt; text.as_ref().map(Text::as_str), *expected);
-    }
-    Ok(())
+    compare_texts_in(rt, alloc, &chunk, texts)
 }
 
 // Names lead through references to texts, and through strings that are keys. A string that is no text
