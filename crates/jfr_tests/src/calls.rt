@@ -1,4 +1,6 @@
 // Runs of the top call.
+ghost use Rattle.std.specs.Prelude.{◌≤◌};
+
 use jfr_cli::run;
 use jfr_outside::{MemoryPlace, MemorySink, SteadyPlace, SteadySink, Words};
 use std::alloc::Global;
@@ -40,16 +42,32 @@ pub(crate) fn run_over_places(
     output: Option<&[u8]>,
 ) -> Result<(), Fail> {
     for size in [1, 68, 4096] {
-        let mut place = MemoryPlace::new(alloc);
-        place.put("a.jfr", recording)?;
-        place.cut(size);
+        let mut place = memory_place(alloc, recording, size)?;
         run_words(rt, alloc, &mut place, command, status, line, output)?;
-        let mut place = SteadyPlace::new(alloc);
-        place.put("a.jfr", recording)?;
-        place.cut(size);
+        let mut place = steady_place(alloc, recording, size)?;
         run_steadily(rt, alloc, &mut place, command, status, line, output)?;
     }
     Ok(())
+}
+
+// A place in memory with a recording as a.jfr, and reads of so many bytes.
+fn memory_place(alloc: Global, recording: &[u8], size: usize) -> Result<MemoryPlace, Fail>
+    requires { 1 ≤ size }
+{
+    let mut place = MemoryPlace::new(alloc);
+    place.put("a.jfr", recording)?;
+    place.cut(size);
+    Ok(place)
+}
+
+// A steady place with it.
+fn steady_place(alloc: Global, recording: &[u8], size: usize) -> Result<SteadyPlace, Fail>
+    requires { 1 ≤ size }
+{
+    let mut place = SteadyPlace::new(alloc);
+    place.put("a.jfr", recording)?;
+    place.cut(size);
+    Ok(place)
 }
 
 // Runs a command over a place in memory, and compares.

@@ -277,7 +277,7 @@ fn faults_of_parts_are_told(rt: HostRuntime) -> Result<(), Fail> {
     Ok(())
 }
 
-// A stream that fails: the text that it keeps stands, and a line that can't be written changes no status.
+// A stream that fails keeps the text that it took.
 #[test]
 fn faults_of_streams_are_told(rt: HostRuntime) -> Result<(), Fail> {
     let alloc = rt.alloc();
@@ -289,8 +289,16 @@ fn faults_of_streams_are_told(rt: HostRuntime) -> Result<(), Fail> {
     assert_eq!(&rt; run(alloc, &print, &mut place, &mut out, &mut err), 4);
     assert_eq!(&rt; out.bytes(), b"t.A".as_slice());
     assert_eq!(&rt; err.bytes(), b"write fault\n".as_slice());
+    Ok(())
+}
 
+// A line that can't be written changes no status.
+#[test]
+fn lines_that_fail_change_no_status(rt: HostRuntime) -> Result<(), Fail> {
+    let alloc = rt.alloc();
+    let mut place = MemoryPlace::new(alloc);
     place.put("a.jfr", &[])?;
+    let mut out = MemorySink::new(alloc);
     let mut err = MemorySink::new(alloc);
     err.fail(1, 5)?;
     let scrub = words(alloc, &["scrub", "a.jfr", "b.jfr"])?;

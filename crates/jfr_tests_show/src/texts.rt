@@ -19,14 +19,13 @@ pub(crate) fn read<'a>(alloc: Global, bytes: &'a [u8]) -> Result<Chunk<'a>, Read
     Chunk::read(alloc, bytes)
 }
 
-// The text of the event of a number.
-fn text_of(alloc: Global, chunk: &Chunk<'_>, number: usize, depth: u8) -> Result<Text, NoMemory>
+// The text of the event of a number in the chunk of these bytes.
+fn text_of(alloc: Global, bytes: &[u8], number: usize, depth: u8) -> Result<Text, Fail>
     requires { depth ≤ 8 }
 {
-    match chunk.event(number) {
-        Some(event) => event_text(alloc, chunk, &event, depth),
-        None => Err(NoMemory),
-    }
+    let chunk = read(alloc, bytes)?;
+    let event = chunk.event(number).ok_or("no event")?;
+    Ok(event_text(alloc, &chunk, &event, depth)?)
 }
 
 // Adds the text of the event of a number.
@@ -48,25 +47,33 @@ fn add_text(
 fn compare(
     rt: &impl Abort,
     alloc: Global,
-    chunk: &Chunk<'_>,
+    bytes: &[u8],
     number: usize,
     depth: u8,
     text: &str,
 ) -> Result<(), Fail>
     requires { depth ≤ 8 }
 {
-    let shown = text_of(alloc, chunk, number, depth)?;
+    let shown = text_of(alloc, bytes, number, depth)?;
     assert_eq!(rt; shown.as_str(), text);
     Ok(())
 }
 
-// Compares the texts of the two events that refer to a ring, one behind the other.
-fn compare_stream(rt: &impl Abort, alloc: Global, chunk: &Chunk<'_>) -> Result<(), Fail> {
+// The texts of the first two events of a chunk, one behind the other.
+fn two_texts(alloc: Global, bytes: &[u8]) -> Result<TextBuilder, Fail> {
+    let chunk = read(alloc, bytes)?;
     let mut out = TextBuilder::new(alloc);
     out.push_ascii("left")?;
     out.clear();
-    add_text(chunk, 0, 0, &mut out)?;
-    add_text(chunk, 1, 0, &mut out)?;
+    add_text(&chunk, 0, 0, &mut out)?;
+    add_text(&chunk, 1, 0, &mut out)?;
+    Ok(out)
+}
+
+#[test]
+fn events_stand_one_behind_the_other(rt: HostRuntime) -> Result<(), Fail> {
+    let alloc = rt.alloc();
+    let out = two_texts(alloc, &rings(alloc)?)?;
     let text = "t.A {\n  n = 300\n  node = t.Node#1\n}\nt.B {\n  node = t.Node#3\n}\n";
     assert_eq!(rt; out.as_bytes(), text.as_bytes());
     Ok(())
@@ -76,20 +83,19 @@ fn compare_stream(rt: &impl Abort, alloc: Global, chunk: &Chunk<'_>) -> Result<(
 fn references_are_followed_so_many_deep(rt: HostRuntime) -> Result<(), Fail> {
     let alloc = rt.alloc();
     let bytes = rings(alloc)?;
-    let chunk = read(alloc, &bytes)?;
     compare(
         &rt,
         alloc,
-        &chunk,
+        &bytes,
         0,
         0,
         "t.A {\n  n = 300\n  node = t.Node#1\n}\n",
     )?;
-    compare(&rt, alloc, &chunk, 1, 0, "t.B {\n  node = t.Node#3\n}\n")?;
+    compare(&rt, alloc, &bytes, 1, 0, "t.B {\n  node = t.Node#3\n}\n")?;
     compare(
         &rt,
         alloc,
-        &chunk,
+        &bytes,
         0,
         2,
         "t.A {\n  n = 300\n  node = t.Node {\n    next = t.Node {\n      next = t.Node#1\n      text = \"q\"\n    }\n    text = \"p\"\n  }\n}\n",
@@ -97,7 +103,7 @@ fn references_are_followed_so_many_deep(rt: HostRuntime) -> Result<(), Fail> {
     compare(
         &rt,
         alloc,
-        &chunk,
+        &bytes,
         1,
         2,
         "t.B {\n  node = t.Node {\n    next = t.Node {\n      next = t.Node#3\n      text = \"s\"\n    }\n    text = \"r\"\n  }\n}\n",
@@ -105,22 +111,13 @@ fn references_are_followed_so_many_deep(rt: HostRuntime) -> Result<(), Fail> {
 }
 
 #[test]
-fn events_stand_one_behind_the_other(rt: HostRuntime) -> Result<(), Fail> {
-    let alloc = rt.alloc();
-    let bytes = rings(alloc)?;
-    let chunk = read(alloc, &bytes)?;
-    compare_stream(&rt, alloc, &chunk)
-}
-
-#[test]
 fn missing_constants_are_told(rt: HostRuntime) -> Result<(), Fail> {
     let alloc = rt.alloc();
     let bytes = keys(alloc)?;
-    let chunk = read(alloc, &bytes)?;
     compare(
         &rt,
         alloc,
-        &chunk,
+        &bytes,
         0,
         2,
         "t.A {\n  n = 300\n  node = t.Node {\n    next = t.Node#0 (missing)\n    text = java.lang.String#2\n  }\n}\n",
@@ -131,11 +128,10 @@ fn missing_constants_are_told(rt: HostRuntime) -> Result<(), Fail> {
 fn values_of_each_kind_are_shown(rt: HostRuntime) -> Result<(), Fail> {
     let alloc = rt.alloc();
     let bytes = kinds(alloc)?;
-    let chunk = read(alloc, &bytes)?;
     compare(
         &rt,
         alloc,
-        &chunk,
+        &bytes,
         0,
         1,
         "t.All {\n  flag = true\n  small = -1\n  letter = 65535\n  low = -1\n  count = -2147483648\n  wide = -1\n  ratio = 0x3f800000\n  exact = 0x3ff0000000000000\n  none = null\n  empty = \"\"\n  told = \"a\\\"\\\\\\u000a\\u007fä\"\n  units = \"b€\"\n  latin = \"ä\"\n  place = t.Place {\n    x = 7\n  }\n  numbers = [\n    1\n    -1\n  ]\n  places = [\n    t.Place {\n      x = 5\n    }\n  ]\n  nothing = [\n  ]\n  keys = [\n    t.Place {\n      x = 3\n    }\n    t.Place#9 (missing)\n  ]\n}\n",
