@@ -66,7 +66,21 @@ impl ChunkCutter {
         }
     }
 
-    /// Whether every answer so far was a chunk.
+    /// Begins with the input that is open next. Its first chunk comes after the last one that was cut, by
+    /// its number and by where it starts. The room for a chunk's bytes is used again.
+    pub fn begin_input(&mut self)
+        ensures start { self.new.start ≡ self.old.start }
+        ensures number { self.new.number ≡ self.old.number }
+        ensures empty { self.new.bytes ≡ [] }
+        ensures first { self.new.given ≡ false }
+        ensures live { self.new.live ≡ true }
+    {
+        self.bytes.clear();
+        self.given = false;
+        self.live = true;
+    }
+
+    /// Whether every answer was a chunk since this input was begun.
     pub fn is_open(&self) -> bool
         ensures { result ≡ self.now.live }
     {

@@ -93,8 +93,8 @@ fn make_each<P: Place, M: Make>(
         output,
         make,
     };
-    let mut at = Position::first();
-    run_stage(alloc, place, &mut Discard, &mut stage, input, &mut at)
+    let mut at = Position::first(alloc);
+    run_stage(place, &mut Discard, &mut stage, input, &mut at)
 }
 
 /// Opens the input and creates the output, makes one output chunk of each chunk of the input and

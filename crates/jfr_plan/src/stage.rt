@@ -1,5 +1,5 @@
 // The one loop over the chunks of an input.
-ghost use Rattle.std.specs.Prelude.{◌≡◌, ◌<◌, ◌+◌, ◌^◌, ℕ, List, [], ◌∷◌, ◌++◌, length, Option, OnOk, IfSome, false};
+ghost use Rattle.std.specs.Prelude.{◌≡◌, ◌<◌, ◌+◌, ◌^◌, ℕ, List, ◌∷◌, [], ◌++◌, length, Option, OnOk, IfSome, false, true};
 ghost use Rattle.jfr_outside.specs.World.{World, Told};
 ghost use Rattle.jfr_header.specs.Fronts.{Whole};
 ghost use Rattle.jfr_plan.specs.Ends.{way_of};
@@ -10,9 +10,8 @@ ghost use Rattle.jfr_plan.specs.Parts.{PartLeaves, PartTallied};
 ghost use Rattle.jfr_plan.specs.Goings.{Staged, IsAt, IsPast};
 
 use crate::Position;
-use jfr_header::{ChunkCutter, Cut, Ending};
+use jfr_header::{Cut, Ending};
 use jfr_outside::{Fault, Place, Sink};
-use std::alloc::Global;
 
 /// A command over an input: what it does when the input is open, with each chunk, and at the end.
 ///
@@ -67,12 +66,13 @@ pub trait Stage {
 
 // Takes the open input to its end, and the position with it.
 fn run_chunks<P: Place, O: Sink, S: Stage>(
-    alloc: Global,
     place: &mut P,
     out: &mut O,
     stage: &mut S,
     at: &mut Position,
 ) -> Ending
+    requires first { at.old.given ≡ false }
+    requires live { at.old.live ≡ true }
     ensures told { (earlier : List (List ℕ)) (input : List ℕ) (b : Option World) (o : Option (List ℕ))
         → Told b (P.state place.old).told
         (Staged (S.rule stage.old) earlier (S.seen stage.old) input at.old.start at.old.number false o (O.state out.old).written)
@@ -88,9 +88,8 @@ fn run_chunks<P: Place, O: Sink, S: Stage>(
         (outside (P.state place.old) (O.state out.old))
         (outside (P.state place.new) (O.state out.new)) }
 {
-    let mut cutter = ChunkCutter::new(alloc, at.start, at.number);
     'chunks: loop {
-        match cutter.next(place) {
+        match at.next(place) {
             Cut::Chunk => {}
             Cut::End => match stage.end(place, out) {
                 Ok(()) => return Ending::Done,
@@ -100,12 +99,10 @@ fn run_chunks<P: Place, O: Sink, S: Stage>(
             Cut::Failed => return Ending::ReadFault,
             Cut::Memory => return Ending::Memory,
         }
-        match stage.chunk(place, out, cutter.bytes(), at.number) {
+        match stage.chunk(place, out, at.bytes(), at.number()) {
             Ok(()) => {}
             Err(ending) => return ending,
         }
-        at.start += cutter.bytes().len() as u64;
-        at.number += 1;
     }
 }
 
@@ -113,7 +110,6 @@ fn run_chunks<P: Place, O: Sink, S: Stage>(
 /// files before left. After `Done` the position is that of the next chunk; after another answer
 /// nothing is promised of it.
 pub fn run_stage<P: Place, O: Sink, S: Stage>(
-    alloc: Global,
     place: &mut P,
     out: &mut O,
     stage: &mut S,
@@ -141,5 +137,6 @@ pub fn run_stage<P: Place, O: Sink, S: Stage>(
         Ok(()) => {}
         Err(ending) => return ending,
     }
-    run_chunks(alloc, place, out, stage, at)
+    at.begin_input();
+    run_chunks(place, out, stage, at)
 }

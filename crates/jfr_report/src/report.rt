@@ -115,6 +115,6 @@ pub(crate) fn report_stream<P: Place, O: Sink, R: Report>(
         room: Room::new(alloc),
         report,
     };
-    let mut at = Position::first();
-    run_stage(alloc, place, out, &mut stage, file, &mut at)
+    let mut at = Position::first(alloc);
+    run_stage(place, out, &mut stage, file, &mut at)
 }

@@ -52,7 +52,7 @@ impl Stage for Adding {
 }
 
 // Appends the chunks of one file, which come after those of the files before.
-fn join_file<P: Place>(alloc: Global, place: &mut P, file: &str, at: &mut Position) -> Ending
+fn join_file<P: Place>(place: &mut P, file: &str, at: &mut Position) -> Ending
     ensures told { (earlier : List (List ℕ)) → IsAt earlier at.old.start at.old.number
         → After adding earlier file.now (way_of result)
         (alone (P.state place.old)) (alone (P.state place.new)) }
@@ -62,7 +62,7 @@ fn join_file<P: Place>(alloc: Global, place: &mut P, file: &str, at: &mut Positi
     ensures counts { Tallied File (way_of result)
         (alone (P.state place.old)) (alone (P.state place.new)) }
 {
-    run_stage(alloc, place, &mut Discard, &mut Adding, file, at)
+    run_stage(place, &mut Discard, &mut Adding, file, at)
 }
 
 // Appends the chunks of these files, one file after another, and finishes the output.
@@ -74,9 +74,9 @@ fn join_files<P: Place>(alloc: Global, place: &mut P, files: &[String]) -> Endin
     ensures counts { Tallied File (way_of result)
         (alone (P.state place.old)) (alone (P.state place.new)) }
 {
-    let mut at = Position::first();
+    let mut at = Position::first(alloc);
     'files: for file in files {
-        match join_file(alloc, place, file.as_str(), &mut at) {
+        match join_file(place, file.as_str(), &mut at) {
             Ending::Done => {}
             ending => return ending,
         }

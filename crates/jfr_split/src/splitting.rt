@@ -76,8 +76,8 @@ fn split_each<P: Place>(alloc: Global, place: &mut P, file: &str, rule: &SplitRu
         rule,
         part: Part::none(),
     };
-    let mut at = Position::first();
-    run_stage(alloc, place, &mut Discard, &mut stage, file, &mut at)
+    let mut at = Position::first(alloc);
+    run_stage(place, &mut Discard, &mut stage, file, &mut at)
 }
 
 /// Cuts a recording into parts: opens the file, and writes each chunk that was read whole to its part,

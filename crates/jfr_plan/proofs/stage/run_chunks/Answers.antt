@@ -1,4 +1,4 @@
-use Rattle.std.proofs.Common.{ℕ, ◌+◌, sym, ◌∙◌, ap, subst, List, [], ◌∷◌, ◌++◌, IfSome, Bool, IsTrue, refl, length, Ok, Err}
+use Rattle.std.proofs.Common.{arith, ℕ, ◌+◌, sym, ◌∙◌, ap, subst, List, [], ◌∷◌, ◌++◌, IfSome, Bool, IsTrue, refl, length, Ok, Err}
 use Rattle.jfr_outside.specs.World.{Told}
 use Rattle.jfr_plan.specs.Effects.{outside}
 use Rattle.jfr_plan.specs.Walks.{Rule, Goes}
@@ -15,16 +15,17 @@ returns-in-Ok-clause-told g c = λ earlier input b o h.
     let q = (g.O.Sink.state c.end.new.out).written in
     let d = (g.P.Place.state c.next.new.place).told in
     let z = (g.P.Place.state c.end.new.place).told in
-    stage_end st r earlier (g.S.Stage.seen c.chunks.stage) input c.chunks.cutter (Ok c.in-Ok.field-0) o p q b (g.P.Place.state c.chunks.place).told d z (c.chunks.invariant.going earlier input b o h) c.in-End.ensures.told
+    stage_end st r earlier (g.S.Stage.seen c.chunks.stage) input c.chunks.at (Ok c.in-Ok.field-0) o p q b (g.P.Place.state c.chunks.place).told d z (c.chunks.invariant.going earlier input b o h) c.in-End.ensures.told
     (λ before s. subst (λ (y : Rule). Told d z (PartTold st (Goes (y.ends before)) (Ok c.in-Ok.field-0) p q)) c.chunks.invariant.rule
     (subst (λ (k : Bool). Told d z (PartTold k (Goes ((g.S.Stage.rule c.chunks.stage).ends before)) (Ok c.in-Ok.field-0) p q)) (c.in-End.ensures.steady ∙ c.chunks.invariant.counts.3) (c.in-Ok.ensures.told before s)))
 
 pub returns-in-Ok-clause-later : goal.returns-in-Ok-clause-later
 returns-in-Ok-clause-later g c = λ earlier input b o h e.
     let Seen = g.S.Stage.seen c.chunks.stage in
-    let seen = stage_seen (g.S.Stage.rule c.args.stage.now) earlier Seen input c.chunks.cutter o (g.O.Sink.state c.chunks.out).written b (g.P.Place.state c.chunks.place).told (g.P.Place.state c.next.new.place).told (c.chunks.invariant.going earlier input b o h) c.in-End.ensures.told in
-    subst (λ (n : ℕ). IfSome b (IsPast Seen earlier input c.chunks.at.start n)) (sym c.chunks.invariant.number)
-    (subst (λ (n : ℕ). IfSome b (IsPast Seen earlier input n c.chunks.cutter.number)) (sym c.chunks.invariant.start) seen)
+    let closed = c.in-End.ensures.cut.1 in
+    let past = stage_seen (g.S.Stage.rule c.args.stage.now) earlier Seen input c.chunks.at o (g.O.Sink.state c.chunks.out).written b (g.P.Place.state c.chunks.place).told (g.P.Place.state c.next.new.place).told (c.chunks.invariant.going earlier input b o h) c.in-End.ensures.told in
+    subst (λ (n : ℕ). IfSome b (IsPast Seen earlier input c.next.new.self.start n)) (sym closed.number)
+    (subst (λ (n : ℕ). IfSome b (IsPast Seen earlier input n c.chunks.at.number)) (sym closed.start) past)
 
 pub returns-in-Err-clause-told : goal.returns-in-Err-clause-told
 returns-in-Err-clause-told g c = λ earlier input b o h.
@@ -34,21 +35,21 @@ returns-in-Err-clause-told g c = λ earlier input b o h.
     let q = (g.O.Sink.state c.end.new.out).written in
     let d = (g.P.Place.state c.next.new.place).told in
     let z = (g.P.Place.state c.end.new.place).told in
-    stage_end st r earlier (g.S.Stage.seen c.chunks.stage) input c.chunks.cutter (Err c.in-Err.ending) o p q b (g.P.Place.state c.chunks.place).told d z (c.chunks.invariant.going earlier input b o h) c.in-End.ensures.told
+    stage_end st r earlier (g.S.Stage.seen c.chunks.stage) input c.chunks.at (Err c.in-Err.ending) o p q b (g.P.Place.state c.chunks.place).told d z (c.chunks.invariant.going earlier input b o h) c.in-End.ensures.told
     (λ before s. subst (λ (y : Rule). Told d z (PartTold st (Goes (y.ends before)) (Err c.in-Err.ending) p q)) c.chunks.invariant.rule
     (subst (λ (k : Bool). Told d z (PartTold k (Goes ((g.S.Stage.rule c.chunks.stage).ends before)) (Err c.in-Err.ending) p q)) (c.in-End.ensures.steady ∙ c.chunks.invariant.counts.3) (c.in-Err.ensures.told before s)))
 
 pub returns-in-Refused-clause-told : goal.returns-in-Refused-clause-told
 returns-in-Refused-clause-told g c = λ earlier input b o h.
-    stage_refused (g.P.Place.state c.args.place.now).steady (g.S.Stage.rule c.args.stage.now) earlier (g.S.Stage.seen c.chunks.stage) input c.chunks.cutter c.in-Refused.refusal o (g.O.Sink.state c.chunks.out).written b (g.P.Place.state c.chunks.place).told (g.P.Place.state c.next.new.place).told c.in-Refused.ensures.cut.0 (c.chunks.invariant.going earlier input b o h) c.in-Refused.ensures.told
+    stage_refused (g.P.Place.state c.args.place.now).steady (g.S.Stage.rule c.args.stage.now) earlier (g.S.Stage.seen c.chunks.stage) input c.chunks.at c.in-Refused.refusal o (g.O.Sink.state c.chunks.out).written b (g.P.Place.state c.chunks.place).told (g.P.Place.state c.next.new.place).told c.in-Refused.ensures.cut.0 (c.chunks.invariant.going earlier input b o h) c.in-Refused.ensures.told
 
 pub returns-in-Failed-clause-told : goal.returns-in-Failed-clause-told
 returns-in-Failed-clause-told g c = λ earlier input b o h.
-    stage_failed (g.P.Place.state c.args.place.now).steady (g.S.Stage.rule c.args.stage.now) earlier (g.S.Stage.seen c.chunks.stage) input c.chunks.cutter o (g.O.Sink.state c.chunks.out).written b (g.P.Place.state c.chunks.place).told (g.P.Place.state c.next.new.place).told (c.chunks.invariant.going earlier input b o h) c.in-Failed.ensures.told (λ y. c.in-Failed.ensures.fails (subst IsTrue (sym c.chunks.invariant.counts.3) y) refl)
+    stage_failed (g.P.Place.state c.args.place.now).steady (g.S.Stage.rule c.args.stage.now) earlier (g.S.Stage.seen c.chunks.stage) input c.chunks.at o (g.O.Sink.state c.chunks.out).written b (g.P.Place.state c.chunks.place).told (g.P.Place.state c.next.new.place).told (c.chunks.invariant.going earlier input b o h) c.in-Failed.ensures.told (λ y. c.in-Failed.ensures.fails (subst IsTrue (sym c.chunks.invariant.counts.3) y) refl)
 
 pub returns-in-Memory-clause-told : goal.returns-in-Memory-clause-told
 returns-in-Memory-clause-told g c = λ earlier input b o h.
-    stage_memory (g.P.Place.state c.args.place.now).steady (g.S.Stage.rule c.args.stage.now) earlier (g.S.Stage.seen c.chunks.stage) input c.chunks.cutter o (g.O.Sink.state c.chunks.out).written b (g.P.Place.state c.chunks.place).told (g.P.Place.state c.next.new.place).told (c.chunks.invariant.going earlier input b o h) c.in-Memory.ensures.told
+    stage_memory (g.P.Place.state c.args.place.now).steady (g.S.Stage.rule c.args.stage.now) earlier (g.S.Stage.seen c.chunks.stage) input c.chunks.at o (g.O.Sink.state c.chunks.out).written b (g.P.Place.state c.chunks.place).told (g.P.Place.state c.next.new.place).told (c.chunks.invariant.going earlier input b o h) c.in-Memory.ensures.told
 
 pub returns-in-Err-chunk-clause-told : goal.returns-in-Err-chunk-clause-told
 returns-in-Err-chunk-clause-told g c = λ earlier input b o h.
@@ -59,10 +60,10 @@ returns-in-Err-chunk-clause-told g c = λ earlier input b o h.
     let q = (g.O.Sink.state c.chunk.new.out).written in
     let d = (g.P.Place.state c.next.new.place).told in
     let z = (g.P.Place.state c.chunk.new.place).told in
-    stage_err st r earlier (g.S.Stage.seen c.chunks.stage) input c.chunks.cutter x c.in-Err-chunk.ending o p q b (g.P.Place.state c.chunks.place).told d z (c.chunks.invariant.going earlier input b o h) c.in-Chunk.ensures.told
+    stage_err st r earlier (g.S.Stage.seen c.chunks.stage) input c.chunks.at x c.in-Err-chunk.ending o p q b (g.P.Place.state c.chunks.place).told d z (c.chunks.invariant.going earlier input b o h) c.in-Chunk.ensures.told
     (λ before s n. subst (λ (y : List ℕ). Told d z (PartTold st (r.asks before y) (Err c.in-Err-chunk.ending) p q)) c.bytes.ensures
     (subst (λ (y : Rule). Told d z (PartTold st (y.asks before c.bytes.result.now) (Err c.in-Err-chunk.ending) p q)) c.chunks.invariant.rule
-    (subst (λ (k : Bool). Told d z (PartTold k ((g.S.Stage.rule c.chunks.stage).asks before c.bytes.result.now) (Err c.in-Err-chunk.ending) p q)) (c.in-Chunk.ensures.steady ∙ c.chunks.invariant.counts.3) (c.in-Err-chunk.ensures.told before s (c.chunks.invariant.number ∙ n)))))
+    (subst (λ (k : Bool). Told d z (PartTold k ((g.S.Stage.rule c.chunks.stage).asks before c.bytes.result.now) (Err c.in-Err-chunk.ending) p q)) (c.in-Chunk.ensures.steady ∙ c.chunks.invariant.counts.3) (c.in-Err-chunk.ensures.told before s (Prim.omega (arith, c.number.ensures, c.in-Chunk.ensures.cut.number, n))))))
 
 pub chunks-preserved : goal.chunks-preserved
 chunks-preserved g c =
@@ -77,17 +78,15 @@ chunks-preserved g c =
     let cut = c.in-Chunk.ensures.cut in
     record {
       going = λ earlier input b o h.
-          stage_goes st r earlier (g.S.Stage.seen c.chunks.stage) Next input c.chunks.cutter c.next.new.self c.in-Ok-chunk.field-0 o p q b (g.P.Place.state c.chunks.place).told d z cut (c.chunks.invariant.going earlier input b o h) c.in-Chunk.ensures.told
+          stage_goes st r earlier (g.S.Stage.seen c.chunks.stage) Next input c.chunks.at c.next.new.self c.in-Ok-chunk.field-0 o p q b (g.P.Place.state c.chunks.place).told d z cut (c.chunks.invariant.going earlier input b o h) c.in-Chunk.ensures.told
           (λ before s n. (
             subst (λ (y : List ℕ). Told d z (PartTold st (r.asks before y) (Ok c.in-Ok-chunk.field-0) p q)) c.bytes.ensures
                 (subst (λ (y : Rule). Told d z (PartTold st (y.asks before c.bytes.result.now) (Ok c.in-Ok-chunk.field-0) p q)) c.chunks.invariant.rule
-                (subst (λ (k : Bool). Told d z (PartTold k ((g.S.Stage.rule c.chunks.stage).asks before c.bytes.result.now) (Ok c.in-Ok-chunk.field-0) p q)) (c.in-Chunk.ensures.steady ∙ c.chunks.invariant.counts.3) (c.in-Ok-chunk.ensures.told before s (c.chunks.invariant.number ∙ n)))),
-            subst (λ (y : List ℕ). Next (before ++ y ∷ [])) c.bytes.ensures (c.in-Ok-chunk.ensures.seen before s (c.chunks.invariant.number ∙ n)),
+                (subst (λ (k : Bool). Told d z (PartTold k ((g.S.Stage.rule c.chunks.stage).asks before c.bytes.result.now) (Ok c.in-Ok-chunk.field-0) p q)) (c.in-Chunk.ensures.steady ∙ c.chunks.invariant.counts.3) (c.in-Ok-chunk.ensures.told before s (Prim.omega (arith, c.number.ensures, c.in-Chunk.ensures.cut.number, n))))),
+            subst (λ (y : List ℕ). Next (before ++ y ∷ [])) c.bytes.ensures (c.in-Ok-chunk.ensures.seen before s (Prim.omega (arith, c.number.ensures, c.in-Chunk.ensures.cut.number, n))),
           ));
       rule = c.in-Ok-chunk.ensures.rule ∙ c.chunks.invariant.rule;
       live = cut.live;
-      start = ap (λ (l : List ℕ). c.chunks.at.start + length l) c.bytes-in-chunks.ensures ∙ ap (λ (n : ℕ). n + length x) c.chunks.invariant.start ∙ sym cut.start;
-      number = ap (λ (n : ℕ). n + 1) c.chunks.invariant.number ∙ sym cut.number;
       counts = counted_on (outside (g.P.Place.state c.args.place.now) (g.O.Sink.state c.args.out.now)) (outside (g.P.Place.state c.chunks.place) (g.O.Sink.state c.chunks.out)) (outside (g.P.Place.state c.chunk.new.place) (g.O.Sink.state c.chunk.new.out)) c.chunks.invariant.counts
           (counted_on (outside (g.P.Place.state c.chunks.place) (g.O.Sink.state c.chunks.out)) (outside (g.P.Place.state c.next.new.place) (g.O.Sink.state c.chunks.out)) (outside (g.P.Place.state c.chunk.new.place) (g.O.Sink.state c.chunk.new.out)) (c.in-Chunk.ensures.counts, c.in-Chunk.ensures.writes, refl, c.in-Chunk.ensures.steady) c.in-Ok-chunk.ensures.counts);
     }

@@ -26,7 +26,7 @@ returns-clause-told g c = λ earlier s m.
     let a = (g.P.Place.state c.open_input.new.self).told in
     let d = (g.P.Place.state c.opened.new.place).told in
     let st = (g.P.Place.state c.open_input.new.self).steady in
-    let begun = opened_ok st r earlier Seen c.args.input.now c.args.at.now.start c.args.at.now.number c.in-Ok-opened.field-0 o (g.O.Sink.state c.opened.new.out).written b a d s m c.in-Ok.ensures.told c.in-Ok.ensures.there c.in-Ok-opened.ensures.told in
+    let begun = opened_ok st r earlier Seen c.args.input.now c.begin_input.new.self.start c.begin_input.new.self.number c.in-Ok-opened.field-0 o (g.O.Sink.state c.opened.new.out).written b a d s (c.begin_input.ensures.start ∙ m.0, c.begin_input.ensures.number ∙ m.1) c.in-Ok.ensures.told c.in-Ok.ensures.there c.in-Ok-opened.ensures.told in
     subst (λ (k : Bool). Told b (g.P.Place.state c.run_chunks.new.place).told (OutcomeOf k r earlier c.args.input.now o (g.O.Sink.state c.run_chunks.new.out).written (way_of c.run_chunks.result))) (c.in-Ok-opened.ensures.counts.3 ∙ c.in-Ok.ensures.same)
     (c.run_chunks.ensures.told earlier c.args.input.now b o begun)
 
@@ -35,5 +35,5 @@ returns-clause-later g c = λ earlier s m e.
     let r = g.S.Stage.rule c.args.stage.now in
     let o = (g.O.Sink.state c.args.out.now).written in
     let b = (g.P.Place.state c.args.place.now).told in
-    let begun = opened_ok (g.P.Place.state c.open_input.new.self).steady r earlier (g.S.Stage.seen c.args.stage.now) c.args.input.now c.args.at.now.start c.args.at.now.number c.in-Ok-opened.field-0 o (g.O.Sink.state c.opened.new.out).written b (g.P.Place.state c.open_input.new.self).told (g.P.Place.state c.opened.new.place).told s m c.in-Ok.ensures.told c.in-Ok.ensures.there c.in-Ok-opened.ensures.told in
+    let begun = opened_ok (g.P.Place.state c.open_input.new.self).steady r earlier (g.S.Stage.seen c.args.stage.now) c.args.input.now c.begin_input.new.self.start c.begin_input.new.self.number c.in-Ok-opened.field-0 o (g.O.Sink.state c.opened.new.out).written b (g.P.Place.state c.open_input.new.self).told (g.P.Place.state c.opened.new.place).told s (c.begin_input.ensures.start ∙ m.0, c.begin_input.ensures.number ∙ m.1) c.in-Ok.ensures.told c.in-Ok.ensures.there c.in-Ok-opened.ensures.told in
     c.run_chunks.ensures.later earlier c.args.input.now b o begun e

@@ -66,8 +66,8 @@ pub returns-in-Ok-clause-counts : goal.returns-in-Ok-clause-counts
 returns-in-Ok-clause-counts g c =
     (tt, counted_after Kept Kept Kept (alone (g.P.Place.state c.args.place.now)) (alone (g.P.Place.state c.files.place)) (alone (g.P.Place.state c.finish_output.new.place)) c.files.invariant.counts (c.in-Ok.ensures.file no_sink))
 
-pub returns-in-Err-clause-told : goal.returns-in-Err-clause-told
-returns-in-Err-clause-told g c = λ output contents can.
+pub returns-clause-told : goal.returns-clause-told
+returns-clause-told g c = λ output contents can.
     let before = g.P.Place.state c.args.place.now in
     let here = g.P.Place.state c.files.place in
     let after = g.P.Place.state c.finish_output.new.place in
@@ -75,6 +75,6 @@ returns-in-Err-clause-told g c = λ output contents can.
     files_ended before.steady output c.args.files.now contents c.files.file-index c.files.at.start c.files.at.number (Err c.in-Err.ending) before.told here.told after.told c.files-test.false can (c.files.invariant.joined output contents can)
     (subst (λ (st : Bool). Told here.told after.told (PartTold st (Goes (Finish ∷ [])) (Err c.in-Err.ending) None None)) steady (c.in-Err.ensures.told no_sink))
 
-pub returns-in-Err-clause-counts : goal.returns-in-Err-clause-counts
-returns-in-Err-clause-counts g c =
+pub returns-clause-counts : goal.returns-clause-counts
+returns-clause-counts g c =
     tallied_after File (way_of c.in-Err.ending) (alone (g.P.Place.state c.args.place.now)) (alone (g.P.Place.state c.files.place)) (alone (g.P.Place.state c.finish_output.new.place)) c.files.invariant.counts (c.in-Err.ensures.file no_sink)
