@@ -102,6 +102,25 @@ fn a_chunk_starts_below_2_to_the_40(rt: HostRuntime) -> Result<(), Fail> {
 }
 
 #[test]
+fn a_next_input_goes_on_with_numbers_and_starts(rt: HostRuntime) -> Result<(), Fail> {
+    let mut place = MemoryPlace::new(rt.alloc());
+    place.put("a.jfr", &PLAIN)?;
+    place.put("b.jfr", b"")?;
+    place.open_input("a.jfr")?;
+    let mut cutter = ChunkCutter::new(rt.alloc(), (1 << 40) - 103, 5);
+    take_plain(&rt, &mut cutter, &mut place, 5);
+    take_last(&rt, &mut cutter, &mut place, Cut::End);
+    place.open_input("a.jfr")?;
+    cutter.begin_input();
+    assert!(rt; cutter.bytes().is_empty());
+    take_last(&rt, &mut cutter, &mut place, refused(6, 0, Reason::TooLong));
+    place.open_input("b.jfr")?;
+    cutter.begin_input();
+    take_last(&rt, &mut cutter, &mut place, refused(6, 0, Reason::NoChunk));
+    Ok(())
+}
+
+#[test]
 fn a_header_is_read_and_written(rt: HostRuntime) -> Result<(), Fail> {
     let mut bytes = [0; 68];
     bytes.copy_from_slice(&PLAIN[..68]);
