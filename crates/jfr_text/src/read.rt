@@ -8,10 +8,10 @@ ghost use Rattle.jfr_text.specs.Strings.{Key, Units, SpellAll, IsString, kind_fa
 use crate::{StringKind, StringSpan};
 use jfr_base::{Flaw, Reason, read_within};
 
-/// The top bits of eight bytes.
+/// A word with the top bit of each of its eight bytes set.
 const TOP_BITS: u64 = 0x8080_8080_8080_8080;
 
-/// Reads the string that begins at a place and ends by `end`: a kind byte, and what follows it. The
+/// Reads the string that begins at the offset `at` and ends by `end`: a kind byte, and what follows it. The
 /// flaw is `Short` at the kind byte, the integer or the run of bytes that doesn't end by `end`, or
 /// `StringKind` at a kind byte above 5.
 #[inline(always)]
@@ -39,7 +39,8 @@ pub fn read_string<'a>(bytes: &'a [u8], at: usize, end: usize) -> Result<StringS
     read_kind(bytes[at], bytes, at, end)
 }
 
-/// Whether the string that begins at a place is its kind byte alone: the null string, or the empty one.
+/// Whether the string that begins at the offset `at` is its kind byte alone: the null string, or the empty
+/// one.
 #[inline(always)]
 pub fn is_bare(bytes: &[u8], at: usize, end: usize) -> bool
     requires order { at ≤ end }
@@ -51,7 +52,8 @@ pub fn is_bare(bytes: &[u8], at: usize, end: usize) -> bool
     at < end && bytes[at] < 2
 }
 
-/// Whether the string that begins at a place is a key, which is the integer behind its kind byte.
+/// Whether the string that begins at the offset `at` is a key. Then the key is the integer behind the kind
+/// byte, which isn't read here.
 #[inline(always)]
 pub fn is_key(bytes: &[u8], at: usize, end: usize) -> bool
     requires order { at ≤ end }
@@ -63,8 +65,9 @@ pub fn is_key(bytes: &[u8], at: usize, end: usize) -> bool
     at < end && bytes[at] == 2
 }
 
-/// Where the string that begins at a place ends, if it is one of short characters: its kind byte is 4,
-/// its count has one byte, and so has each of its integers. `None` also where it doesn't end by `end`.
+/// Where the string ends that begins at the offset `at`, if it is UTF-16 in short integers: its kind byte
+/// is 4, its count has one byte, and so has each of its integers. `None` also where it doesn't end by
+/// `end`.
 #[inline(never)]
 pub fn short_units_end(bytes: &[u8], at: usize, end: usize) -> Option<usize>
     requires order { at ≤ end }
