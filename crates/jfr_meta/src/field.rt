@@ -1,4 +1,4 @@
-// The fields that field elements describe.
+// Elements by their names, ids among attributes, and the shapes that field elements describe.
 ghost use Rattle.std.specs.Prelude.{◌≡◌, Some, map, option_map, IfOk};
 ghost use Rattle.std.specs.Str.{bytes_eq};
 ghost use Rattle.jfr_meta.specs.Attributes.{IsWord, named, text_at};
