@@ -1,4 +1,5 @@
-//! The values of classes: where they end, their parts, their leaves, and what they refer to.
+//! The values of classes (FORMAT.md, Values): where they end, their parts, their leaves, and what they
+//! refer to.
 //!
 //! `end_of` says where a value ends that begins at a place, and `end_visiting` hands out on the way
 //! what the value refers to. `child` leads to a field or an item of a node, and `target` says

@@ -12,8 +12,8 @@ use crate::{Node, Step};
 use jfr_base::{Var, read_within};
 use jfr_layout::{Classes, FieldLayout, Kind, Shape};
 
-/// The field or the item that a step leads to, in a value that stands there. `None` exactly where it
-/// has no such field or item; `Follow` has none here.
+/// The field or the item of a node to which a step leads. A value must stand there. `None` exactly where it
+/// has no such field or item, and for `Follow`. The fields or items before it are walked over.
 pub fn child<'a>(classes: &Classes, node: &Node<'a>, step: &Step) -> Option<Node<'a>>
     requires { IsValue classes.now node.now }
     ensures exact { option_map node_of result ≡ child classes.now node.now.bytes.now (node_of node.now) step.now }
@@ -103,7 +103,7 @@ fn part_end(classes: &Classes, layout: &FieldLayout, bytes: &[u8], at: usize, en
     }
 }
 
-/// The field of a number, where values of these layouts are the fields.
+/// The field of a number, where the fields have these layouts.
 fn nth_field<'a>(
     classes: &Classes,
     layouts: &[FieldLayout],
