@@ -57,7 +57,8 @@ pub(crate) fn record_named(
     }
 }
 
-/// Where the fields of the events stand, and to which entries they refer. They are kept in this room.
+/// Where the fields of the events stand, and to which entries they refer: an index in the memory of an
+/// earlier one. It is refused at the first event whose fields don't stand in its record.
 pub(crate) fn read_events(
     room: EventIndex,
     chunk: &[u8],
@@ -102,7 +103,7 @@ pub(crate) fn read_events(
     })
 }
 
-/// The room of a list, with place for so many.
+/// The list without its members, with capacity for so many.
 fn emptied(list: Vec<EventIndexEntry>, count: usize) -> Result<Vec<EventIndexEntry>, NoMemory>
     ensures { IfOk result (λ emptied. emptied.items ≡ []) }
 {
@@ -112,8 +113,8 @@ fn emptied(list: Vec<EventIndexEntry>, count: usize) -> Result<Vec<EventIndexEnt
     Ok(emptied)
 }
 
-/// Notes where the fields of an event end, by the number of its record. This is out of line, since few
-/// end before their record.
+/// Keeps where the fields of an event end, by the number of its record. This is out of line, since few end
+/// before their record.
 #[cold]
 #[inline(never)]
 fn add_early(early: &mut BTreeMap<u32, u32>, number: u32, end: u32) -> Result<(), NoMemory>
