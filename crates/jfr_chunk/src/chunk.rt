@@ -1,6 +1,5 @@
 // An accepted chunk.
-ghost use Rattle.std.specs.Prelude.{◌≡◌, ◌+◌, ◌<◌, ◌^◌, ℕ, true, length, filter, replicate, reverse, slice_get, take, option_map, Ok, IfOk, IfErr, IfSome, MatchResult};
-ghost use Rattle.jfr_frame.specs.Records.{record_end};
+ghost use Rattle.std.specs.Prelude.{◌≡◌, ◌+◌, ◌<◌, ◌^◌, true, length, filter, replicate, reverse, slice_get, take, option_map, Ok, IfOk, IfErr, IfSome, MatchResult};
 ghost use Rattle.jfr_header.specs.Fronts.{Whole};
 ghost use Rattle.jfr_header.specs.Headers.{header_of};
 ghost use Rattle.jfr_layout.specs.Classes.{Sound};
@@ -12,7 +11,7 @@ ghost use Rattle.jfr_chunk.specs.Parts.{AreParts, StartsAt, events_of, is_inert,
 ghost use Rattle.jfr_chunk.specs.Reach.{node_entries, roots};
 ghost use Rattle.jfr_chunk.specs.Refusal.{Refused, read_parts};
 ghost use Rattle.jfr_chunk.specs.Rooms.{IsEmpty};
-ghost use Rattle.jfr_chunk.specs.Seen.{IsOfChunk, end_in, event_at};
+ghost use Rattle.jfr_chunk.specs.Seen.{IsOfChunk, event_at};
 
 use crate::event_index::EventIndex;
 use crate::read::{header_in, read_events, record_named};

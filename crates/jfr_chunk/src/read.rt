@@ -1,5 +1,5 @@
 // The stages of reading a chunk.
-ghost use Rattle.std.specs.Prelude.{◌≡◌, ◌<◌, ◌≤◌, ◌^◌, [], length, take, slice_get, Some, IfOk, IfErr, OnOk, true};
+ghost use Rattle.std.specs.Prelude.{◌≡◌, ◌<◌, ◌≤◌, ◌^◌, [], length, take, Some, IfOk, IfErr, OnOk};
 ghost use Rattle.std.specs.BTreeMap as tree;
 ghost use Rattle.std.specs.Ordering.{nat_cmp};
 ghost use Rattle.jfr_base.specs.Formats.{run, seen};
@@ -25,7 +25,6 @@ use jfr_header::{Header, read_header};
 use jfr_layout::{Classes, FieldLayout};
 use jfr_pool::Pools;
 use jfr_value::end_visiting;
-use std::alloc::Global;
 use std::collections::BTreeMap;
 
 /// The header of a whole chunk.

@@ -7,7 +7,7 @@ use Rattle.jfr_base.specs.declared.reason.Reason.TheVariants.{Magic, Version, Un
 use Rattle.jfr_outside.specs.World.{World}
 use Rattle.jfr_outside.specs.Counts.{Rose}
 use Rattle.jfr_header.specs.Fronts as fronts
-use Rattle.jfr_header.specs.Fronts.{front, reach, header_flaw, Whole}
+use Rattle.jfr_header.specs.Fronts.{front, reach, Whole}
 use Rattle.jfr_header.specs.Taking.{Took, Takes}
 use Rattle.jfr_header.specs.Cutters.{Cutter}
 use Rattle.jfr_header.specs.declared.cutter.Cut.{Cut}

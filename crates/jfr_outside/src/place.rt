@@ -1,5 +1,5 @@
 // Files, one open input and one open output.
-ghost use Rattle.std.specs.Prelude.{◌≡◌, ◌<◌, ◌≤◌, ◌↔◌, ℕ, [], length, take, None, IsTrue, IsSome, IfSome, IfOk, OnOk, IsErrOf, option_map};
+ghost use Rattle.std.specs.Prelude.{◌≡◌, ◌<◌, ◌≤◌, ◌↔◌, [], length, take, None, IsTrue, IsSome, IfSome, IfOk, OnOk, IsErrOf, option_map};
 ghost use Rattle.jfr_outside.specs.World.{State, file, bytes_in, opened, shut, taken, created, appended, finished, unchanged, IsListing, Leaves, LeavesPrefix};
 ghost use Rattle.jfr_outside.specs.Counts.{Counts};
 ghost use Rattle.jfr_outside.specs.declared.fault.Fault.TheVariants.{Failed};

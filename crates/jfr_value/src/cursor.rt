@@ -1,6 +1,6 @@
 // The walk over leaves, from one to the next, so that its caller can stop at any (`Leaves`). No command of
 // jfr uses it; it is for other programs that read values.
-ghost use Rattle.std.specs.Prelude.{◌≡◌, ◌≢◌, ◌⊎◌, ℕ, ◌+◌, ◌*◌, ◌≤◌, ◌<◌, [], ◌∷◌, ◌++◌, length, true, false, Some, if◌then◌else◌, IfSome, MatchOption, slice_get, slice_range};
+ghost use Rattle.std.specs.Prelude.{◌≡◌, ◌≢◌, ◌⊎◌, ◌+◌, ◌*◌, ◌≤◌, ◌<◌, [], ◌∷◌, ◌++◌, length, true, false, Some, if◌then◌else◌, IfSome, MatchOption, slice_get, slice_range};
 ghost use Rattle.jfr_layout.specs.Classes.{Sound, find_class, kind_of};
 ghost use Rattle.jfr_layout.specs.declared.class.ClassInfo.{ClassInfo};
 ghost use Rattle.jfr_layout.specs.declared.kind.Kind.TheVariants as kinds;

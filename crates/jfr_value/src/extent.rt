@@ -2,16 +2,15 @@
 // there is refused. On the way it hands out what the value refers to. jfr_chunk uses it for each event
 // (`end_visiting`), jfr_pool for each constant, and jfr_show where it looks for an object's fields
 // (`end_of`).
-ghost use Rattle.std.specs.Prelude.{◌≡◌, ◌⊎◌, ℕ, ◌+◌, ◌≤◌, ◌<◌, length, IfOk, IfErr, Ok, IfSome, IsSome, IsTrue, ◌↔◌, option_map, option_to_list, slice_get, true};
+ghost use Rattle.std.specs.Prelude.{◌≡◌, ◌⊎◌, ℕ, ◌+◌, ◌≤◌, ◌<◌, length, IfOk, IfErr, Ok, IfSome, IsSome, IsTrue, ◌↔◌, slice_get, true};
 ghost use Rattle.std.specs.List.{AllByRecursion};
-ghost use Rattle.jfr_base.specs.Formats.{for_each, integer, run, seen};
-ghost use Rattle.jfr_text.specs.Strings.{string_format};
+ghost use Rattle.jfr_base.specs.Formats.{run, seen};
 ghost use Rattle.jfr_layout.specs.Classes.{IsFieldLayout, Sound, find_class, form_of, item_of, layout_with};
 ghost use Rattle.jfr_layout.specs.Fused.{AreFused};
 ghost use Rattle.jfr_layout.specs.declared.form.Form.TheVariants as forms;
 ghost use Rattle.jfr_layout.specs.declared.kind.Kind.TheVariants as kinds;
 ghost use Rattle.jfr_value.specs.Nodes.{EndsAt, IsRefused, IsValueReason, node_at, targets};
-ghost use Rattle.jfr_value.specs.Values.{IsHollow, IsHollowArray, IsPlaced, key_of};
+ghost use Rattle.jfr_value.specs.Values.{IsHollow, IsHollowArray, IsPlaced};
 ghost use Rattle.jfr_value.specs.Reading.{base_format, class_format, row_format, shape_format, value_format};
 ghost use Rattle.jfr_value.specs.Visits.{TakesAll, TakesRead, TakesReadAll};
 ghost use Rattle.jfr_value.specs.Walks.{Room};

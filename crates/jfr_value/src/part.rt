@@ -1,7 +1,6 @@
 // The parts of values: fields and items.
 ghost use Rattle.std.specs.Prelude.{◌≡◌, ℕ, ◌≤◌, ◌<◌, length, replicate, map, Some, IfSome, false, option_map, slice_get};
 ghost use Rattle.std.specs.List.{AllByRecursion};
-ghost use Rattle.jfr_base.specs.Formats.{int_at};
 ghost use Rattle.jfr_layout.specs.Classes.{IsFieldLayout, Sound, item_of};
 ghost use Rattle.jfr_value.specs.Nodes.{EndsAt, IsRow, IsValue, child, laid, node_of};
 ghost use Rattle.jfr_value.specs.Values.{IsPlaced, Values, list_of};
