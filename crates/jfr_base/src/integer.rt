@@ -163,7 +163,7 @@ fn read_last(bytes: &[u8], at: usize, end: usize) -> Result<Var, Flaw>
     Err(ends_early(at))
 }
 
-/// The flaw where the bytes end before the integer at a place does.
+/// The flaw where the bytes end before the integer at an offset does.
 fn ends_early(at: usize) -> Flaw
     ensures { result ≡ record { offset = at; reason = Reason.Short } }
 {

@@ -8,12 +8,13 @@ use jfr_frame::Framed;
 use std::alloc::Global;
 use std::collections::BTreeMap;
 
-/// What is kept of an event: the number of its record, with which nearly all fields end; and how many
-/// numbers of entries the index has, up to the last one of this event. A chunk has so many events that this
-/// is kept short; no number is larger than the chunk has bytes.
+/// What is kept of an event, whose fields nearly always end with its record. A chunk has so many events
+/// that this is kept short; no number is larger than the chunk has bytes.
 #[derive(Clone, Copy, Debug)]
 pub(crate) struct EventIndexEntry {
+    /// The number of its record among all records, from 0.
     pub record: u32,
+    /// How many numbers of entries the index has, up to the last one of this event.
     pub refs_end: u32,
 }
 
@@ -21,10 +22,12 @@ pub(crate) struct EventIndexEntry {
 /// force to which they refer.
 #[derive(Drop)]
 pub(crate) struct EventIndex {
+    /// An entry for each event.
     pub fields: Vec<EventIndexEntry>,
     /// Where the fields end of the few events whose fields end before their record does, by the record's
     /// number.
     pub early: BTreeMap<u32, u32>,
+    /// The numbers of the entries in force to which the events refer, one event after another.
     pub numbers: Vec<u32>,
 }
 

@@ -112,8 +112,8 @@ fn unusual_out_of_line(chunk: &[u8], at: usize) -> Option<Framed>
     framed_by(chunk, at, Head { size, type_id })
 }
 
-/// The size and the type that are spelled there, where both are usual and have room. So the chunk's end
-/// is asked for once, and not at each byte.
+/// The size and the type that are spelled there, where both are usual and enough bytes are left for any
+/// usual ones. So the chunk's end is asked for once, and not at each byte.
 #[inline(always)]
 fn usual_head(chunk: &[u8], at: usize) -> Option<Head>
     requires { at < length chunk.now }

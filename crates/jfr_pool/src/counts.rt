@@ -47,6 +47,7 @@ impl KeyRange {
 /// 1, or 0 where there is no entry; a key that the row doesn't have is in the index.
 #[derive(Drop)]
 pub(crate) struct Counts {
+    /// The rows, by the class's id.
     pub rows: Vec<Row>,
 }
 

@@ -63,7 +63,9 @@ impl Slot {
 /// within reach was, or the class's id is too large for a slot.
 #[derive(Drop)]
 pub(crate) struct Index {
+    /// The hash table.
     pub slots: Vec<Slot>,
+    /// The numbers for classes and keys that stand in no slot.
     pub others: BTreeMap<(u64, u64), usize>,
     ghost homes: { REACH < vec_len slots },
 }

@@ -8,8 +8,11 @@ use std::alloc::Global;
 /// keys have none.
 #[derive(Drop)]
 pub(crate) struct Row {
+    /// The first key of the range.
     pub first: u64,
+    /// The count of the key 0.
     pub zero: u32,
+    /// The counts of the range's keys, in order.
     pub counts: Vec<u32>,
 }
 

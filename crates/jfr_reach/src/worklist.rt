@@ -10,7 +10,9 @@ use std::alloc::Global;
 /// to be walked.
 #[derive(Drop)]
 pub(crate) struct Worklist {
+    /// For each number whether it is marked.
     pub flags: Vec<bool>,
+    /// The marked numbers, in the order of marking.
     pub order: Vec<usize>,
     ghost room: { length flags.items ≤ vec_capacity order },
     ghost each: { vec_len order ≡ marked_count flags.items },

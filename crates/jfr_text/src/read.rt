@@ -93,7 +93,7 @@ pub fn short_units_end(bytes: &[u8], at: usize, end: usize) -> Option<usize>
     }
 }
 
-/// Reads what follows the kind byte at a place.
+/// Reads what follows the kind byte at an offset.
 #[inline(always)]
 fn read_kind<'a>(kind: u8, bytes: &'a [u8], at: usize, end: usize) -> Result<StringSpan<'a>, Flaw>
     requires order { at < end }
@@ -142,7 +142,7 @@ fn bare<'a>(kind: StringKind, at: usize) -> StringSpan<'a>
     }
 }
 
-/// A count, what it counts, and the place after that.
+/// A length or a count, what it counts, and the offset after that.
 #[derive(Clone, Copy)]
 struct Counted<'a> {
     count: u64,
@@ -212,7 +212,7 @@ fn read_integers<'a>(bytes: &'a [u8], at: usize, end: usize) -> Result<Counted<'
     })
 }
 
-/// The place after so many integers. In most strings each has one byte.
+/// The offset after so many integers. In most strings each has one byte.
 fn skip_integers(count: u64, bytes: &[u8], at: usize, end: usize) -> Result<usize, Flaw>
     requires order { at ≤ end }
     requires within { end ≤ length bytes.now }
@@ -223,8 +223,8 @@ fn skip_integers(count: u64, bytes: &[u8], at: usize, end: usize) -> Result<usiz
     skip_each_integer(count - (from - at) as u64, bytes, from, end)
 }
 
-/// The place after the integers of one byte at the front of so many: where the first longer one
-/// stands, the end, or behind them all.
+/// The offset after the integers of one byte at the front of so many: that of the first longer one, the
+/// end, or behind them all.
 #[inline(always)]
 fn skip_short_integers(count: u64, bytes: &[u8], at: usize, end: usize) -> usize
     requires order { at ≤ end }
@@ -238,9 +238,8 @@ fn skip_short_integers(count: u64, bytes: &[u8], at: usize, end: usize) -> usize
     skip_short_bytes(bytes, from, to)
 }
 
-/// Whether the bytes from one place up to another are integers of one byte each. Where there are
-/// eight or more, the last eight are tested as a group too, which covers what the groups from the
-/// front leave.
+/// Whether the bytes from one offset up to another are integers of one byte each. Where there are eight or
+/// more, the last eight are tested as a group too, which covers what the groups from the front leave.
 #[inline(always)]
 fn are_short(bytes: &[u8], from: usize, to: usize) -> bool
     requires order { from ≤ to }
@@ -254,7 +253,7 @@ fn are_short(bytes: &[u8], from: usize, to: usize) -> bool
     to - rest < 8 && are_eight_short(bytes, to - 8)
 }
 
-/// The place after the integers of one byte at the front, as far as they come in eights.
+/// The offset after the integers of one byte at the front, as far as they come in eights.
 #[inline(always)]
 fn skip_short_eights(bytes: &[u8], at: usize, end: usize) -> usize
     requires order { at ≤ end }
@@ -270,8 +269,8 @@ fn skip_short_eights(bytes: &[u8], at: usize, end: usize) -> usize
     place
 }
 
-/// Whether the eight bytes from a place on are integers of one byte each. They are tested as one
-/// word, which has none of the top bits then.
+/// Whether the eight bytes from an offset on are integers of one byte each. They are tested as one word,
+/// which has none of the bytes' top bits then.
 #[inline(always)]
 fn are_eight_short(bytes: &[u8], at: usize) -> bool
     requires { at + 8 ≤ length bytes.now }
@@ -283,7 +282,7 @@ fn are_eight_short(bytes: &[u8], at: usize) -> bool
     u64::from_le_bytes(*eight) & TOP_BITS == 0
 }
 
-/// The place of the first longer integer, or the end.
+/// The offset of the first longer integer, or the end.
 #[inline(always)]
 fn skip_short_bytes(bytes: &[u8], at: usize, end: usize) -> usize
     requires order { at ≤ end }
@@ -300,7 +299,7 @@ fn skip_short_bytes(bytes: &[u8], at: usize, end: usize) -> usize
     end
 }
 
-/// The place after so many integers, one by one.
+/// The offset after so many integers, one by one.
 #[tactic(auto, using(jfr_base::proofs::SeenLaws::ends), unfolding(jfr_base::specs::Formats::run))]
 fn skip_each_integer(count: u64, bytes: &[u8], at: usize, end: usize) -> Result<usize, Flaw>
     requires order { at ≤ end }

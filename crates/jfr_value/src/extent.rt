@@ -176,7 +176,7 @@ fn is_hollow_array(classes: &Classes, layout: &FieldLayout) -> bool
     is_hollow(classes, layout.place)
 }
 
-/// Whether the inline values of the class at a place have no bytes.
+/// Whether the inline values of the class of an index have no bytes.
 pub(crate) fn is_hollow(classes: &Classes, place: usize) -> bool
     requires { place < length classes.now }
     ensures { IfSome (slice_get classes.now place) (λ c. IsTrue result ↔ IsHollow c) }
