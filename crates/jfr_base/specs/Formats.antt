@@ -1,4 +1,5 @@
--- A format says which units stand one after another, as an integer, a byte or a run of bytes. The values of the units that were read decide which one comes next.
+-- A format says which units stand one after another, as an integer, a byte or a run of bytes. The values of
+-- the units that were read decide which one comes next.
 use Rattle.std.specs.Prelude.{◌≡◌, ℕ, zero, suc, ◌+◌, ◌<◌, ◌≤◌, List, [], ◌∷◌, ◌++◌, length, Option, Some, None, ◌⊎◌, Result, Ok, Err, nat_lt, nat_le, slice_range, slice_index, if◌then◌else◌, ⊤}
 use Rattle.std.specs.Option.{option_map}
 use Rattle.jfr_base.specs.declared.reason.Reason.{Reason}
@@ -18,11 +19,12 @@ pub data Format (A : Type 0) : Type 0 where
   Byte : (check : ℕ → Option Reason) → (next : ℕ → Format A) → Format A
   -- a run of so many bytes
   Run : (count : ℕ) → (next : List ℕ → Format A) → Format A
-  -- no bytes; the place
+  -- no bytes: the place where the format has come to is handed on
   Here : (next : ℕ → Format A) → Format A
   -- what would stand here is refused
   Refuse : (why : Reason) → Format A
 
+-- a format, and behind it the one that its value leads to
 infixl 10 ◌>>=◌
 abbrev pub ◌>>=◌ : {A B : Type 0} → Format A → (A → Format B) → Format B
 (Done a) >>= g = g a
@@ -43,9 +45,11 @@ with_bytes b (Run n next) g = Run n (λ s. with_bytes (b ++ s) (next s) g)
 with_bytes b (Here next) g = Here (λ at. with_bytes b (next at) g)
 with_bytes b (Refuse why) g = Refuse why
 
+-- a check that finds no integer faulty
 abbrev pub unchecked : ℕ → Option Reason
 unchecked v = None
 
+-- a compressed integer of any value
 abbrev pub integer : Format ℕ
 integer = Int unchecked (λ v s. Done v)
 
@@ -59,7 +63,8 @@ abbrev pub for_each : {X A : Type 0} → List X → (X → Format A) → Format 
 for_each [] f = Done []
 for_each (x ∷ xs) f = f x >>= λ a. for_each xs f >>= λ rest. Done (a ∷ rest)
 
--- The format, read in the bytes of x from the place `at` and not beyond `end`, gives the value and stops at the place `to`.
+-- The format, read in the bytes of x from the place `at` and not beyond `end`, gives the value and stops at
+-- the place `to`.
 abbrev pub Reads : {A : Type 0} → Format A → List ℕ → ℕ → ℕ → A → ℕ → Type 0
 Reads (Done a) x end at value to = (value ≡ a) × (to ≡ at)
 Reads (Stop next) x end at value to = (end ≤ at) × Reads next x end at value to
@@ -69,7 +74,8 @@ Reads (Run n next) x end at value to = (at + n ≤ end) × Reads (next (slice_ra
 Reads (Here next) x end at value to = Reads (next at) x end at value to
 Reads (Refuse why) x end at value to = ⊥
 
--- The format, read so, fails: all units before the place o are good, and the one at o is faulty for this reason.
+-- The format, read so, fails: all units before the place o are good, and the one at o is faulty for this
+-- reason.
 abbrev pub Fails : {A : Type 0} → Format A → List ℕ → ℕ → ℕ → ℕ → Reason → Type 0
 Fails (Done a) x end at o why = ⊥
 Fails (Stop next) x end at o why = ((at < end) × (o ≡ at) × (why ≡ Trailing)) ⊎ ((end ≤ at) × Fails next x end at o why)
@@ -85,7 +91,8 @@ Fails (Run n next) x end at o why =
 Fails (Here next) x end at o why = Fails (next at) x end at o why
 Fails (Refuse r) x end at o why = (o ≡ at) × (why ≡ r)
 
--- These bytes, and no others, are read as the value, at whatever place. A format that asks for a place or for the end reads no bytes so.
+-- These bytes, and no others, are read as the value, at whatever place. A format that asks for a place or
+-- for the end reads no bytes so.
 abbrev pub Exactly : {A : Type 0} → Format A → List ℕ → A → Type 0
 Exactly (Done a) b value = (value ≡ a) × (b ≡ [])
 Exactly (Stop next) b value = ⊥
@@ -95,7 +102,8 @@ Exactly (Run n next) b value = (h r : List ℕ) × (b ≡ h ++ r) × (length h �
 Exactly (Here next) b value = ⊥
 Exactly (Refuse why) b value = ⊥
 
--- A format read by computing, over the bytes of x before an end: the value and the place after it, or the place and the reason.
+-- A format read by computing, over the bytes of x before an end: the value and the place after it, or the
+-- place and the reason.
 pub record Got (A : Type 0) : Type 0 where
   pub value : A
   pub place : ℕ
@@ -103,9 +111,11 @@ pub record Got (A : Type 0) : Type 0 where
 abbrev pub Answer : Type 0 → Type 0
 Answer A = Result (Got A) Flaw
 
+-- the answer where the unit at a place is faulty
 abbrev pub refused : {A : Type 0} → ℕ → Reason → Answer A
 refused at why = Err (record { offset = at; reason = why })
 
+-- an answer, unless the check of the unit at a place gives a reason
 abbrev pub checked : {A : Type 0} → ℕ → Option Reason → Answer A → Answer A
 checked at None r = r
 checked at (Some why) r = refused at why
@@ -125,10 +135,12 @@ abbrev pub on : {A B : Type 0} → Answer A → (A → ℕ → Answer B) → Ans
 on (Ok g) f = f g.value g.place
 on (Err e) f = Err e
 
+-- goes on behind the integer that was looked for at a place, if it is there and its check gives no reason
 abbrev pub after_int : {A : Type 0} → List ℕ → ℕ → (ℕ → Option Reason) → (ℕ → List ℕ → ℕ → Answer A) → Option Var → Answer A
 after_int x at check f None = refused at Short
 after_int x at check f (Some v) = checked at (check v.value) (f v.value (slice_range x at v.end) v.end)
 
+-- The answer of the format, read by computing in the bytes of x from the place `at` and not beyond `end`.
 unfoldable pub run : {A : Type 0} → Format A → List ℕ → ℕ → ℕ → Answer A
 run (Done a) x end at = Ok (record { value = a; place = at })
 run (Stop next) x end at = if nat_lt at end then refused at Trailing else run next x end at

@@ -1,7 +1,8 @@
 -- A compressed integer: little-endian groups of seven bits, a ninth byte with eight.
 use Rattle.std.specs.Prelude.{◌≡◌, ℕ, zero, suc, ◌+◌, ◌*◌, ◌%◌, ◌/◌, ◌^◌, ◌<◌, ◌≤◌, ◌⊎◌, List, [], ◌∷◌, length, slice_range, nat_lt, if◌then◌else◌}
 
--- The bytes of an integer, of which at most k have seven bits of it: each of these but the last has its top bit set, and after k of them one more byte ends the integer.
+-- The bytes of an integer, of which at most k have seven bits of it: each of these but the last has its top
+-- bit set, and after k of them one more byte ends the integer.
 abbrev pub IsSpellingWithin : ℕ → List ℕ → Type 0
 IsSpellingWithin k [] = ⊥
 IsSpellingWithin zero (b ∷ bs) = bs ≡ []
@@ -14,6 +15,7 @@ worth_within k [] = 0
 worth_within zero (b ∷ bs) = b
 worth_within (suc k) (b ∷ bs) = b % 128 + 128 * worth_within k bs
 
+-- these bytes, and no more, are the compressed integer of this value
 pub record Spells (bytes : List ℕ) (value : ℕ) : Type 0 where
   pub form : IsSpellingWithin 8 bytes
   pub worth : value ≡ worth_within 8 bytes
@@ -24,11 +26,12 @@ pub record IntAt (x : List ℕ) (p q value : ℕ) : Type 0 where
   pub within : q ≤ length x
   pub spelled : Spells (slice_range x p q) value
 
--- The shortest spelling, and the one in so many bytes.
+-- The shortest spelling of a value, of which at most k bytes have seven bits of it.
 abbrev pub spell_within : ℕ → ℕ → List ℕ
 spell_within zero v = v ∷ []
 spell_within (suc k) v = if nat_lt v 128 then v ∷ [] else (v % 128 + 128) ∷ spell_within k (v / 128)
 
+-- the shortest spelling of a value
 unfoldable pub spell : ℕ → List ℕ
 spell v = spell_within 8 v
 
@@ -42,5 +45,6 @@ spell_as (suc (suc n)) v = (v % 128 + 128) ∷ spell_as (suc n) (v / 128)
 abbrev pub FitsIn : ℕ → ℕ → Type 0
 FitsIn value count = (value < 2 ^ (7 * count)) ⊎ (count ≡ 9)
 
+-- the spelling of a value in n bytes, padded where it needs fewer
 unfoldable pub spell_in : ℕ → ℕ → List ℕ
 spell_in n v = spell_as n v

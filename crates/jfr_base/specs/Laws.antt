@@ -13,6 +13,7 @@ OneSpelling = (a b x y : List ℕ) (v w : ℕ) → Spells a v → Spells b w →
 abbrev pub IsShortest : ℕ → Type 0
 IsShortest value = (b : List ℕ) (w : ℕ) → Spells b w → value ≤ w → length (spell value) ≤ length b
 
+-- each member is a byte
 abbrev pub AreBytes : List ℕ → Type 0
 AreBytes b = AllByRecursion (λ c. c < 256) b
 

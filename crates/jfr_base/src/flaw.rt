@@ -5,17 +5,20 @@ ghost use Rattle.jfr_base.specs.declared.flaw.ReadFault.TheVariants.{Flawed, Mem
 use crate::{NoMemory, Reason};
 use std::alloc::{AllocError, AllocFailed};
 
-/// Why a chunk is refused: the place, counted from the chunk's first byte, and the reason.
+/// Why a chunk is refused.
 #[derive(Clone, Copy, Debug, PartialEq, Eq)]
 pub struct Flaw {
+    /// Where it is faulty, in bytes from the chunk's first byte.
     pub offset: u64,
     pub reason: Reason,
 }
 
-/// Why a recording is refused: the number of the chunk, from 1, the place in it, and the reason.
+/// Why a recording is refused: a flaw, and the chunk that has it.
 #[derive(Clone, Copy, Debug, PartialEq, Eq)]
 pub struct Refusal {
+    /// The number of the chunk in the recording, from 1.
     pub chunk: u64,
+    /// Where it is faulty, in bytes from the chunk's first byte.
     pub offset: u64,
     pub reason: Reason,
 }
@@ -23,7 +26,9 @@ pub struct Refusal {
 /// Why something could not be read: it is refused, or an allocation failed.
 #[derive(Clone, Copy, Debug, PartialEq, Eq)]
 pub enum ReadFault {
+    /// The bytes are refused.
     Flawed(Flaw),
+    /// An allocation failed.
     Memory,
 }
 

@@ -7,10 +7,12 @@ ghost use Rattle.jfr_base.specs.Laws.{AreBytes};
 
 use crate::{Flaw, Reason};
 
-/// An integer that was read, and the place after its last byte.
+/// A compressed integer that was read.
 #[derive(Clone, Copy, Debug, PartialEq, Eq)]
 pub struct Var {
+    /// What its bytes spell, without a sign; `signed` reads it as a signed number.
     pub value: u64,
+    /// The offset after its last byte.
     pub end: usize,
 }
 
@@ -24,8 +26,9 @@ const SHORT_GROUPS: usize = 8;
 /// Where the ninth byte's eight bits stand in the value.
 const NINTH_SHIFT: u32 = 56;
 
-/// Reads the integer that is spelled at a place. A spelling has one to nine bytes, and needn't be the
-/// shortest. `Short` exactly where the bytes end before the spelling does.
+/// Reads the compressed integer that begins at the offset `at` (FORMAT.md, Integers). It has one to nine
+/// bytes, and needn't be spelled in as few as it can be. `Short` exactly where the bytes end before it
+/// does.
 pub fn read_var(bytes: &[u8], at: usize) -> Result<Var, Short>
     requires { at ≤ length bytes.now }
     ensures ok { IfOk result (λ v. IntAt bytes.now at v.end v.value) }
@@ -38,8 +41,8 @@ pub fn read_var(bytes: &[u8], at: usize) -> Result<Var, Short>
     }
 }
 
-/// Reads the integer that is spelled at a place and ends by `end`. Where none does, the flaw is
-/// `Short` at that place.
+/// Reads the compressed integer that begins at the offset `at` and ends by `end`. Where none does, the flaw
+/// is `Short` at `at`.
 #[inline(always)]
 pub fn read_within(bytes: &[u8], at: usize, end: usize) -> Result<Var, Flaw>
     requires order { at ≤ end }
@@ -76,8 +79,8 @@ fn var_within(bytes: &[u8], at: usize, end: usize) -> Result<Var, Flaw>
     Ok(var)
 }
 
-/// The integer that is spelled at a place and ends by `end`, where it has one byte or two, as most
-/// have.
+/// The compressed integer that begins at the offset `at` and ends by `end`, where it has one byte or two,
+/// as most have. `None` for a longer one, and where none ends by `end`.
 #[inline(always)]
 pub fn read_short(bytes: &[u8], at: usize, end: usize) -> Option<Var>
     requires order { at ≤ end }
@@ -160,7 +163,7 @@ fn read_last(bytes: &[u8], at: usize, end: usize) -> Result<Var, Flaw>
     Err(ends_early(at))
 }
 
-/// The flaw where the bytes end before the integer at a place does.
+/// The flaw where the bytes end before the integer at an offset does.
 fn ends_early(at: usize) -> Flaw
     ensures { result ≡ record { offset = at; reason = Reason.Short } }
 {

@@ -16,11 +16,12 @@ pub enum Reason {
     Unfinished,
     /// The chunk's integers aren't compressed.
     NotCompact,
-    /// The chunk's size is smaller than a header, or too large.
+    /// The chunk's size, as the header says it, is below 68 bytes, or 2^28 or more.
     ChunkSize,
     /// Fewer bytes are there than the chunk's size says.
     ShortChunk,
-    /// No record stands there: its size or type doesn't end, or it doesn't fit in the chunk.
+    /// No record stands there: its size or its type doesn't end within the chunk, or the size is below the
+    /// bytes of these two, or reaches past the chunk's end.
     RecordSize,
     /// No metadata record starts where the header says.
     MetadataPosition,
@@ -36,15 +37,15 @@ pub enum Reason {
     StringKind,
     /// An index isn't below the number of strings.
     StringIndex,
-    /// An element stands too deep in the metadata's tree.
+    /// An element of the metadata's tree stands deeper than 16 levels.
     TreeDeep,
-    /// The metadata has no classes.
+    /// The root of the metadata's tree has no child named `metadata`, which holds the classes.
     NoClasses,
-    /// A class has no name or no id.
+    /// A class has no name, or no id that is a number below 2^63.
     ClassBad,
     /// A class has an id that an earlier one has.
     ClassTwice,
-    /// A field's attributes are missing or faulty.
+    /// A field has no name or no class id, or one of its marks is faulty.
     FieldBad,
     /// A field has a name that an earlier one of its class has.
     FieldTwice,
@@ -56,7 +57,7 @@ pub enum Reason {
     InlineDeep,
     /// A pool's class isn't defined.
     PoolType,
-    /// A chunk starts too far into the recording.
+    /// A chunk starts at byte 2^40 of the recording or later.
     TooLong,
 }
 

@@ -34,7 +34,7 @@ impl Words {
         }
     }
 
-    /// The list without texts, with room for so many.
+    /// The list without texts, with memory for so many.
     pub fn with_room(alloc: Global, count: usize) -> Result<Words, NoMemory>
         ensures ok { IfOk result (λ words. words ≡ []) }
     {
@@ -69,7 +69,7 @@ impl Words {
         self.texts.len()
     }
 
-    /// The text at a place, from 0; `None` exactly past the end.
+    /// The text of an index, from 0; `None` exactly past the end.
     pub fn get(&self, at: usize) -> Option<&str>
         ensures { text_in result ≡ slice_get self.now at }
     {
@@ -80,7 +80,7 @@ impl Words {
         }
     }
 
-    /// The text at a place, from 0, to be shared; `None` exactly past the end.
+    /// The text of an index, from 0, to be shared; `None` exactly past the end.
     pub fn text(&self, at: usize) -> Option<&Text>
         ensures { option_copied result ≡ slice_get self.now at }
     {

@@ -29,7 +29,8 @@ SameRecords p q (e ∷ es) (f ∷ fs) = SameRecord p q e f × SameRecords p q es
 SameRecords p q [] (f ∷ fs) = ⊥
 SameRecords p q (e ∷ es) [] = ⊥
 
--- Both chunks have the same entry in force, or neither has one, for each class and key to which a node on a path of a kept event refers.
+-- Both chunks have the same entry in force, or neither has one, for each class and key to which a node on a
+-- path of a kept event refers.
 abbrev pub SameOnPaths : Parts → Parts → List EventAt → Type 0
 SameOnPaths p q kept = (e : EventAt) (path : List Step) (n : NodeAt) (key : ℕ × ℕ) → Contains kept e → leads p e.node path ≡ Some n → target p.classes p.bytes n ≡ Some key → SameEntry p q key
 

@@ -16,14 +16,16 @@ use Rattle.jfr_pool.specs.declared.entry.EntryAt.{EntryAt}
 use Rattle.jfr_pool.specs.Chains.{IsChain}
 use Rattle.jfr_pool.specs.Entries.{AreEntries, inline}
 
--- The header's positions of the last checkpoint and of the metadata record.
+-- The header's position of the last checkpoint.
 abbrev pub pools_at : List ℕ → ℕ
 pools_at c = (header_of (take 68 c)).pools
 
+-- The header's position of the metadata record.
 abbrev pub metadata_at : List ℕ → ℕ
 metadata_at c = (header_of (take 68 c)).metadata
 
--- The bytes, the records, the chained checkpoints with the newest first, what the metadata record holds, the classes that it describes, and the entries of the chained checkpoints in file order.
+-- The bytes, the records, the chained checkpoints with the newest first, what the metadata record holds,
+-- the classes that it describes, and the entries of the chained checkpoints in file order.
 pub record Parts : Type 0 where
   pub bytes : List ℕ
   pub records : List Framed
@@ -50,6 +52,7 @@ abbrev pub event_by : Framed → Answer Value → Option EventAt
 event_by r (Ok g) = Some (record { record_of = r; node = record { shape = inline r.type_id; at = r.body; end = g.place } })
 event_by r (Err flaw) = None
 
+-- The event of a record, where its fields stand in it.
 abbrev pub event_of : List ℕ → Classes → Framed → Option EventAt
 event_of c k r = event_by r (run (value_format k (inline r.type_id)) c (record_end r) r.body)
 

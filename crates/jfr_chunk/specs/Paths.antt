@@ -13,7 +13,8 @@ use Rattle.jfr_value.specs.Nodes.{NodeAt, child, target}
 use Rattle.jfr_pool.specs.Entries.{in_force, entry_node}
 use Rattle.jfr_chunk.specs.Parts.{Parts}
 
--- Follow leads from a reference, or from a string that is a key, to the value of the entry in force, where there is one.
+-- Follow leads from a reference, or from a string that is a key, to the value of the entry in force, where
+-- there is one.
 abbrev pub follow : Parts → NodeAt → Option NodeAt
 follow p n = option_and_then (λ t. option_map entry_node (in_force p.entries t)) (target p.classes p.bytes n)
 
@@ -37,6 +38,7 @@ follow_while (suc k) test p n = if test n then option_map_or (follow_while k tes
 abbrev pub is_reference : NodeAt → Bool
 is_reference n = if n.shape.array then Bool.false else n.shape.constant
 
+-- Any node.
 abbrev pub always : NodeAt → Bool
 always n = Bool.true
 
@@ -44,6 +46,7 @@ abbrev pub content_in : Answer Content → Option Content
 content_in (Ok g) = Some g.value
 content_in (Err flaw) = None
 
+-- The content, where the kind is that of strings.
 abbrev pub content_by : Kind → Option Content → Option Content
 content_by kinds.Text content = content
 content_by kind content = None
@@ -54,7 +57,8 @@ string_of p n =
     if n.shape.array then None else if n.shape.constant then None
     else option_and_then (λ c. content_by (kind_of c.name) (content_in (run (string_format Bool.true) p.bytes n.end n.at))) (find_class p.classes n.shape.class)
 
--- The text of a node: while it is a reference or a string that is a key, Follow, at most 16 times; then the text of the string, where it is one.
+-- The text of a node: while it is a reference or a string that is a key, Follow, at most 16 times; then the
+-- text of the string, where it is one.
 unfoldable pub text_of : Parts → NodeAt → Option (List ℕ)
 text_of p n = option_and_then strings.text_of (string_of p (follow_while 16 always p n))
 

@@ -9,7 +9,8 @@ use Rattle.jfr_pool.specs.Entries.{number_in_force, entry_node}
 use Rattle.jfr_chunk.specs.Parts.{Parts, EventAt, events_of}
 use Rattle.jfr_chunk.specs.Paths.{leads}
 
--- A path of a kept event leads to a node that refers to a class and a key whose entry in force has this number.
+-- A path of a kept event leads to a node that refers to a class and a key whose entry in force has this
+-- number.
 pub record Reached (p : Parts) (kept : List EventAt) (number : ℕ) : Type 0 where
   pub event : EventAt
   pub is_kept : Contains kept event
@@ -20,11 +21,12 @@ pub record Reached (p : Parts) (kept : List EventAt) (number : ℕ) : Type 0 whe
   pub refers : target p.classes p.bytes node ≡ Some key
   pub in_force : number_in_force p.entries key ≡ Some number
 
--- The values that a function has at the members of a list, where it has one.
+-- A member before others, if there is one.
 abbrev pub add : {A : Type 0} → Option A → List A → List A
 add None xs = xs
 add (Some x) xs = x ∷ xs
 
+-- The values that a function has at the members of a list, where it has one.
 abbrev pub those : {A B : Type 0} → (A → Option B) → List A → List B
 those f [] = []
 those f (x ∷ xs) = add (f x) (those f xs)
@@ -38,6 +40,7 @@ abbrev pub all_targets : Parts → List NodeAt → List (ℕ × ℕ)
 all_targets p [] = []
 all_targets p (n ∷ ns) = targets p.classes p.bytes n ++ all_targets p ns
 
+-- The nodes of events.
 abbrev pub nodes_of : List EventAt → List NodeAt
 nodes_of [] = []
 nodes_of (e ∷ es) = e.node ∷ nodes_of es

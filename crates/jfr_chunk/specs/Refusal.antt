@@ -71,7 +71,7 @@ pub data Refused (c : List ℕ) (flaw : Flaw) : Type 0 where
   -- an event's fields are faulty, the first in file order
   events : (p : Pooled c) → FirstFails (HasFields c p.described.classes) (λ r. Fails (value_format p.described.classes (inline r.type_id)) c (record_end r) r.body) (event_records p.described.classes p.described.chained.framing.records) flaw → Refused c flaw
 
--- By computing: each stage behind the ones before.
+-- By computing: a stage behind the ones before, which goes on with what they give.
 abbrev pub and_then : {A B : Type 0} → Result A Flaw → (A → Result B Flaw) → Result B Flaw
 and_then (Ok a) next = next a
 and_then (Err flaw) next = Err flaw

@@ -1,4 +1,4 @@
--- Room for the indexes of a chunk.
+-- Memory for the indexes of a chunk, used again from chunk to chunk.
 use Rattle.std.specs.Prelude.{◌≡◌, []}
 use Rattle.std.specs.BTreeMap as tree
 use Rattle.jfr_chunk.specs.declared.event_index.EventIndex.{EventIndex}
@@ -10,7 +10,7 @@ pub record HasNoEvents (index : EventIndex) : Type 0 where
   pub early : tree.IsEmpty index.early
   pub numbers : index.numbers.items ≡ []
 
--- Nothing is left in the room.
+-- Nothing of an earlier chunk is left.
 pub record IsEmpty (room : Room) : Type 0 where
   pub frames : room.frames ≡ []
   pub events : HasNoEvents room.events

@@ -1,4 +1,5 @@
--- What a chunk becomes: the header, and then, in order, the kept events, the metadata record, and what is written of each chained checkpoint.
+-- What a chunk becomes: the header, and then, in order, the kept events, the metadata record, and what is
+-- written of each chained checkpoint.
 use Rattle.std.specs.Prelude.{ℕ, ◌+◌, Bool, true, false, ◌||◌, ◌==◌, List, [], ◌∷◌, ◌++◌, length, filter, find, reverse, Option, Some, None, take}
 use Rattle.std.specs.List.{list_any, flat_map, filter_map, enumerate_from}
 use Rattle.std.specs.Option.{option_map_or}
@@ -11,11 +12,14 @@ use Rattle.jfr_chunk.specs.Parts.{Parts, EventAt, metadata_at}
 use Rattle.jfr_chunk.specs.Reach.{remain}
 use Rattle.jfr_chunk.specs.Written.{Group, by_pool, distance, checkpoint_bytes}
 
--- What is written of a record: the whole of it, or, of a chained checkpoint, the pools that have an entry left. Checkpoints are numbered in file order.
+-- What is written of a record: the whole of it, or, of a chained checkpoint, the pools that have an entry
+-- left. Checkpoints are numbered in file order.
 pub data OutputRecord : Type 0 where
   Whole : (frame : Framed) → OutputRecord
   Chained : (number : ℕ) (link : Link) → OutputRecord
 
+-- What is written of a record, by its number and link, if it is a chained checkpoint, and else by whether
+-- it is written whole.
 abbrev pub output_record_by : Option (ℕ × Link) → Bool → Framed → Option OutputRecord
 output_record_by (Some l) other r = Some (Chained l.0 l.1)
 output_record_by None true r = Some (Whole r)
@@ -25,6 +29,7 @@ output_record_by None false r = None
 abbrev pub output_records_whole : Parts → List EventAt → Framed → Bool
 output_records_whole p kept r = list_any (λ e. e.record_of.at == r.at) kept || (r.at == metadata_at p.bytes)
 
+-- What is written of a record, if anything is.
 abbrev pub output_record_of : Parts → List EventAt → Framed → Option OutputRecord
 output_record_of p kept r = output_record_by (find (λ l. l.1.frame.at == r.at) (enumerate_from 0 (reverse p.chain))) (output_records_whole p kept r) r
 
@@ -32,7 +37,8 @@ output_record_of p kept r = output_record_by (find (λ l. l.1.frame.at == r.at) 
 abbrev pub output_records : Parts → List EventAt → List OutputRecord
 output_records p kept = filter_map (output_record_of p kept) p.records
 
--- What is written at a place of the output, and where the chained checkpoint before it stands there.
+-- An output record at its place in the output, and where the chained checkpoint before it stands in the
+-- output, if there is one.
 pub record Written : Type 0 where
   pub output_record : OutputRecord
   pub at : ℕ
@@ -42,6 +48,8 @@ pub record Written : Type 0 where
 abbrev pub groups_of : List EntryAt → ℕ → List Group
 groups_of left number = by_pool (filter (λ e. e.checkpoint == number) left)
 
+-- The bytes of an output record that stands at a place of the output, behind the older checkpoint there, if
+-- one is.
 abbrev pub bytes_of : List ℕ → List EntryAt → OutputRecord → ℕ → Option ℕ → List ℕ
 bytes_of c left (Whole r) at older = record_bytes c r
 bytes_of c left (Chained number l) at older = checkpoint_bytes c l (distance at older) (groups_of left number)
@@ -49,6 +57,7 @@ bytes_of c left (Chained number l) at older = checkpoint_bytes c l (distance at 
 abbrev pub written_bytes : List ℕ → List EntryAt → Written → List ℕ
 written_bytes c left w = bytes_of c left w.output_record w.at w.older
 
+-- Where the last checkpoint of the output stands, up to this output record.
 abbrev pub older_after : OutputRecord → ℕ → Option ℕ → Option ℕ
 older_after (Whole r) at older = older
 older_after (Chained number l) at older = Some at
@@ -64,7 +73,7 @@ last_at None [] = 0
 last_at (Some at) [] = at
 last_at older (w ∷ ws) = last_at (older_after w.output_record w.at older) ws
 
--- The record of which it is written.
+-- The record of which an output record is written.
 abbrev pub record_of : OutputRecord → Framed
 record_of (Whole r) = r
 record_of (Chained number l) = l.frame

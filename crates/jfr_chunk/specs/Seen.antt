@@ -22,7 +22,8 @@ use Rattle.jfr_chunk.specs.declared.event.Event.{Event}
 use Rattle.jfr_chunk.specs.Parts.{Parts, EventAt, StartsAt, AreParts, events_of, metadata_at}
 use Rattle.jfr_chunk.specs.Reach.{node_entries}
 
--- Where the fields of the event of a record end, by the record's number: where these early ends say, or else where the record does.
+-- Where the fields of the event of a record end, by the record's number: where the early ends say, or else
+-- where the record does.
 abbrev pub end_in : BTreeMap ℕ ℕ → ℕ → Framed → ℕ
 end_in early number r = unwrap_or (tree.get nat_cmp early number) (record_end r)
 
@@ -34,16 +35,18 @@ event_with end r = record { record_of = r; node = node_at (inline r.type_id) r.b
 abbrev pub event_kept : List Framed → BTreeMap ℕ ℕ → EventIndexEntry → Option EventAt
 event_kept rs early f = option_map (λ r. event_with (end_in early f.record r) r) (slice_get rs f.record)
 
--- The numbers of the entries in force to which the event of these fields refers.
+-- The numbers of the entries in force to which an event of the index refers.
 abbrev pub due : List EntryAt → Classes → List ℕ → List Framed → BTreeMap ℕ ℕ → EventIndexEntry → List ℕ
 due es k c rs early f = option_map_or (λ e. node_entries es k c e.node) (event_kept rs early f) []
 
--- The numbers are those that are due to the events, one event after another, and the count of each, from a number on, tells how many there are up to its last.
+-- The numbers are those that the events owe, one event after another; and each event's count says how many
+-- numbers there are up to its last, counted from a number on.
 abbrev pub AreRefs : (EventIndexEntry → List ℕ) → ℕ → List EventIndexEntry → List ℕ → Type 0
 AreRefs due from [] numbers = numbers ≡ []
 AreRefs due from (f ∷ fs) numbers = (rest : List ℕ) × (numbers ≡ due f ++ rest) × (f.refs_end ≡ from + length (due f)) × AreRefs due f.refs_end fs rest
 
--- The parts stand in a whole chunk; the header, the metadata record, the events and what they refer to are those of the parts.
+-- The parts stand in a whole chunk; the header, the metadata record, the events and what they refer to are
+-- those of the parts.
 pub record IsIndexed (p : Parts) (header : Header) (metadata : Framed) (index : EventIndex) : Type 0 where
   pub whole : Whole p.bytes
   pub parts : AreParts p

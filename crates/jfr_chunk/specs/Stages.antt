@@ -14,7 +14,8 @@ use Rattle.jfr_chunk.specs.Parts.{HasFields, event_records, event_of}
 use Rattle.jfr_chunk.specs.Refusal.{FirstFails}
 use Rattle.jfr_chunk.specs.Seen.{event_kept}
 
--- The fields of each event stand; these tell of which records they are, and the early ends which of them end before their record, and where.
+-- The fields of each event stand. The index has an entry for each event, in order, with the number of its
+-- record; and the early ends say whose fields end before the record does, and where.
 pub record AreFields (c : List ℕ) (k : Classes) (rs : List Framed) (fields : List EventIndexEntry) (early : BTreeMap ℕ ℕ) : Type 0 where
   pub stand : All (HasFields c k) (event_records k rs)
   pub listed : map (event_kept rs early) fields ≡ map Some (filter_map (event_of c k) (event_records k rs))

@@ -36,7 +36,8 @@ abbrev pub distance : ℕ → Option ℕ → ℕ
 distance at None = 0
 distance at (Some older) = (2 ^ 64 + older) - at
 
--- Behind the size: type, start and duration as they are, the delta, the type byte as it is, and the pools behind their number.
+-- Behind the size: type, start and duration as they are, the delta, the type byte as it is, and the pools
+-- behind their number.
 abbrev pub checkpoint_tail : List ℕ → Link → ℕ → List Group → List ℕ
 checkpoint_tail c l delta gs =
     slice_range c l.frame.type_at l.frame.body ++ (slice_range c l.frame.body l.delta_at ++ (spell delta ++ (slice_range c l.delta_end (l.delta_end + 1)

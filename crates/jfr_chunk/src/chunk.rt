@@ -1,6 +1,5 @@
-// A chunk inside the grammar.
-ghost use Rattle.std.specs.Prelude.{◌≡◌, ◌+◌, ◌<◌, ◌^◌, ℕ, true, length, filter, replicate, reverse, slice_get, take, option_map, Ok, IfOk, IfErr, IfSome, MatchResult};
-ghost use Rattle.jfr_frame.specs.Records.{record_end};
+// An accepted chunk.
+ghost use Rattle.std.specs.Prelude.{◌≡◌, ◌+◌, ◌<◌, ◌^◌, true, length, filter, replicate, reverse, slice_get, take, option_map, Ok, IfOk, IfErr, IfSome, MatchResult};
 ghost use Rattle.jfr_header.specs.Fronts.{Whole};
 ghost use Rattle.jfr_header.specs.Headers.{header_of};
 ghost use Rattle.jfr_layout.specs.Classes.{Sound};
@@ -12,7 +11,7 @@ ghost use Rattle.jfr_chunk.specs.Parts.{AreParts, StartsAt, events_of, is_inert,
 ghost use Rattle.jfr_chunk.specs.Reach.{node_entries, roots};
 ghost use Rattle.jfr_chunk.specs.Refusal.{Refused, read_parts};
 ghost use Rattle.jfr_chunk.specs.Rooms.{IsEmpty};
-ghost use Rattle.jfr_chunk.specs.Seen.{IsOfChunk, end_in, event_at};
+ghost use Rattle.jfr_chunk.specs.Seen.{IsOfChunk, event_at};
 
 use crate::event_index::EventIndex;
 use crate::read::{header_in, read_events, record_named};
@@ -32,18 +31,21 @@ const METADATA: u64 = 0;
 
 const CHECKPOINT: u64 = 1;
 
-// The header names no metadata record, or no checkpoint.
+// The flaw where no metadata record starts at the position that the header names; its offset is that of the
+// header's field.
 const NO_METADATA: Flaw = Flaw {
     offset: 24,
     reason: Reason::MetadataPosition,
 };
 
+// The same where no checkpoint starts.
 const NO_CHECKPOINT: Flaw = Flaw {
     offset: 16,
     reason: Reason::PoolPosition,
 };
 
-/// A chunk inside the grammar, with the indexes over it. None of its bytes is copied.
+/// An accepted chunk, with the indexes over it. It borrows the bytes; only the texts of the metadata are
+/// copied. Contracts see its parts.
 #[derive(Drop)]
 pub struct Chunk<'a> {
     bytes: &'a [u8],
@@ -72,9 +74,10 @@ impl<'a> Model for Chunk<'a> {
 }
 
 impl<'a> Chunk<'a> {
-    /// Reads a whole chunk. It is refused at the first flaw of the first of these stages that has one:
-    /// the records, the positions of the metadata record and of the last checkpoint, the chain of
-    /// checkpoints, the metadata record, the bodies of the chained checkpoints, the fields of the events.
+    /// Reads a whole chunk. It is refused at the first flaw of the first of these stages that has one: the
+    /// records, the positions of the metadata record and of the last checkpoint, the chain of checkpoints,
+    /// the metadata record, the bodies of the chained checkpoints, the fields of the events. `Memory` where
+    /// memory is wanting.
     pub fn read(alloc: Global, bytes: &'a [u8]) -> Result<Chunk<'a>, ReadFault>
         requires { Whole bytes.now }
         ensures ok { IfOk result (λ chunk. chunk.bytes ≡ bytes.now) }
@@ -86,7 +89,7 @@ impl<'a> Chunk<'a> {
         Chunk::read_in(alloc, Room::new(alloc), bytes)
     }
 
-    /// Reads a whole chunk as `read` does, with the indexes in the room of an earlier chunk.
+    /// Reads a whole chunk as `read` does, with the indexes in the memory of an earlier chunk's.
     pub fn read_in(alloc: Global, room: Room, bytes: &'a [u8]) -> Result<Chunk<'a>, ReadFault>
         requires { Whole bytes.now }
         ensures ok { IfOk result (λ chunk. chunk.bytes ≡ bytes.now) }
@@ -113,7 +116,7 @@ impl<'a> Chunk<'a> {
         })
     }
 
-    /// The room of the indexes, to be used again for the next chunk.
+    /// The memory of the indexes, to be used again for the next chunk.
     pub fn into_room(self) -> Room
         ensures { IsEmpty result }
     {
@@ -152,7 +155,7 @@ impl<'a> Chunk<'a> {
         &self.frames
     }
 
-    /// The record of the metadata that the header names.
+    /// The metadata record that the header names.
     pub fn metadata_frame(&self) -> Framed
         ensures { StartsAt self.now.records (metadata_at self.now.bytes) 0 result }
     {
@@ -166,14 +169,14 @@ impl<'a> Chunk<'a> {
         &self.metadata.classes
     }
 
-    /// The chained checkpoints.
+    /// The chained checkpoints, in the order of the file.
     pub fn chain(&self) -> &Chain
         ensures { reverse result.now ≡ self.now.chain }
     {
         &self.chain
     }
 
-    /// The entries of the chained checkpoints.
+    /// The entries of the chained checkpoints, in the order of the file.
     pub fn pools(&self) -> &Pools
         ensures { result.now ≡ self.now.entries }
     {
@@ -202,8 +205,8 @@ impl<'a> Chunk<'a> {
         })
     }
 
-    /// How many records are neither events, nor the metadata record that the header names, nor chained
-    /// checkpoints.
+    /// How many records are inert: neither events, nor the metadata record that the header names, nor
+    /// chained checkpoints.
     pub fn inert_count(&self) -> u64
         ensures { result ≡ length (filter (is_inert self.now) self.now.records) }
     {
@@ -217,7 +220,7 @@ impl<'a> Chunk<'a> {
         self.events.fields.len()
     }
 
-    /// All events, kept.
+    /// Says of every event that it is kept.
     pub fn keep_all(&self, alloc: Global) -> Result<Kept, NoMemory>
         ensures ok { IfOk result (λ kept. kept ≡ replicate (length (events_of self.now)) true) }
         ensures parts { AreParts self.now }
@@ -252,8 +255,8 @@ impl<'a> Chunk<'a> {
         })
     }
 
-    /// The place where the event of a number starts; `None` exactly past the end. Its record is not
-    /// read.
+    /// The offset of the record of the event of a number, from 0; `None` exactly past the end. The record
+    /// is not read.
     #[inline]
     pub fn event_place(&self, number: usize) -> Option<usize>
         ensures { result ≡ option_map (λ e. e.record_of.at) (slice_get (events_of self.now) number) }
@@ -262,7 +265,8 @@ impl<'a> Chunk<'a> {
         self.frames.place(fields.record as usize)
     }
 
-    /// The number of the record of the event of a number; `None` exactly past the end. Neither is read.
+    /// The number of the record, among all records, of the event of a number, from 0; `None` exactly past
+    /// the end. The record is not read.
     #[inline]
     pub fn event_record(&self, number: usize) -> Option<usize>
         ensures { option_map (slice_get self.now.records) result ≡ option_map (λ e. Some e.record_of) (slice_get (events_of self.now) number) }
@@ -271,7 +275,8 @@ impl<'a> Chunk<'a> {
         Some(fields.record as usize)
     }
 
-    /// The numbers of the entries in force to which the events refer, of one event after another.
+    /// The numbers of the entries in force to which the events refer, one event after another. A number
+    /// stands there as often as a value refers to its entry.
     pub fn all_entries(&self) -> &[u32]
         ensures { result.now ≡ roots self.now (events_of self.now) }
     {

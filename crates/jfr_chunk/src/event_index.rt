@@ -8,12 +8,13 @@ use jfr_frame::Framed;
 use std::alloc::Global;
 use std::collections::BTreeMap;
 
-/// Where the fields of an event stand: the number of its record, with which nearly all end; and how many
-/// numbers of entries are indexed up to the last one to which it refers. A chunk has so many events that
-/// these are kept short: none is larger than the chunk.
+/// What is kept of an event, whose fields nearly always end with its record. A chunk has so many events
+/// that this is kept short; no number is larger than the chunk has bytes.
 #[derive(Clone, Copy, Debug)]
 pub(crate) struct EventIndexEntry {
+    /// The number of its record among all records, from 0.
     pub record: u32,
+    /// How many numbers of entries the index has, up to the last one of this event.
     pub refs_end: u32,
 }
 
@@ -21,9 +22,12 @@ pub(crate) struct EventIndexEntry {
 /// force to which they refer.
 #[derive(Drop)]
 pub(crate) struct EventIndex {
+    /// An entry for each event.
     pub fields: Vec<EventIndexEntry>,
-    /// Where the fields of the few events end that do so before their record, by its number.
+    /// Where the fields end of the few events whose fields end before their record does, by the record's
+    /// number.
     pub early: BTreeMap<u32, u32>,
+    /// The numbers of the entries in force to which the events refer, one event after another.
     pub numbers: Vec<u32>,
 }
 
@@ -39,7 +43,7 @@ impl EventIndex {
         }
     }
 
-    /// Gives up what is there, and keeps the room.
+    /// Gives up the events, and keeps their memory.
     pub fn clear(&mut self)
         ensures { HasNoEvents self.new }
     {
@@ -48,7 +52,7 @@ impl EventIndex {
         self.numbers.clear();
     }
 
-    /// Where the fields of the event of a number stand.
+    /// What is kept of the event of a number; `None` exactly past the end.
     #[inline]
     pub fn fields_at(&self, number: usize) -> Option<EventIndexEntry>
         ensures { result ≡ slice_get self.now.fields.items number }
@@ -68,7 +72,7 @@ impl EventIndex {
         }
     }
 
-    /// How many references the events before the one of a number have.
+    /// How many numbers of entries the index has for the events before the one of a number.
     #[inline]
     pub fn refs_before(&self, number: usize) -> usize
         requires { number < length self.now.fields.items }

@@ -46,7 +46,7 @@ impl Kept {
         })
     }
 
-    /// Says of an event, by its number, whether it is kept.
+    /// Sets whether the event of a number is kept.
     pub fn set(&mut self, at: usize, keep: bool)
         requires { at < length self.old }
         ensures { self.new ≡ slice_set self.old at keep }

@@ -1,5 +1,5 @@
 // The stages of reading a chunk.
-ghost use Rattle.std.specs.Prelude.{◌≡◌, ◌<◌, ◌≤◌, ◌^◌, [], length, take, slice_get, Some, IfOk, IfErr, OnOk, true};
+ghost use Rattle.std.specs.Prelude.{◌≡◌, ◌<◌, ◌≤◌, ◌^◌, [], length, take, Some, IfOk, IfErr, OnOk};
 ghost use Rattle.std.specs.BTreeMap as tree;
 ghost use Rattle.std.specs.Ordering.{nat_cmp};
 ghost use Rattle.jfr_base.specs.Formats.{run, seen};
@@ -25,7 +25,6 @@ use jfr_header::{Header, read_header};
 use jfr_layout::{Classes, FieldLayout};
 use jfr_pool::Pools;
 use jfr_value::end_visiting;
-use std::alloc::Global;
 use std::collections::BTreeMap;
 
 /// The header of a whole chunk.
@@ -57,7 +56,8 @@ pub(crate) fn record_named(
     }
 }
 
-/// Where the fields of the events stand, and to which entries they refer. They are kept in this room.
+/// Where the fields of the events stand, and to which entries they refer: an index in the memory of an
+/// earlier one. It is refused at the first event whose fields don't stand in its record.
 pub(crate) fn read_events(
     room: EventIndex,
     chunk: &[u8],
@@ -102,7 +102,7 @@ pub(crate) fn read_events(
     })
 }
 
-/// The room of a list, with place for so many.
+/// The list without its members, with capacity for so many.
 fn emptied(list: Vec<EventIndexEntry>, count: usize) -> Result<Vec<EventIndexEntry>, NoMemory>
     ensures { IfOk result (λ emptied. emptied.items ≡ []) }
 {
@@ -112,8 +112,8 @@ fn emptied(list: Vec<EventIndexEntry>, count: usize) -> Result<Vec<EventIndexEnt
     Ok(emptied)
 }
 
-/// Notes where the fields of an event end, by the number of its record. This is out of line, since few
-/// end before their record.
+/// Keeps where the fields of an event end, by the number of its record. This is out of line, since few end
+/// before their record.
 #[cold]
 #[inline(never)]
 fn add_early(early: &mut BTreeMap<u32, u32>, number: u32, end: u32) -> Result<(), NoMemory>

@@ -9,12 +9,13 @@ use jfr_value::Visit;
 #[derive(Drop)]
 pub(crate) struct ConstantRefs {
     pub numbers: Vec<u32>,
-    /// Whether memory was wanting for a number.
+    /// Whether memory was wanting for a number, so that some are missing. A visit can't fail, so this is
+    /// asked at the end.
     pub lacks: bool,
 }
 
 impl ConstantRefs {
-    /// No numbers, which are kept in this room.
+    /// No numbers yet, in the memory of an earlier list.
     pub fn new(room: Vec<u32>) -> ConstantRefs
         ensures numbers { result.numbers.items ≡ [] }
         ensures lacks { result.lacks ≡ false }
@@ -50,7 +51,7 @@ impl Visit<Pools> for ConstantRefs {
 
     ghost takes = { λ pools target old new. AddsRefs (those (number_in_force pools) (target ∷ [])) old new };
 
-    /// Adds the number of the entry in force to which a target refers, where there is one.
+    /// Adds the number of the entry in force of a class and key, where there is one.
     #[inline(always)]
     fn visit(&mut self, pools: &Pools, class: u64, key: u64) {
         if let Some(number) = pools.entry(class, key) {

@@ -5,8 +5,9 @@ use Rattle.jfr_filter.specs.declared.pattern.Walk.{Walk}
 use Rattle.jfr_filter.specs.declared.pattern.Walk.TheVariants.{Whole, Fails, Star}
 use Rattle.jfr_filter.specs.Patterns.{glob, some_suffix}
 
--- The pattern matches the text whole, or does not; or at a star it matches where what follows matches some part at the
--- end, and then it is no matter where before that the pattern began.
+-- The pattern matches the text whole, or doesn't. Or a star was reached: then the pattern matches exactly
+-- where what follows the star matches some end of the rest of the text, and that some end of the text
+-- matches the whole pattern says the same.
 abbrev pub Goes : List ℕ → List ℕ → Walk → Type 0
 Goes pattern text Whole = glob pattern text ≡ true
 Goes pattern text Fails = glob pattern text ≡ false

@@ -50,7 +50,7 @@ impl Filter {
         }
     }
 
-    /// Whether the option is given.
+    /// Whether the option has patterns.
     pub fn has(&self, side: Side) -> bool
         ensures { IsTrue result ↔ IsSome (given_at side self.now) }
     {
@@ -71,8 +71,9 @@ impl Filter {
         }
     }
 
-    /// Gives an option its patterns: the list cut at each comma, with nothing trimmed. `EmptyPattern` exactly
-    /// where a part of the list is empty, `Memory` where memory is wanting; the filter then stays as it was.
+    /// Gives an option its patterns: the parts of the list between its commas, with nothing trimmed.
+    /// `EmptyPattern` exactly where a part of the list is empty, `Memory` where memory is wanting; the
+    /// filter then stays as it was.
     pub fn add(&mut self, side: Side, list: &str) -> Result<(), FilterFault>
         requires { given_at side self.old ≡ None }
         ensures ok { OnOk result (self.new ≡ with_patterns side (patterns_in (chars list.now)) self.old) }

@@ -53,7 +53,7 @@ fn any_text(patterns: &Words, text: &str) -> bool
     false
 }
 
-/// The text at a place of the list.
+/// The text of an index of the list.
 fn text_at(words: &Words, at: usize) -> &str
     requires { at < length words.now }
     ensures { slice_get words.now at ≡ Some (chars result.now) }

@@ -7,11 +7,11 @@ ghost use Rattle.jfr_filter.specs.Walks.{Goes, IsShorter};
 /// Whether the pattern matches the whole text: `*` stands for any run of characters, `?` for exactly
 /// one, and every other character for itself. It takes no memory.
 ///
-/// Two places are enough: the pattern after the last star, and the text where its try began. What
-/// stands before the next star is tried from the left, and where it matches first, the later stars can
-/// do as well as further on; so no earlier star is tried again. A character of the pattern meets one of
-/// the text at most once: a pattern of m characters takes at most m times n comparisons over a text of
-/// n, also one of many stars.
+/// Two positions are kept: the pattern behind the last star, and the text where its present try began. What
+/// stands before the next star is tried from the left, and where it matches first, the later stars can do
+/// as well as further on; so no earlier star is tried again. So a character of the pattern is compared with
+/// one of the text at most once: a pattern of m characters takes at most m times n comparisons over a text
+/// of n, also one of many stars.
 pub fn glob(pattern: &str, text: &str) -> bool
     ensures { result ≡ glob (chars pattern.now) (chars text.now) }
 {
@@ -22,7 +22,7 @@ pub fn glob(pattern: &str, text: &str) -> bool
     }
 }
 
-/// Whether the pattern matches some part at the text's end.
+/// Whether the pattern matches some part at the text's end, the whole and the empty one included.
 fn some_end(pattern: &str, text: &str) -> bool
     ensures { result ≡ some_suffix (glob (chars pattern.now)) (chars text.now) }
 {

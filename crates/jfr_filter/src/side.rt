@@ -5,7 +5,8 @@ ghost use Rattle.jfr_filter.specs.declared.side.FilterFault.TheVariants.{Memory}
 use jfr_base::NoMemory;
 use thiserror::Error;
 
-/// An option of a filter: what its patterns match, and whether they keep an event or drop it.
+/// An option of a filter: what its patterns are matched with, and whether an event is kept or dropped where
+/// one matches.
 #[derive(Clone, Copy, Debug, PartialEq, Eq)]
 pub enum Side {
     /// Keeps the events whose class name or simple name matches.

@@ -8,7 +8,8 @@ use Rattle.jfr_base.specs.declared.integer.Var.{Var}
 use Rattle.jfr_base.specs.declared.reason.Reason.TheVariants.{RecordSize}
 use Rattle.jfr_frame.specs.declared.framed.Framed.{Framed}
 
--- A record stands there: its size is spelled where it starts, and its type behind the size; the size counts the whole record, and the record lies in the chunk.
+-- A record stands there: its size is spelled where it starts, and its type behind the size; the size counts
+-- the whole record, and the record lies in the chunk.
 pub record IsRecord (c : List ℕ) (r : Framed) : Type 0 where
   pub size_spelled : IntAt c r.at r.type_at r.size
   pub type_spelled : IntAt c r.type_at r.body r.type_id
@@ -19,7 +20,7 @@ pub record IsRecord (c : List ℕ) (r : Framed) : Type 0 where
 abbrev pub record_end : Framed → ℕ
 record_end r = r.at + r.size
 
--- These records, one after another, cover the bytes from p up to q.
+-- These records, one after another, cover the bytes from p up to q, without gaps.
 abbrev pub Tiles : List ℕ → ℕ → List Framed → ℕ → Type 0
 Tiles c p [] q = p ≡ q
 Tiles c p (r ∷ rs) q = (r.at ≡ p) × IsRecord c r × Tiles c (record_end r) rs q
@@ -63,21 +64,25 @@ abbrev pub Rising : ℕ → List Framed → Type 0
 Rising p [] = ⊤
 Rising p (r ∷ rs) = (p ≤ r.at) × Rising (r.at + 1) rs
 
--- By computing: the record that starts at a place, if one does; its size and its type are read, and it has to cover both and to end within the chunk.
+-- By computing: the record that starts at a place, if one does; its size and its type are read, and it has
+-- to cover both and to end within the chunk.
 abbrev pub covering : List ℕ → ℕ → Var → Var → Option Framed
 covering c at size id =
     if nat_le id.end (at + size.value) && nat_le (at + size.value) (length c)
     then Some (record { at = at; size = size.value; type_at = size.end; type_id = id.value; body = id.end })
     else None
 
+-- The record of this size, where its type is spelled, too.
 abbrev pub with_type : List ℕ → ℕ → Var → Option Var → Option Framed
 with_type c at size None = None
 with_type c at size (Some id) = covering c at size id
 
+-- The record, where its size is spelled: its type is read behind the size.
 abbrev pub with_size : List ℕ → ℕ → Option Var → Option Framed
 with_size c at None = None
 with_size c at (Some size) = with_type c at size (int_at c size.end (length c))
 
+-- The record that starts at a place, if one does.
 unfoldable pub record_at : List ℕ → ℕ → Option Framed
 record_at c at = with_size c at (int_at c at (length c))
 
@@ -86,14 +91,18 @@ abbrev pub before_records : Framed → Result (List Framed) Flaw → Result (Lis
 before_records r (Ok rs) = Ok (r ∷ rs)
 before_records r (Err flaw) = Err flaw
 
+-- The records from a place on, by the one that starts there and those from its end on; the flaw where none
+-- starts there.
 abbrev pub records_by : ℕ → Option Framed → (ℕ → Result (List Framed) Flaw) → Result (List Framed) Flaw
 records_by at None next = Err (record { offset = at; reason = RecordSize })
 records_by at (Some r) next = before_records r (next (record_end r))
 
--- The records from a place to the chunk's end, or where none stands. Each takes a byte, so as many turns as there are bytes are enough.
+-- The records from a place to the chunk's end, or where none stands. Each takes a byte, so as many turns as
+-- there are bytes are enough.
 abbrev pub records_within : ℕ → List ℕ → ℕ → Result (List Framed) Flaw
 records_within zero c at = Ok []
 records_within (suc n) c at = if nat_le (length c) at then Ok [] else records_by at (record_at c at) (records_within n c)
 
+-- The records of a chunk, or its flaw.
 unfoldable pub records_of : List ℕ → Result (List Framed) Flaw
 records_of c = records_within (length c) c 68

@@ -5,7 +5,8 @@ use Rattle.jfr_frame.specs.declared.framed.Framed.{Framed}
 use Rattle.jfr_frame.specs.declared.start.Start.{Start}
 use Rattle.jfr_frame.specs.Records.{AreRecords, record_at}
 
--- What is kept of a record: its place, its type if it is below the largest number of 16 bits, else that number, and how far behind its place its type and its body stand.
+-- What is kept of a record: its place, its type if it is below the largest number of 16 bits, else that
+-- number, and how far behind its place its type and its body stand.
 abbrev pub start_of : Framed → Start
 start_of r = record { at = r.at; type_id = min r.type_id (2 ^ 16 - 1); type_at = r.type_at - r.at; body = r.body - r.at }
 

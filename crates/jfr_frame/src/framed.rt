@@ -6,21 +6,23 @@ ghost use Rattle.jfr_base.specs.declared.reason.Reason.TheVariants as reasons;
 
 use jfr_base::{Flaw, Reason, Var, read_var, read_within};
 
-/// A record: where it starts, how many bytes it has, where its type stands, its type, and where its
-/// body starts. All places count from the chunk's first byte.
+/// A record as it was found (FORMAT.md, Records). Offsets count from the chunk's first byte.
 #[derive(Clone, Copy, Debug, PartialEq, Eq)]
 pub struct Framed {
+    /// The offset of its first byte.
     pub at: usize,
-    /// Counts the whole record, the bytes of the size included.
+    /// How many bytes the whole record has, those of the size included.
     pub size: usize,
+    /// The offset of its type, which stands behind the size.
     pub type_at: usize,
-    /// 0 for metadata, 1 for a checkpoint, else the id of an event's class.
+    /// 0 for metadata, 1 for a checkpoint, else the id of an event class, if there is one with that id.
     pub type_id: u64,
+    /// The offset of its body, which stands behind the type.
     pub body: usize,
 }
 
 impl Framed {
-    /// Where the record ends.
+    /// The offset after the record.
     #[inline(always)]
     pub fn end(&self) -> usize
         requires { record_end self.now < 2 ^ 64 }
@@ -32,13 +34,13 @@ impl Framed {
 
 ghost use Rattle.jfr_frame.specs.Records.{covering, IsRecord, NoRecord, record_at, record_end};
 
-/// So many bytes the size and the type of a usual record take at most. The JDK writes a size in one byte
+/// How many bytes the size and the type of a usual record take at most. The JDK writes a size in one byte
 /// or pads it to four, and nearly all types take one or two.
 const USUAL_HEAD: usize = 6;
 
-/// The record that starts at a place: `None` exactly at the chunk's end. It is refused as
-/// `RecordSize`, at its start, exactly where its size or its type doesn't end within the chunk, or
-/// the size is below its own two integers or past the chunk's end.
+/// The record that starts at the offset `at`; `None` exactly at the chunk's end. It is refused as
+/// `RecordSize`, at `at`, exactly where its size or its type doesn't end within the chunk, or the size is
+/// below its own two integers or past the chunk's end.
 #[inline(always)]
 pub fn next_record(chunk: &[u8], at: usize) -> Result<Option<Framed>, Flaw>
     requires { at ≤ length chunk.now }
@@ -110,8 +112,8 @@ fn unusual_out_of_line(chunk: &[u8], at: usize) -> Option<Framed>
     framed_by(chunk, at, Head { size, type_id })
 }
 
-/// The size and the type that are spelled there, where both are usual and have room. So the chunk's end
-/// is asked for once, and not at each byte.
+/// The size and the type that are spelled there, where both are usual and enough bytes are left for any
+/// usual ones. So the chunk's end is asked for once, and not at each byte.
 #[inline(always)]
 fn usual_head(chunk: &[u8], at: usize) -> Option<Head>
     requires { at < length chunk.now }

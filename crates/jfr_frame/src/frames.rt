@@ -34,9 +34,9 @@ impl<'a> Model for Frames<'a> {
 }
 
 impl<'a> Frames<'a> {
-    /// Reads the records of a chunk. It is refused as `RecordSize` at the first place where none
-    /// stands. `Memory` also for 2 ^ 32 bytes and more, whose places a start can't hold; a chunk is far
-    /// below that size.
+    /// Reads the records of a chunk. They are refused as `RecordSize` at the first offset where none
+    /// stands. `Memory` where memory is wanting, and for 2^32 bytes or more, whose offsets a start can't
+    /// hold; a chunk is far below that size.
     pub fn read(alloc: Global, chunk: &'a [u8]) -> Result<Frames<'a>, ReadFault>
         requires { 68 ≤ length chunk.now }
         ensures ok { IfOk result (λ rs. AreRecords chunk.now rs) }
@@ -48,8 +48,8 @@ impl<'a> Frames<'a> {
         Frames::read_in(FrameRoom::new(alloc), chunk)
     }
 
-    /// Reads the records of a chunk, and keeps their starts in this room, whose content is given up. `Memory` also for
-    /// 2 ^ 32 bytes and more, as there.
+    /// Reads the records of a chunk as `read` does, and keeps their starts in the memory of an earlier
+    /// chunk's, which are given up.
     pub fn read_in(room: FrameRoom, chunk: &'a [u8]) -> Result<Frames<'a>, ReadFault>
         requires { 68 ≤ length chunk.now }
         ensures ok { IfOk result (λ rs. AreRecords chunk.now rs) }
@@ -69,7 +69,7 @@ impl<'a> Frames<'a> {
         Ok(Frames { chunk, starts })
     }
 
-    /// The room of the starts, to be used again.
+    /// The memory of the starts, to be used again for the next chunk.
     pub fn into_room(self) -> FrameRoom
         ensures { result ≡ places_of self.entry }
     {
@@ -129,7 +129,7 @@ impl<'a> Frames<'a> {
         self.starts.get(number).copied()
     }
 
-    /// The place after the record of a number.
+    /// The offset after the record of a number.
     #[inline(always)]
     fn end(&self, number: usize) -> usize
         requires { number < length self.now }
@@ -142,7 +142,7 @@ impl<'a> Frames<'a> {
         }
     }
 
-    /// Where the record of a number starts; `None` exactly past the end. The record is not read.
+    /// The offset of the record of a number, from 0; `None` exactly past the end. The record is not read.
     #[inline]
     pub fn place(&self, number: usize) -> Option<usize>
         ensures { result ≡ option_map (λ r. r.at) (slice_get self.now number) }
@@ -150,7 +150,7 @@ impl<'a> Frames<'a> {
         Some(self.start(number)?.at as usize)
     }
 
-    /// The number of the record that starts there, or of the first one past it.
+    /// The number of the record that starts at the offset `at`, or else of the first one past it.
     fn number_at(&self, at: usize) -> Result<usize, usize>
         ensures position { IsBinarySearchResult (λ place. nat_cmp place at) (places_of self.now) result }
         ensures order { Rising 68 self.now }
@@ -159,7 +159,7 @@ impl<'a> Frames<'a> {
             .binary_search_by_key(&at, |start| start.at as usize)
     }
 
-    /// The record of that type that starts there; `None` exactly where none does.
+    /// The record of that type that starts at the offset `at`; `None` exactly where none does.
     pub fn find(&self, at: u64, type_id: u64) -> Option<Framed>
         ensures { result ≡ record_there self.now at type_id }
     {
@@ -175,7 +175,7 @@ impl<'a> Frames<'a> {
         }
     }
 
-    /// Whether a record of that type starts there.
+    /// Whether a record of that type starts at the offset `at`.
     pub fn starts_at(&self, at: u64, type_id: u64) -> bool
         ensures { result ≡ starts_at self.now at type_id }
     {

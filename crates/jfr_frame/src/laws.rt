@@ -14,7 +14,7 @@ pub fn computed_framing()
     ensures { (c : List ℕ) → 68 ≤ length c → IsComputed c }
 {}
 
-/// The records of a chunk stand in the order of their places.
+/// The records of a chunk stand in the order of their offsets.
 pub fn records_rise()
     ensures { (c : List ℕ) (rs : List Framed) → AreRecords c rs → Rising 68 rs }
 {}

@@ -1,12 +1,12 @@
-// Room for the records of a chunk.
+// Memory for the records of a chunk, used again from chunk to chunk.
 ghost use Rattle.std.specs.Prelude.{◌≡◌, []};
 
 use crate::start::Start;
 use std::alloc::Global;
 use std::marker::Model;
 
-/// The room that the records of a chunk took, to be used again for those of the next one. It is seen as
-/// the places where they started.
+/// The memory that the records of a chunk took, to be used again for those of the next one. Contracts see
+/// the offsets at which they started.
 #[derive(Drop)]
 pub struct FrameRoom {
     pub(crate) starts: Vec<Start>,
@@ -22,7 +22,7 @@ impl Model for FrameRoom {
 }
 
 impl FrameRoom {
-    /// The room that no chunk took yet. It takes no memory.
+    /// No memory yet, as before the first chunk.
     pub fn new(alloc: Global) -> FrameRoom
         ensures { result ≡ [] }
     {
@@ -31,7 +31,7 @@ impl FrameRoom {
         }
     }
 
-    /// Gives up what is there, and keeps the room.
+    /// Gives up the records, and keeps their memory.
     pub fn clear(&mut self)
         ensures { self.new ≡ [] }
     {

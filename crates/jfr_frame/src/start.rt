@@ -13,11 +13,12 @@ pub(crate) struct Start {
     pub type_at: u8,
     /// At most 18, as the size and the type have at most nine bytes each.
     pub body: u8,
-    /// Any place has room here, as a chunk of 2 ^ 32 bytes or more isn't read.
+    /// Every offset fits, as a chunk of 2^32 bytes or more isn't read.
     pub at: u32,
 }
 
-/// Is kept in place of a type of that much or more, which has to be read from the bytes.
+/// Stands for a type that is this number or larger; such a type is read from the bytes when it is asked
+/// for.
 pub(crate) const WIDE: u16 = u16::MAX;
 
 impl Start {

@@ -23,7 +23,8 @@ unfoldable pub cut_within : ℕ → List ℕ → ℕ → Bool → Cuts
 cut_within zero rest start first = record { chunks = []; flaw = None }
 cut_within (suc n) rest start first = cut_by (front rest start first) (λ c. cut_within n (drop (length c) rest) (start + length c) false)
 
--- how the bytes from a start are cut; each chunk takes a byte or more, so one turn more than there are bytes is enough
+-- how the bytes from a start are cut; each chunk takes a byte or more, so one turn more than there are
+-- bytes is enough
 unfoldable pub cut : List ℕ → ℕ → Bool → Cuts
 cut rest start first = cut_within (suc (length rest)) rest start first
 

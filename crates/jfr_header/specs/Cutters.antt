@@ -1,7 +1,8 @@
 -- What a cutter is for its callers.
 use Rattle.std.specs.Prelude.{◌≡◌, ℕ, ◌+◌, ◌<◌, ◌≤◌, ◌^◌, Bool, true, List}
 
--- the last chunk; the start and the number of the chunk that comes next; whether a chunk was given; whether every answer was a chunk
+-- the bytes of the last chunk; the start and the number of the chunk that comes next; whether a chunk was
+-- given; whether every answer so far was a chunk
 pub record Cutter : Type 0 where
   pub bytes : List ℕ
   pub start : ℕ

@@ -11,7 +11,7 @@ use Rattle.jfr_base.specs.declared.reason.Reason.TheVariants.{NoChunk, ShortHead
 abbrev pub flaw_at : ℕ → Reason → Flaw
 flaw_at offset reason = record { offset = offset; reason = reason }
 
--- the size that a header names
+-- the size of the chunk that a header names
 abbrev pub size_of : List ℕ → ℕ
 size_of h = (header_of h).size
 
@@ -44,7 +44,8 @@ abbrev pub headed : List ℕ → Option Flaw → Front
 headed rest (Some f) = Bad f
 headed rest None = sized rest (size_of (take 68 rest))
 
--- what stands at the front: the bytes begin at this start of the recording, and `first` says that no chunk was taken before them
+-- what stands at the front: the bytes begin at this start of the recording, and `first` says that no chunk
+-- was taken before them
 unfoldable pub front : List ℕ → ℕ → Bool → Front
 front rest start first =
     if length rest == 0 then (if first then Bad (flaw_at 0 NoChunk) else End)
@@ -57,7 +58,8 @@ abbrev pub reach_by : ℕ → Option Flaw → ℕ
 reach_by size (Some f) = 68
 reach_by size None = size
 
--- how many bytes the header at the front and the chunk that it names have: 68 where the header is short or refused
+-- how many bytes the header at the front and the chunk that it names have: 68 where the header is short or
+-- refused
 unfoldable pub reach : List ℕ → ℕ
 reach rest = if nat_lt (length rest) 68 then 68 else reach_by (size_of (take 68 rest)) (header_flaw (take 68 rest))
 

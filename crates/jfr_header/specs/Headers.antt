@@ -1,9 +1,9 @@
--- The 68 bytes of a header: each number at its place, the highest byte first.
+-- The 68 bytes of a header: each number at its offset, the highest byte first.
 use Rattle.std.specs.Prelude.{ℕ, List, [], ◌∷◌, ◌++◌, drop, slice_index}
 use Rattle.byteorder.specs.Endian.{big_number, big_bytes}
 use Rattle.jfr_header.specs.declared.header.Header.{Header}
 
--- the number in so many bytes from a place
+-- the number in so many bytes from an offset on
 abbrev pub number_at : ℕ → ℕ → List ℕ → ℕ
 number_at at count h = big_number count (drop at h)
 

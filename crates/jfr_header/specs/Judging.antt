@@ -6,7 +6,7 @@ use Rattle.jfr_header.specs.Nexts.{is_header}
 use Rattle.jfr_header.specs.declared.judge.Verdict.{Verdict}
 use Rattle.jfr_header.specs.declared.judge.Verdict.TheVariants.{End, Bad, Sized}
 
--- these bytes are left behind the first ones, of which there are fewer than 68 only where no more are left
+-- these bytes are left behind the first ones: none, where the first ones are fewer than 68
 abbrev pub Follows : List ℕ → List ℕ → Type 0
 Follows bytes left = length bytes < 68 → left ≡ []
 

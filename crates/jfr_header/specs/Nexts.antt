@@ -7,7 +7,7 @@ use Rattle.jfr_base.specs.declared.reason.Reason.TheVariants.{Magic, Version, Un
 use Rattle.jfr_outside.specs.World.{World}
 use Rattle.jfr_outside.specs.Counts.{Rose}
 use Rattle.jfr_header.specs.Fronts as fronts
-use Rattle.jfr_header.specs.Fronts.{front, reach, header_flaw, Whole}
+use Rattle.jfr_header.specs.Fronts.{front, reach, Whole}
 use Rattle.jfr_header.specs.Taking.{Took, Takes}
 use Rattle.jfr_header.specs.Cutters.{Cutter}
 use Rattle.jfr_header.specs.declared.cutter.Cut.{Cut}
@@ -37,7 +37,7 @@ pub record Closed (old new : Cutter) : Type 0 where
   pub given : new.given ≡ old.given
   pub live : new.live ≡ false
 
--- what an answer says, whether the place tells its content or not
+-- what an answer says of the cutter, whether the place tells its content or not
 abbrev pub CutOf : Cut → Cutter → Cutter → Type 0
 CutOf Chunk old new = Given old new
 CutOf End old new = (old.given ≡ true) × Closed old new
@@ -59,7 +59,7 @@ answer_to number (fronts.Bad f) = Refused (record { chunk = number; offset = f.o
 answer_to number fronts.End = End
 answer_to number (fronts.Chunk c) = Chunk
 
--- an answer is the due one, but for a fault or want of memory
+-- an answer is the due one, unless it is a fault or want of memory
 abbrev pub IsDue : Cut → Cut → Type 0
 IsDue Failed due = Unit {0}
 IsDue Memory due = Unit {0}
@@ -86,7 +86,8 @@ pub record Found (c : Cutter) (f : fronts.Front) (bytes : List ℕ) (w v : World
   pub took : Took bytes w v
   pub is : ahead_of c rest ≡ f
 
--- what was left had this flaw at its front; no byte past the header and its chunk was taken, and after a flaw of the header exactly 68
+-- what was left had this flaw at its front; no byte past the header and its chunk was taken, and after a
+-- flaw of the header exactly 68
 pub record Refuses (c : Cutter) (r : Refusal) (w v : World) : Type 0 where
   pub bytes : List ℕ
   pub found : Found c (fronts.Bad (flaw_of r)) bytes w v

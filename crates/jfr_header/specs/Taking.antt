@@ -23,7 +23,8 @@ pub record Took (bytes : List ℕ) (w v : World) : Type 0 where
   pub output : v.output ≡ w.output
   pub input : ahead bytes v ≡ w.input
 
--- bytes were taken, so many of those that the header and its chunk have
+-- bytes were taken from the input, and their number fits how many the header at the front and its chunk
+-- have
 abbrev pub Takes : (ℕ → ℕ → Type 0) → World → World → Type 0
 Takes Fits w v = (bytes : List ℕ) × Took bytes w v × IfSome w.input (λ rest. Fits (length bytes) (reach rest))
 

@@ -7,10 +7,10 @@ use jfr_outside::{Fault, Place};
 use std::alloc::{AllocError, Global};
 use std::marker::Model;
 
-/// A room that grows has room for so many bytes more at least, where so many are wanted.
+/// By how many bytes a buffer grows at least, where as many are wanted.
 const PIECE: usize = 65536;
 
-/// Bytes in hand. Their room only grows: what comes next is read straight into it.
+/// Bytes in hand. Their memory only grows, and what comes next is read straight into it.
 #[derive(Drop)]
 pub struct Buffer {
     room: Vec<u8>,
@@ -27,8 +27,8 @@ impl Model for Buffer {
     ghost invariant = { λ b. b.count ≤ vec_len b.room };
 }
 
-// Makes room behind so many bytes, where none is left. It grows to at most twice what they take, or by
-// a piece, and no further than is wanted.
+// Makes place behind `count` bytes for at least one more, where none is left. The list grows to at most
+// twice their number, or by `PIECE`, and no further than `until`.
 fn make_room(room: &mut Vec<u8>, count: usize, until: usize) -> Result<(), AllocError>
     requires count { count ≤ vec_len room.old }
     requires wanted { count < until }
@@ -69,14 +69,15 @@ impl Buffer {
         &self.room[..self.count]
     }
 
-    /// Lets the bytes go, and keeps their room.
+    /// Lets the bytes go, and keeps their memory.
     pub fn clear(&mut self)
         ensures { self.new ≡ [] }
     {
         self.count = 0;
     }
 
-    // Reads once, and says how many bytes came.
+    // Reads once from the open input, behind the bytes in hand and up to `until`, and says how many bytes
+    // came: none at the input's end.
     fn read<P: Place>(&mut self, place: &mut P, until: usize) -> Result<usize, Fault>
         requires { length self.old < until }
         ensures moved { Tells (P.state place.old) (P.state place.new) (Moved self.old self.new) }
@@ -104,8 +105,8 @@ impl Buffer {
         Ok(count)
     }
 
-    /// Reads until so many bytes are in hand, or the input ends. It fails where a read fails and where
-    /// memory is wanting.
+    /// Reads until `until` bytes are in hand, or the input ends. It fails where a read fails and where
+    /// memory is wanting; what was read before stays in hand after a failed read.
     pub fn fill<P: Place>(&mut self, place: &mut P, until: usize) -> Result<(), Fault>
         requires { length self.old ≤ until }
         ensures ok { OnOk result (Tells (P.state place.old) (P.state place.new) (Moved self.old self.new)) }

@@ -17,7 +17,7 @@ pub enum Cut {
     Chunk,
     /// The recording ended at a chunk's end, after at least one chunk.
     End,
-    /// What is left is refused.
+    /// What is left of the recording is refused. Its chunk is the one that would have come next.
     Refused(Refusal),
     /// A read failed.
     Failed,
@@ -46,8 +46,9 @@ impl Model for ChunkCutter {
 }
 
 impl ChunkCutter {
-    /// A cutter for the input that is open next. Its first chunk has this number and starts at this
-    /// byte of the recording. It takes no memory.
+    /// A cutter for the input that will be open when a chunk is asked for. The first chunk has the number
+    /// `number` and starts at the byte `start` of the recording; for a whole recording these are 1 and 0.
+    /// It takes no memory.
     pub fn new(alloc: Global, start: u64, number: u64) -> ChunkCutter
         requires start { start < 2 ^ 62 }
         requires number { number < 2 ^ 62 }
@@ -87,8 +88,8 @@ impl ChunkCutter {
         self.live
     }
 
-    /// The last chunk while the cutter is open, and no bytes before the first. After another answer
-    /// than a chunk nothing is promised of them.
+    /// The bytes of the last chunk while the cutter is open, and none before the first. After any other
+    /// answer nothing is promised of them.
     pub fn bytes(&self) -> &[u8]
         ensures { result.now ≡ self.now.bytes }
     {
@@ -103,7 +104,7 @@ impl ChunkCutter {
         self.number - 1
     }
 
-    // Takes the next chunk. What each answer says is one clause.
+    // Takes the next chunk. `next` calls it, and its further clauses follow from these.
     fn advance<P: Place>(&mut self, place: &mut P) -> Cut
         ensures cut { CutOf result self.old self.new }
         ensures told { Tells (P.state place.old) (P.state place.new) (NextOf result self.old self.new) }
@@ -148,7 +149,7 @@ impl ChunkCutter {
         Cut::Chunk
     }
 
-    /// Reads the next chunk from the open input: its header, and then what the chunk lacks.
+    /// Reads the next chunk from the open input: its header, and then as many bytes as that says.
     pub fn next<P: Place>(&mut self, place: &mut P) -> Cut
         requires { self.old.live ≡ true }
 

@@ -1,8 +1,8 @@
-// How a run over recordings ends.
+// How a command ends.
 
 use jfr_base::Refusal;
 
-/// How a run over whole recordings ended.
+/// How a command over recordings ended. The program's exit status says it, too.
 #[derive(Clone, Copy, Debug, PartialEq, Eq)]
 pub enum Ending {
     /// Everything was done.
@@ -13,7 +13,7 @@ pub enum Ending {
     ReadFault,
     /// A write failed.
     WriteFault,
-    /// A recording has more parts than may be made of it.
+    /// A recording needs more parts than `disassemble` may write, 999,999.
     TooManyParts,
     /// Memory was wanting.
     Memory,

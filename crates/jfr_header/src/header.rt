@@ -7,16 +7,18 @@ ghost use Rattle.jfr_header.specs.Fronts.{header_flaw, field_flaw, Whole};
 use byteorder::{BigEndian, ByteOrder};
 use jfr_base::{Flaw, Reason};
 
-/// The bytes with which a chunk begins, as a number.
+/// The bytes with which a chunk begins, `FLR` and a zero, as a big-endian number.
 const MAGIC: u32 = 0x464C_5200;
 
-/// A chunk is smaller than this.
+/// What the size of a chunk is below, in bytes.
 const SIZE_LIMIT: u64 = 1 << 28;
 
-/// The header of a chunk. Positions count from the chunk's first byte.
+/// The header of a chunk (FORMAT.md, Chunk header). Positions are bytes from the chunk's first byte.
 #[derive(Clone, Copy, Debug, PartialEq, Eq)]
 pub struct Header {
+    /// The major version of the format; 2 in every chunk that is accepted.
     pub major: u16,
+    /// The minor version; any is accepted.
     pub minor: u16,
     /// The chunk's size in bytes, the header included.
     pub size: u64,
@@ -26,18 +28,22 @@ pub struct Header {
     pub metadata: u64,
     /// When the chunk starts, in nanoseconds since 1970.
     pub start_nanos: u64,
+    /// How long the chunk lasts, in nanoseconds.
     pub duration_nanos: u64,
     /// When the chunk starts, in ticks.
     pub start_ticks: u64,
+    /// How many ticks there are in a second.
     pub ticks_per_second: u64,
     /// 0 where the chunk is finished.
     pub state: u8,
+    /// A byte without a meaning, which is kept.
     pub padding: u8,
-    /// Bit 0: the integers are compressed. Bit 1: it is the last chunk of the recording.
+    /// Bit 0: the integers are compressed. Bit 1: it is the last chunk of the recording, which isn't
+    /// checked.
     pub flags: u16,
 }
 
-// The number of two bytes at a place.
+// The number of two bytes at an offset.
 fn u16_at(bytes: &[u8], at: usize) -> u16
     requires { at + 2 ≤ length bytes.now }
     ensures { result ≡ number_at at 2 bytes.now }
@@ -45,7 +51,7 @@ fn u16_at(bytes: &[u8], at: usize) -> u16
     BigEndian::read_u16(&bytes[at..])
 }
 
-// The number of eight bytes at a place.
+// The number of eight bytes at an offset.
 fn u64_at(bytes: &[u8], at: usize) -> u64
     requires { at + 8 ≤ length bytes.now }
     ensures { result ≡ number_at at 8 bytes.now }
@@ -53,7 +59,7 @@ fn u64_at(bytes: &[u8], at: usize) -> u64
     BigEndian::read_u64(&bytes[at..])
 }
 
-// The fields, each at its place.
+// The fields, each at its offset.
 fn fields(bytes: &[u8; 68]) -> Header
     ensures { result ≡ header_of bytes.now }
 {
@@ -91,8 +97,9 @@ fn flaw_in(header: &Header) -> Option<Flaw>
     Some(Flaw { offset, reason })
 }
 
-/// Reads a header. It is refused for the first of these causes: the magic bytes, the major version, a
-/// chunk that isn't finished, integers that aren't compressed, a size below 68 or of 2^28 or more.
+/// Reads a header. It is refused for the first of these causes: `Magic` for other first bytes, `Version`
+/// for a major version other than 2, `Unfinished` for a state other than 0, `NotCompact` for integers that
+/// aren't compressed, `ChunkSize` for a size below 68 or of 2^28 or more.
 #[tactic(auto, unfolding(crate::specs::Fronts::header_flaw))]
 pub fn read_header(bytes: &[u8; 68]) -> Result<Header, Flaw>
     ensures ok { IfOk result (λ header. (header_flaw bytes.now ≡ None) × (header ≡ header_of bytes.now)) }
@@ -111,7 +118,7 @@ pub fn read_header(bytes: &[u8; 68]) -> Result<Header, Flaw>
     }
 }
 
-// Writes a byte at a place.
+// Writes a byte at an offset.
 fn put_u8(into: &mut [u8], at: usize, value: u8)
     requires { at + 1 ≤ length into.old }
     ensures { take (at + 1) into.new ≡ take at into.old ++ value ∷ [] }
@@ -119,7 +126,7 @@ fn put_u8(into: &mut [u8], at: usize, value: u8)
     into[at] = value;
 }
 
-// Writes a number of two bytes at a place.
+// Writes a number of two bytes at an offset.
 fn put_u16(into: &mut [u8], at: usize, value: u16)
     requires { at + 2 ≤ length into.old }
     ensures bytes { take (at + 2) into.new ≡ take at into.old ++ big_bytes 2 value }
@@ -128,7 +135,7 @@ fn put_u16(into: &mut [u8], at: usize, value: u16)
     BigEndian::write_u16(&mut into[at..], value);
 }
 
-// Writes a number of eight bytes at a place.
+// Writes a number of eight bytes at an offset.
 fn put_u64(into: &mut [u8], at: usize, value: u64)
     requires { at + 8 ≤ length into.old }
     ensures bytes { take (at + 8) into.new ≡ take at into.old ++ big_bytes 8 value }
@@ -137,7 +144,7 @@ fn put_u64(into: &mut [u8], at: usize, value: u64)
     BigEndian::write_u64(&mut into[at..], value);
 }
 
-/// Writes a header, each field at its place.
+/// Writes a header, each field at its offset.
 pub fn write_header(header: &Header, into: &mut [u8; 68])
     ensures layout { into.new ≡ header_bytes header.now }
     ensures read_back { field_flaw header.now ≡ None → (header_flaw into.new ≡ None) × (header_of into.new ≡ header.now) }
@@ -157,7 +164,7 @@ pub fn write_header(header: &Header, into: &mut [u8; 68])
     put_u16(into, 66, header.flags);
 }
 
-/// Whether the bytes are one whole chunk, whose header is accepted.
+/// Whether the bytes are one whole chunk: their header isn't refused, and says as many bytes as there are.
 pub fn is_cut(bytes: &[u8]) -> bool
     ensures { IsTrue result ↔ Whole bytes.now }
 {

@@ -1,4 +1,4 @@
-// Checking the next header.
+// What stands at the front of what is left of a recording.
 ghost use Rattle.std.specs.Prelude.{◌≡◌, ◌≤◌, length};
 ghost use Rattle.jfr_header.specs.Fronts.{flaw_at};
 ghost use Rattle.jfr_header.specs.Judging.{IsJudged};
@@ -9,7 +9,7 @@ use jfr_base::{Flaw, Reason};
 /// A chunk starts below this byte of the recording.
 const START_LIMIT: u64 = 1 << 40;
 
-/// Result of checking the next header: of the first 68 bytes of what is left, or of all where fewer are left.
+/// What the first 68 bytes of what is left say, or all of them where fewer are left.
 #[derive(Clone, Copy)]
 pub enum Verdict {
     /// The recording ends here.
@@ -20,7 +20,8 @@ pub enum Verdict {
     Sized(usize),
 }
 
-/// Judges what is left by its first bytes.
+/// Judges what is left of a recording by its first bytes, which begin at the byte `start` of the recording.
+/// `given` says whether a chunk came before.
 pub fn judge(front: &[u8], start: u64, given: bool) -> Verdict
     requires { length front.now ≤ 68 }
     ensures { IsJudged front.now start given result }
@@ -43,6 +44,7 @@ pub fn judge(front: &[u8], start: u64, given: bool) -> Verdict
     }
 }
 
+/// The verdict with this flaw.
 fn bad(offset: u64, reason: Reason) -> Verdict
     ensures { result ≡ Verdict.Bad (flaw_at offset reason) }
 {

@@ -4,7 +4,7 @@ ghost use Rattle.std.specs.List.{AllByRecursion};
 ghost use Rattle.jfr_header.specs.Fronts.{front, Chunk, Whole};
 ghost use Rattle.jfr_header.specs.Cuts.{Cuts, cut, joined, AreCut};
 
-/// A whole chunk is found, whatever follows it.
+/// A whole chunk that starts below byte 2^40 is found at the front, whatever follows it.
 pub fn whole_chunk_is_found(chunk: &[u8], left: &[u8], start: u64, first: bool)
     requires whole { Whole chunk.now }
     requires early { start < 2 ^ 40 }

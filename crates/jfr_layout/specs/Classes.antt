@@ -16,7 +16,7 @@ use Rattle.jfr_layout.specs.declared.fault.ClassFault.TheVariants.{Flawed, Memor
 use Rattle.jfr_layout.specs.declared.class.ClassInfo.{ClassInfo}
 use Rattle.jfr_layout.specs.declared.class.FieldInfo.{FieldInfo}
 
--- a class and a field as the code declares them: a text is the list of its characters
+-- a class, a field and a list of classes as the code declares them: a text is the list of its characters
 abbrev pub Class : Type 0
 Class = ClassInfo
 
@@ -26,14 +26,15 @@ Field = FieldInfo
 abbrev pub Classes : Type 0
 Classes = List Class
 
--- the class of an id, and its place in the list
+-- the class of an id
 abbrev pub find_class : Classes → ℕ → Option Class
 find_class k id = find (λ c. c.id == id) k
 
+-- the index in the list of the class of an id
 abbrev pub class_place : Classes → ℕ → Option ℕ
 class_place k id = position (λ c. c.id == id) k
 
--- the field by its number, of the class at a place
+-- the field by its number, of the class of an index
 abbrev pub field_at : Classes → ℕ → ℕ → Option Field
 field_at k place number = option_and_then (λ c. slice_get c.fields number) (slice_get k place)
 
@@ -55,7 +56,7 @@ kind_of name =
     else if bytes_eq name (codes "java.lang.String") then Text
     else Composite
 
--- what stands where an inline value of this kind begins
+-- how an inline value of this kind is spelled
 abbrev pub inline_form : Kind → Form
 inline_form Boolean = forms.Raw 1
 inline_form Byte = forms.Raw 1
@@ -68,7 +69,8 @@ inline_form Double = forms.Raw 8
 inline_form Text = forms.Text
 inline_form Composite = forms.Fields
 
--- and a value of a shape, whose class is of this kind: the array mark is asked first, and then the constant mark
+-- how a value of a shape is spelled whose class is of this kind: the array mark counts first, and then the
+-- constant mark
 abbrev pub form_of : Shape → Kind → Form
 form_of s kind = if s.array then forms.Array else if s.constant then forms.Key else inline_form kind
 
@@ -128,7 +130,8 @@ goes_inline (suc n) k c = list_any (λ f. option_map_or (λ d. goes_inline n k d
 abbrev pub step_goes : ℕ → Classes → Field → Bool
 step_goes n k f = option_map_or (λ d. goes_inline n k d) (step_class k f) false
 
--- A flaw of a list of classes: the place of the class, the number of the field that it is about, and the reason.
+-- A flaw of a list of classes: the place of the class, the number of the field that it is about, and the
+-- reason.
 pub record ClassFlaw : Type 0 where
   pub class : ℕ
   pub field : Option ℕ
@@ -142,10 +145,11 @@ flaw_if bad i j why = if bad then record { class = i; field = j; reason = why } 
 abbrev pub each_at : {X : Type 0} → (ℕ → X → List ClassFlaw) → List X → List ClassFlaw
 each_at found xs = flat_map (λ x. found x.0 x.1) (enumerate_from 0 xs)
 
--- some class has the id; some field has the name
+-- some class has the id
 abbrev pub has_id : Classes → ℕ → Bool
 has_id k id = list_any (λ c. c.id == id) k
 
+-- some field has the name
 abbrev pub has_name : List Field → List ℕ → Bool
 has_name fs name = list_any (λ f. bytes_eq f.name name) fs
 
@@ -157,24 +161,27 @@ name_repeats i fs = each_at (λ j f. flaw_if (has_name (take j fs) f.name) i (So
 abbrev pub repeats : Classes → List ClassFlaw
 repeats k = each_at (λ i c. flaw_if (has_id (take i k) c.id) i None ClassTwice ++ name_repeats i c.fields) k
 
--- the fields of a class that fail a test, and those of all classes
+-- the fields of a class that fail a test
 abbrev pub flaws_in : Reason → (Field → Bool) → ℕ → List Field → List ClassFlaw
 flaws_in why bad i fs = each_at (λ j f. flaw_if (bad f) i (Some j) why) fs
 
+-- the fields of all classes that fail a test
 abbrev pub field_flaws : Reason → (Field → Bool) → Classes → List ClassFlaw
 field_flaws why bad k = each_at (λ i c. flaws_in why bad i c.fields) k
 
--- the field's class isn't defined; the fields of which that holds
+-- the field's class isn't defined
 abbrev pub is_unknown : Classes → Field → Bool
 is_unknown k f = not (is_some (find_class k f.shape.class))
 
+-- the fields whose class isn't defined
 abbrev pub unknown : Classes → List ClassFlaw
 unknown k = field_flaws UnknownType (is_unknown k) k
 
--- the field is an inline one of a composite class without fields; the fields of which that holds
+-- the field is an inline one of a composite class without fields
 abbrev pub is_empty_inline : Classes → Field → Bool
 is_empty_inline k f = option_map_or (λ d. length d.fields == 0) (step_class k f) false
 
+-- the inline fields of composite classes without fields
 abbrev pub empty_inline : Classes → List ClassFlaw
 empty_inline k = field_flaws EmptyInline (is_empty_inline k) k
 
@@ -205,6 +212,6 @@ abbrev pub AgreeWithin : ℕ → Classes → Classes → ℕ → Type 0
 AgreeWithin zero k m id = ⊤
 AgreeWithin (suc n) k m id = (c d : Class) × (find_class k id ≡ Some c) × (find_class m id ≡ Some d) × (c.name ≡ d.name) × (c.super_name ≡ d.super_name) × (c.fields ≡ d.fields) × AllByRecursion (λ f. AgreeWithin n k m f.shape.class) c.fields
 
--- at any depth
+-- two lists agree on the class of an id, and on all classes that its fields name, at any depth
 abbrev pub Agree : Classes → Classes → ℕ → Type 0
 Agree k m id = (n : ℕ) → AgreeWithin n k m id

@@ -9,7 +9,7 @@ use Rattle.jfr_layout.specs.declared.class_layout.ClassLayout.{ClassLayout}
 use Rattle.jfr_layout.specs.Fused.{AreFused}
 use Rattle.jfr_layout.specs.Classes.{Class, Classes, AreFieldLayouts, class_place, extends_event, kind_of, repeats, unknown}
 
--- the place that an index has for an id: its table's, and past the table its map's
+-- what the look-up of an id gives: the direct table's answer, and past the end of the table the map's
 abbrev pub place_in : Index → ℕ → Option ℕ
 place_in index id = unwrap_or (slice_get index.near.items id) (tree.get nat_cmp index.far id)
 

@@ -8,10 +8,12 @@ use jfr_base::{NoMemory, Text, Words};
 use std::alloc::Global;
 use std::marker::Model;
 
-/// A field of a class.
+/// A field of a class (FORMAT.md, Classes and shapes).
 #[derive(Drop)]
 pub struct FieldInfo {
+    /// Its name, which no other field of the class has in sound classes.
     pub name: Text,
+    /// Its class, and whether keys or arrays stand there.
     pub shape: Shape,
 }
 
@@ -83,15 +85,18 @@ impl Fields {
     }
 }
 
-/// A class.
+/// A class, as the metadata describes it.
 #[derive(Drop)]
 pub struct ClassInfo {
+    /// The number by which records, pools and fields name the class.
     pub id: u64,
+    /// Its name. Nine names are base names, which say how values are spelled.
     pub name: Text,
     /// The name of its super type, where it has one.
     pub super_name: Option<Text>,
+    /// Its fields, in order.
     pub fields: Fields,
-    /// The categories of its events.
+    /// The categories of its events, from the outermost on; none where it has no annotation for them.
     pub categories: Words,
 }
 
@@ -136,7 +141,7 @@ impl ClassList {
         self.items.len()
     }
 
-    /// The class at a place, from 0.
+    /// The class of an index, from 0.
     pub fn at(&self, at: usize) -> &ClassInfo
         requires { at < length self.now }
         ensures { slice_get self.now at ≡ Some result.now }
@@ -144,7 +149,7 @@ impl ClassList {
         &self.items[at]
     }
 
-    /// The class at a place, from 0; `None` exactly past the end.
+    /// The class of an index, from 0; `None` exactly past the end.
     pub fn get(&self, at: usize) -> Option<&ClassInfo>
         ensures { option_copied result ≡ slice_get self.now at }
     {

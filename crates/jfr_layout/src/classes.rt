@@ -19,7 +19,7 @@ use std::marker::Model;
 #[derive(Drop)]
 pub struct Classes {
     resolved: Resolved,
-    // the places of the classes of events, by the id
+    // the indexes of the event classes, by id, as far as the direct table goes
     events: Vec<Option<usize>>,
 }
 
@@ -62,14 +62,14 @@ impl Classes {
         self.resolved.len()
     }
 
-    /// The class at a place, from 0; `None` exactly past the end.
+    /// The class of an index, from 0; `None` exactly past the end.
     pub fn get(&self, at: usize) -> Option<&ClassInfo>
         ensures { option_copied result ≡ slice_get self.now at }
     {
         self.resolved.get(at)
     }
 
-    /// The class of an id.
+    /// The class of an id; `None` exactly where no class has it.
     pub fn find(&self, id: u64) -> Option<&ClassInfo>
         ensures { option_copied result ≡ find_class self.now id }
     {
@@ -79,7 +79,7 @@ impl Classes {
         }
     }
 
-    /// The kind of the class of an id.
+    /// The kind of the class of an id; `None` exactly where no class has it.
     pub fn kind(&self, id: u64) -> Option<Kind>
         ensures { result ≡ option_map (λ c. kind_of c.name) (find_class self.now id) }
     {
@@ -89,7 +89,8 @@ impl Classes {
         }
     }
 
-    /// The number of the field of a name, in the class of an id.
+    /// The number of the field of a name, in the class of an id; `None` exactly where there is no such
+    /// class or field.
     pub fn field_named(&self, id: u64, name: &str) -> Option<usize>
         ensures { result ≡ option_and_then (λ c. field_number c.fields (chars name.now)) (find_class self.now id) }
     {
@@ -99,15 +100,15 @@ impl Classes {
         }
     }
 
-    /// Whether the records of this type are events.
+    /// Whether records of this type are events: the type is the id of an event class.
     pub fn is_event(&self, id: u64) -> bool
         ensures { result ≡ is_event_class self.now id }
     {
         self.event_layout(id).is_some()
     }
 
-    /// The layout of the fields of an event of this type; `None` exactly where records of the type are no
-    /// events.
+    /// The layout of the fields of an event of this type, taken as one value; `None` exactly where records
+    /// of the type are no events.
     #[inline]
     pub fn event_layout(&self, id: u64) -> Option<FieldLayout>
         ensures { MatchOption result (is_event_class self.now id ≡ false) (IsEventLayout self.now id) }
@@ -116,7 +117,7 @@ impl Classes {
         Some(FieldLayout::new(Shape::inline(id), place, Kind::Composite))
     }
 
-    // The place of the class of an id, where records of this type are events.
+    // The index of the class of an id, where records of this type are events.
     #[inline]
     fn event_place(&self, id: u64) -> Option<usize>
         ensures { result ≡ event_place self.now id }
@@ -127,7 +128,7 @@ impl Classes {
         }
     }
 
-    // The place of the class of an id that is past the table, as ids above the direct table's bound are.
+    // The same for an id past the end of the direct table.
     #[cold]
     #[inline(never)]
     fn far_event_place(&self, id: u64) -> Option<usize>
@@ -136,7 +137,8 @@ impl Classes {
         event_place(&self.resolved, id)
     }
 
-    /// The place of the class of an id, for the calls that take a place.
+    /// The index of the class of an id, for the calls that take it as `place`; `None` exactly where no
+    /// class has the id.
     pub fn place(&self, id: u64) -> Option<usize>
         ensures exact { result ≡ class_place self.now id }
         ensures class { option_and_then (slice_get self.now) result ≡ find_class self.now id }
@@ -146,7 +148,7 @@ impl Classes {
         self.resolved.place(id)
     }
 
-    /// The class at a place.
+    /// The class of an index.
     pub fn class_at(&self, place: usize) -> &ClassInfo
         requires { place < length self.now }
         ensures { slice_get self.now place ≡ Some result.now }
@@ -154,7 +156,7 @@ impl Classes {
         self.resolved.class_at(place)
     }
 
-    /// The kind of the class at a place.
+    /// The kind of the class of an index.
     pub fn kind_at(&self, place: usize) -> Kind
         requires { place < length self.now }
         ensures { IfSome (slice_get self.now place) (λ c. result ≡ kind_of c.name) }
@@ -162,7 +164,7 @@ impl Classes {
         self.resolved.kind_at(place)
     }
 
-    /// The layout of the class at a place: how the values of its fields are spelled, and which of them are
+    /// The layout of the class of an index: how the values of its fields are spelled, and which of them are
     /// passed at once.
     pub fn class_layout(&self, place: usize) -> &ClassLayout
         requires { place < length self.now }
@@ -171,7 +173,7 @@ impl Classes {
         self.resolved.class_layout(place)
     }
 
-    /// How the values of each field of the class at a place are spelled, in order.
+    /// How the values of each field of the class of an index are spelled, in order.
     pub fn layouts(&self, place: usize) -> &[FieldLayout]
         requires { place < length self.now }
         ensures exact { IfSome (slice_get self.now place) (λ c. AreFieldLayouts self.now c.fields result.now) }

@@ -1,4 +1,4 @@
-// The places of the classes of events.
+// The indexes of the event classes.
 ghost use Rattle.std.specs.Prelude.{◌≡◌, length, IfOk};
 ghost use Rattle.jfr_layout.specs.Events.{AreEventPlaces, event_place};
 
@@ -9,7 +9,7 @@ use std::alloc::Global;
 // Records of the types up to this one are metadata and checkpoints.
 const LAST_OWN_TYPE: u64 = 1;
 
-/// The place of the class of an id, where records of this type are events.
+/// The index of the class of an id, where records of this type are events.
 pub(crate) fn event_place(resolved: &Resolved, id: u64) -> Option<usize>
     ensures { result ≡ event_place resolved.now id }
 {
@@ -24,7 +24,7 @@ pub(crate) fn event_place(resolved: &Resolved, id: u64) -> Option<usize>
     }
 }
 
-/// The places of the classes of events, for so many ids from 0 on: `None` where records of the type are no
+/// The indexes of the event classes, for so many ids from 0 on: `None` where records of the type are no
 /// events.
 pub(crate) fn event_places(
     alloc: Global,

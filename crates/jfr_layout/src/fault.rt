@@ -8,7 +8,7 @@ use std::alloc::{AllocError, AllocFailed};
 /// Why classes could not be made of a list: a class or a field is refused, or memory was wanting.
 #[derive(Clone, Copy, Debug, PartialEq, Eq)]
 pub enum ClassFault {
-    /// The place of the class in the list, and the number of its field where the field is refused.
+    /// The class of this index in the list is refused, or its field of this number, where there is one.
     Flawed {
         class: usize,
         field: Option<usize>,

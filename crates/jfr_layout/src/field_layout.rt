@@ -7,8 +7,9 @@ use crate::{Form, Kind, Shape};
 /// class.
 #[derive(Clone, Copy, Debug)]
 pub struct FieldLayout {
+    /// The field's shape.
     pub shape: Shape,
-    /// The place of the class of the shape.
+    /// The index of the class of the shape.
     pub place: usize,
     /// The kind of that class.
     pub kind: Kind,
@@ -19,7 +20,7 @@ pub struct FieldLayout {
 impl FieldLayout {
     ghost use Rattle.jfr_layout.specs.Classes.{layout_with};
 
-    /// The layout of a field whose shape's class has this place and this kind.
+    /// The layout of a field whose shape's class has this index and this kind.
     pub fn new(shape: Shape, place: usize, kind: Kind) -> FieldLayout
         ensures { result ≡ layout_with shape place kind }
     {

@@ -3,7 +3,7 @@ ghost use Rattle.std.specs.Prelude.{◌≡◌};
 
 use crate::{Kind, Shape};
 
-/// What stands where a value of a shape begins: all that a walk over many values has to ask.
+/// How the values of a shape are spelled: what stands where one begins.
 #[derive(Clone, Copy, Debug, PartialEq, Eq)]
 pub enum Form {
     /// An array: a count, and so many items.

@@ -16,23 +16,27 @@ const MOST: usize = 4;
 pub struct FusedFields {
     /// The number of the first of them.
     pub first: usize,
-    /// How many they are.
+    /// How many fields they are.
     pub fields: usize,
+    /// What stands in them.
     pub kind: FusedKind,
 }
 
 /// What stands in fused fields.
 #[derive(Clone, Copy, Debug, PartialEq, Eq)]
 pub enum FusedKind {
-    /// Two integers and two references, of these classes: when most events began, how long they took,
-    /// their thread, and their stack trace.
+    /// The event prelude: two integers and two references, of these classes. In most of the JDK's events
+    /// they are start, duration, thread and stack trace.
     EventPrelude { thread: u32, trace: u32 },
-    /// Compressed integers, one in each field.
+    /// A field of one compressed integer.
     OneInteger,
+    /// Two fields, each of one compressed integer.
     TwoIntegers,
+    /// Three such fields.
     ThreeIntegers,
+    /// Four such fields.
     FourIntegers,
-    /// So many raw bytes in all.
+    /// So many raw bytes in all, of one field or more.
     Raw(u8),
     /// A key into the constant pool of a class.
     Key(u64),
@@ -115,7 +119,7 @@ fn prelude_from(layouts: &[FieldLayout], first: usize) -> Option<FusedFields>
     })
 }
 
-/// The integers from the field of a number on.
+/// The fields of integers from the field of a number on, at most four.
 fn integers_from(layouts: &[FieldLayout], first: usize) -> FusedFields
     requires within { first < length layouts.now }
     requires integer { IfSome (slice_get layouts.now first) (λ s. s.form ≡ forms.Integer) }
@@ -149,7 +153,7 @@ fn fused_integers(count: usize) -> FusedKind
     }
 }
 
-/// The raw bytes from the field of a number on, which has so many.
+/// The fields of raw bytes from the field of a number on, at most four; the first has `bytes` of them.
 fn raw_from(layouts: &[FieldLayout], first: usize, bytes: u8) -> FusedFields
     requires within { first < length layouts.now }
     requires raw { IfSome (slice_get layouts.now first) (λ s. s.form ≡ forms.Raw bytes) }
@@ -172,7 +176,7 @@ fn raw_from(layouts: &[FieldLayout], first: usize, bytes: u8) -> FusedFields
     }
 }
 
-/// So many raw bytes with those of one field more, if that has any and the sum is small.
+/// The sum of so many raw bytes and those of one field more, if it has raw bytes and the sum is below 256.
 fn with_raw(bytes: u8, form: Form) -> Option<u8>
     ensures { IfSome result (λ sum. (more : ℕ) × (form ≡ forms.Raw more) × (sum ≡ bytes + more)) }
 {

@@ -1,4 +1,4 @@
-// Which class has an id. Ids and names stand once.
+// Which class has an id; and that no id, and no name of a field of one class, stands twice.
 ghost use Rattle.std.specs.Prelude.{◌≡◌, ℕ, ◌+◌, ◌*◌, ◌≤◌, length, None, Some, IfOk, is_some, if◌then◌else◌, ◌==◌};
 ghost use Rattle.std.specs.BTreeMap as tree;
 ghost use Rattle.std.specs.Ordering.{nat_cmp};
@@ -10,12 +10,13 @@ use jfr_base::{NoMemory, Reason};
 use std::alloc::Global;
 use std::collections::BTreeMap;
 
-/// Minimum size of the direct table, and how much larger it may be for each class.
+/// How large the direct table may be whatever the number of classes.
 const FEW_IDS: u64 = 16384;
 
+/// How much larger it may be for each class.
 const IDS_A_CLASS: u64 = 4;
 
-/// The places of classes by their ids: those of small ids in a table, and the others in a map.
+/// The indexes of classes by their ids: those of small ids in a direct table, and the others in a map.
 #[derive(Drop)]
 pub struct Index {
     near: Vec<Option<usize>>,
@@ -34,7 +35,7 @@ impl Index {
         })
     }
 
-    // Puts a class at a place, and tells whether its id was there.
+    // Sets the index of the class of an id, and tells whether the id had one before.
     fn insert(&mut self, id: u64, place: usize) -> Result<bool, NoMemory>
         ensures used { IfOk result (λ used. used ≡ is_some (place_in self.old id)) }
         ensures places { IfOk result (λ _. (other : ℕ) → place_in self.new other ≡ (if id == other then Some place else place_in self.old other)) }
@@ -48,14 +49,14 @@ impl Index {
         Ok(old.is_some())
     }
 
-    /// The size of the direct table: ids below it have a place there.
+    /// The size of the direct table, which has all ids below it.
     pub fn near_len(&self) -> usize
         ensures { result ≡ length self.now.near.items }
     {
         self.near.len()
     }
 
-    /// The place of the class of an id.
+    /// The index of the class of an id; `None` exactly where no class has it.
     #[inline]
     pub fn place(&self, id: u64) -> Option<usize>
         ensures { result ≡ place_in self.now id }
@@ -66,7 +67,7 @@ impl Index {
         self.far_place(id)
     }
 
-    // The place of the class of an id that the table doesn't have.
+    // The index of the class of an id past the end of the direct table.
     #[cold]
     fn far_place(&self, id: u64) -> Option<usize>
         ensures { result ≡ tree.get nat_cmp self.now.far id }
@@ -75,7 +76,7 @@ impl Index {
     }
 }
 
-// How many ids have a place in the table: those up to the greatest, where they are small.
+// How many ids the direct table has: those up to the greatest, as far as the bound allows.
 fn near_ids(list: &ClassList) -> usize
     ensures small { result ≤ IDS_A_CLASS * length list.now + FEW_IDS }
 {
@@ -107,7 +108,8 @@ fn check_names(alloc: Global, class: usize, fields: &Fields) -> Result<(), Class
     Ok(())
 }
 
-/// The place of each id. No class has the id of an earlier one, and no field the name of an earlier one of its class.
+/// The index of each id. It is refused where a class has the id of an earlier one, or a field the name of
+/// an earlier one of its class.
 pub fn index_of(alloc: Global, list: &ClassList) -> Result<Index, ClassFault>
     ensures exact { IfOk result (IsIndex list.now) }
     ensures judged { Judges (repeats list.now) result }

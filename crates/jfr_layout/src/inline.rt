@@ -1,4 +1,4 @@
-// Values within one another: which inline fields hold nothing, and which chains of inline steps are too long.
+// Values within one another: no inline field holds nothing, and no chain of inline steps is too long.
 ghost use Rattle.std.specs.Prelude.{◌≡◌, ℕ, suc, ◌<◌, length, map, IfOk, IfSome, IsSome, slice_get};
 ghost use Rattle.jfr_base.specs.declared.reason.Reason.TheVariants.{EmptyInline};
 ghost use Rattle.jfr_layout.specs.Classes.{Judges, flaws_in, empty_inline, is_empty_inline, deep, field_at, goes_inline, step_goes};
@@ -81,7 +81,7 @@ fn goes_on(classes: &Resolved, class: usize, goes: &[bool]) -> bool
     false
 }
 
-// The flags of chains of one step more.
+// For each class, whether it begins a chain of one step more than those of the flags.
 fn round(alloc: Global, classes: &Resolved, goes: &[bool]) -> Result<Vec<bool>, NoMemory>
     requires { length goes.now ≡ length classes.now }
     ensures exact { IfOk result (λ next. (n : ℕ) → goes.now ≡ map (goes_inline n classes.now) classes.now → next.items ≡ map (goes_inline (suc n) classes.now) classes.now) }
@@ -93,7 +93,8 @@ fn round(alloc: Global, classes: &Resolved, goes: &[bool]) -> Result<Vec<bool>, 
     Ok(next)
 }
 
-// Which classes begin a chain that is too long. Each round walks over all fields once, so that no chain is followed.
+// Which classes begin a chain that is too long. Each round walks over all fields once, so that no chain is
+// followed.
 fn too_deep(alloc: Global, classes: &Resolved) -> Result<Vec<bool>, NoMemory>
     ensures exact { IfOk result (λ goes. goes.items ≡ map (goes_inline 33 classes.now) classes.now) }
 {

@@ -4,7 +4,8 @@ ghost use Rattle.std.specs.Prelude.{◌≡◌};
 use crate::is_text;
 use jfr_base::Text;
 
-/// How the values of a class are spelled: one of nine base kinds, by the class's name, or composite.
+/// How the values of a class are spelled: one of nine base kinds, by the class's name, or composite
+/// (FORMAT.md, Values).
 #[derive(Clone, Copy, Debug, PartialEq, Eq)]
 pub enum Kind {
     /// One raw byte.
@@ -19,9 +20,9 @@ pub enum Kind {
     Int,
     /// A compressed integer, signed.
     Long,
-    /// Four raw bytes, big-endian.
+    /// Four raw bytes, big-endian: a number of IEEE 754.
     Float,
-    /// Eight raw bytes, big-endian.
+    /// Eight raw bytes, big-endian: a number of IEEE 754.
     Double,
     /// A string.
     Text,

@@ -1,4 +1,5 @@
-// A list of classes in which ids and names stand once and each field's class is known, with what makes look-ups fast.
+// A list of classes in which ids and names stand once and each field's class is known, with what makes
+// look-ups fast.
 ghost use Rattle.std.specs.Prelude.{◌≡◌, ◌<◌, ◌++◌, length, map, IfOk, IfSome, IsSome, slice_get, option_and_then};
 ghost use Rattle.std.specs.Option.{option_copied};
 ghost use Rattle.jfr_base.specs.declared.reason.Reason.TheVariants.{UnknownType};
@@ -12,7 +13,7 @@ use jfr_base::{NoMemory, Reason};
 use std::alloc::Global;
 use std::marker::Model;
 
-/// Classes whose fields' classes are known.
+/// Classes in which ids and names stand once and each field's class is known.
 #[derive(Drop)]
 pub struct Resolved {
     list: ClassList,
@@ -156,14 +157,14 @@ impl Resolved {
         self.list.len()
     }
 
-    /// The class at a place; `None` exactly past the end.
+    /// The class of an index; `None` exactly past the end.
     pub fn get(&self, at: usize) -> Option<&ClassInfo>
         ensures { option_copied result ≡ slice_get self.now at }
     {
         self.list.get(at)
     }
 
-    /// The class at a place.
+    /// The class of an index.
     pub fn class_at(&self, place: usize) -> &ClassInfo
         requires { place < length self.now }
         ensures { slice_get self.now place ≡ Some result.now }
@@ -171,7 +172,7 @@ impl Resolved {
         self.list.at(place)
     }
 
-    /// The place of the class of an id.
+    /// The index of the class of an id; `None` exactly where no class has it.
     pub fn place(&self, id: u64) -> Option<usize>
         ensures exact { result ≡ class_place self.now id }
         ensures class { option_and_then (slice_get self.now) result ≡ find_class self.now id }
@@ -186,7 +187,7 @@ impl Resolved {
         self.index.near_len()
     }
 
-    /// The kind of the class at a place.
+    /// The kind of the class of an index.
     pub fn kind_at(&self, place: usize) -> Kind
         requires { place < length self.now }
         ensures { IfSome (slice_get self.now place) (λ c. result ≡ kind_of c.name) }
@@ -194,7 +195,7 @@ impl Resolved {
         self.kinds[place]
     }
 
-    /// The layout of the class at a place.
+    /// The layout of the class of an index.
     pub fn class_layout(&self, place: usize) -> &ClassLayout
         requires { place < length self.now }
         ensures { IfSome (slice_get self.now place) (λ c. IsClassLayout self.now c result.now) }
@@ -202,7 +203,7 @@ impl Resolved {
         &self.class_layouts[place]
     }
 
-    /// Whether the class at a place is composite and has the super type of events.
+    /// Whether the class of an index is composite and has the super type of events.
     pub fn extends_event(&self, place: usize) -> bool
         requires { place < length self.now }
         ensures { IfSome (slice_get self.now place) (λ c. result ≡ extends_event c) }
@@ -210,7 +211,7 @@ impl Resolved {
         self.class_layout(place).is_event
     }
 
-    /// The layouts of the fields of the class at a place, in order.
+    /// The layouts of the fields of the class of an index, in order.
     pub fn layouts(&self, place: usize) -> &[FieldLayout]
         requires { place < length self.now }
         ensures { IfSome (slice_get self.now place) (λ c. AreFieldLayouts self.now c.fields result.now) }
@@ -218,7 +219,8 @@ impl Resolved {
         &self.class_layout(place).layouts
     }
 
-    /// The place of the class that an inline step by a field goes to.
+    /// The index of the class to which the inline step by a field goes; `None` exactly where that is no
+    /// inline step.
     pub fn step(&self, place: usize, number: usize) -> Option<usize>
         requires { IsSome (field_at self.now place number) }
         ensures exact { IfSome (field_at self.now place number) (λ f. option_and_then (slice_get self.now) result ≡ step_class self.now f) }

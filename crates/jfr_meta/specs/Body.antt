@@ -28,6 +28,7 @@ table_string = string_format false >>= λ s. Done (table_text s)
 abbrev pub index_check : ℕ → ℕ → Option Reason
 index_check limit v = if nat_lt v limit then None else Some StringIndex
 
+-- the format of such an index
 abbrev pub index : ℕ → Format ℕ
 index limit = Int (index_check limit) (λ v s. Done v)
 
@@ -35,7 +36,8 @@ index limit = Int (index_check limit) (λ v s. Done v)
 abbrev pub pair : ℕ → Format (ℕ × ℕ)
 pair limit = index limit >>= λ key. index limit >>= λ value. Done (key, value)
 
--- an element with so many levels left: its name, its attributes behind their number, its children behind theirs
+-- an element with so many levels left: its name, its attributes behind their number, its children behind
+-- theirs
 unfoldable pub element_format : ℕ → ℕ → Format Tree
 element_format zero limit = Refuse TreeDeep
 element_format (suc levels) limit =
@@ -52,16 +54,18 @@ body_format =
 unfoldable pub meta_format : Format Body
 meta_format = body_format >>= λ b. Stop (Done b)
 
--- The element by cases on its tree: it stands from place p of x up to q, with so many levels left.
+-- these attributes stand in x from p up to q, and their indices are below the limit
 abbrev pub ArePairs : List ℕ → ℕ → ℕ → ℕ → List (ℕ × ℕ) → Type 0
 ArePairs x limit p q [] = q ≡ p
 ArePairs x limit p q (a ∷ rest) =
     (m n : ℕ) × IntAt x p m a.0 × (a.0 < limit) × IntAt x m n a.1 × (a.1 < limit) × ArePairs x limit n q rest
 
+-- how many elements there are, without those inside of them
 abbrev pub how_many : Trees → ℕ
 how_many Nil = 0
 how_many (Cons t ts) = suc (how_many ts)
 
+-- The element by cases on its tree: it stands in x from p up to q, with so many levels left.
 abbrev mutual
   pub IsElement : List ℕ → ℕ → ℕ → ℕ → ℕ → Tree → Type 0
   IsElement x limit levels p q (Node place name pairs children) =

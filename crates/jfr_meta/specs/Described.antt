@@ -62,19 +62,19 @@ class_flaws texts t = flaw_unless (is_some (class_head texts t)) t ClassBad ++ f
 abbrev pub heads : List (List ℕ) → List Tree → List (ℕ × List ℕ)
 heads texts ts = filter_map (class_head texts) ts
 
--- a class of this id that is named jdk.jfr.Category
+-- the head is that of a class of this id that is named jdk.jfr.Category
 abbrev pub is_category_head : ℕ → ℕ × List ℕ → Bool
 is_category_head id h = (h.0 == id) && bytes_eq h.1 (codes "jdk.jfr.Category")
 
--- the id of such a class
+-- a class of this id is named jdk.jfr.Category
 abbrev pub is_category_id : List (ℕ × List ℕ) → ℕ → Bool
 is_category_id hs id = list_any (is_category_head id) hs
 
--- these are those ids
+-- the set holds the ids of the classes that are named jdk.jfr.Category, and no others
 abbrev pub AreCategoryIds : List (ℕ × List ℕ) → BTreeSet ℕ → Type 0
 AreCategoryIds hs ids = (id : ℕ) → contains nat_cmp ids id ≡ is_category_id hs id
 
--- an annotation whose class is named so
+-- an annotation whose class is named jdk.jfr.Category
 abbrev pub is_category : List (List ℕ) → List (ℕ × List ℕ) → Tree → Bool
 is_category texts hs t = option_map_or (is_category_id hs) (id_attribute texts t (codes "class")) false
 
@@ -82,11 +82,11 @@ is_category texts hs t = option_map_or (is_category_id hs) (id_attribute texts t
 abbrev pub annotations_of : List (List ℕ) → Tree → List Tree
 annotations_of texts t = named texts (codes "annotation") (children_of t)
 
--- the first annotation with a category
+-- the first such annotation of a class element
 abbrev pub category_annotation : List (List ℕ) → List (ℕ × List ℕ) → Tree → Option Tree
 category_annotation texts hs t = find (is_category texts hs) (annotations_of texts t)
 
--- its values
+-- the categories of a class element: the values of that annotation
 abbrev pub categories_of : List (List ℕ) → List (ℕ × List ℕ) → Tree → List (List ℕ)
 categories_of texts hs t = option_map_or (values_of texts) (category_annotation texts hs t) []
 
@@ -109,6 +109,7 @@ abbrev pub element_place : List (List ℕ) → Tree → Option ℕ → ℕ
 element_place texts t None = place_of t
 element_place texts t (Some number) = option_map_or place_of (slice_get (field_elements texts t) number) 0
 
+-- the same by the class element's number
 abbrev pub flaw_place : List (List ℕ) → List Tree → ℕ → Option ℕ → ℕ
 flaw_place texts ts class field = option_map_or (λ t. element_place texts t field) (slice_get ts class) 0
 
@@ -116,6 +117,7 @@ flaw_place texts ts class field = option_map_or (λ t. element_place texts t fie
 abbrev pub placed : List (List ℕ) → List Tree → ClassFlaw → Flaw
 placed texts ts e = record { offset = flaw_place texts ts e.class e.field; reason = e.reason }
 
+-- the flaws of the class elements' classes as a list, each at its element
 abbrev pub list_flaws : List (List ℕ) → List Tree → List Flaw
 list_flaws texts ts = map (placed texts ts) (class_faults (classes_of texts ts))
 
@@ -123,11 +125,13 @@ list_flaws texts ts = map (placed texts ts) (class_faults (classes_of texts ts))
 abbrev pub tree_flaws : List (List ℕ) → List Tree → List Flaw
 tree_flaws texts ts = flat_map (class_flaws texts) ts ++ list_flaws texts ts
 
--- the first flaw is told
+-- the first flaw, or else the value
 abbrev pub first_or : {A : Type 0} → List Flaw → A → Result A Flaw
 first_or [] a = Ok a
 first_or (f ∷ fs) a = Err f
 
+-- the classes of the class elements, or the first flaw; where the root, which stands at this place, has no
+-- child for them, that is the flaw
 abbrev pub told : List (List ℕ) → ℕ → Option (List Tree) → Result Classes Flaw
 told texts at None = Err (record { offset = at; reason = NoClasses })
 told texts at (Some ts) = first_or (tree_flaws texts ts) (classes_of texts ts)

@@ -16,7 +16,8 @@ pub record HasOneDescription (x : List ℕ) (r : Framed) : Type 0 where
   pub one_reading : (b c : Body) (k m : Classes) → IsMetadata x r b k → IsMetadata x r c m → (b ≡ c) × (k ≡ m)
   pub one_flaw : (f g : Flaw) → IsMetadataFlaw x r f → IsMetadataFlaw x r g → f ≡ g
 
--- The body's first four integers stand one after another from p to q: its start, its duration, its id, and how many strings there are.
+-- The body's first four integers stand one after another from p to q: its start, its duration, its id, and
+-- how many strings there are.
 pub record HeadStands (x : List ℕ) (p q : ℕ) (b : Body) : Type 0 where
   pub behind_start : ℕ
   pub behind_duration : ℕ
@@ -26,7 +27,8 @@ pub record HeadStands (x : List ℕ) (p q : ℕ) (b : Body) : Type 0 where
   pub id : IntAt x behind_duration behind_id b.id
   pub count : IntAt x behind_id q (length b.strings)
 
--- The body of the record stands part by part: the head, the strings behind it, and behind these, up to the record's end, the tree, with sixteen levels at most and with indices of strings.
+-- The body of the record stands part by part: the head, the strings behind it, and behind these, up to the
+-- record's end, the tree, with sixteen levels at most and with indices of strings.
 pub record RootStands (x : List ℕ) (r : Framed) (b : Body) : Type 0 where
   pub behind_head : ℕ
   pub behind_strings : ℕ

@@ -1,4 +1,5 @@
--- The tree of elements: each has its place, the index of its name, its attributes and its children.
+-- The tree of elements: each has the offset of its first byte, the index of its name, its attributes and
+-- its children.
 use Rattle.std.specs.Prelude.{◌≡◌, ℕ, suc, ◌+◌, ◌≤◌, List, [], ◌∷◌, refl}
 use Rattle.std.specs.Coded.{Coded, coded_ℕ, coded_list, coded×}
 use base.Stored.{Gv, gnum, gcons, gnil}
@@ -18,6 +19,7 @@ abbrev pub list_of : Trees → List Tree
 list_of Nil = []
 list_of (Cons t ts) = t ∷ list_of ts
 
+-- and a list as elements
 abbrev pub trees_of : List Tree → Trees
 trees_of [] = Nil
 trees_of (t ∷ ts) = Cons t (trees_of ts)
@@ -34,6 +36,7 @@ name_of (Node place name pairs children) = name
 abbrev pub pairs_of : Tree → List (ℕ × ℕ)
 pairs_of (Node place name pairs children) = pairs
 
+-- its children, in order
 abbrev pub children_of : Tree → List Tree
 children_of (Node place name pairs children) = list_of children
 
@@ -50,6 +53,7 @@ abbrev mutual
   counts Nil = 0
   counts (Cons t ts) = count t + counts ts
 
+-- how many elements are in all trees of a list
 abbrev pub counts_of : List Tree → ℕ
 counts_of [] = 0
 counts_of (t ∷ ts) = count t + counts_of ts
@@ -106,7 +110,8 @@ tree_code = record { code = code; inj = code_inj }
 abbrev pub forest_code : Coded (List Tree)
 forest_code = coded_list tree_code
 
--- What the models owe: a child is smaller than its parent, and the list comes back.
+-- What the models of `Element` and `Elements` need: a child is smaller than its parent, and a list that was
+-- made into elements comes back.
 pub counts-trees_of : (ts : List Tree) → counts (trees_of ts) ≡ counts_of ts
 counts-trees_of [] = refl
 counts-trees_of (t ∷ ts) = ap (λ n. count t + n) (counts-trees_of ts)

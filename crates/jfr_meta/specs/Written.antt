@@ -38,7 +38,7 @@ abbrev mutual
 abbrev pub table_bytes : List (List ℕ) → Tree → List ℕ
 table_bytes strings root = flat_map text_bytes strings ++ tree_bytes root
 
--- a number of bytes, as far as it can be counted
+-- a number of bytes, or the largest number of 64 bits where there are more
 abbrev pub capped : ℕ → ℕ
 capped n = min n 18446744073709551615
 
@@ -68,7 +68,7 @@ abbrev mutual
   HaveIndices limit Nil = Unit {0}
   HaveIndices limit (Cons t ts) = HasIndices limit t × HaveIndices limit ts
 
--- a tree without its places
+-- a tree with 0 in place of each offset
 abbrev mutual
   pub bare : Tree → Tree
   bare (Node place name pairs children) = Node 0 name pairs (bares children)
@@ -77,8 +77,8 @@ abbrev mutual
   bares Nil = Nil
   bares (Cons t ts) = Cons (bare t) (bares ts)
 
--- The bytes are a metadata record that is read with the same values, strings and tree, places aside; and it describes
--- the classes that these strings and this tree describe.
+-- The bytes are a metadata record that is read with the same values, strings and tree, but for the offsets
+-- of the elements; and it describes the classes that these strings and this tree describe.
 pub record ReadsBack (x : List ℕ) (start duration id : ℕ) (strings : List (List ℕ)) (root : Tree) : Type 0 where
   pub frame : Framed
   pub first : frame.at ≡ 0

@@ -26,7 +26,8 @@ pub(crate) fn text_at<'a>(strings: &'a Words, index: u64) -> &'a str
     strings.get(index as usize).unwrap_or("")
 }
 
-/// The text of an index into the table, to be shared, where it isn't empty.
+/// The text of an index into the table, to be shared; `None` where it is empty, or the table has no such
+/// string.
 pub(crate) fn full_text(strings: &Words, index: u64) -> Option<&Text>
     ensures { option_copied result ≡ not_empty (text_at strings.now index) }
 {
@@ -70,7 +71,7 @@ pub(crate) fn attribute<'a>(strings: &'a Words, element: &Element, key: &str) ->
 /// How many digits an id has at most.
 const ID_DIGITS: usize = 19;
 
-/// What ids are below.
+/// The number below which every id is.
 const ID_LIMIT: u64 = 1 << 63;
 
 /// Whether the text is of ASCII digits alone, as the empty one is.

@@ -10,8 +10,7 @@ use crate::{Element, Elements, Pairs};
 use jfr_base::{Flaw, ReadFault, Reason, Var, Words, read_within};
 use std::alloc::Global;
 
-/// What a body holds: four integers, of which the last is the number of strings, the strings and the
-/// tree of elements.
+/// What a body holds: three integers, the strings behind their number, and the tree of elements.
 #[derive(Drop)]
 pub(crate) struct Body {
     pub start: u64,
@@ -24,12 +23,13 @@ pub(crate) struct Body {
 /// How many levels of elements a tree has at most.
 const LEVELS: u32 = 16;
 
-/// How many bytes an attribute and an element have at least.
+/// How many bytes an attribute has at least.
 const PAIR_LEN: usize = 2;
 
+/// How many bytes an element has at least.
 const ELEMENT_LEN: usize = 3;
 
-/// The integers before the strings, and the place after them.
+/// The integers before the strings, and the offset after them.
 #[derive(Clone, Copy)]
 struct Head {
     start: u64,
@@ -106,7 +106,8 @@ fn read_index(bytes: &[u8], at: usize, end: usize, limit: u64) -> Result<Var, Fl
     }
 }
 
-/// So many attributes. The list has room for all that can follow, so that it never grows.
+/// So many attributes. Memory for as many as can still follow is taken at once, so that the list never
+/// grows.
 fn read_pairs(
     alloc: Global,
     bytes: &[u8],
@@ -132,7 +133,7 @@ fn read_pairs(
     Ok((pairs, place))
 }
 
-/// The element at a place, with so many levels left.
+/// The element that begins at the offset `at`, with so many levels left.
 #[cycle(elements)]
 fn read_element(
     alloc: Global,
@@ -169,8 +170,8 @@ fn read_element(
     Ok((Element::new(at, name.value, pairs, children), place))
 }
 
-/// So many elements, each with so many levels left. The list has room for all that can follow, so that
-/// it never grows.
+/// So many elements, each with so many levels left. Memory for as many as can still follow is taken at
+/// once, so that the list never grows.
 #[cycle(elements)]
 fn read_elements(
     alloc: Global,

@@ -19,7 +19,7 @@ use jfr_layout::{ClassInfo, ClassList, FieldInfo, Fields};
 use std::alloc::{AllocError, Global};
 use std::collections::BTreeSet;
 
-/// The name of the class of annotations with categories.
+/// The name of the annotation class whose values are categories.
 const CATEGORY: &str = "jdk.jfr.Category";
 
 /// The element is refused for this reason.
@@ -41,7 +41,7 @@ fn class_head<'a>(strings: &'a Words, element: &Element) -> Option<(u64, &'a Tex
     Some((id, name))
 }
 
-/// The text, shared, where there is one.
+/// Another owner of the text, where there is one.
 fn shared(text: Option<&Text>) -> Result<Option<Text>, NoMemory>
     ensures { IfOk result (λ shared. shared ≡ option_copied text.entry) }
 {
@@ -83,7 +83,7 @@ fn read_fields(alloc: Global, strings: &Words, element: &Element) -> Result<Fiel
     Ok(fields)
 }
 
-/// Adds the id of a class element that is named as the class of categories.
+/// Adds the id of a class element whose name is `CATEGORY`.
 fn add_category(
     strings: &Words,
     element: &Element,
@@ -100,7 +100,7 @@ fn add_category(
     Ok(())
 }
 
-/// The ids of the class elements that are named as the class of categories.
+/// The ids of the class elements whose name is `CATEGORY`.
 fn category_ids(
     alloc: Global,
     strings: &Words,
@@ -125,8 +125,8 @@ fn is_category(strings: &Words, ids: &BTreeSet<u64>, annotation: &Element) -> bo
     }
 }
 
-/// The class of a class element, where its attributes and those of its fields are good. The ids are
-/// those of the classes of categories.
+/// The class of a class element, where its attributes and those of its fields are good. `ids` are those
+/// that `category_ids` gives.
 #[tactic(auto, unfolding(crate::specs::Described::class_of, crate::specs::Described::class_flaws))]
 fn read_class(
     alloc: Global,
@@ -153,7 +153,7 @@ fn read_class(
     })
 }
 
-/// The first annotation of a class element with a category.
+/// The first annotation of a class element that is one of categories.
 fn category_annotation<'a>(
     alloc: Global,
     strings: &Words,

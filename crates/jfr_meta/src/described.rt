@@ -15,7 +15,7 @@ use jfr_base::{Flaw, ReadFault, Reason, Words};
 use jfr_layout::{ClassFault, Classes};
 use std::alloc::{AllocError, Global};
 
-/// The first child of the element that has this name.
+/// The first of the element's children that has this name.
 fn child_named<'a>(strings: &Words, element: &'a Element, name: &str) -> Option<&'a Element>
     requires { IsWord name.now }
     ensures { option_copied result ≡ find (λ t. bytes_eq (text_at strings.now (name_of t)) name.now) (children_of element.now) }
@@ -24,7 +24,7 @@ fn child_named<'a>(strings: &Words, element: &'a Element, name: &str) -> Option<
     children.iter().find(|child| has_name(strings, child, name))
 }
 
-/// The place of a class element, or of the field element of this number.
+/// The offset of a class element, or of the field element of this number in it.
 fn element_place(
     alloc: Global,
     strings: &Words,
@@ -44,7 +44,7 @@ fn element_place(
     }
 }
 
-/// The place of a class, or of its field of this number.
+/// The offset of the class element of an index, or of the field element of this number in it.
 fn flaw_place(
     alloc: Global,
     strings: &Words,
@@ -114,7 +114,8 @@ fn class_elements<'a>(
     }
 }
 
-/// The classes that the tree describes, over the table of strings.
+/// The classes that the tree describes, or the first flaw. Names and attributes are indices into the table
+/// of strings.
 pub(crate) fn describe(alloc: Global, strings: &Words, root: &Element) -> Result<Classes, ReadFault>
     ensures { MatchResult result (λ classes. told strings.now (place_of root.now) (class_elements strings.now root.now) ≡ Ok classes) (IsFault (told strings.now (place_of root.now) (class_elements strings.now root.now))) }
 {

@@ -8,8 +8,8 @@ use jfr_base::NoMemory;
 use std::alloc::Global;
 use std::marker::Model;
 
-/// An element: where it stands, the index of its name in the table of strings, its attributes and its
-/// children.
+/// An element of the metadata's tree: its offset in the chunk, the index of its name in the table of
+/// strings, its attributes and its children.
 #[cycle(tree)]
 #[derive(Drop)]
 pub struct Element {
@@ -71,14 +71,14 @@ impl Element {
         }
     }
 
-    /// The place of its first byte in the chunk.
+    /// The offset of its first byte in the chunk.
     pub fn at(&self) -> usize
         ensures { result ≡ place_of self.now }
     {
         self.at
     }
 
-    /// The index of its name.
+    /// The index of its name in the table of strings.
     pub fn name(&self) -> u64
         ensures { result ≡ name_of self.now }
     {
@@ -110,7 +110,7 @@ impl Elements {
         }
     }
 
-    /// The list without elements, with room for so many.
+    /// The list without elements, with memory for so many.
     pub fn with_room(alloc: Global, count: usize) -> Result<Elements, NoMemory>
         ensures ok { IfOk result (λ elements. elements ≡ []) }
     {
@@ -135,7 +135,7 @@ impl Elements {
         self.items.len()
     }
 
-    /// The element at a place, from 0; `None` exactly past the end.
+    /// The element of an index, from 0; `None` exactly past the end.
     pub fn get(&self, at: usize) -> Option<&Element>
         ensures { option_copied result ≡ slice_get self.now at }
     {

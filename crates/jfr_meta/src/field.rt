@@ -1,5 +1,5 @@
-// The fields that field elements describe.
-ghost use Rattle.std.specs.Prelude.{◌≡◌, Some, map, option_map, IfOk};
+// Elements by their names, ids among attributes, and the shapes that field elements describe.
+ghost use Rattle.std.specs.Prelude.{◌≡◌, Some, map, IfOk};
 ghost use Rattle.std.specs.Str.{bytes_eq};
 ghost use Rattle.jfr_meta.specs.Attributes.{IsWord, named, text_at};
 ghost use Rattle.jfr_meta.specs.Trees.{name_of, children_of};

@@ -1,4 +1,5 @@
-//! The metadata of a chunk: a table of strings, a tree of elements, and the classes that the tree lists.
+//! The metadata of a chunk: a table of strings, a tree of elements, and the classes that the tree describes
+//! (FORMAT.md, Metadata).
 //!
 //! `read_metadata` reads the metadata record of a chunk, and `write_metadata` writes one. Read
 //! `specs/Trees.antt` first, then `specs/Body.antt` for what a record's body holds, and

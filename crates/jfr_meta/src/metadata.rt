@@ -12,13 +12,14 @@ use jfr_frame::Framed;
 use jfr_layout::Classes;
 use std::alloc::Global;
 
-/// What a metadata record says.
+/// What a metadata record says (FORMAT.md, Metadata).
 #[derive(Drop)]
 pub struct Metadata {
-    /// When it was written, and for how long, in ticks.
+    /// When its writing began, in ticks.
     pub start: u64,
+    /// How long its writing took, in ticks.
     pub duration: u64,
-    /// The number that the recorder gave it; nothing is asked of it.
+    /// The number that the recorder gave the metadata; any is accepted.
     pub id: u64,
     /// The table of strings, as texts.
     pub strings: Words,
@@ -30,13 +31,14 @@ pub struct Metadata {
 
 /// Reads the metadata record of a chunk, and the classes that it describes.
 ///
-/// First the body is read from left to right, to its end; then the tree has an element for the
-/// classes; then the attributes of classes and fields are good; at last the classes are sound, by the
-/// stages of `Classes::make`. The flaw is the first one in this order: in the body and in the attributes
-/// the first from the left, and of the classes the first of the first stage that has one.
+/// Four things are checked, one after another: the body can be read from left to right, to its end; the
+/// tree has an element for the classes; the attributes of class and field elements are good; and the
+/// classes are sound, by the stages of `Classes::make`. The flaw is the first one in this order: in the
+/// body and in the attributes the first from the left, and of the classes the first of the first stage that
+/// has one.
 ///
-/// `Flawed` with a reason from `Short` to `InlineDeep` exactly where the record is refused; `Memory` where
-/// memory is wanting.
+/// `Flawed` exactly where the record is refused, with one of the reasons from number 13, `Short`, to 25,
+/// `InlineDeep`; `Memory` where memory is wanting.
 pub fn read_metadata(alloc: Global, chunk: &[u8], frame: &Framed) -> Result<Metadata, ReadFault>
     requires { IsRecord chunk.now frame.now }
     ensures ok { IfOk result (λ m. IsMetadata chunk.now frame.now (record { start = m.start; duration = m.duration; id = m.id; strings = m.strings; root = m.root }) m.classes) }

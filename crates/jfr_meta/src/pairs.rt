@@ -29,7 +29,7 @@ impl Pairs {
         }
     }
 
-    /// The list without attributes, with room for so many.
+    /// The list without attributes, with memory for so many.
     pub fn with_room(alloc: Global, count: usize) -> Result<Pairs, NoMemory>
         ensures ok { IfOk result (λ pairs. pairs ≡ []) }
     {
@@ -54,7 +54,8 @@ impl Pairs {
         self.items.len()
     }
 
-    /// The attribute at a place, from 0; `None` exactly past the end.
+    /// The attribute of an index, from 0: the indices of its key and of its value; `None` exactly past the
+    /// end.
     pub fn get(&self, at: usize) -> Option<(u64, u64)>
         ensures { result ≡ slice_get self.now at }
     {

@@ -13,7 +13,7 @@ use std::alloc::Global;
 /// The kind byte of a key.
 const KEY: u8 = 2;
 
-/// The string at a place, where a key isn't allowed.
+/// The string that begins at the offset `at`, where a key isn't allowed.
 fn read_plain<'a>(bytes: &'a [u8], at: usize, end: usize) -> Result<StringSpan<'a>, Flaw>
     requires order { at ≤ end }
     requires within { end ≤ length bytes.now }
@@ -45,7 +45,7 @@ fn table_text(alloc: Global, string: &StringSpan<'_>) -> Result<Text, NoMemory>
     }
 }
 
-/// The string of the table at a place, as its text.
+/// The string of the table that begins at the offset `at`, as its text, and the offset after it.
 fn read_text(alloc: Global, bytes: &[u8], at: usize, end: usize) -> Result<(Text, usize), ReadFault>
     requires order { at ≤ end }
     requires within { end ≤ length bytes.now }
@@ -57,8 +57,8 @@ fn read_text(alloc: Global, bytes: &[u8], at: usize, end: usize) -> Result<(Text
     Ok((text, string.end))
 }
 
-/// So many strings of the table, as their texts. A string takes a byte at least, so that the list has
-/// room for all that can follow, and never grows.
+/// So many strings of the table, as their texts, and the offset after them. A string takes a byte at least,
+/// so memory for as many as can still follow is taken at once, and the list never grows.
 pub(crate) fn read_strings(
     alloc: Global,
     bytes: &[u8],

@@ -11,7 +11,7 @@ use jfr_base::{NoMemory, Text, Words};
 use std::alloc::Global;
 use std::collections::BTreeMap;
 
-/// How many bytes the longest key has: `value-` and the digits of the largest number.
+/// How many bytes the longest key has that is asked for: `value-` and the digits of the largest number.
 const KEY_LEN: usize = 26;
 
 /// The values of the attributes by their keys; the first attribute of a key counts. Longer keys are
@@ -67,7 +67,7 @@ fn numbered(alloc: Global, strings: &Words, annotation: &Element) -> Result<Word
     Ok(words)
 }
 
-/// The list of the text, where there is one.
+/// The list of the text alone, where there is one; else the empty list.
 fn single(alloc: Global, text: Option<&Text>) -> Result<Words, NoMemory>
     ensures ok { IfOk result (λ words. words ≡ option_to_list (option_copied text.entry)) }
 {
@@ -78,7 +78,8 @@ fn single(alloc: Global, text: Option<&Text>) -> Result<Words, NoMemory>
     Ok(words)
 }
 
-/// The values of an annotation, in order.
+/// The values of an annotation, in order: those of `value-0`, `value-1` and so on up to the first absent
+/// one, or else that of `value` alone.
 pub(crate) fn values_of(
     alloc: Global,
     strings: &Words,

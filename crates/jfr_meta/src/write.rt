@@ -1,5 +1,5 @@
 // Writing a metadata record.
-ghost use Rattle.std.specs.Prelude.{◌≡◌, ◌+◌, ◌-◌, ◌^◌, ◌<◌, ◌≤◌, ◌++◌, length, min, IfOk, OnOk};
+ghost use Rattle.std.specs.Prelude.{◌≡◌, ◌+◌, ◌-◌, ◌^◌, ◌<◌, ◌≤◌, ◌++◌, length, IfOk, OnOk};
 ghost use Rattle.std.specs.List.{flat_map, AllByRecursion};
 ghost use Rattle.std.specs.Str.{chars};
 ghost use Rattle.jfr_base.specs.Integer.{spell, spell_in, FitsIn};
@@ -10,9 +10,10 @@ use crate::{Element, Elements, Pairs};
 use jfr_base::{NoMemory, Words, var_len, write_in, write_var};
 use std::alloc::{AllocError, Global};
 
-/// The kind bytes of the empty string, and of one that is written as UTF-8.
+/// The kind byte of the empty string.
 const EMPTY: u8 = 1;
 
+/// The kind byte of a string that is written as UTF-8.
 const UTF8: u8 = 3;
 
 /// The type of a metadata record, which is its own spelling.
@@ -149,8 +150,8 @@ fn elements_len(elements: &Elements) -> u64
     len
 }
 
-/// How many bytes the strings and the tree take as `write_metadata` writes them, without the number
-/// of strings; the largest number where there are more.
+/// How many bytes the strings and the tree take as `write_metadata` writes them, without the number of
+/// strings before them; the largest number of 64 bits where they take more.
 pub fn metadata_len(strings: &Words, root: &Element) -> u64
     requires { depth root.now ≤ 16 }
     ensures { result ≡ capped (length (table_bytes strings.now root.now)) }
@@ -177,9 +178,9 @@ fn push_body(
     push_element(out, root)
 }
 
-/// The metadata record of these strings and this tree: its size in four bytes, every other integer as
-/// short as it can be, each string as UTF-8 and the empty one by its kind alone. What is written is
-/// read again with the same strings and tree, places aside.
+/// The metadata record of these strings and this tree: its size in four bytes, every other integer as short
+/// as it can be, each string as UTF-8, and an empty one by its kind byte alone. What is written is read
+/// again with the same strings and tree, but for the offsets of the elements.
 pub fn write_metadata(
     alloc: Global,
     start: u64,

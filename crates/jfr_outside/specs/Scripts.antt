@@ -26,11 +26,12 @@ abbrev pub lesser : ℕ → Option ℕ → ℕ
 lesser n None = n
 lesser n (Some m) = min n m
 
--- what is kept, with this script besides
+-- how many bytes the next call keeps, by the scripts before this one and by this one
 abbrev pub kept_with : Call → Option ℕ → Script → Option ℕ
 kept_with call keep s = if is_due call s then Some (lesser s.keep keep) else keep
 
--- how many bytes the next call of this kind keeps, if it is to fail: the least number of the scripts that are due
+-- how many bytes the next call of this kind keeps, if it is to fail: the least number of the scripts that
+-- are due
 abbrev pub kept : Call → List Script → Option ℕ
 kept call scripts = fold (kept_with call) None scripts
 

@@ -19,7 +19,8 @@ pub record World : Type 0 where
   pub input : Option (List ℕ)
   pub output : Option (List ℕ)
 
--- what a place tells, if it tells it; how often reads and writes failed; and whether it fails for stated causes alone
+-- what a place tells, if it tells it; how often reads and writes failed; and whether it fails for stated
+-- causes alone
 pub record State : Type 0 where
   pub told : Option World
   pub read_faults : ℕ
@@ -35,10 +36,11 @@ pub record SinkState : Type 0 where
 abbrev pub file : World → List ℕ → Option (List ℕ)
 file w name = fin.get w.files name
 
--- the file is the input, if it is there
+-- the file is the input, if it is there; else no input is open
 abbrev pub opened : List ℕ → World → World
 opened name w = record w { input = file w name }
 
+-- no input is open
 abbrev pub shut : World → World
 shut w = record w { input = None }
 
@@ -59,6 +61,7 @@ grown (Some name) bytes files = fin.insert files name (unwrap_or (fin.get files 
 abbrev pub appended : List ℕ → World → World
 appended bytes w = record w { files = grown w.output bytes w.files }
 
+-- no output is open
 abbrev pub finished : World → World
 finished w = record w { output = None }
 
@@ -82,6 +85,7 @@ bytes_in pieces = flat_map (λ p. p.now) pieces
 abbrev pub slice_of : Option (Bor (List ℕ)) → Option (List ℕ)
 slice_of o = option_map (λ x. x.now) o
 
+-- nothing changed
 abbrev pub unchanged : World → World
 unchanged w = w
 

@@ -22,7 +22,7 @@ pub fn file_in<'a>(files: &'a FileMap, name: &str) -> Option<&'a [u8]>
     }
 }
 
-/// Adds bytes at the end of a file that is there.
+/// Adds bytes at the end of a file that is there. Where memory is wanting, nothing changes.
 pub fn grow_file(files: &mut FileMap, name: &str, bytes: &[u8]) -> Result<(), AllocError>
     requires { IsHeld (files_of files.old) name.now }
     ensures ok { OnOk result (files_of files.new ≡ fin.insert (files_of files.old) name.now (unwrap_or (fin.get (files_of files.old) name.now) [] ++ bytes.now)) }
@@ -35,7 +35,8 @@ pub fn grow_file(files: &mut FileMap, name: &str, bytes: &[u8]) -> Result<(), Al
     Ok(())
 }
 
-/// Sets a file.
+/// Sets a file: it is there with these bytes, whatever was there before. Where memory is wanting, nothing
+/// changes.
 pub fn set_file(
     alloc: Global,
     files: &mut FileMap,

@@ -1,6 +1,8 @@
-//! What stands outside of the program: places with files, sinks for bytes, and texts.
+//! What stands outside of the program: places with files, and sinks for bytes.
 //!
-//! `Place` and `Sink` say what files and streams do. Read `specs/World.antt` first.
+//! `Place` and `Sink` say what files and streams do. `MemoryPlace` and `MemorySink` are for tests, and fail
+//! where they are told to; `SteadyPlace` and `SteadySink` never fail without a stated cause. Read
+//! `specs/World.antt` first.
 #![tactic(auto)]
 
 mod fault;

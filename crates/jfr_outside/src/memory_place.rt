@@ -1,4 +1,4 @@
-// A place in memory, some of whose calls may be set to fail.
+// A place in memory, of which calls can be told to fail.
 ghost use Rattle.std.specs.Prelude.{◌≡◌, ◌≤◌, ◌<◌, ◌↔◌, ◌⊎◌, [], ◌∷◌, ◌++◌, length, take, Some, None, true, false, IsTrue, IsSome, IfSome, IfOk, OnOk, OnErr, IsErrOf, option_map};
 ghost use Rattle.jfr_outside.specs.MemoryPlace.{state_of, scripts_of, most_of};
 ghost use Rattle.jfr_outside.specs.World.{file, put, empty_world, bytes_in, slice_of, opened, taken, shut, created, appended, finished, unchanged, IsListing, Leaves, LeavesPrefix};
@@ -37,7 +37,7 @@ impl MemoryPlace {
         }
     }
 
-    /// Sets a file.
+    /// Sets a file: it is there with these bytes, whatever was there before.
     pub fn put(&mut self, name: &str, bytes: &[u8]) -> Result<(), NoMemory>
         ensures ok { OnOk result (state_of self.new ≡ record (state_of self.old) { told = option_map (put name.now bytes.now) (state_of self.old).told }) }
         ensures unchanged { OnErr result (state_of self.new ≡ state_of self.old) }
@@ -76,8 +76,8 @@ impl MemoryPlace {
     }
 }
 
-// Below what the trait says of each call stands when it fails: where a script is due, and for no other
-// cause than on a steady place.
+// In each contract the first clauses are the trait's; those behind the blank line say when the call fails:
+// where a script is due, and else for no other cause than on a steady place.
 impl Place for MemoryPlace {
     ghost state = { λ p. state_of p };
 

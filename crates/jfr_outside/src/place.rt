@@ -1,5 +1,5 @@
 // Files, one open input and one open output.
-ghost use Rattle.std.specs.Prelude.{◌≡◌, ◌<◌, ◌≤◌, ◌↔◌, ℕ, [], length, take, None, IsTrue, IsSome, IfSome, IfOk, OnOk, IsErrOf, option_map};
+ghost use Rattle.std.specs.Prelude.{◌≡◌, ◌<◌, ◌≤◌, ◌↔◌, [], length, take, None, IsTrue, IsSome, IfSome, IfOk, OnOk, IsErrOf, option_map};
 ghost use Rattle.jfr_outside.specs.World.{State, file, bytes_in, opened, shut, taken, created, appended, finished, unchanged, IsListing, Leaves, LeavesPrefix};
 ghost use Rattle.jfr_outside.specs.Counts.{Counts};
 ghost use Rattle.jfr_outside.specs.declared.fault.Fault.TheVariants.{Failed};
@@ -26,7 +26,8 @@ pub trait Place {
         ensures same { (state self.new).steady ≡ (state self.old).steady }
         ensures steady { IsTrue (state self.old).steady → IsErrOf result Failed → IfSome (state self.old).told (λ w. file w name.now ≡ None) };
 
-    /// Takes the next bytes of the input; 0 of them exactly at its end.
+    /// Takes the next bytes of the input, and says how many: at most as many as there is place for, and 0
+    /// exactly at its end. It fails where no input is open.
     fn read(&mut self, into: &mut [u8]) -> Result<usize, Fault>
         requires { 0 < length into.old }
         ensures bound { IfOk result (λ n. n ≤ length into.new) }
@@ -47,8 +48,8 @@ pub trait Place {
         ensures writes { (state self.new).write_faults ≡ (state self.old).write_faults }
         ensures same { (state self.new).steady ≡ (state self.old).steady };
 
-    /// Makes an empty file, which is the output. It fails for a name that is there, and while an
-    /// output is open; then no output is open.
+    /// Makes an empty file, which is the output. It fails for a name that is there, and while an output is
+    /// open. After a failure no output is open.
     fn create_output(&mut self, name: &str) -> Result<(), Fault>
         ensures told { Leaves result (state self.old).told (state self.new).told (λ _. created name.now) finished }
         ensures was_new { OnOk result (IfSome (state self.old).told (λ w. (file w name.now ≡ None) × (w.output ≡ None))) }
@@ -58,7 +59,8 @@ pub trait Place {
         ensures same { (state self.new).steady ≡ (state self.old).steady }
         ensures steady { IsTrue (state self.old).steady → IsErrOf result Failed → IfSome (state self.old).told (λ w. (file w name.now ≡ None) → IsSome w.output) };
 
-    /// Adds bytes at the end of the output; where it fails, a prefix of them.
+    /// Adds bytes at the end of the output; where it fails, a prefix of them. It fails where no output is
+    /// open.
     fn append(&mut self, bytes: &[u8]) -> Result<(), Fault>
         ensures told { LeavesPrefix result (state self.old).told (state self.new).told bytes.now appended }
         ensures open { OnOk result (IfSome (state self.old).told (λ w. IsSome w.output)) }
@@ -79,7 +81,7 @@ pub trait Place {
         ensures same { (state self.new).steady ≡ (state self.old).steady }
         ensures steady { IsTrue (state self.old).steady → IsErrOf result Failed → IfSome (state self.old).told (λ w. w.output ≡ None) };
 
-    /// Ends the output, whose bytes stay.
+    /// Ends the output, whose bytes stay. It fails where no output is open, and after a failure none is.
     fn finish_output(&mut self) -> Result<(), Fault>
         ensures told { Leaves result (state self.old).told (state self.new).told (λ _. finished) finished }
         ensures open { OnOk result (IfSome (state self.old).told (λ w. IsSome w.output)) }

@@ -39,12 +39,14 @@ impl Call {
     }
 }
 
-/// A call that is to fail: the `left`-th of its kind from now on, from 1. At 0 it has failed, or never
-/// will. An append then keeps at most `keep` bytes.
+/// A call that is to fail. Where it is an append or a write, at most `keep` of its bytes are kept.
 #[derive(Clone, Copy)]
 pub struct Script {
+    /// The kind of the call.
     pub call: Call,
+    /// The how-manieth call of its kind from now on it is, from 1. At 0 it has failed, or never will.
     pub left: u64,
+    /// How many bytes of it are kept at most.
     pub keep: usize,
 }
 
@@ -59,7 +61,8 @@ impl Script {
         self.left == 1
     }
 
-    // What the next call of this kind keeps, by this script and those before it.
+    // How many bytes the next call of this kind keeps at most, if it is to fail, by this script and those
+    // before it.
     fn keep_with(&self, call: Call, so_far: Option<usize>) -> Option<usize>
         ensures { result ≡ kept_with call so_far self.now }
     {
@@ -120,7 +123,8 @@ impl Scripts {
         Ok(())
     }
 
-    /// A call of this kind is made. Where it is to fail: how many bytes it keeps at most.
+    /// A call of this kind is made: `Some` where it is to fail, with the number of bytes that it keeps at
+    /// most.
     pub fn pass(&mut self, call: Call) -> Option<usize>
         ensures due { result ≡ kept call self.old }
         ensures passed { self.new ≡ after_call call self.old }

@@ -11,7 +11,7 @@ use crate::Fault;
 pub trait Sink {
     ghost state: { Self → SinkState };
 
-    /// Adds bytes at the end; where it fails, a prefix of them.
+    /// Adds bytes at the end of the stream; where it fails, a prefix of them.
     fn write(&mut self, bytes: &[u8]) -> Result<(), Fault>
         ensures told { LeavesPrefix result (state self.old).written (state self.new).written bytes.now added }
         ensures faults { Counts result (state self.old).faults (state self.new).faults };

@@ -1,7 +1,7 @@
 // An open input in memory.
 ghost use Rattle.std.specs.Prelude.{◌≡◌, ◌<◌, ◌≤◌, ◌↔◌, [], length, take, drop, vec_len};
 
-/// Bytes of which some were taken.
+/// Bytes of which the first ones may have been taken.
 #[derive(Drop)]
 pub struct Source {
     bytes: Vec<u8>,
@@ -19,7 +19,7 @@ impl Source {
         Source { bytes, at: 0 }
     }
 
-    /// Takes the next bytes, at most so many; 0 of them exactly at the end.
+    /// Takes the next bytes, at most `most`, and says how many: 0 exactly at the end.
     pub fn take_into(&mut self, most: usize, into: &mut [u8]) -> usize
         requires room { 0 < length into.old }
         requires most { 0 < most }

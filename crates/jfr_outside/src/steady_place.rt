@@ -50,7 +50,7 @@ impl SteadyPlace {
         }
     }
 
-    /// Sets a file.
+    /// Sets a file: it is there with these bytes, whatever was there before.
     pub fn put(&mut self, name: &str, bytes: &[u8]) -> Result<(), NoMemory>
         ensures ok { OnOk result (state_of self.new ≡ record (state_of self.old) { told = option_map (put name.now bytes.now) (state_of self.old).told }) }
         ensures unchanged { OnErr result (state_of self.new ≡ state_of self.old) }

@@ -16,7 +16,8 @@ pub record IsOfClass (p : Parts) (c : Class) (e : EventAt) : Type 0 where
   pub listed : Contains (events_of p) e
   pub class : find_class p.classes e.record_of.type_id ≡ Some c
 
--- The event is kept, or dropped, or has a field of this number and is kept where the filter allows the thread behind that.
+-- The event is kept, or dropped, or has a field of this number and is kept where the filter allows the
+-- thread behind that.
 abbrev pub Says : Given → Parts → EventAt → ClassVerdict → Type 0
 Says g p e Kept = is_chosen g p e ≡ true
 Says g p e Dropped = is_chosen g p e ≡ false

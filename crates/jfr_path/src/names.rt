@@ -14,12 +14,13 @@ use jfr_text::text_of;
 use jfr_value::{Node, Step, child};
 use std::alloc::Global;
 
-// So many times a constant is followed, before its field or its text is asked for.
+// How often references or keys are followed at most, one after another, before a field or a text is asked
+// for.
 const MOST_FOLLOWED: u32 = 16;
 
-/// The text that names lead to from an event's fields: each time the field of the name, after
-/// references are followed, and at the end the string, after keys are followed too. `None` exactly
-/// where they lead to no text.
+/// The text that names lead to from an event's fields: for each name the references are followed, and then
+/// the field of that name is taken; at the end references and keys of strings are followed, up to a string.
+/// `None` exactly where they lead to no text. At most 16 are followed one after another.
 pub fn named(
     alloc: Global,
     chunk: &Chunk<'_>,
@@ -37,7 +38,7 @@ pub fn named(
     }
 }
 
-/// The value that names lead to.
+/// The value that names lead to: for each, behind references, the field of that name.
 fn named_node<'a>(chunk: &Chunk<'a>, node: &Node<'a>, names: &Words) -> Option<Node<'a>>
     requires parts { AreParts chunk.now }
     requires value { IsValue chunk.now.classes node.now }
@@ -55,7 +56,7 @@ fn named_node<'a>(chunk: &Chunk<'a>, node: &Node<'a>, names: &Words) -> Option<N
     Some(place)
 }
 
-/// The field of a name.
+/// The field of a name; `None` exactly where the value has none.
 pub(crate) fn named_field<'a>(chunk: &Chunk<'a>, node: &Node<'a>, name: &str) -> Option<Node<'a>>
     requires parts { AreParts chunk.now }
     requires value { IsValue chunk.now.classes node.now }
@@ -69,7 +70,7 @@ pub(crate) fn named_field<'a>(chunk: &Chunk<'a>, node: &Node<'a>, name: &str) ->
     child(classes, node, &Step::Field(number))
 }
 
-/// Where references lead that follow one another.
+/// Where references lead that follow one another, at most 16 of them.
 pub(crate) fn behind_references<'a>(chunk: &Chunk<'a>, node: &Node<'a>) -> Node<'a>
     requires parts { AreParts chunk.now }
     requires value { IsValue chunk.now.classes node.now }
@@ -98,7 +99,7 @@ pub(crate) fn is_reference(node: &Node<'_>) -> bool
     !node.shape.array && node.shape.constant
 }
 
-/// Where references and keys of strings lead that follow one another.
+/// Where references and keys of strings lead that follow one another, at most 16 of them.
 pub(crate) fn behind_keys<'a>(chunk: &Chunk<'a>, node: &Node<'a>) -> Node<'a>
     requires parts { AreParts chunk.now }
     requires value { IsValue chunk.now.classes node.now }

@@ -7,7 +7,7 @@ use jfr_value::Step;
 use std::alloc::Global;
 use std::marker::Model;
 
-/// Steps, one after another.
+/// A path: steps, one after another, as `leads` takes them.
 #[derive(Drop)]
 pub struct Path {
     steps: Vec<Step>,
@@ -48,7 +48,7 @@ impl Path {
         self.steps.len()
     }
 
-    /// The step at a place, from 0; `None` exactly past the end.
+    /// The step of a number, from 0; `None` exactly past the end.
     pub fn get(&self, at: usize) -> Option<&Step>
         ensures { option_copied result ≡ slice_get self.now at }
     {

@@ -13,7 +13,7 @@ use jfr_layout::Kind;
 use jfr_text::{StringSpan, read_string};
 use jfr_value::{Node, Step, child, target};
 
-/// The value of an event's fields, where paths begin.
+/// The node of an event's fields, where paths begin.
 pub fn fields_of<'a>(chunk: &Chunk<'a>, event: &Event<'_>) -> Node<'a>
     requires { slice_get (events_of chunk.now) event.now.number ≡ Some (event_at event.now) }
     ensures exact { node_of result ≡ node_of event.now.node }
@@ -64,8 +64,8 @@ fn step<'a>(chunk: &Chunk<'a>, node: &Node<'a>, by: &Step) -> Option<Node<'a>>
     }
 }
 
-/// The constant that a reference, or a string that is a key, refers to: the value of the entry in
-/// force.
+/// The constant to which a reference, or a string that is a key, leads: the value of the entry in force.
+/// `None` exactly where the value is neither, or the constant is missing.
 pub(crate) fn follow<'a>(chunk: &Chunk<'a>, node: &Node<'a>) -> Option<Node<'a>>
     requires parts { AreParts chunk.now }
     requires value { IsValue chunk.now.classes node.now }
@@ -93,7 +93,7 @@ pub(crate) fn reference_key(chunk: &Chunk<'_>, node: &Node<'_>) -> u64
     }
 }
 
-/// The string that stands there, where it is one.
+/// The string of a node; `None` exactly where its value is no string.
 pub(crate) fn string_of<'a>(chunk: &Chunk<'_>, node: &Node<'a>) -> Option<StringSpan<'a>>
     requires value { IsValue chunk.now.classes node.now }
     requires of_chunk { node.now.bytes.now ≡ chunk.now.bytes }

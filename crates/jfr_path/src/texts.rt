@@ -19,9 +19,9 @@ use std::alloc::Global;
 use std::collections::BTreeMap;
 use std::marker::Model;
 
-/// What a filter says of the texts of threads. What it said of a text is kept by the place of the string:
-/// many threads may share one, and a long one is so read and matched once. Contracts see the filter and the
-/// chunk.
+/// What a filter says of the texts of threads. What it said of a text is kept by the offsets between which
+/// the string stands: many threads may share a string, and even a long one is read and matched only once.
+/// Contracts see the filter and the chunk.
 #[derive(Drop)]
 pub(crate) struct TextVerdicts<'c, 'a> {
     alloc: Global,

@@ -15,8 +15,8 @@ use std::alloc::Global;
 use std::collections::BTreeMap;
 use std::marker::Model;
 
-/// What a filter says of the threads of a chunk. What it said of a thread behind a reference is kept, by
-/// the class and the key of the reference. Contracts see the filter and the chunk.
+/// What a filter says of the threads of a chunk. What it said of the thread behind a reference is kept by
+/// the reference's class and key. Contracts see the filter and the chunk.
 #[derive(Drop)]
 pub(crate) struct ThreadVerdicts<'c, 'a> {
     texts: TextVerdicts<'c, 'a>,

@@ -76,9 +76,11 @@ earlier_place at (negsuc n) = None
 abbrev pub checkpoint_at : List Framed → ℕ → Option Framed
 checkpoint_at rs at = find (λ r. (r.at == at) && (r.type_id == 1)) rs
 
+-- The link of a checkpoint and its delta.
 abbrev pub link_of : Framed → Delta → Link
 link_of r d = record { frame = r; delta_at = d.at; delta_end = d.end; delta = d.value }
 
+-- A link before others, or the flaw of the others.
 abbrev pub before_links : Link → Result (List Link) Flaw → Result (List Link) Flaw
 before_links l (Ok ls) = Ok (l ∷ ls)
 before_links l (Err flaw) = Err flaw
@@ -89,16 +91,19 @@ links_behind d (pos zero) earlier next = Ok []
 links_behind d delta None next = Err (record { offset = d.at; reason = ChainDelta })
 links_behind d delta (Some r) next = next r
 
+-- The checkpoint that starts at this place, if there is a place and a checkpoint starts there.
 abbrev pub earlier_checkpoint : List Framed → Option ℕ → Option Framed
 earlier_checkpoint rs None = None
 earlier_checkpoint rs (Some to) = checkpoint_at rs to
 
--- The checkpoint that a link leads to, none behind the oldest, or the flaw of its delta.
+-- The checkpoint that a delta at a place leads to, none behind the oldest, or the flaw of the delta: by the
+-- checkpoint that starts where it leads, if one does.
 abbrev pub older_by : ℕ → ℤ → Option Framed → Result (Option Framed) Flaw
 older_by at (pos zero) earlier = Ok None
 older_by at delta None = Err (record { offset = at; reason = ChainDelta })
 older_by at delta (Some r) = Ok (Some r)
 
+-- The checkpoint that a link's delta leads to, none behind the oldest, or the flaw of the delta.
 abbrev pub older_of : List Framed → Link → Result (Option Framed) Flaw
 older_of rs l = older_by l.delta_at l.delta (earlier_checkpoint rs (earlier_place l.frame.at (pos l.frame.at +ℤ l.delta)))
 
@@ -107,14 +112,17 @@ abbrev pub linked : Framed → Answer Delta → Result Link Flaw
 linked r (Err flaw) = Err flaw
 linked r (Ok g) = Ok (link_of r g.value)
 
+-- The chain from a checkpoint on, by what was read of its head, and by the chain from the earlier one on.
 abbrev pub links_by : List Framed → Framed → Answer Delta → (Framed → Result (List Link) Flaw) → Result (List Link) Flaw
 links_by rs r (Err flaw) next = Err flaw
 links_by rs r (Ok g) next = before_links (link_of r g.value) (links_behind g.value g.value.value (earlier_checkpoint rs (earlier_place r.at (pos r.at +ℤ g.value.value))) next)
 
--- The chain from a checkpoint on, newest first, or its flaw. Each step goes to an earlier record, so as many turns as there are records are enough.
+-- The chain from a checkpoint on, newest first, or its flaw. Each step goes to an earlier record, so as
+-- many turns as there are records are enough.
 abbrev pub chain_within : ℕ → List ℕ → List Framed → Framed → Result (List Link) Flaw
 chain_within zero c rs r = Ok []
 chain_within (suc n) c rs r = links_by rs r (run head_format c (record_end r) r.body) (chain_within n c rs)
 
+-- The chain from the last checkpoint on, newest first, or its flaw.
 unfoldable pub chain_of : List ℕ → List Framed → Framed → Result (List Link) Flaw
 chain_of c rs last = chain_within (length rs) c rs last

@@ -51,10 +51,11 @@ unfoldable pub checkpoint_format : Classes → Format (List PoolAt)
 checkpoint_format k =
     integer >>= λ start. integer >>= λ duration. integer >>= λ delta. Run 1 λ kind. integer >>= λ n. times n (pool_format k) >>= λ pools. Stop (Done pools)
 
+-- The entry of a pool, by the numbers of its checkpoint and of the pool and by the pool's class.
 abbrev pub entry_of : ℕ → ℕ → ℕ → Constant → EntryAt
 entry_of checkpoint pool class e = record { class = class; key = e.key; key_at = e.key_at; value_at = e.value_at; end = e.end; checkpoint = checkpoint; pool = pool }
 
--- The entries of a checkpoint's pools, of which the first has this number.
+-- The entries of a checkpoint's pools, of which the first has the number `pool`.
 abbrev pub entries_from : ℕ → ℕ → List PoolAt → List EntryAt
 entries_from checkpoint pool [] = []
 entries_from checkpoint pool (p ∷ ps) = map (entry_of checkpoint pool p.class) p.constants ++ entries_from checkpoint (pool + 1) ps
@@ -78,24 +79,28 @@ abbrev pub IsRefusedEntries : List ℕ → Classes → List Link → ReadFault �
 IsRefusedEntries c k ls (Flawed flaw) = EntriesFlaw c k ls flaw.offset flaw.reason
 IsRefusedEntries c k ls Memory = Unit {0}
 
--- By computing: the entries, or the first flaw in file order.
+-- The entries before later ones, or the flaw of the later ones.
 abbrev pub before_entries : List EntryAt → Result (List EntryAt) Flaw → Result (List EntryAt) Flaw
 before_entries es (Ok later) = Ok (es ++ later)
 before_entries es (Err flaw) = Err flaw
 
+-- The entries of a checkpoint's pools before those of later checkpoints, or the first flaw.
 abbrev pub entries_by : ℕ → Answer (List PoolAt) → Result (List EntryAt) Flaw → Result (List EntryAt) Flaw
 entries_by number (Err flaw) later = Err flaw
 entries_by number (Ok g) later = before_entries (entries_from number 0 g.value) later
 
+-- By computing: the entries of checkpoints in file order, of which the first has this number, or the first
+-- flaw.
 abbrev pub entries_of : List ℕ → Classes → ℕ → List Link → Result (List EntryAt) Flaw
 entries_of c k number [] = Ok []
 entries_of c k number (l ∷ ls) = entries_by number (run (checkpoint_format k) c (record_end l.frame) l.frame.body) (entries_of c k (number + 1) ls)
 
--- The number of the last entry with this class and key, of entries that are counted from a number on.
+-- A later number, or else this one, where the entry of this number counts.
 abbrev pub or_later : ℕ → Bool → Option ℕ → Option ℕ
 or_later n this (Some later) = Some later
 or_later n this None = if this then Some n else None
 
+-- The number of the last entry with this class and key, of entries that are numbered from n on.
 abbrev pub last_from : ℕ → List EntryAt → ℕ × ℕ → Option ℕ
 last_from n [] target = None
 last_from n (e ∷ es) target = or_later n ((e.class == target.0) && (e.key == target.1)) (last_from (n + 1) es target)

@@ -1,4 +1,4 @@
--- The index of the entries that have no place in a row, by class and key.
+-- The index of the entries that no row has, by class and key.
 use Rattle.std.specs.Prelude.{◌≡◌, ℕ, zero, suc, ◌+◌, ◌-◌, ◌*◌, ◌/◌, ◌%◌, ◌^◌, ◌&&◌, ◌==◌, nat_lt, Bool, true, List, length, Option, Some, None, IsSome, bit_xor, slice_index_or, option_map, if◌then◌else◌}
 use Rattle.std.specs.declared.cmp.Ordering.{Ordering}
 use Rattle.std.specs.Ordering.{nat_cmp, ordering_then}
@@ -11,7 +11,7 @@ use Rattle.jfr_pool.specs.declared.row.Row.{Row}
 use Rattle.jfr_pool.specs.Counts.{count_at}
 use Rattle.jfr_pool.specs.Entries.{number_in_force}
 
--- By class, and then by key.
+-- The order of pairs: by class, and then by key.
 abbrev pub target_cmp : ℕ × ℕ → ℕ × ℕ → Ordering
 target_cmp s t = ordering_then (nat_cmp s.0 t.0) (nat_cmp s.1 t.1)
 
@@ -47,7 +47,8 @@ abbrev pub seat_from : ℕ → ℕ → List Slot → ℕ × ℕ → Option ℕ
 seat_from zero place slots t = None
 seat_from (suc n) place slots t = if is_open (held (slot_at slots place)) t then Some place else seat_from n (place + 1) slots t
 
--- The first place of a class and key: a mixing of the two, scaled to the slots that have their reach behind them.
+-- The home of a class and key, which is the first slot for them: the two are mixed to a number of 64 bits,
+-- and that is scaled to the slots that have the reach behind them.
 unfoldable pub home : List Slot → ℕ × ℕ → ℕ
 home slots t = bit_xor t.1 (t.0 * 2 ^ CLASS_AT % 2 ^ 64) * MIX % 2 ^ 64 * (length slots - REACH) / 2 ^ 64
 
@@ -55,7 +56,7 @@ home slots t = bit_xor t.1 (t.0 * 2 ^ CLASS_AT % 2 ^ 64) * MIX % 2 ^ 64 * (lengt
 unfoldable pub seat : List Slot → ℕ × ℕ → Option ℕ
 seat slots t = if nat_lt t.0 (2 ^ 32) then seat_from REACH (home slots t) slots t else None
 
--- The number that stands in a seat, and without a seat the one among the others.
+-- The number in the slot of this place, and without a place the one in the map of the others.
 abbrev pub number_at : Index → ℕ × ℕ → Option ℕ → Option ℕ
 number_at index t (Some place) = number_in (slot_at index.slots.items place)
 number_at index t None = get target_cmp index.others t
@@ -64,7 +65,8 @@ number_at index t None = get target_cmp index.others t
 abbrev pub number_of : Index → ℕ × ℕ → Option ℕ
 number_of index t = number_at index t (seat index.slots.items t)
 
--- For each class and key without a place in the rows the index has the number of the entry in force, where there is one; and only classes and keys of entries stand in it.
+-- For each class and key that no row has, the index has the number of the entry in force, where there is
+-- one; and only classes and keys of entries stand in it.
 pub record Indexes (rows : List Row) (index : Index) (es : List EntryAt) : Type 0 where
   pub leads : (t : ℕ × ℕ) → count_at rows t ≡ None → number_of index t ≡ number_in_force es t
   pub in_slots : (place : ℕ) (p : Placed) → held (slot_at index.slots.items place) ≡ Some p → IsSome (number_in_force es (p.class, p.key))

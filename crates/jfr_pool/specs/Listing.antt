@@ -32,6 +32,7 @@ Adds listing old new (Err fault) = TellsFlaw listing fault
 abbrev pub entry_in : PoolId → Constant → EntryAt
 entry_in pool e = entry_of pool.checkpoint pool.number pool.class e
 
+-- The list of one such entry.
 abbrev pub entry_alone : PoolId → Constant → List EntryAt
 entry_alone pool e = entry_in pool e ∷ []
 

@@ -11,7 +11,7 @@ use jfr_frame::{Framed, Frames};
 use std::alloc::Global;
 use std::marker::Model;
 
-// The type of checkpoints.
+// The type of checkpoint records.
 const CHECKPOINT: u64 = 1;
 
 /// The chained checkpoints of a chunk, in the order of the file: the oldest first.
@@ -30,9 +30,10 @@ impl Model for Chain {
 }
 
 impl Chain {
-    /// Reads the chain whose newest checkpoint starts at `last`. It is refused, from the newest
-    /// checkpoint on, as `Short` where a start, a duration or a delta doesn't end within its record,
-    /// and as `ChainDelta`, at the delta, where that is neither 0 nor a step to an earlier checkpoint.
+    /// Reads the chain whose newest checkpoint starts at the offset `last`. From the newest on, it is
+    /// refused as `Short` where a checkpoint's start, duration or delta doesn't end within its record, and
+    /// as `ChainDelta`, at the delta, where that is neither 0 nor a step to an earlier checkpoint. `Memory`
+    /// where memory is wanting.
     pub fn read(alloc: Global, chunk: &[u8], frames: &Frames, last: u64) -> Result<Chain, ReadFault>
         requires framed { AreRecords chunk.now frames.now }
         requires last { IsTrue (starts_at frames.now last 1) }
@@ -111,7 +112,7 @@ fn older(frames: &Frames, link: &Link) -> Result<Option<Framed>, Flaw>
     }
 }
 
-/// The checkpoint that starts where a delta leads, if that is an earlier place.
+/// The checkpoint that starts where a delta leads, if that is an earlier offset.
 fn earlier_checkpoint(frames: &Frames, link: &Link) -> Option<Framed>
     ensures { result ≡ earlier_checkpoint frames.now (earlier_place link.now.frame.at (pos link.now.frame.at +ℤ link.now.delta)) }
 {
@@ -119,7 +120,7 @@ fn earlier_checkpoint(frames: &Frames, link: &Link) -> Option<Framed>
     frames.find(place, CHECKPOINT)
 }
 
-/// Where a delta leads from a place, if that is an earlier one.
+/// The offset to which a delta leads from another, if it is an earlier one.
 fn earlier_place(at: usize, delta: i64) -> Option<u64>
     ensures { result ≡ earlier_place at (pos at +ℤ delta) }
 {

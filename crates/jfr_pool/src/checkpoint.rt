@@ -12,7 +12,8 @@ use jfr_frame::Framed;
 use jfr_layout::{Classes, Shape};
 use jfr_value::end_of;
 
-/// A pool: its class, the number of its checkpoint in the chain, and its own in the checkpoint.
+/// A pool: its class, the number of its checkpoint in the chain, in the order of the file, and its own in
+/// the checkpoint, both from 0.
 #[derive(Clone, Copy)]
 pub(crate) struct PoolId {
     pub class: u64,
@@ -20,7 +21,7 @@ pub(crate) struct PoolId {
     pub number: usize,
 }
 
-/// Adds the entries of a checkpoint of this number to others, and tells where its body ends.
+/// Adds the entries of a checkpoint of this number to others, and says where its body ends.
 pub(crate) fn read_checkpoint(
     chunk: &[u8],
     classes: &Classes,
@@ -51,7 +52,8 @@ pub(crate) fn read_checkpoint(
     Ok(to)
 }
 
-/// How many pools a checkpoint has, and where the first stands.
+/// How many pools a checkpoint has, and the offset of the first. Before the number stand start, duration,
+/// delta and a type byte.
 #[tactic(auto, unfolding(jfr_base::specs::Formats::run))]
 fn pool_count(chunk: &[u8], at: usize, limit: usize) -> Result<Var, Flaw>
     requires order { at ≤ limit }
@@ -72,7 +74,7 @@ fn pool_count(chunk: &[u8], at: usize, limit: usize) -> Result<Var, Flaw>
     Ok(count)
 }
 
-/// Adds the entries of so many pools.
+/// Adds the entries of so many pools, and says where they end.
 fn read_pools(
     chunk: &[u8],
     classes: &Classes,
@@ -102,7 +104,7 @@ fn read_pools(
     Ok(to)
 }
 
-/// Adds the entries of a pool of this number.
+/// Adds the entries of a pool of this number, and says where it ends. Its class has to be known.
 fn read_pool(
     chunk: &[u8],
     classes: &Classes,
@@ -140,7 +142,7 @@ fn is_known(classes: &Classes, class: u64) -> bool
     classes.find(class).is_some()
 }
 
-/// Adds so many entries of a pool.
+/// Adds so many entries of a pool, and says where they end.
 fn read_entries(
     chunk: &[u8],
     classes: &Classes,
@@ -165,7 +167,7 @@ fn read_entries(
     Ok(to)
 }
 
-/// The entry that stands there.
+/// The entry that begins at the offset `at`: its key, and its value.
 fn read_entry(
     chunk: &[u8],
     classes: &Classes,

@@ -1,4 +1,4 @@
-// The numbers of the entries in force of small classes, by class and key.
+// The numbers of the entries in force of classes with small ids: direct tables by class and key.
 ghost use Rattle.std.specs.Prelude.{◌≡◌, ◌+◌, ◌<◌, ◌≤◌, ◌^◌, [], ◌∷◌, ◌++◌, length, IfOk};
 
 use crate::EntryAt;
@@ -6,33 +6,33 @@ use crate::row::Row;
 use jfr_base::NoMemory;
 use std::alloc::Global;
 
-// Classes below this may have a row.
+// Classes with ids below this may have a row.
 const ROWS: u64 = 4096;
 
-// So many of them have a row in any case.
+// So many of them have a row whatever the entries are, though it may be one without keys.
 const FEW: usize = 1024;
 
-// All rows of a chunk may have so many places in any case.
+// How many counts all rows of a chunk together may have, whatever the number of entries.
 const PLACES: usize = 65_536;
 
-// And so many more for each entry.
+// How many more for each entry.
 const MORE: usize = 4;
 
-/// The keys above 0 of a class.
+/// The least and the greatest key above 0 of a class.
 #[derive(Clone, Copy)]
 struct KeyRange {
     least: u64,
     greatest: u64,
 }
 
+// A class without keys above 0.
 const NO_KEYS: KeyRange = KeyRange {
     least: u64::MAX,
     greatest: 0,
 };
 
 impl KeyRange {
-    /// How many places the keys take from the least to the greatest: 0 where there are no keys, and
-    /// where that is more than so many.
+    /// How many keys there are from the least to the greatest: 0 where there are none, or more than `most`.
     fn places(self, most: usize) -> usize
         ensures { result ≤ most }
     {
@@ -43,10 +43,11 @@ impl KeyRange {
     }
 }
 
-/// The numbers of the entries in force of small classes, in a row for each: how many entries there are
-/// up to the one in force, and 0 where there is none.
+/// For each class with a small id a row. For a class and key it has the number of the entry in force plus
+/// 1, or 0 where there is no entry; a key that the row doesn't have is in the index.
 #[derive(Drop)]
 pub(crate) struct Counts {
+    /// The rows, by the class's id.
     pub rows: Vec<Row>,
 }
 
@@ -68,7 +69,7 @@ impl Counts {
         Ok(counts)
     }
 
-    /// What stands at the place of a class and a key; `None` exactly where they have none.
+    /// The count of a class and key; `None` exactly where no row has them.
     #[inline(always)]
     pub fn count(&self, class: u64, key: u64) -> Option<u32>
         ensures { result ≡ count_at self.now.rows.items (class, key) }
@@ -79,7 +80,8 @@ impl Counts {
         row.count(key)
     }
 
-    /// The rows of no entries, with places for these keys, as far as so many reach.
+    /// The rows of no entries, for the keys of these ranges, as far as `places` counts in all are enough; a
+    /// class for which they aren't has a row for key 0 alone.
     fn empty(alloc: Global, ranges: &[KeyRange], places: usize) -> Result<Counts, NoMemory>
         ensures { IfOk result (λ counts. AreCounts counts []) }
     {
@@ -93,7 +95,7 @@ impl Counts {
         Ok(Counts { rows })
     }
 
-    /// Puts in the next entry, which has this number, where it has a place.
+    /// Counts in the next entry, which has this number, where a row has its class and key.
     fn put(&mut self, entry: &EntryAt, number: usize)
         requires { number + 1 < 2 ^ 32 }
         ensures { (es : List EntryAt) → AreCounts self.old es → length es ≡ number → AreCounts self.new (es ++ entry.now ∷ []) }
@@ -106,7 +108,7 @@ impl Counts {
     }
 }
 
-/// The keys of each class, up to the largest that may have a row.
+/// The range of keys of each class, up to the largest id that may have a row.
 fn key_ranges(alloc: Global, entries: &[EntryAt]) -> Result<Vec<KeyRange>, NoMemory> {
     let mut ranges = vec![in alloc; NO_KEYS; FEW]?;
     for entry in entries {
@@ -117,7 +119,7 @@ fn key_ranges(alloc: Global, entries: &[EntryAt]) -> Result<Vec<KeyRange>, NoMem
     Ok(ranges)
 }
 
-/// Notes a key of a class.
+/// Widens the range of a class by a key.
 fn note(ranges: &mut Vec<KeyRange>, class: usize, key: u64) -> Result<(), NoMemory>
     requires { class < 2 ^ 32 }
 {

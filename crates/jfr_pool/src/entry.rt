@@ -1,15 +1,21 @@
 // One entry of a constant pool.
 
-/// An entry: the class of its pool, its key, where the key and the value stand and where the value
-/// ends, and the numbers of its checkpoint, by the chain in file order, and of its pool in the
-/// checkpoint, both from 0.
+/// An entry of a constant pool where it stands: its value is a constant. Offsets count from the chunk's
+/// first byte.
 #[derive(Clone, Copy, Debug, PartialEq, Eq)]
 pub struct EntryAt {
+    /// The class of its pool.
     pub class: u64,
+    /// The key by which values refer to it.
     pub key: u64,
+    /// The offset of the key.
     pub key_at: usize,
+    /// The offset of the value, which stands behind the key.
     pub value_at: usize,
+    /// The offset after the value.
     pub end: usize,
+    /// The number of its checkpoint in the chain, from 0, in the order of the file.
     pub checkpoint: usize,
+    /// The number of its pool in the checkpoint, from 0.
     pub pool: usize,
 }

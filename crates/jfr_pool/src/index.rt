@@ -1,4 +1,4 @@
-// The numbers of the entries in force that have no place in a row, by class and key.
+// The numbers of the entries in force that no row of `Counts` has, by class and key: a hash table.
 ghost use Rattle.std.specs.Prelude.{None, ◌≡◌, false, ◌+◌, ◌-◌, ◌<◌, ◌≤◌, ◌^◌, [], ◌∷◌, ◌++◌, length, vec_len, IfOk, IfSome, IsTrue, OnOk};
 ghost use Rattle.jfr_pool.specs.declared.index.TheConstants.{REACH};
 
@@ -8,20 +8,20 @@ use jfr_base::NoMemory;
 use std::alloc::Global;
 use std::collections::BTreeMap;
 
-// A class and key stand in one of so many slots, from their home on.
+// A class and key stand in one of so many slots, of which their home is the first.
 const REACH: usize = 8;
 
-// Classes below this may stand in a slot.
+// Classes with ids below this may stand in a slot.
 const CLASSES: u64 = 1 << 32;
 
-// A class is laid over a key from this bit on, where few keys have any.
+// The bits of a class are mixed into a key's from this one on, where few keys have any.
 const CLASS_AT: u32 = 48;
 
-// By this odd number the two are mixed.
+// The two are mixed by multiplying with this odd number.
 const MIX: u64 = 0x94D0_49BB_1331_11EB;
 
-/// A class and key, and how many entries there are up to the one in force; none where the slot is
-/// empty.
+/// A slot of the hash table: a class and key, and the number of the entry in force plus 1; 0 where the slot
+/// is empty.
 #[derive(Clone, Copy)]
 pub(crate) struct Slot {
     pub key: u64,
@@ -49,7 +49,7 @@ impl Slot {
         self.count == 0 || self.is_of(class, key)
     }
 
-    /// The number of the entry in force.
+    /// The number of the entry in force; `None` exactly where the slot is empty.
     #[inline(always)]
     fn number(&self) -> Option<usize>
         ensures { result ≡ number_in self.now }
@@ -58,11 +58,14 @@ impl Slot {
     }
 }
 
-/// The numbers of the entries in force for the classes and keys that have no place in a row. A class and key stand in the first slot, from their home on,
-/// that was open to them; and among the others where none within reach was, or the class is too large.
+/// The numbers of the entries in force for the classes and keys that no row has. A class and key stand in
+/// the first slot, from their home on, that was open to them; and in the map of the others where none
+/// within reach was, or the class's id is too large for a slot.
 #[derive(Drop)]
 pub(crate) struct Index {
+    /// The hash table.
     pub slots: Vec<Slot>,
+    /// The numbers for classes and keys that stand in no slot.
     pub others: BTreeMap<(u64, u64), usize>,
     ghost homes: { REACH < vec_len slots },
 }
@@ -73,7 +76,7 @@ impl Index {
     ghost use Rattle.jfr_pool.specs.declared.row.Row.{Row};
     ghost use Rattle.jfr_pool.specs.Index.{Indexes, held, home, is_open, number_at, number_of, seat, seat_from, slot_at};
 
-    /// The index of the entries that have no place in the rows.
+    /// The index of the entries that the rows don't have.
     pub fn of(alloc: Global, entries: &[EntryAt], counts: &Counts) -> Result<Index, NoMemory>
         requires { length entries.now < 2 ^ 32 }
         ensures { IfOk result (λ index. Indexes counts.now.rows.items index entries.now) }
@@ -85,8 +88,8 @@ impl Index {
         Ok(index)
     }
 
-    /// The number of the entry in force for a class and a key; `None` exactly where there is none.
-    /// Most stand in their home, or nothing does.
+    /// The number of the entry in force for a class and a key that no row has; `None` exactly where there
+    /// is none. Mostly they stand in their home, or nothing does.
     #[inline(never)]
     pub fn number(&self, class: u64, key: u64) -> Option<usize>
         ensures { result ≡ number_of self.now (class, key) }
@@ -102,7 +105,8 @@ impl Index {
         self.number_past(home, class, key)
     }
 
-    /// The number of a class and a key whose home slot another pair took.
+    /// The number for a class and a key whose home another pair took, or whose class has an id too large
+    /// for a slot.
     #[inline(never)]
     fn number_past(&self, place: usize, class: u64, key: u64) -> Option<usize>
         requires home { place ≡ home self.now.slots.items (class, key) }
@@ -119,7 +123,7 @@ impl Index {
         }
     }
 
-    /// The number of a class and a key that stand in no slot of the table.
+    /// The number for a class and a key that stand in no slot.
     #[cold]
     fn other_number(&self, class: u64, key: u64) -> Option<usize>
         ensures { result ≡ number_at self.now (class, key) None }
@@ -127,7 +131,7 @@ impl Index {
         self.others.get(&(class, key)).copied()
     }
 
-    /// The index of no entries, with room for so many.
+    /// The index of no entries, with slots for so many: two for each, and the reach behind the last home.
     fn new(alloc: Global, count: usize) -> Result<Index, NoMemory>
         ensures { IfOk result (λ index. (rows : List Row) → Indexes rows index []) }
     {
@@ -144,7 +148,7 @@ impl Index {
         })
     }
 
-    /// Takes the next entry, which has this number, where it has no place in the rows.
+    /// Takes the next entry, which has this number, where the rows don't have it.
     fn take(&mut self, entry: &EntryAt, number: usize, counts: &Counts) -> Result<(), NoMemory>
         requires { number + 1 < 2 ^ 32 }
         ensures { OnOk result ((es : List EntryAt) → Indexes counts.now.rows.items self.old es → length es ≡ number → Indexes counts.now.rows.items self.new (es ++ entry.now ∷ [])) }
@@ -176,7 +180,7 @@ impl Index {
         Ok(())
     }
 
-    /// The place of the first slot that is open to a class and key, of those within reach.
+    /// The number of the first slot within reach that is open to a class and key.
     fn seat(&self, class: u64, key: u64) -> Option<usize>
         ensures exact { result ≡ seat self.now.slots.items (class, key) }
         ensures within { IfSome result (λ place. (place < vec_len self.now.slots) × (class < 2 ^ 32)) }
@@ -188,7 +192,7 @@ impl Index {
         self.first_open(home, home + REACH, class, key)
     }
 
-    /// The place of the first slot that is open to a class and key, from one place up to another.
+    /// The number of the first slot that is open to a class and key, from one number up to another.
     #[inline(always)]
     fn first_open(&self, from: usize, end: usize, class: u64, key: u64) -> Option<usize>
         requires { end ≤ vec_len self.now.slots }
@@ -203,7 +207,7 @@ impl Index {
         None
     }
 
-    /// The place of the first slot in which a class and key may stand.
+    /// The number of the first slot in which a class and key may stand.
     #[inline(always)]
     #[tactic(auto, unfolding(crate::specs::Index::home))]
     fn home(&self, class: u64, key: u64) -> usize
@@ -216,7 +220,7 @@ impl Index {
     }
 }
 
-/// How many entries have no place in the rows.
+/// How many entries the rows don't have.
 fn count_without_place(entries: &[EntryAt], counts: &Counts) -> usize
     ensures { result ≤ length entries.now }
 {

@@ -1,4 +1,5 @@
-//! Constant pools: the chain of checkpoints, their entries, and which entry is in force.
+//! Constant pools (FORMAT.md, Constant pools): the chain of checkpoints, their entries, and which entry is
+//! in force.
 //!
 //! `Chain::read` follows the chain from the newest checkpoint on, and `Pools::read` reads the entries
 //! of its checkpoints. Read `specs/Chains.antt` first, and then `specs/Entries.antt`.

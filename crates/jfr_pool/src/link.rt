@@ -2,12 +2,15 @@
 
 use jfr_frame::Framed;
 
-/// A chained checkpoint: its record, where its delta stands and ends, and the delta, which leads to
-/// the earlier checkpoint; 0 in the oldest.
+/// A checkpoint of the chain. Offsets count from the chunk's first byte.
 #[derive(Clone, Copy, Debug, PartialEq, Eq)]
 pub struct Link {
+    /// Its record.
     pub frame: Framed,
+    /// The offset of its delta.
     pub delta_at: usize,
+    /// The offset after its delta.
     pub delta_end: usize,
+    /// How many bytes from here the earlier checkpoint of the chain starts: negative, or 0 in the oldest.
     pub delta: i64,
 }

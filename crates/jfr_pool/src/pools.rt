@@ -13,7 +13,8 @@ use jfr_layout::Classes;
 use std::alloc::Global;
 use std::marker::Model;
 
-/// The entries of the chained checkpoints, in the order of the file.
+/// The entries of the chained checkpoints, in the order of the file, and which of them is in force for a
+/// class and key.
 #[derive(Drop)]
 pub struct Pools {
     entries: Vec<EntryAt>,
@@ -35,10 +36,11 @@ impl Model for Pools {
 }
 
 impl Pools {
-    /// Reads the entries of the chained checkpoints, the oldest first. They are refused, at the first
-    /// fault in the order of the file, as `Short`, `StringKind` or `PoolType`, and as `Trailing` where
-    /// a checkpoint has bytes behind its last pool. `Memory` where memory is wanting, and for 2 ^ 32 entries or
-    /// more, which only bytes of 4 GiB or more can have.
+    /// Reads the entries of the chained checkpoints, the oldest first. They are refused at the first flaw
+    /// in the order of the file: `Short` or `StringKind` in a checkpoint's numbers or values, `PoolType`
+    /// where a pool's class isn't known, `Trailing` where a checkpoint has bytes behind its last pool.
+    /// `Memory` where memory is wanting, and for 2^32 entries or more, which only a chunk of 4 GiB or more
+    /// can have.
     pub fn read(
         alloc: Global,
         chunk: &[u8],

@@ -1,22 +1,25 @@
-// The row of a class: what stands for each of its keys.
+// The row of a class: a count for each key of a range.
 ghost use Rattle.std.specs.Prelude.{◌≡◌, ◌≢◌, ℕ, option_map, replicate, IfOk};
 
 use jfr_base::NoMemory;
 use std::alloc::Global;
 
-/// The row of a class: a count for the key 0, and one for each key from the first on, up to the row's end.
-/// The others have none.
+/// The row of a class: a count for the key 0, and one for each key of a range that begins at `first`. Other
+/// keys have none.
 #[derive(Drop)]
 pub(crate) struct Row {
+    /// The first key of the range.
     pub first: u64,
+    /// The count of the key 0.
     pub zero: u32,
+    /// The counts of the range's keys, in order.
     pub counts: Vec<u32>,
 }
 
 impl Row {
     ghost use Rattle.jfr_pool.specs.Counts.{in_row};
 
-    /// A row of zeros, with places for so many keys from the first on.
+    /// A row of zeros for so many keys from `first` on, and for the key 0.
     pub fn of(alloc: Global, first: u64, places: usize) -> Result<Row, NoMemory>
         ensures { IfOk result (λ row. (row.first ≡ first) × (row.zero ≡ 0) × (row.counts.items ≡ replicate places 0)) }
     {
@@ -27,7 +30,7 @@ impl Row {
         })
     }
 
-    /// What stands for a key; `None` exactly where it has no place.
+    /// The count of a key; `None` exactly where the row hasn't the key.
     #[inline(always)]
     pub fn count(&self, key: u64) -> Option<u32>
         ensures { result ≡ in_row key self.now }
@@ -39,7 +42,7 @@ impl Row {
         }
     }
 
-    /// Puts a count in a key's place, if it has one.
+    /// Sets the count of a key, if the row has the key.
     pub fn put(&mut self, key: u64, count: u32)
         ensures here { in_row key self.new ≡ option_map (λ _. count) (in_row key self.old) }
         ensures others { (other : ℕ) → other ≢ key → in_row other self.new ≡ in_row other self.old }

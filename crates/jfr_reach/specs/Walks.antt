@@ -14,7 +14,7 @@ pub record Puts (numbers : List ℕ) (old new : Worklist) : Type 0 where
   pub marks : new.flags.items ≡ marked_at old.flags.items numbers
   pub order : new.order.items ≡ ordered_all old.flags.items old.order.items numbers
 
--- The event of a number, where its flag keeps it.
+-- The event of a number, where the flag of that number says that it is kept.
 abbrev pub kept_at : List Bool → List EventAt → ℕ → Option EventAt
 kept_at flags es i = option_and_then (λ keep. if keep then slice_get es i else None) (slice_get flags i)
 

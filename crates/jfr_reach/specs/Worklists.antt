@@ -1,4 +1,4 @@
--- Numbers that are marked, and the order in which they were.
+-- Numbers that are marked, and the order in which they were marked.
 use Rattle.std.specs.Prelude.{ℕ, suc, Bool, true, false, List, [], ◌∷◌, ◌++◌, slice_set, if◌then◌else◌}
 use Rattle.jfr_chunk.specs.Reach.{is_marked}
 
@@ -12,7 +12,7 @@ marked_count (false ∷ marks) = marked_count marks
 abbrev pub ordered : List Bool → List ℕ → ℕ → List ℕ
 ordered marks order i = if is_marked marks i then order else order ++ (i ∷ [])
 
--- So do these numbers, each of which is marked then.
+-- The order after these numbers one by one, each of which is marked as it joins.
 abbrev pub ordered_all : List Bool → List ℕ → List ℕ → List ℕ
 ordered_all marks order [] = order
 ordered_all marks order (i ∷ is) = ordered_all (slice_set marks i true) (ordered marks order i) is

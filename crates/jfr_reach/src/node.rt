@@ -21,7 +21,7 @@ impl Visit<Pools> for Worklist {
 
     ghost takes = { λ pools target old new. Puts (those (number_in_force pools) (target ∷ [])) old new };
 
-    /// Marks the entry in force to which a target refers, where there is one.
+    /// Marks the entry in force of a class and key, where there is one.
     #[inline]
     fn visit(&mut self, pools: &Pools, class: u64, key: u64) {
         if let Some(number) = pools.entry(class, key) {

@@ -29,7 +29,7 @@ pub(crate) fn put_roots<L: Ledger>(
     put_events(list, chunk, kept, steps);
 }
 
-/// Puts what the kept events refer to on the list, one event after another.
+/// Marks the entries in force to which the kept events refer, one event after another.
 fn put_events<L: Ledger>(list: &mut Worklist, chunk: &Chunk<'_>, kept: &Kept, steps: &mut Steps<L>)
     requires size { length list.old.flags.items ≡ length chunk.now.entries }
     requires parts { AreParts chunk.now }

@@ -1,22 +1,25 @@
-// Numbers that are marked, and the order in which they were.
+// Numbers that are marked, and the order in which they were marked.
 ghost use Rattle.std.specs.Prelude.{◌≡◌, ◌+◌, ◌<◌, ◌≤◌, [], ◌∷◌, ◌++◌, false, true, length, replicate, slice_set, vec_len, vec_capacity, IfOk};
 ghost use Rattle.jfr_reach.specs.Worklists.{marked_count, ordered};
 
 use jfr_base::NoMemory;
 use std::alloc::Global;
 
-/// Marks at numbers, and the marked numbers in the order of marking, each once. There is room for all
-/// of them, and those from a place of the order on are the ones that are still to be walked.
+/// Marks at numbers, and the marked numbers in the order of marking, each once. The memory for all of them
+/// is there from the start. The walk keeps how far it has come in this order: what stands behind is still
+/// to be walked.
 #[derive(Drop)]
 pub(crate) struct Worklist {
+    /// For each number whether it is marked.
     pub flags: Vec<bool>,
+    /// The marked numbers, in the order of marking.
     pub order: Vec<usize>,
     ghost room: { length flags.items ≤ vec_capacity order },
     ghost each: { vec_len order ≡ marked_count flags.items },
 }
 
 impl Worklist {
-    /// So many numbers, of which none is marked.
+    /// So many numbers, from 0, of which none is marked. All memory is taken here.
     pub fn new(alloc: Global, count: usize) -> Result<Worklist, NoMemory>
         ensures { IfOk result (λ list. list.flags.items ≡ replicate count false) }
     {
@@ -39,7 +42,7 @@ impl Worklist {
     }
 }
 
-/// A push where there is room.
+/// A push where there is capacity, which can't fail.
 fn push_within(list: &mut Vec<usize>, number: usize)
     requires { vec_len list.old < vec_capacity list.old }
     ensures items { list.new.items ≡ list.old.items ++ number ∷ [] }

@@ -8,7 +8,7 @@ use Rattle.jfr_text.specs.declared.span.StringKind.{StringKind}
 use Rattle.jfr_text.specs.declared.span.StringKind.TheVariants as kinds
 use Rattle.jfr_text.specs.Strings.{Content, Null, Empty, Key, Utf8, Units, Latin, SpellAll}
 
--- So many integers from the front of the bytes, as far as they stand one after another.
+-- The values of so many integers from the front of the bytes, as far as they stand one after another.
 unfoldable pub first_integers : ℕ → List ℕ → List ℕ
 first_integers zero bytes = []
 first_integers (suc n) bytes = option_map_or (λ v. v.value ∷ first_integers n (drop v.end bytes)) (int_at bytes 0 (length bytes)) []
@@ -17,7 +17,8 @@ first_integers (suc n) bytes = option_map_or (λ v. v.value ∷ first_integers n
 abbrev pub AreShort : List ℕ → ℕ → ℕ → Type 0
 AreShort bytes from to = (place : ℕ) → from ≤ place → place < to → slice_index bytes place < 128
 
--- A string of short characters stands from one place up to another: its kind byte is 4, its count has one byte, and so has each of its integers.
+-- A string of kind 4 in short integers stands from one place up to another: its count has one byte, and so
+-- has each of its integers.
 pub record IsShortUnits (bytes : List ℕ) (at to : ℕ) : Type 0 where
   pub kind : slice_index bytes at ≡ 4
   pub count : slice_index bytes (at + 1) < 128
@@ -33,11 +34,12 @@ content_by kinds.Utf8 span = Utf8 span.payload.now
 content_by kinds.Units span = Units (first_integers span.count span.payload.now)
 content_by kinds.Latin span = Latin span.payload.now
 
+-- What a string holds, by the span of it.
 abbrev pub content_of : StringSpan → Content
 content_of span = content_by span.kind span
 
--- The payload is what the count says: so many bytes, or the spellings of so many integers. Where there is no count it is
--- empty, and where there is no key the key is 0.
+-- The payload is what the count says: so many bytes, or the spellings of so many integers. Where there is
+-- no count it is empty, and where there is no key the key is 0.
 abbrev pub CountsPayload : StringKind → StringSpan → Type 0
 CountsPayload kinds.Null span = (span.payload.now ≡ []) × (span.count ≡ 0) × (span.key ≡ 0)
 CountsPayload kinds.Empty span = (span.payload.now ≡ []) × (span.count ≡ 0) × (span.key ≡ 0)
@@ -46,7 +48,8 @@ CountsPayload kinds.Utf8 span = (length span.payload.now ≡ span.count) × (spa
 CountsPayload kinds.Units span = (integers : List ℕ) × SpellAll span.payload.now integers × (length integers ≡ span.count) × (span.key ≡ 0)
 CountsPayload kinds.Latin span = (length span.payload.now ≡ span.count) × (span.key ≡ 0)
 
--- The span is of the string that begins at a place of some bytes, and its payload is the last of the string's bytes.
+-- The span is of the string that begins at a place of some bytes, and its payload is the last of the
+-- string's bytes.
 pub record IsSpanAt (bytes : List ℕ) (at : ℕ) (span : StringSpan) : Type 0 where
   pub begins : span.at ≡ at
   pub counted : CountsPayload span.kind span

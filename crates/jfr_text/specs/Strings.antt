@@ -7,8 +7,9 @@ use Rattle.jfr_base.specs.Formats.{Format, Done, Int, Byte, Run, times, ◌>>=�
 use Rattle.jfr_base.specs.declared.reason.Reason.{Reason}
 use Rattle.jfr_base.specs.declared.reason.Reason.TheVariants.{StringKind}
 
--- What a string holds: nothing, no characters, a key into the pool of its class, or what spells its text: bytes that
--- should be UTF-8, integers whose low 16 bits are a unit of UTF-16, or bytes that are each a character.
+-- What a string holds: nothing, no characters, a key into the pool of its class, or what spells its text:
+-- bytes that should be UTF-8, integers whose low 16 bits are a unit of UTF-16, or bytes that are each a
+-- character.
 pub data Content : Type 0 where
   Null : Content
   Empty : Content
@@ -26,8 +27,8 @@ SpellAll bytes (v ∷ vs) = (front rest : List ℕ) × (bytes ≡ front ++ rest)
 abbrev pub Counted : List ℕ → ℕ → (List ℕ → Type 0) → Type 0
 Counted bytes n P = (front rest : List ℕ) × (bytes ≡ front ++ rest) × Spells front n × P rest
 
--- The kind byte says what follows it: nothing for 0 and 1, a key for 2, a length and so many bytes for 3 and 5, a count
--- and so many integers for 4.
+-- The kind byte says what follows it: nothing for 0 and 1, a key for 2, a length and so many bytes for 3
+-- and 5, a count and so many integers for 4.
 abbrev pub IsBody : Content → ℕ → List ℕ → Type 0
 IsBody Null kind rest = (kind ≡ 0) × (rest ≡ [])
 IsBody Empty kind rest = (kind ≡ 1) × (rest ≡ [])
@@ -45,8 +46,9 @@ IsString (kind ∷ rest) content = IsBody content kind rest
 abbrev pub low_units : List ℕ → List ℕ
 low_units integers = map (λ v. v % 2 ^ 16) integers
 
--- A null string and a key have no text, and the empty string has no characters. Bytes that are no UTF-8 read as U+FFFD,
--- and so does a surrogate without its partner. A byte of Latin-1 is the character of its number.
+-- A null string and a key have no text, and the empty string has no characters. Bytes that are no UTF-8
+-- read as U+FFFD, and so does a surrogate without its partner. A byte of Latin-1 is the character of its
+-- number.
 abbrev pub text_of : Content → Option (List ℕ)
 text_of Null = None
 text_of Empty = Some []
@@ -59,10 +61,11 @@ text_of (Latin bytes) = Some bytes
 abbrev pub kind_fault : Bool → ℕ → Option Reason
 kind_fault keyed kind = if nat_lt 5 kind then Some StringKind else if keyed then None else if kind == 2 then Some StringKind else None
 
--- A length and so many bytes, and a count and so many integers.
+-- The format of a length and so many bytes.
 abbrev pub counted_bytes : Format (List ℕ)
 counted_bytes = Int unchecked (λ n spelled. Run n (λ bytes. Done bytes))
 
+-- The format of a count and so many integers.
 abbrev pub counted_integers : Format (List ℕ)
 counted_integers = Int unchecked (λ n spelled. times n integer)
 

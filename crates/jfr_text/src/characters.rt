@@ -11,7 +11,7 @@ use bstr::ByteSlice;
 use std::marker::Model;
 use std::slice;
 
-/// The characters that are left. Contracts see them as a list.
+/// The characters of a string's text that are left, as an iterator. Contracts see them as a list.
 #[derive(Drop)]
 pub struct Characters<'a> {
     source: Source<'a>,
@@ -36,7 +36,8 @@ impl<'a> Model for Characters<'a> {
 }
 
 impl<'a> Characters<'a> {
-    /// The characters of the string's text; none exactly for the null string and a key.
+    /// The characters of the string's text; `None` exactly for the null string and a key. It takes no
+    /// memory.
     pub fn of(span: &StringSpan<'a>) -> Option<Characters<'a>>
         ensures { result ≡ text_of (content_of span.now) }
     {

@@ -1,8 +1,9 @@
 //! Strings of six kinds, and their texts.
 //!
-//! `read_string` reads a string where it stands, `text_of` makes its text, `Characters` hands out the
-//! characters of it one by one, and `same_text` compares it with a text; these two make none. Read `specs/Strings.antt` first: how a string is spelled, and which
-//! text it has; then `specs/Spans.antt`: what a span of the bytes holds.
+//! `read_string` reads a string where it stands (FORMAT.md, Strings), and `text_of` makes its text. Without
+//! making it, `Characters` hands out the text's characters one by one, and `same_text` compares it with
+//! another text. Read `specs/Strings.antt` first: how a string is spelled, and which text it has; then
+//! `specs/Spans.antt`: what a span of the bytes holds.
 #![tactic(auto)]
 
 mod characters;

@@ -8,10 +8,10 @@ ghost use Rattle.jfr_text.specs.Strings.{Key, Units, SpellAll, IsString, kind_fa
 use crate::{StringKind, StringSpan};
 use jfr_base::{Flaw, Reason, read_within};
 
-/// The top bits of eight bytes.
+/// A word with the top bit of each of its eight bytes set.
 const TOP_BITS: u64 = 0x8080_8080_8080_8080;
 
-/// Reads the string that begins at a place and ends by `end`: a kind byte, and what follows it. The
+/// Reads the string that begins at the offset `at` and ends by `end`: a kind byte, and what follows it. The
 /// flaw is `Short` at the kind byte, the integer or the run of bytes that doesn't end by `end`, or
 /// `StringKind` at a kind byte above 5.
 #[inline(always)]
@@ -39,7 +39,8 @@ pub fn read_string<'a>(bytes: &'a [u8], at: usize, end: usize) -> Result<StringS
     read_kind(bytes[at], bytes, at, end)
 }
 
-/// Whether the string that begins at a place is its kind byte alone: the null string, or the empty one.
+/// Whether the string that begins at the offset `at` is its kind byte alone: the null string, or the empty
+/// one.
 #[inline(always)]
 pub fn is_bare(bytes: &[u8], at: usize, end: usize) -> bool
     requires order { at ≤ end }
@@ -51,7 +52,8 @@ pub fn is_bare(bytes: &[u8], at: usize, end: usize) -> bool
     at < end && bytes[at] < 2
 }
 
-/// Whether the string that begins at a place is a key, which is the integer behind its kind byte.
+/// Whether the string that begins at the offset `at` is a key. Then the key is the integer behind the kind
+/// byte, which isn't read here.
 #[inline(always)]
 pub fn is_key(bytes: &[u8], at: usize, end: usize) -> bool
     requires order { at ≤ end }
@@ -63,8 +65,9 @@ pub fn is_key(bytes: &[u8], at: usize, end: usize) -> bool
     at < end && bytes[at] == 2
 }
 
-/// Where the string that begins at a place ends, if it is one of short characters: its kind byte is 4,
-/// its count has one byte, and so has each of its integers. `None` also where it doesn't end by `end`.
+/// Where the string ends that begins at the offset `at`, if it is UTF-16 in short integers: its kind byte
+/// is 4, its count has one byte, and so has each of its integers. `None` also where it doesn't end by
+/// `end`.
 #[inline(never)]
 pub fn short_units_end(bytes: &[u8], at: usize, end: usize) -> Option<usize>
     requires order { at ≤ end }
@@ -90,7 +93,7 @@ pub fn short_units_end(bytes: &[u8], at: usize, end: usize) -> Option<usize>
     }
 }
 
-/// Reads what follows the kind byte at a place.
+/// Reads what follows the kind byte at an offset.
 #[inline(always)]
 fn read_kind<'a>(kind: u8, bytes: &'a [u8], at: usize, end: usize) -> Result<StringSpan<'a>, Flaw>
     requires order { at < end }
@@ -139,7 +142,7 @@ fn bare<'a>(kind: StringKind, at: usize) -> StringSpan<'a>
     }
 }
 
-/// A count, what it counts, and the place after that.
+/// A length or a count, what it counts, and the offset after that.
 #[derive(Clone, Copy)]
 struct Counted<'a> {
     count: u64,
@@ -209,7 +212,7 @@ fn read_integers<'a>(bytes: &'a [u8], at: usize, end: usize) -> Result<Counted<'
     })
 }
 
-/// The place after so many integers. In most strings each has one byte.
+/// The offset after so many integers. In most strings each has one byte.
 fn skip_integers(count: u64, bytes: &[u8], at: usize, end: usize) -> Result<usize, Flaw>
     requires order { at ≤ end }
     requires within { end ≤ length bytes.now }
@@ -220,8 +223,8 @@ fn skip_integers(count: u64, bytes: &[u8], at: usize, end: usize) -> Result<usiz
     skip_each_integer(count - (from - at) as u64, bytes, from, end)
 }
 
-/// The place after the integers of one byte at the front of so many: where the first longer one
-/// stands, the end, or behind them all.
+/// The offset after the integers of one byte at the front of so many: that of the first longer one, the
+/// end, or behind them all.
 #[inline(always)]
 fn skip_short_integers(count: u64, bytes: &[u8], at: usize, end: usize) -> usize
     requires order { at ≤ end }
@@ -235,9 +238,8 @@ fn skip_short_integers(count: u64, bytes: &[u8], at: usize, end: usize) -> usize
     skip_short_bytes(bytes, from, to)
 }
 
-/// Whether the bytes from one place up to another are integers of one byte each. Where there are
-/// eight or more, the last eight are tested as a group too, which covers what the groups from the
-/// front leave.
+/// Whether the bytes from one offset up to another are integers of one byte each. Where there are eight or
+/// more, the last eight are tested as a group too, which covers what the groups from the front leave.
 #[inline(always)]
 fn are_short(bytes: &[u8], from: usize, to: usize) -> bool
     requires order { from ≤ to }
@@ -251,7 +253,7 @@ fn are_short(bytes: &[u8], from: usize, to: usize) -> bool
     to - rest < 8 && are_eight_short(bytes, to - 8)
 }
 
-/// The place after the integers of one byte at the front, as far as they come in eights.
+/// The offset after the integers of one byte at the front, as far as they come in eights.
 #[inline(always)]
 fn skip_short_eights(bytes: &[u8], at: usize, end: usize) -> usize
     requires order { at ≤ end }
@@ -267,8 +269,8 @@ fn skip_short_eights(bytes: &[u8], at: usize, end: usize) -> usize
     place
 }
 
-/// Whether the eight bytes from a place on are integers of one byte each. They are tested as one
-/// word, which has none of the top bits then.
+/// Whether the eight bytes from an offset on are integers of one byte each. They are tested as one word,
+/// which has none of the bytes' top bits then.
 #[inline(always)]
 fn are_eight_short(bytes: &[u8], at: usize) -> bool
     requires { at + 8 ≤ length bytes.now }
@@ -280,7 +282,7 @@ fn are_eight_short(bytes: &[u8], at: usize) -> bool
     u64::from_le_bytes(*eight) & TOP_BITS == 0
 }
 
-/// The place of the first longer integer, or the end.
+/// The offset of the first longer integer, or the end.
 #[inline(always)]
 fn skip_short_bytes(bytes: &[u8], at: usize, end: usize) -> usize
     requires order { at ≤ end }
@@ -297,7 +299,7 @@ fn skip_short_bytes(bytes: &[u8], at: usize, end: usize) -> usize
     end
 }
 
-/// The place after so many integers, one by one.
+/// The offset after so many integers, one by one.
 #[tactic(auto, using(jfr_base::proofs::SeenLaws::ends), unfolding(jfr_base::specs::Formats::run))]
 fn skip_each_integer(count: u64, bytes: &[u8], at: usize, end: usize) -> Result<usize, Flaw>
     requires order { at ≤ end }

@@ -1,6 +1,6 @@
 // A string where it stands.
 
-/// How a string is spelled, by its kind byte from 0 to 5.
+/// How a string is spelled, by its kind byte from 0 to 5, in this order.
 #[derive(Clone, Copy, Debug, PartialEq, Eq)]
 pub enum StringKind {
     /// No string.
@@ -17,17 +17,19 @@ pub enum StringKind {
     Latin,
 }
 
-/// A string in the bytes that it was read from.
+/// A string in the bytes from which it was read.
 #[derive(Clone, Copy, Debug)]
 pub struct StringSpan<'a> {
+    /// How it is spelled.
     pub kind: StringKind,
-    /// Where its kind byte stands, and the place after its last byte.
+    /// The offset of its kind byte.
     pub at: usize,
+    /// The offset after its last byte.
     pub end: usize,
-    /// The bytes after the count, for the kinds that have a count; else none.
+    /// The bytes behind the length or the count, for UTF-8, UTF-16 and Latin-1; else none.
     pub payload: &'a [u8],
-    /// The length or count of the payload; 0 for the other kinds.
+    /// The length in bytes for UTF-8 and Latin-1, how many integers for UTF-16; else 0.
     pub count: u64,
-    /// The key; 0 but for the kind that has one.
+    /// The key, where the kind is one; else 0.
     pub key: u64,
 }

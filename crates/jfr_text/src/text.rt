@@ -9,7 +9,7 @@ use crate::characters::Characters;
 use jfr_base::{NoMemory, Text};
 use std::alloc::Global;
 
-/// The text of a string; none exactly for the null string and for a key. Bytes that are no UTF-8, and
+/// The text of a string; `None` exactly for the null string and for a key. Bytes that are no UTF-8, and
 /// surrogates without their partner, read as U+FFFD.
 pub fn text_of(alloc: Global, span: &StringSpan<'_>) -> Result<Option<Text>, NoMemory>
     ensures ok { IfOk result (λ text. text ≡ text_of (content_of span.now)) }
@@ -39,7 +39,8 @@ fn add(text: &mut String, character: char) -> Result<(), NoMemory>
     Ok(())
 }
 
-/// Whether the string has this text. It makes no text, and takes no memory.
+/// Whether the string has this text; the null string and a key have none. It makes no text, and takes no
+/// memory.
 pub fn same_text(span: &StringSpan<'_>, text: &str) -> bool
     ensures exact { IsTrue result ↔ (text_of (content_of span.now) ≡ Some (chars text.now)) }
 {

@@ -25,6 +25,7 @@ impl<'a> Model for Units<'a> {
 }
 
 impl<'a> Units<'a> {
+    /// The units of so many integers at the front of a payload.
     pub(crate) fn new(payload: &'a [u8], count: u64) -> Units<'a>
         ensures { result ≡ low_units (first_integers count payload.now) }
     {

@@ -27,6 +27,7 @@ impl<'a> Model for Utf16<'a> {
 }
 
 impl<'a> Utf16<'a> {
+    /// The characters of the units in so many integers at the front of a payload.
     pub(crate) fn new(payload: &'a [u8], count: u64) -> Utf16<'a>
         ensures { result ≡ utf16_lossy_chars (low_units (first_integers count payload.now)) }
     {

@@ -18,7 +18,8 @@ use Rattle.jfr_value.specs.Leaves.{leaves, leaf_target}
 abbrev pub AreRead : Classes → Type 0
 AreRead k = (v : Value) → Fits k v ↔ Exactly (value_format k (shape_of v)) (bytes_of v) v
 
--- A value of the shape stands there, or what stands there is refused: one of the two, with one value and one flaw.
+-- A value of the shape stands there, or what stands there is refused: one of the two, with one value and
+-- one flaw.
 pub record HasOneAnswer (k : Classes) (c : List ℕ) (s : Shape) (at end : ℕ) : Type 0 where
   pub some : ((to : ℕ) × (to ≤ end) × EndsAt k c s at to) ⊎ ((flaw : Flaw) × IsRefused k c s at end flaw)
   pub not_both : (to : ℕ) → to ≤ end → EndsAt k c s at to → (flaw : Flaw) → IsRefused k c s at end flaw → ⊥
@@ -57,7 +58,8 @@ pub record ItemsCover (k : Classes) (c : List ℕ) (n : NodeAt) : Type 0 where
   pub counted : int_at c n.at n.end ≡ Some count
   pub cover : Cover k c count.end n.end (replicate count.value (item_of n.shape)) (children k c n)
 
--- the leaves of a node where this value stands: a reference, or a value of a base name, alone; or else those of its children in order, and before them an array's count
+-- the leaves of a node where this value stands: a reference, or a value of a base name, alone; or else
+-- those of its children in order, and before them an array's count
 abbrev pub LeavesInOrder : Classes → List ℕ → NodeAt → Value → Type 0
 LeavesInOrder k c n (Single s kind b key) = leaves k c n ≡ record { kind = kind; class = s.class; at = n.at; spelled = b } ∷ []
 LeavesInOrder k c n (Group s h vs) = leaves k c n ≡ (if s.array then record { kind = leaf_kinds.Count (worth_within 8 h); class = s.class; at = n.at; spelled = h } ∷ [] else []) ++ flat_map (leaves k c) (children k c n)

@@ -17,7 +17,7 @@ pub record LeafAt : Type 0 where
   pub at : ℕ
   pub spelled : List ℕ
 
--- the same of a leaf that the code hands out
+-- a leaf that the code hands out, as a leaf in the chunk
 abbrev pub leaf_of : Leaf → LeafAt
 leaf_of l = record { kind = l.kind; class = l.class; at = l.at; spelled = l.spelled.now }
 

@@ -22,6 +22,7 @@ pub record NodeAt : Type 0 where
 abbrev pub node_at : Shape → ℕ → ℕ → NodeAt
 node_at s at end = record { shape = s; at = at; end = end }
 
+-- the bytes of a node
 abbrev pub node_bytes : List ℕ → NodeAt → List ℕ
 node_bytes c n = slice_range c n.at n.end
 
@@ -33,7 +34,7 @@ pub record IsNode (k : Classes) (c : List ℕ) (n : NodeAt) (v : Value) : Type 0
   pub bytes : node_bytes c n ≡ bytes_of v
   pub fits : Fits k v
 
--- the same of a node that the code hands around
+-- a node that the code hands around, as a node in the chunk
 abbrev pub node_of : Node → NodeAt
 node_of n = node_at n.shape n.at n.end
 
@@ -53,7 +54,8 @@ pub record IsRow (k : Classes) (c : List ℕ) (at to : ℕ) (shapes : List Shape
   pub fit : AllFit k vs
   pub of_shapes : shapes_of vs ≡ shapes
 
--- the units of the value's format before the flaw's place stand, and the one there doesn't, by an end
+-- what begins at a place is refused as a value of the shape: the units of its format before the flaw's
+-- place stand by the end, and the one there doesn't
 abbrev pub IsRefused : Classes → List ℕ → Shape → ℕ → ℕ → Flaw → Type 0
 IsRefused k c s at end flaw = Fails (value_format k s) c end at flaw.offset flaw.reason
 
@@ -96,7 +98,7 @@ child k c n step = picked n.shape (children k c n) step
 abbrev pub target : Classes → List ℕ → NodeAt → Option (ℕ × ℕ)
 target k c n = option_and_then own_target (value_of k c n)
 
--- those that it refers to at any depth, from left to right
+-- the classes and keys that the node refers to at any depth, from left to right
 abbrev pub targets : Classes → List ℕ → NodeAt → List (ℕ × ℕ)
 targets k c n = option_map_or targets_of (value_of k c n) []
 

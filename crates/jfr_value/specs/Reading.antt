@@ -32,9 +32,11 @@ item_format inline s = if s.constant then Int unchecked (λ key spelled. Done (S
 abbrev pub array_format : Format Value → Shape → Format Value
 array_format item s = Int unchecked (λ n spelled. times n item >>= λ vs. Done (Group s spelled (values_of vs)))
 
+-- a value of a shape, where inline values have this format
 abbrev pub shape_format : (Shape → Format Value) → Shape → Format Value
 shape_format inline s = if s.array then array_format (item_format inline (item_of s)) s else item_format inline s
 
+-- the values of fields, one behind another
 abbrev pub fields_format : (Shape → Format Value) → List Field → Format (List Value)
 fields_format inline fields = for_each fields (λ f. shape_format inline f.shape)
 
@@ -43,6 +45,7 @@ abbrev pub kind_format : Kind → Shape → Format (List Value) → Format Value
 kind_format kinds.Composite s fields = fields >>= λ vs. Done (Group s [] (values_of vs))
 kind_format kind s fields = with_bytes [] (base_format kind) (λ key bytes. Done (Single s (leaf_kinds.Base kind) bytes key))
 
+-- an inline value of a class, where the inline values of its fields have this format
 abbrev pub inline_format : (Shape → Format Value) → Shape → Option Class → Format Value
 inline_format inline s None = Refuse UnknownType
 inline_format inline s (Some c) = kind_format (kind_of c.name) s (fields_format inline c.fields)

@@ -1,4 +1,4 @@
--- The frames of a walk that don't lie at hand.
+-- The frames of a walk behind the first six, which have a part of their own.
 use Rattle.std.specs.Prelude.{List, [], Option, Some, None}
 use Rattle.arrayvec.specs.ArrayVec.{ArrayVec}
 use Rattle.jfr_value.specs.declared.stack.Frame.{Frame}

@@ -13,7 +13,8 @@ use Rattle.jfr_value.specs.declared.leaf.LeafKind.TheVariants as leaf_kinds
 
 mutual
   pub data Value : Type 0 where
-    -- a value without parts: what kind of leaf it is, its bytes, and the key of a reference or of a string that is one
+    -- a value without parts: what kind of leaf it is, its bytes, and the key of a reference or of a string
+    -- that is one
     Single : (shape : Shape) (kind : LeafKind) (bytes : List ℕ) (key : Option ℕ) → Value
     -- an array behind its count, or a composite value, of which the head is empty
     Group : (shape : Shape) (head : List ℕ) (parts : Values) → Value
@@ -22,19 +23,22 @@ mutual
     Nil : Values
     Cons : (first : Value) (rest : Values) → Values
 
--- the same as a list, both ways
+-- a list as values
 abbrev pub values_of : List Value → Values
 values_of [] = Nil
 values_of (v ∷ vs) = Cons v (values_of vs)
 
+-- values as a list
 abbrev pub list_of : Values → List Value
 list_of Nil = []
 list_of (Cons v vs) = v ∷ list_of vs
 
+-- the shape of a value
 abbrev pub shape_of : Value → Shape
 shape_of (Single s kind b key) = s
 shape_of (Group s h vs) = s
 
+-- the shapes of values, in order
 abbrev pub shapes_of : Values → List Shape
 shapes_of Nil = []
 shapes_of (Cons v vs) = shape_of v ∷ shapes_of vs
@@ -64,7 +68,7 @@ abbrev pub own_target : Value → Option (ℕ × ℕ)
 own_target (Single s kind b key) = option_map (λ k. (s.class, k)) key
 own_target (Group s h vs) = None
 
--- those that the value and its parts refer to, at any depth, from left to right
+-- the classes and keys that the value and its parts refer to, at any depth, from left to right
 abbrev mutual
   pub targets_of : Value → List (ℕ × ℕ)
   targets_of (Single s kind b None) = []
@@ -103,7 +107,8 @@ IsSingle k s kind b key =
     ((s.array ≡ false) × (s.constant ≡ true) × (n : ℕ) × Spells b n × (kind ≡ leaf_kinds.Key n) × (key ≡ Some n))
     ⊎ ((s.array ≡ false) × (s.constant ≡ false) × (c : Class) × (find_class k s.class ≡ Some c) × (kind ≡ leaf_kinds.Base (kind_of c.name)) × IsBase (kind_of c.name) b key)
 
--- what stands before the parts, and the shapes of these: an array has its count and so many items, a composite value nothing and its fields
+-- what stands before the parts, and the shapes of these: an array has its count and so many items, a
+-- composite value nothing and its fields
 abbrev pub IsHead : Classes → Shape → List ℕ → List Shape → Type 0
 IsHead k s h parts =
     ((s.array ≡ true) × (n : ℕ) × Spells h n × (parts ≡ replicate n (item_of s)))

@@ -15,10 +15,10 @@ TakesAll {A = A} takes (t ∷ ts) old new = (next : A) × takes t old next × Ta
 abbrev pub TakesRead : {A : Type 0} → (ℕ × ℕ → A → A → Type 0) → Answer Value → A → A → Type 0
 TakesRead takes answer old new = IfOk answer (λ got. TakesAll takes (targets_of got.value) old new)
 
--- the same of values that were read one after another
+-- where values were read one after another, what they refer to is taken
 abbrev pub TakesReadAll : {A : Type 0} → (ℕ × ℕ → A → A → Type 0) → Answer (List Value) → A → A → Type 0
 TakesReadAll takes answer old new = IfOk answer (λ got. TakesAll takes (targets_of_all (values_of got.value)) old new)
 
--- the shapes of the fields of the class at a place
+-- the shapes of the fields of the class of an index
 abbrev pub field_shapes : Classes → ℕ → List Shape
 field_shapes k place = option_map_or (λ c. map (λ f. f.shape) c.fields) (slice_get k place) []

@@ -25,12 +25,12 @@ abbrev pub frame_shapes : Classes → Frame → List Shape
 frame_shapes k (Fields place number levels) = option_map_or (λ c. map (λ f. f.shape) (drop number c.fields)) (slice_get k place) []
 frame_shapes k (Items shape place left levels) = replicate left shape
 
--- those of a stack, whose last frame comes first
+-- the shapes of the values that a stack still has; those of its last frame come first
 abbrev pub shapes_left : Classes → List Frame → List Shape
 shapes_left k [] = []
 shapes_left k (f ∷ fs) = shapes_left k fs ++ frame_shapes k f
 
--- where the class stands, if it is known
+-- this is the index of the class of the shape, if the class is known
 abbrev pub IsPlacedIfKnown : Classes → Shape → ℕ → Type 0
 IsPlacedIfKnown k s place = s.constant ≡ false → IsSome (find_class k s.class) → class_place k s.class ≡ Some place
 
@@ -56,7 +56,7 @@ abbrev pub got_values : Answer (List Value) → Values
 got_values (Ok g) = values_of g.value
 got_values (Err e) = Nil
 
--- the same by computing
+-- the values that are left, by computing
 unfoldable pub values_left : Classes → List ℕ → ℕ → Cursor → Values
 values_left k c end cursor = got_values (run (for_each (shapes_left k cursor.stack) (value_format k)) c end cursor.at)
 
@@ -64,7 +64,8 @@ values_left k c end cursor = got_values (run (for_each (shapes_left k cursor.sta
 abbrev pub leaves_left : Classes → List ℕ → ℕ → Cursor → List LeafAt
 leaves_left k c end cursor = leaves_from cursor.at (values_left k c end cursor)
 
--- how many values there are, where one with parts counts twice
+-- how many values there are, of which each with parts counts twice, so that every step of a walk makes the
+-- number smaller
 abbrev mutual
   pub size_of : Value → ℕ
   size_of (Single s kind b key) = 1

@@ -1,6 +1,6 @@
-// The walk over leaves, from one to the next: its caller stops or goes on as it likes (`Leaves`). No command of jfr
-// goes by it; it is for other programs that read values.
-ghost use Rattle.std.specs.Prelude.{◌≡◌, ◌≢◌, ◌⊎◌, ℕ, ◌+◌, ◌*◌, ◌≤◌, ◌<◌, [], ◌∷◌, ◌++◌, length, true, false, Some, if◌then◌else◌, IfSome, MatchOption, slice_get, slice_range};
+// The walk over leaves, from one to the next, so that its caller can stop at any (`Leaves`). No command of
+// jfr uses it; it is for other programs that read values.
+ghost use Rattle.std.specs.Prelude.{◌≡◌, ◌≢◌, ◌⊎◌, ◌+◌, ◌*◌, ◌≤◌, ◌<◌, [], ◌∷◌, ◌++◌, length, true, false, Some, if◌then◌else◌, IfSome, MatchOption, slice_get, slice_range};
 ghost use Rattle.jfr_layout.specs.Classes.{Sound, find_class, kind_of};
 ghost use Rattle.jfr_layout.specs.declared.class.ClassInfo.{ClassInfo};
 ghost use Rattle.jfr_layout.specs.declared.kind.Kind.TheVariants as kinds;
@@ -18,7 +18,7 @@ use crate::{Leaf, LeafKind};
 use jfr_base::read_within;
 use jfr_layout::{Classes, Kind, Shape};
 
-/// Where a walk stands, and what it has left: the last frame comes first.
+/// Where a walk stands, and what it has left: the values of the last frame come first.
 #[derive(Drop)]
 pub(crate) struct Cursor {
     pub(crate) at: usize,
@@ -28,8 +28,11 @@ pub(crate) struct Cursor {
 /// What a step of a walk came to.
 #[derive(Drop)]
 pub(crate) enum Progress<'a> {
+    /// No value is left.
     Ended,
+    /// The walk went on without a leaf: into a value's parts, or out of a frame that is done.
     Onward,
+    /// The next leaf.
     Found(Leaf<'a>),
 }
 
@@ -265,7 +268,7 @@ fn enter_base<'a>(
     Progress::Found(leaf)
 }
 
-/// The leaf from one place to another.
+/// The leaf from one offset up to another.
 fn leaf_to<'a>(bytes: &'a [u8], at: usize, to: usize, kind: LeafKind, class: u64) -> Leaf<'a>
     requires order { at ≤ to }
     requires within { to ≤ length bytes.now }

@@ -1,16 +1,16 @@
-// The walk to a value's end, over bytes of which nothing is known: a value stands there, or it is refused. On the
-// way it hands out what the value refers to. jfr_chunk goes by it over each event (`end_visiting`), jfr_pool over
-// each constant, and jfr_show where it looks for an object's fields (`end_of`).
-ghost use Rattle.std.specs.Prelude.{◌≡◌, ◌⊎◌, ℕ, ◌+◌, ◌≤◌, ◌<◌, length, IfOk, IfErr, Ok, IfSome, IsSome, IsTrue, ◌↔◌, option_map, option_to_list, slice_get, true};
+// The walk to a value's end, over bytes of which nothing is known: a value stands there, or what stands
+// there is refused. On the way it hands out what the value refers to. jfr_chunk uses it for each event
+// (`end_visiting`), jfr_pool for each constant, and jfr_show where it looks for an object's fields
+// (`end_of`).
+ghost use Rattle.std.specs.Prelude.{◌≡◌, ◌⊎◌, ℕ, ◌+◌, ◌≤◌, ◌<◌, length, IfOk, IfErr, Ok, IfSome, IsSome, IsTrue, ◌↔◌, slice_get, true};
 ghost use Rattle.std.specs.List.{AllByRecursion};
-ghost use Rattle.jfr_base.specs.Formats.{for_each, integer, run, seen};
-ghost use Rattle.jfr_text.specs.Strings.{string_format};
+ghost use Rattle.jfr_base.specs.Formats.{run, seen};
 ghost use Rattle.jfr_layout.specs.Classes.{IsFieldLayout, Sound, find_class, form_of, item_of, layout_with};
 ghost use Rattle.jfr_layout.specs.Fused.{AreFused};
 ghost use Rattle.jfr_layout.specs.declared.form.Form.TheVariants as forms;
 ghost use Rattle.jfr_layout.specs.declared.kind.Kind.TheVariants as kinds;
 ghost use Rattle.jfr_value.specs.Nodes.{EndsAt, IsRefused, IsValueReason, node_at, targets};
-ghost use Rattle.jfr_value.specs.Values.{IsHollow, IsHollowArray, IsPlaced, key_of};
+ghost use Rattle.jfr_value.specs.Values.{IsHollow, IsHollowArray, IsPlaced};
 ghost use Rattle.jfr_value.specs.Reading.{base_format, class_format, row_format, shape_format, value_format};
 ghost use Rattle.jfr_value.specs.Visits.{TakesAll, TakesRead, TakesReadAll};
 ghost use Rattle.jfr_value.specs.Walks.{Room};
@@ -25,8 +25,9 @@ use jfr_base::{Flaw, Reason, read_within};
 use jfr_layout::{ClassLayout, Classes, FieldLayout, Form, Kind, Shape};
 use jfr_text::read_string;
 
-/// Where a value ends. The class must be known. Where no value stands, the flaw is of the first leaf
-/// from the left that doesn't stand by `end`: `Short`, or `StringKind` for a string of an unknown kind.
+/// The offset after the value of a shape that begins at the offset `at`. Its class must be known. Where no
+/// value ends by `end`, the flaw is that of the first leaf from the left that doesn't: `Short`, or
+/// `StringKind` for a string of an unknown kind.
 #[inline]
 pub fn end_of(
     classes: &Classes,
@@ -149,7 +150,8 @@ impl Visit<()> for NoVisit {
     fn visit(&mut self, _with: &(), _class: u64, _key: u64) {}
 }
 
-/// The layout of a shape. Where its class isn't known, only the shape says something.
+/// The layout of a shape. Where its class isn't known, only the layout's shape, and the form of an array or
+/// a key, say something.
 pub fn layout_of(classes: &Classes, shape: Shape) -> FieldLayout
     ensures shape { result.shape ≡ shape }
     ensures form { result.form ≡ form_of result.shape result.kind }
@@ -162,7 +164,8 @@ pub fn layout_of(classes: &Classes, shape: Shape) -> FieldLayout
     }
 }
 
-/// Whether the layout is one of arrays of inline values without bytes: its class is composite and has no fields.
+/// Whether the layout is one of arrays of inline values without bytes: its class is composite and has no
+/// fields.
 fn is_hollow_array(classes: &Classes, layout: &FieldLayout) -> bool
     requires { layout.now.place < length classes.now }
     ensures { IfSome (slice_get classes.now layout.now.place) (λ c. IsTrue result ↔ IsHollowArray layout.now.shape c) }
@@ -173,7 +176,7 @@ fn is_hollow_array(classes: &Classes, layout: &FieldLayout) -> bool
     is_hollow(classes, layout.place)
 }
 
-/// Whether the inline values of the class at a place have no bytes.
+/// Whether the inline values of the class of an index have no bytes.
 pub(crate) fn is_hollow(classes: &Classes, place: usize) -> bool
     requires { place < length classes.now }
     ensures { IfSome (slice_get classes.now place) (λ c. IsTrue result ↔ IsHollow c) }
@@ -184,7 +187,7 @@ pub(crate) fn is_hollow(classes: &Classes, place: usize) -> bool
     }
 }
 
-/// The flaw of a place where a value doesn't end in time.
+/// The flaw of a leaf at an offset that doesn't end in time.
 pub(crate) fn ends_early(at: usize) -> Flaw
     ensures { result ≡ record { offset = at; reason = Reason.Short } }
 {
@@ -267,8 +270,9 @@ pub(crate) fn layout_end<C, V: Visit<C>>(
     }
 }
 
-/// Where an inline value of a composite class or an array ends. What the calls answer is taken apart here,
-/// since it lies in memory, and with it would the answers of `slot_end` for other forms.
+/// Where an inline value of a composite class or an array ends. Each call's answer comes in memory. It is
+/// taken apart here, by `?` and `Ok` again; handed on as it is, it would force the answers that
+/// `layout_end` gives for other forms into memory, too.
 #[cycle(ends)]
 #[tactic(auto, using(jfr_base::proofs::SeenLaws::ends), unfolding(jfr_base::specs::Formats::run, crate::specs::Reading::class_format))]
 #[inline(always)]
@@ -329,7 +333,7 @@ fn row_end<C, V: Visit<C>>(
     Ok(to)
 }
 
-/// Where items end, kept out of line of the walk over the value in which they stand.
+/// Where the values of layouts end, out of line of the walk over the value of which they are the fields.
 #[cycle(ends)]
 #[tactic(auto, using(jfr_base::proofs::SeenLaws::ends), unfolding(jfr_base::specs::Formats::run, crate::specs::Reading::class_format))]
 #[inline(never)]
@@ -379,7 +383,7 @@ fn whole_row_end<C, V: Visit<C>>(
     Ok(to)
 }
 
-/// Where an array ends.
+/// Where an array ends: its count, and so many items behind it.
 #[cycle(ends)]
 #[tactic(auto, using(jfr_base::proofs::SeenLaws::ends), unfolding(jfr_base::specs::Formats::run, crate::specs::Reading::class_format))]
 #[inline(never)]

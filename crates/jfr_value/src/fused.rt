@@ -52,7 +52,7 @@ pub(crate) fn fused_end<C, V: Visit<C>>(
     }
 }
 
-/// The end of fused fields, walked field by field. What the call answers is taken apart here, as in
+/// The end of fused fields, walked field by field. The call's answer is taken apart here, as in
 /// `compound_end`.
 #[inline(always)]
 fn each_end<C, V: Visit<C>>(

@@ -1,4 +1,4 @@
-// The walk to a value's end, where it passes integers, whatever they say: that takes bytes alone.
+// The walk to a value's end, where it passes integers: their values don't matter, only where they end.
 ghost use Rattle.std.specs.Prelude.{◌≡◌, ℕ, ◌+◌, ◌≤◌, ◌<◌, length, IfOk, IfSome, Ok};
 ghost use Rattle.std.specs.Int.{bit_at};
 ghost use Rattle.jfr_base.specs.Formats.{integer, run, seen, times};
@@ -8,13 +8,13 @@ use crate::extent::ends_early;
 use jfr_base::Flaw;
 use std::simd::prelude::*;
 
-/// So many groups of an integer have seven bits. Behind them comes one of eight.
+/// How many groups of an integer have seven bits. Behind them comes one of eight.
 const SHORT_GROUPS: usize = 8;
 
-/// The bit of the group of eight bits, which is the last whatever it says.
+/// The bit of the ninth group, which is the last one whatever it says.
 const NINTH_GROUP: u64 = 1 << SHORT_GROUPS;
 
-/// So many bytes are looked at in one step.
+/// How many bytes are looked at in one step.
 const VECTOR: usize = 16;
 
 /// Where an integer ends.
@@ -35,7 +35,7 @@ pub(crate) fn integer_end(bytes: &[u8], at: usize, end: usize) -> Result<usize, 
     Ok(to)
 }
 
-/// Where an integer ends that has room for all of its groups.
+/// Where an integer ends, if 16 bytes are there, so that all of its groups are.
 #[inline(always)]
 fn groups_end(bytes: &[u8], at: usize) -> usize
     requires room { at + 16 ≤ length bytes.now }
@@ -60,8 +60,9 @@ pub(crate) fn integers_end(bytes: &[u8], at: usize, end: usize, count: usize) ->
     }
 }
 
-/// Where integers end whose last groups one look at 32 bytes shows. Whether it showed them is tested once, behind
-/// the last integer: until then one may seem to end past the vector.
+/// Where so many integers end, if the last groups of all of them stand in the next 16 bytes, which are
+/// looked at once. Whether they do is tested behind the last integer; before that, one may seem to end past
+/// the 16 bytes.
 #[inline(always)]
 fn integers_at_once(bytes: &[u8], at: usize, end: usize, count: usize) -> Option<usize>
     requires order { at ≤ end }
@@ -85,8 +86,7 @@ fn integers_at_once(bytes: &[u8], at: usize, end: usize, count: usize) -> Option
     Some(to)
 }
 
-/// Where integers end, one after another. What the call answers is taken apart here, as in
-/// `compound_end`.
+/// Where integers end, one after another. The call's answer is taken apart here, as in `compound_end`.
 #[inline(always)]
 fn far_integers_end(bytes: &[u8], at: usize, end: usize, count: usize) -> Result<usize, Flaw>
     requires order { at ≤ end }
@@ -113,7 +113,8 @@ fn each_integer_end(bytes: &[u8], at: usize, end: usize, count: usize) -> Result
     Ok(to)
 }
 
-/// Which of the bytes of a vector have no top bit, and so are the last groups of integers: a bit for each.
+/// Which of the 16 bytes from an offset on have no top bit, so that an integer's last group may stand
+/// there: a bit for each.
 #[inline(always)]
 fn last_groups(bytes: &[u8], at: usize) -> u64
     requires room { at + 16 ≤ length bytes.now }
@@ -123,8 +124,8 @@ fn last_groups(bytes: &[u8], at: usize) -> u64
     sixteen.simd_lt(u8x16::splat(128)).to_bitmask()
 }
 
-/// How many groups of the integer at a byte of a vector have their top bit, and so more to come, by the bits
-/// of the last groups. There are at most as many as an integer has of seven bits.
+/// How many groups of an integer have another one behind them, by the bits that `last_groups` gives and the
+/// number of the byte with which the integer begins. They are at most the eight groups of seven bits.
 #[inline(always)]
 fn groups_with_more(lasts: u64, from: usize) -> usize
     requires from { from < 64 }
@@ -135,8 +136,8 @@ fn groups_with_more(lasts: u64, from: usize) -> usize
     ((lasts >> from) | NINTH_GROUP).trailing_zeros() as usize
 }
 
-/// Where an integer ends near the end of the bytes. What the call answers is taken apart here, as in
-/// `compound_end`.
+/// Where an integer ends that begins near the end of the bytes. The call's answer is taken apart here, as
+/// in `compound_end`.
 #[inline(always)]
 fn near_end(bytes: &[u8], at: usize, end: usize) -> Result<usize, Flaw>
     requires order { at ≤ end }

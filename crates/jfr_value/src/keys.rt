@@ -36,7 +36,7 @@ pub(crate) fn key_end<C, V: Visit<C>>(
     }
 }
 
-/// Where a key ends that may have more than one byte. What the call answers is taken apart here, as in
+/// Where a key ends that may have more than two bytes. The call's answer is taken apart here, as in
 /// `compound_end`.
 #[inline(always)]
 fn far_key_end<C, V: Visit<C>>(
@@ -81,8 +81,8 @@ fn long_key_end<C, V: Visit<C>>(
     }
 }
 
-/// Where a string of a class ends, whose key is handed on if it is one. Most strings are, or have no
-/// characters, or short ones.
+/// Where a string of a class ends. If it is a key, that is handed on. Most strings are a key, or null or
+/// empty, or UTF-16 in integers of one byte.
 #[inline(always)]
 pub(crate) fn text_end<C, V: Visit<C>>(
     walk: Walk<'_, '_, C>,
@@ -110,7 +110,7 @@ pub(crate) fn text_end<C, V: Visit<C>>(
     far_text_end(walk, class, at, visitor)
 }
 
-/// Where a string of any kind ends. What the call answers is taken apart here, as in `compound_end`.
+/// Where a string of any kind ends. The call's answer is taken apart here, as in `compound_end`.
 #[inline(always)]
 fn far_text_end<C, V: Visit<C>>(
     walk: Walk<'_, '_, C>,

@@ -5,7 +5,7 @@ use jfr_layout::Kind;
 /// What a leaf is.
 #[derive(Clone, Copy, Debug, PartialEq, Eq)]
 pub enum LeafKind {
-    /// A value of a class with a base name. A string is one too, whatever its kind.
+    /// A value of a class with a base name. A string is one too, even where it is a key.
     Base(Kind),
     /// How many items an array has.
     Count(u64),
@@ -16,9 +16,12 @@ pub enum LeafKind {
 /// A part of a value that has no parts of its own, where it stands.
 #[derive(Clone, Copy, Debug)]
 pub struct Leaf<'a> {
+    /// What it is.
     pub kind: LeafKind,
     /// The class of the value, of an array's items, or of what a reference refers to.
     pub class: u64,
+    /// The offset of its first byte in the chunk.
     pub at: usize,
+    /// Its bytes.
     pub spelled: &'a [u8],
 }

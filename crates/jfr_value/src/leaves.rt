@@ -1,5 +1,5 @@
 // The leaves of a node, one after another: the walk over leaves, as its callers see it.
-ghost use Rattle.std.specs.Prelude.{◌≡◌, ◌+◌, ◌∷◌, [], MatchOption, IfSome, OnSome, IsNone};
+ghost use Rattle.std.specs.Prelude.{◌≡◌, ◌+◌, ◌∷◌, [], MatchOption};
 ghost use Rattle.jfr_value.specs.Leaves.{leaf_of, leaves};
 ghost use Rattle.jfr_value.specs.Nodes.{IsValue, node_of};
 

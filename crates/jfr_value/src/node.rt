@@ -5,9 +5,13 @@ use jfr_layout::Shape;
 /// A value where it stands: its shape, the bytes of its chunk, and the range of its own bytes.
 #[derive(Clone, Copy, Debug)]
 pub struct Node<'a> {
+    /// The shape of the value.
     pub shape: Shape,
+    /// All bytes of the chunk.
     pub bytes: &'a [u8],
+    /// The offset of the value's first byte.
     pub at: usize,
+    /// The offset after its last byte.
     pub end: usize,
 }
 

@@ -1,7 +1,6 @@
 // The parts of values: fields and items.
 ghost use Rattle.std.specs.Prelude.{◌≡◌, ℕ, ◌≤◌, ◌<◌, length, replicate, map, Some, IfSome, false, option_map, slice_get};
 ghost use Rattle.std.specs.List.{AllByRecursion};
-ghost use Rattle.jfr_base.specs.Formats.{int_at};
 ghost use Rattle.jfr_layout.specs.Classes.{IsFieldLayout, Sound, item_of};
 ghost use Rattle.jfr_value.specs.Nodes.{EndsAt, IsRow, IsValue, child, laid, node_of};
 ghost use Rattle.jfr_value.specs.Values.{IsPlaced, Values, list_of};
@@ -12,8 +11,8 @@ use crate::{Node, Step};
 use jfr_base::{Var, read_within};
 use jfr_layout::{Classes, FieldLayout, Kind, Shape};
 
-/// The field or the item that a step leads to, in a value that stands there. `None` exactly where it
-/// has no such field or item; `Follow` has none here.
+/// The field or the item of a node to which a step leads. A value must stand there. `None` exactly where it
+/// has no such field or item, and for `Follow`. The fields or items before it are walked over.
 pub fn child<'a>(classes: &Classes, node: &Node<'a>, step: &Step) -> Option<Node<'a>>
     requires { IsValue classes.now node.now }
     ensures exact { option_map node_of result ≡ child classes.now node.now.bytes.now (node_of node.now) step.now }
@@ -103,7 +102,7 @@ fn part_end(classes: &Classes, layout: &FieldLayout, bytes: &[u8], at: usize, en
     }
 }
 
-/// The field of a number, where values of these layouts are the fields.
+/// The field of a number, where the fields have these layouts.
 fn nth_field<'a>(
     classes: &Classes,
     layouts: &[FieldLayout],

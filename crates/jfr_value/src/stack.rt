@@ -10,22 +10,23 @@ use std::marker::Model;
 /// composite value, and one for an array in the deepest of them.
 pub(crate) const FRAMES: usize = 68;
 
-/// How many of them lie at hand.
+/// How many of them the walk has from the start.
 const NEAR: usize = 6;
 
-/// How many lie in the part that is made where a value goes deeper.
+/// How many lie in the part that is made only where a value goes deeper.
 const FAR: usize = 62;
 
 /// What is left of one value with parts.
 #[derive(Clone, Copy, Drop)]
 pub(crate) enum Frame {
-    /// The fields of the class at a place, from a number on; so many inline steps may follow.
+    /// The fields of the class of an index, from a number on; so many composite classes may still stand
+    /// within one another.
     Fields {
         place: usize,
         number: usize,
         levels: u32,
     },
-    /// So many values of a shape, whose class is at a place.
+    /// So many values of a shape, whose class has an index.
     Items {
         shape: Shape,
         place: usize,
@@ -44,8 +45,8 @@ impl Default for Frame {
     }
 }
 
-/// The frames of a walk. An `ArrayVec` clears its places when it is made, and a walk is made for each
-/// node of a chunk, so the places that few nodes need are made only for those.
+/// The frames of a walk. An `ArrayVec` fills all of its memory when it is made, and a walk is made for each
+/// node, so the part that few nodes need is made only for those.
 #[derive(Drop)]
 pub(crate) struct Stack {
     near: ArrayVec<Frame, NEAR>,

@@ -1,5 +1,5 @@
-// The walk over what a value refers to, at a step for each leaf, where the value is known to stand. jfr_reach goes by
-// it over each constant that it marks (`visit_targets`).
+// The walk over what a value refers to, at a step for each leaf, where the value is known to stand.
+// jfr_reach uses it for each constant that it marks (`visit_targets`).
 ghost use Rattle.std.specs.Prelude.{◌≡◌, ◌≢◌, ℕ, ◌+◌, ◌≤◌, ◌<◌, length, true, false, IsOk, IfOk, IsSome, IfSome, option_map, option_to_list, slice_get};
 ghost use Rattle.std.specs.List.{AllByRecursion};
 ghost use Rattle.jfr_base.specs.Formats.{int_at, run, seen};
@@ -20,7 +20,7 @@ use jfr_layout::{Classes, FieldLayout, Form, Kind};
 use jfr_text::{StringKind, read_string};
 use std::sync::ledger::Ledger;
 
-/// Takes what a value refers to, beside something that it looks at.
+/// What takes the references of a value, one by one, and may look at something else for each.
 pub trait Visit<C> {
     // Whether it can take a target.
     ghost ready: { Self → C → Type 0 };
@@ -28,7 +28,7 @@ pub trait Visit<C> {
     // What becomes of it when it takes a class and a key.
     ghost takes: { C → ℕ × ℕ → Self → Self → Type 0 };
 
-    /// Takes a class and a key.
+    /// Takes the class and the key of a reference, or of a string that is a key.
     fn visit(&mut self, with: &C, class: u64, key: u64)
         requires { ready self.old with.now }
         ensures ready { ready self.new with.now }
@@ -60,7 +60,7 @@ pub fn visit_targets<C, V: Visit<C>, L: Ledger>(
     let _end = visit_value(&walk, &layout, node.at, STEPS, visitor, steps);
 }
 
-/// Visits a value of a shape, whose class is at a place, and says where it ends.
+/// Visits a value of a layout, and says where it ends.
 #[cycle(visits)]
 #[inline(always)]
 fn visit_value<C, V: Visit<C>, L: Ledger>(
@@ -89,7 +89,7 @@ fn visit_value<C, V: Visit<C>, L: Ledger>(
     }
 }
 
-/// Visits the fields of the class at a place, and says where they end.
+/// Visits the fields of the class of an index, and says where they end.
 #[cycle(visits)]
 fn visit_fields<C, V: Visit<C>, L: Ledger>(
     walk: &Walk<'_, '_, C>,
