@@ -13,6 +13,18 @@ pub struct Flaw {
     pub reason: Reason,
 }
 
+impl Flaw {
+    /// The flaw where bytes end before what begins at an offset does.
+    pub fn short(at: usize) -> Flaw
+        ensures { result ≡ record { offset = at; reason = Reason.Short } }
+    {
+        Flaw {
+            offset: at as u64,
+            reason: Reason::Short,
+        }
+    }
+}
+
 /// Why a recording is refused: a flaw, and the chunk that has it.
 #[derive(Clone, Copy, Debug, PartialEq, Eq)]
 pub struct Refusal {

@@ -74,7 +74,7 @@ fn var_within(bytes: &[u8], at: usize, end: usize) -> Result<Var, Flaw>
     }
     let var = read_groups(bytes, at);
     if var.end > end {
-        return Err(ends_early(at));
+        return Err(Flaw::short(at));
     }
     Ok(var)
 }
@@ -160,17 +160,7 @@ fn read_last(bytes: &[u8], at: usize, end: usize) -> Result<Var, Flaw>
         value += u64::from(byte % 128) << shift;
         shift += 7;
     }
-    Err(ends_early(at))
-}
-
-/// The flaw where the bytes end before the integer at an offset does.
-fn ends_early(at: usize) -> Flaw
-    ensures { result ≡ record { offset = at; reason = Reason.Short } }
-{
-    Flaw {
-        offset: at as u64,
-        reason: Reason::Short,
-    }
+    Err(Flaw::short(at))
 }
 
 /// Writes the shortest spelling of a value to the front of `into`, and gives its length. Nothing is

@@ -21,10 +21,7 @@ fn read_plain<'a>(bytes: &'a [u8], at: usize, end: usize) -> Result<StringSpan<'
     ensures range { IfOk result (λ s. (at < s.end) × (s.end ≤ end)) }
 {
     if at == end {
-        return Err(Flaw {
-            offset: at as u64,
-            reason: Reason::Short,
-        });
+        return Err(Flaw::short(at));
     }
     if bytes[at] == KEY {
         return Err(Flaw {

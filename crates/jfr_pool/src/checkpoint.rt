@@ -65,10 +65,7 @@ fn pool_count(chunk: &[u8], at: usize, limit: usize) -> Result<Var, Flaw>
     let duration = read_within(chunk, start.end, limit)?;
     let delta = read_within(chunk, duration.end, limit)?;
     if delta.end == limit {
-        return Err(Flaw {
-            offset: delta.end as u64,
-            reason: Reason::Short,
-        });
+        return Err(Flaw::short(delta.end));
     }
     let count = read_within(chunk, delta.end + 1, limit)?;
     Ok(count)

@@ -31,10 +31,7 @@ pub fn read_string<'a>(bytes: &'a [u8], at: usize, end: usize) -> Result<StringS
     ensures exact { answer_of result ≡ run (string_format true) bytes.now end at }
 {
     if at == end {
-        return Err(Flaw {
-            offset: at as u64,
-            reason: Reason::Short,
-        });
+        return Err(Flaw::short(at));
     }
     read_kind(bytes[at], bytes, at, end)
 }
@@ -180,10 +177,7 @@ fn read_bytes<'a>(bytes: &'a [u8], at: usize, end: usize) -> Result<Counted<'a>,
     let count = read_within(bytes, at, end)?;
     let from = count.end;
     if count.value > (end - from) as u64 {
-        return Err(Flaw {
-            offset: from as u64,
-            reason: Reason::Short,
-        });
+        return Err(Flaw::short(from));
     }
     let to = from + count.value as usize;
     Ok(Counted {

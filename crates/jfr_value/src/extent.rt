@@ -187,16 +187,6 @@ pub(crate) fn is_hollow(classes: &Classes, place: usize) -> bool
     }
 }
 
-/// The flaw of a leaf at an offset that doesn't end in time.
-pub(crate) fn ends_early(at: usize) -> Flaw
-    ensures { result ≡ record { offset = at; reason = Reason.Short } }
-{
-    Flaw {
-        offset: at as u64,
-        reason: Reason::Short,
-    }
-}
-
 /// Where a run of so many bytes ends.
 #[inline(always)]
 fn run_end(count: usize, at: usize, end: usize) -> Result<usize, Flaw>
@@ -205,7 +195,7 @@ fn run_end(count: usize, at: usize, end: usize) -> Result<usize, Flaw>
     ensures short { IfErr result (λ flaw. (end < at + count) × (flaw ≡ record { offset = at; reason = Reason.Short })) }
 {
     if end - at < count {
-        return Err(ends_early(at));
+        return Err(Flaw::short(at));
     }
     Ok(at + count)
 }

@@ -4,7 +4,6 @@ ghost use Rattle.std.specs.Int.{bit_at};
 ghost use Rattle.jfr_base.specs.Formats.{integer, run, seen, times};
 ghost use Rattle.jfr_value.specs.Groups.{AreLastGroups};
 
-use crate::extent::ends_early;
 use jfr_base::Flaw;
 use std::simd::prelude::*;
 
@@ -30,7 +29,7 @@ pub(crate) fn integer_end(bytes: &[u8], at: usize, end: usize) -> Result<usize, 
     }
     let to = groups_end(bytes, at);
     if to > end {
-        return Err(ends_early(at));
+        return Err(Flaw::short(at));
     }
     Ok(to)
 }
@@ -167,5 +166,5 @@ fn last_integer_end(bytes: &[u8], at: usize, end: usize) -> Result<usize, Flaw>
     if end - at > SHORT_GROUPS {
         return Ok(at + SHORT_GROUPS + 1);
     }
-    Err(ends_early(at))
+    Err(Flaw::short(at))
 }

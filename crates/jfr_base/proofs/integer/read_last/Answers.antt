@@ -41,4 +41,4 @@ pub returns-clause-exact : goal.returns-clause-exact
 returns-clause-exact c =
     let l = c.loop-place in
     let i = l.invariant.reading in
-    (i.same ∙ going_none i.groups c.args.bytes.now l.place c.args.end l.value (2 ^ l.shift) (omega arith), c.ends_early.ensures)
+    (i.same ∙ going_none i.groups c.args.bytes.now l.place c.args.end l.value (2 ^ l.shift) (omega arith), c.short.ensures)

@@ -18,4 +18,4 @@ returns-then-end-at-gt-SHORT_GROUPS-clause-exact c =
 
 pub returns-clause-exact : goal.returns-clause-exact
 returns-clause-exact c =
-    ap (λ flaw. Err flaw) c.ends_early.ensures ∙ skip_short c.args.bytes.now c.args.at c.args.end c.loop-passed.passed c.loop-passed.invariant (omega arith)
+    ap (λ flaw. Err flaw) c.short.ensures ∙ skip_short c.args.bytes.now c.args.at c.args.end c.loop-passed.passed c.loop-passed.invariant (omega arith)
