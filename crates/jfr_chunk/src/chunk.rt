@@ -38,7 +38,7 @@ const NO_METADATA: Flaw = Flaw {
     reason: Reason::MetadataPosition,
 };
 
-// The same where no checkpoint starts.
+// The flaw where no checkpoint starts at the position that the header names.
 const NO_CHECKPOINT: Flaw = Flaw {
     offset: 16,
     reason: Reason::PoolPosition,

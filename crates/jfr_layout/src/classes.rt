@@ -128,7 +128,7 @@ impl Classes {
         }
     }
 
-    // The same for an id past the end of the direct table.
+    // The index of the class of an event id that is past the end of the direct table.
     #[cold]
     #[inline(never)]
     fn far_event_place(&self, id: u64) -> Option<usize>
