@@ -44,7 +44,7 @@ impl Call {
 pub struct Script {
     /// The kind of the call.
     pub call: Call,
-    /// The how-manieth call of its kind from now on it is, from 1. At 0 it has failed, or never will.
+    /// Which call of its kind fails, counted from now on: 1 is the next. At 0 it has failed, or none will.
     pub left: u64,
     /// How many bytes of it are kept at most.
     pub keep: usize,
