@@ -9,10 +9,11 @@ pub record Outside : Type 0 where
   pub place : State
   pub sink : SinkState
 
+-- these two as one
 abbrev pub outside : State → SinkState → Outside
 outside place sink = record { place = place; sink = sink }
 
--- a place alone
+-- a place alone, beside a sink that tells nothing
 abbrev pub alone : State → Outside
 alone place = outside place (record { written = None; faults = 0 })
 
@@ -66,13 +67,16 @@ pub data Need : Type 0 where
   Chunks : ℕ → Need
   AtEnd : Need
 
+-- an effect, and what must have come before it
 pub record Step : Type 0 where
   pub need : Need
   pub effect : Effect
 
+-- these effects as steps, each with this need
 abbrev pub needing : Need → List Effect → List Step
 needing n es = map (λ e. record { need = n; effect = e }) es
 
+-- the effects of steps
 abbrev pub effects : List Step → List Effect
 effects ss = map (λ s. s.effect) ss
 
