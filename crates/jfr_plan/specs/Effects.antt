@@ -24,6 +24,7 @@ pub record Stand : Type 0 where
   pub text : Option (List ℕ)
   pub sound : Bool
 
+-- what stands at the beginning, by what a place and a sink tell
 abbrev pub stand : World → Option (List ℕ) → Stand
 stand w text = record { files = w.files; output = w.output; text = text; sound = true }
 

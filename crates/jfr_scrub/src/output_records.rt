@@ -9,8 +9,8 @@ use jfr_chunk::{Chunk, Kept};
 use jfr_frame::{Framed, Frames};
 use jfr_pool::{Chain, Link};
 
-/// What is written of a record: the whole of it, or, of a chained checkpoint, the pools that have an entry left.
-/// Checkpoints are numbered in the order of the file.
+/// What is written of a record: the whole of it, or, of a chained checkpoint, the pools that have an entry
+/// left. Checkpoints are numbered in the order of the file.
 #[derive(Clone, Copy, Debug)]
 pub(crate) enum KeptRecord {
     Whole(Framed),
