@@ -1,6 +1,6 @@
 // The output records of a chunk: what is written of each of its records.
 ghost use Rattle.std.specs.Prelude.{◌≡◌, ◌||◌, ◌+◌, ◌-◌, ◌^◌, ◌<◌, [], ◌∷◌, length, slice_get, option_map, IfSome, MatchOption, Some};
-ghost use Rattle.jfr_chunk.specs.Parts.{AreParts, events_of};
+ghost use Rattle.jfr_chunk.specs.Parts.{events_of};
 ghost use Rattle.jfr_chunk.specs.Reach.{kept_by};
 ghost use Rattle.jfr_chunk.specs.Scrub.{output_record_by, output_record_of};
 ghost use Rattle.jfr_scrub.specs.OutputRecords.{IsCursor, event_behind, is_kept_at, link_behind, linked_at, output_record_as, still_output_records};

@@ -1,5 +1,5 @@
 // How much a part holds, and the part that a chunk stands in.
-ghost use Rattle.std.specs.Prelude.{◌≡◌, ◌<◌, ◌+◌, ◌≤◌, ◌^◌, length, true, false};
+ghost use Rattle.std.specs.Prelude.{◌≡◌, ◌<◌, ◌+◌, ◌≤◌, ◌^◌, true, false};
 ghost use Rattle.jfr_outside.specs.World.{slice_of};
 ghost use Rattle.jfr_split.specs.Parts.{IsUsable, folder_of, begins, part_by, part_with};
 
