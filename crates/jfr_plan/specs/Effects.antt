@@ -54,7 +54,7 @@ broken k (Append bytes) s = record s { files = grown s.output (take k bytes) s.f
 broken k Finish s = record s { output = None }
 broken k (Write bytes) s = apply (Write (take k bytes)) s
 
--- when a steady place may refuse an effect
+-- when a steady place may refuse an effect; a sink may refuse any text
 abbrev pub Cannot : Effect → Stand → Type 0
 Cannot (Create name) s = (fin.get s.files name ≡ None) → IsSome s.output
 Cannot (Append bytes) s = s.output ≡ None
