@@ -75,7 +75,7 @@ impl<M: Make> Stage for Making<'_, M> {
     }
 }
 
-// Makes one output chunk of each chunk of the input.
+// Makes one output chunk of each chunk of the input. All clauses of `make_stream` follow from these two.
 fn make_each<P: Place, M: Make>(
     alloc: Global,
     place: &mut P,

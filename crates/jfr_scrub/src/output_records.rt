@@ -111,6 +111,7 @@ fn pass_event(chunk: &Chunk, kept: &Kept, number: &mut usize, at: usize) -> bool
     let Some(place) = chunk.event_place(old) else {
         return false;
     };
+    // An event that has a place has a number below the count: the second test is for the sum alone.
     if place != at || old >= chunk.event_count() {
         return false;
     }
@@ -126,6 +127,7 @@ fn pass_link(chain: &Chain, number: &mut usize, at: usize) -> Option<(usize, Lin
 {
     let old = *number;
     let link = *chain.get(old)?;
+    // The second test is for the sum alone, as above.
     if link.frame.at != at || old >= chain.len() {
         return None;
     }
