@@ -20,8 +20,8 @@ const GATHERED: usize = 65536;
 /// many took three times as long for the same bytes.
 const PORTION: usize = 1_048_576;
 
-/// The files of the system, with one open input and one open output. Outputs are created new, and
-/// every error raises the count.
+/// The files of the system, with at most one open input and one open output. Outputs are created new. A
+/// call that fails raises its count, of reads or of writes; one that lacks memory raises none.
 #[derive(Drop)]
 pub struct FilePlace<'a, R: Files> {
     rt: &'a R,
@@ -210,7 +210,7 @@ impl<'a, R: Files + Alloc + Clone + Drop> Place for FilePlace<'a, R> {
         }
     }
 
-    /// Where it fails, the file is closed.
+    /// Where it fails or lacks memory, the file is closed.
     fn append_pieces(&mut self, pieces: &[&[u8]]) -> Result<(), Fault>
         ensures grew { OnOk result (Grew R.File.contents self.old.output self.new.output (bytes_in pieces.now)) }
         ensures reads { self.new.read_faults ≡ self.old.read_faults }
@@ -256,8 +256,8 @@ impl<'a, R: Files + Alloc + Clone + Drop> Place for FilePlace<'a, R> {
         }
     }
 
-    /// The regular files, links followed. A folder that isn't there is a fault, and so is a name that isn't
-    /// UTF-8.
+    /// The regular files, links followed. A folder that isn't there is a failed read, and so is a name that
+    /// isn't UTF-8.
     fn list(&mut self, alloc: Global, folder: &str) -> Result<Words, Fault>
         ensures input { self.new.input ≡ self.old.input }
         ensures output { self.new.output ≡ self.old.output }

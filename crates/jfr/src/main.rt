@@ -1,6 +1,7 @@
 //! The program `jfr`: the real files and streams, the words of the command line, and the exit status.
 //!
-//! Everything that is decided is decided by `jfr_cli::run`; here stands what no clause can speak of.
+//! `jfr_cli::run` decides all but two things: a word that isn't UTF-8 counts as no words at all, a usage
+//! fault; and where memory is wanting for the words, the status is 5 and no line is written.
 #![tactic(auto)]
 
 mod counts;
@@ -39,7 +40,7 @@ fn main(rt: HostRuntime) -> ExitCode {
         Err(error) if error.kind() == io::ErrorKind::OutOfMemory => {
             return ExitCode::from(NO_MEMORY);
         }
-        // A word that isn't UTF-8 is a usage fault, as no words are.
+        // A word isn't UTF-8: no words are a usage fault, too.
         Err(_) => Words::new(alloc),
     };
     let mut place = FilePlace::new(&rt, alloc);

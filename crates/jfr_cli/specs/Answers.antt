@@ -17,9 +17,11 @@ status_of WriteFault = 4
 status_of Memory = 5
 status_of TooManyParts = 6
 
+-- The byte that ends each line.
 abbrev pub newline : List ℕ
 newline = 10 ∷ []
 
+-- The line of words that are no order.
 abbrev pub usage_line : List ℕ
 usage_line = codes "usage: jfr print|summary|metadata|scrub|disassemble|assemble|sample" ++ newline
 
@@ -27,15 +29,19 @@ usage_line = codes "usage: jfr print|summary|metadata|scrub|disassemble|assemble
 abbrev pub refusal_line : Refusal → List ℕ
 refusal_line r = codes "chunk " ++ (decimal r.chunk ++ (codes " offset " ++ (decimal r.offset ++ (codes ": " ++ (reason_name r.reason ++ newline)))))
 
+-- The line of a read fault.
 abbrev pub read_line : List ℕ
 read_line = codes "read fault" ++ newline
 
+-- The line of a write fault.
 abbrev pub write_line : List ℕ
 write_line = codes "write fault" ++ newline
 
+-- The line where memory was wanting.
 abbrev pub memory_line : List ℕ
 memory_line = codes "out of memory" ++ newline
 
+-- The line where there would be too many parts.
 abbrev pub parts_line : List ℕ
 parts_line = codes "too many parts" ++ newline
 

@@ -1,7 +1,7 @@
 -- What the program does and answers.
-use Rattle.std.specs.Prelude.{◌≡◌, ◌≢◌, ℕ, List, Option, None, Some, ⊤, IfSome}
+use Rattle.std.specs.Prelude.{◌≡◌, ◌≢◌, ℕ, List, Option, None, Some, ⊤}
 use Rattle.jfr_base.specs.declared.flaw.Refusal.{Refusal}
-use Rattle.jfr_outside.specs.World.{World, State, SinkState, Told}
+use Rattle.jfr_outside.specs.World.{State, SinkState, Told}
 use Rattle.jfr_outside.specs.Counts.{Rose}
 use Rattle.jfr_header.specs.declared.ending.Ending.{Ending}
 use Rattle.jfr_header.specs.declared.ending.Ending.TheVariants as ending

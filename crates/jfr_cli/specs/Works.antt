@@ -2,9 +2,8 @@
 use Rattle.std.specs.Prelude.{◌≡◌, ℕ, List, [], ◌∷◌, Bool, IsTrue, IsSome, Option, None, Some, Result, Ok, Err, ⊤, encode_utf8_all}
 use Rattle.jfr_base.specs.declared.flaw.Flaw.{Flaw}
 use Rattle.jfr_outside.specs.World.{World, State, SinkState, Told, file}
-use Rattle.jfr_header.specs.declared.ending.Ending.{Ending}
-use Rattle.jfr_plan.specs.Ends.{End, Fine, Way, refused}
-use Rattle.jfr_plan.specs.Effects.{Outside, Write, Nothing, Plan, Stand, stand, alone, effects, needing}
+use Rattle.jfr_plan.specs.Ends.{Fine, Way, refused}
+use Rattle.jfr_plan.specs.Effects.{Outside, Write, Nothing, Plan, Stand, stand, effects, needing}
 use Rattle.jfr_plan.specs.Walks.{Rule, Target, File, Parts, Text, plan_in}
 use Rattle.jfr_plan.specs.Outcomes.{Outcome, HaltedIn}
 use Rattle.jfr_plan.specs.Clauses.{CanRead, CanCreate}
@@ -39,13 +38,13 @@ work_of (orders.Disassemble file rule) = Over (splitting rule (file_name file)) 
 work_of (orders.Assemble folder output) = Joins (file_name folder) (file_name output)
 work_of (orders.Sample seed events) = Alone (sample_plan (sampled seed events))
 
--- its plan, over what a place holds
+-- the plan of the work, over what a place holds
 abbrev pub plan_of : Work → World → Plan
 plan_of (Over r input) w = plan_in r input w
 plan_of (Joins folder output) w = assembling folder output w.files
 plan_of (Alone p) w = p
 
--- what it writes: a file, parts, or text
+-- what the work writes: a file, parts, or text
 abbrev pub target_of : Work → Target
 target_of (Over r input) = r.target
 target_of (Joins folder output) = File
@@ -83,13 +82,13 @@ KeepsPlace (Over r input) a b = ⊤
 KeepsPlace (Joins folder output) a b = ⊤
 KeepsPlace (Alone p) a b = b ≡ a
 
--- each file that the work names for reading is there, on a steady place
+-- the place is steady, and the file that the work reads is there; of a folder it reads the files that are there
 abbrev pub CanReadAll : Work → State → Type 0
 CanReadAll (Over r input) a = CanRead input a
 CanReadAll (Joins folder output) a = IsTrue a.steady × IsSome a.told
 CanReadAll (Alone p) a = ⊤
 
--- the place is steady, no output is open, and the names that the order creates are new; an order of text creates none
+-- the place is steady, no output is open, and the names that the order creates are new; never so of an order that writes text, whose write faults are those of the output stream
 abbrev pub CanCreateFor : Order → State → Type 0
 CanCreateFor (orders.Scrub g input output) a = CanCreate (file_name output) a
 CanCreateFor (orders.Disassemble file rule) a = CanCreateAll (splitting rule (file_name file)) (file_name file) a

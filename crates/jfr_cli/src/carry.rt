@@ -1,4 +1,5 @@
-// Each order as a call.
+// Each order as a call. A place or a sink that an order doesn't touch is given for the contract alone, which
+// says that it stays as it is; its name begins with `_`.
 ghost use Rattle.jfr_plan.specs.Effects.{outside};
 ghost use Rattle.jfr_words.specs.Words.{IsUsableOrder};
 ghost use Rattle.jfr_words.specs.declared.order.Order.TheVariants as orders;

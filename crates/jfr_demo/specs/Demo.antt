@@ -26,13 +26,15 @@ lines_of p kept =
     ++ number_line (codes "bytes") (length p.bytes)
     ++ number_line (codes "kept bytes") (length (scrub_of p kept))
 
+-- what is said of a chunk, which is scrubbed with this filter
 unfoldable pub counted : Parts → List ℕ
 counted p = lines_of p (kept_of only_a p)
 
--- the sample is read as any recording is
+-- what is said of the sample that was read as a chunk, or its flaw
 abbrev pub counted_in : Result Parts Flaw → Result (List ℕ) Flaw
 counted_in (Ok p) = Ok (counted p)
 counted_in (Err flaw) = Err flaw
 
+-- what is said of the sample of a seed and a number of events: it is read as any recording is
 unfoldable pub sampled : ℕ → ℕ → Result (List ℕ) Flaw
 sampled seed events = counted_in (read_parts (sample_of seed events))

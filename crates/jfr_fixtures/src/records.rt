@@ -7,7 +7,7 @@ pub const NO_CLASSES: &[u8] = &[
 ];
 
 /// A metadata record of the classes `long` (5), `java.lang.String` (6), `t.Node` (7) with the fields
-/// `next`, a reference to its own class, and `text`, and the event classes `t.A` (8) with `n`, a number,
+/// `next`, a reference to its own class, and `text`, and the event classes `t.A` (8) with `n`, a `long`,
 /// and `node`, a reference, and `t.B` (9) with `node`.
 pub const CLASSES: &[u8] = &[
     0x81, 0x02, 0x00, 0x00, 0x00, 0x01, 0x18, 0x03, 0x04, 0x72, 0x6F, 0x6F, 0x74, 0x03, 0x08, 0x6D,

@@ -9,10 +9,11 @@ pub record Outside : Type 0 where
   pub place : State
   pub sink : SinkState
 
+-- these two as one
 abbrev pub outside : State → SinkState → Outside
 outside place sink = record { place = place; sink = sink }
 
--- a place alone
+-- a place alone, beside a sink that tells nothing
 abbrev pub alone : State → Outside
 alone place = outside place (record { written = None; faults = 0 })
 
@@ -23,6 +24,7 @@ pub record Stand : Type 0 where
   pub text : Option (List ℕ)
   pub sound : Bool
 
+-- what stands at the beginning, by what a place and a sink tell
 abbrev pub stand : World → Option (List ℕ) → Stand
 stand w text = record { files = w.files; output = w.output; text = text; sound = true }
 
@@ -52,7 +54,7 @@ broken k (Append bytes) s = record s { files = grown s.output (take k bytes) s.f
 broken k Finish s = record s { output = None }
 broken k (Write bytes) s = apply (Write (take k bytes)) s
 
--- when a steady place may refuse an effect
+-- when a steady place may refuse an effect; a sink may refuse any text
 abbrev pub Cannot : Effect → Stand → Type 0
 Cannot (Create name) s = (fin.get s.files name ≡ None) → IsSome s.output
 Cannot (Append bytes) s = s.output ≡ None
@@ -66,13 +68,16 @@ pub data Need : Type 0 where
   Chunks : ℕ → Need
   AtEnd : Need
 
+-- an effect, and what must have come before it
 pub record Step : Type 0 where
   pub need : Need
   pub effect : Effect
 
+-- these effects as steps, each with this need
 abbrev pub needing : Need → List Effect → List Step
 needing n es = map (λ e. record { need = n; effect = e }) es
 
+-- the effects of steps
 abbrev pub effects : List Step → List Effect
 effects ss = map (λ s. s.effect) ss
 

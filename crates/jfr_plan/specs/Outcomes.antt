@@ -39,10 +39,11 @@ Outcome steady plan halted NotRead s t = halted s t
 Outcome steady plan halted NotWritten s t = Breaks steady (effects plan.steps) s t
 Outcome steady plan halted NoRoom s t = SomeDone (effects plan.steps) s t
 
--- how many chunks of a file these bytes of it hold whole, and which
+-- how many chunks of a file these bytes of it hold whole
 abbrev pub held_count : List (List ℕ) → List ℕ → List ℕ → ℕ
 held_count earlier x taken = whole_in (length taken) (cut_after earlier x).chunks
 
+-- the chunks of a file that these bytes of it hold whole
 abbrev pub held : List (List ℕ) → List ℕ → List ℕ → List (List ℕ)
 held earlier x taken = take (held_count earlier x taken) (cut_after earlier x).chunks
 

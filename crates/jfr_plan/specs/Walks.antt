@@ -30,10 +30,12 @@ pub record Walk : Type 0 where
   pub steps : List Step
   pub end : End
 
+-- the walk from chunk number n on, by what that chunk asks for and the walk behind it
 abbrev pub walk_on : Asked → ℕ → Walk → Walk
 walk_on (Stops e) n later = record { steps = []; end = e }
 walk_on (Goes es) n later = record { steps = needing (Chunks n) es ++ later.steps; end = later.end }
 
+-- the walk behind all chunks: what is done at the input's end, or the refusal of the next chunk
 abbrev pub walk_end : Rule → List (List ℕ) → Option Flaw → Walk
 walk_end r before None = record { steps = needing AtEnd (r.ends before); end = Fine }
 walk_end r before (Some f) = record { steps = []; end = refused (length before + 1) f }
@@ -47,6 +49,7 @@ walk r before (c ∷ cs) flaw = walk_on (r.asks before c) (length before + 1) (w
 abbrev pub cut_after : List (List ℕ) → List ℕ → Cuts
 cut_after earlier x = cut x (length (joined earlier)) true
 
+-- what is done when the input is open, and then a walk
 abbrev pub plan_by : Rule → Walk → Plan
 plan_by r v = record { steps = needing Opened r.opens ++ v.steps; end = Some v.end }
 

@@ -17,9 +17,10 @@ pub trait Make: Drop {
     // The output chunk of a chunk that isn't refused.
     ghost becomes: { Self → List ℕ → List ℕ };
 
-    // Whether the last output chunk can be told, given this chunk, and which it is.
+    // Whether the output chunk that was made last is of this chunk, so that `pieces` can tell it.
     ghost holds: { Self → List ℕ → Type 0 };
 
+    // The output chunk that was made last, of this chunk.
     ghost last: { Self → List ℕ → List ℕ };
 
     /// Makes the output chunk of a whole chunk.

@@ -1,5 +1,5 @@
 // The command that makes one output chunk of each chunk.
-ghost use Rattle.std.specs.Prelude.{◌≡◌, ◌≢◌, ◌<◌, None, []};
+ghost use Rattle.std.specs.Prelude.{◌≡◌, ◌≢◌, ◌<◌, []};
 ghost use Rattle.jfr_base.specs.declared.flaw.Refusal.{Refusal};
 ghost use Rattle.jfr_outside.specs.Counts.{Rose};
 ghost use Rattle.jfr_plan.specs.Ends.{Fine, Refused, way_of};
@@ -75,7 +75,7 @@ impl<M: Make> Stage for Making<'_, M> {
     }
 }
 
-// Makes one output chunk of each chunk of the input.
+// Makes one output chunk of each chunk of the input. All clauses of `make_stream` follow from these two.
 fn make_each<P: Place, M: Make>(
     alloc: Global,
     place: &mut P,

@@ -1,6 +1,5 @@
 // A command that writes texts for each chunk, and last ones at the end.
 ghost use Rattle.std.specs.Prelude.{◌≡◌, ◌<◌, ◌++◌, ◌∷◌, ◌^◌, ℕ, List, [], OnOk};
-ghost use Rattle.jfr_outside.specs.World.{SinkState};
 ghost use Rattle.jfr_plan.specs.Ends.{way_of};
 ghost use Rattle.jfr_plan.specs.Effects.{outside};
 ghost use Rattle.jfr_plan.specs.Walks.{Text};

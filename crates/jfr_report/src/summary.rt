@@ -40,7 +40,7 @@ impl Report for Summing {
         chunk: &Chunk<'_>,
         _number: u64,
     ) -> Result<(), Ending> {
-        // No recording comes so far; the contract of a stage can't say so.
+        // No recording comes so far, but the contract of a `Report` doesn't say by which number it is called.
         if self.summary.chunks() >= TOO_MANY {
             return Err(Ending::Memory);
         }

@@ -23,10 +23,11 @@ key_of events x = 1 + (x / 256) % events
 abbrev pub record_of : List ℕ → List ℕ
 record_of body = spell_in 4 (4 + length body) ++ body
 
--- a t.A, of class 8, with its number and the key of its node; a t.B, of class 9, with the key of its node
+-- a t.A, of class 8, with its number and the key of its node
 abbrev pub event_a : ℕ → ℕ → List ℕ
 event_a i key = record_of (spell 8 ++ spell i ++ spell key)
 
+-- a t.B, of class 9, with the key of its node
 abbrev pub event_b : ℕ → List ℕ
 event_b key = record_of (spell 9 ++ spell key)
 
@@ -38,7 +39,7 @@ event_by events i x = if nat_lt x (2 ^ 31) then event_a i (key_of events x) else
 unfoldable pub event : ℕ → ℕ → ℕ → List ℕ
 event seed events i = event_by events i (draw seed i)
 
--- the key that entry k has for its next node: of every third entry two back, else the next one, which may be missing
+-- the key that entry k has for its next node: k - 2 where k is a multiple of 3, else k + 1, which may be missing
 abbrev pub next_of : ℕ → ℕ
 next_of k = if k % 3 == 0 then k - 2 else k + 1
 
@@ -46,10 +47,11 @@ next_of k = if k % 3 == 0 then k - 2 else k + 1
 unfoldable pub entry : ℕ → List ℕ
 entry k = spell k ++ spell (next_of k) ++ string_of (decimal k)
 
--- the events from 1 on, and the entries from 1 on, one after another
+-- the events from 1 to n, one after another
 abbrev pub events_to : ℕ → ℕ → ℕ → List ℕ
 events_to seed events n = flat_map (event seed events) (range_with_len 1 n)
 
+-- the entries from 1 to n, one after another
 abbrev pub entries_to : ℕ → List ℕ
 entries_to n = flat_map entry (range_with_len 1 n)
 
@@ -74,10 +76,11 @@ sample_header size pools = record {
   flags = 3;
 }
 
--- the records of the sample: the metadata, the events, and the checkpoint
+-- the records before the checkpoint: the metadata and the events
 abbrev pub before_checkpoint : ℕ → ℕ → List ℕ
 before_checkpoint seed events = metadata ++ events_to seed events events
 
+-- the sample: the header, and its records, of which the checkpoint is the last
 unfoldable pub sample_of : ℕ → ℕ → List ℕ
 sample_of seed events =
     header_bytes (sample_header (68 + length (before_checkpoint seed events) + length (checkpoint events)) (68 + length (before_checkpoint seed events)))

@@ -54,7 +54,7 @@ fn push_entry(into: &mut Vec<u8>, digits: &mut Buffer, key: u64) -> Result<(), N
     push_string(into, digits.format(key))
 }
 
-/// The key that an entry has for its next node: of every third entry two back, else the next one.
+/// The key that an entry has for its next node: two less where its key is a multiple of 3, else one more.
 fn next_of(key: u64) -> u64
     requires { (1 ≤ key) × (key < 2 ^ 63) }
     ensures { result ≡ next_of key }

@@ -1,14 +1,15 @@
 // The events, each by a draw of the generator.
 ghost use Rattle.std.specs.Prelude.{◌≡◌, ◌≤◌, ◌++◌, OnOk};
-ghost use Rattle.jfr_sample.specs.Sample.{event_by, event_a, event_b, events_to, key_of, next_draw};
+ghost use Rattle.jfr_sample.specs.Sample.{event_by, event_a, event_b, events_to, next_draw};
 
 use crate::spelled::{push_size, push_var};
 use jfr_base::var_len;
 use jfr_outside::NoMemory;
 
-/// The ids of the classes of events.
+/// The id of the event class `t.A`.
 const CLASS_A: u64 = 8;
 
+/// The id of the event class `t.B`.
 const CLASS_B: u64 = 9;
 
 /// No event has more bytes: a size of four, the class in one, and two integers below 2^21.

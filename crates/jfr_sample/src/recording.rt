@@ -14,7 +14,7 @@ use std::alloc::Global;
 /// A header has so many bytes.
 const HEADER_LEN: usize = 68;
 
-/// The header, the metadata and the checkpoint before its entries have at most so many bytes.
+/// The header, the metadata and the checkpoint before its entries have at most so many bytes: 68, 257 and 14.
 const FIXED_LEN: usize = 339;
 
 /// A recording of one chunk with so many events, from 1 to 1,000,000, and as many constants. The same

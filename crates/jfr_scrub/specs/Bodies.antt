@@ -21,6 +21,7 @@ pub record Progress : Type 0 where
   pub older : Option ℕ
   pub metadata : Option ℕ
 
+-- What the code holds of a body, as bytes.
 abbrev pub progress_of : Body → Progress
 progress_of b = record { output = laying_of b.output; at = b.at; older = b.older; metadata = b.metadata }
 

@@ -13,11 +13,12 @@ use Rattle.jfr_chunk.specs.Refusal.{refusal_of}
 use Rattle.jfr_laws.specs.Laws.{IsSettled}
 use Rattle.jfr_scrub.specs.Scrubs.{scrubbed}
 
--- The chunks before the first that a rule refuses.
+-- These chunks, unless there is a flaw.
 abbrev pub unless_refused : Option Flaw → List (List ℕ) → List (List ℕ)
 unless_refused None cs = cs
 unless_refused (Some flaw) cs = []
 
+-- The chunks before the first that is refused.
 abbrev pub before_refused : (List ℕ → Option Flaw) → List (List ℕ) → List (List ℕ)
 before_refused refusal [] = []
 before_refused refusal (c ∷ cs) = unless_refused (refusal c) (c ∷ before_refused refusal cs)

@@ -39,16 +39,18 @@ pub record IsCursor (p : Parts) (flags : List Bool) (c : Cursor) : Type 0 where
 abbrev pub still_output_records : Parts → List Bool → Cursor → List OutputRecord
 still_output_records p flags c = filter_map (output_record_of p (kept_by p flags)) (drop c.frame p.records)
 
--- Whether the event of a number starts at a place and is kept; and the number of the next event, which is one more where it starts there.
+-- Whether the event of a number starts at a place and is kept.
 abbrev pub is_kept_at : List EventAt → List Bool → ℕ → ℕ → Bool
 is_kept_at es flags n at = option_map_or (λ e. (e.record_of.at == at) && unwrap_or (slice_get flags n) false) (slice_get es n) false
 
+-- The number of the event that comes next behind a place: one more where the event of a number starts there.
 abbrev pub event_behind : List EventAt → ℕ → ℕ → ℕ
 event_behind es n at = option_map_or (λ e. if e.record_of.at == at then n + 1 else n) (slice_get es n) n
 
--- The checkpoint of a number, where it starts at a place; and the number of the next checkpoint, which is one more where it starts there.
+-- The checkpoint of a number, with the number, where it starts at a place.
 abbrev pub linked_at : List Link → ℕ → ℕ → Option (ℕ × Link)
 linked_at ls n at = option_and_then (λ l. if l.frame.at == at then Some (n, l) else None) (slice_get ls n)
 
+-- The number of the checkpoint that comes next behind a place: one more where the checkpoint of a number starts there.
 abbrev pub link_behind : List Link → ℕ → ℕ → ℕ
 link_behind ls n at = option_map_or (λ l. if l.frame.at == at then n + 1 else n) (slice_get ls n) n

@@ -9,11 +9,12 @@ use Rattle.jfr_chunk.specs.Chosen.{kept_of}
 use Rattle.jfr_chunk.specs.Refusal.{read_parts, refusal_of}
 use Rattle.jfr_chunk.specs.Scrub.{scrub_of}
 
--- An accepted chunk becomes its scrub, with the events that the filter keeps.
+-- What a chunk becomes by its parts; one without parts, which is refused, becomes nothing.
 abbrev pub scrubbed_by : Given → Result Parts Flaw → List ℕ
 scrubbed_by g (Ok p) = scrub_of p (kept_of g p)
 scrubbed_by g (Err flaw) = []
 
+-- An accepted chunk becomes its scrub, with the events that the filter keeps.
 unfoldable pub scrubbed : Given → List ℕ → List ℕ
 scrubbed g c = scrubbed_by g (read_parts c)
 

@@ -1,7 +1,6 @@
 // What comes behind the header.
 ghost use Rattle.std.specs.Prelude.{◌≡◌, ◌+◌, ◌-◌, ◌^◌, ◌<◌, ◌≤◌, ◌==◌, [], None, filter, length, IfOk, OnOk};
 ghost use Rattle.std.specs.List.{AllByRecursion, flat_map};
-ghost use Rattle.jfr_chunk.specs.Parts.{metadata_at};
 ghost use Rattle.jfr_chunk.specs.Reach.{kept_by, remain};
 ghost use Rattle.jfr_chunk.specs.Scrub.{bytes_of, output_records};
 ghost use Rattle.jfr_chunk.specs.Written.{distance};

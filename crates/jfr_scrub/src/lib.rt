@@ -1,7 +1,7 @@
 //! The scrubber: what each chunk of a recording becomes, and the stream that scrubs a recording.
 //!
-//! `scrub_stream` takes a recording, `Scrubber` one chunk. Read `specs/Scrubs.antt`,
-//! `specs/Headline.antt` and `specs/Pieces.antt` first.
+//! `scrub_stream` takes a recording, `Scrubber` one chunk; both lay out what a chunk becomes by `LaidOut`.
+//! Read `specs/Scrubs.antt`, `specs/Headline.antt` and `specs/Pieces.antt` first.
 #![tactic(auto)]
 
 mod body;

@@ -1,6 +1,6 @@
 // The output records of a chunk: what is written of each of its records.
 ghost use Rattle.std.specs.Prelude.{◌≡◌, ◌||◌, ◌+◌, ◌-◌, ◌^◌, ◌<◌, [], ◌∷◌, length, slice_get, option_map, IfSome, MatchOption, Some};
-ghost use Rattle.jfr_chunk.specs.Parts.{AreParts, events_of};
+ghost use Rattle.jfr_chunk.specs.Parts.{events_of};
 ghost use Rattle.jfr_chunk.specs.Reach.{kept_by};
 ghost use Rattle.jfr_chunk.specs.Scrub.{output_record_by, output_record_of};
 ghost use Rattle.jfr_scrub.specs.OutputRecords.{IsCursor, event_behind, is_kept_at, link_behind, linked_at, output_record_as, still_output_records};
@@ -9,8 +9,8 @@ use jfr_chunk::{Chunk, Kept};
 use jfr_frame::{Framed, Frames};
 use jfr_pool::{Chain, Link};
 
-/// What is written of a record: the whole of it, or, of a chained checkpoint, the pools that have an entry left.
-/// Checkpoints are numbered in the order of the file.
+/// What is written of a record: the whole of it, or, of a chained checkpoint, the pools that have an entry
+/// left. Checkpoints are numbered in the order of the file.
 #[derive(Clone, Copy, Debug)]
 pub(crate) enum KeptRecord {
     Whole(Framed),
@@ -111,6 +111,7 @@ fn pass_event(chunk: &Chunk, kept: &Kept, number: &mut usize, at: usize) -> bool
     let Some(place) = chunk.event_place(old) else {
         return false;
     };
+    // An event that has a place has a number below the count: the second test is for the sum alone.
     if place != at || old >= chunk.event_count() {
         return false;
     }
@@ -126,6 +127,7 @@ fn pass_link(chain: &Chain, number: &mut usize, at: usize) -> Option<(usize, Lin
 {
     let old = *number;
     let link = *chain.get(old)?;
+    // The second test is for the sum alone, as above.
     if link.frame.at != at || old >= chain.len() {
         return None;
     }

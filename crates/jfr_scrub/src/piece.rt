@@ -1,14 +1,15 @@
 // Pieces of an output.
 
-/// What bytes are that are made rather than copied. All but the header are one integer each, in LEB128
-/// of at most nine bytes.
+/// What bytes are that are made rather than copied. All but the header are one compressed integer each, of
+/// at most nine bytes.
 #[derive(Clone, Copy, Debug)]
 pub enum MadePart {
     /// The chunk's header, of 68 bytes: the one before, with the size and the positions of the output.
     ChunkHeader,
     /// The size of a checkpoint's record, in as many bytes as it took before.
     CheckpointSize,
-    /// The distance from a checkpoint to the one before it, in two's complement.
+    /// A checkpoint's delta, in two's complement: what is added to its offset to come to the earlier
+    /// checkpoint of the chain, or 0 in the first of the chunk.
     CheckpointDelta,
     /// How many pools a checkpoint has.
     PoolCount,
@@ -32,14 +33,15 @@ pub(crate) enum Part {
     },
 }
 
-/// A piece of what a chunk becomes: bytes of the chunk from a place on, or a range of the bytes that
-/// are made, and what those are.
+/// A piece of what a chunk becomes.
 #[derive(Clone, Copy, Debug)]
 pub enum Piece<'a> {
+    /// These bytes of the chunk, which stand there from the offset `at` on.
     Copied {
         at: usize,
         bytes: &'a [u8],
     },
+    /// The range `from..to` of the bytes that are made (`Scrubber::made`), and what it is.
     Made {
         part: MadePart,
         from: usize,

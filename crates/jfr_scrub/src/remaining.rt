@@ -1,7 +1,6 @@
 // The entries that remain.
 ghost use Rattle.std.specs.Prelude.{◌≡◌, ℕ, ◌<◌, ◌≤◌, ◌++◌, [], ◌∷◌, length, slice_get, Some, IfOk, IsTrue, OnOk, if◌then◌else◌};
 ghost use Rattle.std.specs.List.{AllByRecursion};
-ghost use Rattle.jfr_base.specs.Integer.{spell};
 ghost use Rattle.jfr_chunk.specs.Reach.{marked};
 ghost use Rattle.jfr_chunk.specs.Written.{by_pool};
 ghost use Rattle.jfr_scrub.specs.Left.{HasRange, capped, entries_in, entries_size, groups_size, leading, pool_size, same_pool};

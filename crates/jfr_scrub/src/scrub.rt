@@ -4,7 +4,6 @@ ghost use Rattle.jfr_base.specs.declared.flaw.Refusal.{Refusal};
 ghost use Rattle.jfr_outside.specs.Counts.{Rose};
 ghost use Rattle.jfr_plan.specs.Ends.{Fine, Refused, way_of};
 ghost use Rattle.jfr_plan.specs.Effects.{alone};
-ghost use Rattle.jfr_plan.specs.Makes.{making};
 ghost use Rattle.jfr_plan.specs.Outcomes.{After, Tallied};
 ghost use Rattle.jfr_plan.specs.Walks.{File};
 ghost use Rattle.jfr_plan.specs.Clauses.{Ended, Halted, Broken, Partly, IsComplete, CanRead, CanCreate};

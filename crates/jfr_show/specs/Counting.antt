@@ -26,10 +26,11 @@ pub record AreClassTallies (k : Classes) (rs : List Framed) (ts : List Tally) : 
 pub record AreSmall (ts : List Tally) : Type 0 where
   pub each : (place : ℕ) (t : Tally) → slice_get ts place ≡ Some t → (t.events < 2 ^ 32) × (t.bytes < 2 ^ 32)
 
--- The tally of no events, and that of the events of two tallies.
+-- The tally of no events.
 abbrev pub no_tally : Tally
 no_tally = record { events = 0; bytes = 0 }
 
+-- The tally of the events of two tallies.
 abbrev pub both : Tally → Tally → Tally
 both s t = record { events = s.events + t.events; bytes = s.bytes + t.bytes }
 

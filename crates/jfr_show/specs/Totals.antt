@@ -18,11 +18,12 @@ use Rattle.jfr_show.specs.declared.tally.Tally.{Tally}
 use Rattle.jfr_show.specs.Names.{class_name}
 use Rattle.jfr_show.specs.Texts.{newline}
 
--- An event as it is counted: the bytes of its class's name, and the size of its record.
+-- An event as it is counted: the bytes of its class's name, and the size of its record in bytes.
 pub record Occurrence : Type 0 where
   pub name : List ℕ
   pub size : ℕ
 
+-- The record of an event as it is counted.
 abbrev pub occurrence : Classes → Framed → Occurrence
 occurrence k r = record { name = encode_utf8_all (class_name k r.type_id); size = r.size }
 
@@ -74,6 +75,7 @@ pub record Totals : Type 0 where
   pub inert : ℕ
   pub tallies : Tallies
 
+-- The totals of these chunks, in the order of the recording.
 unfoldable pub totals_of : List Parts → Totals
 totals_of ps = record {
   first = option_map (λ p. beginning_of (header_in p)) (slice_get ps 0);

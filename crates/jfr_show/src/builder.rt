@@ -11,8 +11,8 @@ use jfr_text::Characters;
 use std::alloc::Global;
 use std::marker::Model;
 
-/// A text that grows at its end. Contracts see it as the list of its characters. What it holds once
-/// memory was wanting is left open.
+/// A text that grows at its end. Contracts see it as the list of its characters. After want of memory
+/// nothing is promised of what it holds.
 #[derive(Drop)]
 pub struct TextBuilder {
     text: String,
@@ -58,7 +58,7 @@ impl TextBuilder {
         self.text.as_str()
     }
 
-    /// The text, which is copied only where it has a few bytes.
+    /// The text, which is copied only where it has at most 14 bytes.
     pub fn into_text(self) -> Result<Text, NoMemory>
         ensures ok { IfOk result (λ text. text ≡ self) }
     {

@@ -3,8 +3,8 @@
 //! A `TextWriter` adds the texts of many events of one chunk to a `TextBuilder`, and a `JsonWriter` their
 //! lines of JSON; `show_event` and `show_json` do so for one event, and `show_metadata` for the classes of
 //! a chunk. A `Summary` adds up chunks, and `summary_text` is its text. `event_text`, `event_json` and
-//! `metadata_text` make each text alone. Read `specs/Shown.antt` first, then `specs/Leaves.antt`, `specs/Texts.antt`,
-//! `specs/Json.antt`, `specs/Metadata.antt` and `specs/Totals.antt`.
+//! `metadata_text` make each text alone. Read `specs/Shown.antt` first, then `specs/Leaves.antt`,
+//! `specs/Texts.antt`, `specs/Json.antt`, `specs/Metadata.antt` and `specs/Totals.antt`.
 #![tactic(auto)]
 
 mod beginning;

@@ -65,7 +65,7 @@ impl Summary {
         }
     }
 
-    /// Adds a chunk to those so far. Where memory was wanting, what is kept is left open.
+    /// Adds a chunk to those so far. After want of memory nothing is promised of the totals.
     pub fn add(&mut self, chunk: &Chunk<'_>) -> Result<(), NoMemory>
         requires { self.old.chunks < 2 ^ 35 }
         ensures ok { OnOk result ((ps : List Parts) → self.old ≡ totals_of ps → self.new ≡ totals_of (ps ++ chunk.now ∷ [])) }

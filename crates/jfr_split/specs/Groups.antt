@@ -28,6 +28,7 @@ WasFull rule group [] = Unit {0}
 WasFull rule group ([] ∷ groups) = ⊥
 WasFull rule group ((c ∷ cs) ∷ groups) = is_full_for rule group c ≡ true
 
+-- each group is a part, and was full for the first chunk of the next
 abbrev pub AreParts : SplitRule → List (List (List ℕ)) → Type 0
 AreParts rule [] = Unit {0}
 AreParts rule (group ∷ groups) = IsPart rule group × WasFull rule group groups × AreParts rule groups

@@ -19,11 +19,12 @@ adding = record {
   target = File;
 }
 
--- a plan, and the next one where it ends well
+-- a plan that ends so, and the next one where that is well
 abbrev pub then_by : Option End → Plan → Plan → Plan
 then_by (Some Fine) p later = record { steps = p.steps ++ later.steps; end = later.end }
 then_by _ p later = p
 
+-- a plan, and the next one where it ends well
 abbrev pub plan_then : Plan → Plan → Plan
 plan_then p later = then_by p.end p later
 

@@ -31,6 +31,7 @@ abbrev pub part_by : Bool → Part → List ℕ → Part
 part_by true part chunk = record { number = part.number + 1; chunks = 1; bytes = length chunk }
 part_by false part chunk = record { number = part.number; chunks = part.chunks + 1; bytes = part.bytes + length chunk }
 
+-- the part that the chunk stands in
 abbrev pub part_with : SplitRule → Part → List ℕ → Part
 part_with rule part chunk = part_by (begins rule part chunk) part chunk
 

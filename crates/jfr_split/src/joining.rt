@@ -128,7 +128,8 @@ fn list_files<P: Place>(alloc: Global, place: &mut P, folder: &str) -> Result<Ve
     }
 }
 
-// Lists the folder, creates the output, and joins the files.
+// Lists the folder, creates the output, and joins the files. All clauses of `assemble` follow from these
+// two.
 fn join_folder<P: Place>(alloc: Global, place: &mut P, folder: &str, out: &str) -> Ending
     ensures told { AfterFiles (assembling folder.now out.now) (way_of result)
         (alone (P.state place.old)) (alone (P.state place.new)) }

@@ -2,7 +2,7 @@
 ghost use Rattle.std.specs.Prelude.{◌≡◌, ◌<◌, ◌≤◌, ◌+◌, ◌^◌, ◌∷◌, ◌++◌, [], string_bytes, IfOk, OnOk};
 ghost use Rattle.std.specs.Str.{chars};
 ghost use Rattle.jfr_outside.specs.World.{slice_of, in_folder as name_in_folder};
-ghost use Rattle.jfr_split.specs.Names.{base as base_of_name, without_suffix as name_without_suffix, stem as stem_of_file, digits, suffix, within, part_name as name_of_part};
+ghost use Rattle.jfr_split.specs.Names.{base as base_of_name, without_suffix as name_without_suffix, stem as stem_of_file, digits, suffix, part_name as name_of_part};
 
 use jfr_outside::{NoMemory, Text};
 use std::alloc::Global;

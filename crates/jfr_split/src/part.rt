@@ -1,5 +1,5 @@
 // How much a part holds, and the part that a chunk stands in.
-ghost use Rattle.std.specs.Prelude.{◌≡◌, ◌<◌, ◌+◌, ◌≤◌, ◌^◌, length, true, false};
+ghost use Rattle.std.specs.Prelude.{◌≡◌, ◌<◌, ◌+◌, ◌≤◌, ◌^◌, true, false};
 ghost use Rattle.jfr_outside.specs.World.{slice_of};
 ghost use Rattle.jfr_split.specs.Parts.{IsUsable, folder_of, begins, part_by, part_with};
 
@@ -30,11 +30,14 @@ pub fn folder_name(rule: &SplitRule) -> Option<&str>
     }
 }
 
-/// The part that is being filled; its number, from 1, is 0 where there is none yet.
+/// The part that is being filled, or none yet.
 #[derive(Clone, Copy)]
 pub struct Part {
+    /// Its number, from 1; 0 where there is no part yet.
     pub number: u64,
+    /// How many chunks it has.
     pub chunks: u64,
+    /// How many bytes they have together.
     pub bytes: u64,
 }
 
@@ -81,6 +84,7 @@ fn fuller_part(rule: &SplitRule, part: &Part, chunk: &[u8]) -> Part
     requires { begins rule.now part.now chunk.now ≡ false }
     ensures { result ≡ part_by false part.now chunk.now }
 {
+    // Read for the proof alone: the part has less than these numbers of 64 bits, so no sum below wraps.
     let _max_chunks = rule.max_chunks;
     let _max_size = rule.max_size;
     let part = *part;

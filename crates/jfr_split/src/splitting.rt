@@ -62,7 +62,7 @@ impl Stage for Splitting<'_> {
     }
 }
 
-// Cuts a recording into parts.
+// Cuts a recording into parts. All clauses of `disassemble` follow from these two.
 fn split_each<P: Place>(alloc: Global, place: &mut P, file: &str, rule: &SplitRule) -> Ending
     requires { IsUsable rule.now }
     ensures told { After (splitting rule.now file.now) [] file.now (way_of result)

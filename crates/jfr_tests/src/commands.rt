@@ -235,8 +235,8 @@ fn parts_come_back(rt: HostRuntime) -> Result<(), Fail> {
     Ok(())
 }
 
-// The second part can't be created: the first one, of so many chunks, is whole and was finished, so that the next
-// output that is finished is the second.
+// The second part can't be created: the first one, of so many chunks, is whole and was finished, so that
+// the next output that is finished is the second.
 fn see_first_part(rt: &impl Abort, alloc: Global, chunks: &str, size: usize) -> Result<(), Fail> {
     let mut place = three_chunks(alloc)?;
     place.fail(Call::Create, 2, 0)?;

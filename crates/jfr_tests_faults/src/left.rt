@@ -50,7 +50,8 @@ pub(crate) fn leaves_same(run: &Run, whole: &Run) -> bool {
     run.out.bytes() == whole.out.bytes()
 }
 
-// Whether a run left what one over fewer chunks does, and so many bytes more of what one over more chunks does.
+// Whether a run left what one over fewer chunks does, and so many bytes more of what one over more chunks
+// does.
 fn is_between(command: &Command, run: &Run, before: &Run, now: &Run, more: usize) -> bool {
     for name in OUTPUTS.iter() {
         if !is_same(

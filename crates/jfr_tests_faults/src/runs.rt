@@ -78,8 +78,8 @@ fn place_with(alloc: Global, chunks: usize) -> Result<MemoryPlace, Fail> {
     Ok(place)
 }
 
-/// Runs a command over the first chunks, with reads of at most 50 bytes, and a call that fails and keeps at most
-/// so many bytes.
+/// Runs a command over the first chunks, with reads of at most 50 bytes, and a call that fails and keeps at
+/// most so many bytes.
 pub(crate) fn run_once(
     alloc: Global,
     command: &[&str],

@@ -6,8 +6,8 @@ use std::alloc::Global;
 use std::process::Abort;
 use std::test::Fail;
 
-// A command over two chunks; for each file that it reads, how many bytes each read gives; and what stands after each
-// call that fails: those of `KINDS`, and the writes to the output stream.
+// A command over two chunks; for each file that it reads, how many bytes each read gives; and what stands
+// after each call that fails: those of `KINDS`, and the writes to the output stream.
 struct Case {
     command: Command,
     reads: &'static [&'static [usize]],
@@ -23,7 +23,8 @@ static KINDS: [Call; 5] = [
     Call::Finish,
 ];
 
-// A read gives at most 50 bytes: first of the 68 of a header, then of what its chunk lacks, and none at the end.
+// A read gives at most 50 bytes: first of the 68 of a header, then of what its chunk lacks, and none at the
+// end.
 const OF_BOTH: &[usize] = &[
     50, 18, 50, 50, 50, 50, 50, 44, 50, 18, 50, 50, 50, 50, 50, 37, 0,
 ];
@@ -174,8 +175,8 @@ fn chunks_in(bytes: usize) -> usize {
     }
 }
 
-// A read fails after so many bytes of the recording were taken: the chunks among them stand, and of the file that is
-// open so many bytes are left.
+// A read fails after so many bytes of the recording were taken: the chunks among them stand, and of the
+// file that is open so many bytes are left.
 fn see_read(
     rt: &impl Abort,
     alloc: Global,

@@ -47,7 +47,8 @@ fn chained(alloc: Global, chain: &Chain, last: u64) -> Result<Vec<u8>, AllocErro
     with_classes(alloc, &records, last)
 }
 
-// A long chain stays. Where its nodes go, since nothing reaches them, the deltas become those of what is left.
+// A long chain stays. Where its nodes go, since nothing reaches them, the deltas become those of what is
+// left.
 #[test]
 fn long_chains_are_scrubbed(rt: HostRuntime) -> Result<(), Fail> {
     let alloc = rt.alloc();

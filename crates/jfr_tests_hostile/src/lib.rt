@@ -1,5 +1,5 @@
-//! Tests of recordings that are cut anywhere, and of chunks whose classes nest as deep as they may or that have
-//! many checkpoints.
+//! Tests of recordings that are cut anywhere, and of chunks whose classes nest as deep as they may or that
+//! have many checkpoints.
 #![tactic(auto)]
 
 #[cfg(test)]

@@ -4,7 +4,8 @@ use jfr_fixtures::{NO_POOLS, plain_with};
 use std::alloc::{AllocError, Global};
 use std::test::Fail;
 
-// Texts that the classes share, as the first ten strings: root, metadata, class, name, id, field, long, 5, c, x.
+// Texts that the classes share, as the first ten strings: root, metadata, class, name, id, field, long, 5,
+// c, x.
 const SHARED: [u8; 55] = [
     3, 4, 0x72, 0x6F, 0x6F, 0x74, 3, 8, 0x6D, 0x65, 0x74, 0x61, 0x64, 0x61, 0x74, 0x61, 3, 5, 0x63,
     0x6C, 0x61, 0x73, 0x73, 3, 4, 0x6E, 0x61, 0x6D, 0x65, 3, 2, 0x69, 0x64, 3, 5, 0x66, 0x69, 0x65,
@@ -14,8 +15,8 @@ const SHARED: [u8; 55] = [
 // The class `long`, whose id is 5.
 const LONG: [u8; 7] = [2, 2, 3, 6, 4, 7, 0];
 
-// The class whose id is the string of this number behind the shared ones. It has an inline field of the class whose
-// id is the string `inner`.
+// The class whose id is the string of this number behind the shared ones. It has an inline field of the
+// class whose id is the string `inner`.
 fn class_of(number: u8, inner: u8) -> [u8; 14] {
     let id = number.saturating_add(10);
     [2, 2, 3, 8, 4, id, 1, 5, 2, 3, 9, 2, inner, 0]
@@ -33,8 +34,8 @@ fn record_of(alloc: Global, body: &[u8]) -> Result<Vec<u8>, AllocError> {
     Ok(record)
 }
 
-// A chunk without events, whose metadata has `long` and so many classes from 100 on, each with an inline field of
-// the next, and the last with one of `long`.
+// A chunk without events, whose metadata has `long` and so many classes from 100 on, each with an inline
+// field of the next, and the last with one of `long`.
 fn nested(alloc: Global, classes: u8) -> Result<Vec<u8>, AllocError> {
     let mut body = Vec::from_slice(alloc, [0, 0, 0, 1, classes.saturating_add(10)].as_slice())?;
     body.extend_from_slice(&SHARED)?;
@@ -51,8 +52,8 @@ fn nested(alloc: Global, classes: u8) -> Result<Vec<u8>, AllocError> {
     plain_with(alloc, &metadata, NO_POOLS)
 }
 
-// From 100 to 132 there are 32 inline steps, as many as there may be. With one more it is the first class that is
-// refused: 9 bytes of the record, 225 of strings and 13 of elements stand before it.
+// From 100 to 132 there are 32 inline steps, as many as there may be. With one more it is the first class
+// that is refused: 9 bytes of the record, 225 of strings and 13 of elements stand before it.
 #[test]
 fn classes_nest_32_steps_deep(rt: HostRuntime) -> Result<(), Fail> {
     let alloc = rt.alloc();

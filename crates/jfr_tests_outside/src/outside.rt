@@ -7,7 +7,8 @@ use std::alloc::Global;
 use std::process::Abort;
 use std::test::Fail;
 
-// Copies the file a to a new file b, by four bytes a time, which are appended whole or as two pieces by turns.
+// Copies the file a to a new file b, by four bytes a time, which are appended whole or as two pieces by
+// turns.
 fn copy<P: Place>(place: &mut P) -> Result<(), Fault> {
     let mut bytes = [0; 4];
     place.open_input("a")?;

@@ -14,10 +14,11 @@ use Rattle.jfr_words.specs.Prints.{no_print_option, print_from}
 use Rattle.jfr_words.specs.Scrubs.{scrub_from}
 use Rattle.jfr_words.specs.Splits.{no_split_option, split_from}
 
--- The words after `summary` and after `metadata`: the file.
+-- The words after `summary`: the file.
 abbrev pub summary_of : List (List ℕ) → Option Order
 summary_of words = option_map (λ file. Summary file) (only_name words)
 
+-- The words after `metadata`: the file.
 abbrev pub metadata_of : List (List ℕ) → Option Order
 metadata_of words = option_map (λ file. Metadata file) (only_name words)
 
