@@ -1,7 +1,7 @@
 // The lines of JSON of events.
 ghost use Rattle.std.specs.Prelude.{◌≤◌};
 
-use crate::chunks::{keys, kinds, rings};
+use crate::chunks::{keys, kinds, long_names, rings};
 use crate::texts::read;
 use jfr_outside::Text;
 use jfr_show::event_json;
@@ -81,5 +81,19 @@ fn members_stand_by_their_keys(rt: HostRuntime) -> Result<(), Fail> {
         0,
         1,
         "{\"type\":\"t.All\",\"values\":{\"count\":-2147483648,\"empty\":\"\",\"exact\":\"0x3ff0000000000000\",\"flag\":true,\"keys\":[{\"x\":3},{\"class\":\"t.Place\",\"key\":9,\"missing\":true}],\"latin\":\"ä\",\"letter\":65535,\"low\":-1,\"none\":null,\"nothing\":[],\"numbers\":[1,-1],\"place\":{\"x\":7},\"places\":[{\"x\":5}],\"ratio\":\"0x3f800000\",\"small\":-1,\"told\":\"a\\\"\\\\\\n\u{7F}ä\",\"units\":\"b€\",\"wide\":-1}}\n",
+    )
+}
+
+#[test]
+fn long_names_are_keys(rt: HostRuntime) -> Result<(), Fail> {
+    let alloc = rt.alloc();
+    let bytes = long_names(alloc)?;
+    compare(
+        &rt,
+        alloc,
+        &bytes,
+        0,
+        1,
+        "{\"type\":\"t.Long\",\"values\":{\"bbbbbbbbbbbbbbbbbbbbbbbbbbbbbbbbbbbbbbbbbbbbbbbbbbbbbbbbbbbbbbbbb\":3,\"cccccccccccccccccccccccccccccccccccccccccccccccccccccccccccccccc\":2,\"dddddddddddddddddddddddddddddddddddddddddddddddddddddddddddddddd\\\"\":1}}\n",
     )
 }

@@ -12,6 +12,7 @@ ghost use Rattle.jfr_show.specs.Json.{json_of, json_of_all, members_with, node_j
 ghost use Rattle.jfr_show.specs.Orders.{IsSource};
 
 use super::leaf::{push_integer, push_raw, push_text};
+use super::order::push_opening;
 use super::places::field_places;
 use super::reference::{push_missing, push_reference};
 use super::source::Source;
@@ -121,7 +122,7 @@ fn push_fields(
     let inner = reach.of_fields();
     out.push_str("{")?;
     for lead in &source.orders[place].leads {
-        out.push_str(lead.text.as_str())?;
+        push_opening(source.alloc, &lead.opening, out)?;
         let _end = push_value(
             source,
             &layouts[lead.field],

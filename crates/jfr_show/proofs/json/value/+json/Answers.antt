@@ -231,9 +231,9 @@ push_fields-loop-lead-preserved t c =
     let begun : c.index.result.now ≡ p.place = got_is (starts c.args.at vs) c.lead-item.result.field c.index.result.now p.place c.index.result.now p.begins (c.index.ensures ∙ ap (λ z. get_or z c.lead-item.result.field c.index.result.now) h.1) in
     let node : IsNode c.args.source.now.chunk.now.classes c.args.source.now.chunk.now.bytes (node_at layout.shape c.index.result.now p.end) p.value = subst (λ z. IsNode c.args.source.now.chunk.now.classes c.args.source.now.chunk.now.bytes (node_at layout.shape z p.end) p.value) (sym begun) p.node in
     let within : p.end ≤ c.args.limit = (let w = p.within in omega arith) in
-    let value = (c.in_ok-_end.ensures.ok p.end p.value node within).1 ∙ ap (λ (z : Reach). string_bytes c.push_str-in-loop-lead.new.self ++ compact_text (json_of c.args.source.now.chunk.now.classes (referred_json c.args.source.now.chunk.now z.references) p.value)) c.of_fields-inner.ensures in
-    sym (lay_one (lead_of c.lead-item.result) (map lead_of (drop (c.loop-lead.lead-index + 1) c.deref-lead-items.result.now)) (map lead_of (drop c.loop-lead.lead-index c.deref-lead-items.result.now)) (json_of_all c.args.source.now.chunk.now.classes (referred_json c.args.source.now.chunk.now c.args.reach.references) vs) (json_of c.args.source.now.chunk.now.classes (referred_json c.args.source.now.chunk.now c.args.reach.references) p.value) (string_bytes c.loop-lead.out) (string_bytes c.push_str-in-loop-lead.new.self) (string_bytes c.push_value.new.out)
-    (leads_from c.deref-lead-items.result.now c.loop-lead.lead-index c.lead-item.result g) (c.in_ok-push_str-2.ensures.bytes ∙ ap (λ z. string_bytes c.loop-lead.out ++ z) c.as_str.ensures.value) (p.json (referred_json c.args.source.now.chunk.now c.args.reach.references)) value)
+    let value = (c.in_ok-_end.ensures.ok p.end p.value node within).1 ∙ ap (λ (z : Reach). string_bytes c.push_opening.new.out ++ compact_text (json_of c.args.source.now.chunk.now.classes (referred_json c.args.source.now.chunk.now z.references) p.value)) c.of_fields-inner.ensures in
+    sym (lay_one (lead_of c.lead-item.result) (map lead_of (drop (c.loop-lead.lead-index + 1) c.deref-lead-items.result.now)) (map lead_of (drop c.loop-lead.lead-index c.deref-lead-items.result.now)) (json_of_all c.args.source.now.chunk.now.classes (referred_json c.args.source.now.chunk.now c.args.reach.references) vs) (json_of c.args.source.now.chunk.now.classes (referred_json c.args.source.now.chunk.now c.args.reach.references) p.value) (string_bytes c.loop-lead.out) (string_bytes c.push_opening.new.out) (string_bytes c.push_value.new.out)
+    (leads_from c.deref-lead-items.result.now c.loop-lead.lead-index c.lead-item.result g) c.in_ok-push_opening.ensures.ok (p.json (referred_json c.args.source.now.chunk.now c.args.reach.references)) value)
     ∙ c.loop-lead.invariant to vs r l)
 
 pub push_fields-returns : goal.push_fields-returns
@@ -248,6 +248,6 @@ push_fields-returns t c =
           let none : drop c.loop-lead.lead-index c.deref-lead-items.result.now ≡ [] = drop_all c.loop-lead.lead-index c.deref-lead-items.result.now (omega arith) in (
             h.0,
             lay_all class.fields (map lead_of c.deref-lead-items.result.now) (json_of_all c.args.source.now.chunk.now.classes (referred_json c.args.source.now.chunk.now c.args.reach.references) vs) (string_bytes c.args.out.now) (string_bytes c.push_str.new.self) (string_bytes c.loop-lead.out) (string_bytes c.push_str-2.new.self) order count c.in_ok-push_str.ensures.bytes
-                (sym (ap (λ z. string_bytes c.loop-lead.out ++ laid_out (map lead_of z) (json_of_all c.args.source.now.chunk.now.classes (referred_json c.args.source.now.chunk.now c.args.reach.references) vs)) none) ∙ c.loop-lead.invariant to vs r l) c.in_ok-push_str-3.ensures.bytes,
+                (sym (ap (λ z. string_bytes c.loop-lead.out ++ laid_out (map lead_of z) (json_of_all c.args.source.now.chunk.now.classes (referred_json c.args.source.now.chunk.now c.args.reach.references) vs)) none) ∙ c.loop-lead.invariant to vs r l) c.in_ok-push_str-2.ensures.bytes,
           );
     }
