@@ -1,4 +1,4 @@
-use Rattle.std.proofs.Common.{◌+◌, slice_range, ◌∙◌, arith}
+use Rattle.std.proofs.Common.{Err, ap, sym, ◌+◌, slice_range, ◌∙◌, arith}
 use Rattle.std.proofs.lemmas.Result.{err_from_is_err_and}
 use Rattle.jfr_text.proofs.ReadSteps.{int_missing, int_there, run_missing, run_there, done_there}
 use Rattle.jfr_text.proofs.read.read_bytes.Goals as goal
@@ -11,7 +11,8 @@ returns-in_err-count-clause-exact c =
 pub returns-then-count-end-clause-exact : goal.returns-then-count-end-clause-exact
 returns-then-count-end-clause-exact c =
     let v = c.in_ok-count.count in
-    int_there _ _ _ _ v c.in_ok-count.ensures.exact ∙ run_missing _ _ _ v.value _ (omega (arith, c.in_ok-count.ensures.range))
+    int_there _ _ _ _ v c.in_ok-count.ensures.exact ∙ (run_missing _ _ _ v.value _ (omega (arith, c.in_ok-count.ensures.range))
+    ∙ ap (λ flaw. Err flaw) (sym c.short.ensures))
 
 pub returns-clause-exact : goal.returns-clause-exact
 returns-clause-exact c =

@@ -1,10 +1,10 @@
-use Rattle.std.proofs.Common.{Err, sym, ◌∙◌, arith}
+use Rattle.std.proofs.Common.{Err, ap, sym, ◌∙◌, arith}
 use Rattle.jfr_text.proofs.AnswerLaws.{reads, fails, spells, ranges}
 use Rattle.jfr_text.proofs.ReadSteps.{kind_missing, kind_there}
 use Rattle.jfr_text.proofs.read.read_string.Goals as goal
 
 missing : goal.returns-then-at-end-clause-exact
-missing c = sym (kind_missing c.args.bytes.now c.args.end c.args.at (omega arith))
+missing c = ap (λ flaw. Err flaw) c.short.ensures ∙ sym (kind_missing c.args.bytes.now c.args.end c.args.at (omega arith))
 
 there : goal.returns-clause-exact
 there c = c.read_kind.ensures.exact ∙ sym (kind_there c.args.bytes.now c.args.end c.args.at (omega arith))
