@@ -1,5 +1,5 @@
 -- The order in which the fields of a class are written is that of the members of its objects.
-use Rattle.std.specs.Prelude.{◌≡◌, ℕ, suc, ◌+◌, ◌<◌, ◌≤◌, Bool, true, false, List, [], ◌∷◌, ◌++◌, length, map, slice_get, Some}
+use Rattle.std.specs.Prelude.{◌≡◌, ℕ, suc, ◌+◌, ◌<◌, ◌≤◌, Bool, true, false, List, [], ◌∷◌, ◌++◌, length, map}
 use Rattle.std.specs.List.{AllByRecursion}
 use Rattle.std.specs.Ordering.{nat_cmp, match_ordering}
 use Rattle.std.specs.Cmp.Lexicographic.{slice_cmp}
@@ -8,13 +8,11 @@ use Rattle.std.specs.declared.cmp.Ordering.TheVariants.{Less, Equal, Greater}
 use Rattle.std.specs.Str.{encode_utf8_all}
 use Rattle.std.proofs.Common.{ap, arith, refl, sym, ◌∙◌, subst}
 use Rattle.std.proofs.lemmas.List.{append_assoc}
-use Rattle.std.proofs.lemmas.Map.Lookups.{exact_bytes}
 use Rattle.serde_json.specs.Data.{Data, number, string, unsigned, Members, no_members, member, put}
 use Rattle.serde_json.specs.Written.{comma_if, compact_text, members_text}
 use Rattle.jfr_layout.specs.Classes.{Field}
 use Rattle.jfr_show.specs.Json.{members_with}
 use Rattle.jfr_show.specs.Orders.{IsOrder, laid_out, leads, nth, number_in, numbers}
-use Rattle.jfr_show.proofs.PlacedLaws.{get_below}
 
 -- Members whose values are changed.
 abbrev changed : (Data → Data) → Members → Members
@@ -59,39 +57,32 @@ laid later (member key d ms) ds =
     ap (λ z. comma_if later ++ (compact_text (string key) ++ 58 ∷ (compact_text (picked ds d) ++ z))) (laid true ms ds)
     ∙ lay_group (comma_if later) (compact_text (string key)) (compact_text (picked ds d)) (laid_out (leads true ms) ds)
 
--- Each member numbers a field of its name.
-abbrev pub Named : List Field → Members → Type 0
-Named fs no_members = Unit {0}
-Named fs (member key d ms) = (f : Field) × (slice_get fs (number_in d) ≡ Some f) × (key ≡ encode_utf8_all f.name) × Named fs ms
+-- Each number is below a bound.
+abbrev Below : ℕ → Members → Type 0
+Below n no_members = Unit {0}
+Below n (member key d ms) = (number_in d < n) × Below n ms
 
-named_put : (fs : List Field) (f : Field) (key : List ℕ) (d : Data) (ms : Members) → slice_get fs (number_in d) ≡ Some f → key ≡ encode_utf8_all f.name → Named fs ms → Named fs (put key d ms)
-named_put fs f key d no_members g e n = (f, g, e, tt)
-named_put fs f key d (member l v ms) g e n = by_order (slice_cmp nat_cmp key l) refl (named_put fs f key d ms g e n.3)
+below_put : (n : ℕ) (key : List ℕ) (d : Data) (ms : Members) → number_in d < n → Below n ms → Below n (put key d ms)
+below_put n key d no_members x b = (x, tt)
+below_put n key d (member l e ms) x b = by_order (slice_cmp nat_cmp key l) (below_put n key d ms x b.1)
   where
-    by_order : (o : Ordering) → slice_cmp nat_cmp key l ≡ o → Named fs (put key d ms) → Named fs (match_ordering o (member key d (member l v ms)) (member l d ms) (member l v (put key d ms)))
-    by_order Less q h = (f, g, e, n)
-    by_order Equal q h = (f, g, sym (exact_bytes key l q) ∙ e, n.3)
-    by_order Greater q h = (n.0, n.1, n.2, h)
+    by_order : (o : Ordering) → Below n (put key d ms) → Below n (match_ordering o (member key d (member l e ms)) (member l d ms) (member l e (put key d ms)))
+    by_order Less h = (x, b)
+    by_order Equal h = (x, b.1)
+    by_order Greater h = (b.0, h)
 
-named_with : (all fs : List Field) (m : ℕ) (ms : Members) → ((i : ℕ) → slice_get all (m + i) ≡ slice_get fs i) → Named all ms → Named all (members_with ms fs (numbers m fs))
-named_with all [] m ms h n = n
-named_with all (f ∷ fs) m ms h n =
-    let here : slice_get all m ≡ Some f = (let z : m ≡ m + 0 = omega arith in ap (slice_get all) z ∙ h 0) in
-    named_with all fs (suc m) (put (encode_utf8_all f.name) (number (unsigned m)) ms) (λ i. (let z : suc m + i ≡ m + suc i = omega arith in ap (slice_get all) z ∙ h (suc i)))
-    (named_put all f (encode_utf8_all f.name) (number (unsigned m)) ms here refl n)
+below_with : (n m : ℕ) (ms : Members) (fs : List Field) → m + length fs ≤ n → Below n ms → Below n (members_with ms fs (numbers m fs))
+below_with n m ms [] l b = b
+below_with n m ms (f ∷ fs) l b = below_with n (suc m) (put (encode_utf8_all f.name) (number (unsigned m)) ms) fs (omega (arith, l)) (below_put n (encode_utf8_all f.name) (number (unsigned m)) ms (omega (arith, l)) b)
 
--- Those under which the fields' numbers are put do.
-pub named : (fs : List Field) → Named fs (members_with no_members fs (numbers 0 fs))
-named fs = named_with fs fs 0 no_members (λ i. (let z : 0 + i ≡ i = omega arith in ap (slice_get fs) z)) tt
-
-below_leads : (fs : List Field) (later : Bool) (ms : Members) → Named fs ms → AllByRecursion (λ m. m.1 < length fs) (leads later ms)
-below_leads fs later no_members n = tt
-below_leads fs later (member key d ms) n = (get_below fs (number_in d) n.0 n.1, below_leads fs true ms n.3)
+below_leads : (n : ℕ) (later : Bool) (ms : Members) → Below n ms → AllByRecursion (λ m. m.1 < n) (leads later ms)
+below_leads n later no_members b = tt
+below_leads n later (member key d ms) b = (b.0, below_leads n true ms b.1)
 
 -- The members under which the fields' numbers are put give the order.
 pub order_is : (fs : List Field) (ms : Members) → ms ≡ members_with no_members fs (numbers 0 fs) → IsOrder fs (leads false ms)
 order_is fs ms e = subst (λ z. IsOrder fs (leads false z)) (sym e) (record {
-  within = below_leads fs false (members_with no_members fs (numbers 0 fs)) (named fs);
+  within = below_leads (length fs) false (members_with no_members fs (numbers 0 fs)) (below_with (length fs) 0 no_members fs (omega arith) tt);
   exact = λ ds l.
       ap (λ z. members_text false (members_with no_members fs z)) (sym (picked_numbers ds 0 fs ds l (λ i. (let z : 0 + i ≡ i = omega arith in ap (nth ds) z))))
       ∙ (ap (members_text false) (sym (changed_with (picked ds) no_members fs (numbers 0 fs)))

@@ -19,7 +19,7 @@ use Rattle.serde_json.specs.Written.{compact_text}
 use Rattle.jfr_show.specs.declared.json.order.Lead.{Lead}
 use Rattle.jfr_show.specs.declared.json.order.Order.{Order}
 use Rattle.jfr_show.specs.Json.{json_of, json_of_all, members_with}
-use Rattle.jfr_show.specs.Orders.{AreOrders, IsOrder, laid_out, lead_of, nth, starts}
+use Rattle.jfr_show.specs.Orders.{IsOrder, IsOrderAt, laid_out, lead_of, nth, starts}
 
 module _ (k : Classes) (c : List ℕ) where
   -- The beginnings with those of more values.
@@ -140,12 +140,10 @@ pub record Ordered (k : Classes) (place : ℕ) (ls : List Lead) : Type 0 where
   pub there : slice_get k place ≡ Some class
   pub order : IsOrder class.fields (map lead_of ls)
 
-pub ordered : (k : Classes) (os : List Order) (place : ℕ) (d : Order) (ls : List Lead) → AreOrders k os → place < length k → ls ≡ (get_or os place d).leads.items → Ordered k place ls
-ordered k os place d ls a l q =
+pub ordered : (k : Classes) (place : ℕ) (o : Order) (ls : List Lead) → IsOrderAt k place o → place < length k → ls ≡ o.leads.items → Ordered k place ls
+ordered k place o ls a l q =
     let c = get_within k place l in
-    let o : Order = get_or os place d in
-    let g : slice_get os place ≡ Some o = got os place o d (omega (arith, l, a.count)) refl in
-    record { class = c.0; there = c.1; order = subst (λ z. IsOrder c.0.fields (map lead_of z)) (sym q) (a.each place c.0 o c.1 g) }
+    record { class = c.0; there = c.1; order = subst (λ z. IsOrder c.0.fields (map lead_of z)) (sym q) (a c.0 c.1) }
 
 -- A lead numbers a field of the class.
 pub below_fields : (k : Classes) (place : ℕ) (ls : List Lead) (i : ℕ) (x : Lead) (o : Ordered k place ls) → slice_get ls i ≡ Some x → x.field < length o.class.fields

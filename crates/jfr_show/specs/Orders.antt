@@ -1,5 +1,5 @@
 -- The members of an object in the order of their keys, by the numbers of the fields.
-use Rattle.std.specs.Prelude.{◌≡◌, ℕ, zero, suc, ◌+◌, ◌<◌, List, [], ◌∷◌, ◌++◌, length, map, slice_get, encode_utf8_all, string_bytes, unwrap_or, option_and_then, Bool, true, false, Some}
+use Rattle.std.specs.Prelude.{◌≡◌, ℕ, zero, suc, ◌+◌, ◌<◌, List, [], ◌∷◌, ◌++◌, length, map, slice_get, string_bytes, unwrap_or, option_and_then, Bool, true, false, Option, Some}
 use Rattle.std.specs.List.{AllByRecursion}
 use Rattle.serde_json.specs.Data.{Data, null, number, string, unsigned, Members, no_members, member}
 use Rattle.serde_json.specs.Find.{as_number, as_u64}
@@ -7,8 +7,6 @@ use Rattle.serde_json.specs.Written.{comma_if, compact_text, members_text}
 use Rattle.jfr_layout.specs.Classes.{Class, Classes, Field, Sound}
 use Rattle.jfr_value.specs.Values.{Values, Nil, Cons, bytes_of}
 use Rattle.jfr_show.specs.declared.json.order.Lead.{Lead}
-use Rattle.jfr_show.specs.declared.json.order.Opening.{Opening}
-use Rattle.jfr_show.specs.declared.json.order.Opening.TheVariants.{Kept, Long}
 use Rattle.jfr_show.specs.declared.json.order.Order.{Order}
 use Rattle.jfr_show.specs.declared.json.source.Source.{Source}
 use Rattle.jfr_show.specs.Json.{members_with}
@@ -29,27 +27,22 @@ pub record IsOrder (fs : List Field) (ms : List (List ℕ × ℕ)) : Type 0 wher
   pub within : AllByRecursion (λ m. m.1 < length fs) ms
   pub exact : (ds : List Data) → length ds ≡ length fs → members_text false (members_with no_members fs ds) ≡ laid_out ms ds
 
--- What is written before the value of a member: a comma behind another member, the key, and a colon.
-abbrev pub key_text : Bool → List ℕ → List ℕ
-key_text later key = comma_if later ++ (compact_text (string key) ++ 58 ∷ [])
-
--- That text, by what the code keeps of it.
-abbrev pub opening_text : Opening → List ℕ
-opening_text (Kept text) = string_bytes text
-opening_text (Long later name) = key_text later (encode_utf8_all name)
-
 -- What the code keeps of a member, and of a class.
 abbrev pub lead_of : Lead → List ℕ × ℕ
-lead_of m = (opening_text m.opening, m.field)
+lead_of m = (string_bytes m.text, m.field)
 
 abbrev pub leads_of : Order → List (List ℕ × ℕ)
 leads_of o = map lead_of o.leads.items
 
--- Each class of a sound list has its order, at its place.
-pub record AreOrders (k : Classes) (os : List Order) : Type 0 where
+-- An order of the class at a place.
+abbrev pub IsOrderAt : Classes → ℕ → Order → Type 0
+IsOrderAt k place o = (c : Class) → slice_get k place ≡ Some c → IsOrder c.fields (leads_of o)
+
+-- Each class of a sound list has its place, and what is kept there is its order.
+pub record AreOrders (k : Classes) (os : List (Option Order)) : Type 0 where
   pub sound : Sound k
   pub count : length os ≡ length k
-  pub each : (place : ℕ) (c : Class) (o : Order) → slice_get k place ≡ Some c → slice_get os place ≡ Some o → IsOrder c.fields (leads_of o)
+  pub each : (place : ℕ) (o : Order) → slice_get os place ≡ Some (Some o) → IsOrderAt k place o
 
 abbrev pub IsSource : Source → Type 0
 IsSource s = AreOrders s.chunk.now.classes s.orders.now
@@ -66,7 +59,7 @@ number_in d = unwrap_or (option_and_then as_u64 (as_number d)) 0
 -- What is written before each member, and the number that is its value.
 abbrev pub leads : Bool → Members → List (List ℕ × ℕ)
 leads later no_members = []
-leads later (member key d ms) = (key_text later key, number_in d) ∷ leads true ms
+leads later (member key d ms) = (comma_if later ++ (compact_text (string key) ++ 58 ∷ []), number_in d) ∷ leads true ms
 
 -- Where values begin that stand one behind another.
 abbrev pub starts : ℕ → Values → List ℕ

@@ -4,8 +4,9 @@
 // event are walked as for its text, and what `serde_json` would write for them is added to a string. An
 // object has its members in the order of their keys, and a class its fields in another, so `Order` says
 // for each class of the chunk in which order its fields are written and what stands before each value; it
-// is worked out once a chunk, by `serde_json`'s own map. `places.rt` says where the fields of a value
-// stand, so that they can be written in any order. The definition stays that of the library's text.
+// is worked out by `serde_json`'s own map, once a chunk where no field has a long name. `places.rt` says
+// where the fields of a value stand, so that they can be written in any order. The definition stays that of
+// the library's text.
 //
 // With a value of `serde_json` for each event a recording of 34 MB took 8.8 s, and so it takes 3.5 s.
 ghost use Rattle.std.specs.Prelude.{◌≡◌, ◌≤◌, ◌++◌, Some, IfOk, OnOk, slice_get, string_bytes};
@@ -45,7 +46,7 @@ const LINE: usize = 1024;
 pub struct JsonWriter<'c, 'a> {
     alloc: Global,
     chunk: &'c Chunk<'a>,
-    orders: Vec<Order>,
+    orders: Vec<Option<Order>>,
 }
 
 impl<'c, 'a> Model for JsonWriter<'c, 'a> {

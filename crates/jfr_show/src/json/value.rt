@@ -9,10 +9,10 @@ ghost use Rattle.jfr_value.specs.Values as tree;
 ghost use Rattle.jfr_value.specs.Visits.{field_shapes};
 ghost use Rattle.jfr_value.specs.Walks.{IsLayoutIfKnown, Room};
 ghost use Rattle.jfr_show.specs.Json.{json_of, json_of_all, members_with, node_json, referred_json};
-ghost use Rattle.jfr_show.specs.Orders.{IsSource};
+ghost use Rattle.jfr_show.specs.Orders.{IsOrderAt, IsSource};
 
 use super::leaf::{push_integer, push_raw, push_text};
-use super::order::push_opening;
+use super::order::{Order, order_of};
 use super::places::field_places;
 use super::reference::{push_missing, push_reference};
 use super::source::Source;
@@ -117,12 +117,44 @@ fn push_fields(
     ensures ok { IfOk result (λ end. (to : ℕ) (vs : tree.Values) (class : Class) → IsRow source.now.chunk.now.classes source.now.chunk.now.bytes at to (field_shapes source.now.chunk.now.classes place) vs → to ≤ limit
         → slice_get source.now.chunk.now.classes place ≡ Some class → (end ≡ to) × (string_bytes out.new ≡ string_bytes out.old ++ compact_text (object (members_with no_members class.fields (json_of_all source.now.chunk.now.classes (referred_json source.now.chunk.now reach.references) vs))))) }
 {
+    match &source.orders[place] {
+        Some(order) => push_members(source, order, place, at, limit, reach, out),
+        None => {
+            let class = source.chunk.classes().class_at(place);
+            let order = order_of(source.alloc, &class.fields)?;
+            push_members(source, &order, place, at, limit, reach, out)
+        }
+    }
+}
+
+/// Adds a value of the class at a place, whose fields are written in this order, and says where it ends.
+#[cycle(json)]
+fn push_members(
+    source: &Source<'_, '_>,
+    order: &Order,
+    place: usize,
+    at: usize,
+    limit: usize,
+    reach: Reach,
+    out: &mut String,
+) -> Result<usize, NoMemory>
+    requires source { IsSource source.now }
+    requires within { limit ≤ length source.now.chunk.now.bytes }
+    requires order { IsOrderAt source.now.chunk.now.classes place order.now }
+    requires placed { place < length source.now.chunk.now.classes }
+    requires inner { 1 ≤ reach.composites }
+    requires room { AllByRecursion (Room source.now.chunk.now.classes (reach.composites - 1)) (field_shapes source.now.chunk.now.classes place) }
+    requires stand { (to : ℕ) × (vs : tree.Values) × IsRow source.now.chunk.now.classes source.now.chunk.now.bytes at to (field_shapes source.now.chunk.now.classes place) vs × (to ≤ limit) }
+    requires composites { reach.composites ≤ 33 }
+    ensures ok { IfOk result (λ end. (to : ℕ) (vs : tree.Values) (class : Class) → IsRow source.now.chunk.now.classes source.now.chunk.now.bytes at to (field_shapes source.now.chunk.now.classes place) vs → to ≤ limit
+        → slice_get source.now.chunk.now.classes place ≡ Some class → (end ≡ to) × (string_bytes out.new ≡ string_bytes out.old ++ compact_text (object (members_with no_members class.fields (json_of_all source.now.chunk.now.classes (referred_json source.now.chunk.now reach.references) vs))))) }
+{
     let places = field_places(source.alloc, source.chunk, place, at, limit)?;
     let layouts = source.chunk.classes().layouts(place);
     let inner = reach.of_fields();
     out.push_str("{")?;
-    for lead in &source.orders[place].leads {
-        push_opening(source.alloc, &lead.opening, out)?;
+    for lead in &order.leads {
+        out.push_str(lead.text.as_str())?;
         let _end = push_value(
             source,
             &layouts[lead.field],

@@ -168,26 +168,26 @@ push_value-returns-in-Fields t c =
           (e.0, e.1 ∙ ap (λ z. string_bytes c.args.out.now ++ compact_text z) (sym (composite_json c.args.source.now.chunk.now.classes (referred_json c.args.source.now.chunk.now c.args.reach.references) c.args.layout.now.shape [] f.parts v f.class f.value f.array f.found))));
     }
 
-pub push_fields-offset_bounds-layouts-lead : goal.push_fields-offset_bounds-layouts-lead
-push_fields-offset_bounds-layouts-lead t c =
+pub push_members-offset_bounds-layouts-lead : goal.push_members-offset_bounds-layouts-lead
+push_members-offset_bounds-layouts-lead t c =
     let layouts : IfSome (slice_get c.args.source.now.chunk.now.classes c.args.place) (λ d. AreFieldLayouts c.args.source.now.chunk.now.classes d.fields c.layouts-layouts.result.now) = subst (λ z. IfSome (slice_get z c.args.place) (λ d. AreFieldLayouts z d.fields c.layouts-layouts.result.now)) c.classes.ensures c.layouts-layouts.ensures.exact in
-    let o = ordered c.args.source.now.chunk.now.classes c.args.source.now.orders.now c.args.place c.index-source-place.result c.deref-lead-items.result.now c.requires.source c.requires.placed c.deref-lead-items.ensures.value in
+    let o = ordered c.args.source.now.chunk.now.classes c.args.place c.args.order.now c.deref-lead-items.result.now c.requires.order c.requires.placed c.deref-lead-items.ensures.value in
     let g = got c.deref-lead-items.result.now c.loop-lead.lead-index c.lead-item.result c.lead-item.result c.loop-lead-test.true c.lead-item.is in
     let below : c.lead-item.result.field < length c.layouts-layouts.result.now = below_layouts c.args.source.now.chunk.now.classes c.args.place c.deref-lead-items.result.now c.loop-lead.lead-index c.lead-item.result c.layouts-layouts.result.now o c.requires.placed layouts g in
     search (rules, below)
 
-pub push_fields-bounds-layouts-lead : goal.push_fields-bounds-layouts-lead
-push_fields-bounds-layouts-lead t c =
+pub push_members-bounds-layouts-lead : goal.push_members-bounds-layouts-lead
+push_members-bounds-layouts-lead t c =
     let layouts : IfSome (slice_get c.args.source.now.chunk.now.classes c.args.place) (λ d. AreFieldLayouts c.args.source.now.chunk.now.classes d.fields c.layouts-layouts.result.now) = subst (λ z. IfSome (slice_get z c.args.place) (λ d. AreFieldLayouts z d.fields c.layouts-layouts.result.now)) c.classes.ensures c.layouts-layouts.ensures.exact in
-    let o = ordered c.args.source.now.chunk.now.classes c.args.source.now.orders.now c.args.place c.index-source-place.result c.deref-lead-items.result.now c.requires.source c.requires.placed c.deref-lead-items.ensures.value in
+    let o = ordered c.args.source.now.chunk.now.classes c.args.place c.args.order.now c.deref-lead-items.result.now c.requires.order c.requires.placed c.deref-lead-items.ensures.value in
     let g = got c.deref-lead-items.result.now c.loop-lead.lead-index c.lead-item.result c.lead-item.result c.loop-lead-test.true c.lead-item.is in
     let below : c.lead-item.result.field < length c.layouts-layouts.result.now = below_layouts c.args.source.now.chunk.now.classes c.args.place c.deref-lead-items.result.now c.loop-lead.lead-index c.lead-item.result c.layouts-layouts.result.now o c.requires.placed layouts g in
     search (rules, below)
 
-pub push_fields-index-requires : goal.push_fields-index-requires
-push_fields-index-requires t c =
+pub push_members-index-requires : goal.push_members-index-requires
+push_members-index-requires t c =
     let layouts : IfSome (slice_get c.args.source.now.chunk.now.classes c.args.place) (λ d. AreFieldLayouts c.args.source.now.chunk.now.classes d.fields c.layouts-layouts.result.now) = subst (λ z. IfSome (slice_get z c.args.place) (λ d. AreFieldLayouts z d.fields c.layouts-layouts.result.now)) c.classes.ensures c.layouts-layouts.ensures.exact in
-    let o = ordered c.args.source.now.chunk.now.classes c.args.source.now.orders.now c.args.place c.index-source-place.result c.deref-lead-items.result.now c.requires.source c.requires.placed c.deref-lead-items.ensures.value in
+    let o = ordered c.args.source.now.chunk.now.classes c.args.place c.args.order.now c.deref-lead-items.result.now c.requires.order c.requires.placed c.deref-lead-items.ensures.value in
     let g = got c.deref-lead-items.result.now c.loop-lead.lead-index c.lead-item.result c.lead-item.result c.loop-lead-test.true c.lead-item.is in
     let below : c.lead-item.result.field < length c.layouts-layouts.result.now = below_layouts c.args.source.now.chunk.now.classes c.args.place c.deref-lead-items.result.now c.loop-lead.lead-index c.lead-item.result c.layouts-layouts.result.now o c.requires.placed layouts g in
     let r = c.requires.stand in
@@ -196,10 +196,10 @@ push_fields-index-requires t c =
     let within : c.lead-item.result.field < length c.in_ok-places.places.starts.items = omega (arith, count, below_fields c.args.source.now.chunk.now.classes c.args.place c.deref-lead-items.result.now c.loop-lead.lead-index c.lead-item.result o g) in
     search (rules, within)
 
-pub push_fields-push_value-requires : goal.push_fields-push_value-requires
-push_fields-push_value-requires t c =
+pub push_members-push_value-requires : goal.push_members-push_value-requires
+push_members-push_value-requires t c =
     let layouts : IfSome (slice_get c.args.source.now.chunk.now.classes c.args.place) (λ d. AreFieldLayouts c.args.source.now.chunk.now.classes d.fields c.layouts-layouts.result.now) = subst (λ z. IfSome (slice_get z c.args.place) (λ d. AreFieldLayouts z d.fields c.layouts-layouts.result.now)) c.classes.ensures c.layouts-layouts.ensures.exact in
-    let o = ordered c.args.source.now.chunk.now.classes c.args.source.now.orders.now c.args.place c.index-source-place.result c.deref-lead-items.result.now c.requires.source c.requires.placed c.deref-lead-items.ensures.value in
+    let o = ordered c.args.source.now.chunk.now.classes c.args.place c.args.order.now c.deref-lead-items.result.now c.requires.order c.requires.placed c.deref-lead-items.ensures.value in
     let g = got c.deref-lead-items.result.now c.loop-lead.lead-index c.lead-item.result c.lead-item.result c.loop-lead-test.true c.lead-item.is in
     let below : c.lead-item.result.field < length c.layouts-layouts.result.now = below_layouts c.args.source.now.chunk.now.classes c.args.place c.deref-lead-items.result.now c.loop-lead.lead-index c.lead-item.result c.layouts-layouts.result.now o c.requires.placed layouts g in
     let layout = get_or c.layouts-layouts.result.now c.lead-item.result.field no_layout in
@@ -216,10 +216,10 @@ push_fields-push_value-requires t c =
     let room : Room c.args.source.now.chunk.now.classes c.of_fields-inner.result.composites layout.shape = subst (λ z. Room c.args.source.now.chunk.now.classes z layout.shape) (sym composites) (room_first (Room c.args.source.now.chunk.now.classes (c.args.reach.composites - 1)) (field_shapes c.args.source.now.chunk.now.classes c.args.place) c.lead-item.result.field layout.shape _ c.requires.room x) in
     search (rules, stands, known, room, references, composites)
 
-pub push_fields-loop-lead-preserved : goal.push_fields-loop-lead-preserved
-push_fields-loop-lead-preserved t c =
+pub push_members-loop-lead-preserved : goal.push_members-loop-lead-preserved
+push_members-loop-lead-preserved t c =
     let layouts : IfSome (slice_get c.args.source.now.chunk.now.classes c.args.place) (λ d. AreFieldLayouts c.args.source.now.chunk.now.classes d.fields c.layouts-layouts.result.now) = subst (λ z. IfSome (slice_get z c.args.place) (λ d. AreFieldLayouts z d.fields c.layouts-layouts.result.now)) c.classes.ensures c.layouts-layouts.ensures.exact in
-    let o = ordered c.args.source.now.chunk.now.classes c.args.source.now.orders.now c.args.place c.index-source-place.result c.deref-lead-items.result.now c.requires.source c.requires.placed c.deref-lead-items.ensures.value in
+    let o = ordered c.args.source.now.chunk.now.classes c.args.place c.args.order.now c.deref-lead-items.result.now c.requires.order c.requires.placed c.deref-lead-items.ensures.value in
     let g = got c.deref-lead-items.result.now c.loop-lead.lead-index c.lead-item.result c.lead-item.result c.loop-lead-test.true c.lead-item.is in
     let below : c.lead-item.result.field < length c.layouts-layouts.result.now = below_layouts c.args.source.now.chunk.now.classes c.args.place c.deref-lead-items.result.now c.loop-lead.lead-index c.lead-item.result c.layouts-layouts.result.now o c.requires.placed layouts g in
     let layout = get_or c.layouts-layouts.result.now c.lead-item.result.field no_layout in
@@ -231,14 +231,14 @@ push_fields-loop-lead-preserved t c =
     let begun : c.index.result.now ≡ p.place = got_is (starts c.args.at vs) c.lead-item.result.field c.index.result.now p.place c.index.result.now p.begins (c.index.ensures ∙ ap (λ z. get_or z c.lead-item.result.field c.index.result.now) h.1) in
     let node : IsNode c.args.source.now.chunk.now.classes c.args.source.now.chunk.now.bytes (node_at layout.shape c.index.result.now p.end) p.value = subst (λ z. IsNode c.args.source.now.chunk.now.classes c.args.source.now.chunk.now.bytes (node_at layout.shape z p.end) p.value) (sym begun) p.node in
     let within : p.end ≤ c.args.limit = (let w = p.within in omega arith) in
-    let value = (c.in_ok-_end.ensures.ok p.end p.value node within).1 ∙ ap (λ (z : Reach). string_bytes c.push_opening.new.out ++ compact_text (json_of c.args.source.now.chunk.now.classes (referred_json c.args.source.now.chunk.now z.references) p.value)) c.of_fields-inner.ensures in
-    sym (lay_one (lead_of c.lead-item.result) (map lead_of (drop (c.loop-lead.lead-index + 1) c.deref-lead-items.result.now)) (map lead_of (drop c.loop-lead.lead-index c.deref-lead-items.result.now)) (json_of_all c.args.source.now.chunk.now.classes (referred_json c.args.source.now.chunk.now c.args.reach.references) vs) (json_of c.args.source.now.chunk.now.classes (referred_json c.args.source.now.chunk.now c.args.reach.references) p.value) (string_bytes c.loop-lead.out) (string_bytes c.push_opening.new.out) (string_bytes c.push_value.new.out)
-    (leads_from c.deref-lead-items.result.now c.loop-lead.lead-index c.lead-item.result g) c.in_ok-push_opening.ensures.ok (p.json (referred_json c.args.source.now.chunk.now c.args.reach.references)) value)
+    let value = (c.in_ok-_end.ensures.ok p.end p.value node within).1 ∙ ap (λ (z : Reach). string_bytes c.push_str-in-loop-lead.new.self ++ compact_text (json_of c.args.source.now.chunk.now.classes (referred_json c.args.source.now.chunk.now z.references) p.value)) c.of_fields-inner.ensures in
+    sym (lay_one (lead_of c.lead-item.result) (map lead_of (drop (c.loop-lead.lead-index + 1) c.deref-lead-items.result.now)) (map lead_of (drop c.loop-lead.lead-index c.deref-lead-items.result.now)) (json_of_all c.args.source.now.chunk.now.classes (referred_json c.args.source.now.chunk.now c.args.reach.references) vs) (json_of c.args.source.now.chunk.now.classes (referred_json c.args.source.now.chunk.now c.args.reach.references) p.value) (string_bytes c.loop-lead.out) (string_bytes c.push_str-in-loop-lead.new.self) (string_bytes c.push_value.new.out)
+    (leads_from c.deref-lead-items.result.now c.loop-lead.lead-index c.lead-item.result g) (c.in_ok-push_str-2.ensures.bytes ∙ ap (λ z. string_bytes c.loop-lead.out ++ z) c.as_str.ensures.value) (p.json (referred_json c.args.source.now.chunk.now c.args.reach.references)) value)
     ∙ c.loop-lead.invariant to vs r l)
 
-pub push_fields-returns : goal.push_fields-returns
-push_fields-returns t c =
-    let o = ordered c.args.source.now.chunk.now.classes c.args.source.now.orders.now c.args.place c.index-source-place.result c.deref-lead-items.result.now c.requires.source c.requires.placed c.deref-lead-items.ensures.value in
+pub push_members-returns : goal.push_members-returns
+push_members-returns t c =
+    let o = ordered c.args.source.now.chunk.now.classes c.args.place c.args.order.now c.deref-lead-items.result.now c.requires.order c.requires.placed c.deref-lead-items.ensures.value in
     record {
       ok = λ to vs class r l q.
           let h = c.in_ok-places.ensures.ok to vs r l in
@@ -248,6 +248,6 @@ push_fields-returns t c =
           let none : drop c.loop-lead.lead-index c.deref-lead-items.result.now ≡ [] = drop_all c.loop-lead.lead-index c.deref-lead-items.result.now (omega arith) in (
             h.0,
             lay_all class.fields (map lead_of c.deref-lead-items.result.now) (json_of_all c.args.source.now.chunk.now.classes (referred_json c.args.source.now.chunk.now c.args.reach.references) vs) (string_bytes c.args.out.now) (string_bytes c.push_str.new.self) (string_bytes c.loop-lead.out) (string_bytes c.push_str-2.new.self) order count c.in_ok-push_str.ensures.bytes
-                (sym (ap (λ z. string_bytes c.loop-lead.out ++ laid_out (map lead_of z) (json_of_all c.args.source.now.chunk.now.classes (referred_json c.args.source.now.chunk.now c.args.reach.references) vs)) none) ∙ c.loop-lead.invariant to vs r l) c.in_ok-push_str-2.ensures.bytes,
+                (sym (ap (λ z. string_bytes c.loop-lead.out ++ laid_out (map lead_of z) (json_of_all c.args.source.now.chunk.now.classes (referred_json c.args.source.now.chunk.now c.args.reach.references) vs)) none) ∙ c.loop-lead.invariant to vs r l) c.in_ok-push_str-3.ensures.bytes,
           );
     }
