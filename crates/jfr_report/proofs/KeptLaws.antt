@@ -1,5 +1,5 @@
 -- The kept events, one after another.
-use Rattle.std.proofs.Common.{◌≡◌, ℕ, zero, suc, ◌+◌, ◌∙◌, refl, sym, ap, Bool, true, false, List, [], ◌∷◌, drop, None, Some, slice_get, ◌<◌, ◌≤◌, length, arith}
+use Rattle.std.proofs.Common.{◌≡◌, ℕ, zero, suc, ◌+◌, ◌∙◌, refl, sym, ap, Bool, true, false, List, [], ◌∷◌, drop, Option, None, Some, slice_get, ◌<◌, ◌≤◌, length, arith}
 use Rattle.std.proofs.Math.ListN.{drop_of_length-le}
 use Rattle.std.specs.Prelude.{unwrap_or}
 use Rattle.jfr_chunk.specs.Reach.{marked}
@@ -29,7 +29,7 @@ takes (true ∷ fs) (y ∷ ys) x zero e h = cc
 takes (false ∷ fs) (y ∷ ys) x zero e h = cc
 takes (f ∷ fs) (y ∷ ys) x (suc n) e h = takes fs ys x n e h
 
-pub one_more : (n : ℕ) → suc n ≡ n + 1
+one_more : (n : ℕ) → suc n ≡ n + 1
 one_more n = omega arith
 
 pub kept_skips : {X : Type 0} (fs : List Bool) (xs : List X) (n : ℕ) → unwrap_or (slice_get fs n) false ≡ false → marked (drop n fs) (drop n xs) ≡ marked (drop (n + 1) fs) (drop (n + 1) xs)

@@ -2,4 +2,3 @@ pub mod PageLaws
 pub mod PlanLaws
 pub mod PartsLaws
 pub mod KeptLaws
-pub mod TextsLaws

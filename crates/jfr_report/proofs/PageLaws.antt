@@ -11,11 +11,12 @@ use Rattle.std.specs.Prelude.{encode_utf8_all}
 use Rattle.std.specs.Str.{chars, IsUtf8}
 use Rattle.std.proofs.lemmas.Str.{encodes-append, encodes-chars}
 use Rattle.jfr_outside.specs.World.{added}
+use Rattle.jfr_base.specs.declared.memory.NoMemory.{NoMemory}
 use Rattle.jfr_header.specs.declared.ending.Ending.{Ending}
 use Rattle.jfr_value.specs.Nodes.{NodeAt}
 use Rattle.jfr_chunk.specs.Parts.{Parts}
 use Rattle.jfr_report.specs.Reports.{event_bytes, chunk_of, text_by, writer_of}
-use Rattle.jfr_report.specs.Gathered.{Grew, IsGathered, TearsText, WritesSome, TextLeaves, PageLeaves, Gathers}
+use Rattle.jfr_report.specs.Gathered.{Grew, IsGathered, TearsText, WritesSome, TextLeaves, PageLeaves}
 
 -- nothing is written or gathered yet
 pub begins : (all : List (List ℕ)) (before : Option (List ℕ)) → IsGathered all before before [] all
@@ -171,21 +172,3 @@ writer_bytes false p depth n = refl
 -- an event's text behind another, in UTF-8
 pub written_more : (old new text : List ℕ) → new ≡ old ++ text → encode_utf8_all new ≡ encode_utf8_all old ++ encode_utf8_all text
 written_more old new text h = ap encode_utf8_all h ∙ encodes-append old text
-
--- of the texts none are gathered yet
-pub gathers_none : (texts : List (List ℕ)) (w : Option (List ℕ)) (page : List ℕ) → Gathers texts texts (Ok tt) w page w page
-gathers_none texts w page = λ all rest start i. i
-
--- the next ones are gathered
-pub gathers_more : (texts left part next : List (List ℕ)) (result : Result (Unit {0}) Ending) (a b c : Option (List ℕ)) (p q r : List ℕ) → left ≡ part ++ next → Gathers texts left (Ok tt) a p b q → Gathers part [] result b q c r → Gathers texts next result a p c r
-gathers_more texts left part next result a b c p q r e first more = λ all rest start i.
-    more all (next ++ rest) start (subst (λ z. IsGathered all start b q z) (ap (λ z. z ++ rest) e ∙ append_assoc part next rest) (first all rest start i))
-
--- all of them are gathered, on a page that was empty
-pub gathers_all : (texts : List (List ℕ)) (result : Result (Unit {0}) Ending) (a b : Option (List ℕ)) (p q : List ℕ) → p ≡ [] → Gathers texts [] result a p b q → PageLeaves texts a result q [] b
-gathers_all texts result a b p q e g =
-    g texts [] a (subst (λ z. IsGathered texts a a z (texts ++ [])) (sym e) (subst (λ z. IsGathered texts a a [] z) (sym (append-nil texts)) (begins texts a)))
-
--- a text by what it adds to a page
-pub gathers_text : (result : Result (Unit {0}) Ending) (a b : Option (List ℕ)) (p q r text : List ℕ) → q ≡ p ++ text → ((all rest : List (List ℕ)) (before : Option (List ℕ)) → IsGathered all before a q rest → PageLeaves all before result r rest b) → Gathers (text ∷ []) [] result a p b r
-gathers_text result a b p q r text e g = λ all rest start i. g all rest start (gathered_more all start a p q text rest e i)

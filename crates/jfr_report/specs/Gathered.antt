@@ -1,5 +1,5 @@
 -- Texts that are gathered, and written several at a time.
-use Rattle.std.specs.Prelude.{◌≡◌, ℕ, List, ◌∷◌, ◌++◌, take, Option, option_map, Result, Ok, Err}
+use Rattle.std.specs.Prelude.{◌≡◌, ℕ, List, [], ◌∷◌, ◌++◌, take, Option, option_map, Result, Ok, Err}
 use Rattle.std.specs.List.{concat}
 use Rattle.jfr_header.specs.declared.ending.Ending.{Ending}
 use Rattle.jfr_header.specs.declared.ending.Ending.TheVariants.{Done, Refused, ReadFault, WriteFault, TooManyParts, Memory}
@@ -58,8 +58,3 @@ TextCounted (Err TooManyParts) before now = ⊥
 abbrev pub PageLeaves : List (List ℕ) → Option (List ℕ) → Result (Unit {0}) Ending → List ℕ → List (List ℕ) → Option (List ℕ) → Type 0
 PageLeaves all before (Ok x) gathered rest now = IsGathered all before now gathered rest
 PageLeaves all before (Err e) gathered rest now = TextLeaves all (Err e) before now
-
--- a call that gathers more of these texts, so that of them those that are left are to come, and then the rest
-abbrev pub Gathers : List (List ℕ) → List (List ℕ) → Result (Unit {0}) Ending → Option (List ℕ) → List ℕ → Option (List ℕ) → List ℕ → Type 0
-Gathers texts left result before page now next = (all rest : List (List ℕ)) (start : Option (List ℕ))
-    → IsGathered all start before page (texts ++ rest) → PageLeaves all start result next (left ++ rest) now

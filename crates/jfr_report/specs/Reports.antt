@@ -12,7 +12,7 @@ use Rattle.jfr_chunk.specs.Refusal.{read_parts}
 use Rattle.jfr_show.specs.Shown.{event_shown}
 use Rattle.jfr_show.specs.Json.{event_json}
 use Rattle.jfr_show.specs.Totals.{totals_of, summary_shown}
-use Rattle.jfr_show.specs.Metadata.{metadata_texts}
+use Rattle.jfr_show.specs.Metadata.{metadata_shown}
 use Rattle.jfr_report.specs.declared.print.Writer.{Writer}
 use Rattle.jfr_report.specs.declared.print.Writer.TheVariants as writers
 
@@ -60,13 +60,9 @@ text_by (writers.Json p) depth n = event_json p depth n
 abbrev pub printing : Given → ℕ → Bool → Rule
 printing g depth json = texting (λ n p. events_bytes json depth p (kept_of g p)) (λ before. [])
 
--- texts in UTF-8
-abbrev pub in_utf8 : List (List ℕ) → List (List ℕ)
-in_utf8 texts = map encode_utf8_all texts
-
--- the classes of each chunk: a text for each line, and for each category
+-- the classes of each chunk
 abbrev pub describing : Rule
-describing = texting (λ n p. in_utf8 (metadata_texts p n)) (λ before. [])
+describing = texting (λ n p. encode_utf8_all (metadata_shown p n) ∷ []) (λ before. [])
 
 -- the parts of the chunks that are accepted
 abbrev pub parts_with : Result Parts Flaw → List Parts → List Parts

@@ -2,10 +2,9 @@
 //!
 //! A `TextWriter` adds the texts of many events of one chunk to a `TextBuilder`, and a `JsonWriter` their
 //! lines of JSON; `show_event` and `show_json` do so for one event, and `show_metadata` for the classes of
-//! a chunk, of whose text a `MetadataPiece` adds a line or less. A `Summary` adds up chunks, and
-//! `summary_text` is its text. `event_text`, `event_json` and `metadata_text` make each text alone. Read
-//! `specs/Shown.antt` first, then `specs/Leaves.antt`, `specs/Texts.antt`, `specs/Json.antt`,
-//! `specs/Metadata.antt` and `specs/Totals.antt`.
+//! a chunk. A `Summary` adds up chunks, and `summary_text` is its text. `event_text`, `event_json` and
+//! `metadata_text` make each text alone. Read `specs/Shown.antt` first, then `specs/Leaves.antt`,
+//! `specs/Texts.antt`, `specs/Json.antt`, `specs/Metadata.antt` and `specs/Totals.antt`.
 #![tactic(auto)]
 
 mod beginning;
@@ -28,6 +27,6 @@ mod writer;
 pub use builder::TextBuilder;
 pub use event::{event_text, show_event};
 pub use json::{JsonWriter, event_json, show_json};
-pub use metadata::{MetadataPiece, metadata_text, show_metadata};
+pub use metadata::{metadata_text, show_metadata};
 pub use summary::{Summary, summary_text};
 pub use writer::TextWriter;

@@ -1,8 +1,6 @@
 // The metadata of a chunk as text.
 ghost use Rattle.std.specs.Prelude.{◌≡◌, ◌++◌, [], IfOk, IsTrue, OnOk, if◌then◌else◌};
-ghost use Rattle.std.specs.List.{concat};
-ghost use Rattle.std.specs.Str.{chars};
-ghost use Rattle.jfr_show.specs.Metadata.{category_texts, chunk_line, class_line, class_texts, field_line, first_category, metadata_shown, next_category, piece_text, super_part};
+ghost use Rattle.jfr_show.specs.Metadata.{categories_line, class_line, class_lines, field_line, metadata_shown, super_part};
 ghost use Rattle.jfr_show.specs.Names.{class_name};
 ghost use Rattle.jfr_show.specs.Texts.{is_ascii};
 
@@ -12,38 +10,6 @@ use jfr_base::{NoMemory, Text, Words};
 use jfr_chunk::Chunk;
 use jfr_layout::{ClassInfo, Classes, FieldInfo};
 use std::alloc::Global;
-
-/// A piece of the text of a chunk's classes: a line, or a part of the line of a class's categories.
-pub enum MetadataPiece<'c> {
-    /// The line of a chunk, with its number.
-    Chunk(u64),
-    /// The line of a class.
-    Class(&'c ClassInfo),
-    /// The first category of a class, with what the line begins with.
-    FirstCategory(&'c str),
-    /// A further category, behind a comma.
-    NextCategory(&'c str),
-    /// The end of the line of categories.
-    CategoriesEnd,
-    /// The line of a field, of which one of these is the class.
-    Field(&'c Classes, &'c FieldInfo),
-}
-
-impl MetadataPiece<'_> {
-    /// Adds the piece to a text.
-    pub fn show(self, out: &mut TextBuilder) -> Result<(), NoMemory>
-        ensures ok { OnOk result (out.new ≡ out.old ++ piece_text self.entry) }
-    {
-        match self {
-            MetadataPiece::Chunk(number) => show_chunk_line(number, out),
-            MetadataPiece::Class(class) => show_class_line(class, out),
-            MetadataPiece::FirstCategory(name) => show_first_category(name, out),
-            MetadataPiece::NextCategory(name) => show_next_category(name, out),
-            MetadataPiece::CategoriesEnd => out.push_ascii("\n"),
-            MetadataPiece::Field(classes, field) => show_field(classes, field, out),
-        }
-    }
-}
 
 /// The classes of a chunk, with its number: a line for each class, for its categories, and for each of
 /// its fields.
@@ -59,7 +25,9 @@ pub fn metadata_text(alloc: Global, chunk: &Chunk<'_>, number: u64) -> Result<Te
 pub fn show_metadata(chunk: &Chunk<'_>, number: u64, out: &mut TextBuilder) -> Result<(), NoMemory>
     ensures ok { OnOk result (out.new ≡ out.old ++ metadata_shown chunk.now number) }
 {
-    show_chunk_line(number, out)?;
+    out.push_ascii("chunk ")?;
+    out.push_number(number)?;
+    out.push_ascii("\n")?;
     let classes = chunk.classes();
     for place in 0..classes.len() {
         show_class(classes, classes.class_at(place), out)?;
@@ -67,18 +35,9 @@ pub fn show_metadata(chunk: &Chunk<'_>, number: u64, out: &mut TextBuilder) -> R
     Ok(())
 }
 
-// Adds the line of a chunk.
-fn show_chunk_line(number: u64, out: &mut TextBuilder) -> Result<(), NoMemory>
-    ensures ok { OnOk result (out.new ≡ out.old ++ chunk_line number) }
-{
-    out.push_ascii("chunk ")?;
-    out.push_number(number)?;
-    out.push_ascii("\n")
-}
-
 // Adds the lines of a class.
 fn show_class(classes: &Classes, class: &ClassInfo, out: &mut TextBuilder) -> Result<(), NoMemory>
-    ensures ok { OnOk result (out.new ≡ out.old ++ concat (class_texts classes.now class.now)) }
+    ensures ok { OnOk result (out.new ≡ out.old ++ class_lines classes.now class.now) }
 {
     show_class_line(class, out)?;
     show_categories(&class.categories, out)?;
@@ -114,35 +73,21 @@ fn show_super(name: &Option<Text>, out: &mut TextBuilder) -> Result<(), NoMemory
 
 // Adds the line of a class's categories, where there are any.
 fn show_categories(categories: &Words, out: &mut TextBuilder) -> Result<(), NoMemory>
-    ensures ok { OnOk result (out.new ≡ out.old ++ concat (category_texts categories.now)) }
+    ensures ok { OnOk result (out.new ≡ out.old ++ categories_line categories.now) }
 {
     let Some(first) = categories.get(0) else {
         return Ok(());
     };
-    show_first_category(first, out)?;
+    out.push_ascii("  category ")?;
+    push_quoted(first, out)?;
     for number in 1..categories.len() {
         let Some(category) = categories.get(number) else {
             unreachable!()
         };
-        show_next_category(category, out)?;
+        out.push_ascii(", ")?;
+        push_quoted(category, out)?;
     }
     out.push_ascii("\n")
-}
-
-// Adds the first category of a class, with what the line begins with.
-fn show_first_category(name: &str, out: &mut TextBuilder) -> Result<(), NoMemory>
-    ensures ok { OnOk result (out.new ≡ out.old ++ first_category (chars name.now)) }
-{
-    out.push_ascii("  category ")?;
-    push_quoted(name, out)
-}
-
-// Adds a further category.
-fn show_next_category(name: &str, out: &mut TextBuilder) -> Result<(), NoMemory>
-    ensures ok { OnOk result (out.new ≡ out.old ++ next_category (chars name.now)) }
-{
-    out.push_ascii(", ")?;
-    push_quoted(name, out)
 }
 
 // Adds the line of a field.
