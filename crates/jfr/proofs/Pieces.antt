@@ -9,7 +9,7 @@ use Rattle.std.proofs.Math.Seq.{take-suc}
 use Rattle.std.proofs.lemmas.List.{append-nil, append_assoc}
 use Rattle.jfr_outside.specs.World.{bytes_in}
 
--- the bytes of one piece more
+-- The bytes of one piece more.
 bytes_more : (ps : List (Bor (List ℕ))) (p : Bor (List ℕ)) → bytes_in (ps ++ p ∷ []) ≡ bytes_in ps ++ p.now
 bytes_more ps p = flat_map-append (λ p. p.now) ps (p ∷ []) ∙ ap (λ z. bytes_in ps ++ z) (append-nil p.now)
 
@@ -23,7 +23,7 @@ pub wrote_next : (a b c : Option (List ℕ)) (ps : List (Bor (List ℕ))) (i : �
 wrote_next a b c ps i d h before now =
     subst (Appends a c) (sym (bytes_next ps i d h)) (Appends-trans a b c (bytes_in (take i ps)) (get_or ps i d).now before now)
 
--- the portions of one piece
+-- The portions of one piece.
 pub wrote_more : (a b c : Option (List ℕ)) (ps : List (Bor (List ℕ))) (p : Bor (List ℕ)) → Appends a b (bytes_in ps) → Appends b c p.now → Appends a c (bytes_in (ps ++ p ∷ []))
 wrote_more a b c ps p before now = subst (Appends a c) (sym (bytes_more ps p)) (Appends-trans a b c (bytes_in ps) p.now before now)
 

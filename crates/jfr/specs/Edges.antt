@@ -1,14 +1,15 @@
--- What is told of real files and streams, their counts of faults and nothing that a name holds; and what a call does to the file that is open.
+-- What is told of real files and streams, their counts of faults and nothing that a name holds; and what a
+-- call does to the file that is open.
 use Rattle.std.specs.Prelude.{ℕ, List, Option, Some, None, Result, IsErr, false}
 use Rattle.std.specs.Io.KnownBytes.{Appends, ReadConsumes}
 use Rattle.jfr_outside.specs.declared.fault.Fault.{Fault}
 use Rattle.jfr_outside.specs.World.{State, SinkState}
 
--- a place that tells no content, and isn't steady
+-- A place that tells no content, and isn't steady.
 abbrev pub untold : ℕ → ℕ → State
 untold reads writes = record { told = None; read_faults = reads; write_faults = writes; steady = false }
 
--- a sink that tells no bytes
+-- A sink that tells no bytes.
 abbrev pub unseen : ℕ → SinkState
 unseen faults = record { written = None; faults = faults }
 
@@ -18,7 +19,8 @@ Grew contents None new bytes = ⊥
 Grew contents (Some old) None bytes = ⊥
 Grew contents (Some old) (Some new) bytes = Appends (contents old) (contents new) bytes
 
--- A file is open, and what is left of it, where that is known, begins with the bytes that a read gave, and lost them: none only at the end.
+-- A file is open, and what is left of it, where that is known, begins with the bytes that a read gave, and
+-- lost them: none only at the end.
 abbrev pub Took : {R : Type 0} → (R → Option (List ℕ)) → Option R → Option R → Result ℕ Fault → List ℕ → Type 0
 Took remaining None new result into = IsErr result
 Took remaining (Some old) None result into = ⊥

@@ -75,7 +75,7 @@ alike_then R S (Here f) (Here g) h k e l = λ p q. alike_then R S (f p) (g q) h 
 alike_then R S (Refuse why) (Refuse other) h k e l = tt
 alike_then R S f g h k e l = absurd e
 
--- as many, one related to the other in order
+-- As many, one related to the other in order.
 abbrev pub Each : {A B : Type 0} → (A → B → Type 0) → List A → List B → Type 0
 Each R [] [] = ⊤
 Each R (a ∷ xs) (b ∷ ys) = R a b × Each R xs ys

@@ -6,7 +6,7 @@ use Rattle.jfr_base.proofs.Ranges.{range_split, range_length, range_one}
 use Rattle.jfr_base.proofs.UnitLaws.{one_run}
 use Rattle.jfr_base.proofs.Spelling.{some_byte}
 
--- n bytes of x at p are those of y at q
+-- n bytes of x at p are those of y at q.
 pub record Copy (x y : List ℕ) (p q n : ℕ) : Type 0 where
   pub same : slice_range x p (p + n) ≡ slice_range y q (q + n)
   pub from_within : p + n ≤ length x
@@ -24,14 +24,14 @@ copy_cut x y p q a b c =
     let o = one_run (slice_range x p (p + a)) (slice_range y q (q + a)) (slice_range x (p + a) (p + a + b)) (slice_range y (q + a) (q + a + b)) s l in
     (record { same = o.0; from_within = omega arith; to_within = omega arith }, record { same = o.1; from_within = omega arith; to_within = omega arith })
 
--- an integer takes a byte
+-- An integer takes a byte.
 pub int_some : (x : List ℕ) (p q v : ℕ) → IntAt x p q v → p < q
 int_some x p q v i =
     let l : length (slice_range x p q) ≡ q - p = range_length x p q i.within in
     let n : 1 ≤ length (slice_range x p q) = some_byte (slice_range x p q) v i.spelled in
     omega arith
 
--- what is spelled is spelled in the copy
+-- What is spelled is spelled in the copy.
 pub copy_int : (x y : List ℕ) (p q n v : ℕ) → Copy x y p q n → IntAt x p (p + n) v → IntAt y q (q + n) v
 copy_int x y p q n v c i = record { order = omega arith; within = c.to_within; spelled = subst (λ b. Spells b v) c.same i.spelled }
 

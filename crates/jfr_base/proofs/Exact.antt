@@ -10,7 +10,7 @@ use Rattle.jfr_base.specs.Integer.{IsSpellingWithin, worth_within, IntAt}
 use Rattle.jfr_base.specs.Formats.{Format, Done, Stop, Int, Byte, Run, Here, Refuse, Answer, checked, refused, int_at, front_within, after_int, run, Reads, Fails}
 use Rattle.jfr_base.proofs.Ranges.{range_split, range_length}
 
--- the length of a spelling at the front is found
+-- The length of a spelling at the front is found.
 pub found_within : (k : ℕ) (f r : List ℕ) → IsSpellingWithin k f → front_within k (f ++ r) ≡ Some (length f)
 found_within k [] r s = absurd s
 found_within zero (b ∷ []) r s = refl
@@ -24,7 +24,7 @@ found_within (suc k) (b ∷ c ∷ f) r s = rw (ltb_not b s.0) (ap (option_map (�
     ltb_not : (b : ℕ) → 128 ≤ b → nat_lt b 128 ≡ false
     ltb_not b h = grind arith
 
--- and what is found is one
+-- And what is found is one.
 front_is : (k : ℕ) (b : List ℕ) (n : ℕ) → front_within k b ≡ Some n → IsSpellingWithin k (take n b) × (n ≤ length b)
 front_is k [] n e = cc
 front_is zero (b ∷ bs) n e = let h : 1 ≡ n = cc in subst (λ m. IsSpellingWithin zero (take m (b ∷ bs)) × (m ≤ suc (length bs))) h (refl, omega arith)
@@ -72,7 +72,7 @@ front_of_range x at end n h i =
     by_room (inl j) l = range_length x at (at + n) (omega arith) ∙ omega arith
     by_room (inr j) l = let z : at + n - at ≡ 0 = omega arith in let w : n ≡ 0 = omega arith in rw (z, w) refl
 
--- the integer that is computed stands
+-- The integer that is computed stands.
 pub int_found : (x : List ℕ) (at end : ℕ) (v : Var) → at ≤ end → end ≤ length x → int_at x at end ≡ Some v → IntAt x at v.end v.value × (v.end ≤ end)
 unfolding int_at
 int_found x at end v h i e = by_front (front_within 8 (slice_range x at end)) refl e
@@ -89,7 +89,7 @@ int_found x at end v h i e = by_front (front_within 8 (slice_range x at end)) re
         let y : w ≡ v = cc in
         subst (λ (u : Var). IntAt x at u.end u.value × (u.end ≤ end)) y (r, k)
 
--- where none is computed, none stands
+-- Where none is computed, none stands.
 pub int_none : (x : List ℕ) (at end : ℕ) → end ≤ length x → int_at x at end ≡ None → (q v : ℕ) → IntAt x at q v → q ≤ end → ⊥
 unfolding int_at
 int_none x at end h e q v p i =
@@ -99,7 +99,7 @@ int_none x at end h e q v p i =
     let g : option_map var (front_within 8 (slice_range x at end)) ≡ Some (var (length (slice_range x at q))) = ap (option_map var) f in
     cc (sym e ∙ g)
 
--- what an answer says
+-- What an answer says.
 abbrev pub Says : {A : Type 0} → Format A → List ℕ → ℕ → ℕ → Answer A → Type 0
 Says f x end at (Ok g) = Reads f x end at g.value g.place
 Says f x end at (Err e) = Fails f x end at e.offset e.reason

@@ -4,7 +4,7 @@ use Rattle.std.proofs.Common.{ap, refl, sym, ◌∙◌, subst}
 use Rattle.std.proofs.lemmas.List.{append_assoc, append-nil}
 use Rattle.jfr_base.specs.Formats.{Format, Done, Stop, Int, Byte, Run, Here, Refuse, ◌>>=◌, with_bytes, times, for_each, Exactly}
 
--- what the first format reads, and what the second does
+-- What the first format reads, and what the second does.
 pub record Bound {A B : Type 0} (f : Format A) (g : A → List ℕ → Format B) (b : List ℕ) (y : B) : Type 0 where
   pub value : A
   pub front : List ℕ
@@ -31,7 +31,7 @@ exact_bind (Run n next) g b y e =
 exact_bind (Here next) g b y e = absurd e
 exact_bind (Refuse why) g b y e = absurd e
 
--- and back
+-- And back.
 pub bind_exact : {A B : Type 0} (f : Format A) (g : A → Format B) (h r b : List ℕ) (a : A) (y : B) → b ≡ h ++ r → Exactly f h a → Exactly (g a) r y → Exactly (f >>= g) b y
 bind_exact (Done a) g h r b v y s e i = subst (λ z. Exactly (g a) z y) (sym (s ∙ ap (λ z. z ++ r) e.1)) (subst (λ z. Exactly (g z) r y) e.0 i)
 bind_exact (Stop next) g h r b v y s e i = absurd e
@@ -44,7 +44,7 @@ bind_exact (Run n next) g h r b v y s e i =
 bind_exact (Here next) g h r b v y s e i = absurd e
 bind_exact (Refuse why) g h r b v y s e i = absurd e
 
--- with the bytes
+-- With the bytes.
 pub exact_with : {A B : Type 0} (f : Format A) (g : A → List ℕ → Format B) (c b : List ℕ) (y : B) → Exactly (with_bytes c f g) b y → Bound f (λ a s. g a (c ++ s)) b y
 exact_with (Done a) g c b y e = record { value = a; front = []; rest = b; split = refl; first = (refl, refl); second = subst (λ z. Exactly (g a z) b y) (sym (append-nil c)) e }
 exact_with (Stop next) g c b y e = absurd e
@@ -60,7 +60,7 @@ exact_with (Run n next) g c b y e =
 exact_with (Here next) g c b y e = absurd e
 exact_with (Refuse why) g c b y e = absurd e
 
--- lists of formats that read at least what others do
+-- Lists of formats that read at least what others do.
 pub times_more : {A : Type 0} (f g : Format A) → ((b : List ℕ) (a : A) → Exactly f b a → Exactly g b a) → (n : ℕ) (b : List ℕ) (vs : List A) → Exactly (times n f) b vs → Exactly (times n g) b vs
 times_more f g m zero b vs e = e
 times_more f g m (suc n) b vs e =

@@ -9,7 +9,7 @@ checked-on : {A B : Type 0} (at : ℕ) (o : Option Reason) (r : Answer A) (f : A
 checked-on at None r f = refl
 checked-on at (Some why) r f = refl
 
--- one format after another
+-- One format after another.
 pub run-bind : {A B : Type 0} (f : Format A) (g : A → Format B) (x : List ℕ) (end at : ℕ) → run (f >>= g) x end at ≡ on (run f x end at) (λ a p. run (g a) x end p)
 unfolding run
 run-bind (Done a) g x end at = refl

@@ -12,11 +12,12 @@ use Rattle.jfr_base.proofs.Ranges.{range_cons, range_none, range_one}
 abbrev var : ℕ → ℕ → Var
 var v q = record { value = v; end = q }
 
--- the integer whose groups so far add up to a value, if it ends: at most k more groups of seven bits follow, the next one counted by a weight
+-- The integer whose groups so far add up to a value, if it ends: at most k more groups of seven bits
+-- follow, the next one counted by a weight.
 unfoldable pub going_on : ℕ → List ℕ → ℕ → ℕ → ℕ → ℕ → Option Var
 going_on k x place end value weight = option_map (λ n. var (value + weight * worth_within k (slice_range x place (place + n))) (place + n)) (front_within k (slice_range x place end))
 
--- what a reader knows between two groups
+-- What a reader knows between two groups.
 pub record Reading (x : List ℕ) (at end place value shift : ℕ) : Type 0 where
   pub groups : ℕ
   pub room : shift + 7 * groups ≡ 56
@@ -48,7 +49,7 @@ worth_small : (k b : ℕ) → b < 128 → worth_within k (b ∷ []) ≡ b
 worth_small zero b h = refl
 worth_small (suc k) b h = omega arith
 
--- the last group of seven bits
+-- The last group of seven bits.
 pub going_last : (k : ℕ) (x : List ℕ) (place end value weight : ℕ) → place < end → end ≤ length x → slice_index x place < 128 → going_on k x place end value weight ≡ Some (var (value + weight * slice_index x place) (place + 1))
 going_last k x place end value weight h i j =
     let p : place < length x = omega arith in
@@ -56,7 +57,7 @@ going_last k x place end value weight h i j =
     (ap (front_within k) (range_cons x place end h p) ∙ front_small k (slice_index x place) (slice_range x (place + 1) end) j)
     (ap (worth_within k) (range_one x place p) ∙ worth_small k (slice_index x place) j)
 
--- the ninth byte
+-- The ninth byte.
 pub going_ninth : (x : List ℕ) (place end value weight : ℕ) → place < end → end ≤ length x → going_on 0 x place end value weight ≡ Some (var (value + weight * slice_index x place) (place + 1))
 going_ninth x place end value weight h i =
     let p : place < length x = omega arith in
@@ -64,7 +65,7 @@ going_ninth x place end value weight h i =
     (ap (front_within 0) (range_cons x place end h p))
     (ap (worth_within 0) (range_one x place p))
 
--- a group with more to come
+-- A group with more to come.
 pub going_next : (k : ℕ) (x : List ℕ) (place end value weight : ℕ) → place < end → end ≤ length x → 128 ≤ slice_index x place → going_on (suc k) x place end value weight ≡ going_on k x (place + 1) end (value + weight * (slice_index x place % 128)) (weight * 128)
 unfolding going_on
 going_next k x place end value weight h i j =
@@ -91,7 +92,7 @@ going_next k x place end value weight h i j =
     by_front None p = refl
     by_front (Some n) p = ap (λ z. Some z) (step n p)
 
--- no bit of a byte is shifted out
+-- No bit of a byte is shifted out.
 module _ (shift byte : ℕ) (room : shift ≤ 56) (bound : byte < 256) where
   shifted : byte * 2 ^ shift % 18446744073709551616 ≡ 2 ^ shift * byte
   shifted =
@@ -120,7 +121,7 @@ module _ (shift byte : ℕ) (room : shift ≤ 56) (bound : byte < 256) where
           let z : r.groups ≡ 0 = omega (arith, r.room) in
           subst (λ k. going_on k x place end value (2 ^ shift) ≡ Some (var (value + 2 ^ shift * slice_index x place) (place + 1))) (sym z) (going_ninth x place end value (2 ^ shift) h i)
 
--- a group of seven bits, with more to come
+-- A group of seven bits, with more to come.
 pub reading_next : (x : List ℕ) (at end place value shift byte : ℕ) → (r : Reading x at end place value shift) → place < end → end ≤ length x → byte ≡ slice_index x place → 128 ≤ byte → (shift ≡ 56 → ⊥)
     → Reading x at end (place + 1) (value + byte % 128 * 2 ^ shift % 18446744073709551616) (shift + 7)
 reading_next x at end place value shift byte r h i e j n = by_groups r.groups refl

@@ -18,7 +18,7 @@ got a p = record { value = a; place = p }
 abbrev var : ℕ → ℕ → Var
 var v q = record { value = v; end = q }
 
--- the integer that stands is computed
+-- The integer that stands is computed.
 pub int_computed : (x : List ℕ) (at end q v : ℕ) → at ≤ end → end ≤ length x → IntAt x at q v → q ≤ end → int_at x at end ≡ Some (var v q)
 int_computed x at end q v h i p j = by_answer (int_at x at end) refl
   where
@@ -28,7 +28,7 @@ int_computed x at end q v h i p j = by_answer (int_at x at end) refl
         let f = int_one x at w.end q w.value v (int_found x at end w h i e).0 p in
         ap (λ m. Some (var m w.end)) f.1 ∙ ap (λ m. Some (var v m)) f.0
 
--- and none where none stands
+-- And none where none stands.
 pub none_computed : (x : List ℕ) (at end : ℕ) → at ≤ end → end ≤ length x → ((q v : ℕ) → IntAt x at q v → q ≤ end → ⊥) → int_at x at end ≡ None
 none_computed x at end h i n = by_answer (int_at x at end) refl
   where
@@ -41,7 +41,7 @@ checked_fails at o why c r F (inl e) k = ap (λ z. checked at z r) e.0 ∙ ap (�
 checked_fails at o why c r F (inr e) k = ap (λ z. checked at z r) e.0 ∙ k e.1
 
 module _ (x : List ℕ) (end : ℕ) (inside : end ≤ length x) where
-  -- what is read is computed
+  -- What is read is computed.
   pub reads_computed : {A : Type 0} (f : Format A) (at : ℕ) (a : A) (to : ℕ) → at ≤ end → Reads f x end at a to → run f x end at ≡ Ok (got a to)
   unfolding run
   reads_computed (Done b) at a to h r = ap (λ z. Ok (got z at)) (sym r.0) ∙ ap (λ p. Ok (got a p)) (sym r.1)
@@ -64,7 +64,7 @@ module _ (x : List ℕ) (end : ℕ) (inside : end ≤ length x) where
   reads_computed (Here next) at a to h r = reads_computed (next at) at a to h r
   reads_computed (Refuse why) at a to h r = absurd r
 
-  -- what fails is computed
+  -- What fails is computed.
   pub fails_computed : {A : Type 0} (f : Format A) (at o : ℕ) (why : Reason) → at ≤ end → Fails f x end at o why → run f x end at ≡ refused o why
   unfolding run
   fails_computed (Done b) at o why h r = absurd r

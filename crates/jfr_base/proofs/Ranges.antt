@@ -13,7 +13,7 @@ range_split xs p m q h i =
 pub range_length : {X : Type 0} (xs : List X) (p q : ℕ) → q ≤ length xs → length (slice_range xs p q) ≡ q - p
 range_length xs p q h = simp (length-take, length-drop) (omega arith)
 
--- a range begins with the byte at its place
+-- A range begins with the byte at its place.
 pub range_cons : (x : List ℕ) (p q : ℕ) → p < q → p < length x → slice_range x p q ≡ slice_index x p ∷ slice_range x (p + 1) q
 range_cons x p q h i =
     let e : q - p ≡ suc (q - (p + 1)) = omega arith in

@@ -44,7 +44,7 @@ in_four : spell_in 4 300 ≡ 172 ∷ 130 ∷ 128 ∷ 0 ∷ []
 unfolding spell_in
 in_four = refl
 
--- two integers, and nothing more
+-- Two integers, and nothing more.
 pair : Format (List ℕ)
 pair = times 2 integer >>= λ vs. Stop (Done vs)
 

@@ -8,7 +8,7 @@ use Rattle.jfr_base.specs.declared.reason.Reason.TheVariants.{Short, Trailing}
 use Rattle.jfr_base.specs.Formats.{Format, Done, Stop, Int, Byte, Run, Here, Refuse, ◌>>=◌, with_bytes, Answer, on, checked, refused, int_at, after_int, run, times, for_each, seen}
 use Rattle.jfr_base.proofs.FormatLaws.{run-bind}
 
--- what comes after a place, if there is one
+-- What comes after a place, if there is one.
 abbrev pub then_at : Result ℕ Flaw → (ℕ → Result ℕ Flaw) → Result ℕ Flaw
 then_at (Ok p) f = f p
 then_at (Err e) f = Err e
@@ -25,7 +25,7 @@ pub then_at_ok : (r : Result ℕ Flaw) → then_at r (λ p. Ok p) ≡ r
 then_at_ok (Ok p) = refl
 then_at_ok (Err e) = refl
 
--- what is made of the value doesn't change where it ends
+-- What is made of the value doesn't change where it ends.
 pub seen-made : {A B : Type 0} (f : Format A) (g : A → B) (x : List ℕ) (end at : ℕ) → seen (run (f >>= λ a. Done (g a)) x end at) ≡ seen (run f x end at)
 unfolding run
 seen-made f g x end at = seen-bind f (λ a. Done (g a)) (λ p. Ok p) x end at (λ a p. refl) ∙ then_at_ok (seen (run f x end at))
@@ -40,7 +40,7 @@ seen-checked : {A B : Type 0} (at : ℕ) (o : Option Reason) (r : Answer A) (q :
 seen-checked at None r q h = h
 seen-checked at (Some why) r q h = refl
 
--- nor does what is made of the value and its bytes
+-- Nor does what is made of the value and its bytes.
 pub seen-with : {A B : Type 0} (b : List ℕ) (f : Format A) (g : A → List ℕ → B) (x : List ℕ) (end at : ℕ) → seen (run (with_bytes b f (λ a s. Done (g a s))) x end at) ≡ seen (run f x end at)
 unfolding run
 seen-with b (Done a) g x end at = refl

@@ -4,7 +4,7 @@ use Rattle.std.proofs.lemmas.Bool.{cases_lt}
 use Rattle.std.proofs.Common.{ap, arith, refl, sym, inl, inr}
 use Rattle.jfr_base.specs.Integer.{IsSpellingWithin, Spells, worth_within, spell_within, spell, spell_as, spell_in}
 
--- a group with more to come, before a spelling
+-- A group with more to come, before a spelling.
 longer : (k b : ℕ) (f : List ℕ) → 128 ≤ b → IsSpellingWithin k f → IsSpellingWithin (suc k) (b ∷ f)
 longer k b [] h s = absurd s
 longer k b (f ∷ fs) h s = (h, s)
@@ -36,7 +36,7 @@ pub spell_spells : (v : ℕ) → Spells (spell v) v
 unfolding spell
 spell_spells v = let p = spelled_within 8 v in record { form = p.0; worth = sym p.1 }
 
--- the shortest spelling is no longer than any spelling of the value or of a larger one
+-- The shortest spelling is no longer than any spelling of the value or of a larger one.
 shortest : (k v : ℕ) (b : List ℕ) → IsSpellingWithin k b → v ≤ worth_within k b → length (spell_within k v) ≤ length b
 shortest k v [] s h = absurd s
 shortest zero v (b ∷ bs) s h = omega arith
@@ -69,7 +69,7 @@ pub spell_most : (v : ℕ) → length (spell v) ≤ 9
 unfolding spell
 spell_most v = within_most 8 v
 
--- a value can be spelled in as many bytes as a larger one was
+-- A value can be spelled in as many bytes as a larger one was.
 spelled_as : (k v : ℕ) (b : List ℕ) → IsSpellingWithin k b → v ≤ worth_within k b → IsOf k v (spell_as (length b) v) × (length (spell_as (length b) v) ≡ length b)
 spelled_as k v [] s h = absurd s
 spelled_as zero v (b ∷ []) s h = ((refl, refl), refl)
@@ -89,7 +89,7 @@ spell_in_spells b v w s h =
     let p = spelled_as 8 v b s.form (omega arith) in
     (record { form = p.0.0; worth = sym p.0.1 }, p.1)
 
--- a large number takes all nine bytes
+-- A large number takes all nine bytes.
 abbrev pub power : ℕ → ℕ
 power zero = 1
 power (suc k) = 128 * power k

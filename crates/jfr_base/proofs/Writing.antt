@@ -16,13 +16,13 @@ spell_small (suc k) v h = let t : nat_lt v 128 ≡ true = grind arith in rw t re
 spell_large : (k v : ℕ) → 128 ≤ v → spell_within (suc k) v ≡ (v % 128 + 128) ∷ spell_within k (v / 128)
 spell_large k v h = let t : nat_lt v 128 ≡ false = grind arith in rw t refl
 
--- a byte that is stored behind those before it
+-- A byte that is stored behind those before it.
 stored : (into front rest : List ℕ) (i byte : ℕ) → i < length into → front ≡ take i into ++ byte ∷ rest → front ≡ take (i + 1) (slice_set into i byte) ++ rest
 stored into front rest i byte h e =
     let s : take (i + 1) (slice_set into i byte) ≡ take i into ++ byte ∷ [] = ap (λ n. take n (slice_set into i byte)) (add-one i) ∙ take-suc-set into i byte h in
     e ∙ (sym (append_assoc (take i into) (byte ∷ []) rest) ∙ ap (λ z. z ++ rest) (sym s))
 
--- what a writer of the shortest spelling knows between two groups
+-- What a writer of the shortest spelling knows between two groups.
 pub record Writing (value i rest : ℕ) (into : List ℕ) : Type 0 where
   pub groups : ℕ
   pub room : i + groups ≡ 8
@@ -63,7 +63,7 @@ writing_next value i rest into w h l j = by_groups w.groups refl
         less : (r p : ℕ) → r < 256 * (128 * p) → r / 128 < 256 * p
         less r p h = omega arith
 
--- what a writer in a count of bytes knows between two groups
+-- What a writer in a count of bytes knows between two groups.
 pub record Filling (value count i rest : ℕ) (into : List ℕ) : Type 0 where
   pub groups : ℕ
   pub room : i + groups + 1 ≡ count
@@ -113,7 +113,7 @@ filling_last value count i rest into w h j =
       ap (λ n. take n (slice_set into i rest)) (sym j) ∙ sym (stored into (spell_in count value) [] i rest h e ∙ append-nil (take (i + 1) (slice_set into i rest))),
     )
 
--- what is written in a count of bytes spells the value
+-- What is written in a count of bytes spells the value.
 as_spells : (k n v : ℕ) → n ≤ k → (v < power (suc n)) ⊎ (n ≡ k) → IsOf k v (spell_as (suc n) v)
 as_spells zero zero v h f = (refl, refl)
 as_spells zero (suc n) v h f = absurd (omega arith)
@@ -137,7 +137,7 @@ fits_spells value (suc n) h i f = let p = as_spells 8 n value (omega arith) (by_
     by_fit (inl j) = inl (subst (λ z. value < z) (sym (power_is (suc n))) j)
     by_fit (inr e) = inr (omega arith)
 
--- what is written are bytes
+-- What is written are bytes.
 within_bytes : (k v : ℕ) → v < 256 * power k → AreBytes (spell_within k v)
 within_bytes zero v h = (omega arith, tt)
 within_bytes (suc k) v h = by_test (cases_lt v 128) (within_bytes k (v / 128) (less v (power k) h))
@@ -168,7 +168,7 @@ spell_in_bytes value (suc k) h v f = as_bytes k value (filling_small (filling_st
     filling_small : (w : Filling value (suc k) 0 value []) → value < 256 * power k
     filling_small w = let e : w.groups ≡ k = omega (arith, w.room) in subst (λ g. value < 256 * power g) e w.small
 
--- what a counter of bytes knows between two groups
+-- What a counter of bytes knows between two groups.
 pub record Counting (value len rest : ℕ) : Type 0 where
   pub groups : ℕ
   pub room : len + groups ≡ 9

@@ -9,22 +9,22 @@ use Rattle.jfr_base.specs.declared.integer.Var.{Var}
 use Rattle.jfr_base.specs.Integer.{IntAt, Spells, worth_within}
 
 pub data Format (A : Type 0) : Type 0 where
-  -- the value is this, whatever follows
+  -- The value is this, whatever follows.
   Done : (value : A) → Format A
-  -- the bytes end here
+  -- The bytes end here.
   Stop : (next : Format A) → Format A
-  -- an integer; a check says for what reason it is faulty, or none
+  -- An integer; a check says for what reason it is faulty, or none.
   Int : (check : ℕ → Option Reason) → (next : ℕ → List ℕ → Format A) → Format A
-  -- a byte
+  -- A byte.
   Byte : (check : ℕ → Option Reason) → (next : ℕ → Format A) → Format A
-  -- a run of so many bytes
+  -- A run of so many bytes.
   Run : (count : ℕ) → (next : List ℕ → Format A) → Format A
-  -- no bytes: the place where the format has come to is handed on
+  -- No bytes: the place where the format has come to is handed on.
   Here : (next : ℕ → Format A) → Format A
-  -- what would stand here is refused
+  -- What would stand here is refused.
   Refuse : (why : Reason) → Format A
 
--- a format, and behind it the one that its value leads to
+-- A format, and behind it the one that its value leads to.
 infixl 10 ◌>>=◌
 abbrev pub ◌>>=◌ : {A B : Type 0} → Format A → (A → Format B) → Format B
 (Done a) >>= g = g a
@@ -35,7 +35,7 @@ abbrev pub ◌>>=◌ : {A B : Type 0} → Format A → (A → Format B) → Form
 (Here next) >>= g = Here (λ at. next at >>= g)
 (Refuse why) >>= g = Refuse why
 
--- as >>=, where the next format also takes the bytes that the first one read, behind those in b
+-- As >>=, where the next format also takes the bytes that the first one read, behind those in b.
 abbrev pub with_bytes : {A B : Type 0} → List ℕ → Format A → (A → List ℕ → Format B) → Format B
 with_bytes b (Done a) g = g a b
 with_bytes b (Stop next) g = Stop (with_bytes b next g)
@@ -45,20 +45,20 @@ with_bytes b (Run n next) g = Run n (λ s. with_bytes (b ++ s) (next s) g)
 with_bytes b (Here next) g = Here (λ at. with_bytes b (next at) g)
 with_bytes b (Refuse why) g = Refuse why
 
--- a check that finds no integer faulty
+-- A check that finds no integer faulty.
 abbrev pub unchecked : ℕ → Option Reason
 unchecked v = None
 
--- a compressed integer of any value
+-- A compressed integer of any value.
 abbrev pub integer : Format ℕ
 integer = Int unchecked (λ v s. Done v)
 
--- the format n times, one after another: the list of its values
+-- The format n times, one after another: the list of its values.
 abbrev pub times : {A : Type 0} → ℕ → Format A → Format (List A)
 times zero f = Done []
 times (suc n) f = f >>= λ a. times n f >>= λ rest. Done (a ∷ rest)
 
--- a format for each item of the list, one after another: the list of their values
+-- A format for each item of the list, one after another: the list of their values.
 abbrev pub for_each : {X A : Type 0} → List X → (X → Format A) → Format (List A)
 for_each [] f = Done []
 for_each (x ∷ xs) f = f x >>= λ a. for_each xs f >>= λ rest. Done (a ∷ rest)
@@ -111,31 +111,31 @@ pub record Got (A : Type 0) : Type 0 where
 abbrev pub Answer : Type 0 → Type 0
 Answer A = Result (Got A) Flaw
 
--- the answer where the unit at a place is faulty
+-- The answer where the unit at a place is faulty.
 abbrev pub refused : {A : Type 0} → ℕ → Reason → Answer A
 refused at why = Err (record { offset = at; reason = why })
 
--- an answer, unless the check of the unit at a place gives a reason
+-- An answer, unless the check of the unit at a place gives a reason.
 abbrev pub checked : {A : Type 0} → ℕ → Option Reason → Answer A → Answer A
 checked at None r = r
 checked at (Some why) r = refused at why
 
--- how many bytes the integer at the front of the list takes, where it ends in the list
+-- How many bytes the integer at the front of the list takes, where it ends in the list.
 abbrev pub front_within : ℕ → List ℕ → Option ℕ
 front_within k [] = None
 front_within zero (b ∷ bs) = Some 1
 front_within (suc k) (b ∷ bs) = if nat_lt b 128 then Some 1 else option_map (λ n. suc n) (front_within k bs)
 
--- the integer at a place, where one ends by the end
+-- The integer at a place, where one ends by the end.
 unfoldable pub int_at : List ℕ → ℕ → ℕ → Option Var
 int_at x at end = option_map (λ n. record { value = worth_within 8 (slice_range x at (at + n)); end = at + n }) (front_within 8 (slice_range x at end))
 
--- goes on from a value and the place after it; a flaw stays as it is
+-- Goes on from a value and the place after it; a flaw stays as it is.
 abbrev pub on : {A B : Type 0} → Answer A → (A → ℕ → Answer B) → Answer B
 on (Ok g) f = f g.value g.place
 on (Err e) f = Err e
 
--- goes on behind the integer that was looked for at a place, if it is there and its check gives no reason
+-- Goes on behind the integer that was looked for at a place, if it is there and its check gives no reason.
 abbrev pub after_int : {A : Type 0} → List ℕ → ℕ → (ℕ → Option Reason) → (ℕ → List ℕ → ℕ → Answer A) → Option Var → Answer A
 after_int x at check f None = refused at Short
 after_int x at check f (Some v) = checked at (check v.value) (f v.value (slice_range x at v.end) v.end)
@@ -150,7 +150,7 @@ run (Run n next) x end at = if nat_le (at + n) end then run (next (slice_range x
 run (Here next) x end at = run (next at) x end at
 run (Refuse why) x end at = refused at why
 
--- an answer without its value: the place after it, or the flaw
+-- An answer without its value: the place after it, or the flaw.
 abbrev pub seen : {A : Type 0} → Answer A → Result ℕ Flaw
 seen (Ok g) = Ok g.place
 seen (Err e) = Err e

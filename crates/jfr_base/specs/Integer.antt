@@ -9,18 +9,18 @@ IsSpellingWithin zero (b ∷ bs) = bs ≡ []
 IsSpellingWithin (suc k) (b ∷ []) = b < 128
 IsSpellingWithin (suc k) (b ∷ c ∷ bs) = (128 ≤ b) × IsSpellingWithin k (c ∷ bs)
 
--- the sum of the groups, each worth 128 times the one before
+-- The sum of the groups, each worth 128 times the one before.
 abbrev pub worth_within : ℕ → List ℕ → ℕ
 worth_within k [] = 0
 worth_within zero (b ∷ bs) = b
 worth_within (suc k) (b ∷ bs) = b % 128 + 128 * worth_within k bs
 
--- these bytes, and no more, are the compressed integer of this value
+-- These bytes, and no more, are the compressed integer of this value.
 pub record Spells (bytes : List ℕ) (value : ℕ) : Type 0 where
   pub form : IsSpellingWithin 8 bytes
   pub worth : value ≡ worth_within 8 bytes
 
--- the integer that is spelled from p up to q
+-- The integer that is spelled from p up to q.
 pub record IntAt (x : List ℕ) (p q value : ℕ) : Type 0 where
   pub order : p ≤ q
   pub within : q ≤ length x
@@ -31,20 +31,20 @@ abbrev pub spell_within : ℕ → ℕ → List ℕ
 spell_within zero v = v ∷ []
 spell_within (suc k) v = if nat_lt v 128 then v ∷ [] else (v % 128 + 128) ∷ spell_within k (v / 128)
 
--- the shortest spelling of a value
+-- The shortest spelling of a value.
 unfoldable pub spell : ℕ → List ℕ
 spell v = spell_within 8 v
 
--- the spelling in n bytes, of which there is at least one
+-- The spelling in n bytes, of which there is at least one.
 abbrev pub spell_as : ℕ → ℕ → List ℕ
 spell_as zero v = []
 spell_as (suc zero) v = v ∷ []
 spell_as (suc (suc n)) v = (v % 128 + 128) ∷ spell_as (suc n) (v / 128)
 
--- so many bytes have room for the value
+-- So many bytes have room for the value.
 abbrev pub FitsIn : ℕ → ℕ → Type 0
 FitsIn value count = (value < 2 ^ (7 * count)) ⊎ (count ≡ 9)
 
--- the spelling of a value in n bytes, padded where it needs fewer
+-- The spelling of a value in n bytes, padded where it needs fewer.
 unfoldable pub spell_in : ℕ → ℕ → List ℕ
 spell_in n v = spell_as n v

@@ -5,23 +5,23 @@ use Rattle.jfr_base.specs.declared.reason.Reason.{Reason}
 use Rattle.jfr_base.specs.Integer.{Spells, spell}
 use Rattle.jfr_base.specs.Formats.{Format, Reads, Fails, run, refused}
 
--- no spelling begins another, and each spells one value
+-- No spelling begins another, and each spells one value.
 abbrev pub OneSpelling : Type 0
 OneSpelling = (a b x y : List ℕ) (v w : ℕ) → Spells a v → Spells b w → a ++ x ≡ b ++ y → (a ≡ b) × (v ≡ w)
 
--- no spelling of this value, or of a larger one, is shorter than the shortest
+-- No spelling of this value, or of a larger one, is shorter than the shortest.
 abbrev pub IsShortest : ℕ → Type 0
 IsShortest value = (b : List ℕ) (w : ℕ) → Spells b w → value ≤ w → length (spell value) ≤ length b
 
--- each member is a byte
+-- Each member is a byte.
 abbrev pub AreBytes : List ℕ → Type 0
 AreBytes b = AllByRecursion (λ c. c < 256) b
 
--- the format reads something there
+-- The format reads something there.
 abbrev pub ReadsSome : {A : Type 0} → Format A → List ℕ → ℕ → ℕ → Type 0
 ReadsSome {A = A} f x end at = (value : A) × (to : ℕ) × Reads f x end at value to
 
--- the format fails there somehow
+-- The format fails there somehow.
 abbrev pub FailsSome : {A : Type 0} → Format A → List ℕ → ℕ → ℕ → Type 0
 FailsSome f x end at = (o : ℕ) × (why : Reason) × Fails f x end at o why
 

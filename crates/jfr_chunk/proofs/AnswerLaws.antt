@@ -26,12 +26,12 @@ use Rattle.jfr_chunk.proofs.PartsLaws.{links_record}
 use Rattle.jfr_chunk.proofs.StandingLaws.{tiles_each, links_each}
 use Rattle.jfr_chunk.proofs.StageLaws.{flaw_is, there_starts, none_starts, starts_there, starts_none, to_end, EventsTell, events_tell, events_ok, events_err, EntriesTell, entries_tell, entries_ok, entries_err}
 
--- what the chain that is computed says
+-- What the chain that is computed says.
 abbrev pub ChainTells : List ℕ → List Framed → ℕ → Result (List Link) Flaw → Type 0
 ChainTells c rs at (Ok ls) = IsChain c rs at ls
 ChainTells c rs at (Err flaw) = (ls : List Link) × ChainFlaw c rs at ls flaw.offset flaw.reason
 
--- the chain of a chunk's records, or its flaw, is what is computed
+-- The chain of a chunk's records, or its flaw, is what is computed.
 pub record ChainAnswers (c : List ℕ) (rs : List Framed) : Type 0 where
   pub tells : (at : ℕ) (r : Framed) → StartsAt rs at 1 r → ChainTells c rs at (chain_of c rs r)
   pub chain : (at : ℕ) (ls : List Link) (r : Framed) → StartsAt rs at 1 r → IsChain c rs at ls → chain_of c rs r ≡ Ok ls
@@ -43,7 +43,7 @@ no_metadata = record { offset = 24; reason = MetadataPosition }
 abbrev no_pools : Flaw
 no_pools = record { offset = 16; reason = PoolPosition }
 
--- what is left to do behind each stage
+-- What is left to do behind each stage.
 module _ (c : List ℕ) where
   abbrev behind_entries : List Framed → List Link → Body → Classes → List EntryAt → Result Parts Flaw
   behind_entries rs ls b k es = and_then (events_checked c k (event_records k rs) (event_records k rs)) λ all. Ok (record { bytes = c; records = rs; chain = ls; body = b; classes = k; entries = es })
@@ -83,7 +83,7 @@ module _ (c : List ℕ) (long : 68 ≤ length c) (chains : (rs : List Framed) �
   event_each : (k : Classes) (f : Framing c) → AllByRecursion (IsRecord c) (event_records k f.records)
   event_each k f = filter_all (IsRecord c) (λ r. is_event_class k r.type_id) f.records (each f)
 
-  -- what is computed stands, or is the first flaw
+  -- What is computed stands, or is the first flaw.
   abbrev pub Tells : Result Parts Flaw → Type 0
   Tells (Ok p) = (p.bytes ≡ c) × AreParts p
   Tells (Err flaw) = Refused c flaw
@@ -171,7 +171,7 @@ module _ (c : List ℕ) (long : 68 ≤ length c) (chains : (rs : List Framed) �
       by_framing (inl (rs, cover)) = subst Tells (sym (framed_to rs cover)) (positions_told rs cover)
       by_framing (inr (o, f)) = subst Tells (sym (flawed_to o f)) (framing f refl)
 
-  -- and back, stage by stage
+  -- And back, stage by stage.
   metadata_to : (rs : List Framed) (m : Framed) → AreRecords c rs → StartsAt rs (metadata_at c) 0 m → read_parts c ≡ behind_metadata c rs m
   metadata_to rs m cover s = framed_to rs cover ∙ ap (λ x. and_then (found_or no_metadata x) (behind_metadata c rs)) (starts_there c rs (metadata_at c) 0 m (tiles_each c 68 (length c) rs cover) s)
 
@@ -222,7 +222,7 @@ module _ (c : List ℕ) (long : 68 ≤ length c) (chains : (rs : List Framed) �
       (events_ok c p.described.classes (event_records p.described.classes p.described.chained.framing.records) (event_records p.described.classes p.described.chained.framing.records) (event_each p.described.classes p.described.chained.framing)
       (recursion_from_All (HasFields c p.described.classes) (event_records p.described.classes p.described.chained.framing.records) w))
 
--- the newest link's checkpoint is where the chain begins
+-- The newest link's checkpoint is where the chain begins.
 chain_start : (c : List ℕ) (rs : List Framed) (at : ℕ) (ls : List Link) → IsChain c rs at ls → (r : Framed) × StartsAt rs at 1 r
 chain_start c rs at [] h = absurd h
 chain_start c rs at (l ∷ []) h = (l.frame, record { listed = h.0.framed; place = h.1; type_is = h.0.checkpoint })

@@ -25,7 +25,7 @@ use Rattle.jfr_chunk.proofs.PartsLaws.{links_record}
 use Rattle.jfr_chunk.proofs.StandingLaws.{links_each, tiles_each}
 use Rattle.jfr_chunk.proofs.TestLaws.{left_true}
 
--- the sum of what a function gives at each member
+-- The sum of what a function gives at each member.
 abbrev pub total : {X : Type 0} → (X → ℕ) → List X → ℕ
 total w [] = 0
 total w (x ∷ xs) = w x + total w xs
@@ -38,7 +38,7 @@ total_map : {X Y : Type 0} (w : Y → ℕ) (f : X → Y) (xs : List X) → total
 total_map w f [] = refl
 total_map w f (x ∷ xs) = ap (λ z. w (f x) + z) (total_map w f xs)
 
--- what is read one after another weighs no more than its bytes
+-- What is read one after another weighs no more than its bytes.
 times_total : {A : Type 0} (w : A → ℕ) (f : Format A) (c : List ℕ) (end : ℕ) → ((at : ℕ) (a : A) (to : ℕ) → at ≤ end → Reads f c end at a to → at + w a ≤ to)
     → (n at : ℕ) (vs : List A) (to : ℕ) → at ≤ end → Reads (times n f) c end at vs to → at + total w vs ≤ to
 times_total w f c end each zero at vs to h r = subst (λ z. at + total w z ≤ to) (sym r.0) (let e : to ≡ at = r.1 in omega arith)
@@ -51,14 +51,14 @@ times_total w f c end each (suc n) at vs to h r =
     let e : to ≡ b.place = b.second.1 in
     subst (λ z. at + total w z ≤ to) (sym b.second.0) (omega arith)
 
--- the size of a record, and of a link's record
+-- The size of a record, and of a link's record.
 abbrev pub record_size : Framed → ℕ
 record_size r = r.size
 
 abbrev pub link_size : Link → ℕ
 link_size l = l.frame.size
 
--- the leaves of an entry, and those and itself
+-- The leaves of an entry, and those and itself.
 abbrev pub leaves_of : List ℕ → Classes → EntryAt → ℕ
 leaves_of c k e = length (leaves k c (entry_node e))
 
@@ -128,7 +128,7 @@ module _ (c : List ℕ) (k : Classes) (sound : Sound k) where
       let r : total (entry_weight c k) e.2 ≤ total link_size ls = entries_within (number + 1) ls e.2 a.1 e.4 in
       subst (λ z. total (entry_weight c k) z ≤ link_size l + total link_size ls) (sym e.3) (omega arith)
 
--- links whose places rise
+-- Links whose places rise.
 abbrev Up : ℕ → List Link → Type 0
 Up lo [] = ⊤
 Up lo (l ∷ ls) = (lo ≤ l.frame.at) × Up (l.frame.at + 1) ls
@@ -145,7 +145,7 @@ all_most : (m n : ℕ) → m < n → (ls : List Link) → AllByRecursion (λ l. 
 all_most m n h [] a = tt
 all_most m n h (l ∷ ls) a = ((let i : l.frame.at ≤ m = a.0 in omega arith), all_most m n h ls a.1)
 
--- the links of a chain, oldest first
+-- The links of a chain, oldest first.
 chain_rises : (c : List ℕ) (rs : List Framed) (at : ℕ) (ls : List Link) → IsChain c rs at ls → Up 0 (reverse ls) × AllByRecursion (λ l. l.frame.at ≤ at) ls
 chain_rises c rs at [] h = absurd h
 chain_rises c rs at (l ∷ []) h = ((omega arith, tt), ((let e : l.frame.at ≡ at = h.1 in omega arith), tt))
@@ -157,7 +157,7 @@ chain_rises c rs at (l ∷ m ∷ ls) h =
     let a = all_reverse (λ (x : Link). x.frame.at < l.frame.at) (m ∷ ls) (all_less m.frame.at l.frame.at t (m ∷ ls) i.1) in
     (subst (Up 0) (sym (reverse-append (l ∷ []) (m ∷ ls))) (up_last 0 (reverse (m ∷ ls)) l i.0 a (omega arith)), ((omega arith), all_most m.frame.at at s (m ∷ ls) i.1))
 
--- the link is a checkpoint among these records
+-- The link is a checkpoint among these records.
 abbrev Linked : List Framed → Link → Type 0
 Linked rs l = In rs l.frame × (l.frame.type_id ≡ 1)
 
@@ -166,7 +166,7 @@ at_least c p q [] x t i = absurd i
 at_least c p q (r ∷ rs) x t (inl e) = let a : r.at ≡ p = t.0 in let b : r.at ≡ x.at = ap (λ (z : Framed). z.at) e in omega arith
 at_least c p q (r ∷ rs) x t (inr i) = let a : r.at ≡ p = t.0 in let b : r.at + r.size ≤ x.at = at_least c (record_end r) q rs x t.2 i in omega arith
 
--- links behind a record, and checkpoints beside an event, are among the records after it
+-- Links behind a record, and checkpoints beside an event, are among the records after it.
 behind : (r : Framed) (rs : List Framed) (lo : ℕ) (ls : List Link) → r.at < lo → Up lo ls → AllByRecursion (Linked (r ∷ rs)) ls → AllByRecursion (Linked rs) ls
 behind r rs lo [] h u a = tt
 behind r rs lo (l ∷ ls) h u a = ((by_place a.0.0, a.0.1), behind r rs (l.frame.at + 1) ls (let i : lo ≤ l.frame.at = u.0 in omega arith) u.1 a.1)
@@ -187,7 +187,7 @@ event_type : (k : Classes) (id : ℕ) → is_event_class k id ≡ true → 1 < i
 unfolding is_event_class
 event_type k id e = ltb-true 1 id (left_true (nat_lt 1 id) _ e)
 
--- from a place on, events and these checkpoints have together at most as many bytes as there are
+-- From a place on, events and these checkpoints have together at most as many bytes as there are.
 abbrev Apart : Classes → ℕ → ℕ → List Framed → Type 0
 Apart k p q rs = (lo : ℕ) (ls : List Link) → Up lo ls → AllByRecursion (Linked rs) ls → p + (total record_size (event_records k rs) + total link_size ls) ≤ q
 
@@ -229,7 +229,7 @@ total_suc w [] = refl
 total_suc w (x ∷ xs) = let i = total_suc w xs in omega arith
 
 module _ (c : List ℕ) (rs : List Framed) (records : AreRecords c rs) (at : ℕ) (ls : List Link) (chain : IsChain c rs at ls) (k : Classes) (sound : Sound k) (es : List EntryAt) (stand : AreEntries c k 0 (reverse ls) es) where
-  -- the events' records, the entries and their leaves
+  -- The events' records, the entries and their leaves.
   pub entries_apart : total record_size (event_records k rs) + (total (leaves_of c k) es + length es) ≤ length c
   entries_apart =
       let links = links_each c rs at ls chain in
@@ -240,6 +240,6 @@ module _ (c : List ℕ) (rs : List Framed) (records : AreRecords c rs) (at : ℕ
       let d = total_suc (leaves_of c k) es in
       omega arith
 
-  -- there are no more entries than bytes
+  -- There are no more entries than bytes.
   pub entries_few : length es ≤ length c
   entries_few = let a = entries_apart in omega arith

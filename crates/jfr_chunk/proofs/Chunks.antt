@@ -8,35 +8,35 @@ use Rattle.jfr_pool.specs.declared.link.Link.{Link}
 use Rattle.jfr_pool.specs.declared.entry.EntryAt.{EntryAt}
 use Rattle.jfr_chunk.specs.Parts.{Parts}
 
--- a number below 65,536 in eight bytes
+-- A number below 65,536 in eight bytes.
 abbrev pub eight : ℕ → List ℕ
 eight n = 0 ∷ 0 ∷ 0 ∷ 0 ∷ 0 ∷ 0 ∷ n / 256 ∷ n % 256 ∷ []
 
--- a header with this size and these positions of the last checkpoint and of the metadata record
+-- A header with this size and these positions of the last checkpoint and of the metadata record.
 abbrev pub header : ℕ → ℕ → ℕ → List ℕ
 header size pools metadata = 70 ∷ 76 ∷ 82 ∷ 0 ∷ 0 ∷ 2 ∷ 0 ∷ 1 ∷ (eight size ++ (eight pools ++ (eight metadata ++ (eight 1000 ++ (eight 5 ++ (eight 0 ++ 0 ∷ 0 ∷ 0 ∷ 0 ∷ 59 ∷ 154 ∷ 202 ∷ 0 ∷ 0 ∷ 0 ∷ 0 ∷ 1 ∷ []))))))
 
--- the chunk with another byte at a place
+-- The chunk with another byte at a place.
 abbrev pub edited : List ℕ → ℕ → ℕ → List ℕ
 edited c at byte = take at c ++ byte ∷ drop (at + 1) c
 
--- a metadata record without classes
+-- A metadata record without classes.
 abbrev pub no_classes : List ℕ
 no_classes = 28 ∷ 0 ∷ 0 ∷ 0 ∷ 1 ∷ 2 ∷ 3 ∷ 4 ∷ 114 ∷ 111 ∷ 111 ∷ 116 ∷ 3 ∷ 8 ∷ 109 ∷ 101 ∷ 116 ∷ 97 ∷ 100 ∷ 97 ∷ 116 ∷ 97 ∷ 0 ∷ 0 ∷ 1 ∷ 1 ∷ 0 ∷ 0 ∷ []
 
--- a checkpoint without pools, and no more: the plain chunk
+-- A checkpoint without pools, and no more: the plain chunk.
 abbrev pub plain : List ℕ
 plain = header 103 96 68 ++ (no_classes ++ 7 ∷ 1 ∷ 0 ∷ 0 ∷ 0 ∷ 0 ∷ 0 ∷ [])
 
--- records that nothing names: a checkpoint, an unknown type, and an older metadata record
+-- Records that nothing names: a checkpoint, an unknown type, and an older metadata record.
 abbrev pub inert : List ℕ
 inert = header 141 134 106 ++ (no_classes ++ (7 ∷ 1 ∷ 0 ∷ 0 ∷ 0 ∷ 0 ∷ 0 ∷ 3 ∷ 99 ∷ 170 ∷ (no_classes ++ 7 ∷ 1 ∷ 0 ∷ 0 ∷ 0 ∷ 0 ∷ 0 ∷ [])))
 
--- the metadata record of long, java.lang.String, t.Node, t.A and t.B
+-- The metadata record of long, java.lang.String, t.Node, t.A and t.B.
 abbrev pub metadata : List ℕ
 metadata = 129 ∷ 2 ∷ 0 ∷ 0 ∷ 0 ∷ 1 ∷ 24 ∷ 3 ∷ 4 ∷ 114 ∷ 111 ∷ 111 ∷ 116 ∷ 3 ∷ 8 ∷ 109 ∷ 101 ∷ 116 ∷ 97 ∷ 100 ∷ 97 ∷ 116 ∷ 97 ∷ 3 ∷ 5 ∷ 99 ∷ 108 ∷ 97 ∷ 115 ∷ 115 ∷ 3 ∷ 4 ∷ 110 ∷ 97 ∷ 109 ∷ 101 ∷ 3 ∷ 2 ∷ 105 ∷ 100 ∷ 3 ∷ 9 ∷ 115 ∷ 117 ∷ 112 ∷ 101 ∷ 114 ∷ 84 ∷ 121 ∷ 112 ∷ 101 ∷ 3 ∷ 5 ∷ 102 ∷ 105 ∷ 101 ∷ 108 ∷ 100 ∷ 3 ∷ 12 ∷ 99 ∷ 111 ∷ 110 ∷ 115 ∷ 116 ∷ 97 ∷ 110 ∷ 116 ∷ 80 ∷ 111 ∷ 111 ∷ 108 ∷ 3 ∷ 4 ∷ 116 ∷ 114 ∷ 117 ∷ 101 ∷ 3 ∷ 4 ∷ 108 ∷ 111 ∷ 110 ∷ 103 ∷ 3 ∷ 16 ∷ 106 ∷ 97 ∷ 118 ∷ 97 ∷ 46 ∷ 108 ∷ 97 ∷ 110 ∷ 103 ∷ 46 ∷ 83 ∷ 116 ∷ 114 ∷ 105 ∷ 110 ∷ 103 ∷ 3 ∷ 6 ∷ 116 ∷ 46 ∷ 78 ∷ 111 ∷ 100 ∷ 101 ∷ 3 ∷ 3 ∷ 116 ∷ 46 ∷ 65 ∷ 3 ∷ 3 ∷ 116 ∷ 46 ∷ 66 ∷ 3 ∷ 13 ∷ 106 ∷ 100 ∷ 107 ∷ 46 ∷ 106 ∷ 102 ∷ 114 ∷ 46 ∷ 69 ∷ 118 ∷ 101 ∷ 110 ∷ 116 ∷ 3 ∷ 1 ∷ 53 ∷ 3 ∷ 1 ∷ 54 ∷ 3 ∷ 1 ∷ 55 ∷ 3 ∷ 1 ∷ 56 ∷ 3 ∷ 1 ∷ 57 ∷ 3 ∷ 4 ∷ 110 ∷ 101 ∷ 120 ∷ 116 ∷ 3 ∷ 4 ∷ 116 ∷ 101 ∷ 120 ∷ 116 ∷ 3 ∷ 1 ∷ 110 ∷ 3 ∷ 4 ∷ 110 ∷ 111 ∷ 100 ∷ 101 ∷ 0 ∷ 0 ∷ 1 ∷ 1 ∷ 0 ∷ 5 ∷ 2 ∷ 2 ∷ 3 ∷ 9 ∷ 4 ∷ 15 ∷ 0 ∷ 2 ∷ 2 ∷ 3 ∷ 10 ∷ 4 ∷ 16 ∷ 0 ∷ 2 ∷ 2 ∷ 3 ∷ 11 ∷ 4 ∷ 17 ∷ 2 ∷ 6 ∷ 3 ∷ 3 ∷ 20 ∷ 2 ∷ 17 ∷ 7 ∷ 8 ∷ 0 ∷ 6 ∷ 2 ∷ 3 ∷ 21 ∷ 2 ∷ 16 ∷ 0 ∷ 2 ∷ 3 ∷ 3 ∷ 12 ∷ 4 ∷ 18 ∷ 5 ∷ 14 ∷ 2 ∷ 6 ∷ 2 ∷ 3 ∷ 22 ∷ 2 ∷ 15 ∷ 0 ∷ 6 ∷ 3 ∷ 3 ∷ 23 ∷ 2 ∷ 17 ∷ 7 ∷ 8 ∷ 0 ∷ 2 ∷ 3 ∷ 3 ∷ 13 ∷ 4 ∷ 19 ∷ 5 ∷ 14 ∷ 1 ∷ 6 ∷ 3 ∷ 3 ∷ 23 ∷ 2 ∷ 17 ∷ 7 ∷ 8 ∷ 0 ∷ []
 
--- an event of t.A to node 1, an event of t.B to node 3, and the nodes 1 to 4 in two rings
+-- An event of t.A to node 1, an event of t.B to node 3, and the nodes 1 to 4 in two rings.
 abbrev pub event_a : List ℕ
 event_a = 5 ∷ 8 ∷ 172 ∷ 2 ∷ 1 ∷ []
 
@@ -46,19 +46,19 @@ event_b = 3 ∷ 9 ∷ 3 ∷ []
 abbrev pub rings : List ℕ
 rings = header 362 333 68 ++ (metadata ++ (event_a ++ (event_b ++ 29 ∷ 1 ∷ 0 ∷ 0 ∷ 0 ∷ 0 ∷ 1 ∷ 7 ∷ 4 ∷ 1 ∷ 2 ∷ 3 ∷ 1 ∷ 112 ∷ 2 ∷ 1 ∷ 3 ∷ 1 ∷ 113 ∷ 3 ∷ 4 ∷ 3 ∷ 1 ∷ 114 ∷ 4 ∷ 3 ∷ 3 ∷ 1 ∷ 115 ∷ [])))
 
--- node 1 in two checkpoints
+-- Node 1 in two checkpoints.
 abbrev pub key_twice : List ℕ
 key_twice = header 366 344 68 ++ (metadata ++ (14 ∷ 1 ∷ 0 ∷ 0 ∷ 0 ∷ 0 ∷ 1 ∷ 7 ∷ 1 ∷ 1 ∷ 0 ∷ 3 ∷ 1 ∷ 112 ∷ (event_a ++ 22 ∷ 1 ∷ 0 ∷ 0 ∷ 237 ∷ 255 ∷ 255 ∷ 255 ∷ 255 ∷ 255 ∷ 255 ∷ 255 ∷ 255 ∷ 0 ∷ 1 ∷ 7 ∷ 1 ∷ 1 ∷ 0 ∷ 3 ∷ 1 ∷ 113 ∷ [])))
 
--- three checkpoints, of which the second has an entry that nothing refers to, and the last none
+-- Three checkpoints, of which the second has an entry that nothing refers to, and the last none.
 abbrev pub three_checkpoints : List ℕ
 three_checkpoints = header 381 366 68 ++ (metadata ++ (14 ∷ 1 ∷ 0 ∷ 0 ∷ 0 ∷ 0 ∷ 1 ∷ 7 ∷ 1 ∷ 1 ∷ 0 ∷ 3 ∷ 1 ∷ 112 ∷ 22 ∷ 1 ∷ 0 ∷ 0 ∷ 242 ∷ 255 ∷ 255 ∷ 255 ∷ 255 ∷ 255 ∷ 255 ∷ 255 ∷ 255 ∷ 0 ∷ 1 ∷ 7 ∷ 1 ∷ 3 ∷ 0 ∷ 3 ∷ 1 ∷ 114 ∷ (event_a ++ 15 ∷ 1 ∷ 0 ∷ 0 ∷ 229 ∷ 255 ∷ 255 ∷ 255 ∷ 255 ∷ 255 ∷ 255 ∷ 255 ∷ 255 ∷ 0 ∷ 0 ∷ [])))
 
--- a node whose text is a key, and strings that are keys in a ring
+-- A node whose text is a key, and strings that are keys in a ring.
 abbrev pub string_ring : List ℕ
 string_ring = header 355 330 68 ++ (metadata ++ (event_a ++ 25 ∷ 1 ∷ 0 ∷ 0 ∷ 0 ∷ 0 ∷ 2 ∷ 7 ∷ 1 ∷ 1 ∷ 0 ∷ 2 ∷ 1 ∷ 6 ∷ 3 ∷ 1 ∷ 2 ∷ 2 ∷ 2 ∷ 2 ∷ 2 ∷ 3 ∷ 3 ∷ 1 ∷ 120 ∷ []))
 
--- the parts of the chunk of rings
+-- The parts of the chunk of rings.
 abbrev pub metadata_record : Framed
 metadata_record = record { at = 68; size = 257; type_at = 70; type_id = 0; body = 71 }
 

@@ -12,7 +12,7 @@ use Rattle.jfr_chunk.specs.declared.event_index.EventIndexEntry.{EventIndexEntry
 use Rattle.jfr_chunk.specs.Seen.{end_in, event_kept, event_with}
 use Rattle.jfr_chunk.proofs.AllLaws.{all_append}
 
--- the fields of the event of a record of that number end there, and those of the others where they did
+-- The fields of the event of a record of that number end there, and those of the others where they did.
 pub record EndIs (early later : BTreeMap ℕ ℕ) (n : ℕ) (r : Framed) (end : ℕ) : Type 0 where
   pub here : end_in later n r ≡ end
   pub others : (q : ℕ) → q ≢ n → tree.get nat_cmp later q ≡ tree.get nat_cmp early q
@@ -20,21 +20,21 @@ pub record EndIs (early later : BTreeMap ℕ ℕ) (n : ℕ) (r : Framed) (end : 
 apart : (n q : ℕ) → q ≢ n → is_eq (nat_cmp n q) ≡ false
 apart n q h = grind (arith, nat_tests)
 
--- before the record's end, which is noted
+-- Before the record's end, which is noted.
 pub end_early : (early later : BTreeMap ℕ ℕ) (n end : ℕ) (r : Framed) → tree.Updates nat_cmp early later n (Some end) → EndIs early later n r end
 end_early early later n end r u = record {
   here = ap (λ o. unwrap_or o (record_end r)) u.1;
   others = λ q h. u.2 q (apart n q h);
 }
 
--- with the record, of which nothing is noted
+-- With the record, of which nothing is noted.
 pub end_full : (early : BTreeMap ℕ ℕ) (n end : ℕ) (r : Framed) → tree.get nat_cmp early n ≡ None → record_end r ≡ end → EndIs early early n r end
 end_full early n end r e h = record {
   here = ap (λ o. unwrap_or o (record_end r)) e ∙ h;
   others = λ q d. refl;
 }
 
--- what is kept is of the records before a number
+-- What is kept is of the records before a number.
 pub record AreBefore (n : ℕ) (early : BTreeMap ℕ ℕ) (fields : List EventIndexEntry) : Type 0 where
   pub each : AllByRecursion (λ (f : EventIndexEntry). f.record < n) fields
   pub ahead : (q : ℕ) → n ≤ q → tree.get nat_cmp early q ≡ None
@@ -62,7 +62,7 @@ before_event n end early later fields f r e i b = record {
 }
 
 module _ (rs : List Framed) (early later : BTreeMap ℕ ℕ) (n end : ℕ) (r : Framed) (i : EndIs early later n r end) where
-  -- the events of the records before are the same
+  -- The events of the records before are the same.
   pub same_event : (f : EventIndexEntry) → f.record < n → event_kept rs later f ≡ event_kept rs early f
   same_event f h = ap (λ o. option_map (λ (x : Framed). event_with (unwrap_or o (record_end x)) x) (slice_get rs f.record)) (i.others f.record (λ d. (omega arith)))
 
@@ -70,7 +70,7 @@ module _ (rs : List Framed) (early later : BTreeMap ℕ ℕ) (n end : ℕ) (r : 
   same_events [] a = refl
   same_events (f ∷ fs) a = rw (same_event f a.0, same_events fs a.1) refl
 
-  -- and the event of the record is this one
+  -- And the event of the record is this one.
   pub this_event : (f : EventIndexEntry) → f.record ≡ n → slice_get rs n ≡ Some r → event_kept rs later f ≡ Some (event_with end r)
   this_event f e g =
       let h : slice_get rs f.record ≡ Some r = ap (slice_get rs) e ∙ g in

@@ -45,12 +45,12 @@ module _ (c : List ℕ) (k : Classes) (rs : List Framed) where
   abbrev all : List Framed
   all = event_records k rs
 
-  -- the events up to a record are read: the flaw and the events are those of the rest behind these
+  -- The events up to a record are read: the flaw and the events are those of the rest behind these.
   pub record Pending (left : List Framed) (early : BTreeMap ℕ ℕ) (fields : List EventIndexEntry) : Type 0 where
     pub checked : events_checked c k all left ≡ events_checked c k all all
     pub listed : map (event_kept rs early) fields ++ map Some (filter_map (event_of c k) left) ≡ map Some (filter_map (event_of c k) all)
 
-  -- those of the records before a number are read, and nothing is kept of the others
+  -- Those of the records before a number are read, and nothing is kept of the others.
   pub record ReadTo (n : ℕ) (early : BTreeMap ℕ ℕ) (fields : List EventIndexEntry) : Type 0 where
     pub pending : Pending (event_records k (drop n rs)) early fields
     pub before : AreBefore n early fields
@@ -67,14 +67,14 @@ module _ (c : List ℕ) (k : Classes) (rs : List Framed) where
   left_event : (n : ℕ) (r : Framed) → slice_get rs n ≡ Some r → is_event_class k r.type_id ≡ true → event_records k (drop n rs) ≡ r ∷ event_records k (drop (n + 1) rs)
   left_event n r e f = left_at n r e ∙ ap (λ b. cond b (r ∷ event_records k (drop (n + 1) rs)) (event_records k (drop (n + 1) rs))) f
 
-  -- a record that is no event
+  -- A record that is no event.
   pub read_other : (n : ℕ) (early : BTreeMap ℕ ℕ) (fields : List EventIndexEntry) (r : Framed) → slice_get rs n ≡ Some r → is_event_class k r.type_id ≡ false → ReadTo n early fields → ReadTo (n + 1) early fields
   read_other n early fields r e f p = record { pending = subst (λ left. Pending left early fields) (left_other n r e f) p.pending; before = before_other n early fields p.before }
 
   abbrev answer : Framed → Answer Value
   answer r = run (value_format k (inline r.type_id)) c (record_end r) r.body
 
-  -- an event whose fields stand
+  -- An event whose fields stand.
   pub read_event : (n : ℕ) (early later : BTreeMap ℕ ℕ) (fields : List EventIndexEntry) (r : Framed) (end refs_end : ℕ) → slice_get rs n ≡ Some r → is_event_class k r.type_id ≡ true → Ok end ≡ seen (answer r) → EndIs early later n r end → ReadTo n early fields
       → ReadTo (n + 1) later (fields ++ record { «record» = n; refs_end = refs_end } ∷ [])
   read_event n early later fields r end refs_end e f s i p = record {
@@ -107,7 +107,7 @@ module _ (c : List ℕ) (k : Classes) (rs : List Framed) where
   each : AreRecords c rs → AllByRecursion (IsRecord c) all
   each t = filter_all (IsRecord c) (λ r. is_event_class k r.type_id) rs (tiles_each c 68 (length c) rs t)
 
-  -- an event whose fields don't stand
+  -- An event whose fields don't stand.
   pub read_stops : (n : ℕ) (early : BTreeMap ℕ ℕ) (fields : List EventIndexEntry) (r : Framed) (flaw : Flaw) → AreRecords c rs → slice_get rs n ≡ Some r → is_event_class k r.type_id ≡ true → Err flaw ≡ seen (answer r) → ReadTo n early fields → IsRefusedEvents c k rs flaw
   read_stops n early fields r flaw t e f s p = subst (EventsTell c k all all) (by_answer (answer r) refl s (subst (λ left. Pending left early fields) (left_event n r e f) p.pending)) (events_tell c k all all (each t))
     where
@@ -118,7 +118,7 @@ module _ (c : List ℕ) (k : Classes) (rs : List Framed) where
       by_answer (Ok g) q s p = cc
       by_answer (Err other) q s p = let h : other ≡ flaw = cc in sym p.checked ∙ (ap (λ a. fields_by a (events_checked c k all rest)) q ∙ ap (λ z. Err z) h)
 
-  -- all are read
+  -- All are read.
   pub read_all : (n : ℕ) (early : BTreeMap ℕ ℕ) (fields : List EventIndexEntry) → AreRecords c rs → length rs ≤ n → ReadTo n early fields → AreFields c k rs fields early
   read_all n early fields t h p =
       let q : Pending [] early fields = subst (λ left. Pending left early fields) (ap (event_records k) (drop_past rs n h)) p.pending in

@@ -34,7 +34,7 @@ abbrev scrubbed : Given → Result Parts Flaw → List ℕ
 scrubbed g (Ok p) = scrub_of p (kept_of g p)
 scrubbed g (Err flaw) = []
 
--- filters by name, by thread and by category
+-- Filters by name, by thread and by category.
 abbrev parks : Given
 parks = record nothing_given { include_events = Some (codes "ThreadPark" ∷ []) }
 
@@ -47,42 +47,42 @@ not_main = record nothing_given { exclude_threads = Some (codes "main" ∷ []) }
 abbrev operating : Given
 operating = record nothing_given { include_categories = Some (codes "Operating*" ∷ []) }
 
--- one event is of that simple name
+-- One event is of that simple name.
 parked : flags parks (read_parts jdk_like) ≡ true ∷ false ∷ false ∷ []
 unfolding run int_at string_format meta_format body_format element_format pieces_from described class_flaws classes_of class_of field_of shape_of id_of class_faults kind_of read_parts records_of record_at chain_of checkpoint_format class_format value_format is_event_class events_of value_of number_in_force text_of named_text keeps glob digits
 parked = refl
 
--- the thread of the second has its name by the later entry of its key
+-- The thread of the second has its name by the later entry of its key.
 worked : flags workers (read_parts jdk_like) ≡ false ∷ true ∷ false ∷ []
 unfolding run int_at string_format meta_format body_format element_format pieces_from described class_flaws classes_of class_of field_of shape_of id_of class_faults kind_of read_parts records_of record_at chain_of checkpoint_format class_format value_format is_event_class events_of value_of number_in_force text_of named_text keeps glob digits
 worked = refl
 
--- the third event has no thread
+-- The third event has no thread.
 others : flags not_main (read_parts jdk_like) ≡ false ∷ true ∷ true ∷ []
 unfolding run int_at string_format meta_format body_format element_format pieces_from described class_flaws classes_of class_of field_of shape_of id_of class_faults kind_of read_parts records_of record_at chain_of checkpoint_format class_format value_format is_event_class events_of value_of number_in_force text_of named_text keeps glob digits
 others = refl
 
--- the first category of the third
+-- The first category of the third.
 measured : flags operating (read_parts jdk_like) ≡ false ∷ false ∷ true ∷ []
 unfolding run int_at string_format meta_format body_format element_format pieces_from described class_flaws classes_of class_of field_of shape_of id_of class_faults kind_of read_parts records_of record_at chain_of checkpoint_format class_format value_format is_event_class events_of value_of number_in_force text_of named_text keeps glob digits
 measured = refl
 
--- with all events the earlier entry of the repeated key goes
+-- With all events the earlier entry of the repeated key goes.
 whole : scrubbed nothing_given (read_parts jdk_like) ≡ header 1353 1253 162 ++ ((189 ∷ 128 ∷ 128 ∷ 0 ∷ 1 ∷ 0 ∷ 0 ∷ 0 ∷ 0 ∷ 2 ∷ 30 ∷ 1 ∷ 1 ∷ 3 ∷ 4 ∷ 109 ∷ 97 ∷ 105 ∷ 110 ∷ 100 ∷ 3 ∷ 4 ∷ 109 ∷ 97 ∷ 105 ∷ 110 ∷ 1 ∷ 32 ∷ 3 ∷ 1 ∷ 3 ∷ 16 ∷ 106 ∷ 97 ∷ 118 ∷ 97 ∷ 47 ∷ 108 ∷ 97 ∷ 110 ∷ 103 ∷ 47 ∷ 79 ∷ 98 ∷ 106 ∷ 101 ∷ 99 ∷ 116 ∷ 2 ∷ 3 ∷ 4 ∷ 119 ∷ 97 ∷ 105 ∷ 116 ∷ 3 ∷ 3 ∷ 3 ∷ 40 ∷ 41 ∷ 86 ∷ []) ++ (slice_range jdk_like 145 1269 ++ (228 ∷ 128 ∷ 128 ∷ 0 ∷ 1 ∷ 0 ∷ 0 ∷ 223 ∷ 246 ∷ 255 ∷ 255 ∷ 255 ∷ 255 ∷ 255 ∷ 255 ∷ 255 ∷ 0 ∷ 5 ∷ 30 ∷ 1 ∷ 2 ∷ 3 ∷ 1 ∷ 119 ∷ 101 ∷ 3 ∷ 14 ∷ 119 ∷ 111 ∷ 114 ∷ 107 ∷ 101 ∷ 114 ∷ 45 ∷ 114 ∷ 101 ∷ 110 ∷ 97 ∷ 109 ∷ 101 ∷ 100 ∷ 2 ∷ 31 ∷ 2 ∷ 1 ∷ 1 ∷ 1 ∷ 2 ∷ 4 ∷ 1 ∷ 32 ∷ 2 ∷ 4 ∷ 3 ∷ 8 ∷ 97 ∷ 112 ∷ 112 ∷ 47 ∷ 76 ∷ 111 ∷ 99 ∷ 107 ∷ 5 ∷ 3 ∷ 3 ∷ 114 ∷ 117 ∷ 110 ∷ 33 ∷ 2 ∷ 1 ∷ 1 ∷ 2 ∷ 3 ∷ 1 ∷ 0 ∷ 2 ∷ 2 ∷ 5 ∷ 3 ∷ 1 ∷ 0 ∷ 35 ∷ 2 ∷ 1 ∷ 0 ∷ 1 ∷ 1 ∷ 10 ∷ 2 ∷ 2 ∷ 0 ∷ 2 ∷ 2 ∷ 20 ∷ 4 ∷ 1 ∷ 10 ∷ 2 ∷ [])))
 unfolding run int_at string_format meta_format body_format element_format pieces_from described class_flaws classes_of class_of field_of shape_of id_of class_faults kind_of read_parts records_of record_at chain_of checkpoint_format class_format value_format is_event_class events_of value_of number_in_force text_of named_text keeps glob digits scrub_of remain reached_marks spell spell_in
 whole = refl
 
--- with the first event seven entries stay, of both checkpoints
+-- With the first event seven entries stay, of both checkpoints.
 park : scrubbed parks (read_parts jdk_like) ≡ header 1270 1231 140 ++ ((189 ∷ 128 ∷ 128 ∷ 0 ∷ 1 ∷ 0 ∷ 0 ∷ 0 ∷ 0 ∷ 2 ∷ 30 ∷ 1 ∷ 1 ∷ 3 ∷ 4 ∷ 109 ∷ 97 ∷ 105 ∷ 110 ∷ 100 ∷ 3 ∷ 4 ∷ 109 ∷ 97 ∷ 105 ∷ 110 ∷ 1 ∷ 32 ∷ 3 ∷ 1 ∷ 3 ∷ 16 ∷ 106 ∷ 97 ∷ 118 ∷ 97 ∷ 47 ∷ 108 ∷ 97 ∷ 110 ∷ 103 ∷ 47 ∷ 79 ∷ 98 ∷ 106 ∷ 101 ∷ 99 ∷ 116 ∷ 2 ∷ 3 ∷ 4 ∷ 119 ∷ 97 ∷ 105 ∷ 116 ∷ 3 ∷ 3 ∷ 3 ∷ 40 ∷ 41 ∷ 86 ∷ []) ++ ((slice_range jdk_like 145 156 ++ slice_range jdk_like 178 1269) ++ (167 ∷ 128 ∷ 128 ∷ 0 ∷ 1 ∷ 0 ∷ 0 ∷ 245 ∷ 246 ∷ 255 ∷ 255 ∷ 255 ∷ 255 ∷ 255 ∷ 255 ∷ 255 ∷ 0 ∷ 3 ∷ 31 ∷ 1 ∷ 1 ∷ 1 ∷ 1 ∷ 33 ∷ 1 ∷ 1 ∷ 1 ∷ 2 ∷ 3 ∷ 1 ∷ 0 ∷ 35 ∷ 1 ∷ 1 ∷ 0 ∷ 1 ∷ 1 ∷ 10 ∷ 2 ∷ [])))
 unfolding run int_at string_format meta_format body_format element_format pieces_from described class_flaws classes_of class_of field_of shape_of id_of class_faults kind_of read_parts records_of record_at chain_of checkpoint_format class_format value_format is_event_class events_of value_of number_in_force text_of named_text keeps glob digits scrub_of remain reached_marks spell spell_in
 park = refl
 
--- with the second eleven
+-- With the second eleven.
 work : scrubbed workers (read_parts jdk_like) ≡ header 1308 1214 123 ++ ((172 ∷ 128 ∷ 128 ∷ 0 ∷ 1 ∷ 0 ∷ 0 ∷ 0 ∷ 0 ∷ 1 ∷ 32 ∷ 3 ∷ 1 ∷ 3 ∷ 16 ∷ 106 ∷ 97 ∷ 118 ∷ 97 ∷ 47 ∷ 108 ∷ 97 ∷ 110 ∷ 103 ∷ 47 ∷ 79 ∷ 98 ∷ 106 ∷ 101 ∷ 99 ∷ 116 ∷ 2 ∷ 3 ∷ 4 ∷ 119 ∷ 97 ∷ 105 ∷ 116 ∷ 3 ∷ 3 ∷ 3 ∷ 40 ∷ 41 ∷ 86 ∷ []) ++ ((slice_range jdk_like 156 167 ++ slice_range jdk_like 178 1269) ++ (222 ∷ 128 ∷ 128 ∷ 0 ∷ 1 ∷ 0 ∷ 0 ∷ 134 ∷ 247 ∷ 255 ∷ 255 ∷ 255 ∷ 255 ∷ 255 ∷ 255 ∷ 255 ∷ 0 ∷ 5 ∷ 30 ∷ 1 ∷ 2 ∷ 3 ∷ 1 ∷ 119 ∷ 101 ∷ 3 ∷ 14 ∷ 119 ∷ 111 ∷ 114 ∷ 107 ∷ 101 ∷ 114 ∷ 45 ∷ 114 ∷ 101 ∷ 110 ∷ 97 ∷ 109 ∷ 101 ∷ 100 ∷ 2 ∷ 31 ∷ 2 ∷ 1 ∷ 1 ∷ 1 ∷ 2 ∷ 4 ∷ 1 ∷ 32 ∷ 2 ∷ 4 ∷ 3 ∷ 8 ∷ 97 ∷ 112 ∷ 112 ∷ 47 ∷ 76 ∷ 111 ∷ 99 ∷ 107 ∷ 5 ∷ 3 ∷ 3 ∷ 114 ∷ 117 ∷ 110 ∷ 33 ∷ 2 ∷ 1 ∷ 1 ∷ 2 ∷ 3 ∷ 1 ∷ 0 ∷ 2 ∷ 2 ∷ 5 ∷ 3 ∷ 1 ∷ 0 ∷ 35 ∷ 1 ∷ 2 ∷ 0 ∷ 2 ∷ 2 ∷ 20 ∷ 4 ∷ 1 ∷ 10 ∷ 2 ∷ [])))
 unfolding run int_at string_format meta_format body_format element_format pieces_from described class_flaws classes_of class_of field_of shape_of id_of class_faults kind_of read_parts records_of record_at chain_of checkpoint_format class_format value_format is_event_class events_of value_of number_in_force text_of named_text keeps glob digits scrub_of remain reached_marks spell spell_in
 work = refl
 
--- with the third none, and both checkpoints stay
+-- With the third none, and both checkpoints stay.
 load : scrubbed operating (read_parts jdk_like) ≡ header 1198 1180 89 ++ ((138 ∷ 128 ∷ 128 ∷ 0 ∷ 1 ∷ 0 ∷ 0 ∷ 0 ∷ 0 ∷ 0 ∷ []) ++ (slice_range jdk_like 167 1269 ++ (146 ∷ 128 ∷ 128 ∷ 0 ∷ 1 ∷ 0 ∷ 0 ∷ 168 ∷ 247 ∷ 255 ∷ 255 ∷ 255 ∷ 255 ∷ 255 ∷ 255 ∷ 255 ∷ 0 ∷ 0 ∷ [])))
 unfolding run int_at string_format meta_format body_format element_format pieces_from described class_flaws classes_of class_of field_of shape_of id_of class_faults kind_of read_parts records_of record_at chain_of checkpoint_format class_format value_format is_event_class events_of value_of number_in_force text_of named_text keeps glob digits scrub_of remain reached_marks spell spell_in
 load = refl

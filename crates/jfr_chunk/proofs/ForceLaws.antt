@@ -10,7 +10,7 @@ use Rattle.jfr_chunk.proofs.TestLaws.{left_true, right_true, is_eq}
 abbrev pub fits : EntryAt → ℕ × ℕ → Bool
 fits e t = (e.class == t.0) && (e.key == t.1)
 
--- no entry has the class and key
+-- No entry has the class and key.
 none_from : (n : ℕ) (es : List EntryAt) (t : ℕ × ℕ) (m : ℕ) (f : EntryAt) → last_from n es t ≡ None → slice_get es m ≡ Some f → fits f t ≡ false
 none_from n [] t m f q g = cc
 none_from n (e ∷ es) t m f q g = by_rest (last_from (n + 1) es t) (fits e t) refl refl q m g (λ m g r. none_from (n + 1) es t m f r g)
@@ -22,7 +22,7 @@ none_from n (e ∷ es) t m f q g = by_rest (last_from (n + 1) es t) (fits e t) r
     by_rest None false r s q zero g h = let z : e ≡ f = cc in subst (λ (y : EntryAt). fits y t ≡ false) z s
     by_rest None false r s q (suc m) g h = h m g r
 
--- the number that is found is that of the last entry of the class and key
+-- The number that is found is that of the last entry of the class and key.
 pub record Found (n : ℕ) (es : List EntryAt) (t : ℕ × ℕ) (i : ℕ) : Type 0 where
   pub place : ℕ
   pub entry : EntryAt
@@ -52,7 +52,7 @@ found_from n (e ∷ es) t i q = by_rest (last_from (n + 1) es t) (fits e t) refl
         let m = h k r in
         record { place = suc m.place; entry = m.entry; number = omega arith; within = omega arith; there = m.there; fits = m.fits; last = λ x f l g. later m.place x f m.last l g }
 
--- and back
+-- And back.
 from_found : (n : ℕ) (es : List EntryAt) (t : ℕ × ℕ) (place : ℕ) (e : EntryAt) → slice_get es place ≡ Some e → fits e t ≡ true → ((m : ℕ) (f : EntryAt) → place < m → slice_get es m ≡ Some f → fits f t ≡ false) → last_from n es t ≡ Some (n + place)
 from_found n [] t place e g f l = cc
 from_found n (x ∷ xs) t zero e g f l = by_rest (last_from (n + 1) xs t) refl
@@ -71,7 +71,7 @@ from_found n (x ∷ xs) t zero e g f l = by_rest (last_from (n + 1) xs t) refl
 from_found n (x ∷ xs) t (suc place) e g f l =
     ap (or_later n (fits x t)) (from_found (n + 1) xs t place e g f (λ m y h k. l (suc m) y (omega arith) k)) ∙ ap (λ k. Some k) (omega arith)
 
--- the entry of a number in force
+-- The entry of a number in force.
 pub record Forced (es : List EntryAt) (t : ℕ × ℕ) (i : ℕ) : Type 0 where
   pub entry : EntryAt
   pub within : i < length es
@@ -96,7 +96,7 @@ forced es t i q =
 pub force_within : (es : List EntryAt) (t : ℕ × ℕ) (i : ℕ) → number_in_force es t ≡ Some i → i < length es
 force_within es t i q = (forced es t i q).within
 
--- the number in force is that of the last entry of the class and key
+-- The number in force is that of the last entry of the class and key.
 pub last_in_force : (es : List EntryAt) (t : ℕ × ℕ) (n : ℕ) → (number_in_force es t ≡ Some n) ↔ IsLast es t n
 unfolding number_in_force
 last_in_force es t n = (forth, back)
@@ -124,7 +124,7 @@ last_in_force es t n = (forth, back)
         by_test m f l h true e =
             absurd (i.last m f l h (exact_unsigned_eq f.class t.0 (left_true (f.class == t.0) (f.key == t.1) e)) (exact_unsigned_eq f.key t.1 (right_true (f.class == t.0) (f.key == t.1) e)))
 
--- an entry in force has a number
+-- An entry in force has a number.
 pub record Numbered (es : List EntryAt) (t : ℕ × ℕ) (e : EntryAt) : Type 0 where
   pub number : ℕ
   pub forced : number_in_force es t ≡ Some number

@@ -1,4 +1,5 @@
--- The records of a chunk, counted: each event, chained checkpoint and metadata record stands once, and the others are inert.
+-- The records of a chunk, counted: each event, chained checkpoint and metadata record stands once, and the
+-- others are inert.
 use Rattle.std.specs.Prelude.{◌≡◌, ℕ, suc, ◌+◌, ◌<◌, ◌≤◌, Bool, true, false, not, ◌||◌, ◌&&◌, ◌==◌, nat_lt, List, [], ◌∷◌, length, filter, map, reverse, Some, cond, ◌⊎◌}
 use Rattle.std.specs.List.{AllByRecursion, filter_map, cons_option, list_any}
 use Rattle.std.specs.Option.{option_map_or}
@@ -25,7 +26,7 @@ use Rattle.jfr_chunk.proofs.AllLaws.{all_in, filter_all}
 use Rattle.jfr_chunk.proofs.StandingLaws.{tiles_each, links_each}
 use Rattle.jfr_chunk.proofs.TestLaws.{is_eq}
 
--- how many pass a test
+-- How many pass a test.
 abbrev count : {X : Type 0} → (X → Bool) → List X → ℕ
 count t xs = length (filter t xs)
 
@@ -62,7 +63,7 @@ least_in p [] r h i = absurd i
 least_in p (x ∷ rs) r h (inl e) = let q : p ≤ x.at = h.0 in omega (arith, ap (λ (z : Framed). z.at) e)
 least_in p (x ∷ rs) r h (inr i) = let q : p ≤ x.at = h.0 in omega (arith, least_in (x.at + 1) rs r h.1 i)
 
--- one record starts at a place
+-- One record starts at a place.
 module _ (t : Framed → Bool) (at : ℕ) (only : (r : Framed) → t r ≡ true → r.at ≡ at) (each : (r : Framed) → r.at ≡ at → t r ≡ true) where
   count_place : (p : ℕ) (rs : List Framed) (r : Framed) → Rising p rs → In rs r → r.at ≡ at → count t rs ≡ 1
   count_place p [] r h i e = absurd i
@@ -85,7 +86,7 @@ module _ (t : Framed → Bool) (at : ℕ) (only : (r : Framed) → t r ≡ true 
 starts : (a b : ℕ) → (a == b) ≡ true → a ≡ b
 starts a b e = exact_unsigned_eq a b e
 
--- a link of these starts there
+-- A link of these starts there.
 abbrev linked : List Link → Framed → Bool
 linked ls r = list_any (λ l. l.frame.at == r.at) ls
 
@@ -117,7 +118,7 @@ module _ (c : List ℕ) (rs : List Framed) (records : AllByRecursion (IsRecord c
   count_link : (l : Link) → IsLink c rs l → count (λ r. l.frame.at == r.at) rs ≡ 1
   count_link l i = count_place (λ r. l.frame.at == r.at) l.frame.at (λ r e. sym (starts l.frame.at r.at e)) (λ r e. is_eq l.frame.at r.at (sym e)) 0 rs l.frame rising (contains_in rs l.frame i.framed) refl
 
-  -- each link stands once
+  -- Each link stands once.
   count_chain : (at : ℕ) (ls : List Link) → IsChain c rs at ls → count (linked ls) rs ≡ length ls
   count_chain at [] h = absurd h
   count_chain at (l ∷ []) h =
@@ -127,7 +128,7 @@ module _ (c : List ℕ) (rs : List Framed) (records : AllByRecursion (IsRecord c
       count_or (λ r. l.frame.at == r.at) (linked (m ∷ ls)) rs (λ r i e f. linked_past m.frame.at at r (m ∷ ls) h.3 (sym (starts l.frame.at r.at e) ∙ h.1) h.2.earlier f)
       ∙ (let a = count_link l h.0 in let b : count (linked (m ∷ ls)) rs ≡ suc (length ls) = count_chain m.frame.at (m ∷ ls) h.3 in omega (arith, a, b))
 
--- events have types of their own
+-- Events have types of their own.
 event_type : (k : Classes) (id : ℕ) → is_event_class k id ≡ true → 1 < id
 unfolding is_event_class
 event_type k id e = by_test (nat_lt 1 id) refl e
@@ -136,14 +137,14 @@ event_type k id e = by_test (nat_lt 1 id) refl e
     by_test true f e = grind (arith, f)
     by_test false f e = cc
 
--- each event has its fields
+-- Each event has its fields.
 count_events : (c : List ℕ) (k : Classes) (rs : List Framed) → AllByRecursion (IsRecord c) rs → AllByRecursion (HasFields c k) rs → length (filter_map (event_of c k) rs) ≡ length rs
 count_events c k [] a h = refl
 count_events c k (r ∷ rs) a h =
     ap (λ z. length (cons_option (event_by r z) (filter_map (event_of c k) rs))) (reads_computed c (record_end r) a.0.within (value_format k (inline r.type_id)) r.body h.0.0 h.0.1 a.0.covers h.0.2)
     ∙ ap suc (count_events c k rs a.1 h.1)
 
--- what is left when the events, the metadata record and the chained checkpoints are taken away
+-- What is left when the events, the metadata record and the chained checkpoints are taken away.
 pub inert_counted : (p : Parts) (early : BTreeMap ℕ ℕ) (fields : List EventIndexEntry) (ls : List Link) → AreParts p → p.chain ≡ reverse ls → map (event_kept p.records early) fields ≡ map Some (events_of p) → length (filter (is_inert p) p.records) + (length fields + (1 + length ls)) ≡ length p.records
 unfolding events_of
 inert_counted p early fields ls a r e =

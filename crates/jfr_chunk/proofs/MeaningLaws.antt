@@ -26,7 +26,7 @@ use Rattle.jfr_chunk.proofs.AllLaws.{all_in}
 use Rattle.jfr_chunk.proofs.PathLaws.{Pair, MeetsSame, law_of_paths}
 use Rattle.jfr_chunk.proofs.StandingLaws.{IsEvent, standing, event_is, tiles_each}
 
--- a record's bytes are those of its size, of its type and of its body
+-- A record's bytes are those of its size, of its type and of its body.
 record_split : (c : List ℕ) (r : Framed) → IsRecord c r → record_bytes c r ≡ slice_range c r.at r.type_at ++ (slice_range c r.type_at r.body ++ body_bytes c r)
 record_split c r i =
     let a : r.at ≤ r.type_at = i.size_spelled.order in
@@ -34,7 +34,7 @@ record_split c r i =
     let d : r.body ≤ record_end r = i.covers in
     range_split c r.at r.type_at (record_end r) a (omega arith) ∙ ap (λ z. slice_range c r.at r.type_at ++ z) (range_split c r.type_at r.body (record_end r) b d)
 
--- equal records have equal bodies
+-- Equal records have equal bodies.
 body_same : (c d : List ℕ) (r s : Framed) → IsRecord c r → IsRecord d s → record_bytes c r ≡ record_bytes d s → body_bytes c r ≡ body_bytes d s
 body_same c d r s i j e =
     let q = sym (record_split c r i) ∙ (e ∙ record_split d s j) in

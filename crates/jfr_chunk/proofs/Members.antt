@@ -3,7 +3,7 @@ use Rattle.std.specs.Prelude.{◌≡◌, ℕ, zero, suc, List, [], ◌∷◌, �
 use Rattle.std.proofs.Common.{ap, arith, refl, ◌∙◌, inl, inr}
 use Rattle.jfr_chunk.specs.Reach.{add, those}
 
--- x is a member
+-- x is a member.
 abbrev pub In : {X : Type 0} → List X → X → Type 0
 In [] x = ⊥
 In (y ∷ ys) x = (y ≡ x) ⊎ In ys x

@@ -29,7 +29,7 @@ module _ (c : List ℕ) (rs : List Framed) (each : AllByRecursion (IsRecord c) r
   abbrev recorded : (r : Framed) → In rs r → IsRecord c r
   recorded r i = all_in (IsRecord c) rs r each i
 
-  -- at one place stands one link
+  -- At one place stands one link.
   link_one : (l m : Link) → IsLink c rs l → IsLink c rs m → l.frame.at ≡ m.frame.at → l ≡ m
   link_one l m i j e =
       let r = recorded l.frame (contains_in rs l.frame i.framed) in

@@ -20,7 +20,7 @@ use Rattle.jfr_chunk.specs.Meaning.{SamePaths, SameEntry}
 use Rattle.jfr_chunk.proofs.AllLaws.{all_get}
 use Rattle.jfr_chunk.proofs.ForceLaws.{numbered}
 
--- the classes are sound, and every entry in force is a node
+-- The classes are sound, and every entry in force is a node.
 pub record Standing (p : Parts) : Type 0 where
   pub sound : Sound p.classes
   pub entries : (t : ℕ × ℕ) (e : EntryAt) → in_force p.entries t ≡ Some e → (v : Value) × IsNode p.classes p.bytes (entry_node e) v
@@ -49,7 +49,7 @@ own_class (Single s kind b (Some key)) t e = let h : (s.class, key) ≡ t = cc i
 own_class (Group s h vs) t e = cc
 
 module _ (p q : Parts) (s : Standing p) (r : Standing q) where
-  -- one value stands at both nodes, and the class lists agree on its class
+  -- One value stands at both nodes, and the class lists agree on its class.
   pub record Pair (n o : NodeAt) : Type 0 where
     pub value : Value
     pub left : IsNode p.classes p.bytes n value
@@ -59,7 +59,7 @@ module _ (p q : Parts) (s : Standing p) (r : Standing q) where
   same_node : (n o : NodeAt) → Pair n o → SameNode p.bytes q.bytes n o
   same_node n o x = record { shape = x.left.shape ∙ sym x.right.shape; bytes = x.left.bytes ∙ sym x.right.bytes }
 
-  -- a step within a value
+  -- A step within a value.
   parts_pair : (x y : Option NodeAt) (w : Option Value) → ((u : Value) → w ≡ Some u → Agree p.classes q.classes (shape_of u).class)
       → Both (IsNode p.classes p.bytes) x w → Both (IsNode q.classes q.bytes) y w → Both Pair x y
   parts_pair None None None g a b = tt
@@ -74,7 +74,7 @@ module _ (p q : Parts) (s : Standing p) (r : Standing q) where
       parts_pair (child p.classes p.bytes n st) (child q.classes q.bytes o st) (part x.value st) (λ u e. part_agree p.classes q.classes x.value u st x.left.fits x.agree e)
       (child_is p.classes p.bytes n x.value s.sound x.left st) (child_is q.classes q.bytes o x.value r.sound x.right st)
 
-  -- a step to the entries in force
+  -- A step to the entries in force.
   entry_pair : (t : ℕ × ℕ) → Agree p.classes q.classes t.0 → SameEntry p q t → Both Pair (option_map entry_node (in_force p.entries t)) (option_map entry_node (in_force q.entries t))
   entry_pair t g y = by_entry (in_force p.entries t) (in_force q.entries t) refl refl y
     where
@@ -113,7 +113,7 @@ module _ (p q : Parts) (s : Standing p) (r : Standing q) where
       by_target None e = tt
       by_target (Some t) e = entry_pair t (subst (Agree p.classes q.classes) (own_class x.value t e) x.agree) (h t (a ∙ e))
 
-  -- both have the same entry in force for all that a path from the node meets
+  -- Both have the same entry in force for all that a path from the node meets.
   abbrev pub MeetsSame : NodeAt → Type 0
   MeetsSame n = (path : List Step) (m : NodeAt) (t : ℕ × ℕ) → leads p n path ≡ Some m → target p.classes p.bytes m ≡ Some t → SameEntry p q t
 

@@ -20,7 +20,7 @@ some_right R (Some c) (Some b) a r e = let h : c ≡ a = cc in (b, subst (λ z. 
 some_right R None (Some c) a r e = absurd r
 some_right R (Some c) None a r e = absurd r
 
--- Follow leads to the entry in force
+-- Follow leads to the entry in force.
 pub record Followed (p : Parts) (n m : NodeAt) : Type 0 where
   pub key : ℕ × ℕ
   pub entry : EntryAt
@@ -63,14 +63,14 @@ module _ (p : Parts) (s : Standing p) where
   child_node : (n u : NodeAt) (v : Value) (st : Step) → IsNode p.classes p.bytes n v → child p.classes p.bytes n st ≡ Some u → (w : Value) × IsNode p.classes p.bytes u w
   child_node n u v st i e = some_right (IsNode p.classes p.bytes) (child p.classes p.bytes n st) (part v st) u (child_is p.classes p.bytes n v s.sound i st) e
 
-  -- what a field or an item refers to, the node does
+  -- What a field or an item refers to, the node does.
   child_in : (n u : NodeAt) (v : Value) (st : Step) (t : ℕ × ℕ) → IsNode p.classes p.bytes n v → child p.classes p.bytes n st ≡ Some u → Contains (targets p.classes p.bytes u) t → Contains (targets p.classes p.bytes n) t
   child_in n u v st t i e c =
       let w = child_node n u v st i e in
       let a = in_inside p.classes s.sound p.bytes u w.0 w.1 t c in
       inside_in p.classes s.sound p.bytes n v i (st ∷ a.0) a.1 t (ap (option_and_then (λ m. inside p.classes p.bytes m a.0)) e ∙ a.2) a.3
 
-  -- a target is what a path leads to
+  -- A target is what a path leads to.
   pub target_path : (n : NodeAt) (v : Value) (t : ℕ × ℕ) → IsNode p.classes p.bytes n v → Contains (targets p.classes p.bytes n) t → (path : List Step) × (m : NodeAt) × (leads p n path ≡ Some m) × (target p.classes p.bytes m ≡ Some t)
   target_path n v t i c = let a = in_inside p.classes s.sound p.bytes n v i t c in (a.0, a.1, inside_leads p a.0 n a.1 a.2, a.3)
 

@@ -41,7 +41,7 @@ module _ (p : Parts) where
     abbrev Found : ℕ → Type 0
     Found i = Reach (next_entries p) (roots p kept) i
 
-    -- what the numbers reach is at the end of a path
+    -- What the numbers reach is at the end of a path.
     pub reach_path : {i : ℕ} → Found i → Reached p kept i
     reach_path {i} (root j) =
         let t = in_those (number_in_force p.entries) (all_targets p (nodes_of kept)) i j in
@@ -77,7 +77,7 @@ module _ (p : Parts) where
         let m : In (entry_targets p n.number) u = subst (λ o. In (option_map_or (λ e. targets p.classes p.bytes (entry_node e)) o []) u) (sym n.there) (contains_in (targets p.classes p.bytes (entry_node e)) u c) in
         more (a n.number n.forced) (those_in (number_in_force p.entries) (entry_targets p n.number) u i m r)
 
-    -- and back
+    -- And back.
     pub path_reach : (i : ℕ) → Reached p kept i → Found i
     path_reach i r =
         let k = contains_in kept r.event r.is_kept in

@@ -38,7 +38,7 @@ use Rattle.jfr_chunk.proofs.StageLaws.{there_starts, none_starts, EntriesTell, e
 use Rattle.jfr_chunk.proofs.AnswerLaws.{refused_read}
 use Rattle.jfr_chunk.proofs.ChainAnswers.{chain_answers, is_computed}
 
--- what is refused is what is computed
+-- What is refused is what is computed.
 pub told : (c : List ℕ) (fault : ReadFault) → 68 ≤ length c → IfFlawed (Refused c) fault → TellsFlaw (read_parts c) fault
 told c (Flawed flaw) long r = refused_read c long (chain_answers c) flaw r
 told c Memory long r = tt
@@ -54,7 +54,7 @@ pub records_refused : (c : List ℕ) (fault : ReadFault) → RefusedAt c fault �
 records_refused c (Flawed flaw) r = framing r.1 r.0
 records_refused c Memory r = tt
 
--- the record that a position names
+-- The record that a position names.
 named_there : (rs : List Framed) (at other type_id : ℕ) (flaw : Flaw) (r : Framed) → at ≡ other → Ok r ≡ found_or flaw (record_there rs at type_id) → record_there rs other type_id ≡ Some r
 named_there rs at other type_id flaw r e s = subst (λ z. record_there rs z type_id ≡ Some r) e (by_found (record_there rs at type_id) s)
   where
@@ -75,7 +75,7 @@ no_metadata = record { offset = 24; reason = MetadataPosition }
 abbrev pub no_checkpoint : Flaw
 no_checkpoint = record { offset = 16; reason = PoolPosition }
 
--- the records, the header, and the record that it names as its metadata
+-- The records, the header, and the record that it names as its metadata.
 pub record Named (c : List ℕ) (h : Header) (rs : List Framed) (m : Framed) : Type 0 where
   pub header_is : h ≡ header_of (take 68 c)
   pub records : AreRecords c rs
@@ -152,7 +152,7 @@ module _ (c : List ℕ) (h : Header) (rs : List Framed) (m : Framed) (n : Named 
           events_refused (Flawed flaw) w = events (record { described = described; entries = es; stand = there }) w
           events_refused Memory w = tt
 
-          -- there are no more entries than bytes
+          -- There are no more entries than bytes.
           pub entries_within : length es ≤ length c
           entries_within = entries_few c rs n.records (pools_at c) (reverse ls) links k (described_sound b k d.classes) es there
 

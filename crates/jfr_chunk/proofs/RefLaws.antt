@@ -21,7 +21,7 @@ use Rattle.jfr_chunk.specs.Reach.{add, node_entries, those}
 use Rattle.jfr_chunk.specs.Seen.{AreRefs, due}
 use Rattle.jfr_chunk.proofs.EndLaws.{EndIs, same_event, this_event}
 
--- what lists have, one behind another
+-- What lists have, one behind another.
 pub those_append : {A B : Type 0} (f : A → Option B) (xs ys : List A) → those f (xs ++ ys) ≡ those f xs ++ those f ys
 those_append f [] ys = refl
 those_append {B = B} f (x ∷ xs) ys = by_value (f x) (those_append f xs ys)
@@ -40,7 +40,7 @@ refs_then xs ys a b c p q = record {
   few = let l = length-append xs ys in let m = p.few in let n = q.few in omega arith;
 }
 
--- targets that are taken note the numbers of their entries
+-- Targets that are taken note the numbers of their entries.
 pub takes_refs : (es : List EntryAt) (ts : List (ℕ × ℕ)) (old new : ConstantRefs) → TakesAll (λ t a b. AddsRefs (those (number_in_force es) (t ∷ [])) a b) ts old new → AddsRefs (those (number_in_force es) ts) old new
 takes_refs es [] old new e = subst (λ z. AddsRefs [] old z) e (refs_none old)
 takes_refs es (t ∷ ts) old new h = by_number (number_in_force es t) (those (number_in_force es) ts) h.1 (takes_refs es ts h.0 new h.2)
@@ -50,7 +50,7 @@ takes_refs es (t ∷ ts) old new h = by_number (number_in_force es t) (those (nu
     by_number (Some i) is p q = refs_then (i ∷ []) is old h.0 new p q
 
 module _ (due : EventIndexEntry → List ℕ) where
-  -- one event more
+  -- One event more.
   pub refs_more : (from : ℕ) (fs : List EventIndexEntry) (numbers : List ℕ) (f : EventIndexEntry) → AreRefs due from fs numbers → f.refs_end ≡ from + length (numbers ++ due f) → AreRefs due from (fs ++ f ∷ []) (numbers ++ due f)
   refs_more from [] numbers f a e = ([], ap (λ z. z ++ due f) a ∙ sym (append-nil (due f)), e ∙ ap (λ z. from + length (z ++ due f)) a, refl)
   refs_more from (g ∷ fs) numbers f a e =
@@ -60,7 +60,7 @@ module _ (due : EventIndexEntry → List ℕ) where
       let h : g.refs_end ≡ from + length (due g) = a.2 in
       (rest ++ due f, p, a.2, refs_more g.refs_end fs rest f a.3 (omega arith))
 
-  -- those of one event, behind those of the ones before
+  -- Those of one event, behind those of the ones before.
   record RefsAt (from : ℕ) (numbers : List ℕ) (f : EventIndexEntry) (start : ℕ) : Type 0 where
     before : List ℕ
     after : List ℕ
@@ -91,7 +91,7 @@ module _ (due : EventIndexEntry → List ℕ) where
         ends = omega arith;
       }
 
-  -- they stand between its count and the one of the event before
+  -- They stand between its count and the one of the event before.
   pub record RefsRange (numbers : List ℕ) (f : EventIndexEntry) (start : ℕ) : Type 0 where
     pub order : start ≤ f.refs_end
     pub within : f.refs_end ≤ length numbers
@@ -119,26 +119,26 @@ module _ (due : EventIndexEntry → List ℕ) where
           let n : length xs + length ys - length xs ≡ length ys = omega arith in
           ap (λ m. take m (drop (length xs) (xs ++ (ys ++ zs)))) n ∙ (ap (take (length ys)) (drop-append_seam xs (ys ++ zs)) ∙ take-append_seam ys zs)
 
--- a range that is within a slice is got
+-- A range that is within a slice is got.
 pub range_got : (o : Option (Bor (List ℕ))) (xs : List ℕ) (a b : ℕ) → MatchOption o ((b < a) ⊎ (length xs < b)) (λ x. (a ≤ b) × (b ≤ length xs) × (x.now ≡ slice_range xs a b) × (length x.now + a ≡ b))
     → a ≤ b → b ≤ length xs → option_map (λ s. s.now) o ≡ Some (slice_range xs a b)
 range_got None xs a b (inl h) order within = absurd (omega arith)
 range_got None xs a b (inr h) order within = absurd (omega arith)
 range_got (Some x) xs a b h order within = ap (λ z. Some z) h.2
 
--- the numbers that are noted of a value
+-- The numbers that are noted of a value.
 pub all_refs : (es : List EntryAt) (ts : ℕ → List (ℕ × ℕ)) (old new : ConstantRefs) (r : Result ℕ Flaw) → IfOk r (λ to. TakesAll (λ t a b. AddsRefs (those (number_in_force es) (t ∷ [])) a b) (ts to) old new) → IfOk r (λ to. AddsRefs (those (number_in_force es) (ts to)) old new)
 all_refs es ts old new (Ok to) h = takes_refs es (ts to) old new h
 all_refs es ts old new (Err flaw) h = h
 
--- numbers that are due by another count are the same
+-- Numbers that are due by another count are the same.
 due_same : (due other : EventIndexEntry → List ℕ) (P : EventIndexEntry → Type 0) → ((f : EventIndexEntry) → P f → other f ≡ due f) → (from : ℕ) (fs : List EventIndexEntry) (numbers : List ℕ) → AllByRecursion P fs → AreRefs due from fs numbers → AreRefs other from fs numbers
 due_same due other P same from [] numbers p a = a
 due_same due other P same from (f ∷ fs) numbers p a =
     let e = sym (same f p.0) in
     (a.0, a.1 ∙ ap (λ z. z ++ a.0) e, a.2 ∙ ap (λ z. from + length z) e, due_same due other P same f.refs_end fs a.0 p.1 a.3)
 
--- the fields of an event are read, and what they refer to is noted
+-- The fields of an event are read, and what they refer to is noted.
 pub event_refs : (es : List EntryAt) (k : Classes) (c : List ℕ) (rs : List Framed) (early later : BTreeMap ℕ ℕ) (n end refs_end : ℕ) (r : Framed) (fields : List EventIndexEntry) (numbers more : List ℕ) → slice_get rs n ≡ Some r → EndIs early later n r end → AllByRecursion (λ (f : EventIndexEntry). f.record < n) fields
     → more ≡ numbers ++ node_entries es k c (node_at (inline r.type_id) r.body end) → refs_end ≡ length more → AreRefs (due es k c rs early) 0 fields numbers
     → AreRefs (due es k c rs later) 0 (fields ++ record { «record» = n; refs_end = refs_end } ∷ []) more

@@ -45,7 +45,7 @@ entry_targets : map (λ e. targets classes rings (entry_node e)) entries ≡ ((7
 unfolding value_of run int_at string_format class_format value_format kind_of
 entry_targets = refl
 
--- from the event to node 1, and from there to node 2, to node 1 and to node 2 again
+-- From the event to node 1, and from there to node 2, to node 1 and to node 2 again.
 in_the_ring : leads rings_parts node_a (steps.Field 1 ∷ steps.Follow ∷ steps.Field 0 ∷ steps.Follow ∷ steps.Field 0 ∷ steps.Follow ∷ steps.Field 0 ∷ steps.Follow ∷ []) ≡ Some (entry_node (entry 2 347 348 352))
 unfolding value_of number_in_force run int_at string_format class_format value_format kind_of
 in_the_ring = refl
@@ -54,7 +54,7 @@ no_way : leads rings_parts node_a (steps.Follow ∷ []) ≡ None
 unfolding value_of number_in_force run int_at string_format class_format value_format kind_of
 no_way = refl
 
--- the text of node 1
+-- The text of node 1.
 text : named_text rings_parts node_a (codes "node" ∷ codes "text" ∷ []) ≡ Some (codes "p")
 unfolding named_text text_of value_of number_in_force run int_at string_format class_format value_format kind_of pieces_from
 text = refl

@@ -7,7 +7,7 @@ count [] = 0
 count (true ∷ ms) = suc (count ms)
 count (false ∷ ms) = count ms
 
--- what is marked stays marked
+-- What is marked stays marked.
 abbrev pub Grows : List Bool → List Bool → Type 0
 Grows [] [] = ⊤
 Grows [] (n ∷ ns) = ⊥

@@ -20,7 +20,7 @@ use Rattle.jfr_chunk.specs.Reach.{remain, reached_marks}
 use Rattle.jfr_chunk.specs.Scrub.{scrub_of}
 use Rattle.jfr_chunk.proofs.Chunks.{header, metadata, event_a, plain, inert, key_twice, three_checkpoints, string_ring}
 
--- what a chunk becomes that is accepted
+-- What a chunk becomes that is accepted.
 abbrev becomes : Result Parts Flaw → List ℕ
 becomes (Ok p) = scrub_of p (events_of p)
 becomes (Err flaw) = []

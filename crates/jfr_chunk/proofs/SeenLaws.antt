@@ -12,7 +12,7 @@ use Rattle.jfr_chunk.specs.Reach.{all_targets, node_entries, nodes_of, roots}
 use Rattle.jfr_chunk.specs.Seen.{AreRefs, due, end_in, event_kept, event_with}
 use Rattle.jfr_chunk.proofs.RefLaws.{those_append}
 
--- a function whose values at one list are the members of another
+-- A function whose values at one list are the members of another.
 pub each_length : {A B : Type 0} (f : A → Option B) (xs : List A) (ys : List B) → map f xs ≡ map Some ys → length xs ≡ length ys
 each_length f [] [] e = refl
 each_length f [] (y ∷ ys) e = cc
@@ -35,7 +35,7 @@ each_get f (x ∷ xs) (y ∷ ys) (suc n) e = each_get f xs ys n (tails (f x) (So
     tails : {C : Type 0} (c d : C) (cs ds : List C) → (c ∷ cs) ≡ (d ∷ ds) → cs ≡ ds
     tails c d cs ds e = cc
 
--- a member of the one has a value, which is the other's member
+-- A member of the one has a value, which is the other's member.
 each_some : {A B : Type 0} (f : A → Option B) (xs : List A) (ys : List B) (n : ℕ) (x : A) → map f xs ≡ map Some ys → slice_get xs n ≡ Some x → (y : B) × (f x ≡ Some y) × (slice_get ys n ≡ Some y)
 each_some f [] ys n x e g = cc
 each_some f (z ∷ xs) [] n x e g = cc
@@ -48,7 +48,7 @@ each_some f (z ∷ xs) (y ∷ ys) (suc n) x e g = each_some f xs ys n x (tails (
     tails : {C : Type 0} (c d : C) (cs ds : List C) → (c ∷ cs) ≡ (d ∷ ds) → cs ≡ ds
     tails c d cs ds e = cc
 
--- the event of a number
+-- The event of a number.
 pub event_found : (p : Parts) (early : BTreeMap ℕ ℕ) (fs : List EventIndexEntry) (n : ℕ) (f : EventIndexEntry) (r : Framed) → map (event_kept p.records early) fs ≡ map Some (events_of p) → slice_get fs n ≡ Some f → slice_get p.records f.record ≡ Some r
     → Some (event_with (end_in early f.record r) r) ≡ slice_get (events_of p) n
 event_found p early fs n f r e g h = sym (ap (λ o. option_and_then (event_kept p.records early) o) g ∙ by_record (slice_get p.records f.record) h) ∙ each_get (event_kept p.records early) fs (events_of p) n e
@@ -56,7 +56,7 @@ event_found p early fs n f r e g h = sym (ap (λ o. option_and_then (event_kept 
     by_record : (o : Option Framed) → o ≡ Some r → option_and_then (λ x. Some (event_with (end_in early f.record x) x)) o ≡ Some (event_with (end_in early f.record r) r)
     by_record o q = ap (λ z. option_and_then (λ x. Some (event_with (end_in early f.record x) x)) z) q
 
--- or there is none
+-- Or there is none.
 pub event_missed : (p : Parts) (early : BTreeMap ℕ ℕ) (fs : List EventIndexEntry) (n : ℕ) (f : EventIndexEntry) → map (event_kept p.records early) fs ≡ map Some (events_of p) → slice_get fs n ≡ Some f → slice_get p.records f.record ≡ None
     → None ≡ slice_get (events_of p) n
 event_missed p early fs n f e g h = sym (ap (λ o. option_and_then (event_kept p.records early) o) g ∙ by_record (slice_get p.records f.record) h) ∙ each_get (event_kept p.records early) fs (events_of p) n e
@@ -64,7 +64,7 @@ event_missed p early fs n f e g h = sym (ap (λ o. option_and_then (event_kept p
     by_record : (o : Option Framed) → o ≡ None → option_and_then (λ x. Some (event_with (end_in early f.record x) x)) o ≡ None
     by_record o q = ap (λ z. option_and_then (λ x. Some (event_with (end_in early f.record x) x)) z) q
 
--- the event of a number starts where its record does
+-- The event of a number starts where its record does.
 pub event_placed : (p : Parts) (early : BTreeMap ℕ ℕ) (fs : List EventIndexEntry) (n : ℕ) (f : EventIndexEntry) → map (event_kept p.records early) fs ≡ map Some (events_of p) → slice_get fs n ≡ Some f
     → option_map (λ (r : Framed). r.at) (slice_get p.records f.record) ≡ option_map (λ (e : EventAt). e.record_of.at) (slice_get (events_of p) n)
 event_placed p early fs n f e g = by_record (slice_get p.records f.record) ∙ ap (option_map (λ (e : EventAt). e.record_of.at)) (sym (ap (option_and_then (event_kept p.records early)) g) ∙ each_get (event_kept p.records early) fs (events_of p) n e)
@@ -73,14 +73,14 @@ event_placed p early fs n f e g = by_record (slice_get p.records f.record) ∙ a
     by_record None = refl
     by_record (Some r) = refl
 
--- what is due to the fields of a number is due to the event of that number
+-- What is due to the fields of a number is due to the event of that number.
 pub event_due : (p : Parts) (early : BTreeMap ℕ ℕ) (fs : List EventIndexEntry) (n : ℕ) (f : EventIndexEntry) → map (event_kept p.records early) fs ≡ map Some (events_of p) → slice_get fs n ≡ Some f
     → Some (due p.entries p.classes p.bytes p.records early f) ≡ option_map (λ (e : EventAt). node_entries p.entries p.classes p.bytes e.node) (slice_get (events_of p) n)
 event_due p early fs n f e g =
     let m = each_some (event_kept p.records early) fs (events_of p) n f e g in
     ap (λ o. Some (option_map_or (λ (e : EventAt). node_entries p.entries p.classes p.bytes e.node) o [])) m.1 ∙ sym (ap (option_map (λ (e : EventAt). node_entries p.entries p.classes p.bytes e.node)) m.2)
 
--- and all that is noted is what the events refer to
+-- And all that is noted is what the events refer to.
 pub all_due : (p : Parts) (early : BTreeMap ℕ ℕ) (from : ℕ) (fs : List EventIndexEntry) (es : List EventAt) (numbers : List ℕ) → map (event_kept p.records early) fs ≡ map Some es → AreRefs (due p.entries p.classes p.bytes p.records early) from fs numbers → numbers ≡ roots p es
 all_due p early from [] [] numbers e a = a
 all_due p early from [] (x ∷ es) numbers e a = cc
@@ -92,7 +92,7 @@ all_due p early from (f ∷ fs) (x ∷ es) numbers e a =
     let r : a.0 ≡ roots p es = all_due p early f.refs_end fs es a.0 t a.3 in
     a.1 ∙ (ap (λ z. z ++ a.0) d ∙ (ap (λ z. node_entries p.entries p.classes p.bytes x.node ++ z) r ∙ sym (those_append (number_in_force p.entries) (targets p.classes p.bytes x.node) (all_targets p (nodes_of es)))))
 
--- the record of the fields of a number is that of the event of that number
+-- The record of the fields of a number is that of the event of that number.
 pub event_recorded : (p : Parts) (early : BTreeMap ℕ ℕ) (fs : List EventIndexEntry) (n : ℕ) (f : EventIndexEntry) → map (event_kept p.records early) fs ≡ map Some (events_of p) → slice_get fs n ≡ Some f
     → Some (slice_get p.records f.record) ≡ option_map (λ (e : EventAt). Some e.record_of) (slice_get (events_of p) n)
 event_recorded p early fs n f e g =

@@ -30,7 +30,7 @@ flaw_is e o why p q =
     let flaw : ℕ → Reason → Flaw = λ o r. record { offset = o; reason = r } in
     ap (λ z. flaw z why) (sym p) ∙ ap (λ z. flaw e.offset z) (sym q)
 
--- what a test finds passes it
+-- What a test finds passes it.
 found_in : {X : Type 0} (t : X → Bool) (xs : List X) (x : X) → find t xs ≡ Some x → In xs x × (t x ≡ true)
 found_in t [] x e = cc
 found_in {X = X} t (y ∷ ys) x e = by_test (t y) refl e (found_in t ys x)
@@ -77,7 +77,7 @@ starts_none rs at type_id n = by_found (record_there rs at type_id) refl
     by_found None e = refl
     by_found (Some q) e = absurd (n q (there_starts rs at type_id q e))
 
--- a format whose last unit is the end stops there
+-- A format whose last unit is the end stops there.
 pub to_end : {A : Type 0} (f : Format A) (c : List ℕ) (end at : ℕ) (a : A) (to : ℕ) → at ≤ end → Reads (f >>= λ b. Stop (Done b)) c end at a to → to ≡ end
 to_end f c end at a to h r =
     let s = reads_parted f (λ b. Stop (Done b)) c end at a to r in
@@ -90,7 +90,7 @@ pub checkpoint_end : (k : Classes) (c : List ℕ) (end at : ℕ) (xs : List Pool
 unfolding checkpoint_format
 checkpoint_end k c end at xs to r = let s = r.5.5.5.1 in to_end (times s.1 (pool_format k)) c end s.0 xs to s.3 s.5
 
--- the first failure of a list, one member further
+-- The first failure of a list, one member further.
 first_more : {X : Type 0} (Good : X → Type 0) (Bad : X → ℕ → Reason → Type 0) (x : X) (xs : List X) (f : Flaw) → Good x → FirstFails Good Bad xs f → FirstFails Good Bad (x ∷ xs) f
 first_more Good Bad x xs f g h = record { before = x ∷ h.before; first = h.first; after = h.after; parts = ap (λ z. x ∷ z) h.parts; good = All-cons Good x h.before g h.good; fails = h.fails }
 

@@ -36,7 +36,7 @@ map_none : {X Y : Type 0} (f : X → Y) (xs : List X) → map f xs ≡ [] → xs
 map_none f [] e = refl
 map_none f (x ∷ xs) e = cc
 
--- classes that a body describes are sound
+-- Classes that a body describes are sound.
 pub described_sound : (b : Body) (k : Classes) → described b ≡ Ok k → Sound k
 unfolding described
 described_sound b k e = by_elements (class_elements b.strings b.root) e
@@ -52,18 +52,18 @@ described_sound b k e = by_elements (class_elements b.strings b.root) e
     by_elements None e = cc
     by_elements (Some ts) e = by_flaws ts (tree_flaws b.strings ts) refl e
 
--- records that tile are records
+-- Records that tile are records.
 pub tiles_each : (c : List ℕ) (p q : ℕ) (rs : List Framed) → Tiles c p rs q → AllByRecursion (IsRecord c) rs
 tiles_each c p q [] t = tt
 tiles_each c p q (r ∷ rs) t = (t.1, tiles_each c (record_end r) q rs t.2)
 
--- the links of a chain are checkpoints among the records
+-- The links of a chain are checkpoints among the records.
 pub links_each : (c : List ℕ) (rs : List Framed) (at : ℕ) (ls : List Link) → IsChain c rs at ls → AllByRecursion (IsLink c rs) ls
 links_each c rs at [] h = absurd h
 links_each c rs at (l ∷ []) h = (h.0, tt)
 links_each c rs at (l ∷ m ∷ ls) h = (h.0, links_each c rs m.frame.at (m ∷ ls) h.3)
 
--- each of so many values that are read one after another
+-- Each of so many values that are read one after another.
 times_each : {A : Type 0} (P : A → Type 0) (f : Format A) (c : List ℕ) (end : ℕ) → ((at : ℕ) (a : A) (to : ℕ) → at ≤ end → Reads f c end at a to → P a)
     → (n at : ℕ) (vs : List A) (to : ℕ) → at ≤ end → Reads (times n f) c end at vs to → AllByRecursion P vs
 times_each P f c end each zero at vs to h r = subst (AllByRecursion P) (sym r.0) tt
@@ -118,7 +118,7 @@ module _ (c : List ℕ) (k : Classes) where
       let p = checkpoint_is (record_end l.frame) a.0 l.frame.body e.0 (record_end l.frame) e.1 in
       subst (AllByRecursion IsEntryNode) (sym e.3) (all_append IsEntryNode (entries_from number 0 e.0) e.2 (pools_are number 0 e.0 p) (entries_each (number + 1) ls e.2 a.1 e.4))
 
--- an event stands in its record
+-- An event stands in its record.
 pub record IsEvent (p : Parts) (e : EventAt) : Type 0 where
   pub listed : In p.records e.record_of
   pub shape : e.node.shape ≡ inline e.record_of.type_id
@@ -163,7 +163,7 @@ module _ (p : Parts) (parts : AreParts p) where
           let h : record { record_of = r; node = record { shape = inline r.type_id; at = r.body; end = g.place } } ≡ e = cc in
           subst (IsEvent p) h (record { listed = j; shape = refl; at = refl; within = n.1; value = g.value; node = n.0; reads = s })
 
-  -- the event, or the entry, of a number is a value where the code says that it stands
+  -- The event, or the entry, of a number is a value where the code says that it stands.
   pub event_value : (number : ℕ) (e : EventAt) (n : Node) → slice_get (events_of p) number ≡ Some e → node_of n ≡ e.node → n.bytes.now ≡ p.bytes → IsValue p.classes n
   event_value number e n q h b =
       let i = event_is e (get_in (events_of p) number e q) in

@@ -166,7 +166,7 @@ module _ (n : ℕ) (next : ℕ → List ℕ) (roots : List ℕ) (below : AllBelo
       let z = size_swept n ms in
       subst (λ x. IsMarked x i) (at_rest ms l) (all_here (swept n next ms) (led_to (swept n next ms) next) i (omega arith) s)
 
-  -- marked is exactly what the roots lead to
+  -- Marked is exactly what the roots lead to.
   pub marks_reach : (i : ℕ) → IsMarked (swept n next (marked_at (replicate n false) roots)) i ↔ Reach next roots i
   marks_reach i =
       let l : length (marked_at (replicate n false) roots) ≡ n = size_all (replicate n false) roots ∙ length-replicate n false in (

@@ -56,19 +56,19 @@ pub record FirstFails {X : Type 0} (Good : X → Type 0) (Bad : X → ℕ → Re
 
 -- The chunk is refused for this flaw: the first of the first stage that has one.
 pub data Refused (c : List ℕ) (flaw : Flaw) : Type 0 where
-  -- no record stands at a place
+  -- No record stands at a place.
   framing : FrameFlaw c flaw.offset → flaw.reason ≡ RecordSize → Refused c flaw
-  -- no metadata record starts where the header says
+  -- No metadata record starts where the header says.
   metadata_position : (rs : List Framed) → AreRecords c rs → ((r : Framed) → StartsAt rs (metadata_at c) 0 r → ⊥) → flaw ≡ record { offset = 24; reason = MetadataPosition } → Refused c flaw
-  -- no checkpoint starts where the header says
+  -- No checkpoint starts where the header says.
   pool_position : (rs : List Framed) → AreRecords c rs → (m : Framed) → StartsAt rs (metadata_at c) 0 m → ((r : Framed) → StartsAt rs (pools_at c) 1 r → ⊥) → flaw ≡ record { offset = 16; reason = PoolPosition } → Refused c flaw
-  -- a chained checkpoint's head or delta is faulty
+  -- A chained checkpoint's head or delta is faulty.
   chain : (f : Framing c) (before : List Link) → ChainFlaw c f.records (pools_at c) before flaw.offset flaw.reason → Refused c flaw
-  -- the metadata's body or its classes are faulty
+  -- The metadata's body or its classes are faulty.
   metadata : (h : Chained c) → IsMetadataFlaw c h.framing.metadata flaw → Refused c flaw
-  -- a chained checkpoint's body is faulty, the first in file order
+  -- A chained checkpoint's body is faulty, the first in file order.
   checkpoints : (d : Described c) → FirstFails (λ l. (es : List EntryAt) × AreEntries c d.classes 0 (l ∷ []) es) (λ l. Fails (checkpoint_format d.classes) c (record_end l.frame) l.frame.body) (reverse d.chained.chain) flaw → Refused c flaw
-  -- an event's fields are faulty, the first in file order
+  -- An event's fields are faulty, the first in file order.
   events : (p : Pooled c) → FirstFails (HasFields c p.described.classes) (λ r. Fails (value_format p.described.classes (inline r.type_id)) c (record_end r) r.body) (event_records p.described.classes p.described.chained.framing.records) flaw → Refused c flaw
 
 -- By computing: a stage behind the ones before, which goes on with what they give.

@@ -26,7 +26,7 @@ use Rattle.jfr_cli.proofs.Counting.{none_rose, tallied_once, steady_stays, place
 use Rattle.jfr_cli.specs.Runs.{Carries, Answers, Usage, Unread, Carried, Under, Ended, Halted, Broken, Partly, StandsPartly, Prefix, Whole, Met, Torn, CountsOnce, IsPlannedStatus, ByEnd, ByMemory, status_of_end, IsRefused}
 use Rattle.jfr_cli.specs.Runs as runs
 
--- what stands after an ending, where memory was wanting for its line
+-- What stands after an ending, where memory was wanting for its line.
 partly : (k : Work) (end : Ending) (a b : Outside) → Leaves k (way_of end) a b → Tallied (target_of k) (way_of end) a b → StandsPartly k a b
 partly k Done a b l t = Whole Fine l
 partly k (Refused x) a b l t = Whole (ends.Refused x) l
@@ -35,7 +35,7 @@ partly k ReadFault a b l t = Met l
 partly k WriteFault a b l t = Torn (plan.write_rose (target_of k) WriteFault a b t refl) l
 partly k Memory a b l t = Prefix l
 
--- nothing is done
+-- Nothing is done.
 unchanged : (k : Work) (a : Outside) → StandsPartly k a a
 unchanged k a = Prefix (none a.place.told)
   where
@@ -43,7 +43,7 @@ unchanged k a = Prefix (none a.place.told)
     none None = tt
     none (Some w) = record { first = []; rest = effects (plan_of k w).steps; parts = refl; stands = refl }
 
--- where memory was wanting, any end may be planned
+-- Where memory was wanting, any end may be planned.
 five : {r : ℕ} {e f : SinkState} {line : Option (List ℕ)} → IsAnswered 5 line r e f → r ≡ 5
 five (Fully p q) = p
 five (answers.ForMemory p q) = p
@@ -52,7 +52,7 @@ any_end : {r : ℕ} (t : Option World) (k : Work) → r ≡ 5 → IfSome t (λ w
 any_end None k p = tt
 any_end (Some w) k p = ByMemory p
 
--- which endings have a status
+-- Which endings have a status.
 done_status : (e : Ending) → status_of e ≡ 0 → e ≡ Done
 done_status Done h = refl
 done_status (Refused x) h = absurd (omega (arith, h))
@@ -93,7 +93,7 @@ refused_status WriteFault h = absurd (omega (arith, h))
 refused_status Memory h = absurd (omega (arith, h))
 refused_status TooManyParts h = absurd (omega (arith, h))
 
--- what was carried out, where the status isn't that of a usage fault or of want of memory
+-- What was carried out, where the status isn't that of a usage fault or of want of memory.
 record Ran (ws : List (List ℕ)) (status : ℕ) (a b : Outside) (e f : SinkState) : Type 0 where
   pub order : Order
   pub is : order_of ws ≡ Some order
@@ -107,7 +107,7 @@ from_told None s P Q h f = tt
 from_told (Some w) None P Q h f = absurd h
 from_told (Some w) (Some v) P Q h f = f w v h
 
--- the ending is the plan's, and its status is answered
+-- The ending is the plan's, and its status is answered.
 planned : (k : Work) (a b : Outside) (r : ℕ) (x : End) → r ≡ status_of_end x → Ended k x a b → IfSome a.place.told (λ w. IsPlannedStatus (plan_of k w).end r)
 planned k a b r x p h =
     from_told a.place.told b.place.told (λ w v. AllDone (plan_of k w) x (stand w (text_on (target_of k) a.sink)) (stand v (text_on (target_of k) b.sink))) (λ w. IsPlannedStatus (plan_of k w).end r) h
@@ -123,7 +123,7 @@ complete_by k ReadFault a b r e f (Fully p q) l t no_read no_write = absurd (no_
 complete_by k WriteFault a b r e f (Fully p q) l t no_read no_write = absurd (no_write (plan.write_rose (target_of k) WriteFault a b t refl))
 complete_by k Memory a b r e f (Fully p q) l t no_read no_write = any_end a.place.told k p
 
--- the line of an ending with status 5 is the one for want of memory
+-- The line of an ending with status 5 is the one for want of memory.
 no_room_said : (end : Ending) (e f : SinkState) → status_of end ≡ 5 → answers.Said (line_of end) e f → IsPartlySaid e f
 no_room_said Done e f h q = absurd (omega (arith, h))
 no_room_said (Refused x) e f h q = absurd (omega (arith, h))
@@ -136,7 +136,7 @@ order_same : (ws : List (List ℕ)) (o p : Order) → order_of ws ≡ Some o →
 order_same ws o p e f = cc
 
 module _ (ws : List (List ℕ)) (n : ℕ) (a b : Outside) (e f : SinkState) (x : Ran ws n a b e f) (end : Ending) (is : x.end ≡ end) where
-  -- what it leaves, counts and says, where its ending is known
+  -- What it leaves, counts and says, where its ending is known.
   left : Leaves (work_of x.order) (way_of end) a b
   left = subst (λ z. Leaves (work_of x.order) (way_of z) a b) is x.carries.leaves
 
@@ -146,7 +146,7 @@ module _ (ws : List (List ℕ)) (n : ℕ) (a b : Outside) (e f : SinkState) (x :
   said_by : answers.Said (line_of end) e f
   said_by = subst (λ z. answers.Said (line_of z) e f) is x.said
 
--- a fault that was counted ended the work, and its status is answered
+-- A fault that was counted ended the work, and its status is answered.
 passed : (r n : ℕ) (end x : Ending) (e f : SinkState) → n ≡ status_of end → x ≡ end → IsAnswered (status_of x) (line_of x) r e f → (r ≡ n) ⊎ (r ≡ 5)
 passed r n end x e f m is (Fully p q) = inl (p ∙ (ap status_of is ∙ sym m))
 passed r n end x e f m is (answers.ForMemory p q) = inr p
@@ -154,7 +154,7 @@ passed r n end x e f m is (answers.ForMemory p q) = inr p
 not_less : (n m : ℕ) → m ≡ n → n < m → ⊥
 not_less n m k l = omega (arith, k, l)
 
--- an ending that isn't a fault isn't answered as one
+-- An ending that isn't a fault isn't answered as one.
 not_read : (r : ℕ) (e f : SinkState) (end : Ending) → (end ≡ ReadFault → ⊥) → IsAnswered (status_of end) (line_of end) r e f → r ≡ 3 → ⊥
 not_read r e f end n (Fully p q) h = n (read_status end (sym p ∙ h))
 not_read r e f end n (answers.ForMemory p q) h = omega (arith, p, h)

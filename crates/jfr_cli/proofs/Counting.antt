@@ -12,7 +12,7 @@ use Rattle.jfr_plan.specs.Clauses.{write_count}
 use Rattle.jfr_cli.specs.Runs as runs
 use Rattle.jfr_cli.specs.Runs.{CountsOnce}
 
--- a call that has no part in the sink leaves it
+-- A call that has no part in the sink leaves it.
 pub lifted : (way : Way) (p q : State) (s : SinkState) → Tallied File way (alone p) (alone q) → Tallied File way (outside p s) (outside q s)
 lifted (Ends e) p q s h = (h.0, (h.1.0, h.1.1, refl, h.1.3))
 lifted NotRead p q s h = (h.0, h.1, refl, h.3)
@@ -25,11 +25,11 @@ lifted_parts NotRead p q s h = (h.0, h.1, refl, h.3)
 lifted_parts NotWritten p q s h = (h.0, h.1, refl, h.3)
 lifted_parts NoRoom p q s h = (h.0, h.1, refl, h.3)
 
--- no count rose
+-- No count rose.
 pub none_rose : (a b : Outside) → b ≡ a → Counted Kept Kept Kept a b
 none_rose a b e = (ap (λ (x : Outside). x.place.read_faults) e, ap (λ (x : Outside). x.place.write_faults) e, ap (λ (x : Outside). x.sink.faults) e, ap (λ (x : Outside). x.place.steady) e)
 
--- at most one count rose
+-- At most one count rose.
 written_once : (t : Target) (a b : Outside) → Tallied t NotWritten a b → CountsOnce a b
 written_once File a b h = runs.WritesRose h
 written_once Parts a b h = runs.WritesRose h
@@ -41,7 +41,7 @@ tallied_once t NotRead a b h = runs.ReadsRose h
 tallied_once t NotWritten a b h = written_once t a b h
 tallied_once t NoRoom a b h = runs.NoneRose h
 
--- a place stays steady
+-- A place stays steady.
 once_same : (a b : Outside) → CountsOnce a b → b.place.steady ≡ a.place.steady
 once_same a b (runs.NoneRose h) = h.3
 once_same a b (runs.ReadsRose h) = h.3
@@ -54,7 +54,7 @@ steady_stays t way a b h = once_same a b (tallied_once t way a b h)
 no_less : (n m : ℕ) → m ≡ n → n < m → ⊥
 no_less n m e h = omega (arith, e, h)
 
--- a write to the place, or to the sink, that failed isn't passed over
+-- A write to the place, or to the sink, that failed isn't passed over.
 pub place_passed : (t : Target) (e : Ending) (a b : Outside) → Tallied t (way_of e) a b → a.place.write_faults < b.place.write_faults → e ≡ WriteFault
 place_passed t Done a b h l = absurd (no_less a.place.write_faults b.place.write_faults h.1.1 l)
 place_passed t (Refused r) a b h l = absurd (no_less a.place.write_faults b.place.write_faults h.1.1 l)
@@ -71,7 +71,7 @@ sink_passed t ReadFault a b h l = absurd (no_less a.sink.faults b.sink.faults h.
 sink_passed t Memory a b h l = absurd (no_less a.sink.faults b.sink.faults h.2 l)
 sink_passed t WriteFault a b h l = refl
 
--- without a write fault the count of writes to the place stays
+-- Without a write fault the count of writes to the place stays.
 pub writes_stay : (t : Target) (e : Ending) (a b : Outside) → Tallied t (way_of e) a b → e ≢ WriteFault → b.place.write_faults ≡ a.place.write_faults
 writes_stay t Done a b h n = h.1.1
 writes_stay t (Refused r) a b h n = h.1.1

@@ -14,7 +14,7 @@ use Rattle.jfr_words.specs.declared.order.Order.TheVariants.{Sample}
 use Rattle.jfr_cli.specs.Works.{sample_plan, work_of, HaltsAs, Leaves, Alone}
 use Rattle.jfr_cli.specs.Runs.{Carries}
 
--- what a way leaves of the plan, where nothing changed but the text
+-- What a way leaves of the plan, where nothing changed but the text.
 leaves_so : (st : Bool) (r : Result (List ℕ) Flaw) (way : Way) (o p : Option (List ℕ)) (t : Option World) → ((w : World) → Outcome st (sample_plan r) (HaltsAs st (Alone (sample_plan r)) w w) way (stand w o) (stand w p)) → Told t t (λ w v. Outcome st (sample_plan r) (HaltsAs st (Alone (sample_plan r)) w v) way (stand w o) (stand v p))
 leaves_so st r way o p None h = tt
 leaves_so st r way o p (Some w) h = h w
@@ -23,20 +23,20 @@ module _ (seed events : ℕ) (a : State) (s z : SinkState) where
   abbrev Leaving : Way → Type 0
   Leaving way = Leaves (work_of (Sample seed events)) way (outside a s) (outside a z)
 
-  -- all of it is written
+  -- All of it is written.
   pub written_whole : (text bytes : List ℕ) → sampled seed events ≡ Ok text → bytes ≡ encode_utf8_all text → z.written ≡ option_map (added bytes) s.written → Leaving (Ends Fine)
   written_whole text bytes is e w = leaves_so a.steady (sampled seed events) (Ends Fine) s.written z.written a.told (λ v. subst (λ r. AllDone (sample_plan r) Fine (stand v s.written) (stand v z.written)) (sym is) (record { end = refl; stands = ap (stand v) (w ∙ ap (λ b. option_map (added b) s.written) e) }))
 
-  -- a part of it is written
+  -- A part of it is written.
   pub written_partly : (text bytes : List ℕ) → sampled seed events ≡ Ok text → bytes ≡ encode_utf8_all text → ((k : ℕ) × (z.written ≡ option_map (added (take k bytes)) s.written)) → Leaving NotWritten
   written_partly text bytes is e w = leaves_so a.steady (sampled seed events) NotWritten s.written z.written a.told (λ v. subst (λ r. Breaks a.steady (effects (sample_plan r).steps) (stand v s.written) (stand v z.written)) (sym is)
       (record { first = []; failed = Write (encode_utf8_all text); rest = []; bytes = w.0; parts = refl; stands = ap (stand v) (w.1 ∙ ap (λ b. option_map (added (take w.0 b)) s.written) e); cause = λ h. tt }))
 
-  -- nothing is written
+  -- Nothing is written.
   pub written_none : z.written ≡ s.written → Leaving NoRoom
   written_none w = leaves_so a.steady (sampled seed events) NoRoom s.written z.written a.told (λ v. record { first = []; rest = effects (sample_plan (sampled seed events)).steps; parts = refl; stands = ap (stand v) w })
 
-  -- the chunk that was made is refused
+  -- The chunk that was made is refused.
   pub written_refused : (flaw : Flaw) → sampled seed events ≡ Err flaw → z.written ≡ s.written → Leaving (Ends (refused 1 flaw))
   written_refused flaw is w = leaves_so a.steady (sampled seed events) (Ends (refused 1 flaw)) s.written z.written a.told (λ v. subst (λ r. AllDone (sample_plan r) (refused 1 flaw) (stand v s.written) (stand v z.written)) (sym is) (record { end = refl; stands = ap (stand v) w }))
 

@@ -36,7 +36,8 @@ pub record Carries (o : Order) (e : Ending) (a b : Outside) : Type 0 where
   pub can_read : CanReadAll (work_of o) a.place → e ≢ ending.ReadFault
   pub can_create : CanCreateFor o a.place → e ≢ ending.WriteFault
 
--- The words are a usage fault and nothing is done; or memory was wanting while they were read, and nothing is done; or they are an order, which is carried out and ends somehow. The status and its line are told.
+-- The words are a usage fault and nothing is done; or memory was wanting while they were read, and nothing
+-- is done; or they are an order, which is carried out and ends somehow. The status and its line are told.
 pub data Answers (words : List (List ℕ)) (answer : ℕ) (a b : Outside) (e f : SinkState) : Type 0 where
   Usage : order_of words ≡ None → b ≡ a → IsAnswered 1 (Some usage_line) answer e f → Answers words answer a b e f
   Unread : b ≡ a → IsAnswered 5 (Some memory_line) answer e f → Answers words answer a b e f
@@ -50,7 +51,8 @@ Under words P = (o : Order) × (order_of words ≡ Some o) × P o
 abbrev pub Ended : Work → End → Outside → Outside → Type 0
 Ended k e a b = Stands k a b (λ w v s t. AllDone (plan_of k w) e s t)
 
--- A read failed: of one recording exactly the effects are done whose need was met; of a folder's files the first effects.
+-- A read failed: of one recording exactly the effects are done whose need was met; of a folder's files the
+-- first effects.
 abbrev pub Halted : Work → Outside → Outside → Type 0
 Halted k a b = Stands k a b (λ w v s t. HaltsAs a.place.steady k w v s t)
 
@@ -62,7 +64,9 @@ Broken k a b = Stands k a b (λ w v s t. Breaks a.place.steady (effects (plan_of
 abbrev pub Partly : Work → Outside → Outside → Type 0
 Partly k a b = Stands k a b (λ w v s t. SomeDone (effects (plan_of k w).steps) s t)
 
--- What stands where memory was wanting: the first effects are done, and none where the words were not read; or all of them; or those that a read fault leaves; or, where the count of write faults rose, the first ones and a prefix of the next one's bytes.
+-- What stands where memory was wanting: the first effects are done, and none where the words were not read;
+-- or all of them; or those that a read fault leaves; or, where the count of write faults rose, the first
+-- ones and a prefix of the next one's bytes.
 pub data StandsPartly (k : Work) (a b : Outside) : Type 0 where
   Prefix : Partly k a b → StandsPartly k a b
   Whole : (e : End) → Ended k e a b → StandsPartly k a b

@@ -17,18 +17,19 @@ use Rattle.jfr_words.specs.declared.order.Order.{Order}
 use Rattle.jfr_words.specs.declared.order.Order.TheVariants as orders
 use Rattle.jfr_words.specs.Words.{file_name}
 
--- one recording is gone through by a rule, the files of a folder are joined to an output, or a plan needs no file
+-- One recording is gone through by a rule, the files of a folder are joined to an output, or a plan needs
+-- no file.
 pub data Work : Type 0 where
   Over : Rule → List ℕ → Work
   Joins : List ℕ → List ℕ → Work
   Alone : Plan → Work
 
--- the sample's text is written; no chunk that is made is refused, and else the refusal would be said
+-- The sample's text is written; no chunk that is made is refused, and else the refusal would be said.
 abbrev pub sample_plan : Result (List ℕ) Flaw → Plan
 sample_plan (Ok text) = record { steps = needing Nothing (Write (encode_utf8_all text) ∷ []); end = Some Fine }
 sample_plan (Err flaw) = record { steps = []; end = Some (refused 1 flaw) }
 
--- the work of an order
+-- The work of an order.
 abbrev pub work_of : Order → Work
 work_of (orders.Print g depth json file) = Over (printing g depth json) (file_name file)
 work_of (orders.Summary file) = Over summing (file_name file)
@@ -38,57 +39,59 @@ work_of (orders.Disassemble file rule) = Over (splitting rule (file_name file)) 
 work_of (orders.Assemble folder output) = Joins (file_name folder) (file_name output)
 work_of (orders.Sample seed events) = Alone (sample_plan (sampled seed events))
 
--- the plan of the work, over what a place holds
+-- The plan of the work, over what a place holds.
 abbrev pub plan_of : Work → World → Plan
 plan_of (Over r input) w = plan_in r input w
 plan_of (Joins folder output) w = assembling folder output w.files
 plan_of (Alone p) w = p
 
--- what the work writes: a file, parts, or text
+-- What the work writes: a file, parts, or text.
 abbrev pub target_of : Work → Target
 target_of (Over r input) = r.target
 target_of (Joins folder output) = File
 target_of (Alone p) = Text
 
--- what stands after a read fault; there is none where no file is read
+-- What stands after a read fault; there is none where no file is read.
 abbrev pub HaltsAs : Bool → Work → World → World → Stand → Stand → Type 0
 HaltsAs steady (Over r input) w v s t = HaltedIn steady r [] (file w input) v.input s t
 HaltsAs steady (Joins folder output) w v s t = Unfinished steady (effects (assembling folder output w.files).steps) s t
 HaltsAs steady (Alone p) w v s t = ⊥
 
--- the text on the output sink, for work that writes text
+-- The text on the output sink, for work that writes text.
 abbrev pub text_on : Target → SinkState → Option (List ℕ)
 text_on Text s = s.written
 text_on File s = None
 text_on Parts s = None
 
--- a claim on what stands before and after the work, where the place tells its files
+-- A claim on what stands before and after the work, where the place tells its files.
 abbrev pub Stands : Work → Outside → Outside → (World → World → Stand → Stand → Type 0) → Type 0
 Stands k a b P = Told a.place.told b.place.told (λ w v. P w v (stand w (text_on (target_of k) a.sink)) (stand v (text_on (target_of k) b.sink)))
 
--- what the work leaves, by the way it ended
+-- What the work leaves, by the way it ended.
 abbrev pub Leaves : Work → Way → Outside → Outside → Type 0
 Leaves k way a b = Stands k a b (λ w v s t. Outcome a.place.steady (plan_of k w) (HaltsAs a.place.steady k w v) way s t)
 
--- only work that writes text writes to the output sink
+-- Only work that writes text writes to the output sink.
 abbrev pub KeepsSink : Target → SinkState → SinkState → Type 0
 KeepsSink Text a b = ⊤
 KeepsSink File a b = b ≡ a
 KeepsSink Parts a b = b ≡ a
 
--- work that reads no file leaves the place as it is
+-- Work that reads no file leaves the place as it is.
 abbrev pub KeepsPlace : Work → State → State → Type 0
 KeepsPlace (Over r input) a b = ⊤
 KeepsPlace (Joins folder output) a b = ⊤
 KeepsPlace (Alone p) a b = b ≡ a
 
--- the place is steady, and the file that the work reads is there; of a folder it reads the files that are there
+-- The place is steady, and the file that the work reads is there; of a folder it reads the files that are
+-- there.
 abbrev pub CanReadAll : Work → State → Type 0
 CanReadAll (Over r input) a = CanRead input a
 CanReadAll (Joins folder output) a = IsTrue a.steady × IsSome a.told
 CanReadAll (Alone p) a = ⊤
 
--- the place is steady, no output is open, and the names that the order creates are new; never so of an order that writes text, whose write faults are those of the output stream
+-- The place is steady, no output is open, and the names that the order creates are new; never so of an
+-- order that writes text, whose write faults are those of the output stream.
 abbrev pub CanCreateFor : Order → State → Type 0
 CanCreateFor (orders.Scrub g input output) a = CanCreate (file_name output) a
 CanCreateFor (orders.Disassemble file rule) a = CanCreateAll (splitting rule (file_name file)) (file_name file) a

@@ -12,11 +12,11 @@ use Rattle.jfr_chunk.specs.Scrub.{scrub_of}
 use Rattle.jfr_show.specs.Totals.{number_line}
 use Rattle.jfr_sample.specs.Sample.{sample_of}
 
--- the filter that keeps the events of t.A
+-- The filter that keeps the events of t.A.
 abbrev pub only_a : Given
 only_a = with_patterns IncludeEvents (patterns_in (codes "t.A")) nothing_given
 
--- six lines: how much a chunk has, and how much its scrub keeps, of events, of entries and of bytes
+-- Six lines: how much a chunk has, and how much its scrub keeps, of events, of entries and of bytes.
 abbrev pub lines_of : Parts → List EventAt → List ℕ
 lines_of p kept =
     number_line (codes "events") (length (events_of p))
@@ -26,15 +26,15 @@ lines_of p kept =
     ++ number_line (codes "bytes") (length p.bytes)
     ++ number_line (codes "kept bytes") (length (scrub_of p kept))
 
--- what is said of a chunk, which is scrubbed with this filter
+-- What is said of a chunk, which is scrubbed with this filter.
 unfoldable pub counted : Parts → List ℕ
 counted p = lines_of p (kept_of only_a p)
 
--- what is said of the sample that was read as a chunk, or its flaw
+-- What is said of the sample that was read as a chunk, or its flaw.
 abbrev pub counted_in : Result Parts Flaw → Result (List ℕ) Flaw
 counted_in (Ok p) = Ok (counted p)
 counted_in (Err flaw) = Err flaw
 
--- what is said of the sample of a seed and a number of events: it is read as any recording is
+-- What is said of the sample of a seed and a number of events: it is read as any recording is.
 unfoldable pub sampled : ℕ → ℕ → Result (List ℕ) Flaw
 sampled seed events = counted_in (read_parts (sample_of seed events))

@@ -3,7 +3,7 @@ use Rattle.std.specs.Prelude.{◌≡◌, ℕ, zero, suc, ◌+◌, ◌≤◌, Boo
 use Rattle.std.specs.List.{list_any}
 use Rattle.std.proofs.Common.{ap, refl, sym, ◌∙◌, arith, drop_of_length-le}
 
--- what stands at a place, and after it
+-- What stands at a place, and after it.
 pub drop_at_get : {X : Type 0} (xs : List X) (i : ℕ) (x : X) → slice_get xs i ≡ Some x → drop i xs ≡ x ∷ drop (i + 1) xs
 drop_at_get [] i x e = cc
 drop_at_get (y ∷ ys) zero x e = let h : y ≡ x = cc in ap (λ z. z ∷ ys) h
@@ -28,7 +28,7 @@ or_swap false true true d = refl
 or_swap false true false d = refl
 or_swap false false c d = refl
 
--- one of two tests
+-- One of two tests.
 pub any_or : {X : Type 0} (f g : X → Bool) (xs : List X) → (list_any f xs || list_any g xs) ≡ list_any (λ x. f x || g x) xs
 any_or f g [] = refl
 any_or f g (x ∷ xs) = or_swap (f x) (list_any f xs) (g x) (list_any g xs) ∙ ap (λ b. (f x || g x) || b) (any_or f g xs)
@@ -37,7 +37,7 @@ pub any_never : {X : Type 0} (xs : List X) → list_any (λ x. false) xs ≡ fal
 any_never [] = refl
 any_never (x ∷ xs) = any_never xs
 
--- some pair, from either side
+-- Some pair, from either side.
 pub any_swap : {X Y : Type 0} (f : X → Y → Bool) (xs : List X) (ys : List Y) → list_any (λ y. list_any (λ x. f x y) xs) ys ≡ list_any (λ x. list_any (f x) ys) xs
 any_swap f xs [] = sym (any_never xs)
 any_swap f xs (y ∷ ys) = ap (λ b. list_any (λ x. f x y) xs || b) (any_swap f xs ys) ∙ any_or (λ x. f x y) (λ x. list_any (f x) ys) xs

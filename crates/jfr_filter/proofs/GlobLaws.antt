@@ -34,7 +34,7 @@ some_same : (f g : List ℕ → Bool) → ((s : List ℕ) → f s ≡ g s) → (
 some_same f g h [] = h []
 some_same f g h (c ∷ cs) = ap (λ b. b || some_suffix f cs) (h (c ∷ cs)) ∙ ap (λ b. g (c ∷ cs) || b) (some_same f g h cs)
 
--- a star after a star is one
+-- A star after a star is one.
 nested : (f : List ℕ → Bool) (t : List ℕ) → some_suffix (some_suffix f) t ≡ true → some_suffix f t ≡ true
 nested f [] e = e
 nested f (c ∷ cs) e = by_case (or_cases (some_suffix f (c ∷ cs)) (some_suffix (some_suffix f) cs) e) (nested f cs)
@@ -43,7 +43,7 @@ nested f (c ∷ cs) e = by_case (or_cases (some_suffix f (c ∷ cs)) (some_suffi
     by_case (inl h) i = h
     by_case (inr h) i = some_later f c cs (i h)
 
--- where a character and the rest match somewhere, the rest matches after it
+-- Where a character and the rest match somewhere, the rest matches after it.
 after_first : (p : ℕ) (f : List ℕ → Bool) (t : List ℕ) → some_suffix (first_and p f) t ≡ true → some_suffix f t ≡ true
 after_first p f [] e = cc
 after_first p f (c ∷ cs) e = by_case (or_cases ((p == 63 || p == c) && f cs) (some_suffix (first_and p f) cs) e) (after_first p f cs)
@@ -71,8 +71,8 @@ star_is ps text = refl
 
 -- ---- along a pattern and a text, while the characters agree
 
--- the pattern matches the text where what is left of it matches what is left, and where it matches some part at the
--- text's end, what is left of it matches some part at the end of what is left
+-- The pattern matches the text where what is left of it matches what is left, and where it matches some
+-- part at the text's end, what is left of it matches some part at the end of what is left.
 pub record Along (pattern text ps ts : List ℕ) : Type 0 where
   pub same : glob pattern text ≡ glob ps ts
   pub later : some_suffix (glob pattern) text ≡ true → some_suffix (glob ps) ts ≡ true

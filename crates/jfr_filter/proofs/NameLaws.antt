@@ -4,7 +4,7 @@ use Rattle.std.specs.Option.{option_map_or}
 use Rattle.std.proofs.Common.{ap, refl, sym, ◌∙◌, arith}
 use Rattle.jfr_filter.specs.Patterns.{after_last_dot}
 
--- what follows the last dot of the rest, or what was found before
+-- What follows the last dot of the rest, or what was found before.
 abbrev pub named : List ℕ → List ℕ → List ℕ
 named rest found = option_map_or (λ r. r) (after_last_dot rest) found
 

@@ -37,7 +37,7 @@ case_kept : glob (codes "JDK.*") (codes "jdk.A") ≡ false
 unfolding glob
 case_kept = refl
 
--- a character beyond ASCII is one
+-- A character beyond ASCII is one.
 one_character : glob (codes "a?c") (97 ∷ 0x1F600 ∷ 99 ∷ []) ≡ true
 unfolding glob
 one_character = refl
@@ -63,7 +63,7 @@ empty_list = refl
 nothing_trimmed : patterns_in (codes "A, B") ≡ codes "A" ∷ codes " B" ∷ []
 nothing_trimmed = refl
 
--- the class name or the simple name, and both options together
+-- The class name or the simple name, and both options together.
 abbrev parks_but_not_internal : Given
 parks_but_not_internal = with_patterns IncludeEvents (codes "*Park" ∷ []) (with_patterns ExcludeEvents (codes "jdk.internal.*" ∷ []) nothing_given)
 
@@ -79,12 +79,12 @@ other_dropped : keeps parks_but_not_internal (codes "jdk.Sleep") [] None ≡ fal
 unfolding keeps glob
 other_dropped = refl
 
--- one of the categories
+-- One of the categories.
 category_kept : keeps (with_patterns IncludeCategories (codes "Operating*" ∷ []) nothing_given) (codes "t.A") (codes "Java" ∷ codes "Operating System" ∷ []) None ≡ true
 unfolding keeps glob
 category_kept = refl
 
--- without a thread text nothing is included, and nothing is excluded
+-- Without a thread text nothing is included, and nothing is excluded.
 no_thread_included : keeps (with_patterns IncludeThreads (codes "*" ∷ []) nothing_given) (codes "t.A") [] None ≡ false
 unfolding keeps glob
 no_thread_included = refl

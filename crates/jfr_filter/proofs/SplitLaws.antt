@@ -12,7 +12,7 @@ use Rattle.jfr_filter.specs.Patterns.{patterns_in, has_empty_part}
 abbrev comma : ℕ → Bool
 comma b = b == 44
 
--- what stands before the first cut
+-- What stands before the first cut.
 abbrev onto_front : List ℕ → List (List ℕ) → List (List ℕ)
 onto_front [] parts = parts
 onto_front (x ∷ xs) parts = onto_first x (onto_front xs parts)
@@ -37,7 +37,7 @@ some_part (c ∷ cs) = by_test (comma c) (some_part cs)
     by_test true r = ([], slice_split comma cs, refl)
     by_test false r = (c ∷ r.0, r.1, ap (onto_first c) r.2)
 
--- no byte of another character is a comma
+-- No byte of another character is a comma.
 no_comma : (c : ℕ) → comma c ≡ false → (k : ℕ) → k < length (encode c) → comma (get_or (encode c) k 0) ≡ false
 no_comma c h k l = by_test (cases_Bool (comma (get_or (encode c) k 0)))
   where
@@ -49,7 +49,7 @@ no_comma c h k l = by_test (cases_Bool (comma (get_or (encode c) k 0)))
         absurd (true≢false (sym e ∙ h))
     by_test (inr f) = f
 
--- cut by bytes, the parts are those that were cut by characters
+-- Cut by bytes, the parts are those that were cut by characters.
 split_encodes : (cs : List ℕ) → slice_split comma (encodes cs) ≡ map encodes (slice_split comma cs)
 unfolding encode
 split_encodes [] = refl
@@ -89,7 +89,7 @@ read_back : (parts : List (List ℕ)) → EachScalar parts → map chars (map en
 read_back [] e = refl
 read_back (p ∷ ps) e = ap (λ z. z ∷ map chars (map encodes ps)) (chars-encodes p e.0) ∙ ap (λ z. p ∷ z) (read_back ps e.1)
 
--- the parts' characters are the parts of the characters
+-- The parts' characters are the parts of the characters.
 pub split_chars : (bs : List ℕ) → IsUtf8 bs → map chars (slice_split comma bs) ≡ patterns_in (chars bs)
 split_chars bs u =
     ap (λ z. map chars (slice_split comma z)) (sym (encodes-chars bs u))
@@ -113,7 +113,7 @@ empties : (parts : List (List ℕ)) → list_any is_empty (map encodes parts) �
 empties [] = refl
 empties (p ∷ ps) = ap (λ b. b || list_any is_empty (map encodes ps)) (same_empty p) ∙ ap (λ b. is_empty p || b) (empties ps)
 
--- a part is empty by its bytes exactly where it is by its characters
+-- A part is empty by its bytes exactly where it is by its characters.
 pub split_empty : (bs : List ℕ) → IsUtf8 bs → list_any is_empty (slice_split comma bs) ≡ has_empty_part (chars bs)
 split_empty bs u =
     ap (λ z. list_any is_empty (slice_split comma z)) (sym (encodes-chars bs u))

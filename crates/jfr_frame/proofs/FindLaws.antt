@@ -13,7 +13,7 @@ use Rattle.jfr_frame.specs.Records.{AreRecords, Rising, places_of, record_there,
 use Rattle.jfr_frame.specs.Starts.{AreStarts, kept_places, records_at}
 use Rattle.jfr_frame.proofs.RecordLaws.{rising_of, rising_places}
 
--- a record, if it has the type
+-- A record, if it has the type.
 abbrev pub if_type : ℕ → Framed → Option Framed
 if_type t r = if r.type_id == t then Some r else None
 
@@ -45,7 +45,7 @@ there_at p (x ∷ rs) (suc n) at t h i e =
     let f : (x.at == at) ≡ false = grind (arith, l.0) in
     rw f (there_at (x.at + 1) rs n at t h.1 (omega arith) e)
 
--- a search among starts by their places is one among the places
+-- A search among starts by their places is one among the places.
 pub by_places : (starts : List Start) (at : ℕ) (r : Result ℕ ℕ) → IsBinarySearchResult (λ (s : Start). nat_cmp s.at at) starts r → IsBinarySearchResult (λ place. nat_cmp place at) (kept_places starts) r
 by_places starts at r h = by_answer r h
   where
@@ -67,7 +67,7 @@ by_places starts at r h = by_answer r h
         let p = f (rising g) in
         (λ k d low high. stays Less k d (p.0 k (start_at d) low high), λ k d low high. stays Greater k d (p.1 k (start_at d) low (rw (← length-map starts (λ (z : Start). z.at)) high)))
 
--- what a binary search over the places finds
+-- What a binary search over the places finds.
 found_in : (all : List Framed) (at : ℕ) (r : Result ℕ ℕ) → Rising 68 all → IsBinarySearchResult (λ place. nat_cmp place at) (places_of all) r
     → MatchResult r (λ i. (i < length (places_of all)) × (get_or (places_of all) i 0 ≡ at)) (λ i. (i ≤ length (places_of all)) × ((k : ℕ) → k < i → get_or (places_of all) k 0 < at) × ((k : ℕ) → i ≤ k → k < length (places_of all) → at < get_or (places_of all) k 0))
 found_in all at r rising s = searched (places_of all) at r s (λ i j k l. (rising_places 68 all rising i j k l).1)
@@ -99,7 +99,7 @@ is_no_type t r e = let f : (r.type_id == t) ≡ false = by_test (r.type_id == t)
     by_test true g = absurd (e (grind (arith, g)))
     by_test false g = refl
 
--- a record starts there where one is found
+-- A record starts there where one is found.
 pub starts_there : (rs : List Framed) (at t : ℕ) → is_some (record_there rs at t) ≡ starts_at rs at t
 starts_there [] at t = refl
 starts_there (r ∷ rs) at t = by_test ((r.at == at) && (r.type_id == t)) refl (starts_there rs at t)

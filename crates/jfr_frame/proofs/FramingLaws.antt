@@ -9,14 +9,14 @@ use Rattle.jfr_frame.specs.Laws.{HasOneFraming, IsComputed}
 use Rattle.jfr_frame.specs.Records.{IsRecord, record_end, Tiles, AreRecords, FrameFlaw, NoRecord, record_at, before_records, records_by, records_within, records_of}
 use Rattle.jfr_frame.proofs.RecordLaws.{record_stands, record_none, some_bytes, tiles_one, records_ok, records_err}
 
--- records cover the bytes from p up to the flaw, and none stands there
+-- Records cover the bytes from p up to the flaw, and none stands there.
 pub record Stops (c : List ℕ) (p : ℕ) (flaw : Flaw) : Type 0 where
   pub before : (rs : List Framed) × Tiles c p rs flaw.offset
   pub more : flaw.offset < length c
   pub none : NoRecord c flaw.offset
   pub reason : flaw.reason ≡ RecordSize
 
--- what the records computed from p say
+-- What the records computed from p say.
 abbrev Says : List ℕ → ℕ → Result (List Framed) Flaw → Type 0
 Says c p (Ok rs) = Tiles c p rs (length c)
 Says c p (Err flaw) = Stops c p flaw

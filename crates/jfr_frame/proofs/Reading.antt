@@ -14,7 +14,7 @@ use Rattle.jfr_frame.specs.Refused.{RefusedAt}
 use Rattle.jfr_frame.specs.Starts.{AreStarts, records_at, start_of}
 use Rattle.jfr_frame.proofs.RecordLaws.{record_found, records_err, records_ok, tiles_more}
 
--- the records that start there cover the chunk up to a place, and this is what is kept of each
+-- The records that start there cover the chunk up to a place, and this is what is kept of each.
 pub record Read (c : List ℕ) (starts : List Start) (at : ℕ) : Type 0 where
   pub tiles : Tiles c 68 (records_at c starts) at
   pub within : at ≤ length c
@@ -23,7 +23,7 @@ pub record Read (c : List ℕ) (starts : List Start) (at : ℕ) : Type 0 where
 pub read_none : (c : List ℕ) → 68 ≤ length c → Read c [] 68
 read_none c h = record { tiles = refl; within = h; kept = refl }
 
--- the start of a record adds that record
+-- The start of a record adds that record.
 at_more : (c : List ℕ) (starts : List Start) (r : Framed) → IsRecord c r → records_at c (starts ++ start_of r ∷ []) ≡ records_at c starts ++ r ∷ []
 at_more c starts r s = filter_map-append (λ (z : Start). record_at c z.at) starts (start_of r ∷ []) ∙ ap (λ o. records_at c starts ++ cons_option o []) (record_found c r.at r refl s)
 

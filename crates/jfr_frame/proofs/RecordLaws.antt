@@ -15,14 +15,14 @@ use Rattle.jfr_frame.specs.Records.{IsRecord, record_end, Tiles, AreRecords, NoR
 pub framed_path : (r s : Framed) → r.at ≡ s.at → r.size ≡ s.size → r.type_at ≡ s.type_at → r.type_id ≡ s.type_id → r.body ≡ s.body → r ≡ s
 framed_path r s a b c d e = λ i. record { at = a i; size = b i; type_at = c i; type_id = d i; body = e i }
 
--- at one place stands one record
+-- At one place stands one record.
 pub record_one : (c : List ℕ) (r s : Framed) → IsRecord c r → IsRecord c s → r.at ≡ s.at → r ≡ s
 record_one c r s p q e =
     let a = int_one c r.at r.type_at s.type_at r.size s.size p.size_spelled (rw e q.size_spelled) in
     let b = int_one c r.type_at r.body s.body r.type_id s.type_id p.type_spelled (rw a.0 q.type_spelled) in
     framed_path r s e a.1 a.0 b.1 b.0
 
--- the record that is computed stands there
+-- The record that is computed stands there.
 covers_within : (c : List ℕ) (at : ℕ) (size id : Var) (r : Framed) → covering c at size id ≡ Some r → (id.end ≤ at + size.value) × (at + size.value ≤ length c) × (record { at = at; size = size.value; type_at = size.end; type_id = id.value; body = id.end } ≡ r)
 covers_within c at size id r e = by_test (nat_le id.end (at + size.value)) refl (nat_le (at + size.value) (length c)) refl e
   where
@@ -46,7 +46,7 @@ record_stands c at r h e = by_size (int_at c at (length c)) refl e
     by_size None f g = cc
     by_size (Some size) f g = by_type size (int_found c at (length c) size h (omega arith) f) (int_at c size.end (length c)) refl g
 
--- where none is computed, none stands
+-- Where none is computed, none stands.
 pub record_none : (c : List ℕ) (at : ℕ) → at ≤ length c → record_at c at ≡ None → NoRecord c at
 unfolding record_at
 record_none c at h e r a p = by_size (int_at c at (length c)) refl e
@@ -80,7 +80,7 @@ record_none c at h e r a p = by_size (int_at c at (length c)) refl e
         let q = int_found c at (length c) size h (omega arith) f in
         by_type size (int_one c at r.type_at size.end r.size size.value spelled q.0) (int_at c size.end (length c)) refl g
 
--- an integer takes a byte
+-- An integer takes a byte.
 int_some : (c : List ℕ) (p q v : ℕ) → IntAt c p q v → p < q
 int_some c p q v i = by_length (slice_range c p q) refl (range_length c p q i.within)
   where
@@ -88,7 +88,7 @@ int_some c p q v i = by_length (slice_range c p q) refl (range_length c p q i.wi
     by_length [] e l = absurd (subst (IsSpellingWithin 8) e i.spelled.form)
     by_length (x ∷ xs) e l = let m : length (slice_range c p q) ≡ suc (length xs) = ap length e in omega arith
 
--- each record takes a byte
+-- Each record takes a byte.
 pub some_bytes : (c : List ℕ) (r : Framed) → IsRecord c r → r.at < record_end r
 some_bytes c r p =
     let h : r.body ≤ r.at + r.size = p.covers in
@@ -100,7 +100,7 @@ pub tiles_order : (c : List ℕ) (p q : ℕ) (rs : List Framed) → Tiles c p rs
 tiles_order c p q [] t = let e : p ≡ q = t in omega arith
 tiles_order c p q (r ∷ rs) t = let i = tiles_order c (record_end r) q rs t.2 in let e : r.at ≡ p = t.0 in omega arith
 
--- one list of records from one place to another
+-- One list of records from one place to another.
 pub tiles_one : (c : List ℕ) (p q : ℕ) (rs ss : List Framed) → Tiles c p rs q → Tiles c p ss q → rs ≡ ss
 tiles_one c p q [] [] a b = refl
 tiles_one c p q [] (s ∷ ss) a b = let i = tiles_order c (record_end s) q ss b.2 in let j = some_bytes c s b.1 in let e : p ≡ q = a in let f : s.at ≡ p = b.0 in absurd (omega arith)
@@ -111,12 +111,12 @@ tiles_one c p q (r ∷ rs) (s ∷ ss) a b =
     let i : rs ≡ ss = tiles_one c (record_end r) q rs ss a.2 (rw f b.2) in
     ap (λ z. z ∷ rs) e ∙ ap (λ z. s ∷ z) i
 
--- one record more
+-- One record more.
 pub tiles_more : (c : List ℕ) (p q : ℕ) (rs : List Framed) (r : Framed) → Tiles c p rs q → r.at ≡ q → IsRecord c r → Tiles c p (rs ++ r ∷ []) (record_end r)
 tiles_more c p q [] r t e s = (e ∙ sym t, s, refl)
 tiles_more c p q (x ∷ rs) r t e s = (t.0, t.1, tiles_more c (record_end x) q rs r t.2 e s)
 
--- a record that stands there is the one computed
+-- A record that stands there is the one computed.
 pub record_found : (c : List ℕ) (p : ℕ) (r : Framed) → r.at ≡ p → IsRecord c r → record_at c p ≡ Some r
 record_found c p r a s = by_found (record_at c p) refl
   where
@@ -129,12 +129,12 @@ record_found c p r a s = by_found (record_at c p) refl
         let y = record_stands c p x there e in
         e ∙ ap (λ z. Some z) (record_one c x r y.1 s (y.0 ∙ sym a))
 
--- records before others, if these are records
+-- Records before others, if these are records.
 abbrev pub onto : List Framed → Result (List Framed) Flaw → Result (List Framed) Flaw
 onto [] a = a
 onto (r ∷ rs) a = before_records r (onto rs a)
 
--- the records before a place are computed first
+-- The records before a place are computed first.
 pub records_on : (c : List ℕ) (p q n : ℕ) (rs : List Framed) → Tiles c p rs q → q ≤ length c → length c - p < n → (m : ℕ) × (length c - q < m) × (records_within n c p ≡ onto rs (records_within m c q))
 records_on c p q n [] t h i = let e : p ≡ q = t in (n, omega arith, ap (records_within n c) e)
 records_on c p q zero (r ∷ rs) t h i = absurd (omega arith)
@@ -155,7 +155,7 @@ onto_err : (rs : List Framed) (f : Flaw) → onto rs (Err f) ≡ Err f
 onto_err [] f = refl
 onto_err (r ∷ rs) f = ap (before_records r) (onto_err rs f)
 
--- records that cover the chunk are those computed
+-- Records that cover the chunk are those computed.
 pub records_ok : (c : List ℕ) (rs : List Framed) → AreRecords c rs → records_of c ≡ Ok rs
 unfolding records_of
 records_ok c rs t =
@@ -167,7 +167,7 @@ records_ok c rs t =
     at_end zero i = absurd (omega arith)
     at_end (suc m) i = let l : nat_le (length c) (length c) ≡ true = grind arith in rw l (onto_ok rs)
 
--- where records end early, the flaw is computed
+-- Where records end early, the flaw is computed.
 pub records_err : (c : List ℕ) (rs : List Framed) (o : ℕ) → 68 ≤ length c → Tiles c 68 rs o → o < length c → record_at c o ≡ None → records_of c ≡ Err (record { offset = o; reason = RecordSize })
 unfolding records_of
 records_err c rs o h t i e =
@@ -178,7 +178,7 @@ records_err c rs o h t i e =
     at_flaw zero j = absurd (omega arith)
     at_flaw (suc m) j = let l : nat_le (length c) o ≡ false = grind arith in rw (l, e) (onto_err rs (record { offset = o; reason = RecordSize }))
 
--- records start one past another
+-- Records start one past another.
 pub rising_of : (c : List ℕ) (n p q : ℕ) (rs : List Framed) → n ≤ p → Tiles c p rs q → Rising n rs
 rising_of c n p q [] h t = tt
 rising_of c n p q (r ∷ rs) h t =
@@ -186,7 +186,7 @@ rising_of c n p q (r ∷ rs) h t =
     let b = some_bytes c r t.1 in
     (omega arith, rising_of c (r.at + 1) (record_end r) q rs (omega arith) t.2)
 
--- places rise as the records do
+-- Places rise as the records do.
 pub rising_places : (p : ℕ) (rs : List Framed) → Rising p rs → (i j : ℕ) → i ≤ j → j < length (places_of rs) → (p ≤ get_or (places_of rs) i 0) × (get_or (places_of rs) i 0 ≤ get_or (places_of rs) j 0)
 rising_places p [] h i j k l = absurd (omega arith)
 rising_places p (r ∷ rs) h zero zero k l = (h.0, omega arith)

@@ -72,12 +72,12 @@ inert_framed : records_of inert ≡ Ok inert_records
 unfolding records_of record_at int_at
 inert_framed = refl
 
--- without its last byte, no record stands where the checkpoint was
+-- Without its last byte, no record stands where the checkpoint was.
 plain_cut : records_of (take 102 plain) ≡ Err (record { offset = 96; reason = RecordSize })
 unfolding records_of record_at int_at
 plain_cut = refl
 
--- a checkpoint starts there, and no metadata
+-- A checkpoint starts there, and no metadata.
 checkpoint_starts : starts_at plain_records 96 1 ≡ true
 checkpoint_starts = refl
 

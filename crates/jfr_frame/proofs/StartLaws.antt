@@ -19,21 +19,21 @@ spelling_short zero (b ∷ bs) h = let e : length bs ≡ 0 = ap length h in omeg
 spelling_short (suc k) (b ∷ []) h = omega arith
 spelling_short (suc k) (b ∷ c ∷ bs) h = let i = spelling_short k (c ∷ bs) h.1 in omega arith
 
--- an integer takes nine bytes at most
+-- An integer takes nine bytes at most.
 int_short : (c : List ℕ) (p q v : ℕ) → IntAt c p q v → q ≤ p + 9
 int_short c p q v i =
     let l = range_length c p q i.within in
     let s = spelling_short 8 (slice_range c p q) i.spelled.form in
     omega arith
 
--- so a record's size and type take eighteen
+-- So a record's size and type take eighteen.
 pub head_short : (c : List ℕ) (r : Framed) → IsRecord c r → (r.at ≤ r.type_at) × (r.type_at ≤ r.body) × (r.body ≤ r.at + 18)
 head_short c r s =
     let i = int_short c r.at r.type_at r.size s.size_spelled in
     let j = int_short c r.type_at r.body r.type_id s.type_spelled in
     (s.size_spelled.order, s.type_spelled.order, omega arith)
 
--- the record of which this is kept
+-- The record of which this is kept.
 pub record Keeps (c : List ℕ) (all : List Framed) (n : ℕ) (s : Start) (r : Framed) : Type 0 where
   pub got : slice_get all n ≡ Some r
   pub below : n < length all
@@ -50,7 +50,7 @@ kept_among c p q (r ∷ rs) (suc n) s t e =
 pub kept_record : (c : List ℕ) (starts : List Start) (all : List Framed) (n : ℕ) (s : Start) → AreStarts c starts → records_at c starts ≡ all → option_map start_of (slice_get all n) ≡ Some s → (r : Framed) × Keeps c all n s r
 kept_record c starts all n s h v e = kept_among c 68 (length c) all n s (subst (AreRecords c) v h.cover) e
 
--- as much is kept as there are records, and at each number what is kept of its record
+-- As much is kept as there are records, and at each number what is kept of its record.
 pub kept_count : (c : List ℕ) (starts : List Start) (all : List Framed) → AreStarts c starts → records_at c starts ≡ all → length starts ≡ length all
 kept_count c starts all h v = ap length (h.kept ∙ ap (map start_of) v) ∙ length-map all start_of
 
@@ -59,13 +59,13 @@ kept_at c starts all n s h v l e =
     sym (slice_get-map start_of all n)
     ∙ (ap (λ z. slice_get z n) (sym (h.kept ∙ ap (map start_of) v)) ∙ (slice_get-get_or starts n s (omega (arith, kept_count c starts all h v)) ∙ ap (λ z. Some z) (sym e)))
 
--- what is kept says all but its end
+-- What is kept says all but its end.
 kept_parts : (c : List ℕ) (all : List Framed) (n : ℕ) (s : Start) (r : Framed) → Keeps c all n s r → (s.at ≡ r.at) × (s.at + s.type_at ≡ r.type_at) × (s.at + s.body ≡ r.body) × (s.type_id ≡ min r.type_id (2 ^ 16 - 1))
 kept_parts c all n s r k =
     let h = head_short c r k.stands in
     subst (λ (z : Start). (z.at ≡ r.at) × (z.at + z.type_at ≡ r.type_at) × (z.at + z.body ≡ r.body) × (z.type_id ≡ min r.type_id (2 ^ 16 - 1))) (sym k.start) (refl, omega (arith, h.0), omega (arith, h.0, h.1), refl)
 
--- so its type and its body stand in the chunk
+-- So its type and its body stand in the chunk.
 pub parts_fit : (c : List ℕ) (all : List Framed) (n : ℕ) (s : Start) (r : Framed) → Keeps c all n s r → (s.at + s.type_at ≤ length c) × (s.at + s.body ≤ length c)
 parts_fit c all n s r k =
     let p = kept_parts c all n s r k in
@@ -74,7 +74,7 @@ parts_fit c all n s r k =
     let w : r.at + r.size ≤ length c = k.stands.within in
     (omega (arith, p.1, h.1), omega (arith, p.2))
 
--- a type that is kept below the largest number is the record's
+-- A type that is kept below the largest number is the record's.
 pub narrow_type : (c : List ℕ) (all : List Framed) (n : ℕ) (s : Start) (r : Framed) → Keeps c all n s r → (s.type_id ≡ 2 ^ 16 - 1 → ⊥) → s.type_id ≡ r.type_id
 narrow_type c all n s r k narrow = by_size (kept_parts c all n s r k).3 (cases_lt r.type_id (2 ^ 16 - 1))
   where
@@ -82,11 +82,11 @@ narrow_type c all n s r k narrow = by_size (kept_parts c all n s r k).3 (cases_l
     by_size e (inl i) = let m : min r.type_id (2 ^ 16 - 1) ≡ r.type_id = grind arith in e ∙ m
     by_size e (inr i) = let m : min r.type_id (2 ^ 16 - 1) ≡ 2 ^ 16 - 1 = grind arith in absurd (narrow (e ∙ m))
 
--- its type is spelled where its place is kept
+-- Its type is spelled where its place is kept.
 pub type_there : (c : List ℕ) (all : List Framed) (n : ℕ) (s : Start) (r : Framed) → Keeps c all n s r → IntAt c (s.at + s.type_at) r.body r.type_id
 type_there c all n s r k = subst (λ p. IntAt c p r.body r.type_id) (sym (kept_parts c all n s r k).1) k.stands.type_spelled
 
--- it is made of what is kept, of its type and of its end
+-- It is made of what is kept, of its type and of its end.
 pub rebuilt : (c : List ℕ) (all : List Framed) (n : ℕ) (s : Start) (r : Framed) (end type_id : ℕ) → Keeps c all n s r → option_map record_end (slice_get all n) ≡ Some end → type_id ≡ r.type_id
     → (s.at ≤ end) × (Some (record { at = s.at; size = end - s.at; type_at = s.at + s.type_at; type_id = type_id; body = s.at + s.body }) ≡ slice_get all n)
 rebuilt c all n s r end type_id k e t =
@@ -97,7 +97,7 @@ rebuilt c all n s r end type_id k e t =
     let same : made ≡ r = framed_path made r p.0 (omega (arith, p.0, y)) p.1 t p.2 in
     (omega (arith, p.0, y), ap Some same ∙ sym k.got)
 
--- the place after a record: the next start, or the end of all
+-- The place after a record: the next start, or the end of all.
 abbrev pub next_place : ℕ → Option Start → ℕ
 next_place q None = q
 next_place q (Some s) = s.at
@@ -121,10 +121,10 @@ count_among c p q (r ∷ rs) t =
     let a : r.at ≡ p = t.0 in
     omega arith
 
--- there are no more records than bytes
+-- There are no more records than bytes.
 pub count_below : (c : List ℕ) (starts : List Start) (all : List Framed) (n : ℕ) → AreStarts c starts → records_at c starts ≡ all → n < length all → n < length c
 count_below c starts all n h v i = let j = count_among c 68 (length c) all (subst (AreRecords c) v h.cover) in omega arith
 
--- the places that are kept are those of the records
+-- The places that are kept are those of the records.
 pub kept_places_of : (c : List ℕ) (starts : List Start) (all : List Framed) → AreStarts c starts → records_at c starts ≡ all → kept_places starts ≡ places_of all
 kept_places_of c starts all h v = ap kept_places (h.kept ∙ ap (map start_of) v) ∙ map-map (λ s. s.at) start_of all

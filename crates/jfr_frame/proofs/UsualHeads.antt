@@ -8,7 +8,7 @@ use Rattle.jfr_base.proofs.Groups.{reading_start, going_last, going_next, going_
 abbrev pub var : ℕ → ℕ → Var
 var v q = record { value = v; end = q }
 
--- the first three bytes have their top bit, and the fourth has not
+-- The first three bytes have their top bit, and the fourth has not.
 pub four_bytes : (x : List ℕ) (at end a b c d : ℕ) → at + 4 ≤ end → end ≤ length x
     → a ≡ slice_index x at → 128 ≤ a → a < 256
     → b ≡ slice_index x (at + 1) → 128 ≤ b → b < 256

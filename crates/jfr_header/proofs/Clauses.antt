@@ -17,13 +17,13 @@ decided (Refused r) old new w v c n =
 decided Failed old new w v c n = all_some w.input _ (λ rest. tt)
 decided Memory old new w v c n = all_some w.input _ (λ rest. tt)
 
--- the front of what is left decides
+-- The front of what is left decides.
 pub decides : (r : Cut) (old new : Cutter) (b a : Option World) → CutOf r old new → Told b a (NextOf r old new) → IfSome b (λ w. IfSome w.input (λ rest. IsDue r (answer_to old.number (ahead_of old rest))))
 decides r old new None a c t = tt
 decides r old new (Some w) None c t = absurd t
 decides r old new (Some w) (Some v) c t = decided r old new w v c t
 
--- a chunk was taken, and nothing else
+-- A chunk was taken, and nothing else.
 pub taken : (r : Cut) (old new : Cutter) (b a : Option World) → Told b a (NextOf r old new) → r ≡ Chunk → Told b a (Took new.bytes)
 taken Chunk old new b a t e = map_told b a _ _ t (λ w v n. n.took)
 taken End old new b a t e = cc
@@ -31,7 +31,7 @@ taken (Refused r) old new b a t e = cc
 taken Failed old new b a t e = cc
 taken Memory old new b a t e = cc
 
--- after a flaw of the header exactly its bytes were taken
+-- After a flaw of the header exactly its bytes were taken.
 pub header_taken : (r : Cut) (old new : Cutter) (b a : Option World) → Told b a (NextOf r old new) → IfRefused r (λ refusal. is_header refusal.reason ≡ true → Told b a (Takes (λ taken most. taken ≡ 68)))
 header_taken Chunk old new b a t = tt
 header_taken End old new b a t = tt
@@ -55,11 +55,11 @@ taken_within (Refused r) old new w v c n = (n.bytes, n.found.took, some_at w.inp
 taken_within Failed old new w v c n = (n.0, n.1, some_map w.input _ _ (λ rest h. omega (arith, h)) n.2)
 taken_within Memory old new w v c n = n
 
--- no byte past the header and its chunk was taken
+-- No byte past the header and its chunk was taken.
 pub within : (r : Cut) (old new : Cutter) (b a : Option World) → CutOf r old new → Told b a (NextOf r old new) → Told b a (Takes (λ taken most. taken ≤ most))
 within r old new b a c t = map_told b a _ _ t (λ w v n. taken_within r old new w v c n)
 
--- after a failed read fewer bytes were taken
+-- After a failed read fewer bytes were taken.
 pub fewer : (r : Cut) (old new : Cutter) (b a : Option World) → Told b a (NextOf r old new) → r ≡ Failed → Told b a (Takes (λ taken most. taken < most))
 fewer Chunk old new b a t e = cc
 fewer End old new b a t e = cc
@@ -74,6 +74,6 @@ kept (Refused r) old new w v n = (n.found.took.files, n.found.took.output)
 kept Failed old new w v n = (n.1.files, n.1.output)
 kept Memory old new w v n = (n.1.files, n.1.output)
 
--- the files and the output stayed
+-- The files and the output stayed.
 pub unchanged : (r : Cut) (old new : Cutter) (b a : Option World) → Told b a (NextOf r old new) → Told b a IsKept
 unchanged r old new b a t = map_told b a _ _ t (λ w v n. kept r old new w v n)

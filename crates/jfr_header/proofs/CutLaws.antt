@@ -9,7 +9,7 @@ use Rattle.jfr_header.specs.Cuts.{more, cut_by, cut_within, cut, joined, AreCut}
 use Rattle.jfr_header.proofs.Steps.{size_bounds}
 use Rattle.jfr_header.proofs.Cutting.{Fits, front_fits, cut_end, cut_bad, cut_chunk}
 
--- a chunk at the front is whole, and these are its bytes
+-- A chunk at the front is whole, and these are its bytes.
 abbrev pub Begins : List ℕ → Front → Type 0
 Begins rest (Bad f) = Unit {0}
 Begins rest End = rest ≡ []
@@ -45,7 +45,7 @@ pub front_begins : (rest : List ℕ) (s : ℕ) (f : Bool) → Begins rest (front
 unfolding front
 front_begins rest s f = let h = begins_headed rest (header_flaw (take 68 rest)) refl in let z = empty rest in grind (arith, common_steps, h, z)
 
--- what is cut stands there one by one
+-- What is cut stands there one by one.
 are_cut_by : (n : ℕ) (rest : List ℕ) (s : ℕ) (f : Bool) (x : Front) → front rest s f ≡ x → Fits rest x → length rest < suc n
     → ((r : List ℕ) (t : ℕ) → length r < n → AreCut (cut_within n r t false).chunks (cut_within n r t false).flaw r t false)
     → AreCut (cut_by x (λ c. cut_within n (drop (length c) rest) (s + length c) false)).chunks (cut_by x (λ c. cut_within n (drop (length c) rest) (s + length c) false)).flaw rest s f
@@ -67,7 +67,7 @@ are_cut rest s f = are_cut_within (suc (length rest)) rest s f (omega arith)
 parts : (rest c : List ℕ) → take (length c) rest ≡ c → rest ≡ c ++ drop (length c) rest
 parts rest c e = sym (take-append-drop (length c) rest) ∙ ap (λ (l : List ℕ). l ++ drop (length c) rest) e
 
--- and what stands there one by one is cut
+-- And what stands there one by one is cut.
 pub cut_is : (cs : List (List ℕ)) (flaw : Option Flaw) (rest : List ℕ) (s : ℕ) (f : Bool) → AreCut cs flaw rest s f → cut rest s f ≡ record { chunks = cs; flaw = flaw }
 cut_is [] None rest s f a = cut_end rest s f a
 cut_is [] (Some b) rest s f a = cut_bad rest s f b a

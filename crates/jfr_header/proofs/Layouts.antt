@@ -5,7 +5,7 @@ use Rattle.jfr_header.specs.declared.header.Header.{Header}
 use Rattle.jfr_header.specs.Headers.{header_of, header_bytes}
 use Rattle.jfr_header.specs.Fronts.{header_flaw, field_flaw}
 
--- each field fits in its bytes
+-- Each field fits in its bytes.
 pub record IsInRange (h : Header) : Type 0 where
   pub in_major : h.major < 2 ^ 16
   pub in_minor : h.minor < 2 ^ 16

@@ -3,7 +3,7 @@ use Rattle.std.proofs.Common.{◌≡◌, ℕ, ◌+◌, ◌≤◌, sym, ◌∙◌
 use Rattle.std.proofs.lemmas.List.{take_at, length-take-le}
 use borrow.Rule.Slice.PartMut.{put_mid, post_of}
 
--- bytes were written at a place, and those up to their end are known
+-- Bytes were written at a place, and those up to their end are known.
 pub put_front : (at n k : ℕ) (xs bytes rest : List ℕ) → at ≤ length xs → length bytes ≡ n → take (at + n) (put_mid at k xs (bytes ++ rest)) ≡ take at xs ++ bytes
 put_front at n k xs bytes rest h e =
     let after : List ℕ = rest ++ post_of at k xs in

@@ -15,13 +15,13 @@ use Rattle.jfr_header.specs.Cutters.{Cutter}
 use Rattle.jfr_outside.specs.World.{Told}
 use Rattle.jfr_header.specs.Taking.{Moved, MovedWithin, Took, Takes}
 
--- one claim from another
+-- One claim from another.
 pub map_told : (b a : Option World) (P Q : World → World → Type 0) → Told b a P → ((w v : World) → P w v → Q w v) → Told b a Q
 map_told None a P Q t f = tt
 map_told (Some w) None P Q t f = absurd t
 map_told (Some w) (Some v) P Q t f = f w v t
 
--- one claim from another, and from two facts of the place afterwards, the second under a premise
+-- One claim from another, and from two facts of the place afterwards, the second under a premise.
 pub with_both : (b a : Option World) (F G : World → Type 0) (L : Type 0) (P Q : World → World → Type 0) → Told b a P → IfSome a F → (L → IfSome a G) → ((w v : World) → P w v → F v → (L → G v) → Q w v) → Told b a Q
 with_both None a F G L P Q t h k f = tt
 with_both (Some w) None F G L P Q t h k f = absurd t
@@ -46,7 +46,7 @@ from_empty b a x y e t = subst (λ (l : List ℕ). Told b a (Moved l y)) e t
 pub took_of : (bytes : List ℕ) (w v : World) → Moved [] bytes w v → Took bytes w v
 took_of bytes w v m = record { files = m.files; output = m.output; input = m.kept ∙ none_map w.input }
 
--- the whole of what was left, in two parts
+-- The whole of what was left, in two parts.
 pub record Split (bytes : List ℕ) (w v : World) : Type 0 where
   pub rest : List ℕ
   pub left : List ℕ
@@ -64,7 +64,7 @@ split bytes w v s t = split_of bytes w v v.input refl s t
 pub found : (c : Cutter) (f : Front) (bytes : List ℕ) (w v : World) (t : Took bytes w v) (s : Split bytes w v) → ahead_of c s.rest ≡ f → Found c f bytes w v
 found c f bytes w v t s e = record { rest = s.rest; input = s.before; took = t; is = e }
 
--- the front, case by case
+-- The front, case by case.
 pub front_none : (s : ℕ) → front [] s true ≡ Bad (flaw_at 0 NoChunk)
 unfolding front
 front_none s = refl
@@ -91,7 +91,7 @@ sized_short x n h = grind (arith, common_steps)
 pub sized_whole : (x : List ℕ) (n : ℕ) → n ≤ length x → sized x n ≡ Chunk (take n x)
 sized_whole x n h = grind (arith, common_steps)
 
--- a header without flaws names a size within the bounds
+-- A header without flaws names a size within the bounds.
 pub size_bounds : (h : List ℕ) → header_flaw h ≡ None → (68 ≤ size_of h) × (size_of h < 2 ^ 28)
 unfolding header_flaw
 size_bounds h e = grind (arith, common_steps)
@@ -128,11 +128,11 @@ some_ahead f (Some y) p x e h = refl
 pub same_some : (x y : List ℕ) → ◌≡◌ {A = Option (List ℕ)} (Some x) (Some y) → x ≡ y
 same_some x y e = cc
 
--- fewer bytes than the header and its chunk have were taken
+-- Fewer bytes than the header and its chunk have were taken.
 abbrev pub TookLess : World → World → Type 0
 TookLess = Takes (λ taken most. taken < most)
 
--- no more bytes than the header and its chunk have were taken
+-- No more bytes than the header and its chunk have were taken.
 abbrev pub TookMost : World → World → Type 0
 TookMost = Takes (λ taken most. taken ≤ most)
 
@@ -142,7 +142,7 @@ failed_first bytes w v m h = (bytes, took_of bytes w v m, all_some w.input (λ r
 pub memory_first : (w v : World) → MovedWithin [] 68 w v → TookMost w v
 memory_first w v m = (m.0, took_of m.0 w v m.1, all_some w.input (λ rest. length m.0 ≤ reach rest) (λ rest. let r = reach_least rest in omega (arith, r, m.2)))
 
--- a whole header without flaws stands in hand
+-- A whole header without flaws stands in hand.
 pub record Headed (h : List ℕ) (w v : World) : Type 0 where
   pub moved : Moved [] h w v
   pub opened : IsSome v.input
@@ -177,7 +177,7 @@ memory_second h w v u k m =
     let most : length m.0 ≤ reach a.rest = omega (arith, m.2, a.reach_is) in
     (m.0, took_of m.0 w u (moved_trans [] h m.0 w v u k.moved m.1), some_at w.input a.rest (λ rest. length m.0 ≤ reach rest) a.input most)
 
--- what all bytes in hand, which ended the input, are the front of
+-- What all bytes in hand, which ended the input, are the front of.
 pub record AllIn (bytes : List ℕ) (w v : World) : Type 0 where
   pub moved : Moved [] bytes w v
   pub ended : v.input ≡ Some []
@@ -198,14 +198,14 @@ refuses_all c r bytes w v k e h n = record {
 pub judged_at : (d c : Cutter) (l bytes : List ℕ) (v : Verdict) → d ≡ c → l ≡ bytes → IsJudged l d.start d.given v → IsJudged bytes c.start c.given v
 judged_at d c l bytes v e f j = subst (λ (x : List ℕ). IsJudged x c.start c.given v) f (subst (λ (x : Cutter). IsJudged l x.start x.given v) e j)
 
--- where nothing was in hand after the last chunk, the recording ended
+-- Where nothing was in hand after the last chunk, the recording ended.
 pub judged_end : (c : Cutter) (bytes : List ℕ) (w v : World) → IsJudged bytes c.start c.given verdicts.End → Moved [] bytes w v → (length bytes < 68 → v.input ≡ Some []) → Found c End [] w v
 judged_end c bytes w v judged m ended =
     let less : length bytes < 68 = let z : length bytes ≡ 0 = ap length judged.1 in omega (arith, z) in
     let all : AllIn [] w v = subst (λ (l : List ℕ). AllIn l w v) judged.1 (record { moved = m; ended = ended less }) in
     record { rest = []; input = all_rest [] w v all; took = took_of [] w v all.moved; is = ap (λ (b : Bool). front [] c.start (not b)) judged.0 ∙ front_end c.start }
 
--- what was judged bad by its first bytes is refused
+-- What was judged bad by its first bytes is refused.
 pub judged_bad : (c : Cutter) (n : ℕ) (f : Flaw) (bytes : List ℕ) (w v : World) → length bytes ≤ 68 → IsJudged bytes c.start c.given (verdicts.Bad f) → Moved [] bytes w v → IsSome v.input → (length bytes < 68 → v.input ≡ Some []) → Refuses c (record { chunk = n; offset = f.offset; reason = f.reason }) w v
 unfolding found split
 judged_bad c n f bytes w v most judged m o ended =
@@ -264,7 +264,7 @@ whole_of h bytes n fine t size =
     let b = size_bounds h fine in
     record { long = omega (arith, b.0, size); flawless = ap header_flaw t ∙ fine; size = ap size_of t ∙ sym size }
 
--- a whole chunk is found at the front of what it is followed by
+-- A whole chunk is found at the front of what it is followed by.
 pub whole_reach : (c left : List ℕ) → Whole c → reach (c ++ left) ≡ length c
 whole_reach c left k =
     let t : take 68 (c ++ left) ≡ take 68 c = take-append-le 68 c left k.long in

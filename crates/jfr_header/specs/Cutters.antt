@@ -1,8 +1,8 @@
 -- What a cutter is for its callers.
 use Rattle.std.specs.Prelude.{◌≡◌, ℕ, ◌+◌, ◌<◌, ◌≤◌, ◌^◌, Bool, true, List}
 
--- the bytes of the last chunk; the start and the number of the chunk that comes next; whether a chunk was
--- given; whether every answer so far was a chunk
+-- The bytes of the last chunk; the start and the number of the chunk that comes next; whether a chunk was
+-- given; whether every answer so far was a chunk.
 pub record Cutter : Type 0 where
   pub bytes : List ℕ
   pub start : ℕ
@@ -10,7 +10,7 @@ pub record Cutter : Type 0 where
   pub given : Bool
   pub live : Bool
 
--- starts and numbers don't overflow, and a chunk that was given has a number
+-- Starts and numbers don't overflow, and a chunk that was given has a number.
 pub record IsInRange (start number : ℕ) (given : Bool) : Type 0 where
   pub low : start < 2 ^ 62
   pub numbered : number ≤ start + 2 ^ 62

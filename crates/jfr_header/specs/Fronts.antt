@@ -7,15 +7,15 @@ use Rattle.jfr_base.specs.declared.flaw.Flaw.{Flaw}
 use Rattle.jfr_base.specs.declared.reason.Reason.{Reason}
 use Rattle.jfr_base.specs.declared.reason.Reason.TheVariants.{NoChunk, ShortHeader, Magic, Version, Unfinished, NotCompact, ChunkSize, ShortChunk, TooLong}
 
--- a flaw at an offset from the chunk's first byte
+-- A flaw at an offset from the chunk's first byte.
 abbrev pub flaw_at : ℕ → Reason → Flaw
 flaw_at offset reason = record { offset = offset; reason = reason }
 
--- the size of the chunk that a header names
+-- The size of the chunk that a header names.
 abbrev pub size_of : List ℕ → ℕ
 size_of h = (header_of h).size
 
--- the first cause in the fields of a header for which a chunk is refused
+-- The first cause in the fields of a header for which a chunk is refused.
 abbrev pub field_flaw : Header → Option Flaw
 field_flaw h =
     if not (h.major == 2) then Some (flaw_at 4 Version)
@@ -25,27 +25,28 @@ field_flaw h =
     else if nat_le (2 ^ 28) h.size then Some (flaw_at 8 ChunkSize)
     else None
 
--- the first cause in the bytes of a header
+-- The first cause in the bytes of a header.
 unfoldable pub header_flaw : List ℕ → Option Flaw
 header_flaw h = if not (big_number 4 h == magic) then Some (flaw_at 0 Magic) else field_flaw (header_of h)
 
--- what stands at the front of what is left: a flaw, the recording's end, or a chunk
+-- What stands at the front of what is left: a flaw, the recording's end, or a chunk.
 pub data Front : Type 0 where
   Bad : Flaw → Front
   End : Front
   Chunk : List ℕ → Front
 
--- what stands at the front, behind a header that names this size: a chunk of so many bytes, if they are there
+-- What stands at the front, behind a header that names this size: a chunk of so many bytes, if they are
+-- there.
 abbrev pub sized : List ℕ → ℕ → Front
 sized rest size = if nat_lt (length rest) size then Bad (flaw_at (length rest) ShortChunk) else Chunk (take size rest)
 
--- what stands at the front, by the flaw of the header there
+-- What stands at the front, by the flaw of the header there.
 abbrev pub headed : List ℕ → Option Flaw → Front
 headed rest (Some f) = Bad f
 headed rest None = sized rest (size_of (take 68 rest))
 
--- what stands at the front: the bytes begin at this start of the recording, and `first` says that no chunk
--- was taken before them
+-- What stands at the front: the bytes begin at this start of the recording, and `first` says that no chunk
+-- was taken before them.
 unfoldable pub front : List ℕ → ℕ → Bool → Front
 front rest start first =
     if length rest == 0 then (if first then Bad (flaw_at 0 NoChunk) else End)
@@ -53,17 +54,17 @@ front rest start first =
     else if nat_lt (length rest) 68 then Bad (flaw_at (length rest) ShortHeader)
     else headed rest (header_flaw (take 68 rest))
 
--- how far a header and the chunk that it names reach, by the header's size and flaw
+-- How far a header and the chunk that it names reach, by the header's size and flaw.
 abbrev pub reach_by : ℕ → Option Flaw → ℕ
 reach_by size (Some f) = 68
 reach_by size None = size
 
--- how many bytes the header at the front and the chunk that it names have: 68 where the header is short or
--- refused
+-- How many bytes the header at the front and the chunk that it names have: 68 where the header is short or
+-- refused.
 unfoldable pub reach : List ℕ → ℕ
 reach rest = if nat_lt (length rest) 68 then 68 else reach_by (size_of (take 68 rest)) (header_flaw (take 68 rest))
 
--- a whole chunk: its header has no flaw, and names as many bytes as it has
+-- A whole chunk: its header has no flaw, and names as many bytes as it has.
 pub record Whole (c : List ℕ) : Type 0 where
   pub long : 68 ≤ length c
   pub flawless : header_flaw (take 68 c) ≡ None

@@ -3,15 +3,15 @@ use Rattle.std.specs.Prelude.{ℕ, List, [], ◌∷◌, ◌++◌, drop, slice_in
 use Rattle.byteorder.specs.Endian.{big_number, big_bytes}
 use Rattle.jfr_header.specs.declared.header.Header.{Header}
 
--- the number in so many bytes from an offset on
+-- The number in so many bytes from an offset on.
 abbrev pub number_at : ℕ → ℕ → List ℕ → ℕ
 number_at at count h = big_number count (drop at h)
 
--- the bytes `FLR` and 0, as a number
+-- The bytes `FLR` and 0, as a number.
 abbrev pub magic : ℕ
 magic = 1179406848
 
--- the fields of a header
+-- The fields of a header.
 abbrev pub header_of : List ℕ → Header
 header_of h = record {
   major = number_at 4 2 h;
@@ -28,7 +28,7 @@ header_of h = record {
   flags = number_at 66 2 h;
 }
 
--- the bytes of a header with these fields
+-- The bytes of a header with these fields.
 abbrev pub header_bytes : Header → List ℕ
 header_bytes h =
     big_bytes 4 magic ++ big_bytes 2 h.major ++ big_bytes 2 h.minor ++ big_bytes 8 h.size ++ big_bytes 8 h.pools

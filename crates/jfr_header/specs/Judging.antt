@@ -6,11 +6,11 @@ use Rattle.jfr_header.specs.Nexts.{is_header}
 use Rattle.jfr_header.specs.declared.judge.Verdict.{Verdict}
 use Rattle.jfr_header.specs.declared.judge.Verdict.TheVariants.{End, Bad, Sized}
 
--- these bytes are left behind the first ones: none, where the first ones are fewer than 68
+-- These bytes are left behind the first ones: none, where the first ones are fewer than 68.
 abbrev pub Follows : List ℕ → List ℕ → Type 0
 Follows bytes left = length bytes < 68 → left ≡ []
 
--- what a verdict says of the first bytes of what is left, which begin at this start of the recording
+-- What a verdict says of the first bytes of what is left, which begin at this start of the recording.
 abbrev pub IsJudged : List ℕ → ℕ → Bool → Verdict → Type 0
 IsJudged bytes start given End = (given ≡ true) × (bytes ≡ [])
 IsJudged bytes start given (Bad f) =

@@ -3,39 +3,39 @@ use Rattle.std.specs.Prelude.{◌≡◌, ℕ, ◌≤◌, List, ◌++◌, length,
 use Rattle.jfr_outside.specs.World.{World, State, Told}
 use Rattle.jfr_header.specs.Fronts.{reach}
 
--- bytes in hand, and then those left of the open input
+-- Bytes in hand, and then those left of the open input.
 abbrev pub ahead : List ℕ → World → Option (List ℕ)
 ahead bytes w = option_map (λ left. bytes ++ left) w.input
 
--- bytes in hand became others by taking from the input alone
+-- Bytes in hand became others by taking from the input alone.
 pub record Moved (old new : List ℕ) (w v : World) : Type 0 where
   pub files : v.files ≡ w.files
   pub output : v.output ≡ w.output
   pub kept : ahead new v ≡ ahead old w
 
--- the bytes in hand grew to at most so many, or more were taken and lost
+-- The bytes in hand grew to at most so many, or more were taken and lost.
 abbrev pub MovedWithin : List ℕ → ℕ → World → World → Type 0
 MovedWithin old until w v = (new : List ℕ) × Moved old new w v × (length new ≤ until)
 
--- these bytes were taken from the open input, and nothing else changed
+-- These bytes were taken from the open input, and nothing else changed.
 pub record Took (bytes : List ℕ) (w v : World) : Type 0 where
   pub files : v.files ≡ w.files
   pub output : v.output ≡ w.output
   pub input : ahead bytes v ≡ w.input
 
--- bytes were taken from the input, and their number fits how many the header at the front and its chunk
--- have
+-- Bytes were taken from the input, and their number fits how many the header at the front and its chunk
+-- have.
 abbrev pub Takes : (ℕ → ℕ → Type 0) → World → World → Type 0
 Takes Fits w v = (bytes : List ℕ) × Took bytes w v × IfSome w.input (λ rest. Fits (length bytes) (reach rest))
 
--- a claim on what a place tells before and after
+-- A claim on what a place tells before and after.
 abbrev pub Tells : State → State → (World → World → Type 0) → Type 0
 Tells old new Claim = Told old.told new.told Claim
 
--- a claim on what is left of the open input, where the place tells it
+-- A claim on what is left of the open input, where the place tells it.
 abbrev pub IfLeft : State → (List ℕ → Type 0) → Type 0
 IfLeft place Claim = IfSome place.told (λ w. IfSome w.input Claim)
 
--- the files and the output stayed
+-- The files and the output stayed.
 abbrev pub IsKept : World → World → Type 0
 IsKept w v = (v.files ≡ w.files) × (v.output ≡ w.output)

@@ -17,7 +17,7 @@ use Rattle.jfr_laws.proofs.AllOutput.{output_records_settled}
 use Rattle.jfr_laws.proofs.OutputRecords.{bytes_from}
 use Rattle.jfr_laws.proofs.Whole.{left_of, written_of, body_of, is_ready, metadata_found, Leading, last_of, metadata_of, out}
 
--- a place leads to itself, or nowhere, where each record is written at its place
+-- A place leads to itself, or nowhere, where each record is written at its place.
 moved_itself : (ws : List Written) (x : ℕ) → AllByRecursion IsPlaced ws → (moved ws x ≡ x) ⊎ (moved ws x ≡ 0)
 moved_itself [] x a = inr refl
 moved_itself (w ∷ ws) x a = by_test ((record_of w.output_record).at == x) refl (moved_itself ws x a.1)
@@ -27,7 +27,7 @@ moved_itself (w ∷ ws) x a = by_test ((record_of w.output_record).at == x) refl
     by_test true q i = let e : (record_of w.output_record).at ≡ x = grind (arith, nat_tests) in inl (sym a.0 ∙ e)
     by_test false q i = i
 
--- to itself, where it leads behind the header
+-- To itself, where it leads behind the header.
 output_records_put : (ws : List Written) (x place : ℕ) → AllByRecursion IsPlaced ws → moved ws x ≡ place → 68 ≤ place → moved ws x ≡ x
 output_records_put ws x place a e h = by_case (moved_itself ws x a)
   where
@@ -48,14 +48,14 @@ module _ (p : Parts) (a : AreParts p) (kept : List EventAt) (are : AreEvents p k
   abbrev written_new : List Written
   written_new = written b q.entries 68 None output_records_new
 
-  -- what stays is written again as it stands
+  -- What stays is written again as it stands.
   bytes_again : Rewritten 68 None (body_of p kept marks) (last_of p kept marks) b q.entries output_records_new
   bytes_again =
       let r = is_ready p kept marks a in
       rewritten p.bytes (left_of p marks) p.classes b q.entries (output_records p kept) 0 68 None [] r.stand r.deltas s.held refl (λ n o. tt)
 
   module _ (reached : (number : ℕ) → number < length q.entries → Reached q (events_of q) number) where
-    -- all entries are left, and all records stay
+    -- All entries are left, and all records stay.
     left_again : left_of q (reached_marks q (events_of q)) ≡ q.entries
     unfolding remain
     left_again = all_remain q stand reached
@@ -63,7 +63,7 @@ module _ (p : Parts) (a : AreParts p) (kept : List EventAt) (are : AreEvents p k
     settled : output_records q (events_of q) ≡ output_records_new
     settled = output_records_settled p a kept are marks b s small
 
-    -- the metadata record is written where it stands
+    -- The metadata record is written where it stands.
     metadata_again : moved written_new (metadata_at b) ≡ metadata_at b
     metadata_again =
         let all : List Bool = reached_marks q (events_of q) in
@@ -72,7 +72,7 @@ module _ (p : Parts) (a : AreParts p) (kept : List EventAt) (are : AreEvents p k
         let e : written_of q (events_of q) all ≡ written_new = λ i. written b (left_again i) 68 None (settled i) in
         output_records_put written_new (metadata_at b) f.place bytes_again.placed (sym (ap (λ ws. moved ws (metadata_at b)) e) ∙ (ap (moved (written_of q (events_of q) all)) (sym stand.metadata_there.place) ∙ f.leads)) f.from
 
-    -- so what is written again is the same, header and all
+    -- So what is written again is the same, header and all.
     assembled_again : b ≡ out p kept marks → assembled q q.entries output_records_new ≡ b
     assembled_again o =
         let body : List ℕ = body_of p kept marks in

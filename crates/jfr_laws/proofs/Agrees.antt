@@ -10,7 +10,7 @@ all_from_get : {X : Type 0} (P : X → Type 0) (xs : List X) → ((i : ℕ) (x :
 all_from_get P [] f = tt
 all_from_get P (x ∷ xs) f = (f 0 x refl, all_from_get P xs (λ i y e. f (suc i) y e))
 
--- what is found stands in the list
+-- What is found stands in the list.
 found_get : {X : Type 0} (t : X → Bool) (xs : List X) (x : X) → find t xs ≡ Some x → (i : ℕ) × (slice_get xs i ≡ Some x)
 found_get t [] x e = cc
 found_get {X = X} t (y ∷ ys) x e = by_test (t y) e (found_get t ys x)
@@ -30,7 +30,7 @@ agree_within k s (suc n) id c e = (c, c, e, e, refl, refl, refl, all_from_get (�
     known f None q h g = cc
     known f (Some d) q h g = g d q
 
--- on each class of events
+-- On each class of events.
 pub agree_on_event : (k : Classes) (id : ℕ) → Sound k → is_event_class k id ≡ true → Agree k k id
 unfolding is_event_class
 agree_on_event k id s e = by_class (find_class k id) refl e

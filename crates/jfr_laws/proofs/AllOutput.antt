@@ -30,7 +30,7 @@ use Rattle.jfr_laws.proofs.Rebuilt.{links, new_parts, parts_stand}
 use Rattle.jfr_laws.proofs.Listed.{all_each, in_any, any_in, in_map, map_in, passes_in, in_passes}
 use Rattle.jfr_laws.proofs.Rewritten.{new_output_records}
 
--- numbered checkpoints that rise from a place do so from an earlier one
+-- Numbered checkpoints that rise from a place do so from an earlier one.
 rising_earlier : (p q : ℕ) (ts : List Numbered) → p ≤ q → order.Rising q ts → order.Rising p ts
 rising_earlier p q [] h r = tt
 rising_earlier p q (t ∷ ts) h r = let i : q ≤ t.1.frame.at = r.0 in (omega arith, r.1)
@@ -39,7 +39,7 @@ module _ (c : List ℕ) (left : List EntryAt) (b : List ℕ) where
   abbrev frames : ℕ → Option ℕ → List OutputRecord → List Framed
   frames at older ss = map (new_frame c left) (written c left at older ss)
 
-  -- the checkpoints that are written from a place on rise from there
+  -- The checkpoints that are written from a place on rise from there.
   links_rise : (ss : List OutputRecord) (j at : ℕ) (older : Option ℕ) (to : ℕ) → Tiles b at (frames at older ss) to → order.Rising at (enumerate_from j (new_links c left at older ss))
   links_rise [] j at older to t = tt
   links_rise (Whole r ∷ ss) j at older to t =
@@ -51,7 +51,7 @@ module _ (c : List ℕ) (left : List EntryAt) (b : List ℕ) where
       (omega arith, rising_earlier (at + 1) (at + n) (enumerate_from (j + 1) (new_links c left (at + n) (Some at) ss)) (omega arith) (links_rise ss (j + 1) (at + n) (Some at) to t.2))
 
   module _ (all : List Numbered) (whole : Framed → Bool) where
-    -- a test finds what was written of a record that stayed whole
+    -- A test finds what was written of a record that stayed whole.
     abbrev pub OutputRecordsWhole : Written → Type 0
     OutputRecordsWhole w = OnWhole (λ r. whole (new_frame c left w) ≡ true) w.output_record
 
@@ -78,7 +78,7 @@ module _ (c : List ℕ) (left : List EntryAt) (b : List ℕ) where
         ap (λ o. cons_option (output_record_by o (whole m.frame) m.frame) (output_records_in all whole (frames (at + n) (Some at) ss))) found
         ∙ ap (λ z. Chained j m ∷ z) (output_records_again ss (j + 1) (at + n) (Some at) (done ++ ((j, m) ∷ [])) to t.2 (e ∙ sym (append_assoc done ((j, m) ∷ []) todo)) low w.1)
 
-  -- what is written stays
+  -- What is written stays.
   in_written : (ss : List OutputRecord) (at : ℕ) (older : Option ℕ) (w : Written) → In (written c left at older ss) w → In ss w.output_record
   in_written [] at older w i = absurd i
   in_written (Whole r ∷ ss) at older w (inl e) = inl (ap (λ z. z.output_record) e)
@@ -86,13 +86,13 @@ module _ (c : List ℕ) (left : List EntryAt) (b : List ℕ) where
   in_written (Chained j l ∷ ss) at older w (inl e) = inl (ap (λ z. z.output_record) e)
   in_written (Chained j l ∷ ss) at older w (inr i) = inr (in_written ss (at + length (chained_bytes c left at older j l)) (Some at) w i)
 
-  -- the records of what is written are those of what stays
+  -- The records of what is written are those of what stays.
   written_records : (ss : List OutputRecord) (at : ℕ) (older : Option ℕ) → map (λ w. record_of w.output_record) (written c left at older ss) ≡ map record_of ss
   written_records [] at older = refl
   written_records (Whole r ∷ ss) at older = ap (λ z. r ∷ z) (written_records ss (at + length (record_bytes c r)) older)
   written_records (Chained j l ∷ ss) at older = ap (λ z. l.frame ∷ z) (written_records ss (at + length (chained_bytes c left at older j l)) (Some at))
 
--- a record stays whole by the test
+-- A record stays whole by the test.
 whole_output_records : (all : List Numbered) (whole : Framed → Bool) (rs : List Framed) (r : Framed) → In (output_records_in all whole rs) (Whole r) → In rs r × (whole r ≡ true)
 whole_output_records all whole rs r i =
     let x = in_filter_map (output_record_in all whole) rs (Whole r) i in
@@ -103,7 +103,7 @@ whole_output_records all whole rs r i =
     by_case x None true q i e = let h : x ≡ r = cc in (subst (In rs) h i, subst (λ z. whole z ≡ true) h q)
     by_case x None false q i e = cc
 
--- what stays of records that rise does
+-- What stays of records that rise does.
 output_records_rise : (all : List Numbered) (whole : Framed → Bool) (p : ℕ) (rs : List Framed) → Rising p rs → Rising p (map record_of (output_records_in all whole rs))
 output_records_rise all whole p [] a = tt
 output_records_rise all whole p (r ∷ rs) a = by_output_record (output_record_in all whole r) refl (output_records_rise all whole (r.at + 1) rs a.1)
@@ -115,7 +115,7 @@ output_records_rise all whole p (r ∷ rs) a = by_output_record (output_record_i
         let j : p ≤ r.at = a.0 in
         (omega arith, subst (λ z. Rising (z + 1) (map record_of (output_records_in all whole rs))) (sym e) i)
 
--- a record that rises from a place stands there, or behind it
+-- A record that rises from a place stands there, or behind it.
 rising_in : (p : ℕ) (rs : List Framed) (r : Framed) → Rising p rs → In rs r → p ≤ r.at
 rising_in p [] r a i = absurd i
 rising_in p (x ∷ rs) r a (inl e) = subst (λ (z : Framed). p ≤ z.at) e a.0
@@ -170,7 +170,7 @@ module _ (p : Parts) (a : AreParts p) (kept : List EventAt) (are : AreEvents p k
       subst (Rising 68) (sym (written_records p.bytes left b (output_records p kept) 68 None))
       (output_records_rise (all_links p) (output_records_whole p kept) 68 p.records (rising_of p.bytes 68 68 (length p.bytes) p.records (omega arith) a.records))
 
-  -- what was written of a record that stayed whole is an event, or the metadata record
+  -- What was written of a record that stayed whole is an event, or the metadata record.
   whole_again : (w : Written) → In ws w → OutputRecordsWhole p.bytes left b (all_links q) output_records_there w
   whole_again w i = by_output_record w.output_record refl
     where

@@ -20,7 +20,7 @@ abbrev pub Linked : List ℕ → List Framed → Option ℕ → List Link → Ty
 Linked c rs older [] = ⊤
 Linked c rs older (l ∷ ls) = IsLink c rs l × LeadsTo older l × Linked c rs (Some l.frame.at) ls
 
--- a distance to an earlier place, in two's complement
+-- A distance to an earlier place, in two's complement.
 lands_back : (at older w : ℕ) → older < at → at < 2 ^ 63 → w + at ≡ 2 ^ 64 + older → pos at +ℤ cast_signed w64 w ≡ pos older
 lands_back at older w h i e = let t : nat_lt w (2 ^ 63) ≡ false = grind arith in rw t (omega (arith, ints))
 

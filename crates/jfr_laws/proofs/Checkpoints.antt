@@ -30,7 +30,7 @@ use Rattle.jfr_laws.proofs.Standing.{EntryStands, GroupStands, LinkStands, Const
 use Rattle.jfr_laws.proofs.Groups.{groups_stand}
 use Rattle.jfr_laws.proofs.Room.{int_room, have_room}
 
--- a link whose body was read
+-- A link whose body was read.
 link_stands : (c : List ℕ) (k : Classes) (rs : List Framed) (l : Link) (pools : List PoolAt) → IsRecord c l.frame → IsLink c rs l → (s : BodyStands c k (record_end l.frame) l.frame.body pools) → LinkStands c l × (s.delta_end ≡ l.delta_end)
 link_stands c k rs l pools r i s =
     let h = i.head in
@@ -62,7 +62,7 @@ link_stands c k rs l pools r i s =
       f,
     )
 
--- the entries of pools that stand
+-- The entries of pools that stand.
 constants_entries : (c : List ℕ) (k : Classes) (checkpoint number class at : ℕ) (xs : List Constant) (to : ℕ) → pool_check k class ≡ None → Constants c k class at xs to → AllByRecursion (EntryStands c k) (map (entry_of checkpoint number class) xs)
 constants_entries c k checkpoint number class at [] to n s = tt
 constants_entries c k checkpoint number class at (x ∷ xs) to n s =
@@ -80,7 +80,7 @@ pub record CanWrite (c : List ℕ) (k : Classes) (l : Link) (gs : List Group) : 
   pub groups : AllByRecursion (GroupStands c k) gs
   pub room : l.delta_end + 1 + length (spell (length gs)) + length (flat_map (group_bytes c) gs) ≤ record_end l.frame
 
--- a checkpoint that was read, with those of its entries that are marked
+-- A checkpoint that was read, with those of its entries that are marked.
 one_can : (c : List ℕ) (k : Classes) (rs : List Framed) (marks : List Bool) (number : ℕ) (l : Link) (pools : List PoolAt) → IsRecord c l.frame → IsLink c rs l
     → Reads (checkpoint_format k) c (record_end l.frame) l.frame.body pools (record_end l.frame) → CanWrite c k l (by_pool (marked marks (entries_from number 0 pools)))
 one_can c k rs marks number l pools r h b =
@@ -108,7 +108,7 @@ NotOf n es = AllByRecursion (λ e. (e.checkpoint == n) ≡ false) es
 abbrev those_of : ℕ → List EntryAt → List EntryAt
 those_of n es = filter (λ e. e.checkpoint == n) es
 
--- no entry of others is one of the checkpoint, and each of its own is
+-- No entry of others is one of the checkpoint, and each of its own is.
 none_of : (n : ℕ) (es : List EntryAt) → NotOf n es → those_of n es ≡ []
 none_of n [] a = refl
 none_of n (e ∷ es) a = rw a.0 (none_of n es a.1)
@@ -117,7 +117,7 @@ all_of : (n : ℕ) (es : List EntryAt) → Of n es → those_of n es ≡ es
 all_of n [] a = refl
 all_of n (e ∷ es) a = rw (is_eq e.checkpoint n a.0) (ap (λ z. e ∷ z) (all_of n es a.1))
 
--- entries of one checkpoint are not of another
+-- Entries of one checkpoint are not of another.
 pub others : (n m : ℕ) (es : List EntryAt) → (n ≡ m → ⊥) → Of n es → NotOf m es
 others n m [] h a = tt
 others n m (e ∷ es) h a = (by_test (e.checkpoint == m) refl, others n m es h a.1)
@@ -126,7 +126,7 @@ others n m (e ∷ es) h a = (by_test (e.checkpoint == m) refl, others n m es h a
     by_test true q = absurd (h (sym a.0 ∙ exact_unsigned_eq e.checkpoint m q))
     by_test false q = refl
 
--- the pools of a checkpoint have its number
+-- The pools of a checkpoint have its number.
 pub of_number : (checkpoint number : ℕ) (pools : List PoolAt) → Of checkpoint (entries_from checkpoint number pools)
 of_number checkpoint number [] = tt
 of_number checkpoint number (p ∷ ps) =
@@ -136,7 +136,7 @@ of_number checkpoint number (p ∷ ps) =
     each [] = tt
     each (x ∷ xs) = (refl, each xs)
 
--- those of later checkpoints are not of an earlier one
+-- Those of later checkpoints are not of an earlier one.
 pub later_numbers : (c : List ℕ) (k : Classes) (before number : ℕ) (ls : List Link) (es : List EntryAt) → before < number → AreEntries c k number ls es → NotOf before es
 later_numbers c k before number [] es h a = subst (NotOf before) (sym a) tt
 later_numbers c k before number (l ∷ ls) es h a =
@@ -144,7 +144,7 @@ later_numbers c k before number (l ∷ ls) es h a =
     subst (NotOf before) (sym a.3)
     (all_append (λ e. (e.checkpoint == before) ≡ false) block a.2 (others number before block (λ q. omega arith) (of_number number 0 a.0)) (later_numbers c k before (number + 1) ls a.2 (omega arith) a.4))
 
--- the entries of one checkpoint, before and behind those of others
+-- The entries of one checkpoint, before and behind those of others.
 pub block_only : (n : ℕ) (before block later : List EntryAt) → NotOf n before → Of n block → NotOf n later → those_of n (before ++ (block ++ later)) ≡ block
 block_only n before block later a b d =
     let t : EntryAt → Bool = λ e. e.checkpoint == n in
@@ -152,7 +152,7 @@ block_only n before block later a b d =
     ∙ (ap (λ u. u ++ filter t (block ++ later)) (none_of n before a)
     ∙ (filter-append t block later ∙ (ap (λ u. filter t block ++ u) (none_of n later d) ∙ (append-nil (filter t block) ∙ all_of n block b))))
 
--- the marked entries of one checkpoint
+-- The marked entries of one checkpoint.
 block_marked : (n : ℕ) (marks : List Bool) (before block later : List EntryAt) → NotOf n before → Of n block → NotOf n later
     → those_of n (marked marks (before ++ (block ++ later))) ≡ marked (drop (length before) marks) block
 block_marked n marks before block later a b d =
@@ -170,7 +170,7 @@ record Behind (c : List ℕ) (k : Classes) (whole : List EntryAt) (number : ℕ)
   split : whole ≡ before ++ es
   earlier : (n : ℕ) → number ≤ n → NotOf n before
 
--- behind one more checkpoint
+-- Behind one more checkpoint.
 behind_next : (c : List ℕ) (k : Classes) (whole : List EntryAt) (number : ℕ) (l : Link) (ls : List Link) (before es : List EntryAt) → (h : Behind c k whole number (l ∷ ls) before es)
     → Behind c k whole (number + 1) ls (before ++ entries_from number 0 h.entries.0) h.entries.2
 behind_next c k whole number l ls before es h =
@@ -181,7 +181,7 @@ behind_next c k whole number l ls before es h =
       earlier = λ n i. all_append (λ e. (e.checkpoint == n) ≡ false) before block (h.earlier n (omega arith)) (others number n block (λ q. omega arith) (of_number number 0 h.entries.0));
     }
 
--- the marked entries of the next checkpoint
+-- The marked entries of the next checkpoint.
 behind_block : (c : List ℕ) (k : Classes) (whole : List EntryAt) (marks : List Bool) (number : ℕ) (l : Link) (ls : List Link) (before es : List EntryAt) → (h : Behind c k whole number (l ∷ ls) before es)
     → those_of number (marked marks whole) ≡ marked (drop (length before) marks) (entries_from number 0 h.entries.0)
 behind_block c k whole marks number l ls before es h =
@@ -237,7 +237,7 @@ have_number n (e ∷ es) = by_test (e.checkpoint == n) refl (have_number n es)
     by_test true h i = (exact_unsigned_eq e.checkpoint n h, i)
     by_test false h i = i
 
--- a small word is a delta that leads nowhere earlier
+-- A small word is a delta that leads nowhere earlier.
 small_word : (w : ℕ) → w < 72057594037927936 → cast_signed w64 w ≡ pos w
 small_word w h = let t : nat_lt w (2 ^ 63) ≡ true = grind arith in rw t refl
 

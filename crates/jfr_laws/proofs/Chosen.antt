@@ -13,15 +13,15 @@ use Rattle.jfr_chunk.specs.Parts.{EventAt, HasFields, event_by, event_of}
 use Rattle.jfr_chunk.specs.Reach.{marked}
 use Rattle.jfr_chunk.proofs.TestLaws.{is_eq}
 
--- the records of events
+-- The records of events.
 abbrev pub records_of : List EventAt → List Framed
 records_of es = map (λ e. e.record_of) es
 
--- one of the events starts where a record does
+-- One of the events starts where a record does.
 abbrev pub is_kept : List EventAt → Framed → Bool
 is_kept kept r = list_any (λ e. e.record_of.at == r.at) kept
 
--- no record starts before all
+-- No record starts before all.
 none_before : (flags : List Bool) (rs : List Framed) (p at : ℕ) → Rising p rs → at < p → list_any (λ e. e.at == at) (marked flags rs) ≡ false
 none_before [] rs p at r h = refl
 none_before (f ∷ flags) [] p at r h = refl
@@ -31,7 +31,7 @@ none_before (true ∷ flags) (x ∷ rs) p at r h =
     rw e (none_before flags rs (x.at + 1) at r.1 (omega arith))
 none_before (false ∷ flags) (x ∷ rs) p at r h = let i : p ≤ x.at = r.0 in none_before flags rs (x.at + 1) at r.1 (omega arith)
 
--- a place before all changes nothing
+-- A place before all changes nothing.
 skip_before : (at p : ℕ) (test : Framed → Bool) (rs : List Framed) → at < p → Rising p rs → filter (λ r. (at == r.at) || test r) rs ≡ filter test rs
 skip_before at p test [] h r = refl
 skip_before at p test (x ∷ rs) h r =
@@ -43,12 +43,12 @@ skip_before at p test (x ∷ rs) h r =
     by_test true i = ap (λ z. x ∷ z) i
     by_test false i = i
 
--- none passes the test that none does
+-- None passes the test that none does.
 none_pass : (rs : List Framed) → filter (λ (r : Framed). false) rs ≡ []
 none_pass [] = refl
 none_pass (r ∷ rs) = none_pass rs
 
--- of records that rise, those that start where a chosen one does are the chosen ones
+-- Of records that rise, those that start where a chosen one does are the chosen ones.
 chosen : (flags : List Bool) (p : ℕ) (rs : List Framed) → Rising p rs → filter (λ r. list_any (λ e. e.at == r.at) (marked flags rs)) rs ≡ marked flags rs
 chosen [] p rs r = none_pass rs
 chosen (f ∷ flags) p [] r = refl
@@ -57,7 +57,7 @@ chosen (true ∷ flags) p (x ∷ rs) r =
     rw e (ap (λ z. x ∷ z) (skip_before x.at (x.at + 1) (λ r. list_any (λ e. e.at == r.at) (marked flags rs)) rs (omega arith) r.1 ∙ chosen flags (x.at + 1) rs r.1))
 chosen (false ∷ flags) p (x ∷ rs) r = rw (none_before flags rs (x.at + 1) x.at r.1 (omega arith)) (chosen flags (x.at + 1) rs r.1)
 
--- records that rise still do from an earlier place on, and where some are left out
+-- Records that rise still do from an earlier place on, and where some are left out.
 pub rising_more : (p q : ℕ) (rs : List Framed) → p ≤ q → Rising q rs → Rising p rs
 rising_more p q [] h r = tt
 rising_more p q (x ∷ rs) h r = let i : q ≤ x.at = r.0 in (omega arith, r.1)
@@ -70,7 +70,7 @@ rising_filter test p (x ∷ rs) r = by_test (test x) (rising_filter test (x.at +
     by_test true i = (r.0, i)
     by_test false i = let j : p ≤ x.at = r.0 in rising_more p (x.at + 1) (filter test rs) (omega arith) i
 
--- what a function makes of those chosen, and a test of what it makes
+-- What a function makes of those chosen, and a test of what it makes.
 marked_map : {X Y : Type 0} (f : X → Y) (flags : List Bool) (xs : List X) → map f (marked flags xs) ≡ marked flags (map f xs)
 marked_map f [] xs = refl
 marked_map f (m ∷ flags) [] = refl

@@ -18,11 +18,11 @@ use Rattle.jfr_chunk.specs.Parts.{HasFields}
 use Rattle.jfr_laws.proofs.Free.{Same, free_alike}
 use Rattle.jfr_laws.proofs.ReadBack.{moved_frame}
 
--- a record is as long as its size says
+-- A record is as long as its size says.
 pub record_length : (c : List ℕ) (r : Framed) → IsRecord c r → length (record_bytes c r) ≡ r.size
 record_length c r s = range_length c r.at (record_end r) s.within ∙ omega arith
 
--- where a record stands whose bytes stand at a place
+-- Where a record stands whose bytes stand at a place.
 abbrev pub copied_to : List ℕ → ℕ → Framed → Framed
 copied_to c at r = moved_frame at r (length (record_bytes c r))
 
@@ -43,7 +43,7 @@ record_copied c b r at s h =
     let j = holds_range_int c b r.type_at r.body r.type_id (length b) (at + (r.type_at - r.at)) (at + (r.body - r.at)) s.type_spelled q.0 (omega arith) in
     record { size_spelled = subst (λ n. IntAt b at (at + (r.type_at - r.at)) n) (sym l) i.0; type_spelled = j.0; covers = omega arith; within = h.within }
 
--- what is read of its body, up to a place
+-- What is read of its body, up to a place.
 pub record BodyCopied {A B : Type 0} (R : A → B → Type 0) (g : Format B) (c b : List ℕ) (r : Framed) (at : ℕ) (v : A) (to : ℕ) : Type 0 where
   pub value : B
   pub related : R v value
@@ -74,7 +74,7 @@ body_copied R f g a c b r at v to s h read =
     let t : at + before + n ≡ at + (to - r.at) = omega arith in
     record { value = i.0; related = i.1; reads = subst (Reads g b (at + length (record_bytes c r)) (at + before) i.0) t i.2; order = o; within = w }
 
--- the fields of an event that is copied stand
+-- The fields of an event that is copied stand.
 pub fields_copied : (c b : List ℕ) (k : Classes) (r : Framed) (at : ℕ) → IsRecord c r → Holds b (length b) at (record_bytes c r) → HasFields c k r → HasFields b k (copied_to c at r)
 fields_copied c b k r at s h f =
     let format = value_format k (inline r.type_id) in

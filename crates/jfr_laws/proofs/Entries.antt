@@ -37,7 +37,7 @@ each_append R (x ∷ xs) [] us vs a b = absurd a
 each_append R (x ∷ xs) (y ∷ ys) us vs a b = (a.0, each_append R xs ys us vs a.1 b)
 
 module _ (c : List ℕ) (k : Classes) (b : List ℕ) (end : ℕ) (checkpoint : ℕ) where
-  -- an entry that is read back, and those of a pool
+  -- An entry that is read back, and those of a pool.
   entry_same : (e : EntryAt) (pool class at : ℕ) → EntryStands c k e → e.class ≡ class → e.checkpoint ≡ checkpoint → Holds b end at (entry_bytes c e) → IsCopy c b e (entry_of checkpoint pool class (placed c k at e))
   entry_same e pool class at s w n h = record { class = w; key = refl; checkpoint = n; value = (entry_held c k b end at e s h).value }
 
@@ -120,7 +120,7 @@ marked_force marks es target n e m =
         by_order r h (inl o) = i.last r.place other o h a b
         by_order r h (inr o) = let j : rank marks r.place ≤ rank marks n = rank_order marks r.place n o in let u : rank marks r.place ≡ later = r.number_is in omega arith
 
--- nothing is in force among those that are marked where nothing is
+-- Nothing is in force among those that are marked where nothing is.
 marked_none : (n m : ℕ) (marks : List Bool) (es : List EntryAt) (target : ℕ × ℕ) → last_from n es target ≡ None → last_from m (marked marks es) target ≡ None
 marked_none n m [] es target e = refl
 marked_none n m (b ∷ ms) [] target e = refl
@@ -137,7 +137,8 @@ none_force : (marks : List Bool) (es : List EntryAt) (target : ℕ × ℕ) → n
 unfolding number_in_force
 none_force marks es target e = marked_none 0 0 marks es target e
 
--- Where what is in force for a class and a key is marked, if anything is, both chunks have the same entry in force.
+-- Where what is in force for a class and a key is marked, if anything is, both chunks have the same entry
+-- in force.
 pub in_force_same : (p q : Parts) (marks : List Bool) (target : ℕ × ℕ) → AreCopied p q (marked marks p.entries) q.entries → ((n : ℕ) → number_in_force p.entries target ≡ Some n → IsMarked marks n) → SameEntry p q target
 in_force_same p q marks target a h = by_number (number_in_force p.entries target) refl
   where

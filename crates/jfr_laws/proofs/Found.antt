@@ -16,7 +16,7 @@ use Rattle.jfr_laws.proofs.Order.{Numbered, numbered_at, output_record_in, outpu
 use Rattle.jfr_laws.proofs.Copied.{copied_to}
 use Rattle.jfr_laws.proofs.OutputRecords.{Deltas, chained_bytes, bytes_from, new_frame, OutputRecordStands}
 
--- what stays of a record stood at its place
+-- What stays of a record stood at its place.
 pub output_record_place : (all : List Numbered) (whole : Framed → Bool) (r : Framed) (s : OutputRecord) → output_record_in all whole r ≡ Some s → (record_of s).at ≡ r.at
 output_record_place all whole r s e = by_case (numbered_at all r.at) refl (whole r) e
   where
@@ -30,7 +30,7 @@ output_record_place all whole r s e = by_case (numbered_at all r.at) refl (whole
     by_case None g false e = cc
 
 module _ (c : List ℕ) (left : List EntryAt) (k : Classes) (b : List ℕ) where
-  -- the record stands at a place of the output, to which its old place leads
+  -- The record stands at a place of the output, to which its old place leads.
   pub record Found (f : Framed) (at : ℕ) (ws : List Written) : Type 0 where
     pub place : ℕ
     pub from : at ≤ place
@@ -42,14 +42,14 @@ module _ (c : List ℕ) (left : List EntryAt) (k : Classes) (b : List ℕ) where
     abbrev Left : List Framed → List OutputRecord
     Left rs = output_records_in all whole rs
 
-    -- it is the first that is written
+    -- It is the first that is written.
     found_here : (rest : List OutputRecord) (at : ℕ) (older : Option ℕ) → Holds b (length b) at (bytes_from c left at older (Whole f ∷ rest)) → Found f at (written c left at older (Whole f ∷ rest))
     found_here rest at older h =
         let n : ℕ = length (record_bytes c f) in
         let p = holds_parts b (length b) at (record_bytes c f) (bytes_from c left (at + n) older rest) h in
         record { place = at; from = omega arith; held = p.0; leads = rw (is_eq f.at f.at refl) refl; listed = inl refl }
 
-    -- it is written behind another
+    -- It is written behind another.
     found_later : (x : OutputRecord) (ws : List Written) (at n : ℕ) (older : Option ℕ) → ((record_of x).at == f.at) ≡ false → Found f (at + n) ws → Found f at (record { output_record = x; at = at; older = older } ∷ ws)
     found_later x ws at n older t i =
         let z : at + n ≤ i.place = i.from in

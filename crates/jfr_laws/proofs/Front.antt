@@ -6,7 +6,7 @@ use Rattle.jfr_header.specs.declared.header.Header.{Header}
 use Rattle.jfr_header.specs.Headers.{header_of, header_bytes, magic}
 use Rattle.jfr_chunk.specs.Scrub.{header_with}
 
--- numbers of equal bytes
+-- Numbers of equal bytes.
 two_bytes : (x y : ℕ) → byte_at 1 x ≡ byte_at 1 y → byte_at 0 x ≡ byte_at 0 y → bytes_high_first 2 x ≡ bytes_high_first 2 y
 two_bytes x y e1 e0 = λ i. e1 i ∷ (e0 i ∷ [])
 
@@ -14,7 +14,7 @@ eight_bytes : (x y : ℕ) → byte_at 7 x ≡ byte_at 7 y → byte_at 6 x ≡ by
     → byte_at 3 x ≡ byte_at 3 y → byte_at 2 x ≡ byte_at 2 y → byte_at 1 x ≡ byte_at 1 y → byte_at 0 x ≡ byte_at 0 y → bytes_high_first 8 x ≡ bytes_high_first 8 y
 eight_bytes x y e7 e6 e5 e4 e3 e2 e1 e0 = λ i. e7 i ∷ (e6 i ∷ (e5 i ∷ (e4 i ∷ (e3 i ∷ (e2 i ∷ (e1 i ∷ (e0 i ∷ [])))))))
 
--- each number of the header that was read
+-- Each number of the header that was read.
 module _ (h : Header) where
   abbrev read : Header
   read = header_of (header_bytes h)
@@ -40,7 +40,7 @@ module _ (h : Header) where
   flags_again : bytes_high_first 2 read.flags ≡ bytes_high_first 2 h.flags
   flags_again = two_bytes read.flags h.flags (omega arith) (omega arith)
 
-  -- the bytes of a header, by those of its numbers other than its size and its positions
+  -- The bytes of a header, by those of its numbers other than its size and its positions.
   abbrev spelled : List ℕ → List ℕ → List ℕ → List ℕ → List ℕ → List ℕ → List ℕ → List ℕ
   spelled major minor start duration ticks rate flags =
       bytes_high_first 4 magic ++ major ++ minor ++ bytes_high_first 8 h.size ++ bytes_high_first 8 h.pools ++ bytes_high_first 8 h.metadata

@@ -9,7 +9,7 @@ use Rattle.jfr_chunk.specs.Written.{Group, add_entry, by_pool}
 use Rattle.jfr_chunk.proofs.TestLaws.{left_true, right_true, is_eq}
 use Rattle.jfr_laws.proofs.Standing.{EntryStands, GroupStands}
 
--- the entry joins the group
+-- The entry joins the group.
 abbrev joins : EntryAt → Group → Bool
 joins e g = (e.pool == g.pool) && (e.class == g.class)
 
@@ -19,7 +19,7 @@ alone e = record { class = e.class; pool = e.pool; entries = e ∷ [] }
 abbrev joined : EntryAt → Group → Group
 joined e g = record { class = g.class; pool = g.pool; entries = e ∷ g.entries }
 
--- each group has one class, and its entries stand where all do
+-- Each group has one class, and its entries stand where all do.
 pub groups_stand : (c : List ℕ) (k : Classes) (es : List EntryAt) → AllByRecursion (EntryStands c k) es → AllByRecursion (GroupStands c k) (by_pool es)
 groups_stand c k [] a = tt
 groups_stand c k (e ∷ es) a = added (by_pool es) (groups_stand c k es a.1)
@@ -32,7 +32,7 @@ groups_stand c k (e ∷ es) a = added (by_pool es) (groups_stand c k es a.1)
     added [] i = ((a.0.known, ((a.0, refl), tt)), tt)
     added (g ∷ gs) i = by_test g gs (joins e g) refl i.0 i.1
 
--- the groups hold the entries, in order
+-- The groups hold the entries, in order.
 pub groups_hold : (es : List EntryAt) → flat_map (λ g. g.entries) (by_pool es) ≡ es
 groups_hold [] = refl
 groups_hold (e ∷ es) = added (by_pool es) ∙ ap (λ z. e ∷ z) (groups_hold es)
@@ -70,7 +70,7 @@ abbrev pub in_front : ℕ → ℕ → List EntryAt → List Group → List Group
 in_front number class [] gs = gs
 in_front number class (f ∷ fs) gs = record { class = class; pool = number; entries = f ∷ fs } ∷ gs
 
--- the entries of a pool before those of later ones are a group
+-- The entries of a pool before those of later ones are a group.
 pub by_front : (number class : ℕ) (fs rest : List EntryAt) → AllByRecursion (λ e. (e.pool ≡ number) × (e.class ≡ class)) fs → Apart number (by_pool rest) → by_pool (fs ++ rest) ≡ in_front number class fs (by_pool rest)
 by_front number class [] rest a o = refl
 by_front number class (e ∷ []) rest a o = first (by_pool rest) o

@@ -11,14 +11,14 @@ use Rattle.jfr_header.proofs.Layouts.{header_of-bytes}
 use Rattle.jfr_chunk.specs.Parts.{pools_at, metadata_at}
 use Rattle.jfr_chunk.specs.Scrub.{header_with}
 
--- the fields that a header without a flaw has
+-- The fields that a header without a flaw has.
 record Fine (h : Header) : Type 0 where
   major : h.major ≡ 2
   state : h.state ≡ 0
   compact : (h.flags % 2 == 0) ≡ false
   small : h.size < 2 ^ 28
 
--- a cause that isn't there, and those after it
+-- A cause that isn't there, and those after it.
 no_cause : (t : Bool) (flaw : Flaw) (rest : Option Flaw) → (if t then Some flaw else rest) ≡ None → (t ≡ false) × (rest ≡ None)
 no_cause true flaw rest e = cc
 no_cause false flaw rest e = (refl, e)
@@ -49,16 +49,16 @@ flawless_of h f i =
     let e : nat_le (2 ^ 28) h.size ≡ false = let m : h.size < 2 ^ 28 = f.small in grind (arith, nat_tests) in
     rw (a, b, f.compact, d, e) refl
 
--- the header of a whole chunk has no flaw
+-- The header of a whole chunk has no flaw.
 header_fine : (c : List ℕ) → Whole c → Fine (header_of (take 68 c))
 unfolding header_flaw
 header_fine c w = fine_of (header_of (take 68 c)) (no_cause (not (number_at 0 4 (take 68 c) == magic)) (flaw_at 0 Magic) (field_flaw (header_of (take 68 c))) w.flawless).1
 
--- a whole chunk has fewer than 2^28 bytes
+-- A whole chunk has fewer than 2^28 bytes.
 pub whole_small : (c : List ℕ) → Whole c → length c < 2 ^ 28
 whole_small c w = let f = header_fine c w in let i : size_of (take 68 c) < 2 ^ 28 = f.small in let e : size_of (take 68 c) ≡ length c = w.size in omega arith
 
--- it has 68 bytes, which stand in front
+-- It has 68 bytes, which stand in front.
 header_long : (h : Header) → length (header_bytes h) ≡ 68
 header_long h = refl
 
@@ -123,7 +123,7 @@ module _ (c body : List ℕ) (size pools metadata : ℕ) where
   abbrev made : List ℕ
   made = header_with c size pools metadata ++ body
 
-  -- it leads to the last checkpoint, and to the metadata record
+  -- It leads to the last checkpoint, and to the metadata record.
   pub made_pools : pools < 2 ^ 64 → pools_at made ≡ pools
   made_pools i = ap (λ z. (header_of z).pools) (front_bytes written body) ∙ pools_back written i
 

@@ -17,7 +17,7 @@ use Rattle.jfr_laws.proofs.Passing.{clash, IfPasses, passes_all, filter_both}
 use Rattle.jfr_laws.proofs.Premises.{OnWhole}
 use Rattle.jfr_laws.proofs.Quiet.{Quiet, no_checkpoint_event}
 
--- a record of an event class, and one of that class with the same bytes
+-- A record of an event class, and one of that class with the same bytes.
 pub record CopiedRecord (c b : List ℕ) (k : Classes) (r s : Framed) : Type 0 where
   pub event : is_event_class k r.type_id ≡ true
   pub class : r.type_id ≡ s.type_id
@@ -27,7 +27,7 @@ module _ (c : List ℕ) (left : List EntryAt) (k : Classes) (b : List ℕ) where
   abbrev is_event : Framed → Bool
   is_event r = is_event_class k r.type_id
 
-  -- the fields of its events stand
+  -- The fields of its events stand.
   fields_each : (ss : List OutputRecord) (at : ℕ) (older : Option ℕ) → AllByRecursion (OutputRecordStands c left k) ss → AllByRecursion (OnWhole (IfPasses is_event (HasFields c k))) ss → Holds b (length b) at (bytes_from c left at older ss)
       → AllByRecursion (IfPasses is_event (HasFields b k)) (map (new_frame c left) (written c left at older ss))
   fields_each [] at older s v h = tt
@@ -45,7 +45,7 @@ module _ (c : List ℕ) (left : List EntryAt) (k : Classes) (b : List ℕ) where
   fields_back ss at older s v h = passes_all (HasFields b k) is_event (map (new_frame c left) (written c left at older ss)) (fields_each ss at older s v h)
 
   module _ (all : List Numbered) (is_kept : Framed → Bool) (metadata : ℕ) where
-    -- kept, or the metadata record
+    -- Kept, or the metadata record.
     abbrev is_whole : Framed → Bool
     is_whole r = is_kept r || (r.at == metadata)
 
@@ -90,7 +90,7 @@ module _ (c : List ℕ) (left : List EntryAt) (k : Classes) (b : List ℕ) where
             rw i (later (at + n) older p.1)
         by_find None g false i false false j later h = later at older h
 
-    -- its event records are the kept ones, in order
+    -- Its event records are the kept ones, in order.
     pub events_back : (rs : List Framed) (at : ℕ) (older : Option ℕ) → AllByRecursion (Quiet k all metadata) rs → Holds b (length b) at (bytes_from c left at older (output_records_in all is_whole rs))
         → Each (CopiedRecord c b k) (filter is_kept (event_records k rs)) (event_records k (map (new_frame c left) (written c left at older (output_records_in all is_whole rs))))
     events_back rs at older a h = subst (λ z. Each (CopiedRecord c b k) z (event_records k (map (new_frame c left) (written c left at older (output_records_in all is_whole rs))))) (filter_both is_event is_kept rs) (events_copied rs at older a h)

@@ -14,18 +14,18 @@ use Rattle.jfr_laws.proofs.Order.{Numbered, numbered_at, output_records_in, chai
 use Rattle.jfr_laws.proofs.Copied.{record_length}
 use Rattle.jfr_laws.proofs.OutputRecords.{Deltas, chained_bytes, bytes_from, new_link, new_links, OutputRecordStands, chained_small, whole_length, chained_length}
 
--- the sizes of the records that stay, in all
+-- The sizes of the records that stay, in all.
 abbrev pub sizes : List OutputRecord → ℕ
 sizes [] = 0
 sizes (s ∷ ss) = (record_of s).size + sizes ss
 
--- the place of the last link, or of the older one where there is none
+-- The place of the last link, or of the older one where there is none.
 abbrev pub last_from : Option ℕ → List Link → ℕ
 last_from None [] = 0
 last_from (Some at) [] = at
 last_from older (l ∷ ls) = last_place l ls
 
--- the older place, where there is one, isn't behind a place
+-- The older place, where there is one, isn't behind a place.
 abbrev AtMost : Option ℕ → ℕ → Type 0
 AtMost None at = ⊤
 AtMost (Some older) at = older ≤ at
@@ -52,7 +52,7 @@ module _ (c : List ℕ) (left : List EntryAt) where
       let j = length_back k ss (at + n) (Some at) s.1 d.1 in
       omega (arith, chained_length c left i l ss at older)
 
-  -- the last checkpoint starts where the last link does
+  -- The last checkpoint starts where the last link does.
   pub last_back : (ss : List OutputRecord) (at : ℕ) (older : Option ℕ) → last_at older (written c left at older ss) ≡ last_from older (new_links c left at older ss)
   last_back [] at None = refl
   last_back [] at (Some o) = refl
@@ -65,7 +65,7 @@ module _ (c : List ℕ) (left : List EntryAt) where
       let n : ℕ = length (chained_bytes c left at (Some o) i l) in
       last_back ss (at + n) (Some at) ∙ last_joined (new_link c left at (Some o) i l) (new_links c left (at + n) (Some at) ss)
 
-  -- it starts in what is written
+  -- It starts in what is written.
   pub last_bound : (ss : List OutputRecord) (at : ℕ) (older : Option ℕ) → AtMost older at → last_at older (written c left at older ss) ≤ at + length (bytes_from c left at older ss)
   last_bound [] at None o = omega arith
   last_bound [] at (Some z) o = let i : z ≤ at = o in omega arith
@@ -82,7 +82,7 @@ module _ (c : List ℕ) (left : List EntryAt) where
       let i = last_bound ss (at + n) (Some at) (omega arith) in
       omega (arith, chained_length c left j l ss at older)
 
-  -- where no link is written, no checkpoint stays
+  -- Where no link is written, no checkpoint stays.
   pub no_links : (ss : List OutputRecord) (at : ℕ) (older : Option ℕ) → new_links c left at older ss ≡ [] → chained_of ss ≡ []
   no_links [] at older e = refl
   no_links (Whole r ∷ ss) at older e = no_links ss (at + length (record_bytes c r)) older e

@@ -1,4 +1,5 @@
--- A metadata record is read where its bytes are copied to: the same, but for the places in its tree, on which no class depends.
+-- A metadata record is read where its bytes are copied to: the same, but for the places in its tree, on
+-- which no class depends.
 use Rattle.std.specs.Prelude.{◌≡◌, ℕ, zero, suc, ◌+◌, ◌-◌, false, List, [], ◌∷◌, length, Ok}
 use Rattle.std.proofs.Common.{ap, arith, refl, sym, ◌∙◌, subst}
 use Rattle.jfr_base.specs.Formats.{Format, Done, Stop, ◌>>=◌, times, integer, Reads}
@@ -19,11 +20,11 @@ use Rattle.jfr_meta.proofs.Bare.{described_bare}
 use Rattle.jfr_laws.proofs.Free.{Same, each_same, free_alike}
 use Rattle.jfr_laws.proofs.Copied.{record_length, copied_to, body_copied}
 
--- two trees that are the same but for their places
+-- Two trees that are the same but for their places.
 abbrev SameTree : Tree → Tree → Type 0
 SameTree t u = bare t ≡ bare u
 
--- two bodies that are
+-- Two bodies that are.
 record SameBody (b d : Body) : Type 0 where
   start : b.start ≡ d.start
   duration : b.duration ≡ d.duration
@@ -87,7 +88,7 @@ body_alike = λ start s. (
     rest : ℕ → ℕ → ℕ → ℕ → List (List ℕ) → Format Body
     rest start duration id n strings = element_format 16 n >>= λ root. Done (record { start = start; duration = duration; id = id; strings = strings; root = root })
 
--- such bodies describe the same classes
+-- Such bodies describe the same classes.
 described_same : (b d : Body) (k : Classes) → SameBody b d → described b ≡ Ok k → described d ≡ Ok k
 described_same b d k s e =
     described_bare d.start d.duration d.id d.strings b.root d.root k s.root

@@ -10,33 +10,33 @@ use Rattle.jfr_frame.proofs.RecordLaws.{some_bytes}
 use Rattle.jfr_pool.specs.declared.link.Link.{Link}
 use Rattle.jfr_chunk.specs.Scrub.{OutputRecord, Whole, Chained, output_record_by}
 
--- a chained checkpoint with its number
+-- A chained checkpoint with its number.
 abbrev pub Numbered : Type 0
 Numbered = ℕ × Link
 
--- the one that starts at a place
+-- The one that starts at a place.
 abbrev pub numbered_at : List Numbered → ℕ → Option Numbered
 numbered_at all at = find (λ l. l.1.frame.at == at) all
 
--- what stays of a record, where a test chooses those that stay whole
+-- What stays of a record, where a test chooses those that stay whole.
 abbrev pub output_record_in : List Numbered → (Framed → Bool) → Framed → Option OutputRecord
 output_record_in all whole r = output_record_by (numbered_at all r.at) (whole r) r
 
 abbrev pub output_records_in : List Numbered → (Framed → Bool) → List Framed → List OutputRecord
 output_records_in all whole rs = filter_map (output_record_in all whole) rs
 
--- the checkpoints among what stays
+-- The checkpoints among what stays.
 abbrev pub chained_of : List OutputRecord → List Numbered
 chained_of [] = []
 chained_of (Whole r ∷ ss) = chained_of ss
 chained_of (Chained i l ∷ ss) = (i, l) ∷ chained_of ss
 
--- one behind another, from a place on
+-- One behind another, from a place on.
 abbrev pub Rising : ℕ → List Numbered → Type 0
 Rising at [] = ⊤
 Rising at (t ∷ ts) = (at ≤ t.1.frame.at) × Rising (t.1.frame.at + 1) ts
 
--- a record starts at the place
+-- A record starts at the place.
 abbrev pub Occurs : ℕ → List Framed → Type 0
 Occurs at [] = ⊥
 Occurs at (r ∷ rs) = (r.at ≡ at) ⊎ Occurs at rs
@@ -44,7 +44,7 @@ Occurs at (r ∷ rs) = (r.at ≡ at) ⊎ Occurs at rs
 abbrev pub AllOccur : List Framed → List Numbered → Type 0
 AllOccur rs ts = AllByRecursion (λ t. Occurs t.1.frame.at rs) ts
 
--- all before a place
+-- All before a place.
 abbrev pub Low : ℕ → List Numbered → Type 0
 Low at ts = AllByRecursion (λ t. t.1.frame.at < at) ts
 
@@ -56,7 +56,7 @@ pub low_append : (at : ℕ) (ds : List Numbered) (t : Numbered) → Low at ds �
 low_append at [] t a h = (h, tt)
 low_append at (d ∷ ds) t a h = (a.0, low_append at ds t a.1 h)
 
--- none is found at a place before all
+-- None is found at a place before all.
 pub none_rising : (at p : ℕ) (ts : List Numbered) → at < p → Rising p ts → numbered_at ts at ≡ None
 none_rising at p [] h a = refl
 none_rising at p (t ∷ ts) h a =
@@ -64,7 +64,7 @@ none_rising at p (t ∷ ts) h a =
     let e : (t.1.frame.at == at) ≡ false = grind (arith, nat_tests) in
     rw e (none_rising at (t.1.frame.at + 1) ts (omega arith) a.1)
 
--- those before a place are passed over
+-- Those before a place are passed over.
 pub behind_low : (at p : ℕ) (ds ts : List Numbered) → p ≤ at → Low p ds → numbered_at (ds ++ ts) at ≡ numbered_at ts at
 behind_low at p [] ts h a = refl
 behind_low at p (d ∷ ds) ts h a =
@@ -72,7 +72,7 @@ behind_low at p (d ∷ ds) ts h a =
     let e : (d.1.frame.at == at) ≡ false = grind (arith, nat_tests) in
     rw e (behind_low at p ds ts h a.1)
 
--- those behind a record occur behind it
+-- Those behind a record occur behind it.
 occur_behind : (r : Framed) (rs : List Framed) (p : ℕ) (ts : List Numbered) → r.at < p → Rising p ts → AllOccur (r ∷ rs) ts → AllOccur rs ts
 occur_behind r rs p [] h a o = tt
 occur_behind r rs p (t ∷ ts) h a o = (one o.0, occur_behind r rs (t.1.frame.at + 1) ts (omega (arith, a.0)) a.1 o.1)
@@ -81,7 +81,7 @@ occur_behind r rs p (t ∷ ts) h a o = (one o.0, occur_behind r rs (t.1.frame.at
     one (inl e) = let i : p ≤ t.1.frame.at = a.0 in absurd (omega arith)
     one (inr o) = o
 
--- a record starts where the records begin, or behind that
+-- A record starts where the records begin, or behind that.
 pub occurs_low : (c : List ℕ) (p q : ℕ) (rs : List Framed) (at : ℕ) → Tiles c p rs q → Occurs at rs → p ≤ at
 occurs_low c p q [] at t o = absurd o
 occurs_low c p q (r ∷ rs) at t (inl e) = let f : r.at ≡ p = t.0 in omega arith
@@ -98,7 +98,7 @@ module _ (c : List ℕ) (all : List Numbered) (whole : Framed → Bool) where
   output_record_some : (r : Framed) (rs : List Framed) (x : Numbered) → numbered_at all r.at ≡ Some x → chained_of (output_records_in all whole (r ∷ rs)) ≡ x ∷ chained_of (output_records_in all whole rs)
   output_record_some r rs x e = ap (λ o. chained_of (cons_option (output_record_by o (whole r) r) (output_records_in all whole rs))) e
 
-  -- those done stand before the records that are left, and those to do among them
+  -- Those done stand before the records that are left, and those to do among them.
   pub in_order : (rs : List Framed) (p q : ℕ) (done todo : List Numbered) → Tiles c p rs q → all ≡ done ++ todo → Low p done → Rising p todo → AllOccur rs todo → chained_of (output_records_in all whole rs) ≡ todo
   in_order [] p q done [] t e a b o = refl
   in_order [] p q done (x ∷ todo) t e a b o = absurd o.0

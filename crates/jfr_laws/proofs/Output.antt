@@ -23,7 +23,7 @@ use Rattle.jfr_laws.proofs.Order.{Numbered, chained_of}
 use Rattle.jfr_laws.proofs.Copied.{copied_to, record_copied}
 use Rattle.jfr_laws.proofs.OutputRecords.{Deltas, chained_bytes, bytes_from, new_frame, new_link, new_links, new_place, new_pools, new_entries, OutputRecordStands, chained_stands, whole_length, chained_length}
 
--- the older checkpoint stands before a place
+-- The older checkpoint stands before a place.
 abbrev pub Before : Option ℕ → ℕ → Type 0
 Before None at = ⊤
 Before (Some older) at = older < at
@@ -41,7 +41,7 @@ first_equal i j l m xs ys e = (ap (λ (z : Numbered). z.0) (heads (i, l) (j, m) 
     heads : (x y : Numbered) (xs ys : List Numbered) → x ∷ xs ≡ y ∷ ys → x ≡ y
     heads x y xs ys e = cc
 
--- the entries of numbered checkpoints, one checkpoint after another
+-- The entries of numbered checkpoints, one checkpoint after another.
 abbrev pub entries_by_number : List EntryAt → List Numbered → List EntryAt
 entries_by_number left ts = flat_map (λ (m : Numbered). filter (λ e. e.checkpoint == m.0) left) ts
 

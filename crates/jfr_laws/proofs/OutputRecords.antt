@@ -17,26 +17,26 @@ use Rattle.jfr_chunk.specs.Scrub.{OutputRecord, Whole, Chained, Written, groups_
 use Rattle.jfr_laws.proofs.Standing.{GroupStands, LinkStands}
 use Rattle.jfr_laws.proofs.ReadBack.{CheckpointStands, checkpoint_stands, placed_group, moved_frame, moved_link, pools_place, tail_small, checkpoint_small}
 
--- after the first checkpoint, each took nine bytes for its delta
+-- After the first checkpoint, each took nine bytes for its delta.
 abbrev pub Deltas : Bool → List OutputRecord → Type 0
 Deltas seen [] = ⊤
 Deltas seen (Whole r ∷ ss) = Deltas seen ss
 Deltas seen (Chained i l ∷ ss) = (seen ≡ true → l.delta_end ≡ l.delta_at + 9) × Deltas true ss
 
 module _ (c : List ℕ) (left : List EntryAt) where
-  -- what is written of a checkpoint
+  -- What is written of a checkpoint.
   abbrev pub chained_bytes : ℕ → Option ℕ → ℕ → Link → List ℕ
   chained_bytes at older i l = checkpoint_bytes c l (distance at older) (groups_of left i)
 
-  -- the bytes of all that is written
+  -- The bytes of all that is written.
   abbrev pub bytes_from : ℕ → Option ℕ → List OutputRecord → List ℕ
   bytes_from at older ss = flat_map (written_bytes c left) (written c left at older ss)
 
-  -- its records
+  -- Its records.
   abbrev pub new_frame : Written → Framed
   new_frame w = moved_frame w.at (record_of w.output_record) (length (written_bytes c left w))
 
-  -- its links, oldest first
+  -- Its links, oldest first.
   abbrev pub new_link : ℕ → Option ℕ → ℕ → Link → Link
   new_link at older i l = moved_link at l (distance at older) (length (chained_bytes at older i l))
 
@@ -45,12 +45,12 @@ module _ (c : List ℕ) (left : List EntryAt) where
   new_links at older (Whole r ∷ ss) = new_links (at + length (record_bytes c r)) older ss
   new_links at older (Chained i l ∷ ss) = new_link at older i l ∷ new_links (at + length (chained_bytes at older i l)) (Some at) ss
 
-  -- where the pools of a checkpoint begin
+  -- Where the pools of a checkpoint begin.
   abbrev pub new_place : ℕ → Option ℕ → ℕ → Link → ℕ
   new_place at older i l = pools_place at l (distance at older) (length (groups_of left i))
 
   module _ (k : Classes) where
-    -- its pools and its entries
+    -- Its pools and its entries.
     abbrev pub new_pools : ℕ → Option ℕ → ℕ → Link → List PoolAt
     new_pools at older i l = placed_each (group_bytes c) (placed_group c k) (new_place at older i l) (groups_of left i)
 
@@ -59,7 +59,7 @@ module _ (c : List ℕ) (left : List EntryAt) where
     new_entries j at older (Whole r ∷ ss) = new_entries j (at + length (record_bytes c r)) older ss
     new_entries j at older (Chained i l ∷ ss) = entries_from j 0 (new_pools at older i l) ++ new_entries (j + 1) (at + length (chained_bytes at older i l)) (Some at) ss
 
-    -- it stood in the chunk, and can be written
+    -- It stood in the chunk, and can be written.
     abbrev pub OutputRecordStands : OutputRecord → Type 0
     OutputRecordStands (Whole r) = IsRecord c r
     OutputRecordStands (Chained i l) = LinkStands c l × AllByRecursion (GroupStands c k) (groups_of left i)
@@ -70,7 +70,7 @@ module _ (c : List ℕ) (left : List EntryAt) where
     room l s at None d = let i : l.delta_at < l.delta_end = int_some c l.delta_at l.delta_end s.word s.delta_spelled in omega arith
     room l s at (Some o) d = let e : l.delta_end ≡ l.delta_at + 9 = d refl in let i = spell_most (distance at (Some o)) in omega arith
 
-    -- what is written of a checkpoint is no longer than it was, and stands
+    -- What is written of a checkpoint is no longer than it was, and stands.
     pub chained_fits : (i : ℕ) (l : Link) (at : ℕ) (older : Option ℕ) → OutputRecordStands (Chained i l) → (is_some older ≡ true → l.delta_end ≡ l.delta_at + 9)
         → length (checkpoint_tail c l (distance at older) (groups_of left i)) + (l.frame.type_at - l.frame.at) ≤ l.frame.size
     chained_fits i l at older s d = tail_small c l (distance at older) (groups_of left i) s.0 (room l s.0 at older d) s.2
@@ -82,7 +82,7 @@ module _ (c : List ℕ) (left : List EntryAt) where
         → CheckpointStands k b (new_link at older i l) (new_pools at older i l) (new_place at older i l) (flat_map (group_bytes c) (groups_of left i))
     chained_stands b i l at older s d h = checkpoint_stands c k b l (distance at older) at (groups_of left i) s.0 s.1 (chained_fits i l at older s d) h
 
-  -- what is written of the first, and the rest behind it
+  -- What is written of the first, and the rest behind it.
   pub whole_length : (r : Framed) (ss : List OutputRecord) (at : ℕ) (older : Option ℕ) → at + length (record_bytes c r) + length (bytes_from (at + length (record_bytes c r)) older ss) ≡ at + length (bytes_from at older (Whole r ∷ ss))
   whole_length r ss at older = omega (arith, length-append (record_bytes c r) (bytes_from (at + length (record_bytes c r)) older ss))
 

@@ -3,11 +3,11 @@ use Rattle.std.specs.Prelude.{◌≡◌, Bool, true, false, ◌&&◌, List, [], 
 use Rattle.std.specs.List.{AllByRecursion}
 use Rattle.std.proofs.Common.{ap, refl}
 
--- no test both passes and fails
+-- No test both passes and fails.
 pub clash : (t : Bool) → t ≡ true → t ≡ false → ⊥
 clash t h e = cc
 
--- it holds, where the member passes
+-- It holds, where the member passes.
 abbrev pub IfPasses : {X : Type 0} → (X → Bool) → (X → Type 0) → X → Type 0
 IfPasses test P x = test x ≡ true → P x
 
@@ -27,7 +27,7 @@ passes_all P test (x ∷ xs) a = by_test (test x) refl (passes_all P test xs a.1
     by_test true e i = (a.0 e, i)
     by_test false e i = i
 
--- those that pass two tests
+-- Those that pass two tests.
 pub filter_both : {X : Type 0} (q t : X → Bool) (xs : List X) → filter (λ x. q x && t x) xs ≡ filter t (filter q xs)
 filter_both q t [] = refl
 filter_both q t (x ∷ xs) = by_test (q x) (t x) refl (filter_both q t xs)

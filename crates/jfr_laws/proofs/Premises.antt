@@ -19,11 +19,11 @@ use Rattle.jfr_laws.proofs.Checkpoints.{CanWrite, checkpoints_can, nine_of}
 use Rattle.jfr_laws.proofs.Order.{Numbered, numbered_at, output_records_in, chained_of, Rising, Occurs, AllOccur, occurs_low, in_order}
 use Rattle.jfr_laws.proofs.OutputRecords.{Deltas, OutputRecordStands}
 
--- the chained checkpoints with their numbers, oldest first
+-- The chained checkpoints with their numbers, oldest first.
 abbrev pub all_links : Parts → List Numbered
 all_links p = enumerate_from 0 (reverse p.chain)
 
--- a record of type 1
+-- A record of type 1.
 abbrev pub IsCheckpoint : List ℕ → Numbered → Type 0
 IsCheckpoint c m = IsRecord c m.1.frame × (m.1.frame.type_id ≡ 1)
 
@@ -53,7 +53,7 @@ module _ (c : List ℕ) (rs : List Framed) where
   chain_rises p q [] t k = tt
   chain_rises p q (l ∷ ls) t k = (occurs_low c p q rs l.frame.at t (links_occur None 0 (l ∷ ls) k).0, links_rise l.frame.at 1 ls k.2)
 
--- it took nine bytes for its delta
+-- It took nine bytes for its delta.
 abbrev IsNine : Numbered → Type 0
 IsNine m = m.1.delta_end ≡ m.1.delta_at + 9
 
@@ -63,7 +63,7 @@ Nines false [] = ⊤
 Nines false (t ∷ ts) = AllByRecursion IsNine ts
 
 module _ (c : List ℕ) (k : Classes) (left : List EntryAt) where
-  -- it can be written with the entries that are left
+  -- It can be written with the entries that are left.
   abbrev CanOutputRecord : Numbered → Type 0
   CanOutputRecord m = CanWrite c k m.1 (groups_of left m.0)
 

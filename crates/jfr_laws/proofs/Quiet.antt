@@ -11,7 +11,7 @@ use Rattle.jfr_chunk.specs.Parts.{Parts, AreParts, metadata_at}
 use Rattle.jfr_laws.proofs.Order.{Numbered, numbered_at, found_numbered}
 use Rattle.jfr_laws.proofs.Premises.{all_links, IsCheckpoint, recorded, metadata_stands, chained_checkpoints}
 
--- types 0 and 1 are no event classes
+-- Types 0 and 1 are no event classes.
 metadata_no_event : (k : Classes) → is_event_class k 0 ≡ false
 unfolding is_event_class
 metadata_no_event k = refl
@@ -23,7 +23,7 @@ checkpoint_no_event k = refl
 pub no_checkpoint_event : (k : Classes) (r : Framed) → r.type_id ≡ 1 → is_event_class k r.type_id ≡ false
 no_checkpoint_event k r e = ap (is_event_class k) e ∙ checkpoint_no_event k
 
--- a record that stands where the metadata record does, or a chained checkpoint, is no event
+-- A record that stands where the metadata record does, or a chained checkpoint, is no event.
 pub record Quiet (k : Classes) (all : List Numbered) (metadata : ℕ) (r : Framed) : Type 0 where
   pub on_metadata : (r.at == metadata) ≡ true → is_event_class k r.type_id ≡ false
   pub on_chained : (x : Numbered) → numbered_at all r.at ≡ Some x → (is_event_class k r.type_id ≡ false) × (is_event_class k x.1.frame.type_id ≡ false)

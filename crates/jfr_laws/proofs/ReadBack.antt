@@ -66,7 +66,7 @@ entry_held c k b end at e s h =
     }
 
 module _ (c : List ℕ) (k : Classes) (b : List ℕ) (end : ℕ) where
-  -- an entry is read where its bytes stand
+  -- An entry is read where its bytes stand.
   entry_reads : (e : EntryAt) (class at : ℕ) → EntryStands c k e → e.class ≡ class → Holds b end at (entry_bytes c e) → Reads (constant_format k class) b end at (placed c k at e) (at + size_of e)
   entry_reads e class at s w h =
       let i : e.key_at ≤ e.value_at = s.key.order in
@@ -91,7 +91,7 @@ module _ (c : List ℕ) (k : Classes) (b : List ℕ) (end : ℕ) where
             read (same, refl),
       )
 
-  -- entries, one behind another
+  -- Entries, one behind another.
   entries_read : (es : List EntryAt) (class at : ℕ) → AllByRecursion (λ e. EntryStands c k e × (e.class ≡ class)) es → Holds b end at (flat_map (entry_bytes c) es)
       → Reads (times (length es) (constant_format k class)) b end at (placed_each (entry_bytes c) (placed c k) at es) (at + length (flat_map (entry_bytes c) es))
   entries_read es class at s h = times_read (constant_format k class) (entry_bytes c) (placed c k) (λ e. EntryStands c k e × (e.class ≡ class)) b end one es at s h
@@ -99,7 +99,7 @@ module _ (c : List ℕ) (k : Classes) (b : List ℕ) (end : ℕ) where
       one : (e : EntryAt) (at : ℕ) → EntryStands c k e × (e.class ≡ class) → Holds b end at (entry_bytes c e) → Reads (constant_format k class) b end at (placed c k at e) (at + length (entry_bytes c e))
       one e at s h = let l : length (entry_bytes c e) ≡ size_of e = entry_length c k e s.0 in rw l (entry_reads e class at s.0 s.1 h)
 
-  -- a pool: its class, its count and its entries
+  -- A pool: its class, its count and its entries.
   group_reads : (g : Group) (at : ℕ) → GroupStands c k g → Holds b end at (group_bytes c g) → Reads (pool_format k) b end at (placed_group c k at g) (at + length (group_bytes c g))
   group_reads g at s h =
       let n : ℕ = length g.entries in
@@ -128,7 +128,7 @@ module _ (c : List ℕ) (k : Classes) (b : List ℕ) (end : ℕ) where
         ),
       )
 
-  -- pools, one behind another
+  -- Pools, one behind another.
   groups_read : (gs : List Group) (at : ℕ) → AllByRecursion (GroupStands c k) gs → Holds b end at (flat_map (group_bytes c) gs)
       → Reads (times (length gs) (pool_format k)) b end at (placed_each (group_bytes c) (placed_group c k) at gs) (at + length (flat_map (group_bytes c) gs))
   groups_read gs at s h = times_read (pool_format k) (group_bytes c) (placed_group c k) (GroupStands c k) b end (λ g at s h. group_reads g at s h) gs at s h
@@ -302,7 +302,7 @@ checkpoint_stands c k b l delta at gs s gss small h =
     let duration_bytes : List ℕ = slice_range c s.middle l.delta_at in
     let start_length : length start_bytes ≡ s.middle - f.body = range_length c f.body s.middle s.start_spelled.within in
     let q = holds_parts b end body start_bytes duration_bytes (subst (Holds b end body) (range_split c f.body s.middle l.delta_at a3 a4) p.head) in
-    -- the integers that they spell
+    -- The integers that they spell.
     let size_int : IntAt b at type_at all =
     subst (λ n. IntAt b at type_at n) (sym w.whole) (subst (λ n. IntAt b at n (f.type_at - f.at + length tail)) (ap (λ n. at + n) w.size) (holds_int b end at size_bytes (f.type_at - f.at + length tail) p.size w.spelled)) in
     let type_int = holds_range_int c b f.type_at f.body f.type_id end type_at body s.record_stands.type_spelled p.type (omega arith) in
@@ -310,7 +310,7 @@ checkpoint_stands c k b l delta at gs s gss small h =
     let duration_int = holds_range_int c b s.middle l.delta_at s.duration end middle delta_at s.duration_spelled (holds_at b end (body + length start_bytes) middle duration_bytes (omega arith) q.1) (omega arith) in
     let delta_int : IntAt b delta_at kind_at delta = holds_int b end delta_at delta_bytes delta p.word (spell_spells delta) in
     let count_int : IntAt b count_at place count = holds_int b end count_at count_bytes count p.count (spell_spells count) in
-    -- the pools, and the end behind them
+    -- The pools, and the end behind them.
     let pools : List PoolAt = placed_each (group_bytes c) (placed_group c k) place gs in
     let read = groups_read c k b end gs place gss p.pools in
     let e0 : kind_at ≤ end = p.word.within in

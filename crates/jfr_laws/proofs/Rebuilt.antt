@@ -42,7 +42,7 @@ some_chain : (c : List ℕ) (rs : List Framed) (at : ℕ) (ls : List Link) → I
 some_chain c rs at [] h e = h
 some_chain c rs at (l ∷ ls) h e = let i : length (reverse (l ∷ ls)) ≡ length (l ∷ ls) = length-reverse (l ∷ ls) in let j : length (reverse (l ∷ ls)) ≡ 0 = ap length e in omega arith
 
--- links, of which there are some, are the chain from the last one on
+-- Links, of which there are some, are the chain from the last one on.
 chain_new : (c : List ℕ) (rs : List Framed) (ls : List Link) → (ls ≡ [] → ⊥) → Linked c rs None ls → IsChain c rs (last_from None ls) (reverse ls)
 chain_new c rs [] n h = absurd (n refl)
 chain_new c rs (l ∷ ls) n h = linked_chain c rs l ls h

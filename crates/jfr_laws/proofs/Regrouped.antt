@@ -19,7 +19,7 @@ abbrev pub NotEmpty : {X : Type 0} → List X → Type 0
 NotEmpty [] = ⊥
 NotEmpty (x ∷ xs) = ⊤
 
--- each group has an entry
+-- Each group has an entry.
 pub some_each : (es : List EntryAt) → AllByRecursion (λ g. NotEmpty g.entries) (by_pool es)
 some_each [] = tt
 some_each (e ∷ es) = added (by_pool es) (some_each es)
@@ -34,7 +34,7 @@ some_each (e ∷ es) = added (by_pool es) (some_each es)
     added (g ∷ gs) a = by_test g gs ((e.pool == g.pool) && (e.class == g.class)) a.0 a.1
 
 module _ (checkpoint : ℕ) where
-  -- a pool as a group, and the pools from a number on
+  -- A pool as a group, and the pools from a number on.
   abbrev pub group_at : ℕ → PoolAt → Group
   group_at number p = record { class = p.class; pool = number; entries = map (entry_of checkpoint number p.class) p.constants }
 
@@ -56,7 +56,7 @@ module _ (checkpoint : ℕ) where
       front (x ∷ xs) s gs = refl
 
   module _ (c : List ℕ) (k : Classes) where
-    -- the pools that are read of groups
+    -- The pools that are read of groups.
     abbrev pub placed_groups : ℕ → List Group → List PoolAt
     placed_groups at gs = placed_each (group_bytes c) (placed_group c k) at gs
 
@@ -68,7 +68,7 @@ module _ (checkpoint : ℕ) where
         one [] at s = absurd s
         one (e ∷ es) at s = tt
 
-    -- as many
+    -- As many.
     pub groups_many : (gs : List Group) (number at : ℕ) → length (groups_at number (placed_groups at gs)) ≡ length gs
     groups_many [] number at = refl
     groups_many (g ∷ gs) number at = omega (arith, groups_many gs (number + 1) (at + length (group_bytes c g)))
@@ -78,7 +78,7 @@ module _ (checkpoint : ℕ) where
     entries_many (e ∷ es) at = omega (arith, entries_many es (at + length (entry_bytes c e)))
 
     module _ (b : List ℕ) (end : ℕ) where
-      -- an entry's bytes, and those of a pool's entries
+      -- An entry's bytes, and those of a pool's entries.
       entry_again : (e : EntryAt) (pool class at : ℕ) → EntryStands c k e → Holds b end at (entry_bytes c e) → entry_bytes b (entry_of checkpoint pool class (placed c k at e)) ≡ entry_bytes c e
       entry_again e pool class at s h = let l : length (entry_bytes c e) ≡ size_of e = entry_length c k e s in rw l at h.bytes
 

@@ -21,7 +21,7 @@ use Rattle.jfr_laws.proofs.OutputRecords.{Deltas, chained_bytes, bytes_from, new
 use Rattle.jfr_laws.proofs.Output.{entries_back}
 use Rattle.jfr_laws.proofs.Regrouped.{some_each, groups_at, pools_grouped, some_placed, groups_many, groups_again}
 
--- a range of bytes that stand there
+-- A range of bytes that stand there.
 held_range : (b x : List ℕ) (end p q : ℕ) → Holds b end p x → p + length x ≡ q → slice_range b p q ≡ x
 held_range b x end p q h e = ap (slice_range b p) (sym e) ∙ h.bytes
 
@@ -52,7 +52,7 @@ module _ (c : List ℕ) (left : List EntryAt) where
   new_output_records j at older (Whole r ∷ ss) = Whole (copied_to c at r) ∷ new_output_records j (at + length (record_bytes c r)) older ss
   new_output_records j at older (Chained i l ∷ ss) = Chained j (new_link c left at older i l) ∷ new_output_records (j + 1) (at + length (chained_bytes c left at older i l)) (Some at) ss
 
--- the record stands where it is written
+-- The record stands where it is written.
 abbrev pub IsPlaced : Written → Type 0
 IsPlaced w = (record_of w.output_record).at ≡ w.at
 
@@ -62,7 +62,7 @@ pub record Rewritten (at : ℕ) (older : Option ℕ) (bytes : List ℕ) (last : 
   pub last_same : last_at older (written b left at older ss) ≡ last
   pub placed : AllByRecursion IsPlaced (written b left at older ss)
 
--- the first, and those behind it
+-- The first, and those behind it.
 whole_then : (at : ℕ) (older : Option ℕ) (x bytes : List ℕ) (last : ℕ) (b : List ℕ) (left : List EntryAt) (r : Framed) (ss : List OutputRecord) → r.at ≡ at → record_bytes b r ≡ x → Rewritten (at + length x) older bytes last b left ss
     → Rewritten at older (x ++ bytes) last b left (Whole r ∷ ss)
 whole_then at older x bytes last b left r ss p e i =
@@ -85,7 +85,7 @@ chained_then at older x bytes last b left i l ss p e h =
     last_of (Some o) n e = e
 
 module _ (c : List ℕ) (left : List EntryAt) (k : Classes) (b : List ℕ) (all : List EntryAt) where
-  -- the groups of a checkpoint's entries, before and behind those of others
+  -- The groups of a checkpoint's entries, before and behind those of others.
   groups_block : (j : ℕ) (before later : List EntryAt) (i : ℕ) (l : Link) (at : ℕ) (older : Option ℕ) → all ≡ before ++ (entries_from j 0 (new_pools c left k at older i l) ++ later) → NotOf j before → NotOf j later
       → groups_of all j ≡ groups_at j 0 (new_pools c left k at older i l)
   groups_block j before later i l at older e a d =

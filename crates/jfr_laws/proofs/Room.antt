@@ -16,7 +16,7 @@ use Rattle.jfr_laws.proofs.Marks.{all_marked, fewer, marked_append}
 use Rattle.jfr_laws.proofs.Standing.{ConstantStands, Constants, PoolStands, Pools}
 use Rattle.jfr_laws.proofs.Groups.{apart, in_front, by_front}
 
--- the shortest spelling of a number that is not larger fits
+-- The shortest spelling of a number that is not larger fits.
 pub int_room : (c : List ℕ) (p q v w : ℕ) → IntAt c p q w → v ≤ w → length (spell v) + p ≤ q
 int_room c p q v w i h =
     let a : p ≤ q = i.order in
@@ -24,12 +24,12 @@ int_room c p q v w i h =
     let d : length (spell v) ≤ length (slice_range c p q) = spell_short (slice_range c p q) v w i.spelled h in
     omega arith
 
--- entries of a pool have its number and its class
+-- Entries of a pool have its number and its class.
 pub of_pool : (checkpoint number class : ℕ) (xs : List Constant) → AllByRecursion (λ e. (e.pool ≡ number) × (e.class ≡ class)) (map (entry_of checkpoint number class) xs)
 of_pool checkpoint number class [] = tt
 of_pool checkpoint number class (x ∷ xs) = ((refl, refl), of_pool checkpoint number class xs)
 
--- entries of later pools have greater numbers
+-- Entries of later pools have greater numbers.
 pub later_pools : (checkpoint before number : ℕ) (pools : List PoolAt) → before < number → AllByRecursion (λ e. before < e.pool) (entries_from checkpoint number pools)
 later_pools checkpoint before number [] h = tt
 later_pools checkpoint before number (p ∷ ps) h =
@@ -40,7 +40,7 @@ later_pools checkpoint before number (p ∷ ps) h =
     these (x ∷ xs) = (h, these xs)
 
 module _ (c : List ℕ) (k : Classes) where
-  -- where constants begin and end
+  -- Where constants begin and end.
   constant_order : (class at : ℕ) (x : Constant) → ConstantStands c k class at x → (at ≡ x.key_at) × (x.key_at ≤ x.end)
   constant_order class at x s =
       let o : x.key_at ≤ x.value_at = s.key.order in
@@ -51,7 +51,7 @@ module _ (c : List ℕ) (k : Classes) where
   constants_order class at [] to s = let e : to ≡ at = s in omega arith
   constants_order class at (x ∷ xs) to s = omega (arith, constant_order class at x s.0, constants_order class x.end xs to s.1)
 
-  -- the marked entries of a pool
+  -- The marked entries of a pool.
   constants_room : (checkpoint number class at : ℕ) (xs : List Constant) (to : ℕ) (marks : List Bool) → Constants c k class at xs to
       → length (flat_map (entry_bytes c) (marked marks (map (entry_of checkpoint number class) xs))) + at ≤ to
   constants_room checkpoint number class at xs to [] s = omega (arith, constants_order class at xs to s)
@@ -71,7 +71,7 @@ module _ (c : List ℕ) (k : Classes) where
     pub count : length gs ≤ length pools
     pub bytes : length (flat_map (group_bytes c) gs) + at ≤ to
 
-  -- a pool's group, if it has one, before those of later pools
+  -- A pool's group, if it has one, before those of later pools.
   with_front : (number at : ℕ) (p : PoolAt) (m : ℕ) (ps : List PoolAt) (to : ℕ) → (s : PoolStands c k at p m) → (fs : List EntryAt) → length fs ≤ length p.constants → length (flat_map (entry_bytes c) fs) + s.first ≤ m
       → (gs : List Group) → HaveRoom m ps to gs → HaveRoom at (p ∷ ps) to (in_front number p.class fs gs)
   with_front number at p m ps to s [] f b gs i =

@@ -1,4 +1,5 @@
--- A chunk that has copies of another's chosen events, and of the entries that they reach, means the same, and reaches each of its entries.
+-- A chunk that has copies of another's chosen events, and of the entries that they reach, means the same,
+-- and reaches each of its entries.
 use Rattle.std.specs.Prelude.{◌≡◌, ℕ, ◌<◌, Bool, List, [], ◌∷◌, length, filter, Some, Contains}
 use Rattle.std.proofs.Common.{ap, arith, sym, ◌∙◌, subst}
 use Rattle.std.proofs.lemmas.List.Elements.{All-from_recursion, recursion_from_All, All-contains_itself, All-contains}
@@ -34,7 +35,7 @@ event_records_of p a =
     let rs : List Framed = event_records p.classes p.records in
     records_of_events p.bytes p.classes rs (filter_all (IsRecord p.bytes) (λ r. is_event_class p.classes r.type_id) p.records i) (recursion_from_All (HasFields p.bytes p.classes) rs a.events)
 
--- chosen events are events
+-- Chosen events are events.
 pub chosen_events : (p : Parts) (flags : List Bool) → AreEvents p (kept_by p flags)
 chosen_events p flags =
     All-from_recursion (Contains (events_of p)) (kept_by p flags) (all_marked (Contains (events_of p)) flags (events_of p) (recursion_from_All (Contains (events_of p)) (events_of p) (All-contains_itself (events_of p))))
@@ -59,7 +60,8 @@ same_records p q (e ∷ es) [] s k c = absurd c
 same_records p q (e ∷ es) (f ∷ fs) s k c =
     (record { class = c.0.class; bytes = c.0.bytes; agree = subst (λ m. Agree p.classes m e.record_of.type_id) k (agree_on_event p.classes e.record_of.type_id s.sound c.0.event) }, same_records p q es fs s k c.1)
 
--- Two chunks of the same classes, of which the second has copies of the chosen events and of the entries that they reach.
+-- Two chunks of the same classes, of which the second has copies of the chosen events and of the entries
+-- that they reach.
 module _ (p q : Parts) (a : AreParts p) (b : AreParts q) (flags : List Bool) (same_classes : p.classes ≡ q.classes) where
   abbrev kept : List EventAt
   kept = kept_by p flags
@@ -89,7 +91,8 @@ module _ (p q : Parts) (a : AreParts p) (b : AreParts q) (flags : List Bool) (sa
     pub mean_the_same : SameMeaning p q kept (events_of q)
     mean_the_same = same_meaning p q a b kept (events_of q) (chosen_events p flags) (All-contains_itself (events_of q)) same_events same_on_paths
 
-    -- An entry that the first chunk reaches is reached in the second, where it has the number of those that are marked.
+    -- An entry that the first chunk reaches is reached in the second, where it has the number of those that
+    -- are marked.
     reached_there : (place number : ℕ) → IsMarked marks place → rank marks place ≡ number → Reached p kept place → Reached q (events_of q) number
     reached_there place number m n r =
         let i : In kept r.event = contains_in kept r.event r.is_kept in
@@ -101,7 +104,7 @@ module _ (p q : Parts) (a : AreParts p) (b : AreParts q) (flags : List Bool) (sa
         sym (copied_force p q (marked marks p.entries) q.entries r.key entries) ∙ (marked_force marks p.entries r.key place r.in_force m ∙ ap (λ z. Some z) n) in
         record { event = x.0; is_kept = in_contains (events_of q) x.0 x.1; path = r.path; node = t.node; leads_there = t.leads_there; key = r.key; refers = t.refers; in_force = f }
 
-    -- so is each of its own entries
+    -- So is each of its own entries.
     pub all_reached : length (marked marks p.entries) ≡ length q.entries → (number : ℕ) → number < length q.entries → Reached q (events_of q) number
     all_reached l number h =
         let r = ranked marks p.entries number (omega arith) in

@@ -1,4 +1,5 @@
--- Names lead to equal texts from nodes from which every path leads to the same, in two chunks of the same classes.
+-- Names lead to equal texts from nodes from which every path leads to the same, in two chunks of the same
+-- classes.
 use Rattle.std.specs.Prelude.{◌≡◌, ℕ, zero, suc, Bool, true, false, List, [], ◌∷◌, Option, Some, None, Ok, Err, option_and_then, if◌then◌else◌}
 use Rattle.std.specs.Option.{option_map_or}
 use Rattle.std.proofs.Common.{ap, refl, sym, ◌∙◌, subst}
@@ -20,14 +21,14 @@ use Rattle.jfr_chunk.proofs.PathLaws.{Standing}
 use Rattle.jfr_laws.proofs.Free.{free_run}
 use Rattle.jfr_laws.proofs.Targets.{path_node}
 
--- two computed strings, where each gives the other
+-- Two computed strings, where each gives the other.
 same_content : (a b : Answer Content) → ((g : Got Content) → a ≡ Ok g → (q : ℕ) × (b ≡ Ok (record { value = g.value; place = q }))) → ((g : Got Content) → b ≡ Ok g → (q : ℕ) × (a ≡ Ok (record { value = g.value; place = q })))
     → content_in a ≡ content_in b
 same_content (Ok g) b f h = ap content_in (sym (f g refl).1)
 same_content (Err u) (Ok g) f h = let e = (h g refl).1 in cc e
 same_content (Err u) (Err w) f h = refl
 
--- whether a node is a reference, its shape says
+-- Whether a node is a reference, its shape says.
 reference_same : (n m : NodeAt) → n.shape ≡ m.shape → is_reference n ≡ is_reference m
 reference_same n m e = ap (λ (z : Shape). if z.array then false else z.constant) e
 
@@ -43,7 +44,7 @@ module _ (p q : Parts) (s : Standing p) (r : Standing q) (same_classes : p.class
   class_same : (n m : NodeAt) → SameNode p.bytes q.bytes n m → find_class p.classes n.shape.class ≡ find_class q.classes m.shape.class
   class_same n m h = ap (λ k. find_class k n.shape.class) same_classes ∙ ap (λ (z : Shape). find_class q.classes z.class) h.shape
 
-  -- a step
+  -- A step.
   step_same : (st : Step) (n m : NodeAt) → Twins n m → Both Twins (step p n st) (step q m st)
   step_same st n m x = by_ends (step p n st) (step q m st) refl refl (λ path. x.paths (st ∷ path))
     where
@@ -56,7 +57,7 @@ module _ (p q : Parts) (s : Standing p) (r : Standing q) (same_classes : p.class
           let w = path_node q r (st ∷ []) m b x.other x.right (ap (option_and_then (λ u. leads q u [])) f) in
           record { value = v.0; left = v.1; other = w.0; right = w.1; paths = h }
 
-  -- so many steps of Follow
+  -- So many steps of Follow.
   while_same : (test : NodeAt → Bool) → ((n m : NodeAt) → n.shape ≡ m.shape → test n ≡ test m) → (k : ℕ) (n m : NodeAt) → Twins n m → Twins (follow_while k test p n) (follow_while k test q m)
   while_same test t zero n m x = x
   while_same test t (suc k) n m x = by_test (test n) (test m) (t n m (x.paths []).shape) (follow p n) (follow q m) (step_same steps.Follow n m x) (λ a b. while_same test t k a b)
@@ -71,7 +72,7 @@ module _ (p q : Parts) (s : Standing p) (r : Standing q) (same_classes : p.class
       by_test true true e (Some a) None y f = absurd y
       by_test true true e (Some a) (Some b) y f = f a b y
 
-  -- a field by its name
+  -- A field by its name.
   field_same : (name : List ℕ) (n m : NodeAt) → Twins n m → Both Twins (named_field p name n) (named_field q name m)
   field_same name n m x =
       subst (λ z. Both Twins (named_field p name n) (option_and_then (λ c. option_and_then (λ i. child q.classes q.bytes m (steps.Field i)) (field_number c.fields name)) z)) (class_same n m (x.paths []))
@@ -98,7 +99,7 @@ module _ (p q : Parts) (s : Standing p) (r : Standing q) (same_classes : p.class
       by_field (Some a) None y f = absurd y
       by_field (Some a) (Some b) y f = f a b y
 
-  -- the string of a node, by its class and its bytes
+  -- The string of a node, by its class and its bytes.
   abbrev string_at : Classes → Shape → Option Content → Option Content
   string_at k z content = if z.array then None else if z.constant then None else option_and_then (λ c. content_by (kind_of c.name) content) (find_class k z.class)
 

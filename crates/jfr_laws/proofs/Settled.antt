@@ -20,7 +20,7 @@ use Rattle.jfr_laws.proofs.SameTexts.{texts_same}
 use Rattle.jfr_laws.proofs.Scrubbed.{scrubbed_kept}
 
 module _ (g : Given) (p q : Parts) (a : AreParts p) (b : AreParts q) (same_classes : p.classes ≡ q.classes) where
-  -- events that mean the same have the same answer
+  -- Events that mean the same have the same answer.
   same_answer : (e f : EventAt) → IsEvent p e → IsEvent q f → SameEvent p q e f → is_chosen g p e ≡ is_chosen g q f
   same_answer e f i j h =
       let text : thread_text p e ≡ thread_text q f =
@@ -29,7 +29,7 @@ module _ (g : Given) (p q : Parts) (a : AreParts p) (b : AreParts q) (same_class
       ∙ (ap (λ k. option_map_or (λ c. keeps g c.name c.categories (thread_text q f)) (find_class k e.record_of.type_id) false) same_classes
       ∙ ap (λ t. option_map_or (λ c. keeps g c.name c.categories (thread_text q f)) (find_class q.classes t) false) h.class)
 
-  -- where the first ones are kept, so are the others
+  -- Where the first ones are kept, so are the others.
   all_kept : (es fs : List EventAt) → ((e : EventAt) → In es e → IsEvent p e) → ((f : EventAt) → In fs f → IsEvent q f) → SameMeaning p q es fs → AllByRecursion (λ e. is_chosen g p e ≡ true) es
       → map (is_chosen g q) fs ≡ replicate (length fs) true
   all_kept [] [] i j m c = refl

@@ -88,7 +88,7 @@ pub record BodyStands (c : List ℕ) (k : Classes) (end at : ℕ) (pools : List 
   pub rest : Pools c k first pools end
 
 module _ (c : List ℕ) (k : Classes) (end : ℕ) (inside : end ≤ length c) where
-  -- what is read stands: a constant, constants, a pool, pools
+  -- What is read stands: a constant, constants, a pool, pools.
   constant_stands : (class at : ℕ) (x : Constant) (to : ℕ) → Reads (constant_format k class) c end at x to → ConstantStands c k class at x × (to ≡ x.end)
   constant_stands class at x to r =
       let q : ℕ = r.0 in
@@ -131,7 +131,7 @@ module _ (c : List ℕ) (k : Classes) (end : ℕ) (inside : end ≤ length c) wh
       let i = pools_stand n d.place e.value e.place e.first in
       subst (λ zs. Pools c k at zs to × (length zs ≡ suc n)) (sym e.second.0) ((d.place, s, subst (Pools c k d.place e.value) (sym e.second.1) i.0), ap (λ m. suc m) i.1)
 
-  -- and the body of a checkpoint
+  -- And the body of a checkpoint.
   pub body_stands : (at : ℕ) (pools : List PoolAt) → Reads (checkpoint_format k) c end at pools end → BodyStands c k end at pools
   unfolding checkpoint_format
   body_stands at pools r =

@@ -21,14 +21,14 @@ use Rattle.jfr_chunk.specs.Meaning.{SamePaths, SameEvent, SameMeaning}
 use Rattle.jfr_chunk.proofs.Members.{In}
 use Rattle.jfr_chunk.proofs.PathLaws.{Standing}
 
--- what stands beside something
+-- What stands beside something.
 beside : {A B : Type 0} (R : A → B → Type 0) (x : Option A) (y : Option B) (a : A) → Both R x y → x ≡ Some a → (b : B) × (y ≡ Some b) × R a b
 beside R None None a r e = cc
 beside R (Some c) (Some b) a r e = let h : c ≡ a = cc in (b, refl, subst (λ z. R z b) h r)
 beside R None (Some c) a r e = absurd r
 beside R (Some c) None a r e = absurd r
 
--- one value stands at nodes of equal shape and bytes
+-- One value stands at nodes of equal shape and bytes.
 same_value : (k : Classes) (c d : List ℕ) (n o : NodeAt) (v w : Value) → Sound k → IsNode k c n v → IsNode k d o w → SameNode c d n o → v ≡ w
 same_value k c d n o v w s i j h =
     let shape : shape_of w ≡ shape_of v = sym j.shape ∙ (sym h.shape ∙ i.shape) in
@@ -41,7 +41,7 @@ same_target : (k : Classes) (c d : List ℕ) (n o : NodeAt) (v w : Value) → So
 same_target k c d n o v w s i j h = target_is k c n v s i ∙ (ap own_target (same_value k c d n o v w s i j h) ∙ sym (target_is k d o w s j))
 
 module _ (p : Parts) (s : Standing p) where
-  -- what a path leads to is a node
+  -- What a path leads to is a node.
   pub path_node : (path : List Step) (n m : NodeAt) (v : Value) → IsNode p.classes p.bytes n v → leads p n path ≡ Some m → (w : Value) × IsNode p.classes p.bytes m w
   path_node [] n m v i e = let h : n ≡ m = cc in (v, subst (λ z. IsNode p.classes p.bytes z v) h i)
   path_node (st ∷ path) n m v i e = by_step st (step p n st) refl e (λ u w j l. path_node path u m w j l)
@@ -87,7 +87,7 @@ refers_too p q s r e f v w path n key k i j same l t =
     let z : IsNode p.classes q.bytes m.0 y.0 = subst (λ u. IsNode u q.bytes m.0 y.0) (sym k) y.1 in
     record { node = m.0; leads_there = m.1; refers = ap (λ u. target u q.bytes m.0) (sym k) ∙ (sym (same_target p.classes p.bytes q.bytes n m.0 x.0 y.0 s.sound x.1 z m.2) ∙ t) }
 
--- the event that stands beside one
+-- The event that stands beside one.
 pub event_beside : (p q : Parts) (es fs : List EventAt) (e : EventAt) → SameMeaning p q es fs → In es e → (f : EventAt) × In fs f × SameEvent p q e f
 event_beside p q [] fs e m i = absurd i
 event_beside p q (x ∷ es) [] e m i = absurd m

@@ -11,7 +11,7 @@ use Rattle.jfr_value.specs.Nodes.{got_value, value_of}
 use Rattle.jfr_pool.specs.declared.entry.EntryAt.{EntryAt}
 use Rattle.jfr_pool.specs.Entries.{inline, entry_node}
 
--- what stands exactly is read there
+-- What stands exactly is read there.
 pub exact_reads : {A : Type 0} (f : Format A) (x : List ℕ) (end at to : ℕ) (b : List ℕ) (a : A) → Exactly f b a → Stands x at to b → to ≤ end → end ≤ length x → Reads f x end at a to
 exact_reads {A = A} f x end at to b a e s i h = by_answer (run f x end at) (exact_run x end h f at to b a e s i) (run_says f x end at (omega (arith, s.order)) h)
   where
@@ -21,7 +21,7 @@ exact_reads {A = A} f x end at to b a e s i h = by_answer (run f x end at) (exac
         subst (λ (z : Got A). Reads f x end at z.value z.place) p r
     by_answer (Err w) q r = cc
 
--- the value of an entry
+-- The value of an entry.
 abbrev pub value_in : List ℕ → Classes → EntryAt → Value
 value_in c k e = unwrap_or (value_of k c (entry_node e)) (Group (inline e.class) [] Nil)
 

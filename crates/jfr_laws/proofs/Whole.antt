@@ -29,7 +29,7 @@ pub or_right : (x y : Bool) → y ≡ true → (x || y) ≡ true
 or_right true y h = refl
 or_right false y h = h
 
--- no chained checkpoint stands where a record of type 0 does
+-- No chained checkpoint stands where a record of type 0 does.
 no_link_at : (c : List ℕ) (all : List Numbered) (f : Framed) → AllByRecursion (IsCheckpoint c) all → IsRecord c f → f.type_id ≡ 0 → numbered_at all f.at ≡ None
 no_link_at c all f a s t = by_find (numbered_at all f.at) refl
   where

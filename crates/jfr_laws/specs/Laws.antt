@@ -26,7 +26,9 @@ AreCopied p q (e ∷ es) (f ∷ fs) = IsCopied p q e f × AreCopied p q es fs
 AreCopied p q [] (f ∷ fs) = ⊥
 AreCopied p q (e ∷ es) [] = ⊥
 
--- What a chunk becomes where these events are kept is a whole chunk, no longer than it, and consists of parts: its classes are the same, its events the kept ones, its entries those that remain, and it means the same; each of its entries is reached in it, and with all its events kept it becomes itself.
+-- What a chunk becomes where these events are kept is a whole chunk, no longer than it, and consists of
+-- parts: its classes are the same, its events the kept ones, its entries those that remain, and it means
+-- the same; each of its entries is reached in it, and with all its events kept it becomes itself.
 pub record IsKept (p : Parts) (kept : List EventAt) : Type 0 where
   pub parts : Parts
   pub classes : parts.classes ≡ p.classes
@@ -40,7 +42,8 @@ pub record IsKept (p : Parts) (kept : List EventAt) : Type 0 where
   pub reached : (number : ℕ) → number < length parts.entries → Reached parts (events_of parts) number
   pub again : scrub_of parts (events_of parts) ≡ parts.bytes
 
--- What a filter leaves of a chunk is kept, the filter keeps all events of that, and scrubbed with it once more it stays the same.
+-- What a filter leaves of a chunk is kept, the filter keeps all events of that, and scrubbed with it once
+-- more it stays the same.
 pub record IsSettled (g : Given) (p : Parts) : Type 0 where
   pub kept : IsKept p (kept_of g p)
   pub all : chosen g kept.parts ≡ replicate (length (events_of kept.parts)) true

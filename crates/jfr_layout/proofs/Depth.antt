@@ -16,7 +16,7 @@ use Rattle.jfr_layout.proofs.Lists.{present, take_next, map_next, mapped_at}
 use Rattle.jfr_layout.proofs.Stages.{rest, stage_next, stage_tells, stage_none}
 use Rattle.jfr_layout.proofs.Steps.{field_of}
 
--- no field before a number goes to a class with a flag
+-- No field before a number goes to a class with a flag.
 pub record NoneGoes (k : Classes) (i : ℕ) (goes : List Bool) (n : ℕ) : Type 0 where
   pub none : (m : ℕ) → goes ≡ map (goes_inline m k) k → IfSome (slice_get k i) (λ c. list_any (step_goes m k) (take n c.fields) ≡ false)
 
@@ -35,7 +35,7 @@ goes_next k i c goes n t e s l h u = record {
       any_next m k c n f.0 f.1 ∙ or_from (list_any (step_goes m k) (take n c.fields)) (step_goes m k f.0 || false) (rw e at (s.none m g)) (or_from (step_goes m k f.0) false (sym q ∙ u) refl));
 }
 
--- a composite class inline has its fields
+-- A composite class inline has its fields.
 kind_here : (k : Classes) (i : ℕ) (c : Class) (kind : Kind) → slice_get k i ≡ Some c → IfSome (slice_get k i) (λ (d : Class). kind ≡ kind_of d.name) → kind ≡ Composite → kind_of c.name ≡ Composite
 kind_here k i c kind e h q = sym (rw e at h) ∙ q
 
@@ -51,7 +51,7 @@ goes_tell k i c kind goes n t e h q l s u m g = rw e (
     let r : t ≡ step_goes m k f.0 = rw (field_of k i n c f.0 e f.1) at (s m g) in
     sym (list_any_at (step_goes m k) c.fields n f.0 l (ap (step_goes m k) (get_or_from_slice_get c.fields n f.0 f.0 f.1) ∙ (sym r ∙ u))) ∙ ap (list_any (step_goes m k)) (inline_all c (kind_here k i c kind e h q)))
 
--- the flags of the classes before a place, one step more
+-- The flags of the classes before a place, one step more.
 pub record Round (k : Classes) (goes : List Bool) (n : ℕ) (next : List Bool) : Type 0 where
   pub each : (m : ℕ) → goes ≡ map (goes_inline m k) k → next ≡ map (goes_inline (suc m) k) (take n k)
 
@@ -67,16 +67,16 @@ round_next k goes n next more t s l h u = record {
 pub round_end : (k : Classes) (goes : List Bool) (n : ℕ) (next : List Bool) → Round k goes n next → length k ≤ n → (m : ℕ) → goes ≡ map (goes_inline m k) k → next ≡ map (goes_inline (suc m) k) k
 round_end k goes n next s l m g = s.each m g ∙ ap (map (goes_inline (suc m) k)) (take_all n k l)
 
--- each class begins a chain without steps
+-- Each class begins a chain without steps.
 pub all_go : (k m : Classes) → replicate (length k) true ≡ map (goes_inline 0 m) k
 all_go [] m = refl
 all_go (c ∷ k) m = ap (λ ts. true ∷ ts) (all_go k m)
 
--- what is found at a class
+-- What is found at a class.
 abbrev pub found_deep : Classes → ℕ → Class → List ClassFlaw
 found_deep k i c = flaw_if (goes_inline 33 k c) i None InlineDeep
 
--- the classes before a place begin no chain that is too long
+-- The classes before a place begin no chain that is too long.
 pub record Shallow (k : Classes) (n : ℕ) : Type 0 where
   pub left : deep k ≡ rest (found_deep k) k n
 

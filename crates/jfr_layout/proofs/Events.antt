@@ -32,14 +32,14 @@ event_at k id p t l e w h =
     let r : t ≡ extends_event c.0 = rw c.1 at h in
     r ∙ (ap (λ o. option_map_or extends_event o false) (sym c.1 ∙ e) ∙ sym (ap (λ b. b && option_map_or extends_event (find_class k id) false) (lt-ltb 1 id l)))
 
--- no place where records of the type are no events, and the class's where they are
+-- No place where records of the type are no events, and the class's where they are.
 pub no_event_place : (k : Classes) (id : ℕ) → false ≡ is_event_class k id → None ≡ event_place k id
 no_event_place k id e = ap (λ t. cond t (class_place k id) None) e
 
 pub event_placed : (k : Classes) (id p : ℕ) → Some p ≡ class_place k id → true ≡ is_event_class k id → Some p ≡ event_place k id
 event_placed k id p o e = o ∙ ap (λ t. cond t (class_place k id) None) e
 
--- and back
+-- And back.
 not_placed : (k : Classes) (id : ℕ) (t : Bool) → t ≡ is_event_class k id → None ≡ cond t (class_place k id) None → t ≡ false
 not_placed k id false q e = refl
 not_placed k id true q e = let n = event_none k id (placed_class k id None e) in cc
@@ -72,7 +72,7 @@ composite_event : (k : Classes) (id : ℕ) → is_event_class k id ≡ true → 
 unfolding is_event_class
 composite_event k id e = event_kind (nat_lt 1 id) (find_class k id) e
 
--- the layout of the fields of an event
+-- The layout of the fields of an event.
 pub event_layout : (k : Classes) (id p : ℕ) (s : FieldLayout) → Some p ≡ event_place k id → s ≡ layout_with (record { class = id; constant = false; array = false }) p Composite → IsEventLayout k id s
 event_layout k id p s o q =
     let e = is_placed (is_event_class k id) (class_place k id) p o in
@@ -82,18 +82,18 @@ event_layout k id p s o q =
       layout = record { place = e.1; kind = composite_event k id e.0; form = refl };
     })
 
--- it is found where there is one
+-- It is found where there is one.
 pub event_found : (k : Classes) (id : ℕ) (o : Option FieldLayout) → MatchOption o (is_event_class k id ≡ false) (IsEventLayout k id) → is_some o ≡ is_event_class k id
 event_found k id None h = sym h
 event_found k id (Some s) h = sym h.event
 
--- a table of no ids, and of one more
+-- A table of no ids, and of one more.
 pub places_none : (k : Classes) → AreEventPlaces k []
 places_none k = record { at = λ id l. absurd (omega arith) }
 
 pub places_push : (k : Classes) (id : ℕ) (places : List (Option ℕ)) (place : Option ℕ) → AreEventPlaces k places → length places ≡ id → place ≡ event_place k id → AreEventPlaces k (places ++ place ∷ [])
 places_push k id places place a n e = record { at = filled_push (event_place k) places place a.at (e ∙ ap (event_place k) (sym n)) }
 
--- what a table has
+-- What a table has.
 pub places_at : (k : Classes) (places : List (Option ℕ)) (id : ℕ) (place : Option ℕ) → AreEventPlaces k places → id < length places → place ≡ get_or places id place → place ≡ event_place k id
 places_at k places id place a l e = e ∙ same_Some (get_or places id place) (event_place k id) (sym (slice_get-get_or places id place l) ∙ a.at id l)

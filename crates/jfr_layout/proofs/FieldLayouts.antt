@@ -14,7 +14,7 @@ use Rattle.jfr_layout.specs.Resolved.{AreClassLayouts, IsClassLayout}
 use Rattle.jfr_layout.proofs.Lists.{all_at, all_push, chained, mapped_at, present, value_in, zip_at}
 use Rattle.jfr_layout.proofs.Places.{place_within, stands}
 
--- the layout of a shape whose class stands at a place
+-- The layout of a shape whose class stands at a place.
 pub layout_at : (k : Classes) (kinds : List Kind) (s : Shape) (p : ℕ) (d : Kind) → kinds ≡ map (λ c. kind_of c.name) k → class_place k s.class ≡ Some p → IsFieldLayout k (layout_with s p (get_or kinds p d))
 layout_at k kinds s p d ks e =
     let c = present k p (place_within k s.class p e) in
@@ -31,7 +31,7 @@ layouts_push k fs f layouts s a e i = record {
   each = all_push (IsFieldLayout k) layouts s a.each i;
 }
 
--- what the layouts of a class have for the field of a number
+-- What the layouts of a class have for the field of a number.
 pub record HasLayout (k : Classes) (place number : ℕ) (s : FieldLayout) : Type 0 where
   pub field : Field
   pub there : field_at k place number ≡ Some field
@@ -58,7 +58,7 @@ has_layout k place number class_layout d i a =
       of_class = all_at (IsFieldLayout k) class_layout number (get_or class_layout number d) h.each g;
     }
 
--- the layout of the class at a place
+-- The layout of the class at a place.
 pub class_layouts_within : (k : Classes) (class_layouts : List ClassLayout) (i : ℕ) → AreClassLayouts k k class_layouts → i < length k → i < length class_layouts
 class_layouts_within k class_layouts i a l =
     let c = present k i l in
@@ -72,7 +72,7 @@ class_layout_at k class_layouts i class_layout a l r =
     let e : slice_get class_layouts i ≡ Some class_layout = slice_get-get_or class_layouts i class_layout (class_layouts_within k class_layouts i a l) ∙ ap Some (sym r) in
     rw c.1 (subst (IsClassLayout k c.0) (same_Some y.0 class_layout (sym y.1 ∙ e)) y.2)
 
--- the place of a field is within the list
+-- The place of a field is within the list.
 pub field_within : (k : Classes) (place number : ℕ) → IsSome (field_at k place number) → place < length k
 field_within k place number s =
     let f = value_in (field_at k place number) s in

@@ -14,7 +14,7 @@ is_known : (t : Bool) → not t ≡ false → t ≡ true
 is_known true e = refl
 is_known false e = cc
 
--- where no field's class is unknown, each has a place
+-- Where no field's class is unknown, each has a place.
 pub known_place : (k : Classes) (i j : ℕ) (f : Field) → unknown k ≡ [] → field_at k i j ≡ Some f → (p : ℕ) × (class_place k f.shape.class ≡ Some p)
 known_place k i j f u e =
     let c = chained (λ (c : Class). slice_get c.fields j) (slice_get k i) f e in
@@ -22,7 +22,7 @@ known_place k i j f u e =
     let s = is_known (is_some (find_class k f.shape.class)) (no_flaw (is_unknown k f) i (Some j) UnknownType n) in
     value_in (class_place k f.shape.class) (sym (is_some-find (λ (d : Class). d.id == f.shape.class) k) ∙ s)
 
--- what stands at the place of an id is the class of the id
+-- What stands at the place of an id is the class of the id.
 pub placed_class : (k : Classes) (id : ℕ) (o : Option ℕ) → o ≡ class_place k id → option_and_then (slice_get k) o ≡ find_class k id
 placed_class k id None e = sym (absent (find_class k id) (is_some-find (λ (c : Class). c.id == id) k ∙ ap is_some (sym e)))
 placed_class k id (Some p) e = sym (find-position (λ (c : Class). c.id == id) k p (sym e))

@@ -18,11 +18,11 @@ use Rattle.jfr_layout.proofs.Lists.{present, take_next, zip_push}
 use Rattle.jfr_layout.proofs.Places.{is_some-find}
 use Rattle.jfr_layout.proofs.Stages.{rest, stage_next, stage_tells, stage_none}
 
--- what is found at a field
+-- What is found at a field.
 abbrev pub found_unknown : Classes → ℕ → ℕ → Field → List ClassFlaw
 found_unknown k i j f = flaw_if (is_unknown k f) i (Some j) UnknownType
 
--- the classes of the fields before a number are known, and these are their layouts
+-- The classes of the fields before a number are known, and these are their layouts.
 pub record FieldsKnown (k : Classes) (i : ℕ) (fs : List Field) (n : ℕ) (layouts : List FieldLayout) : Type 0 where
   pub left : flaws_in UnknownType (is_unknown k) i fs ≡ rest (found_unknown k i) fs n
   pub found : AreFieldLayouts k (take n fs) layouts
@@ -30,7 +30,7 @@ pub record FieldsKnown (k : Classes) (i : ℕ) (fs : List Field) (n : ℕ) (layo
 known_at : (k : Classes) (index : Index) (id : ℕ) → IsIndex k index → is_some (find_class k id) ≡ is_some (place_in index id)
 known_at k index id s = is_some-find (λ (c : Class). c.id == id) k ∙ ap is_some (sym (s.at id))
 
--- a class that is known
+-- A class that is known.
 pub known_next : (k : Classes) (i : ℕ) (fs : List Field) (n : ℕ) (index : Index) (kinds : List Kind) (f : Field) (layouts more : List FieldLayout) (p : ℕ) (d : Kind) → IsIndex k index → kinds ≡ map (λ c. kind_of c.name) k → FieldsKnown k i fs n layouts → slice_get fs n ≡ Some f
     → Some p ≡ place_in index f.shape.class → more ≡ layouts ++ layout_with f.shape p (get_or kinds p d) ∷ []
     → FieldsKnown k i fs (n + 1) more
@@ -40,7 +40,7 @@ known_next k i fs n index kinds f layouts more p d x ks s e g m = record {
   found = rw (take_next fs n f e, m) (layouts_push k (take n fs) f layouts (layout_with f.shape p (get_or kinds p d)) s.found refl (layout_at k kinds f.shape p d ks (sym (x.at f.shape.class) ∙ sym g)));
 }
 
--- a class that isn't
+-- A class that isn't.
 pub known_tell : (k : Classes) (i : ℕ) (fs : List Field) (n : ℕ) (index : Index) (f : Field) (layouts : List FieldLayout) → IsIndex k index → FieldsKnown k i fs n layouts → slice_get fs n ≡ Some f
     → None ≡ place_in index f.shape.class
     → TellsFirst (flaws_in UnknownType (is_unknown k) i fs) (Flawed i (Some n) UnknownType)
@@ -53,11 +53,11 @@ known_end k i fs n layouts s l = stage_none (found_unknown k i) fs n (flaws_in U
 pub known_all : (k : Classes) (i : ℕ) (fs : List Field) (n : ℕ) (layouts : List FieldLayout) → FieldsKnown k i fs n layouts → length fs ≤ n → AreFieldLayouts k fs layouts
 known_all k i fs n layouts s l = subst (λ z. AreFieldLayouts k z layouts) (take_all n fs l) s.found
 
--- what is found at a class
+-- What is found at a class.
 abbrev pub found_unknowns : Classes → ℕ → Class → List ClassFlaw
 found_unknowns k i c = flaws_in UnknownType (is_unknown k) i c.fields
 
--- the same of the classes before a place
+-- The same of the classes before a place.
 pub record ClassesKnown (k : Classes) (n : ℕ) (all : List ClassLayout) : Type 0 where
   pub left : unknown k ≡ rest (found_unknowns k) k n
   pub found : AreClassLayouts k (take n k) all

@@ -10,18 +10,18 @@ use Rattle.jfr_layout.proofs.Lists.{present}
 use Rattle.jfr_layout.proofs.Stages.{rest, stage_next, stage_tells, stage_none}
 use Rattle.jfr_layout.proofs.Steps.{field_of}
 
--- what is found at a field
+-- What is found at a field.
 abbrev pub found_empty : Classes → ℕ → ℕ → Field → List ClassFlaw
 found_empty k i j f = flaw_if (is_empty_inline k f) i (Some j) EmptyInline
 
--- none of the fields before a number is such a one
+-- None of the fields before a number is such a one.
 pub record FieldsFilled (k : Classes) (i n : ℕ) : Type 0 where
   pub left : IfSome (slice_get k i) (λ c. flaws_in EmptyInline (is_empty_inline k) i c.fields ≡ rest (found_empty k i) c.fields n)
 
 pub filled_none : (k : Classes) (i : ℕ) (c : Class) → slice_get k i ≡ Some c → FieldsFilled k i 0
 filled_none k i c e = record { left = rw e refl }
 
--- what was computed for the field is what holds of it
+-- What was computed for the field is what holds of it.
 tested : (k : Classes) (i n : ℕ) (c : Class) (f : Field) (t : Bool) → slice_get k i ≡ Some c → slice_get c.fields n ≡ Some f → IfSome (field_at k i n) (λ g. t ≡ is_empty_inline k g) → t ≡ is_empty_inline k f
 tested k i n c f t e s h = rw (field_of k i n c f e s) at h
 
@@ -44,7 +44,7 @@ filled_tell k i n c t e s l h u =
 pub filled_end : (k : Classes) (i n : ℕ) (c : Class) → slice_get k i ≡ Some c → FieldsFilled k i n → length c.fields ≤ n → flaws_in EmptyInline (is_empty_inline k) i c.fields ≡ []
 filled_end k i n c e s l = stage_none (found_empty k i) c.fields n (flaws_in EmptyInline (is_empty_inline k) i c.fields) (rw e at s.left) l
 
--- what is found at a class
+-- What is found at a class.
 abbrev pub found_empties : Classes → ℕ → Class → List ClassFlaw
 found_empties k i c = flaws_in EmptyInline (is_empty_inline k) i c.fields
 

@@ -14,7 +14,7 @@ use Rattle.jfr_layout.specs.declared.field_layout.FieldLayout.{FieldLayout}
 use Rattle.jfr_layout.specs.Fused.{AreFused, AreRaw, BeginsAt, IsFused, Passes, passed_by}
 use Rattle.jfr_layout.proofs.Lists.{all_push, present}
 
--- a range of one, and one that ends behind the next
+-- A range of one, and one that ends behind the next.
 pub range_alone : {X : Type 0} (xs : List X) (i : ℕ) (x : X) → slice_get xs i ≡ Some x → slice_range xs i (i + 1) ≡ x ∷ []
 range_alone xs i x e =
     let d : drop i xs ≡ x ∷ drop (i + 1) xs = drop_more xs i x (slice_get_within xs i x e) ∙ ap (λ y. y ∷ drop (i + 1) xs) (get_or_from_slice_get xs i x x e) in
@@ -31,7 +31,7 @@ module _ (layouts : List FieldLayout) (first : ℕ) where
   abbrev fused : ℕ → FusedKind → FusedFields
   fused fields kind = record { first = first; fields = fields; kind = kind }
 
-  -- one field more
+  -- One field more.
   next_is : (fields : ℕ) (s : FieldLayout) → slice_get layouts (first + fields) ≡ Some s → range (fields + 1) ≡ range fields ++ s ∷ []
   next_is fields s e = let n : first + (fields + 1) ≡ first + fields + 1 = omega arith in rw n (range_more layouts first (first + fields) s (omega arith) e)
 
@@ -57,7 +57,7 @@ module _ (layouts : List FieldLayout) (first : ℕ) where
   pub raw_next : (fields count more : ℕ) (s : FieldLayout) → slice_get layouts (first + fields) ≡ Some s → s.form ≡ forms.Raw more → AreRaw count (range fields) → AreRaw (count + more) (range (fields + 1))
   raw_next fields count more s e f a = subst (AreRaw (count + more)) (sym (next_is fields s e)) (raw_push count more (range fields) s a f)
 
--- the fields up to a number are passed
+-- The fields up to a number are passed.
 pub record PassedTo (layouts : List FieldLayout) (first : ℕ) (fused_fields : List FusedFields) : Type 0 where
   pub within : first ≤ length layouts
   pub each : AllByRecursion (IsFused layouts) fused_fields

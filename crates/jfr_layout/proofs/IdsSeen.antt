@@ -15,11 +15,11 @@ use Rattle.jfr_layout.proofs.Lists.{take_next, absent}
 use Rattle.jfr_layout.proofs.Places.{position_push, is_some-position}
 use Rattle.jfr_layout.proofs.Stages.{rest, stage_next, stage_tells, stage_none}
 
--- what is found at a class
+-- What is found at a class.
 abbrev pub found_repeats : Classes → ℕ → Class → List ClassFlaw
 found_repeats k i c = flaw_if (has_id (take i k) c.id) i None ClassTwice ++ name_repeats i c.fields
 
--- the ids of the classes before a place lead to them, and nothing repeats an earlier id or name
+-- The ids of the classes before a place lead to them, and nothing repeats an earlier id or name.
 pub record IdsSeen (k : Classes) (n : ℕ) (index : Index) : Type 0 where
   pub left : repeats k ≡ rest (found_repeats k) k n
   pub seen : (id : ℕ) → place_in index id ≡ class_place (take n k) id
@@ -27,7 +27,7 @@ pub record IdsSeen (k : Classes) (n : ℕ) (index : Index) : Type 0 where
 place_next : (k : Classes) (n : ℕ) (c : Class) (id : ℕ) → slice_get k n ≡ Some c → n ≤ length k → class_place (take (n + 1) k) id ≡ option_or (class_place (take n k) id) (cond (eqb c.id id) (Some n) None)
 place_next k n c id e l = ap (λ (m : Classes). class_place m id) (take_next k n c e) ∙ (position_push (λ (d : Class). eqb d.id id) (take n k) c ∙ ap (λ m. option_or (class_place (take n k) id) (cond (eqb c.id id) (Some m) None)) (length-take-le n k l))
 
--- an id that was not seen leads to its class, and every other where it led
+-- An id that was not seen leads to its class, and every other where it led.
 led : (old : Option ℕ) (t : Bool) (n : ℕ) → (t ≡ true → old ≡ None) → cond t (Some n) old ≡ option_or old (cond t (Some n) None)
 led None true n h = refl
 led None false n h = refl
@@ -37,7 +37,7 @@ led (Some m) false n h = refl
 is_used : (k : Classes) (n : ℕ) (index : Index) (id : ℕ) → IdsSeen k n index → has_id (take n k) id ≡ is_some (place_in index id)
 is_used k n index id s = sym (is_some-position (λ (d : Class). eqb d.id id) (take n k)) ∙ ap is_some (sym (s.seen id))
 
--- the class at a place has a new id, and its names stand once
+-- The class at a place has a new id, and its names stand once.
 pub ids_next : (k : Classes) (n : ℕ) (index later : Index) (c : Class) → IdsSeen k n index → slice_get k n ≡ Some c → n < length k
     → is_some (place_in index c.id) ≡ false
     → ((id : ℕ) → place_in later id ≡ cond (eqb c.id id) (Some n) (place_in index id))
@@ -50,14 +50,14 @@ ids_next k n index later c s e l none up names = record {
       ∙ (ap (λ o. option_or o (cond (eqb c.id id) (Some n) None)) (s.seen id) ∙ sym (place_next k n c id e (let m : n ≤ length k = omega arith in m))));
 }
 
--- the class at a place has an id that was seen
+-- The class at a place has an id that was seen.
 pub ids_tell : (k : Classes) (n : ℕ) (index : Index) (c : Class) → IdsSeen k n index → slice_get k n ≡ Some c
     → is_some (place_in index c.id) ≡ true
     → TellsFirst (repeats k) (Flawed n None ClassTwice)
 ids_tell k n index c s e some = stage_tells (found_repeats k) k n c (repeats k) (Flawed n None ClassTwice) s.left e
     (ap (λ t. slice_get (flaw_if t n None ClassTwice ++ name_repeats n c.fields) 0) (is_used k n index c.id s ∙ some))
 
--- the class at a place has a new id, and repeats a name
+-- The class at a place has a new id, and repeats a name.
 pub ids_names_tell : (k : Classes) (n : ℕ) (index : Index) (c : Class) (fault : ClassFault) → IdsSeen k n index → slice_get k n ≡ Some c
     → is_some (place_in index c.id) ≡ false
     → TellsFirst (name_repeats n c.fields) fault
@@ -65,7 +65,7 @@ pub ids_names_tell : (k : Classes) (n : ℕ) (index : Index) (c : Class) (fault 
 ids_names_tell k n index c fault s e none t = stage_tells (found_repeats k) k n c (repeats k) fault s.left e
     (subst (λ (b : Bool). TellsFirst (flaw_if b n None ClassTwice ++ name_repeats n c.fields) fault) (sym (is_used k n index c.id s ∙ none)) t)
 
--- all were seen
+-- All were seen.
 pub ids_end : (k : Classes) (n : ℕ) (index : Index) → IdsSeen k n index → length k ≤ n → repeats k ≡ []
 ids_end k n index s l = stage_none (found_repeats k) k n (repeats k) s.left l
 

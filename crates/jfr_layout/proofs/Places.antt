@@ -9,7 +9,7 @@ use Rattle.std.proofs.lemmas.Option.{cond_some}
 use Rattle.std.proofs.lemmas.Iterator.Adapters.{position_from-zero}
 use Rattle.jfr_layout.specs.Classes.{Class, Classes, class_place, find_class}
 
--- by cases on what a test gives
+-- By cases on what a test gives.
 by_test : {A : Type 0} (f g : Bool → A) → f true ≡ g true → f false ≡ g false → (b : Bool) → f b ≡ g b
 by_test f g t e true = t
 by_test f g t e false = e
@@ -36,15 +36,15 @@ some_found : {X : Type 0} (p : X → Bool) (xs : List X) → is_some (find p xs)
 some_found p [] = refl
 some_found p (x ∷ xs) = by_test (λ t. is_some (cond t (Some x) (find p xs))) (λ t. t || list_any p xs) refl (some_found p xs) (p x)
 
--- there is a class of the id exactly where it has a place
+-- There is a class of the id exactly where it has a place.
 pub is_some-find : {X : Type 0} (p : X → Bool) (xs : List X) → is_some (find p xs) ≡ is_some (position p xs)
 is_some-find p xs = some_found p xs ∙ sym (is_some-position p xs)
 
--- the class of an id stands at its place
+-- The class of an id stands at its place.
 pub find-position : {X : Type 0} (p : X → Bool) (xs : List X) (i : ℕ) → position p xs ≡ Some i → find p xs ≡ slice_get xs i
 find-position p xs i e = find_at p xs ∙ ap (slice_get xs) (cond_some (nat_lt (position_or_len p xs) (length xs)) (position_or_len p xs) i e).1
 
--- and within the list
+-- And within the list.
 pub place_within : (k : Classes) (id p : ℕ) → class_place k id ≡ Some p → p < length k
 place_within [] id p e = cc
 place_within (c ∷ k) id p e = (position-Some (λ (d : Class). d.id == id) (c ∷ k) p c e).0

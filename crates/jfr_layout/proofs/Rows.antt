@@ -24,7 +24,7 @@ class id name fields = record { id = id; name = name; super_name = None; fields 
 event : ℕ → List ℕ → List Field → Class
 event id name fields = record { id = id; name = name; super_name = Some (codes "jdk.jfr.Event"); fields = fields; categories = [] }
 
--- two numbers, a node that refers to the next, and two events
+-- Two numbers, a node that refers to the next, and two events.
 rings : Classes
 unfolding inline reference field class event
 rings =
@@ -55,12 +55,12 @@ rings_events : map (is_event_class rings) (5 ∷ 7 ∷ 8 ∷ 9 ∷ 10 ∷ []) �
 unfolding inline reference field class event rings is_event_class kind_of
 rings_events = refl
 
--- neither a base name nor the ids 0 and 1 make an event class
+-- Neither a base name nor the ids 0 and 1 make an event class.
 no_events : map (is_event_class (event 0 (codes "a") [] ∷ event 1 (codes "b") [] ∷ event 2 (codes "int") [] ∷ event 3 (codes "c") [] ∷ [])) (0 ∷ 1 ∷ 2 ∷ 3 ∷ []) ≡ false ∷ false ∷ false ∷ true ∷ []
 unfolding event is_event_class kind_of
 no_events = refl
 
--- one flaw of each kind: the class, the field, the reason
+-- One flaw of each kind: the class, the field, the reason.
 id_twice : class_faults (class 2 (codes "a") [] ∷ class 3 (codes "b") [] ∷ class 2 (codes "c") [] ∷ []) ≡ record { class = 2; field = None; reason = ClassTwice } ∷ []
 unfolding class class_faults kind_of
 id_twice = refl
@@ -77,22 +77,22 @@ nothing_inside : class_faults (class 2 (codes "a") [] ∷ class 3 (codes "b") (f
 unfolding items reference field class class_faults kind_of
 nothing_inside = refl
 
--- a class whose values hold arrays of its own values
+-- A class whose values hold arrays of its own values.
 within_itself : class_faults (class 2 (codes "a") (field (codes "x") (items 2) ∷ []) ∷ []) ≡ record { class = 0; field = None; reason = InlineDeep } ∷ []
 unfolding items field class class_faults kind_of
 within_itself = refl
 
--- two classes of one base name, each with its own id, and a base name inside itself
+-- Two classes of one base name, each with its own id, and a base name inside itself.
 base_names : class_faults (class 2 (codes "int") (field (codes "x") (inline 2) ∷ []) ∷ class 3 (codes "int") [] ∷ []) ≡ []
 unfolding inline field class class_faults kind_of
 base_names = refl
 
--- a later repeat is told before an earlier field whose class isn't defined
+-- A later repeat is told before an earlier field whose class isn't defined.
 first_told : map (λ f. f.reason) (class_faults (class 2 (codes "a") (field (codes "x") (inline 9) ∷ []) ∷ class 2 (codes "b") [] ∷ [])) ≡ ClassTwice ∷ UnknownType ∷ []
 unfolding inline field class class_faults kind_of
 first_told = refl
 
--- so many classes, each with a field of the next, and a number at the end
+-- So many classes, each with a field of the next, and a number at the end.
 chain : ℕ → ℕ → Classes
 unfolding inline field class
 chain zero id = class id (codes "long") [] ∷ []

@@ -8,7 +8,7 @@ use Rattle.jfr_layout.specs.declared.fault.ClassFault.{ClassFault}
 use Rattle.jfr_layout.specs.declared.fault.ClassFault.TheVariants.{Flawed, Memory}
 use Rattle.jfr_layout.specs.Classes.{ClassFlaw, TellsFirst, flaw_if}
 
--- what is found from a place on
+-- What is found from a place on.
 abbrev pub rest : {X : Type 0} → (ℕ → X → List ClassFlaw) → List X → ℕ → List ClassFlaw
 rest found xs i = flat_map (λ x. found x.0 x.1) (enumerate_from i (drop i xs))
 
@@ -24,19 +24,19 @@ tells_append [] b Memory t = tt
 tells_append (f ∷ a) b (Flawed i j why) t = t
 tells_append (f ∷ a) b Memory t = tt
 
--- nothing is found at a member
+-- Nothing is found at a member.
 pub stage_next : {X : Type 0} (found : ℕ → X → List ClassFlaw) (xs : List X) (i : ℕ) (x : X) (all : List ClassFlaw) → all ≡ rest found xs i → slice_get xs i ≡ Some x → found i x ≡ [] → all ≡ rest found xs (i + 1)
 stage_next found xs i x all r e n = r ∙ (rest_at found xs i x e ∙ ap (λ y. y ++ rest found xs (i + 1)) n)
 
--- what is told at a member is the first flaw of all
+-- What is told at a member is the first flaw of all.
 pub stage_tells : {X : Type 0} (found : ℕ → X → List ClassFlaw) (xs : List X) (i : ℕ) (x : X) (all : List ClassFlaw) (e : ClassFault) → all ≡ rest found xs i → slice_get xs i ≡ Some x → TellsFirst (found i x) e → TellsFirst all e
 stage_tells found xs i x all e r s t = rw (r ∙ rest_at found xs i x s) (tells_append (found i x) (rest found xs (i + 1)) e t)
 
--- nothing is left
+-- Nothing is left.
 pub stage_none : {X : Type 0} (found : ℕ → X → List ClassFlaw) (xs : List X) (i : ℕ) (all : List ClassFlaw) → all ≡ rest found xs i → length xs ≤ i → all ≡ []
 stage_none found xs i all r l = r ∙ ap (λ ys. flat_map (λ y. found y.0 y.1) (enumerate_from i ys)) (drop_all i xs l)
 
--- a test that found nothing failed
+-- A test that found nothing failed.
 pub no_flaw : (t : Bool) (i : ℕ) (j : Option ℕ) (why : Reason) → flaw_if t i j why ≡ [] → t ≡ false
 no_flaw true i j why e = cc
 no_flaw false i j why e = refl

@@ -16,7 +16,7 @@ use Rattle.jfr_layout.specs.declared.fault.ClassFault.TheVariants.{Flawed, Memor
 use Rattle.jfr_layout.specs.declared.class.ClassInfo.{ClassInfo}
 use Rattle.jfr_layout.specs.declared.class.FieldInfo.{FieldInfo}
 
--- a class, a field and a list of classes as the code declares them: a text is the list of its characters
+-- A class, a field and a list of classes as the code declares them: a text is the list of its characters.
 abbrev pub Class : Type 0
 Class = ClassInfo
 
@@ -26,19 +26,19 @@ Field = FieldInfo
 abbrev pub Classes : Type 0
 Classes = List Class
 
--- the class of an id
+-- The class of an id.
 abbrev pub find_class : Classes → ℕ → Option Class
 find_class k id = find (λ c. c.id == id) k
 
--- the index in the list of the class of an id
+-- The index in the list of the class of an id.
 abbrev pub class_place : Classes → ℕ → Option ℕ
 class_place k id = position (λ c. c.id == id) k
 
--- the field by its number, of the class of an index
+-- The field by its number, of the class of an index.
 abbrev pub field_at : Classes → ℕ → ℕ → Option Field
 field_at k place number = option_and_then (λ c. slice_get c.fields number) (slice_get k place)
 
--- the number of the field of a name
+-- The number of the field of a name.
 abbrev pub field_number : List Field → List ℕ → Option ℕ
 field_number fs name = position (λ f. bytes_eq f.name name) fs
 
@@ -56,7 +56,7 @@ kind_of name =
     else if bytes_eq name (codes "java.lang.String") then Text
     else Composite
 
--- how an inline value of this kind is spelled
+-- How an inline value of this kind is spelled.
 abbrev pub inline_form : Kind → Form
 inline_form Boolean = forms.Raw 1
 inline_form Byte = forms.Raw 1
@@ -69,50 +69,50 @@ inline_form Double = forms.Raw 8
 inline_form Text = forms.Text
 inline_form Composite = forms.Fields
 
--- how a value of a shape is spelled whose class is of this kind: the array mark counts first, and then the
--- constant mark
+-- How a value of a shape is spelled whose class is of this kind: the array mark counts first, and then the
+-- constant mark.
 abbrev pub form_of : Shape → Kind → Form
 form_of s kind = if s.array then forms.Array else if s.constant then forms.Key else inline_form kind
 
--- the layout of a shape whose class has this place and this kind
+-- The layout of a shape whose class has this place and this kind.
 abbrev pub layout_with : Shape → ℕ → Kind → FieldLayout
 layout_with s place kind = record { shape = s; place = place; kind = kind; form = form_of s kind }
 
--- the kind is not one of the nine base kinds
+-- The kind is not one of the nine base kinds.
 abbrev pub is_composite : Kind → Bool
 is_composite Composite = true
 is_composite _ = false
 
--- the class is composite and has the super type of events
+-- The class is composite and has the super type of events.
 abbrev pub extends_event : Class → Bool
 extends_event c = is_composite (kind_of c.name) && option_map_or (λ n. bytes_eq n (codes "jdk.jfr.Event")) c.super_name false
 
--- an event class is such a class with an id that is neither 0 nor 1
+-- An event class is such a class with an id that is neither 0 nor 1.
 unfoldable pub is_event_class : Classes → ℕ → Bool
 is_event_class k id = nat_lt 1 id && option_map_or extends_event (find_class k id) false
 
--- the layout has the place and the kind of the class of its shape, and the form that these give
+-- The layout has the place and the kind of the class of its shape, and the form that these give.
 pub record IsFieldLayout (k : Classes) (s : FieldLayout) : Type 0 where
   pub place : class_place k s.shape.class ≡ Some s.place
   pub kind : option_map (λ c. kind_of c.name) (find_class k s.shape.class) ≡ Some s.kind
   pub form : s.form ≡ form_of s.shape s.kind
 
--- the layout of the fields of an event whose class has this id
+-- The layout of the fields of an event whose class has this id.
 pub record IsEventLayout (k : Classes) (id : ℕ) (s : FieldLayout) : Type 0 where
   pub event : is_event_class k id ≡ true
   pub shape : s.shape ≡ record { class = id; constant = false; array = false }
   pub layout : IsFieldLayout k s
 
--- one layout for each field, in order, with the field's shape
+-- One layout for each field, in order, with the field's shape.
 pub record AreFieldLayouts (k : Classes) (fs : List Field) (layouts : List FieldLayout) : Type 0 where
   pub shapes : map (λ s. s.shape) layouts ≡ map (λ f. f.shape) fs
   pub each : AllByRecursion (IsFieldLayout k) layouts
 
--- an item's shape: the array's without the array mark
+-- An item's shape: the array's without the array mark.
 abbrev pub item_of : Shape → Shape
 item_of s = record { class = s.class; constant = s.constant; array = false }
 
--- the fields of an inline value: those of a composite class, and none for a base name
+-- The fields of an inline value: those of a composite class, and none for a base name.
 abbrev pub inline_fields : Class → List Field
 inline_fields c = if is_composite (kind_of c.name) then c.fields else []
 
@@ -121,12 +121,12 @@ abbrev pub step_class : Classes → Field → Option Class
 step_class k f = if f.shape.constant then None
     else option_and_then (λ d. if is_composite (kind_of d.name) then Some d else None) (find_class k f.shape.class)
 
--- the class begins a chain of so many inline steps
+-- The class begins a chain of so many inline steps.
 abbrev pub goes_inline : ℕ → Classes → Class → Bool
 goes_inline zero k c = true
 goes_inline (suc n) k c = list_any (λ f. option_map_or (λ d. goes_inline n k d) (step_class k f) false) (inline_fields c)
 
--- so many inline steps follow the one by this field
+-- So many inline steps follow the one by this field.
 abbrev pub step_goes : ℕ → Classes → Field → Bool
 step_goes n k f = option_map_or (λ d. goes_inline n k d) (step_class k f) false
 
@@ -137,55 +137,55 @@ pub record ClassFlaw : Type 0 where
   pub field : Option ℕ
   pub reason : Reason
 
--- one flaw or none
+-- One flaw or none.
 abbrev pub flaw_if : Bool → ℕ → Option ℕ → Reason → List ClassFlaw
 flaw_if bad i j why = if bad then record { class = i; field = j; reason = why } ∷ [] else []
 
--- what is found at each member with its place, in order
+-- What is found at each member with its place, in order.
 abbrev pub each_at : {X : Type 0} → (ℕ → X → List ClassFlaw) → List X → List ClassFlaw
 each_at found xs = flat_map (λ x. found x.0 x.1) (enumerate_from 0 xs)
 
--- some class has the id
+-- Some class has the id.
 abbrev pub has_id : Classes → ℕ → Bool
 has_id k id = list_any (λ c. c.id == id) k
 
--- some field has the name
+-- Some field has the name.
 abbrev pub has_name : List Field → List ℕ → Bool
 has_name fs name = list_any (λ f. bytes_eq f.name name) fs
 
--- the fields whose names an earlier field of the class has
+-- The fields whose names an earlier field of the class has.
 abbrev pub name_repeats : ℕ → List Field → List ClassFlaw
 name_repeats i fs = each_at (λ j f. flaw_if (has_name (take j fs) f.name) i (Some j) FieldTwice) fs
 
--- the classes whose ids an earlier class has, each before its own fields
+-- The classes whose ids an earlier class has, each before its own fields.
 abbrev pub repeats : Classes → List ClassFlaw
 repeats k = each_at (λ i c. flaw_if (has_id (take i k) c.id) i None ClassTwice ++ name_repeats i c.fields) k
 
--- the fields of a class that fail a test
+-- The fields of a class that fail a test.
 abbrev pub flaws_in : Reason → (Field → Bool) → ℕ → List Field → List ClassFlaw
 flaws_in why bad i fs = each_at (λ j f. flaw_if (bad f) i (Some j) why) fs
 
--- the fields of all classes that fail a test
+-- The fields of all classes that fail a test.
 abbrev pub field_flaws : Reason → (Field → Bool) → Classes → List ClassFlaw
 field_flaws why bad k = each_at (λ i c. flaws_in why bad i c.fields) k
 
--- the field's class isn't defined
+-- The field's class isn't defined.
 abbrev pub is_unknown : Classes → Field → Bool
 is_unknown k f = not (is_some (find_class k f.shape.class))
 
--- the fields whose class isn't defined
+-- The fields whose class isn't defined.
 abbrev pub unknown : Classes → List ClassFlaw
 unknown k = field_flaws UnknownType (is_unknown k) k
 
--- the field is an inline one of a composite class without fields
+-- The field is an inline one of a composite class without fields.
 abbrev pub is_empty_inline : Classes → Field → Bool
 is_empty_inline k f = option_map_or (λ d. length d.fields == 0) (step_class k f) false
 
--- the inline fields of composite classes without fields
+-- The inline fields of composite classes without fields.
 abbrev pub empty_inline : Classes → List ClassFlaw
 empty_inline k = field_flaws EmptyInline (is_empty_inline k) k
 
--- the classes that begin a chain of more than 32 inline steps
+-- The classes that begin a chain of more than 32 inline steps.
 abbrev pub deep : Classes → List ClassFlaw
 deep k = each_at (λ i c. flaw_if (goes_inline 33 k c) i None InlineDeep) k
 
@@ -212,6 +212,6 @@ abbrev pub AgreeWithin : ℕ → Classes → Classes → ℕ → Type 0
 AgreeWithin zero k m id = ⊤
 AgreeWithin (suc n) k m id = (c d : Class) × (find_class k id ≡ Some c) × (find_class m id ≡ Some d) × (c.name ≡ d.name) × (c.super_name ≡ d.super_name) × (c.fields ≡ d.fields) × AllByRecursion (λ f. AgreeWithin n k m f.shape.class) c.fields
 
--- two lists agree on the class of an id, and on all classes that its fields name, at any depth
+-- Two lists agree on the class of an id, and on all classes that its fields name, at any depth.
 abbrev pub Agree : Classes → Classes → ℕ → Type 0
 Agree k m id = (n : ℕ) → AgreeWithin n k m id

@@ -8,15 +8,15 @@ use Rattle.jfr_layout.specs.declared.fused.FusedKind.{FusedKind}
 use Rattle.jfr_layout.specs.declared.fused.FusedKind.TheVariants as fused_kinds
 use Rattle.jfr_layout.specs.declared.field_layout.FieldLayout.{FieldLayout}
 
--- the layouts of the fields that are passed at once
+-- The layouts of the fields that are passed at once.
 abbrev pub passed_by : List FieldLayout → FusedFields → List FieldLayout
 passed_by layouts l = slice_range layouts l.first (l.first + l.fields)
 
--- a reference, or a string, of this class
+-- A reference, or a string, of this class.
 abbrev pub IsOf : Form → ℕ → FieldLayout → Type 0
 IsOf form class s = (s.form ≡ form) × (s.shape.class ≡ class)
 
--- two integers and two references, of these classes
+-- Two integers and two references, of these classes.
 pub record IsEventPrelude (thread trace : ℕ) (layouts : List FieldLayout) : Type 0 where
   pub start : FieldLayout
   pub duration : FieldLayout
@@ -28,16 +28,16 @@ pub record IsEventPrelude (thread trace : ℕ) (layouts : List FieldLayout) : Ty
   pub thread_is : IsOf forms.Key thread threads
   pub trace_is : IsOf forms.Key trace traces
 
--- raw bytes, so many in all
+-- Raw bytes, so many in all.
 abbrev pub AreRaw : ℕ → List FieldLayout → Type 0
 AreRaw count [] = count ≡ 0
 AreRaw count (s ∷ ss) = (bytes rest : ℕ) × (s.form ≡ forms.Raw bytes) × (count ≡ bytes + rest) × AreRaw rest ss
 
--- so many integers
+-- So many integers.
 abbrev pub AreIntegers : ℕ → List FieldLayout → Type 0
 AreIntegers count layouts = (length layouts ≡ count) × AllByRecursion (λ s. s.form ≡ forms.Integer) layouts
 
--- the layouts have the forms that the kind says
+-- The layouts have the forms that the kind says.
 abbrev pub Passes : FusedKind → List FieldLayout → Type 0
 Passes (fused_kinds.EventPrelude thread trace) layouts = IsEventPrelude thread trace layouts
 Passes fused_kinds.OneInteger layouts = AreIntegers 1 layouts
@@ -49,18 +49,18 @@ Passes (fused_kinds.Key class) layouts = (s : FieldLayout) × (layouts ≡ s ∷
 Passes (fused_kinds.Text class) layouts = (s : FieldLayout) × (layouts ≡ s ∷ []) × IsOf forms.Text class s
 Passes fused_kinds.Any layouts = ⊤
 
--- the fused fields are fields of the class, of the forms that their kind says
+-- The fused fields are fields of the class, of the forms that their kind says.
 pub record IsFused (layouts : List FieldLayout) (l : FusedFields) : Type 0 where
   pub within : l.first + l.fields ≤ length layouts
   pub passes : Passes l.kind (passed_by layouts l)
 
--- fields that are passed at once from the field of this number on
+-- Fields that are passed at once from the field of this number on.
 pub record BeginsAt (layouts : List FieldLayout) (first : ℕ) (l : FusedFields) : Type 0 where
   pub first_is : l.first ≡ first
   pub some : 0 < l.fields
   pub fused : IsFused layouts l
 
--- groups of fields of a class, which together pass each of its fields once, in order
+-- Groups of fields of a class, which together pass each of its fields once, in order.
 pub record AreFused (layouts : List FieldLayout) (fused_fields : List FusedFields) : Type 0 where
   pub each : AllByRecursion (IsFused layouts) fused_fields
   pub all : flat_map (passed_by layouts) fused_fields ≡ layouts

@@ -3,20 +3,20 @@ use Rattle.std.specs.Prelude.{◌≡◌, ℕ, ◌<◌, length, IsSome, Some, fal
 use Rattle.std.specs.List.{AllByRecursion}
 use Rattle.jfr_layout.specs.Classes.{Class, Classes, Field, find_class, class_place, field_at, field_number, step_class, goes_inline, Agree}
 
--- each class is the one of its id, and each field of a class is the one of its name
+-- Each class is the one of its id, and each field of a class is the one of its name.
 pub record StandOnce (k : Classes) : Type 0 where
   pub id : (i : ℕ) (c : Class) → slice_get k i ≡ Some c → (class_place k c.id ≡ Some i) × (find_class k c.id ≡ Some c)
   pub name : (i j : ℕ) (c : Class) (f : Field) → slice_get k i ≡ Some c → slice_get c.fields j ≡ Some f → field_number c.fields f.name ≡ Some j
 
--- each field's class is there, and where an inline step goes, there are fields
+-- Each field's class is there, and where an inline step goes, there are fields.
 pub record AreKnown (k : Classes) : Type 0 where
   pub class : (i j : ℕ) (f : Field) → field_at k i j ≡ Some f → IsSome (find_class k f.shape.class)
   pub filled : (i j : ℕ) (f : Field) (d : Class) → field_at k i j ≡ Some f → step_class k f ≡ Some d → 0 < length d.fields
 
--- no class begins a chain of more than 32 inline steps
+-- No class begins a chain of more than 32 inline steps.
 pub record EndsInline (k : Classes) : Type 0 where
   pub class : (id : ℕ) (c : Class) → find_class k id ≡ Some c → goes_inline 33 k c ≡ false
 
--- lists that agree on a class agree on the classes of its fields
+-- Lists that agree on a class agree on the classes of its fields.
 pub record AgreeOnFields (k m : Classes) : Type 0 where
   pub field : (id : ℕ) (c : Class) → Agree k m id → find_class k id ≡ Some c → AllByRecursion (λ f. Agree k m f.shape.class) c.fields

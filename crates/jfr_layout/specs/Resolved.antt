@@ -9,25 +9,25 @@ use Rattle.jfr_layout.specs.declared.class_layout.ClassLayout.{ClassLayout}
 use Rattle.jfr_layout.specs.Fused.{AreFused}
 use Rattle.jfr_layout.specs.Classes.{Class, Classes, AreFieldLayouts, class_place, extends_event, kind_of, repeats, unknown}
 
--- what the look-up of an id gives: the direct table's answer, and past the end of the table the map's
+-- What the look-up of an id gives: the direct table's answer, and past the end of the table the map's.
 abbrev pub place_in : Index → ℕ → Option ℕ
 place_in index id = unwrap_or (slice_get index.near.items id) (tree.get nat_cmp index.far id)
 
--- the index leads from each id to the place of its class
+-- The index leads from each id to the place of its class.
 pub record IsIndex (k : Classes) (index : Index) : Type 0 where
   pub at : (id : ℕ) → place_in index id ≡ class_place k id
 
--- the layout of a class has those of its fields, and groups of fields that are passed at once
+-- The layout of a class has those of its fields, and groups of fields that are passed at once.
 pub record IsClassLayout (k : Classes) (c : Class) (class_layout : ClassLayout) : Type 0 where
   pub layouts : AreFieldLayouts k c.fields class_layout.layouts.items
   pub fused_fields : AreFused class_layout.layouts.items class_layout.fused_fields.items
   pub event : class_layout.is_event ≡ extends_event c
 
--- the layouts of these classes, in order
+-- The layouts of these classes, in order.
 abbrev pub AreClassLayouts : Classes → List Class → List ClassLayout → Type 0
 AreClassLayouts k cs class_layouts = AllZip (IsClassLayout k) cs class_layouts
 
--- ids and names are used once, fields' classes are known, and what stands beside the list is the list's
+-- Ids and names are used once, fields' classes are known, and what stands beside the list is the list's.
 pub record IsResolved (k : Classes) (index : Index) (kinds : List Kind) (class_layouts : List ClassLayout) : Type 0 where
   pub once : repeats k ≡ []
   pub known : unknown k ≡ []

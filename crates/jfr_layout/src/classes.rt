@@ -19,7 +19,7 @@ use std::marker::Model;
 #[derive(Drop)]
 pub struct Classes {
     resolved: Resolved,
-    // the indexes of the event classes, by id, as far as the direct table goes
+    // The indexes of the event classes, by id, as far as the direct table goes.
     events: Vec<Option<usize>>,
 }
 

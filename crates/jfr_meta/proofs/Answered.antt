@@ -23,17 +23,17 @@ says x r a h e =
 abbrev told_of : Body → Result Classes Flaw
 told_of b = told b.strings (place_of b.root) (class_elements b.strings b.root)
 
--- a body that is read, and the classes that it describes
+-- A body that is read, and the classes that it describes.
 pub metadata_ok : (x : List ℕ) (r : Framed) (b : Body) (k : Classes) → IsRecord x r → run meta_format x (record_end r) r.body ≡ ok b (record_end r) → told_of b ≡ Ok k → IsMetadata x r b k
 unfolding described
 metadata_ok x r b k h e f = record { body = says x r (ok b (record_end r)) h e; classes = f }
 
--- a body that isn't read
+-- A body that isn't read.
 pub body_refused : (x : List ℕ) (r : Framed) (e : ReadFault) → IsRecord x r → IsFault (run meta_format x (record_end r) r.body) e → IfFlawed (IsMetadataFlaw x r) e
 body_refused x r (Flawed f) h e = inl (says x r (Err f) h e)
 body_refused x r Memory h e = tt
 
--- a body that describes no classes
+-- A body that describes no classes.
 pub classes_refused : (x : List ℕ) (r : Framed) (b : Body) (e : ReadFault) → IsRecord x r → run meta_format x (record_end r) r.body ≡ ok b (record_end r) → IsFault (told_of b) e → IfFlawed (IsMetadataFlaw x r) e
 unfolding described
 classes_refused x r b (Flawed f) h e g = inr (b, says x r (ok b (record_end r)) h e, g)

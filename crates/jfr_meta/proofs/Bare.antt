@@ -28,7 +28,7 @@ name_bare (Node place name pairs children) = refl
 place_bare : (t : Tree) → place_of (bare t) ≡ 0
 place_bare (Node place name pairs children) = refl
 
--- a test that gives the same on a bare tree
+-- A test that gives the same on a bare tree.
 filter_bare : (q : Tree → Bool) → ((t : Tree) → q (bare t) ≡ q t) → (ts : List Tree) → filter q (map bare ts) ≡ map bare (filter q ts)
 filter_bare q s [] = refl
 filter_bare q s (t ∷ ts) = ap (λ z. if z then bare t ∷ filter q (map bare ts) else filter q (map bare ts)) (s t) ∙ by_test (q t) (filter_bare q s ts)
@@ -162,7 +162,7 @@ flaws_bare texts ts =
     ∙ (ap (λ z. map erased (flat_map (class_flaws texts) ts) ++ z) (ap (λ k. map (placed texts (map bare ts)) (class_faults k)) (classes_bare texts ts) ∙ placed_bare texts ts (class_faults (classes_of texts ts)))
     ∙ sym (erased_append (flat_map (class_flaws texts) ts) (list_flaws texts ts)))
 
--- the classes, where none is faulty
+-- The classes, where none is faulty.
 abbrev classes_in : Result Classes Flaw → Option Classes
 classes_in (Ok k) = Some k
 classes_in (Err f) = None

@@ -62,7 +62,7 @@ in_parts : (x : List ℕ) (end at : ℕ) → run body_format x end at ≡ run (h
 unfolding body_format
 in_parts x end at = refl
 
--- the whole record: the end behind the body
+-- The whole record: the end behind the body.
 stopped_ok : (x : List ℕ) (end at : ℕ) (b : Body) (p : ℕ) → run body_format x end at ≡ ok b p → run meta_format x end at ≡ run (Stop (Done b)) x end p
 unfolding meta_format
 stopped_ok x end at b p e = bind_ok body_format (λ b. Stop (Done b)) x end at b p e

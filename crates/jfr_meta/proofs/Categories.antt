@@ -13,7 +13,7 @@ use Rattle.jfr_meta.specs.Trees.{Tree}
 use Rattle.jfr_meta.specs.Described.{AreCategoryIds, is_category_id, is_category_head, class_head, heads}
 use Rattle.jfr_meta.proofs.Judging.{refs_next}
 
--- one more class element
+-- One more class element.
 pub ids_next : (texts : List (List ℕ)) (refs : List (Bor Tree)) (i : ℕ) (r : Bor Tree) (ids later : BTreeSet ℕ) → AreCategoryIds (heads texts (map (λ e. e.now) (take i refs))) ids
     → i < length refs → r ≡ get_or refs i r
     → ((q : ℕ) → contains nat_cmp later q ≡ (contains nat_cmp ids q || is_category_id (option_to_list (class_head texts r.now)) q))
@@ -28,13 +28,13 @@ ids_next texts refs i r ids later known l e h = λ q.
     one None = refl
     one (Some h) = refl
 
--- what is found from a place on
+-- What is found from a place on.
 pub find_at : {A : Type 0} (p : A → Bool) (xs : List A) (i : ℕ) (x : A) → slice_get xs i ≡ Some x → find p (drop i xs) ≡ (if p x then Some x else find p (drop (i + 1) xs))
 find_at p [] i x e = cc
 find_at p (y ∷ xs) zero x e = let f : y ≡ x = cc in ap (λ z. if p z then Some z else find p xs) f
 find_at p (y ∷ xs) (suc i) x e = let n : suc i + 1 ≡ suc (i + 1) = omega arith in rw n (find_at p xs i x e)
 
--- the element at a place is found, or is passed over
+-- The element at a place is found, or is passed over.
 pub found_at : {A : Type 0} (p : A → Bool) (xs : List A) (i : ℕ) (x : A) → slice_get xs i ≡ Some x → p x ≡ true → find p (drop i xs) ≡ Some x
 found_at p xs i x e t = find_at p xs i x e ∙ ap (λ z. if z then Some x else find p (drop (i + 1) xs)) t
 

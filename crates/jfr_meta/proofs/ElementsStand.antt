@@ -34,7 +34,7 @@ module _ (x : List ℕ) (end : ℕ) where
       let n : index_check limit v ≡ None = ap (index_check limit) r.5.0 ∙ r.4 in
       (subst P (sym r.5.1) (subst (λ w. IntAt x at r.0 w) (sym r.5.0) r.2), below limit v n)
 
-  -- so many attributes
+  -- So many attributes.
   pairs_are : (n limit at : ℕ) (ps : List (ℕ × ℕ)) (p : ℕ) → Reads (times n (pair limit)) x end at ps p → ArePairs x limit at p ps × (length ps ≡ n)
   pairs_are zero limit at ps p r = subst (λ (z : List (ℕ × ℕ)). ArePairs x limit at p z × (length z ≡ 0)) (sym r.0) (r.1, refl)
   pairs_are (suc n) limit at ps p r =
@@ -49,7 +49,7 @@ module _ (x : List ℕ) (end : ℕ) where
       let R : ArePairs x limit v.place p b.value = subst (λ z. ArePairs x limit z p b.value) v.second.1 (subst (λ z. ArePairs x limit a.place z b.value) (sym b.second.1) rest.0) in
       subst (λ (z : List (ℕ × ℕ)). ArePairs x limit at p z × (length z ≡ suc n)) (sym e) ((k.place, v.place, ik.0, ik.1, iv.0, iv.1, R), ap (λ m. suc m) rest.1)
 
-  -- so many elements
+  -- So many elements.
   trees_are : (n levels limit : ℕ) → ((at : ℕ) (t : Tree) (p : ℕ) → Reads (element_format levels limit) x end at t p → IsElement x limit levels at p t) → (at : ℕ) (ts : List Tree) (p : ℕ)
       → Reads (times n (element_format levels limit)) x end at ts p → AreElements x limit levels at p (trees_of ts) × (how_many (trees_of ts) ≡ n)
   trees_are zero levels limit one at ts p r = subst (λ (z : List Tree). AreElements x limit levels at p (trees_of z) × (how_many (trees_of z) ≡ 0)) (sym r.0) (r.1, refl)
@@ -88,7 +88,7 @@ module _ (x : List ℕ) (end : ℕ) where
       let b = reads_parted (times n f) (λ rest. Done (a.value ∷ rest)) x end a.place vs p a.second in
       ap length b.second.0 ∙ ap (λ m. suc m) (times_length n f a.place b.value b.place b.first)
 
-  -- the four integers of a head
+  -- The four integers of a head.
   head_is : (at : ℕ) (h : Four) (q : ℕ) → Reads head_format x end at h q → (a b c : ℕ) × IntAt x at a h.0 × IntAt x a b h.1 × IntAt x b c h.2 × IntAt x c q h.3
   head_is at h q r =
       let d = r.5.5.5 in
@@ -102,7 +102,7 @@ module _ (x : List ℕ) (end : ℕ) where
         subst (λ (z : Four). IntAt x r.5.5.0 q z.3) e (subst (λ p. IntAt x r.5.5.0 p d.1) (sym d.5.1) d.2),
       )
 
-  -- the parts of a body, which ends at the end
+  -- The parts of a body, which ends at the end.
   parts_are : (r : Framed) (b : Body) → record_end r ≡ end → Reads meta_format x end r.body b end → RootStands x r b
   unfolding meta_format body_format
   parts_are record_of b ends r =

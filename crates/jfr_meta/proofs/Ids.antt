@@ -25,14 +25,14 @@ digits_ascii (c ∷ cs) e = by_test (is_ascii_digit c) refl e (digits_ascii cs)
 own : IsNumeralModel (λ ds. digits ds ≡ true) (digits_value 10)
 own = numerals_by_fold _ (search rules) (digits_value_after 10) (search rules)
 
--- the bytes of a text are digits exactly where its characters are, and then they are the same
+-- The bytes of a text are digits exactly where its characters are, and then they are the same.
 digits_same : (bs : List ℕ) → digits bs ≡ true → chars bs ≡ bs
 digits_same bs e = chars-IsAscii bs (digits_ascii bs e)
 
 digits_chars : (bs : List ℕ) → IsUtf8 bs → digits (chars bs) ≡ true → chars bs ≡ bs
 digits_chars bs u e = sym (encodes-IsAscii (chars bs) (digits_ascii (chars bs) e)) ∙ encodes-chars bs u
 
--- each of these rules an id out
+-- Each of these rules an id out.
 no_digits : (cs : List ℕ) → digits cs ≡ false → id_of cs ≡ None
 unfolding id_of
 no_digits cs e = rw e refl

@@ -25,7 +25,7 @@ clash b c k f e h i = let j : Ok k ≡ Err f = sym h ∙ (ap described e ∙ i) 
 flaws_same : (f g : Flaw) → f.offset ≡ g.offset → f.reason ≡ g.reason → f ≡ g
 flaws_same f g o r = λ i. record { offset = o i; reason = r i }
 
--- a body that is read whole ends at the end
+-- A body that is read whole ends at the end.
 ends_there : (x : List ℕ) (end at : ℕ) (b : Body) (to : ℕ) → at ≤ end → Reads meta_format x end at b to → to ≡ end
 unfolding meta_format
 ends_there x end at b to order r =

@@ -11,12 +11,12 @@ use Rattle.jfr_meta.specs.Body.{index, pair, element_format}
 use Rattle.jfr_meta.specs.Trees.{Tree, tree}
 use Rattle.jfr_meta.proofs.Runs.{ok, bind_ok, bind_err}
 
--- a fault of a part is the fault of the whole
+-- A fault of a part is the fault of the whole.
 pub carried : {A B : Type 0} (a : Answer A) (b : Answer B) (e : ReadFault) → IsFault a e → ((w : Flaw) → a ≡ Err w → b ≡ Err w) → IsFault b e
 carried a b (Flawed w) h f = f w h
 carried a b Memory h f = tt
 
--- what follows each part of an element
+-- What follows each part of an element.
 abbrev pub behind_number : ℕ → ℕ → ℕ → ℕ → List (ℕ × ℕ) → ℕ → Format Tree
 behind_number levels limit at name pairs m = times m (element_format levels limit) >>= λ children. Done (tree at name pairs children)
 
@@ -33,7 +33,7 @@ pub too_deep : (levels limit : ℕ) (x : List ℕ) (end at : ℕ) → levels ≡
 unfolding run element_format
 too_deep levels limit x end at e = ap (λ z. run (element_format z limit) x end at) e
 
--- an element whose first parts were read: the number of its children stands at a place
+-- An element whose first parts were read: the number of its children stands at a place.
 pub record Begun (levels limit : ℕ) (x : List ℕ) (end at name : ℕ) (p : ℕ) : Type 0 where
   pub same : run (element_format (suc levels) limit) x end at ≡ run (behind_name levels limit at name) x end p
 

@@ -41,7 +41,7 @@ exact_pair limit p g =
     bind_exact (index limit) (λ key. index limit >>= λ value. Done (key, value)) (spell p.0) (spell p.1) (pair_bytes p) p.0 p refl (exact_index limit p.0 g.0)
     (bind_exact (index limit) (λ value. Done (p.0, value)) (spell p.1) [] (spell p.1) p.1 p (sym (append-nil (spell p.1))) (exact_index limit p.1 g.1) (refl, refl))
 
--- so many things, one after another
+-- So many things, one after another.
 exact_times : {A : Type 0} (f : Format A) (bytes : A → List ℕ) (Good : A → Type 0) → ((x : A) → Good x → Exactly f (bytes x) x) → (xs : List A) → AllByRecursion Good xs → Exactly (times (length xs) f) (flat_map bytes xs) xs
 exact_times f bytes Good one [] g = (refl, refl)
 exact_times f bytes Good one (x ∷ xs) g =

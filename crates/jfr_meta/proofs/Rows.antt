@@ -11,7 +11,7 @@ use Rattle.jfr_meta.specs.Attributes.{id_of}
 use Rattle.jfr_meta.specs.Body.{Body, body_format, meta_format, element_format}
 use Rattle.jfr_meta.specs.Described.{described, classes_of, class_of, field_of, shape_of, class_flaws}
 
--- the metadata record of the plain chunk
+-- The metadata record of the plain chunk.
 abbrev plain : List ℕ
 plain = 28 ∷ 0 ∷ 0 ∷ 0 ∷ 1 ∷ 2 ∷ 3 ∷ 4 ∷ 114 ∷ 111 ∷ 111 ∷ 116 ∷ 3 ∷ 8 ∷ 109 ∷ 101 ∷ 116 ∷ 97 ∷ 100 ∷ 97 ∷ 116 ∷ 97 ∷ 0 ∷ 0 ∷ 1 ∷ 1 ∷ 0 ∷ 0 ∷ []
 
@@ -19,7 +19,7 @@ plain_body : run meta_format plain 28 2 ≡ Ok (record { value = record { start 
 unfolding run int_at string_format meta_format body_format element_format pieces_from
 plain_body = refl
 
--- the metadata record of the chunk of rings
+-- The metadata record of the chunk of rings.
 abbrev rings : List ℕ
 rings = 129 ∷ 2 ∷ 0 ∷ 0 ∷ 0 ∷ 1 ∷ 24 ∷ 3 ∷ 4 ∷ 114 ∷ 111 ∷ 111 ∷ 116 ∷ 3 ∷ 8 ∷ 109 ∷ 101 ∷ 116 ∷ 97 ∷ 100 ∷ 97 ∷ 116 ∷ 97 ∷ 3 ∷ 5 ∷ 99 ∷ 108 ∷ 97 ∷ 115 ∷ 115 ∷ 3 ∷ 4 ∷ 110 ∷ 97 ∷ 109 ∷ 101 ∷ 3 ∷ 2 ∷ 105 ∷ 100 ∷ 3 ∷ 9 ∷ 115 ∷ 117 ∷ 112 ∷ 101 ∷ 114 ∷ 84 ∷ 121 ∷ 112 ∷ 101 ∷ 3 ∷ 5 ∷ 102 ∷ 105 ∷ 101 ∷ 108 ∷ 100 ∷ 3 ∷ 12 ∷ 99 ∷ 111 ∷ 110 ∷ 115 ∷ 116 ∷ 97 ∷ 110 ∷ 116 ∷ 80 ∷ 111 ∷ 111 ∷ 108 ∷ 3 ∷ 4 ∷ 116 ∷ 114 ∷ 117 ∷ 101 ∷ 3 ∷ 4 ∷ 108 ∷ 111 ∷ 110 ∷ 103 ∷ 3 ∷ 16 ∷ 106 ∷ 97 ∷ 118 ∷ 97 ∷ 46 ∷ 108 ∷ 97 ∷ 110 ∷ 103 ∷ 46 ∷ 83 ∷ 116 ∷ 114 ∷ 105 ∷ 110 ∷ 103 ∷ 3 ∷ 6 ∷ 116 ∷ 46 ∷ 78 ∷ 111 ∷ 100 ∷ 101 ∷ 3 ∷ 3 ∷ 116 ∷ 46 ∷ 65 ∷ 3 ∷ 3 ∷ 116 ∷ 46 ∷ 66 ∷ 3 ∷ 13 ∷ 106 ∷ 100 ∷ 107 ∷ 46 ∷ 106 ∷ 102 ∷ 114 ∷ 46 ∷ 69 ∷ 118 ∷ 101 ∷ 110 ∷ 116 ∷ 3 ∷ 1 ∷ 53 ∷ 3 ∷ 1 ∷ 54 ∷ 3 ∷ 1 ∷ 55 ∷ 3 ∷ 1 ∷ 56 ∷ 3 ∷ 1 ∷ 57 ∷ 3 ∷ 4 ∷ 110 ∷ 101 ∷ 120 ∷ 116 ∷ 3 ∷ 4 ∷ 116 ∷ 101 ∷ 120 ∷ 116 ∷ 3 ∷ 1 ∷ 110 ∷ 3 ∷ 4 ∷ 110 ∷ 111 ∷ 100 ∷ 101 ∷ 0 ∷ 0 ∷ 1 ∷ 1 ∷ 0 ∷ 5 ∷ 2 ∷ 2 ∷ 3 ∷ 9 ∷ 4 ∷ 15 ∷ 0 ∷ 2 ∷ 2 ∷ 3 ∷ 10 ∷ 4 ∷ 16 ∷ 0 ∷ 2 ∷ 2 ∷ 3 ∷ 11 ∷ 4 ∷ 17 ∷ 2 ∷ 6 ∷ 3 ∷ 3 ∷ 20 ∷ 2 ∷ 17 ∷ 7 ∷ 8 ∷ 0 ∷ 6 ∷ 2 ∷ 3 ∷ 21 ∷ 2 ∷ 16 ∷ 0 ∷ 2 ∷ 3 ∷ 3 ∷ 12 ∷ 4 ∷ 18 ∷ 5 ∷ 14 ∷ 2 ∷ 6 ∷ 2 ∷ 3 ∷ 22 ∷ 2 ∷ 15 ∷ 0 ∷ 6 ∷ 3 ∷ 3 ∷ 23 ∷ 2 ∷ 17 ∷ 7 ∷ 8 ∷ 0 ∷ 2 ∷ 3 ∷ 3 ∷ 13 ∷ 4 ∷ 19 ∷ 5 ∷ 14 ∷ 1 ∷ 6 ∷ 3 ∷ 3 ∷ 23 ∷ 2 ∷ 17 ∷ 7 ∷ 8 ∷ 0 ∷ []
 
@@ -40,7 +40,7 @@ rings_classes : described rings_body ≡ Ok (record { id = 5; name = codes "long
 unfolding described class_flaws classes_of class_of field_of shape_of id_of class_faults kind_of
 rings_classes = refl
 
--- the classes of a record, or its fault
+-- The classes of a record, or its fault.
 abbrev answer_of : Answer Body → Result Classes Flaw
 answer_of (Ok g) = described g.value
 answer_of (Err f) = Err f
@@ -73,7 +73,7 @@ too_deep : answer_of (run meta_format (28 ∷ 0 ∷ 0 ∷ 0 ∷ 1 ∷ 2 ∷ 3 �
 unfolding run int_at string_format meta_format body_format element_format pieces_from described class_flaws classes_of class_of field_of shape_of id_of class_faults kind_of
 too_deep = refl
 
--- sixteen levels are read
+-- Sixteen levels are read.
 not_too_deep : answer_of (run meta_format (28 ∷ 0 ∷ 0 ∷ 0 ∷ 1 ∷ 2 ∷ 3 ∷ 4 ∷ 114 ∷ 111 ∷ 111 ∷ 116 ∷ 3 ∷ 8 ∷ 109 ∷ 101 ∷ 116 ∷ 97 ∷ 100 ∷ 97 ∷ 116 ∷ 97 ∷ 1 ∷ 0 ∷ 1 ∷ 1 ∷ 0 ∷ 1 ∷ 1 ∷ 0 ∷ 1 ∷ 1 ∷ 0 ∷ 1 ∷ 1 ∷ 0 ∷ 1 ∷ 1 ∷ 0 ∷ 1 ∷ 1 ∷ 0 ∷ 1 ∷ 1 ∷ 0 ∷ 1 ∷ 1 ∷ 0 ∷ 1 ∷ 1 ∷ 0 ∷ 1 ∷ 1 ∷ 0 ∷ 1 ∷ 1 ∷ 0 ∷ 1 ∷ 1 ∷ 0 ∷ 1 ∷ 1 ∷ 0 ∷ 1 ∷ 1 ∷ 0 ∷ 1 ∷ 1 ∷ 0 ∷ 0 ∷ []) 70 2) ≡ Ok []
 unfolding run int_at string_format meta_format body_format element_format pieces_from described class_flaws classes_of class_of field_of shape_of id_of class_faults kind_of
 not_too_deep = refl

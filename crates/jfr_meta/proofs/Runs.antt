@@ -11,7 +11,7 @@ use Rattle.jfr_meta.specs.Body.{index, index_check, pair}
 abbrev pub ok : {A : Type 0} → A → ℕ → Answer A
 ok a p = Ok (record { value = a; place = p })
 
--- where the first format gives a value, what follows goes on from there; where it fails, the whole does
+-- Where the first format gives a value, what follows goes on from there; where it fails, the whole does.
 pub bind_ok : {A B : Type 0} (f : Format A) (g : A → Format B) (x : List ℕ) (end at : ℕ) (a : A) (p : ℕ) → run f x end at ≡ ok a p → run (f >>= g) x end at ≡ run (g a) x end p
 bind_ok f g x end at a p e = run-bind f g x end at ∙ ap (λ r. on r (λ a p. run (g a) x end p)) e
 
@@ -22,7 +22,7 @@ pub done_ok : {A : Type 0} (a : A) (x : List ℕ) (end at : ℕ) → run (Done a
 unfolding run
 done_ok a x end at = refl
 
--- an integer
+-- An integer.
 pub integer_ok : (x : List ℕ) (end at : ℕ) (v : Var) → int_at x at end ≡ Some v → run integer x end at ≡ ok v.value v.end
 unfolding run
 integer_ok x end at v e = ap (after_int x at unchecked (λ v s p. ok v p)) e
@@ -31,7 +31,7 @@ pub integer_none : (x : List ℕ) (end at : ℕ) (w : Flaw) → (int_at x at end
 unfolding run
 integer_none x end at w e = ap (after_int x at unchecked (λ v s p. ok v p)) e.0 ∙ sym (ap (λ z. Err z) e.1)
 
--- an index
+-- An index.
 pub index_ok : (limit : ℕ) (x : List ℕ) (end at : ℕ) (v : Var) → int_at x at end ≡ Some v → v.value < limit → run (index limit) x end at ≡ ok v.value v.end
 unfolding run
 index_ok limit x end at v e h =
@@ -48,7 +48,7 @@ pub index_none : (limit : ℕ) (x : List ℕ) (end at : ℕ) (w : Flaw) → (int
 unfolding run
 index_none limit x end at w e = ap (after_int x at (index_check limit) (λ v s p. ok v p)) e.0 ∙ sym (ap (λ z. Err z) e.1)
 
--- an attribute
+-- An attribute.
 pub pair_ok : (limit : ℕ) (x : List ℕ) (end at : ℕ) (k p v q : ℕ) → run (index limit) x end at ≡ ok k p → run (index limit) x end p ≡ ok v q → run (pair limit) x end at ≡ ok (k, v) q
 unfolding run
 pair_ok limit x end at k p v q e f =

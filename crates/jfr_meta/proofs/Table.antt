@@ -22,7 +22,7 @@ text_ok x end at s p e = bind_ok (string_format false) (λ s. Done (table_text s
 pub text_err : (x : List ℕ) (end at : ℕ) (w : Flaw) → run (string_format false) x end at ≡ Err w → run table_string x end at ≡ Err w
 text_err x end at w e = bind_err (string_format false) (λ s. Done (table_text s)) x end at w e
 
--- a string without a text has the empty one
+-- A string without a text has the empty one.
 pub null_text : {E : Type 0} (r : Result (List ℕ) E) (o : Option (List ℕ)) (s : Content) → IfOk r (λ made. made ≡ chars []) → o ≡ None → o ≡ strings.text_of s → IfOk r (λ t. t ≡ table_text s)
 null_text (Ok t) o s h e f = h ∙ (chars-nil ∙ sym (ap (λ z. unwrap_or z []) (sym f ∙ e)))
 null_text (Err e) o s h d f = tt

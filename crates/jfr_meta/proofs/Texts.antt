@@ -21,7 +21,7 @@ pub no_length : {X : Type 0} (t : List X) → (length t == 0) ≡ true → t ≡
 no_length [] e = refl
 no_length (x ∷ t) e = let n : suc (length t) ≡ 0 = eqb-true (length (x ∷ t)) 0 e in absurd (omega arith)
 
--- an empty text has no characters, and no other has none
+-- An empty text has no characters, and no other has none.
 pub not_empty-none : (t : List ℕ) → (length t == 0) ≡ true → not_empty (chars t) ≡ None
 not_empty-none t e = ap (λ z. not_empty (chars z)) (no_length t e) ∙ ap not_empty chars-nil
 
@@ -35,11 +35,11 @@ not_empty-some t u e = by_chars (chars t) (encodes-chars t u)
         no_other g = cc
     by_chars (c ∷ cs) f = refl
 
--- a word's bytes are its characters
+-- A word's bytes are its characters.
 pub word_eq : (t ws : List ℕ) → IsUtf8 t → IsUtf8 ws → list_all is_ascii ws ≡ true → bytes_eq t ws ≡ bytes_eq (chars t) ws
 word_eq t ws u v e = bytes_eq-chars t ws u v ∙ ap (bytes_eq (chars t)) (chars-IsAscii ws (word_ascii ws e))
 
--- the text of an index, where the table has it, and where it doesn't
+-- The text of an index, where the table has it, and where it doesn't.
 pub text_there : (texts : List (List ℕ)) (i : ℕ) (t : List ℕ) → slice_get texts i ≡ Some t → get_or texts i [] ≡ t
 text_there texts i t e = sym (unwrap_or-slice_get texts i []) ∙ ap (λ z. unwrap_or z []) e
 

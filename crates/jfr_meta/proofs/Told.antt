@@ -10,7 +10,7 @@ use Rattle.jfr_meta.specs.Trees.{Tree}
 use Rattle.jfr_meta.specs.Answers.{TellsFirst}
 use Rattle.jfr_meta.specs.Described.{class_flaws, list_flaws, tree_flaws, placed, classes_of}
 
--- what is told of one stage is told before the next
+-- What is told of one stage is told before the next.
 pub append_tells : (fs gs : List Flaw) (e : ReadFault) → TellsFirst fs e → TellsFirst (fs ++ gs) e
 append_tells [] gs (Flawed f) h = cc
 append_tells (g ∷ fs) gs (Flawed f) h = h
@@ -20,6 +20,6 @@ pub then_tells : (fs gs : List Flaw) (e : ReadFault) → fs ≡ [] → TellsFirs
 then_tells fs gs (Flawed f) h t = rw h t
 then_tells fs gs Memory h t = tt
 
--- a sound list has no flaws
+-- A sound list has no flaws.
 pub no_flaws : (texts : List (List ℕ)) (ts : List Tree) (k : Classes) → flat_map (class_flaws texts) ts ≡ [] → k ≡ classes_of texts ts → Sound k → tree_flaws texts ts ≡ []
 no_flaws texts ts k h e s = ap (λ z. z ++ list_flaws texts ts) h ∙ ap (map (placed texts ts)) (sym (ap class_faults e) ∙ s.none)

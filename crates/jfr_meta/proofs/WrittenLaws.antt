@@ -10,7 +10,7 @@ use Rattle.jfr_meta.specs.Body.{how_many}
 use Rattle.jfr_meta.specs.Written.{text_bytes, pair_bytes, tree_bytes, trees_bytes, table_bytes, body_bytes, record_bytes, capped}
 use Rattle.jfr_meta.proofs.Texts.{no_length}
 
--- children are fewer than the element with them
+-- Children are fewer than the element with them.
 counts_of-list_of : (ts : Trees) → counts_of (list_of ts) ≡ counts ts
 counts_of-list_of Nil = refl
 counts_of-list_of (Cons t ts) = ap (λ n. count t + n) (counts_of-list_of ts)
@@ -23,7 +23,7 @@ member_less [] i x d h e = absurd (omega arith)
 member_less (t ∷ ts) zero x d h e = let f : count x ≡ count t = ap count e in omega arith
 member_less (t ∷ ts) (suc i) x d h e = let m : i < length ts = omega arith in omega (arith, member_less ts i x d m e)
 
--- the children, as a list
+-- The children, as a list.
 pub flat-list_of : (ts : Trees) → flat_map tree_bytes (list_of ts) ≡ trees_bytes ts
 flat-list_of Nil = refl
 flat-list_of (Cons t ts) = ap (λ z. tree_bytes t ++ z) (flat-list_of ts)
@@ -35,7 +35,7 @@ how_many-list_of (Cons t ts) = ap (λ n. suc n) (how_many-list_of ts)
 four_appends : (o a b c d e : List ℕ) → ((((o ++ a) ++ b) ++ c) ++ d) ++ e ≡ o ++ (a ++ (b ++ (c ++ (d ++ e))))
 four_appends o a b c d e = simp append_assoc
 
--- an element's parts behind what was written before
+-- An element's parts behind what was written before.
 pub element_written : (t : Tree) (o : List ℕ)
     → ((((o ++ spell (name_of t)) ++ spell (length (pairs_of t))) ++ flat_map pair_bytes (pairs_of t)) ++ spell (length (children_of t))) ++ flat_map tree_bytes (children_of t) ≡ o ++ tree_bytes t
 element_written (Node place name pairs children) o =
@@ -43,12 +43,12 @@ element_written (Node place name pairs children) o =
     ∙ (ap (λ z. ((((o ++ spell name) ++ spell (length pairs)) ++ flat_map pair_bytes pairs) ++ spell (how_many children)) ++ z) (flat-list_of children)
     ∙ four_appends o (spell name) (spell (length pairs)) (flat_map pair_bytes pairs) (spell (how_many children)) (trees_bytes children))
 
--- on success the same, by another name
+-- On success the same, by another name.
 pub on_ok : {T E : Type 0} (r : Result T E) (a b c : List ℕ) → OnOk r (a ≡ b) → b ≡ c → OnOk r (a ≡ c)
 on_ok (Ok x) a b c h e = h ∙ e
 on_ok (Err x) a b c h e = tt
 
--- a text's bytes
+-- A text's bytes.
 pub text_empty : (t : List ℕ) → (length t == 0) ≡ true → text_bytes (chars t) ≡ 1 ∷ []
 text_empty t e = ap (λ z. text_bytes (chars z)) (no_length t e) ∙ ap text_bytes chars-nil
 

@@ -6,7 +6,7 @@ use Rattle.jfr_base.specs.declared.flaw.ReadFault.TheVariants.{Flawed, Memory}
 use Rattle.jfr_base.specs.declared.integer.Var.{Var}
 use Rattle.jfr_base.specs.Formats.{Answer}
 
--- an integer that was read, or the flaw
+-- An integer that was read, or the flaw.
 abbrev pub var_answer : Result Var Flaw → Answer ℕ
 var_answer (Ok v) = Ok (record { value = v.value; place = v.end })
 var_answer (Err f) = Err f

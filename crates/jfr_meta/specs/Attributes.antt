@@ -8,46 +8,46 @@ use Rattle.std.specs.Char.{is_ascii, is_ascii_digit}
 use Rattle.std.specs.Fmt.{decimal}
 use Rattle.jfr_meta.specs.Trees.{Tree, name_of, pairs_of}
 
--- a key or a name of the format's own: ASCII characters, so that its bytes are its characters
+-- A key or a name of the format's own: ASCII characters, so that its bytes are its characters.
 abbrev pub IsWord : List ℕ → Type 0
 IsWord word = IsTrue (list_all is_ascii word)
 
--- the text of an index
+-- The text of an index.
 abbrev pub text_at : List (List ℕ) → ℕ → List ℕ
 text_at texts i = get_or texts i []
 
--- the value of the first attribute with this key
+-- The value of the first attribute with this key.
 abbrev pub first_value : List (List ℕ) → List ℕ → List (ℕ × ℕ) → Option (List ℕ)
 first_value texts key ps = option_map (λ p. text_at texts p.1) (find (λ p. bytes_eq (text_at texts p.0) key) ps)
 
--- an empty value counts as absent
+-- An empty value counts as absent.
 abbrev pub not_empty : List ℕ → Option (List ℕ)
 not_empty [] = None
 not_empty (c ∷ cs) = Some (c ∷ cs)
 
--- the attribute of this key, where it has one that counts
+-- The attribute of this key, where it has one that counts.
 abbrev pub attribute : List (List ℕ) → Tree → List ℕ → Option (List ℕ)
 attribute texts t key = option_and_then not_empty (first_value texts key (pairs_of t))
 
--- the elements of this name, in order
+-- The elements of this name, in order.
 abbrev pub named : List (List ℕ) → List ℕ → List Tree → List Tree
 named texts name ts = filter (λ t. bytes_eq (text_at texts (name_of t)) name) ts
 
--- an id: one to nineteen digits with a value below 2 ^ 63
+-- An id: one to nineteen digits with a value below 2 ^ 63.
 unfoldable pub id_of : List ℕ → Option ℕ
 id_of text = if list_all is_ascii_digit text && nat_lt 0 (length text) && nat_le (length text) 19 && nat_lt (digits_value 10 text) (2 ^ 63) then Some (digits_value 10 text) else None
 
--- a mark: set or clear by its text, clear where it is absent, faulty otherwise
+-- A mark: set or clear by its text, clear where it is absent, faulty otherwise.
 abbrev pub flag_of : Option (List ℕ) → List ℕ → List ℕ → Option Bool
 flag_of None set clear = Some false
 flag_of (Some text) set clear = if bytes_eq text set then Some true else if bytes_eq text clear then Some false else None
 
--- the values with a number from i on, up to the first absent one
+-- The values with a number from i on, up to the first absent one.
 abbrev pub values_from : (ℕ → Option (List ℕ)) → ℕ → ℕ → List (List ℕ)
 values_from value i zero = []
 values_from value i (suc n) = option_map_or (λ v. v ∷ values_from value (i + 1) n) (value i) []
 
--- the key of the value with this number
+-- The key of the value with this number.
 abbrev pub value_key : ℕ → List ℕ
 value_key i = codes "value-" ++ decimal i
 
@@ -55,6 +55,6 @@ abbrev pub or_else : List (List ℕ) → List (List ℕ) → List (List ℕ)
 or_else [] others = others
 or_else (v ∷ vs) others = v ∷ vs
 
--- the values of an annotation: value-0, value-1 and so on up to the first absent one, or else value alone
+-- The values of an annotation: value-0, value-1 and so on up to the first absent one, or else value alone.
 abbrev pub values_of : List (List ℕ) → Tree → List (List ℕ)
 values_of texts t = or_else (values_from (λ i. attribute texts t (value_key i)) 0 (length (pairs_of t))) (option_to_list (attribute texts t (codes "value")))

@@ -8,7 +8,7 @@ use Rattle.jfr_text.specs.Strings.{Content, string_format}
 use Rattle.jfr_text.specs.Strings as strings
 use Rattle.jfr_meta.specs.Trees.{Tree, Node, Trees, Nil, Cons, tree}
 
--- what the body holds; the texts of the strings are lists of characters
+-- What the body holds; the texts of the strings are lists of characters.
 pub record Body : Type 0 where
   pub start : ℕ
   pub duration : ℕ
@@ -16,51 +16,51 @@ pub record Body : Type 0 where
   pub strings : List (List ℕ)
   pub root : Tree
 
--- the text of a string of the table: a null string has the empty one
+-- The text of a string of the table: a null string has the empty one.
 abbrev pub table_text : Content → List ℕ
 table_text s = unwrap_or (strings.text_of s) []
 
--- a string of the table, as its text; a key is no string there
+-- A string of the table, as its text; a key is no string there.
 abbrev pub table_string : Format (List ℕ)
 table_string = string_format false >>= λ s. Done (table_text s)
 
--- an index into the table of strings is below their number
+-- An index into the table of strings is below their number.
 abbrev pub index_check : ℕ → ℕ → Option Reason
 index_check limit v = if nat_lt v limit then None else Some StringIndex
 
--- the format of such an index
+-- The format of such an index.
 abbrev pub index : ℕ → Format ℕ
 index limit = Int (index_check limit) (λ v s. Done v)
 
--- an attribute: the index of its key and the index of its value
+-- An attribute: the index of its key and the index of its value.
 abbrev pub pair : ℕ → Format (ℕ × ℕ)
 pair limit = index limit >>= λ key. index limit >>= λ value. Done (key, value)
 
--- an element with so many levels left: its name, its attributes behind their number, its children behind
--- theirs
+-- An element with so many levels left: its name, its attributes behind their number, its children behind
+-- theirs.
 unfoldable pub element_format : ℕ → ℕ → Format Tree
 element_format zero limit = Refuse TreeDeep
 element_format (suc levels) limit =
     Here λ at. index limit >>= λ name. integer >>= λ n. times n (pair limit) >>= λ pairs. integer >>= λ m.
     times m (element_format levels limit) >>= λ children. Done (tree at name pairs children)
 
--- the body, apart from the end
+-- The body, apart from the end.
 unfoldable pub body_format : Format Body
 body_format =
     integer >>= λ start. integer >>= λ duration. integer >>= λ id. integer >>= λ n. times n table_string >>= λ strings.
     element_format 16 n >>= λ root. Done (record { start = start; duration = duration; id = id; strings = strings; root = root })
 
--- the body, and nothing more
+-- The body, and nothing more.
 unfoldable pub meta_format : Format Body
 meta_format = body_format >>= λ b. Stop (Done b)
 
--- these attributes stand in x from p up to q, and their indices are below the limit
+-- These attributes stand in x from p up to q, and their indices are below the limit.
 abbrev pub ArePairs : List ℕ → ℕ → ℕ → ℕ → List (ℕ × ℕ) → Type 0
 ArePairs x limit p q [] = q ≡ p
 ArePairs x limit p q (a ∷ rest) =
     (m n : ℕ) × IntAt x p m a.0 × (a.0 < limit) × IntAt x m n a.1 × (a.1 < limit) × ArePairs x limit n q rest
 
--- how many elements there are, without those inside of them
+-- How many elements there are, without those inside of them.
 abbrev pub how_many : Trees → ℕ
 how_many Nil = 0
 how_many (Cons t ts) = suc (how_many ts)

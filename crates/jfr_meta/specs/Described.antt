@@ -17,24 +17,24 @@ use Rattle.jfr_meta.specs.Trees.{Tree, place_of, name_of, pairs_of, children_of}
 use Rattle.jfr_meta.specs.Body.{Body, meta_format}
 use Rattle.jfr_meta.specs.Attributes.{text_at, first_value, attribute, named, id_of, flag_of, values_of}
 
--- the class elements: the children named class of the root's first child named metadata
+-- The class elements: the children named class of the root's first child named metadata.
 abbrev pub class_elements : List (List ℕ) → Tree → Option (List Tree)
 class_elements texts root =
     option_map (λ m. named texts (codes "class") (children_of m)) (find (λ t. bytes_eq (text_at texts (name_of t)) (codes "metadata")) (children_of root))
 
--- the field elements of a class element
+-- The field elements of a class element.
 abbrev pub field_elements : List (List ℕ) → Tree → List Tree
 field_elements texts t = named texts (codes "field") (children_of t)
 
--- an attribute that is an id
+-- An attribute that is an id.
 abbrev pub id_attribute : List (List ℕ) → Tree → List ℕ → Option ℕ
 id_attribute texts t key = option_and_then id_of (attribute texts t key)
 
--- the id and the name of a class element, where it has both
+-- The id and the name of a class element, where it has both.
 abbrev pub class_head : List (List ℕ) → Tree → Option (ℕ × List ℕ)
 class_head texts t = option_and_then (λ name. option_map (λ id. (id, name)) (id_attribute texts t (codes "id"))) (attribute texts t (codes "name"))
 
--- the shape of a field element, where its class is an id and its marks are good
+-- The shape of a field element, where its class is an id and its marks are good.
 unfoldable pub shape_of : List (List ℕ) → Tree → Option Shape
 shape_of texts t =
     option_and_then (λ id. option_and_then (λ constant. option_map (λ array. record { class = id; constant = constant; array = array })
@@ -42,55 +42,55 @@ shape_of texts t =
     (flag_of (first_value texts (codes "constantPool") (pairs_of t)) (codes "true") (codes "false")))
     (id_attribute texts t (codes "class"))
 
--- the field of a field element that has a name and a shape
+-- The field of a field element that has a name and a shape.
 unfoldable pub field_of : List (List ℕ) → Tree → Option Field
 field_of texts t = option_and_then (λ name. option_map (λ shape. record { name = name; shape = shape }) (shape_of texts t)) (attribute texts t (codes "name"))
 
--- a flaw at an element, unless it is good
+-- A flaw at an element, unless it is good.
 abbrev pub flaw_unless : Bool → Tree → Reason → List Flaw
 flaw_unless good t why = if good then [] else record { offset = place_of t; reason = why } ∷ []
 
--- the flaw of a field element
+-- The flaw of a field element.
 abbrev pub field_flaws : List (List ℕ) → Tree → List Flaw
 field_flaws texts t = flaw_unless (is_some (field_of texts t)) t FieldBad
 
--- the flaws of a class element and its fields, in tree order
+-- The flaws of a class element and its fields, in tree order.
 unfoldable pub class_flaws : List (List ℕ) → Tree → List Flaw
 class_flaws texts t = flaw_unless (is_some (class_head texts t)) t ClassBad ++ flat_map (field_flaws texts) (field_elements texts t)
 
--- the ids and names of the class elements that have both
+-- The ids and names of the class elements that have both.
 abbrev pub heads : List (List ℕ) → List Tree → List (ℕ × List ℕ)
 heads texts ts = filter_map (class_head texts) ts
 
--- the head is that of a class of this id that is named jdk.jfr.Category
+-- The head is that of a class of this id that is named jdk.jfr.Category.
 abbrev pub is_category_head : ℕ → ℕ × List ℕ → Bool
 is_category_head id h = (h.0 == id) && bytes_eq h.1 (codes "jdk.jfr.Category")
 
--- a class of this id is named jdk.jfr.Category
+-- A class of this id is named jdk.jfr.Category.
 abbrev pub is_category_id : List (ℕ × List ℕ) → ℕ → Bool
 is_category_id hs id = list_any (is_category_head id) hs
 
--- the set holds the ids of the classes that are named jdk.jfr.Category, and no others
+-- The set holds the ids of the classes that are named jdk.jfr.Category, and no others.
 abbrev pub AreCategoryIds : List (ℕ × List ℕ) → BTreeSet ℕ → Type 0
 AreCategoryIds hs ids = (id : ℕ) → contains nat_cmp ids id ≡ is_category_id hs id
 
--- an annotation whose class is named jdk.jfr.Category
+-- An annotation whose class is named jdk.jfr.Category.
 abbrev pub is_category : List (List ℕ) → List (ℕ × List ℕ) → Tree → Bool
 is_category texts hs t = option_map_or (is_category_id hs) (id_attribute texts t (codes "class")) false
 
--- the annotations of a class element
+-- The annotations of a class element.
 abbrev pub annotations_of : List (List ℕ) → Tree → List Tree
 annotations_of texts t = named texts (codes "annotation") (children_of t)
 
--- the first such annotation of a class element
+-- The first such annotation of a class element.
 abbrev pub category_annotation : List (List ℕ) → List (ℕ × List ℕ) → Tree → Option Tree
 category_annotation texts hs t = find (is_category texts hs) (annotations_of texts t)
 
--- the categories of a class element: the values of that annotation
+-- The categories of a class element: the values of that annotation.
 abbrev pub categories_of : List (List ℕ) → List (ℕ × List ℕ) → Tree → List (List ℕ)
 categories_of texts hs t = option_map_or (values_of texts) (category_annotation texts hs t) []
 
--- the class of a class element that has an id and a name
+-- The class of a class element that has an id and a name.
 unfoldable pub class_of : List (List ℕ) → List (ℕ × List ℕ) → Tree → Option Class
 class_of texts hs t = option_map (λ h. record {
   id = h.0;
@@ -100,52 +100,52 @@ class_of texts hs t = option_map (λ h. record {
   categories = categories_of texts hs t;
 }) (class_head texts t)
 
--- the classes of the class elements, in order
+-- The classes of the class elements, in order.
 unfoldable pub classes_of : List (List ℕ) → List Tree → Classes
 classes_of texts ts = filter_map (class_of texts (heads texts ts)) ts
 
--- where a flaw of the list of classes lies: at the class element, or at its field element
+-- Where a flaw of the list of classes lies: at the class element, or at its field element.
 abbrev pub element_place : List (List ℕ) → Tree → Option ℕ → ℕ
 element_place texts t None = place_of t
 element_place texts t (Some number) = option_map_or place_of (slice_get (field_elements texts t) number) 0
 
--- the same by the class element's number
+-- The same by the class element's number.
 abbrev pub flaw_place : List (List ℕ) → List Tree → ℕ → Option ℕ → ℕ
 flaw_place texts ts class field = option_map_or (λ t. element_place texts t field) (slice_get ts class) 0
 
--- the flaw of a list of classes, at its element
+-- The flaw of a list of classes, at its element.
 abbrev pub placed : List (List ℕ) → List Tree → ClassFlaw → Flaw
 placed texts ts e = record { offset = flaw_place texts ts e.class e.field; reason = e.reason }
 
--- the flaws of the class elements' classes as a list, each at its element
+-- The flaws of the class elements' classes as a list, each at its element.
 abbrev pub list_flaws : List (List ℕ) → List Tree → List Flaw
 list_flaws texts ts = map (placed texts ts) (class_faults (classes_of texts ts))
 
--- all flaws of the class elements: those of their attributes, and then those of the classes as a list
+-- All flaws of the class elements: those of their attributes, and then those of the classes as a list.
 abbrev pub tree_flaws : List (List ℕ) → List Tree → List Flaw
 tree_flaws texts ts = flat_map (class_flaws texts) ts ++ list_flaws texts ts
 
--- the first flaw, or else the value
+-- The first flaw, or else the value.
 abbrev pub first_or : {A : Type 0} → List Flaw → A → Result A Flaw
 first_or [] a = Ok a
 first_or (f ∷ fs) a = Err f
 
--- the classes of the class elements, or the first flaw; where the root, which stands at this place, has no
--- child for them, that is the flaw
+-- The classes of the class elements, or the first flaw; where the root, which stands at this place, has no
+-- child for them, that is the flaw.
 abbrev pub told : List (List ℕ) → ℕ → Option (List Tree) → Result Classes Flaw
 told texts at None = Err (record { offset = at; reason = NoClasses })
 told texts at (Some ts) = first_or (tree_flaws texts ts) (classes_of texts ts)
 
--- the classes that a body describes, or the flaw that is told
+-- The classes that a body describes, or the flaw that is told.
 unfoldable pub described : Body → Result Classes Flaw
 described b = told b.strings (place_of b.root) (class_elements b.strings b.root)
 
--- the record of the chunk x holds this body, which describes these classes
+-- The record of the chunk x holds this body, which describes these classes.
 pub record IsMetadata (x : List ℕ) (r : Framed) (b : Body) (k : Classes) : Type 0 where
   pub body : Reads meta_format x (record_end r) r.body b (record_end r)
   pub classes : described b ≡ Ok k
 
--- the record is refused: its body fails there, or describes no classes
+-- The record is refused: its body fails there, or describes no classes.
 abbrev pub IsMetadataFlaw : List ℕ → Framed → Flaw → Type 0
 IsMetadataFlaw x r f =
     Fails meta_format x (record_end r) r.body f.offset f.reason ⊎ ((b : Body) × Reads meta_format x (record_end r) r.body b (record_end r) × (described b ≡ Err f))

@@ -6,15 +6,15 @@ use Rattle.jfr_meta.specs.declared.body.Head.{Head}
 use Rattle.jfr_meta.specs.declared.body.Body as read
 use Rattle.jfr_meta.specs.Body.{Body}
 
--- start, duration, id and the number of strings
+-- Start, duration, id and the number of strings.
 abbrev pub head_format : Format (ℕ × ℕ × ℕ × ℕ)
 head_format = integer >>= λ start. integer >>= λ duration. integer >>= λ id. integer >>= λ count. Done (start, duration, id, count)
 
--- what the reader of these integers gives, as the format's answer
+-- What the reader of these integers gives, as the format's answer.
 abbrev pub head_answer : Result Head Flaw → Answer (ℕ × ℕ × ℕ × ℕ)
 head_answer (Ok h) = Ok (record { value = (h.start, h.duration, h.id, h.count); place = h.end })
 head_answer (Err e) = Err e
 
--- a body that was read, as contracts see it
+-- A body that was read, as contracts see it.
 abbrev pub seen_body : read.Body → Body
 seen_body b = record { start = b.start; duration = b.duration; id = b.id; strings = b.strings; root = b.root }

@@ -14,37 +14,37 @@ mutual
     Nil : Trees
     Cons : Tree → Trees → Trees
 
--- the same elements as a list
+-- The same elements as a list.
 abbrev pub list_of : Trees → List Tree
 list_of Nil = []
 list_of (Cons t ts) = t ∷ list_of ts
 
--- and a list as elements
+-- And a list as elements.
 abbrev pub trees_of : List Tree → Trees
 trees_of [] = Nil
 trees_of (t ∷ ts) = Cons t (trees_of ts)
 
--- where the element begins in the chunk
+-- Where the element begins in the chunk.
 abbrev pub place_of : Tree → ℕ
 place_of (Node place name pairs children) = place
 
--- the index of its name in the table of strings
+-- The index of its name in the table of strings.
 abbrev pub name_of : Tree → ℕ
 name_of (Node place name pairs children) = name
 
--- its attributes: the index of each key, and of its value
+-- Its attributes: the index of each key, and of its value.
 abbrev pub pairs_of : Tree → List (ℕ × ℕ)
 pairs_of (Node place name pairs children) = pairs
 
--- its children, in order
+-- Its children, in order.
 abbrev pub children_of : Tree → List Tree
 children_of (Node place name pairs children) = list_of children
 
--- the element of these parts
+-- The element of these parts.
 abbrev pub tree : ℕ → ℕ → List (ℕ × ℕ) → List Tree → Tree
 tree place name pairs children = Node place name pairs (trees_of children)
 
--- how many elements are in a tree, with itself
+-- How many elements are in a tree, with itself.
 abbrev mutual
   pub count : Tree → ℕ
   count (Node place name pairs children) = suc (counts children)
@@ -53,7 +53,7 @@ abbrev mutual
   counts Nil = 0
   counts (Cons t ts) = count t + counts ts
 
--- how many elements are in all trees of a list
+-- How many elements are in all trees of a list.
 abbrev pub counts_of : List Tree → ℕ
 counts_of [] = 0
 counts_of (t ∷ ts) = count t + counts_of ts

@@ -7,14 +7,14 @@ use Rattle.std.specs.Ordering.{nat_cmp}
 use Rattle.std.specs.Str.{bytes_eq, encode_utf8_all}
 use Rattle.jfr_meta.specs.Attributes.{text_at}
 
--- the index of the value under a key of these characters
+-- The index of the value under a key of these characters.
 abbrev pub value_under : BTreeMap (Bor (List ℕ)) ℕ → List ℕ → Option ℕ
 value_under values key = get_by (λ k. slice_cmp nat_cmp (encode_utf8_all key) k.now) values
 
--- a key that can be asked for: `value-` and a number below 2 ^ 64 take 26 bytes at most
+-- A key that can be asked for: `value-` and a number below 2 ^ 64 take 26 bytes at most.
 abbrev pub CanBeAsked : List ℕ → Type 0
 CanBeAsked key = length (encode_utf8_all key) ≤ 26
 
--- each key that can be asked for leads to the value of the first attribute that has it
+-- Each key that can be asked for leads to the value of the first attribute that has it.
 abbrev pub HasFirst : List (List ℕ) → List (ℕ × ℕ) → BTreeMap (Bor (List ℕ)) ℕ → Type 0
 HasFirst texts ps values = (key : List ℕ) → CanBeAsked key → value_under values key ≡ option_map (λ p. p.1) (find (λ p. bytes_eq (text_at texts p.0) key) ps)

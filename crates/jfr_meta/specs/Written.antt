@@ -11,20 +11,20 @@ use Rattle.jfr_layout.specs.Classes.{Classes}
 use Rattle.jfr_meta.specs.Described.{described}
 use Rattle.jfr_meta.specs.Body.{meta_format, how_many}
 
--- the characters of some text
+-- The characters of some text.
 abbrev pub IsText : List ℕ → Type 0
 IsText cs = (bytes : List ℕ) × IsUtf8 bytes × (chars bytes ≡ cs)
 
--- a text: kind 3, its length and its bytes, or kind 1 alone where it is empty
+-- A text: kind 3, its length and its bytes, or kind 1 alone where it is empty.
 abbrev pub text_bytes : List ℕ → List ℕ
 text_bytes [] = 1 ∷ []
 text_bytes (c ∷ cs) = 3 ∷ (spell (length (encode_utf8_all (c ∷ cs))) ++ encode_utf8_all (c ∷ cs))
 
--- an attribute: the two indices
+-- An attribute: the two indices.
 abbrev pub pair_bytes : ℕ × ℕ → List ℕ
 pair_bytes p = spell p.0 ++ spell p.1
 
--- an element: its name, its attributes behind their number, its children behind theirs
+-- An element: its name, its attributes behind their number, its children behind theirs.
 abbrev mutual
   pub tree_bytes : Tree → List ℕ
   tree_bytes (Node place name pairs children) =
@@ -34,23 +34,23 @@ abbrev mutual
   trees_bytes Nil = []
   trees_bytes (Cons t ts) = tree_bytes t ++ trees_bytes ts
 
--- the strings and the tree, without the number of strings
+-- The strings and the tree, without the number of strings.
 abbrev pub table_bytes : List (List ℕ) → Tree → List ℕ
 table_bytes strings root = flat_map text_bytes strings ++ tree_bytes root
 
--- a number of bytes, or the largest number of 64 bits where there are more
+-- A number of bytes, or the largest number of 64 bits where there are more.
 abbrev pub capped : ℕ → ℕ
 capped n = min n 18446744073709551615
 
--- the body
+-- The body.
 abbrev pub body_bytes : ℕ → ℕ → ℕ → List (List ℕ) → Tree → List ℕ
 body_bytes start duration id strings root = spell start ++ (spell duration ++ (spell id ++ (spell (length strings) ++ table_bytes strings root)))
 
--- the record: its size in four bytes, its type, its body
+-- The record: its size in four bytes, its type, its body.
 abbrev pub record_bytes : ℕ → ℕ → ℕ → List (List ℕ) → Tree → List ℕ
 record_bytes start duration id strings root = spell_in 4 (5 + length (body_bytes start duration id strings root)) ++ (0 ∷ body_bytes start duration id strings root)
 
--- how many levels of elements a tree has
+-- How many levels of elements a tree has.
 abbrev mutual
   pub depth : Tree → ℕ
   depth (Node place name pairs children) = suc (depths children)
@@ -59,7 +59,7 @@ abbrev mutual
   depths Nil = 0
   depths (Cons t ts) = max (depth t) (depths ts)
 
--- every index of the tree is below a limit
+-- Every index of the tree is below a limit.
 abbrev mutual
   pub HasIndices : ℕ → Tree → Type 0
   HasIndices limit (Node place name pairs children) = (name < limit) × AllByRecursion (λ p. (p.0 < limit) × (p.1 < limit)) pairs × HaveIndices limit children
@@ -68,7 +68,7 @@ abbrev mutual
   HaveIndices limit Nil = Unit {0}
   HaveIndices limit (Cons t ts) = HasIndices limit t × HaveIndices limit ts
 
--- a tree with 0 in place of each offset
+-- A tree with 0 in place of each offset.
 abbrev mutual
   pub bare : Tree → Tree
   bare (Node place name pairs children) = Node 0 name pairs (bares children)

@@ -4,18 +4,18 @@ use Rattle.jfr_outside.specs.Counts.{Counts}
 use Rattle.jfr_outside.specs.World.{State}
 use Rattle.jfr_outside.specs.declared.fault.Fault.{Fault}
 
--- a call that reads counts its read fault, and nothing else
+-- A call that reads counts its read fault, and nothing else.
 pub record CountsRead {T : Type 0} (result : Result T Fault) (before after : State) : Type 0 where
   pub reads : Counts result before.read_faults after.read_faults
   pub writes : after.write_faults ≡ before.write_faults
   pub same : after.steady ≡ before.steady
 
--- a call that writes counts its write fault, and nothing else
+-- A call that writes counts its write fault, and nothing else.
 pub record CountsWrite {T : Type 0} (result : Result T Fault) (before after : State) : Type 0 where
   pub reads : after.read_faults ≡ before.read_faults
   pub writes : Counts result before.write_faults after.write_faults
   pub same : after.steady ≡ before.steady
 
--- some of the bytes were added, from the first on and at most so many
+-- Some of the bytes were added, from the first on and at most so many.
 abbrev pub KeepsPrefix : {W : Type 0} → ℕ → Option W → Option W → List ℕ → (List ℕ → W → W) → Type 0
 KeepsPrefix keep before after bytes add = (k : ℕ) × (k ≤ keep) × (after ≡ option_map (add (take k bytes)) before)

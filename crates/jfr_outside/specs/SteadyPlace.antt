@@ -5,14 +5,14 @@ use Rattle.jfr_outside.specs.Held.{files_of}
 use Rattle.jfr_outside.specs.Source.{left_of}
 use Rattle.jfr_outside.specs.declared.steady_place.SteadyPlace.{SteadyPlace}
 
--- its files, what is left of its input, and the name of its output
+-- Its files, what is left of its input, and the name of its output.
 abbrev pub world_of : SteadyPlace → World
 world_of p = record { files = files_of p.files; input = option_map left_of p.input; output = option_map string_bytes p.output }
 
--- it tells all of these, and is steady
+-- It tells all of these, and is steady.
 abbrev pub state_of : SteadyPlace → State
 state_of p = record { told = Some (world_of p); read_faults = p.read_faults; write_faults = p.write_faults; steady = true }
 
--- how many bytes a read gives at most
+-- How many bytes a read gives at most.
 abbrev pub most_of : SteadyPlace → ℕ
 most_of p = p.most

@@ -3,6 +3,6 @@ use Rattle.std.specs.Prelude.{Some}
 use Rattle.jfr_outside.specs.World.{SinkState}
 use Rattle.jfr_outside.specs.declared.steady_sink.SteadySink.{SteadySink}
 
--- it tells its bytes, and no write of it ever failed
+-- It tells its bytes, and no write of it ever failed.
 abbrev pub state_of : SteadySink → SinkState
 state_of s = record { written = Some s.bytes.items; faults = 0 }

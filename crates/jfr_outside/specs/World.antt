@@ -9,122 +9,122 @@ use Rattle.std.specs.FinMap as fin
 use Rattle.jfr_outside.specs.declared.fault.Fault.{Fault}
 use Rattle.jfr_outside.specs.declared.fault.Fault.TheVariants.{Failed, Memory}
 
--- the bytes of each file, by the bytes of its name
+-- The bytes of each file, by the bytes of its name.
 abbrev pub Files : Type 0
 Files = fin.FinMap (slice_cmp nat_cmp) (List ℕ)
 
--- the files, what is left of the open input, and the name of the open output
+-- The files, what is left of the open input, and the name of the open output.
 pub record World : Type 0 where
   pub files : Files
   pub input : Option (List ℕ)
   pub output : Option (List ℕ)
 
--- what a place tells, if it tells it; how often reads and writes failed; and whether it fails for stated
--- causes alone
+-- What a place tells, if it tells it; how often reads and writes failed; and whether it fails for stated
+-- causes alone.
 pub record State : Type 0 where
   pub told : Option World
   pub read_faults : ℕ
   pub write_faults : ℕ
   pub steady : Bool
 
--- the bytes that a sink was given, if it tells them, and how often a write failed
+-- The bytes that a sink was given, if it tells them, and how often a write failed.
 pub record SinkState : Type 0 where
   pub written : Option (List ℕ)
   pub faults : ℕ
 
--- the bytes of a file, if it is there
+-- The bytes of a file, if it is there.
 abbrev pub file : World → List ℕ → Option (List ℕ)
 file w name = fin.get w.files name
 
--- the file is the input, if it is there; else no input is open
+-- The file is the input, if it is there; else no input is open.
 abbrev pub opened : List ℕ → World → World
 opened name w = record w { input = file w name }
 
--- no input is open
+-- No input is open.
 abbrev pub shut : World → World
 shut w = record w { input = None }
 
--- so many bytes were taken from the input
+-- So many bytes were taken from the input.
 abbrev pub taken : ℕ → World → World
 taken n w = record w { input = option_map (drop n) w.input }
 
--- the file is there, empty, and is the output
+-- The file is there, empty, and is the output.
 abbrev pub created : List ℕ → World → World
 created name w = record w { files = fin.insert w.files name []; output = Some name }
 
--- the file of this name, if one is named, has these bytes more
+-- The file of this name, if one is named, has these bytes more.
 abbrev pub grown : Option (List ℕ) → List ℕ → Files → Files
 grown None bytes files = files
 grown (Some name) bytes files = fin.insert files name (unwrap_or (fin.get files name) [] ++ bytes)
 
--- the output has these bytes more
+-- The output has these bytes more.
 abbrev pub appended : List ℕ → World → World
 appended bytes w = record w { files = grown w.output bytes w.files }
 
--- no output is open
+-- No output is open.
 abbrev pub finished : World → World
 finished w = record w { output = None }
 
--- the file is there with these bytes
+-- The file is there with these bytes.
 abbrev pub put : List ℕ → List ℕ → World → World
 put name bytes w = record w { files = fin.insert w.files name bytes }
 
--- no files, nothing open
+-- No files, nothing open.
 abbrev pub empty_world : World
 empty_world = record { files = fin.empty; input = None; output = None }
 
--- bytes after others
+-- Bytes after others.
 abbrev pub added : List ℕ → List ℕ → List ℕ
 added bytes before = before ++ bytes
 
--- the bytes of pieces, one behind another
+-- The bytes of pieces, one behind another.
 abbrev pub bytes_in : List (Bor (List ℕ)) → List ℕ
 bytes_in pieces = flat_map (λ p. p.now) pieces
 
--- the bytes that a reference points to
+-- The bytes that a reference points to.
 abbrev pub slice_of : Option (Bor (List ℕ)) → Option (List ℕ)
 slice_of o = option_map (λ x. x.now) o
 
--- nothing changed
+-- Nothing changed.
 abbrev pub unchanged : World → World
 unchanged w = w
 
--- the name of a file in a folder: the folder, a slash, and the rest
+-- The name of a file in a folder: the folder, a slash, and the rest.
 abbrev pub in_folder : List ℕ → List ℕ → List ℕ
 in_folder folder rest = folder ++ 47 ∷ rest
 
--- a name without a slash
+-- A name without a slash.
 abbrev pub is_plain : List ℕ → Bool
 is_plain name = list_all (λ b. not (b == 47)) name
 
--- the rest of a name, where the file stands in the folder itself and not deeper
+-- The rest of a name, where the file stands in the folder itself and not deeper.
 abbrev pub rest_in : List ℕ → List ℕ → Option (List ℕ)
 rest_in folder name =
     if bytes_eq (take (length folder + 1) name) (in_folder folder []) && is_plain (drop (length folder + 1) name)
     then Some (drop (length folder + 1) name)
     else None
 
--- the rests of the names of a folder's files, in byte order
+-- The rests of the names of a folder's files, in byte order.
 abbrev pub names_in : List ℕ → Files → List (List ℕ)
 names_in folder files = filter_map (rest_in folder) (fin.keys files)
 
--- these texts are the names in the folder, each once, in any order
+-- These texts are the names in the folder, each once, in any order.
 abbrev pub IsListing : List ℕ → Files → List (List ℕ) → Type 0
 IsListing folder files names = IsPermutation (names_in folder files) (map encode_utf8_all names)
 
--- what is told after a call, by its answer; want of memory changes nothing
+-- What is told after a call, by its answer; want of memory changes nothing.
 abbrev pub Leaves : {T : Type 0} → Result T Fault → Option World → Option World → (T → World → World) → (World → World) → Type 0
 Leaves (Ok x) before after ok failed = after ≡ option_map (ok x) before
 Leaves (Err Failed) before after ok failed = after ≡ option_map failed before
 Leaves (Err Memory) before after ok failed = after ≡ before
 
--- what is told after a call that adds bytes, by its answer; after a failure the first k of them were added
+-- What is told after a call that adds bytes, by its answer; after a failure the first k of them were added.
 abbrev pub LeavesPrefix : {T W : Type 0} → Result T Fault → Option W → Option W → List ℕ → (List ℕ → W → W) → Type 0
 LeavesPrefix (Ok x) before after bytes add = after ≡ option_map (add bytes) before
 LeavesPrefix (Err Failed) before after bytes add = (k : ℕ) × (after ≡ option_map (add (take k bytes)) before)
 LeavesPrefix (Err Memory) before after bytes add = after ≡ before
 
--- a claim on what is told before and after, where it is told
+-- A claim on what is told before and after, where it is told.
 abbrev pub Told : Option World → Option World → (World → World → Type 0) → Type 0
 Told None after P = Unit {0}
 Told (Some w) None P = ⊥

@@ -26,7 +26,7 @@ module _ (p : Parts) (parts : AreParts p) (e : Event) (q : slice_get (events_of 
   same_class : find_class k fields.shape.class ≡ find_class p.classes e.frame.type_id
   same_class = ap (λ (z : Classes). find_class z fields.shape.class) h ∙ (ap (λ (z : NodeAt). find_class p.classes z.shape.class) f ∙ ap (λ (z : Shape). find_class p.classes z.class) (event_shape p parts (event_at e) listed))
 
-  -- the class of an event is known
+  -- The class of an event is known.
   pub placed : None ≡ find_class k fields.shape.class → ⊥
   placed n = let x : IsSome {T = Class} None = subst (λ z. IsSome z) (sym (n ∙ same_class)) (event_known p parts (event_at e) listed) in cc
 
@@ -37,7 +37,7 @@ module _ (p : Parts) (parts : AreParts p) (e : Event) (q : slice_get (events_of 
       by_class None n v = absurd (placed (sym (same_class ∙ n)))
       by_class (Some c) n v = v.each p (event_at e) (record { parts = parts; listed = in_contains (events_of p) (event_at e) listed; class = n })
 
--- where every class is kept, so is every event
+-- Where every class is kept, so is every event.
 module _ (g : Given) (p : Parts) (parts : AreParts p) where
   class_kept : (k : Classes) (verdicts : List ClassVerdict) (test : Class → Bool) (c : Class) → AllZip (IsVerdict g) k verdicts → list_all is_kept verdicts ≡ true → find test k ≡ Some c → IsVerdict g c Kept
   class_kept [] verdicts test c z a e = cc

@@ -36,7 +36,7 @@ passes {X = X} test (y ∷ ys) x i = by_test (test y) refl i (λ j. passes test 
     by_test true q (inr j) f = f j
     by_test false q j f = f j
 
--- the record of an event is of an event class
+-- The record of an event is of an event class.
 event_class : (p : Parts) (e : EventAt) → In (events_of p) e → is_event_class p.classes e.record_of.type_id ≡ true
 unfolding events_of
 event_class p e i =
@@ -61,7 +61,7 @@ is_the_composite kinds.Float e = cc
 is_the_composite kinds.Double e = cc
 is_the_composite kinds.Text e = cc
 
--- an event class is known, and composite
+-- An event class is known, and composite.
 record EventClass (k : Classes) (id : ℕ) : Type 0 where
   class : Class
   found : find_class k id ≡ Some class
@@ -79,7 +79,7 @@ known k id e = by_class (find_class k id) refl (and_parts (nat_lt 1 id) (option_
       composite = is_the_composite (kind_of c.name) (and_parts (is_composite (kind_of c.name)) (option_map_or (λ n. bytes_eq n (codes "jdk.jfr.Event")) c.super_name false) h).0;
     }
 
--- one of a row of values
+-- One of a row of values.
 one_of_row : (k : Classes) (c : List ℕ) (at end number : ℕ) (fs : List Field) (f : Field) (vs : Values) (o : Option NodeAt) → IsRow k c at end (map (λ f. f.shape) fs) vs → slice_get fs number ≡ Some f → o ≡ slice_get (laid at (list_of vs)) number → (n : NodeAt) × (o ≡ Some n)
 one_of_row k c at end number fs f vs o r g e = (node_at f.shape (start_of at vs number) (start_of at vs (number + 1)), e ∙ (row_at k c at end (map (λ f. f.shape) fs) vs number f.shape r (slice_get-map (λ (f : Field). f.shape) fs number ∙ ap (option_map (λ (f : Field). f.shape)) g)).is)
 
@@ -90,7 +90,7 @@ module _ (p : Parts) (parts : AreParts p) (e : EventAt) (listed : In (events_of 
   pub event_shape : e.node.shape ≡ inline e.record_of.type_id
   event_shape = (event_is p parts e listed).shape
 
-  -- where the class has a field, so has the event
+  -- Where the class has a field, so has the event.
   pub event_field : (c : Class) (name : List ℕ) (number : ℕ) → find_class p.classes e.record_of.type_id ≡ Some c → field_number c.fields name ≡ Some number → (n : NodeAt) × (child p.classes p.bytes e.node (steps.Field number) ≡ Some n)
   event_field c name number q f =
       let i = event_is p parts e listed in

@@ -8,7 +8,7 @@ use Rattle.std.proofs.lemmas.Option.{slice_get_within, get_or_from_slice_get}
 take_next : {X : Type 0} (xs : List X) (i : ℕ) (x : X) → slice_get xs i ≡ Some x → take (i + 1) xs ≡ take i xs ++ x ∷ []
 take_next xs i x g = take_more xs i x (slice_get_within xs i x g) ∙ ap (λ z. take i xs ++ z ∷ []) (get_or_from_slice_get xs i x x g)
 
--- a list whose members are set one after another to those of another list
+-- A list whose members are set one after another to those of another list.
 pub set_next : {X : Type 0} (xs ys : List X) (i : ℕ) (y : X) → i < length xs → slice_get ys i ≡ Some y → take i xs ≡ take i ys → take (i + 1) (slice_set xs i y) ≡ take (i + 1) ys
 set_next xs ys i y l g e = take_more_set xs i y l ∙ (ap (λ z. z ++ y ∷ []) e ∙ sym (take_next ys i y g))
 
@@ -18,11 +18,11 @@ zip_push R [] (w ∷ ys) x y a r = absurd a
 zip_push R (z ∷ xs) [] x y a r = absurd a
 zip_push R (z ∷ xs) (w ∷ ys) x y a r = (a.0, zip_push R xs ys x y a.1 r)
 
--- a list that is made of one for each member of another
+-- A list that is made of one for each member of another.
 pub zip_next : {X Y : Type 0} (R : X → Y → Type 0) (xs : List X) (ys : List Y) (i : ℕ) (x : X) (y : Y) → slice_get xs i ≡ Some x → AllZip R (take i xs) ys → R x y → AllZip R (take (i + 1) xs) (ys ++ y ∷ [])
 zip_next R xs ys i x y g a r = subst (λ z. AllZip R z (ys ++ y ∷ [])) (sym (take_next xs i x g)) (zip_push R (take i xs) ys x y a r)
 
--- the one for a member
+-- The one for a member.
 pub zip_at : {X Y : Type 0} (R : X → Y → Type 0) (xs : List X) (ys : List Y) (i : ℕ) (d : Y) (o : Option X) → AllZip R xs ys → slice_get xs i ≡ o → IfSome o (λ x. R x (slice_index_or ys i d))
 zip_at R [] ys i d o a e = subst (λ z. IfSome z (λ x. R x (slice_index_or ys i d))) e tt
 zip_at R (x ∷ xs) [] i d o a e = absurd a

@@ -15,7 +15,7 @@ then_then f g None = refl
 then_then f g (Some x) = refl
 
 module _ (p : Parts) where
-  -- the text, from the field of the first name on
+  -- The text, from the field of the first name on.
   pub named_next : (name : List ℕ) (names : List (List ℕ)) (n : NodeAt) → named_text p n (name ∷ names) ≡ option_and_then (λ m. named_text p m names) (named_field p name (follow_while 16 is_reference p n))
   unfolding named_text
   named_next name names n = then_then (text_of p) (λ m. named_node p m names) (named_field p name (follow_while 16 is_reference p n))
@@ -23,7 +23,7 @@ module _ (p : Parts) where
   name_there : (names : List (List ℕ)) (i : ℕ) (name : List ℕ) (n m : NodeAt) → Some name ≡ slice_get names i → m ≡ follow_while 16 is_reference p n → named_node p n (drop i names) ≡ option_and_then (λ z. named_node p z (drop (i + 1) names)) (named_field p name m)
   name_there names i name n m e h = ap (named_node p n) (drop_at names i name e) ∙ ap (λ z. option_and_then (λ z. named_node p z (drop (i + 1) names)) (named_field p name z)) (sym h)
 
-  -- the field of the next name
+  -- The field of the next name.
   pub named_on : (whole : Option NodeAt) (names : List (List ℕ)) (i : ℕ) (name : List ℕ) (n m to : NodeAt) → whole ≡ named_node p n (drop i names) → Some name ≡ slice_get names i → m ≡ follow_while 16 is_reference p n → Some to ≡ named_field p name m
       → whole ≡ named_node p to (drop (i + 1) names)
   named_on whole names i name n m to w e h f = w ∙ (name_there names i name n m e h ∙ ap (option_and_then (λ z. named_node p z (drop (i + 1) names))) (sym f))
@@ -39,7 +39,7 @@ module _ (p : Parts) where
   unfolding named_text
   named_none names n e = ap (option_and_then (text_of p)) e
 
-  -- the text of one name's field
+  -- The text of one name's field.
   pub field_there : (name : List ℕ) (n holder m : NodeAt) → holder ≡ follow_while 16 is_reference p n → Some m ≡ named_field p name holder → text_of p m ≡ named_text p n (name ∷ [])
   field_there name n holder m h e = named_there (name ∷ []) n m (ap (option_and_then (λ z. Some z)) (e ∙ ap (named_field p name) h))
 

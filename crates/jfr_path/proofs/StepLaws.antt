@@ -15,7 +15,7 @@ use Rattle.jfr_chunk.proofs.PathLaws.{Standing}
 use Rattle.jfr_chunk.proofs.Members.{get_in}
 use Rattle.jfr_chunk.proofs.StandingLaws.{standing, event_is}
 
--- a value of the chunk
+-- A value of the chunk.
 abbrev pub IsPlace : Parts → NodeAt → Type 0
 IsPlace p n = (v : Value) × IsNode p.classes p.bytes n v
 
@@ -32,7 +32,7 @@ module _ (p : Parts) (parts : AreParts p) where
   pub event_place : (e : Event) → slice_get (events_of p) e.number ≡ Some (event_at e) → IsPlace p (node_of e.node)
   event_place e q = let i = event_is p parts (event_at e) (get_in (events_of p) e.number (event_at e) q) in (i.value, i.node)
 
--- a step to a field or an item
+-- A step to a field or an item.
 pub step_child : (p : Parts) (n : NodeAt) (by : Step) → by ≢ steps.Follow → step p n by ≡ child p.classes p.bytes n by
 step_child p n (steps.Field i) h = refl
 step_child p n (steps.Item i) h = refl

@@ -14,7 +14,7 @@ use Rattle.jfr_value.proofs.NodeLaws.{target_is}
 use Rattle.jfr_chunk.specs.Parts.{Parts}
 use Rattle.jfr_chunk.specs.Paths.{is_reference}
 
--- the marks of a reference
+-- The marks of a reference.
 pub marks_of_reference : (n : NodeAt) → is_reference n ≡ true → (n.shape.array ≡ false) × (n.shape.constant ≡ true)
 marks_of_reference n e = by_marks n.shape.array n.shape.constant e
   where
@@ -22,7 +22,7 @@ marks_of_reference n e = by_marks n.shape.array n.shape.constant e
     by_marks true c e = cc
     by_marks false c e = (refl, e)
 
--- the key of a reference is what its bytes spell
+-- The key of a reference is what its bytes spell.
 record Keyed (c : List ℕ) (n : NodeAt) (v : Value) : Type 0 where
   pub key : ℕ
   pub read : int_at c n.at n.end ≡ Some (record { value = key; end = n.end })

@@ -41,7 +41,7 @@ module _ (s : Content) (r : Option Content) where
   by_marks false false o e = by_class o e
 
 module _ (p : Parts) where
-  -- the string of a value is what is read between its places
+  -- The string of a value is what is read between its places.
   read_there : (n : NodeAt) (s : Content) → string_of p n ≡ Some s → content_in (run (string_format true) p.bytes n.end n.at) ≡ Some s
   read_there n s e = by_marks s (content_in (run (string_format true) p.bytes n.end n.at)) n.shape.array n.shape.constant (find_class p.classes n.shape.class) e
 
@@ -53,11 +53,11 @@ module _ (p : Parts) where
       cc
 
 module _ (g : Given) (p : Parts) where
-  -- a verdict that was kept
+  -- A verdict that was kept.
   pub text_kept : (verdicts : BTreeMap (ℕ × ℕ) Bool) (n : NodeAt) (s : Content) (allowed : Bool) → AreTextVerdicts g p verdicts → string_of p n ≡ Some s → Some allowed ≡ tree.get pair_cmp verdicts (n.at, n.end) → allowed ≡ allows_thread g (strings.text_of s)
   text_kept verdicts n s allowed a h e = subst (λ z. IfSome z (λ allowed. allowed ≡ allows_thread g (strings.text_of s))) (sym e) (a.each n s h)
 
-  -- a verdict more
+  -- A verdict more.
   pub texts_next : (old new : BTreeMap (ℕ × ℕ) Bool) (n : NodeAt) (s : Content) (allowed : Bool) → AreTextVerdicts g p old → string_of p n ≡ Some s → allowed ≡ allows_thread g (strings.text_of s) → tree.Updates pair_cmp old new (n.at, n.end) (Some allowed) → AreTextVerdicts g p new
   texts_next old new n s allowed a h e up = record { each = λ m t f. subst (λ z. IfSome z (λ allowed. allowed ≡ allows_thread g (strings.text_of t))) (sym (up.0 (m.at, m.end))) (by_place m t f (is_at (pair_cmp (n.at, n.end)) (m.at, m.end)) refl) }
     where

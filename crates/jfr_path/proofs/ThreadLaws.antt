@@ -22,7 +22,7 @@ use Rattle.jfr_path.proofs.StepLaws.{sound, value_place}
 use Rattle.jfr_path.proofs.TargetBytes.{marks_of_reference}
 
 module _ (p : Parts) (parts : AreParts p) (t : ℕ × ℕ) where
-  -- a reference has no field
+  -- A reference has no field.
   no_field : (n : NodeAt) (name : List ℕ) → IsReferenceTo p t n → named_field p name n ≡ None
   no_field n name r = by_class (find_class p.classes n.shape.class)
     where
@@ -45,24 +45,24 @@ module _ (p : Parts) (parts : AreParts p) (t : ℕ × ℕ) where
         by_entry None e f = ap (named_field p name) (ends is_reference p 16 n e) ∙ (no_field n name r ∙ sym (ap (named_field p name) (ends is_reference p 16 m f) ∙ no_field m name s))
         by_entry (Some to) e f = ap (named_field p name) (followed is_reference p 15 n to r.reference e ∙ sym (followed is_reference p 15 m to s.reference f))
 
-    -- names lead to the same text from references to one class and key
+    -- Names lead to the same text from references to one class and key.
     pub same_text : (name : List ℕ) (names : List (List ℕ)) → named_text p n (name ∷ names) ≡ named_text p m (name ∷ names)
     same_text name names = named_next p name names n ∙ (ap (option_and_then (λ z. named_text p z names)) (same_field name) ∙ sym (named_next p name names m))
 
     same_allowed : (g : Given) → allows_behind g p n ≡ allows_behind g p m
     same_allowed g = ap (allows_thread g) (same_text (codes "javaName") [])
 
--- a reference that the code hands around
+-- A reference that the code hands around.
 pub reference_to : (a : Asked) (p : Parts) (n : Node) (key : ℕ) (reference : Bool) → p ≡ a.chunk → IsValue a.chunk.classes n → n.bytes.now ≡ a.chunk.bytes → reference ≡ is_reference (node_of n) → reference ≡ true → target p.classes p.bytes (node_of n) ≡ Some (n.shape.class, key) → IsReferenceTo p (n.shape.class, key) (node_of n)
 reference_to a p n key reference q v b e t h =
     let w = value_place p n (b ∙ ap (λ (z : Parts). z.bytes) (sym q)) (subst (λ (z : Parts). IsValue z.classes n) (sym q) v) in
     record { value = w.0; node = w.1; reference = sym e ∙ t; target = h }
 
--- a verdict that was kept
+-- A verdict that was kept.
 pub verdict_kept : (g : Given) (p : Parts) (verdicts : BTreeMap (ℕ × ℕ) Bool) (t : ℕ × ℕ) (n : NodeAt) (allowed : Bool) → AreVerdicts g p verdicts → IsReferenceTo p t n → Some allowed ≡ tree.get pair_cmp verdicts t → allowed ≡ allows_behind g p n
 verdict_kept g p verdicts t n allowed a r e = subst (λ z. IfSome z (λ allowed. allowed ≡ allows_behind g p n)) (sym e) (a.each t n r)
 
--- a verdict more
+-- A verdict more.
 pub verdicts_next : (g : Given) (p : Parts) (old new : BTreeMap (ℕ × ℕ) Bool) (t : ℕ × ℕ) (n : NodeAt) (allowed : Bool) → AreParts p → AreVerdicts g p old → IsReferenceTo p t n → allowed ≡ allows_behind g p n → tree.Updates pair_cmp old new t (Some allowed) → AreVerdicts g p new
 verdicts_next g p old new t n allowed parts a r e up = record { each = λ u m s. subst (λ z. IfSome z (λ allowed. allowed ≡ allows_behind g p m)) (sym (up.0 u)) (by_key u m s (is_at (pair_cmp t) u) refl) }
   where

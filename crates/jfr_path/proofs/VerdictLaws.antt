@@ -19,7 +19,7 @@ use Rattle.jfr_path.proofs.EventLaws.{event_shape, event_field}
 use Rattle.jfr_path.proofs.FollowLaws.{stays}
 use Rattle.jfr_path.proofs.NameLaws.{named_next}
 
--- where no option on threads is given, every thread is allowed
+-- Where no option on threads is given, every thread is allowed.
 unasked : (g : Given) (text : Option (List ℕ)) → (is_some g.include_threads || is_some g.exclude_threads) ≡ false → allows_thread g text ≡ true
 unfolding allows_thread
 unasked g text e = by_options g.include_threads g.exclude_threads e
@@ -39,7 +39,7 @@ module _ (p : Parts) (c : Class) (e : EventAt) (o : IsOfClass p c e) where
   alone : is_reference e.node ≡ false
   alone = ap (λ (z : Shape). if z.array then false else z.constant) (event_shape p o.parts e listed)
 
-  -- the thread text is the one behind the field of the thread
+  -- The thread text is the one behind the field of the thread.
   there : thread_text p e ≡ option_and_then (text_behind p) (option_and_then (λ i. child p.classes p.bytes e.node (steps.Field i)) (thread_number c))
   there =
       let found : find_class p.classes e.node.shape.class ≡ Some c = ap (λ (z : Shape). find_class p.classes z.class) (event_shape p o.parts e listed) ∙ o.class in
@@ -70,7 +70,7 @@ module _ (g : Given) (c : Class) where
   pub unasked_kept : allows_class g c.name c.categories ≡ true → (is_some g.include_threads || is_some g.exclude_threads) ≡ false → IsVerdict g c Kept
   unasked_kept a n = record { each = λ p e o. by_thread p c e o g a ∙ unasked g (thread_text p e) n }
 
-  -- without a field of the thread there is no thread text
+  -- Without a field of the thread there is no thread text.
   threadless : allows_class g c.name c.categories ≡ true → thread_number c ≡ None → (p : Parts) (e : EventAt) → IsOfClass p c e → is_chosen g p e ≡ allows_thread g None
   threadless a f p e o = by_thread p c e o g a ∙ ap (allows_thread g) (none_there p c e o f)
 

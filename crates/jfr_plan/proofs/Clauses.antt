@@ -14,7 +14,7 @@ use Rattle.jfr_plan.specs.Outcomes.{After, OutcomeIn, HaltedIn, MetIn, Breaks, K
 use Rattle.jfr_plan.specs.Makes.{making, asks_made}
 use Rattle.jfr_plan.specs.Clauses.{Halted, IsPlanned, ByPlan, ForMemory, IsComplete, write_count, CanRead, CanCreate}
 
--- exactly the effects whose need is met are done
+-- Exactly the effects whose need is met are done.
 pub halted_clause : (r : Rule) (input : List ℕ) (a b : Outside) → After r [] input NotRead a b → Halted r input a b
 halted_clause r input a b t =
     map_told a.place.told b.place.told (λ w v. HaltedIn a.place.steady r [] (file w input) v.input (stand w a.sink.written) (stand v b.sink.written))
@@ -35,7 +35,7 @@ kept_writes File a b p q = p
 kept_writes Parts a b p q = p
 kept_writes Text a b p q = q
 
--- no answer but a read fault where the count of reads is larger
+-- No answer but a read fault where the count of reads is larger.
 pub reads_clause : (target : Target) (e : Ending) (a b : Outside) → Tallied target (way_of e) a b → (e ≡ ReadFault → ⊥) → b.place.read_faults ≡ a.place.read_faults
 reads_clause target Done a b t n = t.1.0
 reads_clause target (Refused r) a b t n = t.1.0
@@ -52,7 +52,7 @@ no_read_passed target WriteFault a b t h = absurd (let k = written_reads target 
 no_read_passed target TooManyParts a b t h = absurd (omega (arith, t.1.0, h))
 no_read_passed target Memory a b t h = absurd (omega (arith, t.0, h))
 
--- no answer but a write fault where the count of writes is larger
+-- No answer but a write fault where the count of writes is larger.
 pub writes_clause : (target : Target) (e : Ending) (a b : Outside) → Tallied target (way_of e) a b → (e ≡ WriteFault → ⊥) → write_count target b ≡ write_count target a
 writes_clause target Done a b t n = kept_writes target a b t.1.1 t.1.2
 writes_clause target (Refused r) a b t n = kept_writes target a b t.1.1 t.1.2
@@ -72,7 +72,7 @@ no_write_passed target WriteFault a b t h = refl
 no_write_passed target TooManyParts a b t h = absurd (no_less (write_count target a) (write_count target b) (kept_writes target a b t.1.1 t.1.2) h)
 no_write_passed target Memory a b t h = absurd (no_less (write_count target a) (write_count target b) (kept_writes target a b t.1 t.2) h)
 
--- a fault is counted
+-- A fault is counted.
 pub read_rose : (target : Target) (e : Ending) (a b : Outside) → Tallied target (way_of e) a b → e ≡ ReadFault → Rose a.place.read_faults b.place.read_faults
 read_rose target e a b t is = let k : Tallied target NotRead a b = subst (λ (y : Ending). Tallied target (way_of y) a b) is t in k.0.1
 
@@ -82,7 +82,7 @@ write_rose target e a b t is = written_rose target a b (subst (λ (y : Ending). 
 file_parts : File ≡ Parts → ⊥
 file_parts e = cc
 
--- one file is never too many parts
+-- One file is never too many parts.
 pub no_parts : (e : Ending) (a b : Outside) → Tallied File (way_of e) a b → e ≡ TooManyParts → ⊥
 no_parts e a b t is = let k : Tallied File (Ends ends.TooMany) a b = subst (λ (y : Ending). Tallied File (way_of y) a b) is t in file_parts k.0
 
@@ -95,7 +95,7 @@ if_all : (b : Option World) (F : World → Type 0) → ((w : World) → F w) →
 if_all None F f = tt
 if_all (Some w) F f = f w
 
--- the plan's end, or want of memory
+-- The plan's end, or want of memory.
 pub complete_clause : (r : Rule) (input : List ℕ) (way : Way) (a b : Outside) → After r [] input way a b → Tallied r.target way a b → IsComplete r input way a b
 complete_clause r input (Ends e) a b t c = λ p q. before_of a.place.told b.place.told (λ w v. OutcomeIn a.place.steady r [] (file w input) v.input (Ends e) (stand w a.sink.written) (stand v b.sink.written)) (λ w. IsPlanned (Ends e) (plan_in r input w).end) t (λ w v h. ByPlan e refl h.end)
 complete_clause r input NotRead a b t c = λ p q. absurd (p c.0.1)
@@ -109,14 +109,14 @@ some_none (Some x) e h = cc
 told_at : (b : Option World) (w : World) (F : World → Type 0) → b ≡ Some w → IfSome b F → F w
 told_at b w F e h = let k : IfSome (Some w) F = subst (λ (o : Option World). IfSome o F) e h in k
 
--- a steady place that has the file gives no read fault
+-- A steady place that has the file gives no read fault.
 pub can_read : (r : Rule) (input : List ℕ) (e : Ending) (a b : Outside) → CanRead input a.place → After r [] input (way_of e) a b → e ≡ ReadFault → ⊥
 can_read r input e a b c t is =
     let k : After r [] input NotRead a b = subst (λ (y : Ending). After r [] input (way_of y) a b) is t in
     let none = told_at a.place.told c.world (λ w. file w input ≡ None) c.told (before_of a.place.told b.place.told (λ w v. HaltedIn a.place.steady r [] (file w input) v.input (stand w a.sink.written) (stand v b.sink.written)) (λ w. file w input ≡ None) k (λ w v h. h.1 c.steady)) in
     some_none (file c.world input) none c.there
 
--- the effects can be done one after another
+-- The effects can be done one after another.
 abbrev pub Cans : List Effect → Stand → Type 0
 Cans [] s = Unit {0}
 Cans (e ∷ es) s = (Cannot e s → ⊥) × Cans es (apply e s)
@@ -151,7 +151,7 @@ cans_plan : (k : List ℕ → Option Flaw) (m : List ℕ → List ℕ) (output :
 cans_plan k m output None s h = tt
 cans_plan k m output (Some x) s h = (h, cans_walk k m output output [] (cut_after [] x).chunks (cut_after [] x).flaw (apply (Create output) s) refl)
 
--- a steady place without an open output gives no write fault for a new name
+-- A steady place without an open output gives no write fault for a new name.
 pub can_create : (k : List ℕ → Option Flaw) (m : List ℕ → List ℕ) (input output : List ℕ) (e : Ending) (a b : Outside) → CanCreate output a.place → After (making output k m) [] input (way_of e) a b → e ≡ WriteFault → ⊥
 can_create k m input output e a b c t is =
     let r = making output k m in

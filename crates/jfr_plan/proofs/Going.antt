@@ -19,7 +19,7 @@ use Rattle.jfr_header.proofs.Cutting.{cut_end, cut_bad, cut_chunk, joined_snoc}
 use Rattle.jfr_plan.proofs.Needs.{needs_met}
 use Rattle.jfr_plan.proofs.Walking.{FromHere, from_here, gone_snoc, go_snoc, done_append, effects_needing, effects_append}
 
--- the input was opened, and what the command does then was done
+-- The input was opened, and what the command does then was done.
 unfoldable pub begin : (r : Rule) (earlier : List (List ℕ)) (input x : List ℕ) (start number : ℕ) (o p : Option (List ℕ)) (w v : World) → start ≡ length (joined earlier) → number ≡ length earlier + 1 → file w input ≡ Some x → v.input ≡ Some x → stand v p ≡ done r.opens (stand w o) → Going r earlier input start number false o p w v
 begin r earlier input x start number o p w v a n f i s = record {
   x = x;
@@ -38,7 +38,7 @@ begin r earlier input x start number o p w v a n f i s = record {
   stands = s ∙ ap (λ (l : List Effect). done l (stand w o)) (sym (append-nil r.opens));
 }
 
--- the plan, from where the command stands
+-- The plan, from where the command stands.
 pub rest_of : (r : Rule) (earlier : List (List ℕ)) (input : List ℕ) (start number : ℕ) (given : Bool) (o p : Option (List ℕ)) (w v : World) (g : Going r earlier input start number given o p w v) → FromHere r earlier (file w input) g.before (walk r (earlier ++ g.before) g.cuts.chunks g.cuts.flaw)
 rest_of r earlier input start number given o p w v g =
     subst (λ (y : Option (List ℕ)). FromHere r earlier y g.before (walk r (earlier ++ g.before) g.cuts.chunks g.cuts.flaw)) (sym g.file_is) (from_here r earlier g.x g.before g.cuts.chunks g.cuts.flaw g.chunks g.flaw g.go)
@@ -46,24 +46,24 @@ rest_of r earlier input start number given o p w v g =
 pub took_stand : (bytes : List ℕ) (p : Option (List ℕ)) (v u : World) → Took bytes v u → stand u p ≡ stand v p
 took_stand bytes p v u t = λ i. record { files = t.files i; output = t.output i; text = p; sound = true }
 
--- some effects of the plan are done
+-- Some effects of the plan are done.
 pub partly : (st : Bool) (r : Rule) (earlier : List (List ℕ)) (input : List ℕ) (start number : ℕ) (given : Bool) (o p q : Option (List ℕ)) (w v u : World) → Going r earlier input start number given o p w v → stand u q ≡ stand v p → OutcomeOf st r earlier input o q NoRoom w u
 partly st r earlier input start number given o p q w v u g s =
     let h = rest_of r earlier input start number given o p w v g in
     record { first = r.opens ++ gone r earlier g.before; rest = effects (walk r (earlier ++ g.before) g.cuts.chunks g.cuts.flaw).steps; parts = h.steps; stands = s ∙ g.stands }
 
--- the front of what is left is what the cutter found
+-- The front of what is left is what the cutter found.
 pub front_is : (r : Rule) (earlier : List (List ℕ)) (input : List ℕ) (number : ℕ) (o p : Option (List ℕ)) (c : Cutter) (f : Front) (bytes : List ℕ) (w v u : World) (g : Going r earlier input c.start number c.given o p w v) → Found c f bytes v u → front g.left c.start (not c.given) ≡ f
 front_is r earlier input number o p c f bytes w v u g k =
     ap (λ (l : List ℕ). front l c.start (not c.given)) (same_some g.left k.rest (sym g.input_is ∙ k.input)) ∙ k.is
 
--- the plan, from the end of the input
+-- The plan, from the end of the input.
 pub at_end : (r : Rule) (earlier : List (List ℕ)) (input : List ℕ) (number : ℕ) (o p : Option (List ℕ)) (c : Cutter) (bytes : List ℕ) (w v u : World) (g : Going r earlier input c.start number c.given o p w v) → Found c End bytes v u → FromHere r earlier (file w input) g.before (walk_end r (earlier ++ g.before) None)
 at_end r earlier input number o p c bytes w v u g k =
     let e : g.cuts ≡ record { chunks = []; flaw = None } = g.cuts_are ∙ cut_end g.left c.start (not c.given) (front_is r earlier input number o p c End bytes w v u g k) in
     subst (λ (y : Cuts). FromHere r earlier (file w input) g.before (walk r (earlier ++ g.before) y.chunks y.flaw)) e (rest_of r earlier input c.start number c.given o p w v g)
 
--- at the end of the input the chunks before are all of them
+-- At the end of the input the chunks before are all of them.
 pub all_seen : (r : Rule) (earlier : List (List ℕ)) (input : List ℕ) (o p : Option (List ℕ)) (c : Cutter) (bytes : List ℕ) (w v u : World) (Seen : List (List ℕ) → Type 0) (g : Going r earlier input c.start c.number c.given o p w v) → Found c End bytes v u → Seen (earlier ++ g.before) → IsPast Seen earlier input c.start c.number w
 all_seen r earlier input o p c bytes w v u Seen g k h =
     let e : g.cuts ≡ record { chunks = []; flaw = None } = g.cuts_are ∙ cut_end g.left c.start (not c.given) (front_is r earlier input c.number o p c End bytes w v u g k) in
@@ -76,7 +76,7 @@ at_flaw r earlier input number o p c b bytes w v u g k =
     let e : g.cuts ≡ record { chunks = []; flaw = Some b } = g.cuts_are ∙ cut_bad g.left c.start (not c.given) b (front_is r earlier input number o p c (Bad b) bytes w v u g k) in
     subst (λ (y : Cuts). FromHere r earlier (file w input) g.before (walk r (earlier ++ g.before) y.chunks y.flaw)) e (rest_of r earlier input c.start number c.given o p w v g)
 
--- the plan ends with this refusal by the cutter
+-- The plan ends with this refusal by the cutter.
 pub ends_flawed : (st : Bool) (r : Rule) (earlier : List (List ℕ)) (input : List ℕ) (number : ℕ) (o p : Option (List ℕ)) (c : Cutter) (f : Refusal) (w v u : World) → Going r earlier input c.start number c.given o p w v → Refuses c f v u → OutcomeOf st r earlier input o p (Ends (refused number (flaw_of f))) w u
 ends_flawed st r earlier input number o p c f w v u g k =
     let h = at_flaw r earlier input number o p c (flaw_of f) k.bytes w v u g k.found in
@@ -86,7 +86,7 @@ ends_flawed st r earlier input number o p c f w v u g k =
       stands = took_stand k.bytes p v u k.found.took ∙ g.stands ∙ ap (λ (l : List Effect). done l (stand w o)) (sym (append-nil es) ∙ sym h.steps);
     }
 
--- what is left of an input, after bytes were taken
+-- What is left of an input, after bytes were taken.
 met_by : (r : Rule) (earlier : List (List ℕ)) (x left bytes : List ℕ) (s t : Stand) (a u : Option (List ℕ)) → a ≡ Some x → option_map (λ (l : List ℕ). bytes ++ l) u ≡ Some left → ((l : List ℕ) → left ≡ bytes ++ l → NeedsMet r earlier x l s t) → MetIn r earlier a u s t
 met_by r earlier x left bytes s t None u e f h = cc
 met_by r earlier x left bytes s t (Some y) None e f h = cc
@@ -95,7 +95,7 @@ met_by r earlier x left bytes s t (Some y) (Some l) e f h = subst (λ (z : List 
 none_some : (x : List ℕ) → ◌≡◌ {A = Option (List ℕ)} None (Some x) → ⊥
 none_some x e = cc
 
--- a read failed between two chunks
+-- A read failed between two chunks.
 pub halts : (st : Bool) (r : Rule) (earlier : List (List ℕ)) (input : List ℕ) (start number : ℕ) (given : Bool) (bytes : List ℕ) (o p : Option (List ℕ)) (w v u : World) → Going r earlier input start number given o p w v → Took bytes v u → IfSome v.input (λ rest. length bytes < reach rest) → (IsTrue st → v.input ≡ None) → OutcomeOf st r earlier input o p NotRead w u
 halts st r earlier input start number given bytes o p w v u g t k z =
     let less : length bytes < reach g.left = subst (λ (y : Option (List ℕ)). IfSome y (λ rest. length bytes < reach rest)) g.input_is k in (
@@ -133,7 +133,7 @@ pub record Holding (r : Rule) (earlier : List (List ℕ)) (input : List ℕ) (st
   pub start_is : start ≡ length (joined (earlier ++ before)) + length chunk
   pub stands : stand u p ≡ done (r.opens ++ gone r earlier before) (stand w o)
 
--- what is left after bytes taken
+-- What is left after bytes taken.
 pub record Left (bytes all : List ℕ) (u : World) : Type 0 where
   pub left : List ℕ
   pub is : u.input ≡ Some left
@@ -165,20 +165,20 @@ hold r earlier input number o p c chunk w v u g k =
       stands = took_stand chunk p v u k.took ∙ g.stands;
     }
 
--- the plan, from a chunk in hand, by what it asks for
+-- The plan, from a chunk in hand, by what it asks for.
 pub walk_asks : (r : Rule) (earlier : List (List ℕ)) (input : List ℕ) (start number : ℕ) (chunk : List ℕ) (o p : Option (List ℕ)) (w u : World) (g : Holding r earlier input start number chunk o p w u) (a : Asked) → r.asks (earlier ++ g.before) chunk ≡ a → FromHere r earlier (file w input) g.before (walk_on a (length (earlier ++ g.before) + 1) (walk r ((earlier ++ g.before) ++ chunk ∷ []) g.cuts.chunks g.cuts.flaw))
 walk_asks r earlier input start number chunk o p w u g a e =
     subst (λ (y : Asked). FromHere r earlier (file w input) g.before (walk_on y (length (earlier ++ g.before) + 1) (walk r ((earlier ++ g.before) ++ chunk ∷ []) g.cuts.chunks g.cuts.flaw))) e
     (subst (λ (y : Option (List ℕ)). FromHere r earlier y g.before (walk r (earlier ++ g.before) (chunk ∷ g.cuts.chunks) g.cuts.flaw)) (sym g.file_is) (from_here r earlier g.x g.before (chunk ∷ g.cuts.chunks) g.cuts.flaw g.chunks g.flaw g.go))
 
--- the chunk is the plan's end
+-- The chunk is the plan's end.
 pub stops : (st : Bool) (r : Rule) (earlier : List (List ℕ)) (input : List ℕ) (start number : ℕ) (chunk : List ℕ) (o p q : Option (List ℕ)) (end : ends.End) (w u t : World) (g : Holding r earlier input start number chunk o p w u) → r.asks (earlier ++ g.before) chunk ≡ Stops end → stand t q ≡ stand u p → OutcomeOf st r earlier input o q (Ends end) w t
 stops st r earlier input start number chunk o p q end w u t g e s =
     let h = walk_asks r earlier input start number chunk o p w u g (Stops end) e in
     let es = r.opens ++ gone r earlier g.before in
     record { end = h.end; stands = s ∙ g.stands ∙ ap (λ (l : List Effect). done l (stand w o)) (sym (append-nil es) ∙ sym h.steps) }
 
--- the plan's effects, from those that were asked for
+-- The plan's effects, from those that were asked for.
 pub record Asking (all es asks : List Effect) : Type 0 where
   pub later : List Effect
   pub parts : all ≡ es ++ (asks ++ later)
@@ -193,7 +193,7 @@ asking r earlier input start number chunk o p w u g (Goes es) is =
     let n = length (earlier ++ g.before) + 1 in
     record { later = effects later.steps; parts = h.steps ∙ ap (λ (l : List Effect). (r.opens ++ gone r earlier g.before) ++ l) (effects_append (needing (Chunks n) es) later.steps ∙ ap (λ (l : List Effect). l ++ effects later.steps) (effects_needing (Chunks n) es)) }
 
--- what broke among the effects asked for broke in the plan
+-- What broke among the effects asked for broke in the plan.
 breaks_in : (st : Bool) (all es asks : List Effect) (s u t : Stand) → Asking all es asks → u ≡ done es s → Breaks st asks u t → Breaks st all s t
 breaks_in st all es asks s u t k is b = record {
   first = es ++ b.first;
@@ -205,7 +205,7 @@ breaks_in st all es asks s u t k is b = record {
   cause = λ y. subst (Cannot b.failed) (ap (done b.first) is ∙ sym (done_append es b.first s)) (b.cause y);
 }
 
--- what was done of the effects asked for was done of the plan
+-- What was done of the effects asked for was done of the plan.
 some_in : (all es asks : List Effect) (s u t : Stand) → Asking all es asks → u ≡ done es s → SomeDone asks u t → SomeDone all s t
 some_in all es asks s u t k is b = record {
   first = es ++ b.first;
@@ -214,19 +214,19 @@ some_in all es asks s u t k is b = record {
   stands = b.stands ∙ ap (done b.first) is ∙ sym (done_append es b.first s);
 }
 
--- one of the chunk's effects failed
+-- One of the chunk's effects failed.
 pub breaks : (st : Bool) (r : Rule) (earlier : List (List ℕ)) (input : List ℕ) (start number : ℕ) (chunk : List ℕ) (o p q : Option (List ℕ)) (w u t : World) (g : Holding r earlier input start number chunk o p w u) → Breaks st (asked (r.asks (earlier ++ g.before) chunk)) (stand u p) (stand t q) → OutcomeOf st r earlier input o q NotWritten w t
 breaks st r earlier input start number chunk o p q w u t g b =
     let a = r.asks (earlier ++ g.before) chunk in
     breaks_in st (effects (plan_after r earlier (file w input)).steps) (r.opens ++ gone r earlier g.before) (asked a) (stand w o) (stand u p) (stand t q) (asking r earlier input start number chunk o p w u g a refl) g.stands b
 
--- some of the chunk's effects were done
+-- Some of the chunk's effects were done.
 pub partly_held : (st : Bool) (r : Rule) (earlier : List (List ℕ)) (input : List ℕ) (start number : ℕ) (chunk : List ℕ) (o p q : Option (List ℕ)) (w u t : World) (g : Holding r earlier input start number chunk o p w u) → SomeDone (asked (r.asks (earlier ++ g.before) chunk)) (stand u p) (stand t q) → OutcomeOf st r earlier input o q NoRoom w t
 partly_held st r earlier input start number chunk o p q w u t g b =
     let a = r.asks (earlier ++ g.before) chunk in
     some_in (effects (plan_after r earlier (file w input)).steps) (r.opens ++ gone r earlier g.before) (asked a) (stand w o) (stand u p) (stand t q) (asking r earlier input start number chunk o p w u g a refl) g.stands b
 
--- the effects that are asked for when the input is open
+-- The effects that are asked for when the input is open.
 opening : (r : Rule) (earlier : List (List ℕ)) (x : Option (List ℕ)) (y : List ℕ) → x ≡ Some y → Asking (effects (plan_after r earlier x).steps) [] r.opens
 opening r earlier x y e =
     let w = walk r earlier (cut_after earlier y).chunks (cut_after earlier y).flaw in
@@ -239,11 +239,11 @@ opens_broken st r earlier x y s t e b = breaks_in st (effects (plan_after r earl
 pub opens_partly : (r : Rule) (earlier : List (List ℕ)) (x : Option (List ℕ)) (y : List ℕ) (s t : Stand) → x ≡ Some y → SomeDone r.opens s t → SomeDone (effects (plan_after r earlier x).steps) s t
 opens_partly r earlier x y s t e b = some_in (effects (plan_after r earlier x).steps) [] r.opens s s t (opening r earlier x y e) refl b
 
--- the effects at the end of the input
+-- The effects at the end of the input.
 ending : (r : Rule) (earlier : List (List ℕ)) (x : Option (List ℕ)) (before : List (List ℕ)) → FromHere r earlier x before (walk_end r (earlier ++ before) None) → Asking (effects (plan_after r earlier x).steps) (r.opens ++ gone r earlier before) (r.ends (earlier ++ before))
 ending r earlier x before h = record { later = []; parts = h.steps ∙ ap (λ (l : List Effect). (r.opens ++ gone r earlier before) ++ l) (effects_needing AtEnd (r.ends (earlier ++ before)) ∙ sym (append-nil (r.ends (earlier ++ before)))) }
 
--- the effects at the end of the input were done
+-- The effects at the end of the input were done.
 pub ends_fine : (st : Bool) (r : Rule) (earlier : List (List ℕ)) (input : List ℕ) (number : ℕ) (o p q : Option (List ℕ)) (c : Cutter) (bytes : List ℕ) (w v u t : World) (g : Going r earlier input c.start number c.given o p w v) → Found c End bytes v u → stand t q ≡ done (r.ends (earlier ++ g.before)) (stand u p) → OutcomeOf st r earlier input o q (Ends Fine) w t
 ends_fine st r earlier input number o p q c bytes w v u t g k s =
     let h = at_end r earlier input number o p c bytes w v u g k in
@@ -254,17 +254,17 @@ ends_fine st r earlier input number o p q c bytes w v u t g k s =
       stands = s ∙ ap (done last) (took_stand bytes p v u k.took ∙ g.stands) ∙ sym (done_append es last (stand w o)) ∙ ap (λ (l : List Effect). done l (stand w o)) (ap (λ (l : List Effect). es ++ l) (sym (effects_needing AtEnd last)) ∙ sym h.steps);
     }
 
--- one of the effects at the end of the input failed
+-- One of the effects at the end of the input failed.
 pub ends_broken : (st : Bool) (r : Rule) (earlier : List (List ℕ)) (input : List ℕ) (number : ℕ) (o p q : Option (List ℕ)) (c : Cutter) (bytes : List ℕ) (w v u t : World) (g : Going r earlier input c.start number c.given o p w v) → Found c End bytes v u → Breaks st (r.ends (earlier ++ g.before)) (stand u p) (stand t q) → OutcomeOf st r earlier input o q NotWritten w t
 ends_broken st r earlier input number o p q c bytes w v u t g k b =
     breaks_in st (effects (plan_after r earlier (file w input)).steps) (r.opens ++ gone r earlier g.before) (r.ends (earlier ++ g.before)) (stand w o) (stand u p) (stand t q) (ending r earlier (file w input) g.before (at_end r earlier input number o p c bytes w v u g k)) (took_stand bytes p v u k.took ∙ g.stands) b
 
--- some of the effects at the end of the input were done
+-- Some of the effects at the end of the input were done.
 pub ends_partly : (st : Bool) (r : Rule) (earlier : List (List ℕ)) (input : List ℕ) (number : ℕ) (o p q : Option (List ℕ)) (c : Cutter) (bytes : List ℕ) (w v u t : World) (g : Going r earlier input c.start number c.given o p w v) → Found c End bytes v u → SomeDone (r.ends (earlier ++ g.before)) (stand u p) (stand t q) → OutcomeOf st r earlier input o q NoRoom w t
 ends_partly st r earlier input number o p q c bytes w v u t g k b =
     some_in (effects (plan_after r earlier (file w input)).steps) (r.opens ++ gone r earlier g.before) (r.ends (earlier ++ g.before)) (stand w o) (stand u p) (stand t q) (ending r earlier (file w input) g.before (at_end r earlier input number o p c bytes w v u g k)) (took_stand bytes p v u k.took ∙ g.stands) b
 
--- the chunk's effects were done
+-- The chunk's effects were done.
 unfoldable pub goes_on : (r : Rule) (earlier : List (List ℕ)) (input : List ℕ) (start number : ℕ) (chunk : List ℕ) (o p q : Option (List ℕ)) (w u t : World) (g : Holding r earlier input start number chunk o p w u) → t.input ≡ u.input → IsGoing (r.asks (earlier ++ g.before) chunk) → stand t q ≡ done (asked (r.asks (earlier ++ g.before) chunk)) (stand u p) → Going r earlier input start (number + 1) true o q w t
 goes_on r earlier input start number chunk o p q w u t g i e s =
     let all = r.opens ++ gone r earlier g.before in

@@ -11,7 +11,7 @@ use Rattle.jfr_plan.specs.Outcomes.{NeedsMet, IsBelowHeader, held, held_count}
 use Rattle.jfr_header.proofs.Cutting.{cut_open}
 use Rattle.jfr_plan.proofs.Walking.{effects_needing, effects_append}
 
--- where a chunk stands in front, the reach is its length, and it is 68 for a flaw of the header
+-- Where a chunk stands in front, the reach is its length, and it is 68 for a flaw of the header.
 abbrev pub Reaches : ℕ → Front → Type 0
 Reaches n (Bad f) = is_header f.reason ≡ true → n ≡ 68
 Reaches n End = Unit {0}
@@ -33,11 +33,11 @@ none_whole_by n m (Bad b) next h k = refl
 none_whole_by n m End next h k = refl
 none_whole_by n m (Chunk c) next h k = grind (arith, common_steps)
 
--- fewer bytes than the reach hold no chunk whole
+-- Fewer bytes than the reach hold no chunk whole.
 pub none_whole : (n : ℕ) (x : List ℕ) (s : ℕ) (f : Bool) → n < reach x → whole_in n (cut x s f).chunks ≡ 0
 none_whole n x s f k = ap (λ (y : Cuts). whole_in n y.chunks) (cut_open x s f) ∙ none_whole_by n (reach x) (front x s f) (λ c. cut_within (length x) (drop (length c) x) (s + length c) false) (reaches x s f) k
 
--- the same, where what is refused for its header has a flaw
+-- The same, where what is refused for its header has a flaw.
 abbrev pub BelowHeader : ℕ → Cuts → Type 0
 BelowHeader n y = IfSome y.flaw (IsBelowHeader y n)
 
@@ -52,7 +52,7 @@ below_header_by n m (Chunk c) next h k =
     let l : length (c ++ joined (next c).chunks) ≡ length c + length (joined (next c).chunks) = length-append c (joined (next c).chunks) in
     below_by n (next c).flaw (c ++ joined (next c).chunks) (omega (arith, l, h, k))
 
--- fewer bytes than the reach
+-- Fewer bytes than the reach.
 below_header : (n : ℕ) (x : List ℕ) (s : ℕ) (f : Bool) → n < reach x → BelowHeader n (cut x s f)
 below_header n x s f k = subst (BelowHeader n) (sym (cut_open x s f)) (below_header_by n (reach x) (front x s f) (λ c. cut_within (length x) (drop (length c) x) (s + length c) false) (reaches x s f) k)
 
@@ -115,7 +115,7 @@ on_none : (a : Asked) (n k : ℕ) (later : Walk) → n < k → keep_met (Some n)
 on_none (Stops e) n k later h e' = refl
 on_none (Goes es) n k later h e' = keep_append (Some n) (needing (Chunks k) es) later.steps ∙ ap (λ (l : List Step). l ++ keep_met (Some n) later.steps) (keep_none (Some n) (Chunks k) es (unmet k n h)) ∙ e'
 
--- the steps from some chunks on aren't met by as many chunks
+-- The steps from some chunks on aren't met by as many chunks.
 pub kept_none : (r : Rule) (n : ℕ) (p q : List (List ℕ)) (flaw : Option Flaw) → n ≤ length p → keep_met (Some n) (walk r p q flaw).steps ≡ []
 kept_none r n p [] flaw h = end_none r n p flaw
 kept_none r n p (c ∷ q) flaw h =
@@ -149,7 +149,7 @@ below_after : (n : ℕ) (p : List ℕ) (cs : List ℕ) (o : Option Flaw) → IfS
 below_after n p cs None h = tt
 below_after n p cs (Some f) h = λ y. let k : n < length cs + 68 = h y in let l : length (p ++ cs) ≡ length p + length cs = length-append p cs in omega (arith, l, k)
 
--- what is known where a read failed after these chunks
+-- What is known where a read failed after these chunks.
 pub record Stuck (r : Rule) (earlier : List (List ℕ)) (x left : List ℕ) (before : List (List ℕ)) (bytes : List ℕ) : Type 0 where
   pub rest : List ℕ
   pub start : ℕ
@@ -161,7 +161,7 @@ pub record Stuck (r : Rule) (earlier : List (List ℕ)) (x left : List ℕ) (bef
   pub go : AllGo r earlier before
   pub less : length bytes < reach rest
 
--- the bytes taken hold these chunks whole and no more
+-- The bytes taken hold these chunks whole and no more.
 stuck_count : (r : Rule) (earlier : List (List ℕ)) (x left : List ℕ) (before : List (List ℕ)) (bytes : List ℕ) → Stuck r earlier x left before bytes → held_count earlier x (joined before ++ bytes) ≡ length before
 stuck_count r earlier x left before bytes h =
     let later = (cut h.rest h.start h.first).chunks in
@@ -179,7 +179,7 @@ stuck_chunks r earlier x left before bytes h =
     ap (λ (n : ℕ). take n (cut_after earlier x).chunks) (stuck_count r earlier x left before bytes h)
     ∙ ap (take (length before)) h.chunks ∙ take_first before (cut h.rest h.start h.first).chunks
 
--- the effects whose need is met by as many chunks as go on are theirs
+-- The effects whose need is met by as many chunks as go on are theirs.
 kept_is : (r : Rule) (earlier : List (List ℕ)) (x : List ℕ) (before later : List (List ℕ)) → (cut_after earlier x).chunks ≡ before ++ later → AllGo r earlier before → effects (keep_met (Some (length earlier + length before)) (plan_after r earlier (Some x)).steps) ≡ r.opens ++ gone r earlier before
 kept_is r earlier x before later cs go =
     let n = length earlier + length before in
@@ -190,7 +190,7 @@ kept_is r earlier x before later cs go =
     ∙ ap (λ (l : List Effect). l ++ effects (keep_met (Some n) w.steps)) (ap effects (keep_all (Some n) Opened r.opens refl) ∙ effects_needing Opened r.opens)
     ∙ ap (λ (l : List Effect). r.opens ++ l) (kept_past r n earlier before later (cut_after earlier x).flaw go refl)
 
--- exactly the effects whose need is met are done
+-- Exactly the effects whose need is met are done.
 pub needs_met : (r : Rule) (earlier : List (List ℕ)) (x left : List ℕ) (before : List (List ℕ)) (bytes : List ℕ) (s t : Stand) → Stuck r earlier x left before bytes → t ≡ done (r.opens ++ gone r earlier before) s → NeedsMet r earlier x left s t
 needs_met r earlier x left before bytes s t h d =
     let taken = joined before ++ bytes in

@@ -20,7 +20,7 @@ copying = making (98 ∷ []) (λ c. None) (λ c. c)
 abbrev refusing : Rule
 refusing = making (98 ∷ []) (λ c. Some (record { offset = 100; reason = ChainDelta })) (λ c. c)
 
--- two chunks are copied, and the output is finished at the end
+-- Two chunks are copied, and the output is finished at the end.
 two : plan_after copying [] (Some (plain ++ plain)) ≡ record {
   steps = record { need = Opened; effect = Create (98 ∷ []) } ∷ record { need = Chunks 1; effect = Append plain } ∷ record { need = Chunks 2; effect = Append plain } ∷ record { need = AtEnd; effect = Finish } ∷ [];
   end = Some Fine;
@@ -28,7 +28,7 @@ two : plan_after copying [] (Some (plain ++ plain)) ≡ record {
 unfolding cut cut_within front header_flaw
 two = refl
 
--- the second chunk is short, and the output isn't finished
+-- The second chunk is short, and the output isn't finished.
 short : plan_after copying [] (Some (plain ++ take 100 plain)) ≡ record {
   steps = record { need = Opened; effect = Create (98 ∷ []) } ∷ record { need = Chunks 1; effect = Append plain } ∷ [];
   end = Some (Refused (record { chunk = 2; offset = 100; reason = ShortChunk }));
@@ -36,7 +36,7 @@ short : plan_after copying [] (Some (plain ++ take 100 plain)) ≡ record {
 unfolding cut cut_within front header_flaw
 short = refl
 
--- an empty file is refused once the output is there
+-- An empty file is refused once the output is there.
 empty : plan_after copying [] (Some []) ≡ record {
   steps = record { need = Opened; effect = Create (98 ∷ []) } ∷ [];
   end = Some (Refused (record { chunk = 1; offset = 0; reason = NoChunk }));
@@ -44,7 +44,7 @@ empty : plan_after copying [] (Some []) ≡ record {
 unfolding cut cut_within front header_flaw
 empty = refl
 
--- a refused chunk isn't appended
+-- A refused chunk isn't appended.
 refused : plan_after refusing [] (Some plain) ≡ record {
   steps = record { need = Opened; effect = Create (98 ∷ []) } ∷ [];
   end = Some (Refused (record { chunk = 1; offset = 100; reason = ChainDelta }));
@@ -52,7 +52,7 @@ refused : plan_after refusing [] (Some plain) ≡ record {
 unfolding cut cut_within front header_flaw
 refused = refl
 
--- the numbers go on after the chunks of earlier files
+-- The numbers go on after the chunks of earlier files.
 later : plan_after copying (plain ∷ plain ∷ []) (Some plain) ≡ record {
   steps = record { need = Opened; effect = Create (98 ∷ []) } ∷ record { need = Chunks 3; effect = Append plain } ∷ record { need = AtEnd; effect = Finish } ∷ [];
   end = Some Fine;
@@ -60,11 +60,11 @@ later : plan_after copying (plain ∷ plain ∷ []) (Some plain) ≡ record {
 unfolding cut cut_within front header_flaw
 later = refl
 
--- without a file there is no end
+-- Without a file there is no end.
 absent : plan_after copying [] None ≡ record { steps = []; end = None }
 absent = refl
 
--- what is met: nothing, the opening, one chunk
+-- What is met: nothing, the opening, one chunk.
 no_input : effects (keep_met None (plan_after copying [] (Some (plain ++ plain))).steps) ≡ []
 unfolding cut cut_within front header_flaw
 no_input = refl

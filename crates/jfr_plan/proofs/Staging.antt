@@ -15,7 +15,7 @@ use Rattle.jfr_plan.specs.Outcomes.{OutcomeOf, Counted, Kept}
 use Rattle.jfr_plan.specs.Parts.{PartEnded, PartTold}
 use Rattle.jfr_plan.proofs.Going.{Holding, begin, took_stand, partly, ends_fine, ends_broken, ends_partly, ends_flawed, all_seen, halts, hold, stops, breaks, partly_held, goes_on, opens_broken, opens_partly}
 
--- counts that stay over two calls
+-- Counts that stay over two calls.
 pub counted_on : (a b c : Outside) → Counted Kept Kept Kept a b → Counted Kept Kept Kept b c → Counted Kept Kept Kept a c
 counted_on a b c p q = (q.0 ∙ p.0, q.1 ∙ p.1, q.2 ∙ p.2, q.3 ∙ p.3)
 
@@ -23,7 +23,7 @@ carry : (w u : World) (z : Option World) (P Q : World → World → Type 0) → 
 carry w u None P Q p f = absurd p
 carry w u (Some t) P Q p f = f t p
 
--- the end that a refusal by number and flaw says
+-- The end that a refusal by number and flaw says.
 numbered : (r : Refusal) (n : ℕ) → r.chunk ≡ n → Ends (refused n (flaw_of r)) ≡ Ends (Refused r)
 numbered r n e = sym (λ i. Ends (Refused (record { chunk = e i; offset = r.offset; reason = r.reason })))
 
@@ -47,7 +47,7 @@ stage_memory st r earlier Seen input c o p b a d x y =
 goes_stops : (es : List Effect) (e : End) → Goes es ≡ Stops e → ⊥
 goes_stops es e h = cc
 
--- the way of a command whose last part answered so
+-- The way of a command whose last part answered so.
 abbrev pub last_way : Result (Unit {0}) Ending → Way
 last_way (Ok x) = Ends Fine
 last_way (Err e) = way_of e
@@ -95,7 +95,7 @@ stage_err st r earlier Seen input c x e o p q (Some w) (Some v) (Some u) z g y f
     carry w u z (PartTold st (r.asks (earlier ++ g.going.before) x) (Err e) p q) (OutcomeOf st r earlier input o q (way_of e)) (f (earlier ++ g.going.before) g.seen g.going.number_is)
     (λ t k. chunk_ended st r earlier input (c.start + length x) c.number x (way_of e) o p q w u t (hold r earlier input c.number o p c x w v u g.going y) k.1)
 
--- a chunk's part was done, and the stage has seen the chunk
+-- A chunk's part was done, and the stage has seen the chunk.
 stage_went : (st : Bool) (r : Rule) (earlier : List (List ℕ)) (Seen Next : List (List ℕ) → Type 0) (input : List ℕ) (c : Cutter) (x : List ℕ) (y : Unit {0}) (o p q : Option (List ℕ)) (b a d z : Option World) → Told b a (Staged r earlier Seen input c.start c.number c.given o p) → Told a d (Found c (fronts.Chunk x) x) → ((before : List (List ℕ)) → Seen before → c.number ≡ length before + 1 → Told d z (PartTold st (r.asks before x) (Ok y) p q) × Next (before ++ x ∷ [])) → Told b z (Staged r earlier Next input (c.start + length x) (c.number + 1) true o q)
 unfolding hold goes_on
 stage_went st r earlier Seen Next input c x e o p q None a d z g y f = tt
@@ -113,7 +113,7 @@ stage_goes st r earlier Seen Next input c n e o p q b a d z h g y f =
     (subst (λ (k : ℕ). Told b z (Staged r earlier Next input k (c.number + 1) true o q)) (sym h.start)
     (stage_went st r earlier Seen Next input c n.bytes e o p q b a d z g y f)))
 
--- the input is open, and nothing else changed
+-- The input is open, and nothing else changed.
 record Open (input : List ℕ) (w v : World) : Type 0 where
   pub is : v ≡ opened input w
   pub x : List ℕ
@@ -137,13 +137,13 @@ opened_ended st r earlier input x NotRead o q w t f k = absurd k
 opened_ended st r earlier input x NotWritten o q w t f k = opens_broken st r earlier (file w input) x (stand w o) (stand t q) f k
 opened_ended st r earlier input x NoRoom o q w t f k = opens_partly r earlier (file w input) x (stand w o) (stand t q) f k
 
--- what was to be done when the input was open ended the command
+-- What was to be done when the input was open ended the command.
 pub opened_err : (st : Bool) (r : Rule) (earlier : List (List ℕ)) (input : List ℕ) (e : Ending) (o q : Option (List ℕ)) (b a d : Option World) → a ≡ option_map (opened input) b → IfSome b (λ w. IsSome (file w input)) → Told a d (PartTold st (Goes r.opens) (Err e) o q) → Told b d (OutcomeOf st r earlier input o q (way_of e))
 opened_err st r earlier input e o q b a d is there k =
     opens_told input b a d (PartTold st (Goes r.opens) (Err e) o q) (OutcomeOf st r earlier input o q (way_of e)) is there k
     (λ w t x f p. opened_ended st r earlier input x (way_of e) o q w t f p.1)
 
--- what was to be done when the input was open is done
+-- What was to be done when the input was open is done.
 pub opened_ok : (st : Bool) (r : Rule) (earlier : List (List ℕ)) (Seen : List (List ℕ) → Type 0) (input : List ℕ) (start number : ℕ) (y : Unit {0}) (o q : Option (List ℕ)) (b a d : Option World) → Seen earlier → IsAt earlier start number → a ≡ option_map (opened input) b → IfSome b (λ w. IsSome (file w input)) → Told a d (PartTold st (Goes r.opens) (Ok y) o q) → Told b d (Staged r earlier Seen input start number false o q)
 unfolding begin
 opened_ok st r earlier Seen input start number y o q b a d s m is there k =

@@ -17,7 +17,7 @@ pub effects_append : (a b : List Step) → effects (a ++ b) ≡ effects a ++ eff
 effects_append [] b = refl
 effects_append (s ∷ a) b = ap (λ (l : List Effect). s.effect ∷ l) (effects_append a b)
 
--- after chunks that go on, the walk goes on from them
+-- After chunks that go on, the walk goes on from them.
 pub record Past (r : Rule) (p q later : List (List ℕ)) (flaw : Option Flaw) : Type 0 where
   pub steps : effects (walk r p (q ++ later) flaw).steps ≡ gone r p q ++ effects (walk r (p ++ q) later flaw).steps
   pub end : (walk r p (q ++ later) flaw).end ≡ (walk r (p ++ q) later flaw).end
@@ -48,7 +48,7 @@ pub go_snoc : (r : Rule) (p q : List (List ℕ)) (c : List ℕ) → AllGo r p q 
 go_snoc r p [] c g h = (subst (λ (l : List (List ℕ)). r.asks l c ≡ Goes (asked (r.asks l c))) (append-nil p) h, tt)
 go_snoc r p (d ∷ q) c g h = (g.0, go_snoc r (p ++ d ∷ []) q c g.1 (subst (λ (l : List (List ℕ)). r.asks l c ≡ Goes (asked (r.asks l c))) (sym (append_assoc p (d ∷ []) q)) h))
 
--- the plan, from the chunks that went on
+-- The plan, from the chunks that went on.
 pub record FromHere (r : Rule) (earlier : List (List ℕ)) (o : Option (List ℕ)) (before : List (List ℕ)) (v : Walk) : Type 0 where
   pub steps : effects (plan_after r earlier o).steps ≡ (r.opens ++ gone r earlier before) ++ effects v.steps
   pub end : (plan_after r earlier o).end ≡ Some v.end

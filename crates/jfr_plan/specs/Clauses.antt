@@ -7,48 +7,48 @@ use Rattle.jfr_plan.specs.Effects.{Outside, stand, effects}
 use Rattle.jfr_plan.specs.Walks.{Rule, Target, File, Parts, Text, plan_in}
 use Rattle.jfr_plan.specs.Outcomes.{AllDone, SomeDone, Breaks, MetIn}
 
--- the plan ends so, and all its effects are done
+-- The plan ends so, and all its effects are done.
 abbrev pub Ended : Rule → List ℕ → End → Outside → Outside → Type 0
 Ended r input e a b = Told a.place.told b.place.told (λ w v. AllDone (plan_in r input w) e (stand w a.sink.written) (stand v b.sink.written))
 
--- exactly the effects whose need is met are done
+-- Exactly the effects whose need is met are done.
 abbrev pub Halted : Rule → List ℕ → Outside → Outside → Type 0
 Halted r input a b = Told a.place.told b.place.told (λ w v. MetIn r [] (file w input) v.input (stand w a.sink.written) (stand v b.sink.written))
 
--- the first effects are done, and of the next one, which failed, a prefix of its bytes
+-- The first effects are done, and of the next one, which failed, a prefix of its bytes.
 abbrev pub Broken : Rule → List ℕ → Outside → Outside → Type 0
 Broken r input a b = Told a.place.told b.place.told (λ w v. Breaks a.place.steady (effects (plan_in r input w).steps) (stand w a.sink.written) (stand v b.sink.written))
 
--- the first effects are done
+-- The first effects are done.
 abbrev pub Partly : Rule → List ℕ → Outside → Outside → Type 0
 Partly r input a b = Told a.place.told b.place.told (λ w v. SomeDone (effects (plan_in r input w).steps) (stand w a.sink.written) (stand v b.sink.written))
 
--- the way is the plan's end, or memory was wanting
+-- The way is the plan's end, or memory was wanting.
 pub data IsPlanned (way : Way) (o : Option End) : Type 0 where
   ByPlan : (e : End) → way ≡ Ends e → o ≡ Some e → IsPlanned way o
   ForMemory : way ≡ NoRoom → IsPlanned way o
 
--- the count that a write fault of a command is by
+-- The count that a write fault of a command is by.
 abbrev pub write_count : Target → Outside → ℕ
 write_count File a = a.place.write_faults
 write_count Parts a = a.place.write_faults
 write_count Text a = a.sink.faults
 
--- where the place tells its files and neither count rose, the way is the plan's end, or memory was wanting
+-- Where the place tells its files and neither count rose, the way is the plan's end, or memory was wanting.
 abbrev pub IsComplete : Rule → List ℕ → Way → Outside → Outside → Type 0
 IsComplete r input way a b =
     (Rose a.place.read_faults b.place.read_faults → ⊥)
     → (Rose (write_count r.target a) (write_count r.target b) → ⊥)
     → IfSome a.place.told (λ w. IsPlanned way (plan_in r input w).end)
 
--- the place is steady, and the file is there
+-- The place is steady, and the file is there.
 pub record CanRead (input : List ℕ) (s : State) : Type 0 where
   pub steady : IsTrue s.steady
   pub world : World
   pub told : s.told ≡ Some world
   pub there : IsSome (file world input)
 
--- the place is steady, no file has the name, and no output is open
+-- The place is steady, no file has the name, and no output is open.
 pub record CanCreate (output : List ℕ) (s : State) : Type 0 where
   pub steady : IsTrue s.steady
   pub world : World

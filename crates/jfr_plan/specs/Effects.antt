@@ -4,91 +4,93 @@ use Rattle.jfr_outside.specs.World.{World, State, SinkState, Files, added, grown
 use Rattle.jfr_plan.specs.Ends.{End}
 use Rattle.std.specs.FinMap as fin
 
--- what is seen of a place and of the output sink
+-- What is seen of a place and of the output sink.
 pub record Outside : Type 0 where
   pub place : State
   pub sink : SinkState
 
--- these two as one
+-- These two as one.
 abbrev pub outside : State → SinkState → Outside
 outside place sink = record { place = place; sink = sink }
 
--- a place alone, beside a sink that tells nothing
+-- A place alone, beside a sink that tells nothing.
 abbrev pub alone : State → Outside
 alone place = outside place (record { written = None; faults = 0 })
 
--- the files, the name of the open output, the text on the output sink, where it tells it, and whether each effect so far could be done
+-- The files, the name of the open output, the text on the output sink, where it tells it, and whether each
+-- effect so far could be done.
 pub record Stand : Type 0 where
   pub files : Files
   pub output : Option (List ℕ)
   pub text : Option (List ℕ)
   pub sound : Bool
 
--- what stands at the beginning, by what a place and a sink tell
+-- What stands at the beginning, by what a place and a sink tell.
 abbrev pub stand : World → Option (List ℕ) → Stand
 stand w text = record { files = w.files; output = w.output; text = text; sound = true }
 
--- one thing done outside: a file is created as the output, the output grows, it is finished, or text is written
+-- One thing done outside: a file is created as the output, the output grows, it is finished, or text is
+-- written.
 pub data Effect : Type 0 where
   Create : List ℕ → Effect
   Append : List ℕ → Effect
   Finish : Effect
   Write : List ℕ → Effect
 
--- what stands after an effect
+-- What stands after an effect.
 abbrev pub apply : Effect → Stand → Stand
 apply (Create name) s = record s { files = fin.insert s.files name []; output = Some name; sound = s.sound && not (is_some (fin.get s.files name)) && not (is_some s.output) }
 apply (Append bytes) s = record s { files = grown s.output bytes s.files; sound = s.sound && is_some s.output }
 apply Finish s = record s { output = None; sound = s.sound && is_some s.output }
 apply (Write bytes) s = record s { text = option_map (added bytes) s.text }
 
--- what stands after effects, one after another
+-- What stands after effects, one after another.
 abbrev pub done : List Effect → Stand → Stand
 done [] s = s
 done (e ∷ es) s = done es (apply e s)
 
--- what stands after an effect that failed: no open output, or the first k of its bytes
+-- What stands after an effect that failed: no open output, or the first k of its bytes.
 abbrev pub broken : ℕ → Effect → Stand → Stand
 broken k (Create name) s = record s { output = None }
 broken k (Append bytes) s = record s { files = grown s.output (take k bytes) s.files }
 broken k Finish s = record s { output = None }
 broken k (Write bytes) s = apply (Write (take k bytes)) s
 
--- when a steady place may refuse an effect; a sink may refuse any text
+-- When a steady place may refuse an effect; a sink may refuse any text.
 abbrev pub Cannot : Effect → Stand → Type 0
 Cannot (Create name) s = (fin.get s.files name ≡ None) → IsSome s.output
 Cannot (Append bytes) s = s.output ≡ None
 Cannot Finish s = s.output ≡ None
 Cannot (Write bytes) s = Unit {0}
 
--- what must have come before an effect: nothing, the opening of the input, its first n chunks, or its end
+-- What must have come before an effect: nothing, the opening of the input, its first n chunks, or its end.
 pub data Need : Type 0 where
   Nothing : Need
   Opened : Need
   Chunks : ℕ → Need
   AtEnd : Need
 
--- an effect, and what must have come before it
+-- An effect, and what must have come before it.
 pub record Step : Type 0 where
   pub need : Need
   pub effect : Effect
 
--- these effects as steps, each with this need
+-- These effects as steps, each with this need.
 abbrev pub needing : Need → List Effect → List Step
 needing n es = map (λ e. record { need = n; effect = e }) es
 
--- the effects of steps
+-- The effects of steps.
 abbrev pub effects : List Step → List Effect
 effects ss = map (λ s. s.effect) ss
 
--- whether a need is met where so many chunks were taken whole; `None` where no input is open
+-- Whether a need is met where so many chunks were taken whole; `None` where no input is open.
 abbrev pub is_met : Option ℕ → Need → Bool
 is_met o Nothing = true
 is_met (Some n) (Chunks k) = nat_le k n
 is_met (Some n) Opened = true
 is_met o _ = false
 
--- the steps whose need is met
+-- The steps whose need is met.
 abbrev pub keep_met : Option ℕ → List Step → List Step
 keep_met o [] = []
 keep_met o (s ∷ ss) = keep_one (is_met o s.need) s (keep_met o ss)
@@ -97,7 +99,7 @@ keep_met o (s ∷ ss) = keep_one (is_met o s.need) s (keep_met o ss)
     keep_one true s ss = s ∷ ss
     keep_one false s ss = ss
 
--- steps and an end; no end where a file that is to be opened isn't there
+-- Steps and an end; no end where a file that is to be opened isn't there.
 pub record Plan : Type 0 where
   pub steps : List Step
   pub end : Option End

@@ -5,20 +5,21 @@ use Rattle.jfr_base.specs.declared.flaw.Refusal.{Refusal}
 use Rattle.jfr_header.specs.declared.ending.Ending.{Ending}
 use Rattle.jfr_header.specs.declared.ending.Ending.TheVariants as ending
 
--- the end of a plan: its input was read to the end, a chunk is refused, or there would be too many parts
+-- The end of a plan: its input was read to the end, a chunk is refused, or there would be too many parts.
 pub data End : Type 0 where
   Fine : End
   Refused : Refusal → End
   TooMany : End
 
--- how a command ends: as its plan does, or earlier, since a read failed, a write failed, or memory was wanting
+-- How a command ends: as its plan does, or earlier, since a read failed, a write failed, or memory was
+-- wanting.
 pub data Way : Type 0 where
   Ends : End → Way
   NotRead : Way
   NotWritten : Way
   NoRoom : Way
 
--- the way that an answer tells
+-- The way that an answer tells.
 abbrev pub way_of : Ending → Way
 way_of ending.Done = Ends Fine
 way_of (ending.Refused r) = Ends (Refused r)
@@ -27,6 +28,6 @@ way_of ending.WriteFault = NotWritten
 way_of ending.TooManyParts = Ends TooMany
 way_of ending.Memory = NoRoom
 
--- chunk number n is refused for this flaw
+-- Chunk number n is refused for this flaw.
 abbrev pub refused : ℕ → Flaw → End
 refused n f = Refused (record { chunk = n; offset = f.offset; reason = f.reason })

@@ -7,17 +7,17 @@ use Rattle.jfr_plan.specs.Ends.{refused}
 use Rattle.jfr_plan.specs.Effects.{Create, Append, Finish}
 use Rattle.jfr_plan.specs.Walks.{Rule, Asked, Stops, Goes, File}
 
--- a flaw is the one that is said; want of memory says nothing
+-- A flaw is the one that is said; want of memory says nothing.
 abbrev pub IsFlawOf : Option Flaw → ReadFault → Type 0
 IsFlawOf o (Flawed f) = o ≡ Some f
 IsFlawOf o Memory = Unit {0}
 
--- chunk number n is refused, or its output chunk is appended
+-- Chunk number n is refused, or its output chunk is appended.
 abbrev pub asks_made : Option Flaw → ℕ → List ℕ → Asked
 asks_made None n out = Goes (Append out ∷ [])
 asks_made (Some f) n out = Stops (refused n f)
 
--- the output is created, each chunk's output chunk is appended, and the output is finished
+-- The output is created, each chunk's output chunk is appended, and the output is finished.
 abbrev pub making : List ℕ → (List ℕ → Option Flaw) → (List ℕ → List ℕ) → Rule
 making output refusal becomes = record {
   opens = Create output ∷ [];

@@ -10,19 +10,20 @@ use Rattle.jfr_plan.specs.Ends.{End, Fine, Refused, TooMany, Way, Ends, NotRead,
 use Rattle.jfr_plan.specs.Effects.{Outside, Effect, Plan, Stand, stand, done, broken, effects, keep_met, Cannot}
 use Rattle.jfr_plan.specs.Walks.{Rule, Target, File, Parts, Text, AllGo, cut_after, plan_after}
 
--- the plan ends so, and all its effects are done
+-- The plan ends so, and all its effects are done.
 pub record AllDone (plan : Plan) (e : End) (s t : Stand) : Type 0 where
   pub end : plan.end ≡ Some e
   pub stands : t ≡ done (effects plan.steps) s
 
--- the first of these effects are done
+-- The first of these effects are done.
 pub record SomeDone (all : List Effect) (s t : Stand) : Type 0 where
   pub first : List Effect
   pub rest : List Effect
   pub parts : all ≡ first ++ rest
   pub stands : t ≡ done first s
 
--- the first of these effects are done, and the next one failed after k of its bytes; a steady place had a cause
+-- The first of these effects are done, and the next one failed after k of its bytes; a steady place had a
+-- cause.
 pub record Breaks (steady : Bool) (all : List Effect) (s t : Stand) : Type 0 where
   pub first : List Effect
   pub failed : Effect
@@ -39,19 +40,19 @@ Outcome steady plan halted NotRead s t = halted s t
 Outcome steady plan halted NotWritten s t = Breaks steady (effects plan.steps) s t
 Outcome steady plan halted NoRoom s t = SomeDone (effects plan.steps) s t
 
--- how many chunks of a file these bytes of it hold whole
+-- How many chunks of a file these bytes of it hold whole.
 abbrev pub held_count : List (List ℕ) → List ℕ → List ℕ → ℕ
 held_count earlier x taken = whole_in (length taken) (cut_after earlier x).chunks
 
--- the chunks of a file that these bytes of it hold whole
+-- The chunks of a file that these bytes of it hold whole.
 abbrev pub held : List (List ℕ) → List ℕ → List ℕ → List (List ℕ)
 held earlier x taken = take (held_count earlier x taken) (cut_after earlier x).chunks
 
--- the effects whose need is met by the chunks that these bytes hold whole
+-- The effects whose need is met by the chunks that these bytes hold whole.
 abbrev pub met_effects : Rule → List (List ℕ) → List ℕ → List ℕ → List Effect
 met_effects r earlier x taken = effects (keep_met (Some (length earlier + held_count earlier x taken)) (plan_after r earlier (Some x)).steps)
 
--- fewer bytes than the chunks before the refused one and a header have
+-- Fewer bytes than the chunks before the refused one and a header have.
 abbrev pub IsBelowHeader : Cuts → ℕ → Flaw → Type 0
 IsBelowHeader cuts n flaw = is_header flaw.reason ≡ true → n < length (joined cuts.chunks) + 68
 
@@ -67,53 +68,53 @@ pub record NeedsMet (r : Rule) (earlier : List (List ℕ)) (x left : List ℕ) (
   pub short : length taken < length (joined (held earlier x taken)) + reach (drop (length (joined (held earlier x taken))) x)
   pub header : IfSome (cut_after earlier x).flaw (IsBelowHeader (cut_after earlier x) (length taken))
 
--- the same by the file, if it is there, and what is left of the open input: without one nothing is done
+-- The same by the file, if it is there, and what is left of the open input: without one nothing is done.
 abbrev pub MetIn : Rule → List (List ℕ) → Option (List ℕ) → Option (List ℕ) → Stand → Stand → Type 0
 MetIn r earlier file None s t = t ≡ s
 MetIn r earlier None (Some left) s t = ⊥
 MetIn r earlier (Some x) (Some left) s t = NeedsMet r earlier x left s t
 
--- a read failed; on a steady place the file wasn't there
+-- A read failed; on a steady place the file wasn't there.
 abbrev pub HaltedIn : Bool → Rule → List (List ℕ) → Option (List ℕ) → Option (List ℕ) → Stand → Stand → Type 0
 HaltedIn steady r earlier file left s t = MetIn r earlier file left s t × (IsTrue steady → file ≡ None)
 
--- what stands after a command over one input, by the file that the input is and what is left of it
+-- What stands after a command over one input, by the file that the input is and what is left of it.
 abbrev pub OutcomeIn : Bool → Rule → List (List ℕ) → Option (List ℕ) → Option (List ℕ) → Way → Stand → Stand → Type 0
 OutcomeIn steady r earlier file left way s t = Outcome steady (plan_after r earlier file) (HaltedIn steady r earlier file left) way s t
 
--- the same between two worlds, for the input of this name
+-- The same between two worlds, for the input of this name.
 abbrev pub OutcomeOf : Bool → Rule → List (List ℕ) → List ℕ → Option (List ℕ) → Option (List ℕ) → Way → World → World → Type 0
 OutcomeOf steady r earlier input text text' way w v = OutcomeIn steady r earlier (file w input) v.input way (stand w text) (stand v text')
 
--- what stands after a command over the input of this name, whose chunks come after those of earlier files
+-- What stands after a command over the input of this name, whose chunks come after those of earlier files.
 abbrev pub After : Rule → List (List ℕ) → List ℕ → Way → Outside → Outside → Type 0
 After r earlier input way a b = Told a.place.told b.place.told (OutcomeOf a.place.steady r earlier input a.sink.written b.sink.written way)
 
--- a count is as before
+-- A count is as before.
 abbrev pub Kept : ℕ → ℕ → Type 0
 Kept before now = now ≡ before
 
--- a count rose, and isn't smaller
+-- A count rose, and isn't smaller.
 abbrev pub Rises : ℕ → ℕ → Type 0
 Rises before now = (before ≤ now) × Rose before now
 
--- what became of the counts of reads, of writes to the place and of writes to the sink; steadiness stays
+-- What became of the counts of reads, of writes to the place and of writes to the sink; steadiness stays.
 abbrev pub Counted : (ℕ → ℕ → Type 0) → (ℕ → ℕ → Type 0) → (ℕ → ℕ → Type 0) → Outside → Outside → Type 0
 Counted Reads Writes Texts a b = Reads a.place.read_faults b.place.read_faults × Writes a.place.write_faults b.place.write_faults × Texts a.sink.faults b.sink.faults × (b.place.steady ≡ a.place.steady)
 
--- parts alone can be too many
+-- Parts alone can be too many.
 abbrev pub MayEnd : Target → End → Type 0
 MayEnd target Fine = Unit {0}
 MayEnd target (Refused r) = Unit {0}
 MayEnd target TooMany = target ≡ Parts
 
--- a write fault is by the count of what the command writes to
+-- A write fault is by the count of what the command writes to.
 abbrev pub CountedWrite : Target → Outside → Outside → Type 0
 CountedWrite File a b = Counted Kept Rises Kept a b
 CountedWrite Parts a b = Counted Kept Rises Kept a b
 CountedWrite Text a b = Counted Kept Kept Rises a b
 
--- which ends may come, and which counts rose, by the way: a fault is counted and not passed over
+-- Which ends may come, and which counts rose, by the way: a fault is counted and not passed over.
 abbrev pub Tallied : Target → Way → Outside → Outside → Type 0
 Tallied target (Ends e) a b = MayEnd target e × Counted Kept Kept Kept a b
 Tallied target NotRead a b = Counted Rises Kept Kept a b

@@ -7,7 +7,7 @@ use Rattle.jfr_plan.specs.Effects.{Outside, Stand, stand, done}
 use Rattle.jfr_plan.specs.Walks.{Asked, Stops, Target, asked, IsGoing}
 use Rattle.jfr_plan.specs.Outcomes.{SomeDone, Breaks, Kept, Counted, Tallied}
 
--- a part that ended the command: it was asked to, or something failed; it reads nothing
+-- A part that ended the command: it was asked to, or something failed; it reads nothing.
 abbrev pub PartEnded : Bool → Asked → Way → Stand → Stand → Type 0
 PartEnded steady a (Ends Fine) s t = ⊥
 PartEnded steady a (Ends e) s t = (a ≡ Stops e) × (t ≡ s)
@@ -15,20 +15,20 @@ PartEnded steady a NotRead s t = ⊥
 PartEnded steady a NotWritten s t = Breaks steady (asked a) s t
 PartEnded steady a NoRoom s t = SomeDone (asked a) s t
 
--- what stands after a part that was asked for this, by its answer
+-- What stands after a part that was asked for this, by its answer.
 abbrev pub PartStands : Bool → Asked → Result (Unit {0}) Ending → Stand → Stand → Type 0
 PartStands steady a (Ok x) s t = IsGoing a × (t ≡ done (asked a) s)
 PartStands steady a (Err e) s t = PartEnded steady a (way_of e) s t
 
--- a part takes nothing from the input
+-- A part takes nothing from the input.
 abbrev pub PartTold : Bool → Asked → Result (Unit {0}) Ending → Option (List ℕ) → Option (List ℕ) → World → World → Type 0
 PartTold steady a result text text' w v = (v.input ≡ w.input) × PartStands steady a result (stand w text) (stand v text')
 
--- what a part that was asked for this leaves
+-- What a part that was asked for this leaves.
 abbrev pub PartLeaves : Asked → Result (Unit {0}) Ending → Outside → Outside → Type 0
 PartLeaves a result before now = Told before.place.told now.place.told (PartTold before.place.steady a result before.sink.written now.sink.written)
 
--- which counts a part raised
+-- Which counts a part raised.
 abbrev pub PartTallied : Target → Result (Unit {0}) Ending → Outside → Outside → Type 0
 PartTallied target (Ok x) a b = Counted Kept Kept Kept a b
 PartTallied target (Err e) a b = Tallied target (way_of e) a b

@@ -6,12 +6,12 @@ use Rattle.jfr_header.specs.Cuts.{Cuts, cut, joined}
 use Rattle.jfr_plan.specs.Ends.{End, Fine, refused}
 use Rattle.jfr_plan.specs.Effects.{Effect, Step, needing, Opened, Chunks, AtEnd, Plan}
 
--- what a part of a command is asked for: an end, or effects
+-- What a part of a command is asked for: an end, or effects.
 pub data Asked : Type 0 where
   Stops : End → Asked
   Goes : List Effect → Asked
 
--- what a command writes: one file, files of which there may be too many, or text
+-- What a command writes: one file, files of which there may be too many, or text.
 pub data Target : Type 0 where
   File : Target
   Parts : Target
@@ -25,58 +25,58 @@ pub record Rule : Type 0 where
   pub ends : List (List ℕ) → List Effect
   pub target : Target
 
--- the steps and the end of a list of chunks
+-- The steps and the end of a list of chunks.
 pub record Walk : Type 0 where
   pub steps : List Step
   pub end : End
 
--- the walk from chunk number n on, by what that chunk asks for and the walk behind it
+-- The walk from chunk number n on, by what that chunk asks for and the walk behind it.
 abbrev pub walk_on : Asked → ℕ → Walk → Walk
 walk_on (Stops e) n later = record { steps = []; end = e }
 walk_on (Goes es) n later = record { steps = needing (Chunks n) es ++ later.steps; end = later.end }
 
--- the walk behind all chunks: what is done at the input's end, or the refusal of the next chunk
+-- The walk behind all chunks: what is done at the input's end, or the refusal of the next chunk.
 abbrev pub walk_end : Rule → List (List ℕ) → Option Flaw → Walk
 walk_end r before None = record { steps = needing AtEnd (r.ends before); end = Fine }
 walk_end r before (Some f) = record { steps = []; end = refused (length before + 1) f }
 
--- the walk over chunks that come after others, up to their end or a flaw
+-- The walk over chunks that come after others, up to their end or a flaw.
 abbrev pub walk : Rule → List (List ℕ) → List (List ℕ) → Option Flaw → Walk
 walk r before [] flaw = walk_end r before flaw
 walk r before (c ∷ cs) flaw = walk_on (r.asks before c) (length before + 1) (walk r (before ++ c ∷ []) cs flaw)
 
--- how a file is cut whose chunks come after those of earlier files
+-- How a file is cut whose chunks come after those of earlier files.
 abbrev pub cut_after : List (List ℕ) → List ℕ → Cuts
 cut_after earlier x = cut x (length (joined earlier)) true
 
--- what is done when the input is open, and then a walk
+-- What is done when the input is open, and then a walk.
 abbrev pub plan_by : Rule → Walk → Plan
 plan_by r v = record { steps = needing Opened r.opens ++ v.steps; end = Some v.end }
 
--- the plan over a file, if it is there, whose chunks come after those of earlier files
+-- The plan over a file, if it is there, whose chunks come after those of earlier files.
 abbrev pub plan_after : Rule → List (List ℕ) → Option (List ℕ) → Plan
 plan_after r earlier None = record { steps = []; end = None }
 plan_after r earlier (Some x) = plan_by r (walk r earlier (cut_after earlier x).chunks (cut_after earlier x).flaw)
 
--- the plan of a command over the one input of this name
+-- The plan of a command over the one input of this name.
 abbrev pub plan_in : Rule → List ℕ → World → Plan
 plan_in r input w = plan_after r [] (file w input)
 
--- the effects that are asked for
+-- The effects that are asked for.
 abbrev pub asked : Asked → List Effect
 asked (Stops e) = []
 asked (Goes es) = es
 
--- the effects of chunks that come after others
+-- The effects of chunks that come after others.
 abbrev pub gone : Rule → List (List ℕ) → List (List ℕ) → List Effect
 gone r before [] = []
 gone r before (c ∷ cs) = asked (r.asks before c) ++ gone r (before ++ c ∷ []) cs
 
--- no part of a command ends here
+-- No part of a command ends here.
 abbrev pub IsGoing : Asked → Type 0
 IsGoing a = a ≡ Goes (asked a)
 
--- none of these chunks, which come after others, is the end
+-- None of these chunks, which come after others, is the end.
 abbrev pub AllGo : Rule → List (List ℕ) → List (List ℕ) → Type 0
 AllGo r before [] = Unit {0}
 AllGo r before (c ∷ cs) = IsGoing (r.asks before c) × AllGo r (before ++ c ∷ []) cs

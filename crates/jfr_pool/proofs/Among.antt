@@ -4,7 +4,7 @@ use Rattle.std.proofs.Common.{ap, arith, refl, sym, ◌∙◌, inl, inr, subst}
 use Rattle.jfr_frame.specs.declared.framed.Framed.{Framed}
 use Rattle.jfr_frame.specs.Records.{IsRecord, Tiles, Rising, starts_at, record_end, record_there}
 
--- one of these
+-- One of these.
 abbrev pub Among : {X : Type 0} → List X → X → Type 0
 Among [] x = ⊥
 Among (y ∷ ys) x = (y ≡ x) ⊎ Among ys x
@@ -19,7 +19,7 @@ contains_of [] x a = absurd a
 contains_of (y ∷ ys) x (inl e) = (0, omega arith, e)
 contains_of (y ∷ ys) x (inr a) = let (k, l, e) = contains_of ys x a in (suc k, omega arith, e)
 
--- what a test finds passes it, and is one of the list
+-- What a test finds passes it, and is one of the list.
 pub found_among : {X : Type 0} (t : X → Bool) (xs : List X) (x : X) → find t xs ≡ Some x → Among xs x × (t x ≡ true)
 found_among t [] x e = cc
 found_among {X = X} t (y ∷ ys) x e = by_test (t y) refl e (found_among t ys x)
@@ -28,7 +28,7 @@ found_among {X = X} t (y ∷ ys) x e = by_test (t y) refl e (found_among t ys x)
     by_test true h e f = let g : y ≡ x = cc in (inl g, subst (λ z. t z ≡ true) g h)
     by_test false h e f = let g = f e in (inr g.0, g.1)
 
--- something is found where one passes
+-- Something is found where one passes.
 pub some_found : {X : Type 0} (t : X → Bool) (xs : List X) (x : X) → Among xs x → t x ≡ true → (y : X) × (find t xs ≡ Some y)
 some_found t [] x a h = absurd a
 some_found {X = X} t (y ∷ ys) x a h = by_test (t y) refl a (λ b. some_found t ys x b h)
@@ -45,7 +45,7 @@ both_true : (a b : Bool) → (a && b) ≡ true → (a ≡ true) × (b ≡ true)
 both_true true b h = (refl, h)
 both_true false b h = cc
 
--- a record of the type that is found at a place
+-- A record of the type that is found at a place.
 pub record CheckpointAt (rs : List Framed) (at : ℕ) (r : Framed) : Type 0 where
   pub among : Among rs r
   pub place : r.at ≡ at
@@ -63,7 +63,7 @@ passes at r e f =
     let q : (r.type_id == 1) ≡ true = grind arith in
     rw (p, q) refl
 
--- whether one starts there and which one agree
+-- Whether one starts there and which one agree.
 pub any_found : (rs : List Framed) (at : ℕ) → IsTrue (starts_at rs at 1) → (r : Framed) × (record_there rs at 1 ≡ Some r)
 any_found [] at h = cc
 any_found (r ∷ rs) at h = by_test ((r.at == at) && (r.type_id == 1)) h (any_found rs at)
@@ -80,13 +80,13 @@ found_any (x ∷ rs) at r e = by_test ((x.at == at) && (x.type_id == 1)) e (foun
     by_test true e f = refl
     by_test false e f = f e
 
--- records of a chunk are records
+-- Records of a chunk are records.
 pub are_records : (c : List ℕ) (p q : ℕ) (rs : List Framed) → Tiles c p rs q → (r : Framed) → Among rs r → IsRecord c r
 are_records c p q [] t r a = absurd a
 are_records c p q (x ∷ rs) t r (inl e) = subst (IsRecord c) e t.1
 are_records c p q (x ∷ rs) t r (inr a) = are_records c (record_end x) q rs t.2 r a
 
--- and one stands at a place
+-- And one stands at a place.
 rises : (p : ℕ) (rs : List Framed) → Rising p rs → (r : Framed) → Among rs r → p ≤ r.at
 rises p [] h r a = absurd a
 rises p (x ∷ rs) h r (inl e) = let q : p ≤ x.at = h.0 in omega (arith, ap (λ (z : Framed). z.at) e)
@@ -99,7 +99,7 @@ one_there p (x ∷ rs) h r s (inl f) (inr b) e = let i : x.at + 1 ≤ s.at = ris
 one_there p (x ∷ rs) h r s (inr a) (inl g) e = let i : x.at + 1 ≤ r.at = rises (x.at + 1) rs h.1 r a in let j : x.at ≡ s.at = ap (λ (z : Framed). z.at) g in absurd (omega arith)
 one_there p (x ∷ rs) h r s (inr a) (inr b) e = one_there (x.at + 1) rs h.1 r s a b e
 
--- how many records start before a place
+-- How many records start before a place.
 abbrev pub count_before : List Framed → ℕ → ℕ
 count_before [] at = 0
 count_before (r ∷ rs) at = if nat_lt r.at at then suc (count_before rs at) else count_before rs at

@@ -13,7 +13,7 @@ use Rattle.jfr_pool.specs.declared.link.Link.{Link}
 use Rattle.jfr_pool.specs.Chains.{Delta, head_format, IsLink, StepsTo, IsChain, LeadsAstray, LinkFlaw, ChainFlaw, earlier_place, checkpoint_at, earlier_checkpoint, link_of, before_links, links_behind, links_by, chain_within, chain_of}
 use Rattle.jfr_pool.proofs.Among.{Among, among_of, contains_of, CheckpointAt, found_checkpoint, some_found, passes, any_found, found_any, count_before, count_less, count_all}
 
--- where a delta leads by computing
+-- Where a delta leads by computing.
 pub earlier_step : (at : ℕ) (d : ℤ) (to : ℕ) → earlier_place at (pos at +ℤ d) ≡ Some to → (pos at +ℤ d ≡ pos to) × (to < at)
 earlier_step at d to e = by_sum (pos at +ℤ d) refl e
   where
@@ -28,7 +28,7 @@ earlier_step at d to e = by_sum (pos at +ℤ d) refl e
 step_earlier : (at : ℕ) (d : ℤ) (to : ℕ) → pos at +ℤ d ≡ pos to → to < at → earlier_place at (pos at +ℤ d) ≡ Some to
 step_earlier at d to e h = let t : nat_lt to at ≡ true = grind arith in ap (earlier_place at) e ∙ rw t refl
 
--- the links behind one go on only where a checkpoint is found
+-- The links behind one go on only where a checkpoint is found.
 links_alike : (d : Delta) (delta : ℤ) (o : Option Framed) (f g : Framed → Result (List Link) Flaw) → ((r : Framed) → o ≡ Some r → f r ≡ g r) → links_behind d delta o f ≡ links_behind d delta o g
 links_alike d (pos zero) o f g h = refl
 links_alike d (pos (suc n)) None f g h = refl
@@ -36,7 +36,7 @@ links_alike d (pos (suc n)) (Some r) f g h = h r refl
 links_alike d (negsuc n) None f g h = refl
 links_alike d (negsuc n) (Some r) f g h = h r refl
 
--- what a delta finds is an earlier checkpoint
+-- What a delta finds is an earlier checkpoint.
 pub record Older (rs : List Framed) (at : ℕ) (d : ℤ) (r : Framed) : Type 0 where
   pub lands : pos at +ℤ d ≡ pos r.at
   pub earlier : r.at < at
@@ -53,7 +53,7 @@ older_found rs at d r e = by_place (earlier_place at (pos at +ℤ d)) refl e
         let q : to ≡ r.at = sym f.place in
         record { lands = s.0 ∙ ap pos q; earlier = subst (λ k. k < at) q s.1; there = record { among = f.among; place = refl; type_is = f.type_is } }
 
--- more turns change nothing
+-- More turns change nothing.
 more_turns : (n m : ℕ) (c : List ℕ) (rs : List Framed) (r : Framed) → count_before rs r.at < n → count_before rs r.at < m → chain_within n c rs r ≡ chain_within m c rs r
 more_turns zero m c rs r h i = absurd (omega arith)
 more_turns (suc n) zero c rs r h i = absurd (omega arith)
@@ -66,12 +66,12 @@ more_turns (suc n) (suc m) c rs r h i = by_head (run head_format c (record_end r
         (links_alike g.value g.value.value (earlier_checkpoint rs (earlier_place r.at (pos r.at +ℤ g.value.value))) (chain_within n c rs) (chain_within m c rs)
         (λ s e. let o = older_found rs r.at g.value.value s e in next s (count_less rs r.at s o.there.among o.earlier)))
 
--- one turn of the chain
+-- One turn of the chain.
 pub chain_turn : (c : List ℕ) (rs : List Framed) (r : Framed) → Among rs r → chain_of c rs r ≡ links_by rs r (run head_format c (record_end r) r.body) (chain_of c rs)
 unfolding chain_of
 chain_turn c rs r a = let i = count_all rs r a in more_turns (length rs) (suc (length rs)) c rs r i (omega arith)
 
--- where the head of a checkpoint ends
+-- Where the head of a checkpoint ends.
 head_end : (c : List ℕ) (end at : ℕ) (d : Delta) (to : ℕ) → Reads head_format c end at d to → to ≡ d.end
 head_end c end at d to h = h.5.5.5.1 ∙ sym (ap (λ (z : Delta). z.end) h.5.5.5.0)
 
@@ -79,7 +79,7 @@ module _ (c : List ℕ) (rs : List Framed) (records : (r : Framed) → Among rs 
   body_in : (r : Framed) → Among rs r → (r.body ≤ record_end r) × (record_end r ≤ length c)
   body_in r a = let s = records r a in (s.covers, s.within)
 
-  -- what the chain that is computed says
+  -- What the chain that is computed says.
   abbrev pub Tells : ℕ → Result (List Link) Flaw → Type 0
   Tells at (Ok ls) = IsChain c rs at ls
   Tells at (Err f) = (ls : List Link) × ChainFlaw c rs at ls f.offset f.reason
@@ -90,7 +90,7 @@ module _ (c : List ℕ) (rs : List Framed) (records : (r : Framed) → Among rs 
   one_link : (l : Link) (at : ℕ) → IsLink c rs l → l.frame.at ≡ at → l.delta ≡ pos 0 → IsChain c rs at (l ∷ [])
   one_link l at i e d = (i, e, d)
 
-  -- a link before what is told of the older checkpoint
+  -- A link before what is told of the older checkpoint.
   tells_step : (l : Link) (at : ℕ) (r : Framed) → IsLink c rs l → l.frame.at ≡ at → StepsTo at l.delta r.at → IsTrue (starts_at rs r.at 1) → (a : Result (List Link) Flaw) → Tells r.at a → Tells at (before_links l a)
   tells_step l at r i e s t (Err f) h = (l ∷ h.0, (i, e, r.at, s, t, h.1))
   tells_step l at r i e s t (Ok []) h = absurd h
@@ -158,7 +158,7 @@ module _ (c : List ℕ) (rs : List Framed) (records : (r : Framed) → Among rs 
   unfolding chain_of
   chain_tells r a = within_tells (length rs) r a (count_all rs r a.among)
 
-  -- and back: a chain, or its flaw, is what is computed
+  -- And back: a chain, or its flaw, is what is computed.
   module _ (one : (r s : Framed) → Among rs r → Among rs s → r.at ≡ s.at → r ≡ s) where
     found_there : (r : Framed) → CheckpointAt rs r.at r → checkpoint_at rs r.at ≡ Some r
     found_there r a =
@@ -175,7 +175,7 @@ module _ (c : List ℕ) (rs : List Framed) (records : (r : Framed) → Among rs 
     abbrev delta_of : Link → Delta
     delta_of l = record { at = l.delta_at; end = l.delta_end; value = l.delta }
 
-    -- one turn over a link that stands
+    -- One turn over a link that stands.
     turn_over : (l : Link) → IsLink c rs l → (next : Framed → Result (List Link) Flaw)
         → links_by rs l.frame (run head_format c (record_end l.frame) l.frame.body) next ≡ before_links l (links_behind (delta_of l) l.delta (earlier_checkpoint rs (earlier_place l.frame.at (pos l.frame.at +ℤ l.delta))) next)
     turn_over l i next = ap (λ a. links_by rs l.frame a next) (head_read l.frame (among_of rs l.frame i.framed) (delta_of l) l.delta_end i.head)
@@ -203,7 +203,7 @@ module _ (c : List ℕ) (rs : List Framed) (records : (r : Framed) → Among rs 
     first_link at m [] h = h.0
     first_link at m (k ∷ ls) h = h.0
 
-    -- a link and what is computed of the older checkpoint
+    -- A link and what is computed of the older checkpoint.
     turn_on : (l : Link) (r : Framed) → IsLink c rs l → StepsTo l.frame.at l.delta r.at → CheckpointAt rs r.at r → chain_of c rs l.frame ≡ before_links l (chain_of c rs r)
     turn_on l r i s a =
         chain_turn c rs l.frame (among_of rs l.frame i.framed) ∙ turn_over l i (chain_of c rs)

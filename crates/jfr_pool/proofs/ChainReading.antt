@@ -12,7 +12,7 @@ use Rattle.jfr_pool.specs.Chains.{Delta, head_format, IsChain, IsRefusedChain, c
 use Rattle.jfr_pool.proofs.Among.{Among, CheckpointAt, found_checkpoint, are_records, any_found}
 use Rattle.jfr_pool.proofs.ChainLaws.{older_found, chain_turn, chain_tells, Tells}
 
--- links before others, if these are read
+-- Links before others, if these are read.
 abbrev pub joined : List Link → Result (List Link) Flaw → Result (List Link) Flaw
 joined ls (Ok ms) = Ok (ls ++ ms)
 joined ls (Err f) = Err f
@@ -25,7 +25,7 @@ joined_none : (a : Result (List Link) Flaw) → joined [] a ≡ a
 joined_none (Ok ms) = refl
 joined_none (Err f) = refl
 
--- the chain from a checkpoint on, if there is one
+-- The chain from a checkpoint on, if there is one.
 abbrev pub rest : List ℕ → List Framed → Option Framed → Result (List Link) Flaw
 rest c rs None = Ok []
 rest c rs (Some r) = chain_of c rs r
@@ -34,7 +34,7 @@ abbrev pub IsListed : List Framed → Option Framed → Type 0
 IsListed rs None = ⊤
 IsListed rs (Some r) = CheckpointAt rs r.at r
 
--- these links are read, and the chain goes on with the next checkpoint
+-- These links are read, and the chain goes on with the next checkpoint.
 pub record Reading (c : List ℕ) (rs : List Framed) (last : ℕ) (links : List Link) (next : Option Framed) : Type 0 where
   pub total : rest c rs (checkpoint_at rs last) ≡ joined links (rest c rs next)
   pub listed : IsListed rs next
@@ -53,7 +53,7 @@ abbrev then_rest : List ℕ → List Framed → Result (Option Framed) Flaw → 
 then_rest c rs (Ok o) = rest c rs o
 then_rest c rs (Err f) = Err f
 
--- what is behind a link is the rest
+-- What is behind a link is the rest.
 behind_rest : (c : List ℕ) (rs : List Framed) (d : Delta) (delta : ℤ) (o : Option Framed) → links_behind d delta o (chain_of c rs) ≡ then_rest c rs (older_by d.at delta o)
 behind_rest c rs d (pos zero) o = refl
 behind_rest c rs d (pos (suc n)) None = refl
@@ -83,7 +83,7 @@ older_listed rs l (Some r) e = (older_found rs l.frame.at l.delta r (by_delta l.
     by_delta (negsuc n) None e = cc
     by_delta (negsuc n) (Some s) e = cc
 
--- each step goes back
+-- Each step goes back.
 pub older_earlier : (rs : List Framed) (l : Link) (r : Framed) → older_of rs l ≡ Ok (Some r) → r.at < l.frame.at
 older_earlier rs l r e = (older_found rs l.frame.at l.delta r (by_delta l.delta _ e)).earlier
   where
@@ -116,7 +116,7 @@ module _ (c : List ℕ) (rs : List Framed) (last : ℕ) (links : List Link) (r :
 pub reading_done : (c : List ℕ) (rs : List Framed) (last : ℕ) (links : List Link) (next : Option Framed) → Reading c rs last links next → next ≡ None → rest c rs (checkpoint_at rs last) ≡ Ok links
 reading_done c rs last links next h e = h.total ∙ ap (λ o. joined links (rest c rs o)) e ∙ ap (λ z. Ok z) (append-nil links)
 
--- what was computed is the chain, or its flaw
+-- What was computed is the chain, or its flaw.
 module _ (c : List ℕ) (rs : List Framed) (last : ℕ) (cover : AreRecords c rs) (starts : IsTrue (starts_at rs last 1)) where
   told : (a : Result (List Link) Flaw) → rest c rs (checkpoint_at rs last) ≡ a → Tells c rs (are_records c 68 (length c) rs cover) last a × IfSome (checkpoint_at rs last) (λ r. chain_of c rs r ≡ a)
   told a e = by_found (any_found rs last starts)
@@ -138,7 +138,7 @@ module _ (c : List ℕ) (rs : List Framed) (last : ℕ) (cover : AreRecords c rs
   pub told_flaw : (f : Flaw) → rest c rs (checkpoint_at rs last) ≡ Err f → IsRefusedChain c rs last (Flawed f) × IfSome (checkpoint_at rs last) (λ r. chain_of c rs r ≡ Err f)
   told_flaw f e = told (Err f) e
 
--- how far the next checkpoint is from the chunk's first byte
+-- How far the next checkpoint is from the chunk's first byte.
 abbrev pub room : Option Framed → ℕ
 room None = 0
 room (Some r) = suc r.at

@@ -39,11 +39,11 @@ get_zeros (suc k) (suc i) n h = get_zeros k i n h
 last_of : (n : ℕ) → last_number (n + 1) ≡ Some n
 last_of n = let q : n + 1 ≡ suc n = omega arith in ap last_number q
 
--- at each place of a row stands 0
+-- At each place of a row stands 0.
 abbrev pub IsZero : Row → Type 0
 IsZero row = (key n : ℕ) → in_row key row ≡ Some n → 0 ≡ n
 
--- and of all rows
+-- And of all rows.
 abbrev pub AreZero : List Row → Type 0
 AreZero rows = (t : ℕ × ℕ) (n : ℕ) → count_at rows t ≡ Some n → 0 ≡ n
 
@@ -72,7 +72,7 @@ zero_push rows row zeros h t n at = by_row (slice_get (rows ++ row ∷ []) t.0) 
 pub zero_counts : (counts : Counts) → AreZero counts.rows.items → AreCounts counts []
 zero_counts counts h = record { all = λ t n at. ap last_number (sym (h t n at)) ∙ sym (force_none t) }
 
--- an entry without a place
+-- An entry without a place.
 pub passed : (counts : Counts) (e : EntryAt) (es : List EntryAt) → count_at counts.rows.items (e.class, e.key) ≡ None → AreCounts counts es → AreCounts counts (es ++ e ∷ [])
 passed counts e es none h = record { all = λ t n at. by_test t n at (hits e t) refl ∙ sym (force_push es e t) }
   where
@@ -83,7 +83,7 @@ passed counts e es none h = record { all = λ t n at. by_test t n at (hits e t) 
 pub no_row : (rows : List Row) (t : ℕ × ℕ) → length rows ≤ t.0 → count_at rows t ≡ None
 no_row rows t h = ap (option_and_then (in_row t.1)) (slice_get_past rows t.0 h)
 
--- an entry whose row is set
+-- An entry whose row is set.
 module _ (old new : Counts) (row new_row : Row) (e : EntryAt) (number : ℕ) (stands : slice_get old.rows.items e.class ≡ Some row) (outer : new.rows.items ≡ set old.rows.items e.class new_row) (here : in_row e.key new_row ≡ option_map (λ _. number + 1) (in_row e.key row)) (others : (key : ℕ) → key ≢ e.key → in_row key new_row ≡ in_row key row) where
   row_set : slice_get new.rows.items e.class ≡ Some new_row
   row_set = ap (λ z. slice_get z e.class) outer ∙ get_set_same old.rows.items e.class new_row (slice_get_within old.rows.items e.class row stands)
@@ -100,7 +100,7 @@ module _ (old new : Counts) (row new_row : Row) (e : EntryAt) (number : ℕ) (st
           ∙ sym (ap (λ z. option_and_then (in_row t.1) (slice_get old.rows.items z)) q ∙ ap (option_and_then (in_row t.1)) stands)
       by_class (inr q) = ap (λ z. count_at z t) outer ∙ ap (option_and_then (in_row t.1)) (get_set_other old.rows.items e.class t.0 new_row q)
 
-  -- at its place, if it has one
+  -- At its place, if it has one.
   there : (n : ℕ) (o : Option ℕ) → option_map (λ _. number + 1) o ≡ Some n → number + 1 ≡ n
   there n None h = absurd (no_some None n refl h)
   there n (Some m) h = cc
@@ -115,7 +115,7 @@ module _ (old new : Counts) (row new_row : Row) (e : EntryAt) (number : ℕ) (st
           ap last_number (sym m) ∙ last_of number ∙ ap (λ z. Some z) (sym count)
       by_test t n at false f = h.all t n (sym (elsewhere t f) ∙ at)
 
--- a count less one is the number that it stands for
+-- A count less one is the number that it stands for.
 pub less_one : (n : ℕ) → n ≢ 0 → Some (n - 1) ≡ last_number n
 less_one zero h = absurd (h refl)
 less_one (suc n) h = ap (λ z. Some z) (omega arith)

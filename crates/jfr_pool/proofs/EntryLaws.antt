@@ -22,7 +22,7 @@ use Rattle.jfr_pool.specs.Faults.{TellsFlaw}
 use Rattle.jfr_pool.specs.Listing.{listed, Adds}
 use Rattle.jfr_pool.proofs.Among.{Among, among_of, are_records}
 
--- the links of a chain are checkpoints
+-- The links of a chain are checkpoints.
 chain_among : (c : List ℕ) (rs : List Framed) (at : ℕ) (ls : List Link) → IsChain c rs at ls → (l : Link) → Among ls l → IsLink c rs l
 chain_among c rs at [] h l a = absurd a
 chain_among c rs at (x ∷ []) h l (inl e) = subst (IsLink c rs) e h.0
@@ -43,7 +43,7 @@ link_record c ls i l h e =
     let k = chain_among c h.records h.last (reverse ls) h.chain l (among_reversed ls i l e) in
     are_records c 68 (length c) h.records h.cover l.frame (among_of h.records l.frame k.framed)
 
--- a checkpoint's body is read to its end
+-- A checkpoint's body is read to its end.
 body_end : (c : List ℕ) (k : Classes) (end at : ℕ) (pools : List PoolAt) (to : ℕ) → at ≤ end → Reads (checkpoint_format k) c end at pools to → to ≡ end
 unfolding checkpoint_format
 body_end c k end at pools to h r =
@@ -99,7 +99,7 @@ module _ (c : List ℕ) (k : Classes) where
       ap (λ a. entries_by n a (entries_of c k (n + 1) ls)) (body_read l (s l (inl refl)) pools r)
       ∙ ap (before_entries (entries_from n 0 pools)) (entries_fail (n + 1) ls o why (λ m a. s m (inr a)) h)
 
--- the entries of the checkpoints before a number are gathered
+-- The entries of the checkpoints before a number are gathered.
 pub record Gathered (c : List ℕ) (k : Classes) (ls : List Link) (number : ℕ) (es : List EntryAt) : Type 0 where
   pub same : entries_of c k 0 ls ≡ before_entries es (entries_of c k number (drop number ls))
 
@@ -158,7 +158,7 @@ drop_all (x ∷ ls) (suc i) h = drop_all ls i (omega arith)
 pub gathered_all : (c : List ℕ) (k : Classes) (ls : List Link) (i : ℕ) (es : List EntryAt) → Gathered c k ls i es → length ls ≤ i → entries_of c k 0 ls ≡ Ok es
 gathered_all c k ls i es h l = h.same ∙ ap (λ z. before_entries es (entries_of c k i z)) (drop_all ls i l) ∙ ap (λ z. Ok z) (append-nil es)
 
--- what the entries, or the flaw, that are computed say of a chain
+-- What the entries, or the flaw, that are computed say of a chain.
 pub chain_stands : (c : List ℕ) (ls : List Link) → IsReadFrom c ls → (l : Link) → Among ls l → IsRecord c l.frame
 chain_stands c ls h l a = by_place (place ls a)
   where

@@ -29,7 +29,7 @@ get_replicate zero i x = refl
 get_replicate (suc n) zero x = refl
 get_replicate (suc n) (suc i) x = get_replicate n i x
 
--- where all slots are empty and there are no others, nothing has a number
+-- Where all slots are empty and there are no others, nothing has a number.
 pub indexes_none : (rows : List Row) (index : Index) (n : ℕ) → index.slots.items ≡ replicate n empty → IsEmpty index.others → Indexes rows index []
 indexes_none rows index n slots o = record {
   leads = λ t p. none_of index t (no_others t) (λ i p q. absurd (differ i p q)) ∙ sym (force_none t);
@@ -43,7 +43,7 @@ indexes_none rows index n slots o = record {
     differ : (i : ℕ) (p : Placed) → held (slot_at index.slots.items i) ≡ Some p → ⊥
     differ i p q = let f : held (slot_at index.slots.items i) ≡ None = ap (λ z. held (slot_at z i)) slots ∙ ap held (get_replicate n i empty) in cc
 
--- an open slot takes the entry
+-- An open slot takes the entry.
 module _ (old new : Index) (e : EntryAt) (number place : ℕ) (within : place < length old.slots.items) (slots : new.slots.items ≡ set old.slots.items place (record { key = e.key; class = e.class; count = number + 1 })) (others : new.others ≡ old.others) where
   abbrev placed : Placed
   placed = record { class = e.class; key = e.key; number = number }
@@ -54,7 +54,7 @@ module _ (old new : Index) (e : EntryAt) (number place : ℕ) (within : place < 
   elsewhere : (i : ℕ) → i ≢ place → held (slot_at new.slots.items i) ≡ held (slot_at old.slots.items i)
   elsewhere i h = ap (λ z. held (slot_at z i)) slots ∙ ap held (get_or-set_other old.slots.items place i _ empty h)
 
-  -- the seat is open
+  -- The seat is open.
   seat_open : (n at : ℕ) → seat_from n at old.slots.items (e.class, e.key) ≡ Some place → is_open (held (slot_at old.slots.items place)) (e.class, e.key) ≡ true
   seat_open zero at h = cc
   seat_open (suc n) at h = by_test (is_open (held (slot_at old.slots.items at)) (e.class, e.key)) refl h (seat_open n (at + 1))
@@ -63,7 +63,7 @@ module _ (old new : Index) (e : EntryAt) (number place : ℕ) (within : place < 
       by_test true f h k = let q : at ≡ place = cc in ap (λ i. is_open (held (slot_at old.slots.items i)) (e.class, e.key)) (sym q) ∙ f
       by_test false f h k = k h
 
-  -- it is still the first
+  -- It is still the first.
   seat_stays : (n at : ℕ) → seat_from n at old.slots.items (e.class, e.key) ≡ Some place → seat_from n at new.slots.items (e.class, e.key) ≡ Some place
   seat_stays zero at h = cc
   seat_stays (suc n) at h = by_place (cases_eq at place) (seat_stays n (at + 1))
@@ -76,7 +76,7 @@ module _ (old new : Index) (e : EntryAt) (number place : ℕ) (within : place < 
       by_place (inl q) k = rw (ap (λ i. held (slot_at new.slots.items i)) q ∙ here, target_same e.class e.key (e.class, e.key) refl) (ap (λ i. Some i) q)
       by_place (inr q) k = rw (elsewhere at q) (by_test (is_open (held (slot_at old.slots.items at)) (e.class, e.key)) q h k)
 
-  -- the numbers of others are still found
+  -- The numbers of others are still found.
   abbrev Stays : ℕ × ℕ → ℕ → ℕ → ℕ → Type 0
   Stays t m n at = number_at old t (seat_from n at old.slots.items t) ≡ Some m → number_at new t (seat_from n at new.slots.items t) ≡ Some m
 
@@ -118,7 +118,7 @@ module _ (old new : Index) (e : EntryAt) (number place : ℕ) (within : place < 
         let f = seat_found old.slots.items (e.class, e.key) place found in
         rw (f.0, homes_stay (e.class, e.key), seat_stays REACH (home old.slots.items (e.class, e.key)) f.1) (ap (option_map (λ (p : Placed). p.number)) here)
 
-    -- a target that has no entry stands nowhere
+    -- A target that has no entry stands nowhere.
     nowhere : (t : ℕ × ℕ) → hits e t ≡ false → number_in_force es t ≡ None → number_of new t ≡ None
     nowhere t apart none = none_of new t (ap (λ z. get target_cmp z t) others ∙ no_other (get target_cmp old.others t) refl) no_slot
       where
@@ -158,7 +158,7 @@ module _ (old new : Index) (e : EntryAt) (number place : ℕ) (within : place < 
             some_push es e (p.class, p.key) (inl (target_same e.class e.key (p.class, p.key) (ap (λ (z : Placed). (z.class, z.key)) g)))
         by_place i p q (inr r) = some_push es e (p.class, p.key) (inr (h.in_slots i p (sym (elsewhere i r) ∙ q)))
 
--- where no slot is open, the entry is put among the others
+-- Where no slot is open, the entry is put among the others.
 pub passed : (rows : List Row) (old new : Index) (e : EntryAt) (number : ℕ) (es : List EntryAt) → seat old.slots.items (e.class, e.key) ≡ None → new.slots.items ≡ old.slots.items → Updates target_cmp old.others new.others (e.class, e.key) (Some number) → Indexes rows old es → length es ≡ number → Indexes rows new (es ++ e ∷ [])
 passed rows old new e number es none slots u h n = record {
   leads = λ t out. passed_number t (seat old.slots.items t) refl ∙ ap (cond (hits e t) (Some number)) (h.leads t out) ∙ ap (λ m. cond (hits e t) (Some m) (number_in_force es t)) (sym n) ∙ sym (force_push es e t);
@@ -184,7 +184,7 @@ passed rows old new e number es none slots u h n = record {
     by_test t true f s = some_push es e t (inl f)
     by_test t false f s = some_push es e t (inr (h.in_others t s))
 
--- an entry that has a place in the rows is left out
+-- An entry that has a place in the rows is left out.
 pub left_out : (rows : List Row) (index : Index) (e : EntryAt) (es : List EntryAt) → is_some (count_at rows (e.class, e.key)) ≡ true → Indexes rows index es → Indexes rows index (es ++ e ∷ [])
 left_out rows index e es place h = record {
   leads = λ t out. h.leads t out ∙ ap (λ b. cond b (Some (length es)) (number_in_force es t)) (sym (apart t out (hits e t) refl)) ∙ sym (force_push es e t);

@@ -18,12 +18,12 @@ use Rattle.jfr_pool.specs.Entries.{inline, Constant, PoolAt, pool_check, constan
 use Rattle.jfr_pool.specs.Faults.{TellsFlaw}
 use Rattle.jfr_pool.specs.Listing.{Listing, listed, single, Adds, entry_in, entry_alone, pool_entries, count_format, integer_by}
 
--- entries before others
+-- Entries before others.
 abbrev pub behind : List EntryAt → Listing → Listing
 behind es (Ok l) = Ok (es ++ l.0, l.1)
 behind es (Err f) = Err f
 
--- some entries, and what comes behind their place
+-- Some entries, and what comes behind their place.
 abbrev pub chained : Listing → (ℕ → Listing) → Listing
 chained (Ok l) next = behind l.0 (next l.1)
 chained (Err f) next = Err f
@@ -32,7 +32,7 @@ behind_behind : (es fs : List EntryAt) (l : Listing) → behind es (behind fs l)
 behind_behind es fs (Ok l) = ap (λ z. Ok (z, l.1)) (sym (append_assoc es fs l.0))
 behind_behind es fs (Err f) = refl
 
--- one of so many, and the others
+-- One of so many, and the others.
 module _ {A : Type 0} (one : A → List EntryAt) (all rest : List A → List EntryAt) (parts : (a : A) (bs : List A) → all (a ∷ bs) ≡ one a ++ rest bs) where
   listed_rest : (a : A) (r : Answer (List A)) → listed all (on r (λ bs p. Ok (record { value = a ∷ bs; place = p }))) ≡ behind (one a) (listed rest r)
   listed_rest a (Ok g) = ap (λ z. Ok (z, g.place)) (parts a g.value)
@@ -53,7 +53,7 @@ pub none_left : {A : Type 0} (all : List A → List EntryAt) (n i : ℕ) (f : Fo
 unfolding run
 none_left all n i f x end at q h = let e : n - i ≡ 0 = omega arith in ap (λ k. listed all (run (times k f) x end at)) e ∙ ap (λ z. Ok (z, at)) q
 
--- some entries of a whole are added, and this is left
+-- Some entries of a whole are added, and this is left.
 pub record Adding (whole : Listing) (old new : List EntryAt) (left : Listing) : Type 0 where
   pub added : List EntryAt
   pub items : new ≡ old ++ added
@@ -84,14 +84,14 @@ module _ (whole left one : Listing) (next : ℕ → Listing) (old new : List Ent
 pub adding_done : (whole left : Listing) (old new : List EntryAt) (to : ℕ) → Adding whole old new left → left ≡ Ok ([], to) → Adds whole old new (Ok to)
 adding_done whole left old new to h e = (h.added ++ [], h.same ∙ ap (behind h.added) e, h.items ∙ ap (λ z. old ++ z) (sym (append-nil h.added)))
 
--- what adds the one adds the other
+-- What adds the one adds the other.
 pub adds_same : (one other : Listing) (old new : List EntryAt) (r : Result ℕ ReadFault) → other ≡ one → Adds one old new r → Adds other old new r
 adds_same one other old new r e h = subst (λ l. Adds l old new r) (sym e) h
 
 pub none_yet : {A : Type 0} (all : List A → List EntryAt) (n : ℕ) (f : Format A) (x : List ℕ) (end at : ℕ) → listed all (run (times (n - 0) f) x end at) ≡ listed all (run (times n f) x end at)
 none_yet all n f x end at = let e : n - 0 ≡ n = omega arith in ap (λ k. listed all (run (times k f) x end at)) e
 
--- so many entries of a pool
+-- So many entries of a pool.
 module _ (pool : PoolId) (k : Classes) (x : List ℕ) (end at count : ℕ) where
   abbrev pub entries_at : ℕ → ℕ → Listing
   entries_at n p = listed (map (entry_in pool)) (run (times n (constant_format k pool.class)) x end p)
@@ -114,7 +114,7 @@ module _ (pool : PoolId) (k : Classes) (x : List ℕ) (end at count : ℕ) where
   pub entries_done : (i p : ℕ) (old new : List EntryAt) → count ≤ i → Adding (entries_at count at) old new (entries_at (count - i) p) → Adds (entries_at count at) old new (Ok p)
   entries_done i p old new h a = adding_done (entries_at count at) (entries_at (count - i) p) old new p a (none_left (map (entry_in pool)) count i (constant_format k pool.class) x end p refl h)
 
--- so many pools of a checkpoint
+-- So many pools of a checkpoint.
 module _ (checkpoint : ℕ) (k : Classes) (x : List ℕ) (end at count : ℕ) where
   abbrev pub pools_at : ℕ → ℕ → ℕ → Listing
   pools_at number n p = listed (entries_from checkpoint number) (run (times n (pool_format k)) x end p)
@@ -220,7 +220,7 @@ module _ (number : ℕ) (k : Classes) (x : List ℕ) (end at : ℕ) where
       by_count (Ok g) e = cc
       by_count (Err g) e = cc
 
-  -- the end, behind the pools
+  -- The end, behind the pools.
   abbrev ended : Listing → Listing
   ended (Ok l) = if nat_lt l.1 end then Err (record { offset = l.1; reason = Trailing }) else Ok l
   ended (Err f) = Err f
@@ -246,7 +246,7 @@ module _ (number : ℕ) (k : Classes) (x : List ℕ) (end at : ℕ) where
           ∙ ap bodied (run-bind (times n.value (pool_format k)) (λ pools. Stop (Done pools)) x end n.end) ∙ by_pools (run (times n.value (pool_format k)) x end n.end)
       by_count (Err g) e = cc
 
-  -- what is added of a body whose pools are added
+  -- What is added of a body whose pools are added.
   module _ (n : Var) (counted : Ok n ≡ integer_by (run count_format x end at)) (old new : List EntryAt) where
     pub body_fault : (fault : ReadFault) → TellsFlaw (bodied (run (times n.value (pool_format k)) x end n.end)) fault → TellsFlaw (bodied (run (checkpoint_format k) x end at)) fault
     body_fault (Flawed f) e = body_counted n counted ∙ ap ended e

@@ -87,7 +87,7 @@ module _ (c : List ℕ) (k : Classes) (ls : List Link) (read : IsReadFrom c ls) 
   }
 
 -- The entry in force.
--- the last one of entries that are counted from a number on
+-- the last one of entries that are counted from a number on.
 pub record LastFrom (n : ℕ) (es : List EntryAt) (t : ℕ × ℕ) (m : ℕ) : Type 0 where
   pub place : ℕ
   pub counted : m ≡ n + place

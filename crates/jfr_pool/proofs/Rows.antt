@@ -1,4 +1,5 @@
--- Chains and entries, computed on chunks whose records are given: what stands before the checkpoints doesn't matter.
+-- Chains and entries, computed on chunks whose records are given: what stands before the checkpoints
+-- doesn't matter.
 use Rattle.std.specs.Prelude.{◌≡◌, ℕ, pos, negsuc, List, [], ◌∷◌, ◌++◌, None, Some, Ok, Err, codes, replicate, true, false}
 use Rattle.std.proofs.Common.{refl}
 use Rattle.jfr_base.specs.Formats.{int_at, run}
@@ -21,14 +22,14 @@ entry class key key_at value_at end checkpoint pool = record { class = class; ke
 abbrev class : ℕ → List ℕ → List Field → Class
 class id name fields = record { id = id; name = name; super_name = None; fields = fields; categories = [] }
 
--- java.lang.String, and t.Node of a reference and a string
+-- Java.lang.String, and t.Node of a reference and a string.
 abbrev classes : Classes
 classes =
     class 6 (codes "java.lang.String") []
     ∷ class 7 (codes "t.Node") (record { name = codes "next"; shape = record { class = 7; constant = true; array = false } } ∷ record { name = codes "text"; shape = record { class = 6; constant = false; array = false } } ∷ [])
     ∷ []
 
--- a checkpoint with one entry, and an event
+-- A checkpoint with one entry, and an event.
 abbrev first_bytes : List ℕ
 first_bytes = 14 ∷ 1 ∷ 0 ∷ 0 ∷ 0 ∷ 0 ∷ 1 ∷ 7 ∷ 1 ∷ 1 ∷ 0 ∷ 3 ∷ 1 ∷ 112 ∷ []
 
@@ -38,7 +39,7 @@ event_bytes = 5 ∷ 8 ∷ 172 ∷ 2 ∷ 1 ∷ []
 abbrev first_link : Link
 first_link = record { frame = framed 325 14 326 1 327; delta_at = 329; delta_end = 330; delta = pos 0 }
 
--- one key twice
+-- One key twice.
 abbrev twice : List ℕ
 twice = replicate 325 0 ++ (first_bytes ++ (event_bytes ++ (22 ∷ 1 ∷ 0 ∷ 0 ∷ 237 ∷ 255 ∷ 255 ∷ 255 ∷ 255 ∷ 255 ∷ 255 ∷ 255 ∷ 255 ∷ 0 ∷ 1 ∷ 7 ∷ 1 ∷ 1 ∷ 0 ∷ 3 ∷ 1 ∷ 113 ∷ [])))
 
@@ -63,7 +64,7 @@ twice_in_force : number_in_force twice_entries (7, 1) ≡ Some 1
 unfolding number_in_force
 twice_in_force = refl
 
--- three checkpoints
+-- Three checkpoints.
 abbrev three : List ℕ
 three =
     replicate 325 0
@@ -88,7 +89,7 @@ three_listed : entries_of three classes 0 (first_link ∷ second_link ∷ third_
 unfolding checkpoint_format class_format value_format string_format kind_of run int_at
 three_listed = refl
 
--- strings that are keys, in a ring; two pools
+-- Strings that are keys, in a ring; two pools.
 abbrev string_ring : List ℕ
 string_ring = replicate 330 0 ++ (25 ∷ 1 ∷ 0 ∷ 0 ∷ 0 ∷ 0 ∷ 2 ∷ 7 ∷ 1 ∷ 1 ∷ 0 ∷ 2 ∷ 1 ∷ 6 ∷ 3 ∷ 1 ∷ 2 ∷ 2 ∷ 2 ∷ 2 ∷ 2 ∷ 3 ∷ 3 ∷ 1 ∷ 120 ∷ [])
 
@@ -96,7 +97,7 @@ ring_listed : entries_of string_ring classes 0 (record { frame = framed 330 25 3
 unfolding checkpoint_format class_format value_format string_format kind_of run int_at
 ring_listed = refl
 
--- the chunk of rings
+-- The chunk of rings.
 abbrev rings : List ℕ
 rings =
     replicate 333 0
@@ -121,22 +122,22 @@ no_delta = refl
 abbrev plain_link : ℕ → Link
 plain_link size = record { frame = framed 96 size 97 1 98; delta_at = 100; delta_end = 101; delta = pos 0 }
 
--- a byte is left over
+-- A byte is left over.
 left_over : entries_of (replicate 96 0 ++ (8 ∷ 1 ∷ 0 ∷ 0 ∷ 0 ∷ 0 ∷ 0 ∷ 0 ∷ [])) classes 0 (plain_link 8 ∷ []) ≡ Err (record { offset = 103; reason = Trailing })
 unfolding checkpoint_format class_format value_format string_format kind_of run int_at
 left_over = refl
 
--- a pool of an unknown class
+-- A pool of an unknown class.
 unknown_pool : entries_of (replicate 96 0 ++ (9 ∷ 1 ∷ 0 ∷ 0 ∷ 0 ∷ 0 ∷ 1 ∷ 10 ∷ 0 ∷ [])) classes 0 (plain_link 9 ∷ []) ≡ Err (record { offset = 103; reason = PoolType })
 unfolding checkpoint_format class_format value_format string_format kind_of run int_at
 unknown_pool = refl
 
--- an empty pool has a number too; two pools of one class
+-- An empty pool has a number too; two pools of one class.
 empty_pool : entries_of (replicate 96 0 ++ (16 ∷ 1 ∷ 0 ∷ 0 ∷ 0 ∷ 0 ∷ 2 ∷ 7 ∷ 0 ∷ 7 ∷ 1 ∷ 1 ∷ 0 ∷ 3 ∷ 1 ∷ 112 ∷ [])) classes 0 (plain_link 16 ∷ []) ≡ Ok (entry 7 1 107 108 112 0 1 ∷ [])
 unfolding checkpoint_format class_format value_format string_format kind_of run int_at
 empty_pool = refl
 
--- more entries than there are bytes for
+-- More entries than there are bytes for.
 too_many_entries : entries_of (replicate 96 0 ++ (14 ∷ 1 ∷ 0 ∷ 0 ∷ 0 ∷ 0 ∷ 1 ∷ 7 ∷ 2 ∷ 1 ∷ 0 ∷ 3 ∷ 1 ∷ 112 ∷ [])) classes 0 (plain_link 14 ∷ []) ≡ Err (record { offset = 110; reason = Short })
 unfolding checkpoint_format class_format value_format string_format kind_of run int_at
 too_many_entries = refl

@@ -8,12 +8,12 @@ use Rattle.jfr_pool.specs.declared.index.TheConstants.{REACH}
 use Rattle.jfr_pool.specs.Index.{target_cmp, Placed, held, is_of, number_in, is_open, slot_at, seat_from, home, seat, number_at, number_of}
 use Rattle.jfr_pool.proofs.Targets.{same_target}
 
--- slots of one number have one home for a target
+-- Slots of one number have one home for a target.
 pub home_same : (old new : List Slot) (t : ℕ × ℕ) → length old ≡ length new → home old t ≡ home new t
 unfolding home
 home_same old new t e = rw e refl
 
--- the search for a seat begins at the home
+-- The search for a seat begins at the home.
 pub seat_start : (slots : List Slot) (t : ℕ × ℕ) (place : ℕ) → t.0 < 2 ^ 32 → place ≡ home slots t → seat_from (place + REACH - place) place slots t ≡ seat slots t
 unfolding seat
 seat_start slots t place i e =
@@ -21,19 +21,19 @@ seat_start slots t place i e =
     let b : nat_lt t.0 (2 ^ 32) ≡ true = grind (arith, i) in
     rw b (ap (λ n. seat_from n place slots t) q ∙ ap (λ h. seat_from REACH h slots t) e)
 
--- the home is the seat of those to whom it is open
+-- The home is the seat of those to whom it is open.
 pub seat_home : (slots : List Slot) (t : ℕ × ℕ) (place : ℕ) → t.0 < 2 ^ 32 → place ≡ home slots t → is_open (held (slot_at slots place)) t ≡ true → seat slots t ≡ Some place
 unfolding seat
 seat_home slots t place i e o =
     let b : nat_lt t.0 (2 ^ 32) ≡ true = grind (arith, i) in
     rw (b, sym e, o) refl
 
--- a class that is too large for a slot has no seat
+-- A class that is too large for a slot has no seat.
 pub seat_none : (slots : List Slot) (t : ℕ × ℕ) → 2 ^ 32 ≤ t.0 → seat slots t ≡ None
 unfolding seat
 seat_none slots t i = let b : nat_lt t.0 (2 ^ 32) ≡ false = grind (arith, i) in rw b refl
 
--- a seat is that of a class that fits, and the first open slot
+-- A seat is that of a class that fits, and the first open slot.
 pub seat_found : (slots : List Slot) (t : ℕ × ℕ) (place : ℕ) → seat slots t ≡ Some place → (nat_lt t.0 (2 ^ 32) ≡ true) × (seat_from REACH (home slots t) slots t ≡ Some place)
 unfolding seat
 seat_found slots t place h = by_class (nat_lt t.0 (2 ^ 32)) h
@@ -42,22 +42,22 @@ seat_found slots t place h = by_class (nat_lt t.0 (2 ^ 32)) h
     by_class true h = (refl, h)
     by_class false h = cc
 
--- what a slot holds that counts entries
+-- What a slot holds that counts entries.
 pub held_counted : (class key number : ℕ) → held (record { key = key; class = class; count = number + 1 }) ≡ Some (record { class = class; key = key; number = number })
 held_counted class key number =
     let q : (number + 1 == 0) ≡ false = grind arith in
     let r : number + 1 - 1 ≡ number = omega arith in
     rw q (ap (λ n. Some (record { class = class; key = key; number = n })) r)
 
--- a slot that isn't open is passed over
+-- A slot that isn't open is passed over.
 pub seat_on : (slots : List Slot) (t : ℕ × ℕ) (end place : ℕ) → place < end → is_open (held (slot_at slots place)) t ≡ false → seat_from (end - place) place slots t ≡ seat_from (end - (place + 1)) (place + 1) slots t
 seat_on slots t end place i h = let q : end - place ≡ suc (end - (place + 1)) = omega arith in rw q (rw h refl)
 
--- the seat of others stands behind their home
+-- The seat of others stands behind their home.
 pub seat_past : (slots : List Slot) (t : ℕ × ℕ) (place : ℕ) → t.0 < 2 ^ 32 → place ≡ home slots t → is_open (held (slot_at slots place)) t ≡ false → seat_from (place + REACH - (place + 1)) (place + 1) slots t ≡ seat slots t
 seat_past slots t place i e h = sym (seat_on slots t (place + REACH) place (omega arith) h) ∙ seat_start slots t place i e
 
--- a slot that has a class and key is open to them
+-- A slot that has a class and key is open to them.
 of_open : (slot : Slot) (t : ℕ × ℕ) → is_of slot t ≡ true → is_open (held slot) t ≡ true
 of_open slot t h = by_count (slot.count == 0)
   where
@@ -65,13 +65,13 @@ of_open slot t h = by_count (slot.count == 0)
     by_count true = refl
     by_count false = h
 
--- the number of those who stand in their home
+-- The number of those who stand in their home.
 pub number_home : (index : Index) (t : ℕ × ℕ) (place : ℕ) (slot : Slot) → t.0 < 2 ^ 32 → place ≡ home index.slots.items t → slot ≡ slot_at index.slots.items place → is_of slot t ≡ true → number_of index t ≡ number_in slot
 number_home index t place slot fits e s h =
     let open_home = ap (λ z. is_open (held z) t) (sym s) ∙ of_open slot t h in
     ap (number_at index t) (seat_home index.slots.items t place fits e open_home) ∙ ap number_in (sym s)
 
--- those whose home is empty have no number
+-- Those whose home is empty have no number.
 pub number_none : (index : Index) (t : ℕ × ℕ) (place : ℕ) (slot : Slot) → t.0 < 2 ^ 32 → place ≡ home index.slots.items t → slot ≡ slot_at index.slots.items place → slot.count ≡ 0 → number_of index t ≡ None
 number_none index t place slot fits e s q =
     let b : (slot.count == 0) ≡ true = grind (arith, q) in
@@ -79,7 +79,7 @@ number_none index t place slot fits e s q =
     let open_home = ap (λ z. is_open (held z) t) (sym s) ∙ ap (λ o. is_open o t) none in
     ap (number_at index t) (seat_home index.slots.items t place fits e open_home) ∙ ap number_in (sym s) ∙ ap (option_map (λ (p : Placed). p.number)) none
 
--- what stands nowhere has no number
+-- What stands nowhere has no number.
 number_nowhere : (index : Index) (t : ℕ × ℕ) → get target_cmp index.others t ≡ None → ((i : ℕ) (p : Placed) → held (slot_at index.slots.items i) ≡ Some p → (p.class, p.key) ≢ t) → (n place : ℕ) → number_at index t (seat_from n place index.slots.items t) ≡ None
 number_nowhere index t o s zero place = o
 number_nowhere index t o s (suc n) place = by_slot (held (slot_at index.slots.items place)) refl (number_nowhere index t o s n (place + 1))

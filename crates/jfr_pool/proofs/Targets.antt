@@ -14,7 +14,7 @@ clash b p q = cc
 abbrev pub hits : EntryAt → ℕ × ℕ → Bool
 hits e t = (e.class == t.0) && (e.key == t.1)
 
--- two targets whose parts compare equal are equal
+-- Two targets whose parts compare equal are equal.
 pub same_target : (c k : ℕ) (t : ℕ × ℕ) → ((c == t.0) && (k == t.1)) ≡ true → (c, k) ≡ t
 same_target c k t h = by_parts (c == t.0) refl (k == t.1) refl h
   where
@@ -34,7 +34,7 @@ target_same c k t h =
     let q : (k == t.1) ≡ true = grind (arith, b) in
     rw (p, q) refl
 
--- keys that compare equal are equal
+-- Keys that compare equal are equal.
 eq_number : (x y : ℕ) → is_eq (nat_cmp x y) ≡ (x == y)
 eq_number x y = by_tests (nat_lt x y) refl (x == y) refl
   where
@@ -52,7 +52,7 @@ eq_then Greater b = refl
 pub eq_target : (s t : ℕ × ℕ) → is_eq (target_cmp s t) ≡ ((s.0 == t.0) && (s.1 == t.1))
 eq_target s t = eq_then (nat_cmp s.0 t.0) (nat_cmp s.1 t.1) ∙ ap (λ b. b && is_eq (nat_cmp s.1 t.1)) (eq_number s.0 t.0) ∙ ap (λ b. (s.0 == t.0) && b) (eq_number s.1 t.1)
 
--- one entry more
+-- One entry more.
 last_push : (n : ℕ) (es : List EntryAt) (e : EntryAt) (t : ℕ × ℕ) → last_from n (es ++ e ∷ []) t ≡ cond (hits e t) (Some (n + length es)) (last_from n es t)
 last_push n [] e t = by_test (hits e t) (let q : n + 0 ≡ n = omega arith in ap (λ m. Some m) (sym q))
   where
@@ -73,7 +73,7 @@ pub force_none : (t : ℕ × ℕ) → number_in_force [] t ≡ None
 unfolding number_in_force
 force_none t = refl
 
--- a target that has an entry has one when there is one more
+-- A target that has an entry has one when there is one more.
 pub some_push : (es : List EntryAt) (e : EntryAt) (t : ℕ × ℕ) → ((hits e t ≡ true) ⊎ IsSome (number_in_force es t)) → IsSome (number_in_force (es ++ e ∷ []) t)
 some_push es e t h = subst (λ o. IsSome o) (sym (force_push es e t)) (by_case (hits e t) h)
   where

@@ -60,7 +60,7 @@ module _ (p : Parts) (parts : AreParts p) where
       let b : total (λ e. e.record_of.size) (events_of p) ≤ total record_size (event_records p.classes p.records) = events_size p.bytes p.classes (event_records p.classes p.records) in
       omega arith
 
-  -- each kept event and each entry once
+  -- Each kept event and each entry once.
   pub leaves_bound : (flags : List Bool) → event_leaves p (kept_by p flags) + weigh (replicate (length p.entries) true) (entry_leaves p) ≤ length p.bytes
   leaves_bound flags =
       let a = entries_apart p.bytes p.records parts.records (pools_at p.bytes) p.chain parts.chain p.classes (standing p parts).sound p.entries parts.entries in

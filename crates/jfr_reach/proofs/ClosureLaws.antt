@@ -4,7 +4,7 @@ use Rattle.std.proofs.Common.{refl, inl, inr, subst, sym}
 use Rattle.jfr_chunk.proofs.Members.{In}
 use Rattle.jfr_chunk.proofs.SweepLaws.{Reach, root, more}
 
--- M is what is marked, P is what isn't walked, left are the numbers of which nothing was made yet
+-- M is what is marked, P is what isn't walked, left are the numbers of which nothing was made yet.
 pub record Work (next : ℕ → List ℕ) (roots : List ℕ) (M P : ℕ → Type 0) (left : List ℕ) : Type 0 where
   pub found : (i : ℕ) → M i → Reach next roots i
   pub listed : (i : ℕ) → P i → M i
@@ -27,7 +27,7 @@ module _ (next : ℕ → List ℕ) (roots : List ℕ) where
   later M N j left grows m i (inl (inr k)) = inl k
   later M N j left grows m i (inr h) = inr (grows i h)
 
-  -- the first number that is left is marked: it was before, or it is listed
+  -- The first number that is left is marked: it was before, or it is listed.
   pub work_puts : (M N P Q : ℕ → Type 0) (j : ℕ) (left : List ℕ) → Work next roots M P (j ∷ left)
       → ((i : ℕ) → M i → N i) → N j → ((i : ℕ) → N i → M i ⊎ (j ≡ i))
       → ((i : ℕ) → P i → Q i) → ((i : ℕ) → Q i → P i ⊎ (j ≡ i)) → M j ⊎ Q j → Work next roots N Q left
@@ -59,7 +59,7 @@ module _ (next : ℕ → List ℕ) (roots : List ℕ) where
       by_walked i (inl m) = by_case i (w.walked i m)
       by_walked i (inr h) = by_new_one i h new
 
-  -- where nothing is left, a listed one is walked
+  -- Where nothing is left, a listed one is walked.
   pub work_takes : (M P Q : ℕ → Type 0) (j : ℕ) → Work next roots M P [] → P j → ((i : ℕ) → Q i → P i) → ((i : ℕ) → P i → Q i ⊎ (j ≡ i)) → Work next roots M Q (next j)
   work_takes M P Q j w p down up = record {
     found = w.found;

@@ -26,7 +26,7 @@ module _ (p : Parts) where
   length_swept zero ms = refl
   length_swept (suc k) ms = all_size (swept k (next_entries p) ms) (led_to (swept k (next_entries p) ms) (next_entries p)) ∙ length_swept k ms
 
-  -- there is a mark for each entry
+  -- There is a mark for each entry.
   pub marks_size : (kept : List EventAt) → length (reached_marks p kept) ≡ length p.entries
   unfolding reached_marks
   marks_size kept =
@@ -35,7 +35,7 @@ module _ (p : Parts) where
       a ∙ (b ∙ length-replicate (length p.entries) false)
 
   module _ (keep : List Bool) where
-    -- what holds before each round, behind the events
+    -- What holds before each round, behind the events.
     abbrev pub Going : ℕ → List Bool → List ℕ → ℕ → ℕ → Type 0
     Going steps f o at s = Walking (length p.entries) (next_entries p) (roots p (kept_by p keep)) (entry_leaves p) (steps + event_leaves p (kept_by p keep)) f o at s
 
@@ -83,7 +83,7 @@ module _ (p : Parts) where
     in_marked (true ∷ flags) (x ∷ es) e (inr i) = inr (in_marked flags es e i)
     in_marked (false ∷ flags) (x ∷ es) e i = inr (in_marked flags es e i)
 
-    -- what is marked is what paths reach
+    -- What is marked is what paths reach.
     pub marked_reached : AreParts p → (f : List Bool) → f ≡ reached_marks p (kept_by p keep) → (i : ℕ) → IsMarked f i ↔ Reached p (kept_by p keep) i
     marked_reached parts f e i =
         let r = reached_marked p (standing p parts) (kept_by p keep) (λ x k. (let v = event_is p parts x (in_marked keep (events_of p) x k) in (v.value, v.node))) i in

@@ -34,7 +34,7 @@ kept_in keep es i e h = by_flag (slice_get keep i) h
 entries_few : (p : Parts) → AreParts p → (e : EventAt) → In (events_of p) e → length (node_entries p.entries p.classes p.bytes e.node) ≤ node_leaves p e.node
 entries_few p parts e i = let v = event_is p parts e i in references_few p.classes (standing p parts).sound p.bytes p.entries e.node v.value v.node
 
--- the entries to which the event of a number refers where it is kept
+-- The entries to which the event of a number refers where it is kept.
 pub record KeptEntries (p : Parts) (keep : List Bool) (i : ℕ) (numbers : List ℕ) : Type 0 where
   pub roots_are : numbers ≡ roots p (option_to_list (kept_at keep (events_of p) i))
   pub below : AllByRecursion (λ n. n < length p.entries) numbers
@@ -77,7 +77,7 @@ none_at i None = refl
 none_at i (Some true) = refl
 none_at i (Some false) = refl
 
--- events from a place on
+-- Events from a place on.
 from_place : (keep : List Bool) (es : List EventAt) (i : ℕ) → i < length keep → marked (drop i keep) (drop i es) ≡ option_to_list (kept_at keep es i) ++ marked (drop (suc i) keep) (drop (suc i) es)
 from_place [] es i h = absurd (omega arith)
 from_place (k ∷ keep) [] zero h = sym (ap (λ z. option_to_list z ++ marked keep []) (none_at 0 (Some k)) ∙ no_events keep)
@@ -93,7 +93,7 @@ none_from (k ∷ keep) es zero h = absurd (omega arith)
 none_from (k ∷ keep) [] (suc i) h = no_events (drop i keep)
 none_from (k ∷ keep) (e ∷ es) (suc i) h = none_from keep es i (omega arith)
 
--- what events refer to, one part after another
+-- What events refer to, one part after another.
 targets_append : (p : Parts) (xs ys : List EventAt) → all_targets p (nodes_of (xs ++ ys)) ≡ all_targets p (nodes_of xs) ++ all_targets p (nodes_of ys)
 targets_append p [] ys = refl
 targets_append p (x ∷ xs) ys = ap (λ z. targets p.classes p.bytes x.node ++ z) (targets_append p xs ys) ∙ sym (append_assoc (targets p.classes p.bytes x.node) (all_targets p (nodes_of xs)) (all_targets p (nodes_of ys)))
@@ -105,7 +105,7 @@ leaves_append : (p : Parts) (xs ys : List EventAt) → event_leaves p (xs ++ ys)
 leaves_append p [] ys = omega arith
 leaves_append p (x ∷ xs) ys = let i = leaves_append p xs ys in omega arith
 
--- the events that are left make of flags and order what all events make of those before
+-- The events that are left make of flags and order what all events make of those before.
 pub record EventsLeft (p : Parts) (keep flags : List Bool) (order : List ℕ) (steps : ℕ) (f : List Bool) (o : List ℕ) (i s : ℕ) : Type 0 where
   pub size : length f ≡ length p.entries
   pub flags_left : marked_at f (roots p (marked (drop i keep) (drop i (events_of p)))) ≡ marked_at flags (roots p (kept_by p keep))
@@ -131,7 +131,7 @@ module _ (p : Parts) (keep flags : List Bool) (order : List ℕ) (steps : ℕ) w
         cost = omega arith;
       })
 
--- where all are kept, the kept events are all
+-- Where all are kept, the kept events are all.
 all_marked : {X : Type 0} (keep : List Bool) (xs : List X) → list_all (λ k. k) keep ≡ true → length keep ≡ length xs → marked keep xs ≡ xs
 all_marked [] [] a l = refl
 all_marked [] (x ∷ xs) a l = cc
@@ -148,7 +148,7 @@ all_few p parts (e ∷ es) i =
     let m = length-append (node_entries p.entries p.classes p.bytes e.node) (roots p es) in
     omega arith
 
--- the entries to which the events refer, where all are kept
+-- The entries to which the events refer, where all are kept.
 pub record AllEntries (p : Parts) (keep : List Bool) (numbers : List ℕ) : Type 0 where
   pub roots_are : numbers ≡ roots p (kept_by p keep)
   pub below : AllByRecursion (λ n. n < length p.entries) numbers

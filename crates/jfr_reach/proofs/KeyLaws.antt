@@ -10,7 +10,7 @@ use Rattle.jfr_reach.specs.declared.worklist.Worklist.{Worklist}
 use Rattle.jfr_reach.specs.Worklists.{ordered, ordered_all}
 use Rattle.jfr_reach.specs.Walks.{Puts}
 
--- marks at one list of numbers and then at another
+-- Marks at one list of numbers and then at another.
 pub marked_append : (f : List Bool) (xs ys : List ℕ) → marked_at f (xs ++ ys) ≡ marked_at (marked_at f xs) ys
 marked_append f [] ys = refl
 marked_append f (x ∷ xs) ys = marked_append _ xs ys
@@ -25,7 +25,7 @@ puts_then xs ys a b c p q = record {
   order = q.order ∙ (ap (λ z. ordered_all z b.order.items ys) p.marks ∙ (ap (λ z. ordered_all (marked_at a.flags.items xs) z ys) p.order ∙ sym (ordered_append a.flags.items a.order.items xs ys)));
 }
 
--- targets that are taken put the numbers of their entries
+-- Targets that are taken put the numbers of their entries.
 pub puts_all : (es : List EntryAt) (ts : List (ℕ × ℕ)) (old new : Worklist) → TakesAll (λ t a b. Puts (those (number_in_force es) (t ∷ [])) a b) ts old new → Puts (those (number_in_force es) ts) old new
 puts_all es [] old new e = record { marks = ap (λ (z : Worklist). z.flags.items) (sym e); order = ap (λ (z : Worklist). z.order.items) (sym e) }
 puts_all es (t ∷ ts) old new h = by_number (number_in_force es t) (those (number_in_force es) ts) h.1 (puts_all es ts h.0 new h.2)
@@ -34,6 +34,6 @@ puts_all es (t ∷ ts) old new h = by_number (number_in_force es t) (those (numb
     by_number None is p q = puts_then [] is old h.0 new p q
     by_number (Some i) is p q = puts_then (i ∷ []) is old h.0 new p q
 
--- one number more of a list
+-- One number more of a list.
 pub puts_more : (xs : List ℕ) (n : ℕ) (a b c : Worklist) → n < length xs → Puts (take n xs) a b → c.flags.items ≡ slice_set b.flags.items (slice_index_or xs n 0) true → c.order.items ≡ ordered b.flags.items b.order.items (slice_index_or xs n 0) → Puts (take (n + 1) xs) a c
 puts_more xs n a b c h p x y = subst (λ z. Puts z a c) (sym (take_more xs n 0 h)) (puts_then (take n xs) (slice_index_or xs n 0 ∷ []) a b c p (record { marks = x; order = y }))

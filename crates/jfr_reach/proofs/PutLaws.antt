@@ -9,7 +9,7 @@ use Rattle.jfr_chunk.proofs.SweepLaws.{AllBelow}
 use Rattle.jfr_reach.specs.Worklists.{ordered, ordered_all}
 use Rattle.jfr_reach.proofs.ClosureLaws.{Work, work_puts}
 
--- the sum of weights over what is marked, and over what is listed
+-- The sum of weights over what is marked, and over what is listed.
 abbrev pub weigh : List Bool → (ℕ → ℕ) → ℕ
 weigh [] w = 0
 weigh (true ∷ ms) w = w 0 + weigh ms (λ i. w (suc i))
@@ -44,7 +44,7 @@ set_only ms j i m = by_case (same_or_not i j)
     by_case (inl e) = inr e
     by_case (inr n) = inl (sym (get_or-set_other ms j i true false n) ∙ m)
 
--- what is listed from a place on
+-- What is listed from a place on.
 put_up : (ms : List Bool) (order : List ℕ) (at j i : ℕ) → at ≤ length order → In (drop at order) i → In (drop at (ordered ms order j)) i
 put_up ms order at j i h p = by_mark (is_marked ms j)
   where
@@ -98,7 +98,7 @@ put_longer ms order at j h = by_mark (is_marked ms j)
     by_mark true = h
     by_mark false = (let l : length (order ++ (j ∷ [])) ≡ length order + 1 = length-append order (j ∷ []) in omega arith)
 
--- all that are left are put
+-- All that are left are put.
 pub work_all : (next : ℕ → List ℕ) (roots : List ℕ) (ms : List Bool) (order : List ℕ) (at : ℕ) (left : List ℕ) → at ≤ length order → AllBelow (length ms) left
     → Work next roots (IsMarked ms) (In (drop at order)) left → Work next roots (IsMarked (marked_at ms left)) (In (drop at (ordered_all ms order left))) []
 work_all next roots ms order at [] h b w = w
@@ -108,7 +108,7 @@ work_all next roots ms order at (j ∷ left) h b w =
     (work_puts next roots (IsMarked ms) (IsMarked (slice_set ms j true)) (In (drop at order)) (In (drop at (ordered ms order j))) j left w
     (set_grows ms j) (set_here ms j (b j (inl refl))) (set_only ms j) (λ i. put_up ms order at j i h) (λ i. put_down ms order at j i h) (put_new ms order at j h))
 
--- weights
+-- Weights.
 weigh_set : (ms : List Bool) (j : ℕ) (w : ℕ → ℕ) → j < length ms → is_marked ms j ≡ false → weigh (slice_set ms j true) w ≡ weigh ms w + w j
 weigh_set [] j w h m = absurd (omega arith)
 weigh_set (true ∷ ms) zero w h m = cc
@@ -125,7 +125,7 @@ waiting_more : (xs : List ℕ) (j : ℕ) (w : ℕ → ℕ) → waiting (xs ++ (j
 waiting_more [] j w = omega arith
 waiting_more (x ∷ xs) j w = let i : waiting (xs ++ (j ∷ [])) w ≡ waiting xs w + w j = waiting_more xs j w in omega arith
 
--- what is listed weighs what was marked
+-- What is listed weighs what was marked.
 put_weighs : (ms : List Bool) (order : List ℕ) (j : ℕ) (w : ℕ → ℕ) → j < length ms → waiting (ordered ms order j) w + weigh ms w ≡ waiting order w + weigh (slice_set ms j true) w
 put_weighs ms order j w h = by_mark (is_marked ms j) refl
   where

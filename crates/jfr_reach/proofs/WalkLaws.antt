@@ -86,7 +86,7 @@ weigh_none (true ∷ f) w h = absurd (h 0 refl)
 weigh_none (false ∷ f) w h = weigh_none f (λ i. w (suc i)) (λ i m. h (suc i) m)
 
 module _ (n : ℕ) (next : ℕ → List ℕ) (roots : List ℕ) (weight : ℕ → ℕ) where
-  -- what holds before each round
+  -- What holds before each round.
   pub record Walking (steps : ℕ) (f : List Bool) (o : List ℕ) (at s : ℕ) : Type 0 where
     pub size : length f ≡ n
     pub within : at ≤ length o
@@ -94,7 +94,7 @@ module _ (n : ℕ) (next : ℕ → List ℕ) (roots : List ℕ) (weight : ℕ �
     pub weights : waiting o weight ≡ weigh f weight
     pub cost : s ≤ steps + waiting (take at o) weight
 
-  -- what holds after the last round
+  -- What holds after the last round.
   pub record Walked (steps : ℕ) (f : List Bool) (s : ℕ) : Type 0 where
     pub size : length f ≡ n
     pub exact : (i : ℕ) → IsMarked f i ↔ Reach next roots i

@@ -13,7 +13,7 @@ drop_none X zero xs e = e
 drop_none X (suc n) [] e = refl
 drop_none X (suc n) (x ∷ xs) e = cc
 
--- a member that isn't marked is passed
+-- A member that isn't marked is passed.
 skips : {X : Type 0} (fs : List Bool) (xs : List X) (n : ℕ) → unwrap_or (slice_get fs n) false ≡ false → marked (drop n fs) (drop n xs) ≡ marked (drop (suc n) fs) (drop (suc n) xs)
 skips [] xs n e = ap (λ z. marked z (drop n xs)) (drop_none Bool n [] refl)
 skips {X} (f ∷ fs) [] n e = ap (λ z. marked (drop n (f ∷ fs)) z) (drop_none X n [] refl) ∙ (none_marked (drop n (f ∷ fs)) ∙ sym (none_marked (drop (suc n) (f ∷ fs))))
@@ -21,7 +21,7 @@ skips (true ∷ fs) (x ∷ xs) zero e = cc
 skips (false ∷ fs) (x ∷ xs) zero e = refl
 skips (f ∷ fs) (x ∷ xs) (suc n) e = skips fs xs n e
 
--- a member that is marked is the next one
+-- A member that is marked is the next one.
 takes : {X : Type 0} (fs : List Bool) (xs : List X) (x : X) (n : ℕ) → unwrap_or (slice_get fs n) false ≡ true → slice_get xs n ≡ Some x → marked (drop n fs) (drop n xs) ≡ x ∷ marked (drop (suc n) fs) (drop (suc n) xs)
 takes [] xs x n e h = cc
 takes (f ∷ fs) [] x n e h = cc
@@ -38,12 +38,12 @@ kept_skips fs xs n e = skips fs xs n e ∙ ap (λ k. marked (drop k fs) (drop k 
 pub kept_takes : {X : Type 0} (fs : List Bool) (xs : List X) (x : X) (n : ℕ) → unwrap_or (slice_get fs n) false ≡ true → slice_get xs n ≡ Some x → marked (drop n fs) (drop n xs) ≡ x ∷ marked (drop (n + 1) fs) (drop (n + 1) xs)
 kept_takes fs xs x n e h = takes fs xs x n e h ∙ ap (λ k. x ∷ marked (drop k fs) (drop k xs)) (one_more n)
 
--- a place within a list has a member
+-- A place within a list has a member.
 pub no_member : {X : Type 0} (xs : List X) (n : ℕ) → slice_get xs n ≡ None → n < length xs → ⊥
 no_member [] n e l = absurd (omega (arith, l))
 no_member (x ∷ xs) zero e l = cc
 no_member (x ∷ xs) (suc n) e l = no_member xs n e (omega (arith, l))
 
--- past the last one nothing is left
+-- Past the last one nothing is left.
 pub kept_past : {X : Type 0} (fs : List Bool) (xs : List X) (n : ℕ) → length xs ≤ n → marked (drop n fs) (drop n xs) ≡ []
 kept_past fs xs n l = ap (λ z. marked (drop n fs) z) (drop_of_length-le xs l) ∙ none_marked (drop n fs)

@@ -18,7 +18,7 @@ use Rattle.jfr_chunk.specs.Parts.{Parts}
 use Rattle.jfr_report.specs.Reports.{event_bytes, chunk_of, text_by, writer_of}
 use Rattle.jfr_report.specs.Gathered.{Grew, IsGathered, TearsText, WritesSome, TextLeaves, PageLeaves}
 
--- nothing is written or gathered yet
+-- Nothing is written or gathered yet.
 pub begins : (all : List (List ℕ)) (before : Option (List ℕ)) → IsGathered all before before [] all
 begins all before = record { written = []; waiting = []; parts = refl; stands = nothing before; gathers = refl }
   where
@@ -26,7 +26,7 @@ begins all before = record { written = []; waiting = []; parts = refl; stands = 
     nothing None = refl
     nothing (Some b) = ap Some (sym (append-nil b))
 
--- two growths are one
+-- Two growths are one.
 pub grew_on : (x y : List ℕ) (a b c : Option (List ℕ)) → Grew x a b → Grew y b c → Grew (x ++ y) a c
 grew_on x y a b c p q = q ∙ ap (option_map (added y)) p ∙ both a
   where
@@ -35,11 +35,11 @@ grew_on x y a b c p q = q ∙ ap (option_map (added y)) p ∙ both a
     both (Some s) = ap Some (append_assoc s x y)
 
 module _ (all : List (List ℕ)) (before now : Option (List ℕ)) (g : List ℕ) (rest : List (List ℕ)) (i : IsGathered all before now g rest) where
-  -- the texts that are written and those that are gathered
+  -- The texts that are written and those that are gathered.
   pub so_far : all ≡ (i.written ++ i.waiting) ++ rest
   so_far = i.parts ∙ sym (append_assoc i.written i.waiting rest)
 
-  -- what was gathered is written
+  -- What was gathered is written.
   pub written_all : (next : Option (List ℕ)) → Grew g now next → IsGathered all before next [] rest
   written_all next w = record {
     written = i.written ++ i.waiting;
@@ -49,11 +49,11 @@ module _ (all : List (List ℕ)) (before now : Option (List ℕ)) (g : List ℕ)
     gathers = refl;
   }
 
-  -- the first of the texts are written
+  -- The first of the texts are written.
   pub some_written : WritesSome all before now
   some_written = record { first = i.written; rest = i.waiting ++ rest; parts = i.parts; stands = i.stands }
 
--- a text more is gathered
+-- A text more is gathered.
 pub gathered_more : (all : List (List ℕ)) (before now : Option (List ℕ)) (g h text : List ℕ) (rest : List (List ℕ)) → h ≡ g ++ text → IsGathered all before now g (text ∷ rest) → IsGathered all before now h rest
 gathered_more all before now g h text rest e i = record {
   written = i.written;
@@ -63,14 +63,14 @@ gathered_more all before now g h text rest e i = record {
   gathers = e ∙ (ap (λ z. z ++ text) i.gathers ∙ (ap (λ z. concat i.waiting ++ z) (sym (append-nil text)) ∙ sym (concat-append i.waiting (text ∷ []))));
 }
 
--- nothing is left
+-- Nothing is left.
 pub all_written : (all : List (List ℕ)) (before now : Option (List ℕ)) → IsGathered all before now [] [] → Grew (concat all) before now
 all_written all before now i = subst (λ z. Grew z before now) joined i.stands
   where
     joined : concat i.written ≡ concat all
     joined = sym (append-nil (concat i.written)) ∙ (ap (λ z. concat i.written ++ z) (i.gathers ∙ ap concat (sym (append-nil i.waiting))) ∙ (sym (concat-append i.written (i.waiting ++ [])) ∙ ap concat (sym i.parts)))
 
--- a prefix of joined texts is the first of them and a prefix of the next one
+-- A prefix of joined texts is the first of them and a prefix of the next one.
 record Torn (texts : List (List ℕ)) (k : ℕ) : Type 0 where
   pub first : List (List ℕ)
   pub torn : List ℕ
@@ -119,7 +119,7 @@ torn_from all before now next g rest i k w t = record {
     joined : concat i.written ++ take k g ≡ concat (i.written ++ t.first) ++ take t.bytes t.torn
     joined = ap (λ z. concat i.written ++ take k z) i.gathers ∙ (ap (λ z. concat i.written ++ z) t.is ∙ (sym (append_assoc (concat i.written) (concat t.first) (take t.bytes t.torn)) ∙ ap (λ z. z ++ take t.bytes t.torn) (sym (concat-append i.written t.first))))
 
--- what is gathered is written in part
+-- What is gathered is written in part.
 pub tears : (all : List (List ℕ)) (before now next : Option (List ℕ)) (g : List ℕ) (rest : List (List ℕ)) (k : ℕ) → (g ≡ [] → ⊥) → Grew (take k g) now next → IsGathered all before now g rest → TearsText all before next
 tears all before now next g rest k some w i = by_waiting i.waiting refl
   where
@@ -127,7 +127,7 @@ tears all before now next g rest k some w i = by_waiting i.waiting refl
     by_waiting [] e = absurd (some (i.gathers ∙ ap concat e))
     by_waiting (x ∷ xs) e = torn_from all before now next g rest i k w (subst (λ z. Torn z k) (sym e) (tear x xs k))
 
--- a list without members
+-- A list without members.
 pub is_empty_list : (xs : List ℕ) → (length xs == 0) ≡ true → xs ≡ []
 is_empty_list [] e = refl
 is_empty_list (x ∷ xs) e = absurd (none (length xs) (eqb-true (length (x ∷ xs)) 0 e))
@@ -139,11 +139,11 @@ pub some_list : (xs : List ℕ) → (length xs == 0) ≡ false → xs ≡ [] →
 some_list [] e h = cc
 some_list (x ∷ xs) e h = cc
 
--- the one text is written in part
+-- The one text is written in part.
 pub tears_one : (text : List ℕ) (before now : Option (List ℕ)) → ((k : ℕ) × (now ≡ option_map (added (take k text)) before)) → TearsText (text ∷ []) before now
 tears_one text before now t = record { first = []; torn = text; rest = []; bytes = t.0; parts = refl; stands = t.1 }
 
--- what is gathered is written, or a part of it
+-- What is gathered is written, or a part of it.
 pub page_written : (all : List (List ℕ)) (before now next : Option (List ℕ)) (g bytes h : List ℕ) (rest : List (List ℕ)) → bytes ≡ g → h ≡ [] → next ≡ option_map (added bytes) now → IsGathered all before now g rest → IsGathered all before next h rest
 page_written all before now next g bytes h rest e n w i =
     subst (λ z. IsGathered all before next z rest) (sym n) (written_all all before now g rest i next (w ∙ ap (λ z. option_map (added z) now) e))
@@ -151,16 +151,16 @@ page_written all before now next g bytes h rest e n w i =
 pub page_torn : (all : List (List ℕ)) (before now next : Option (List ℕ)) (g bytes : List ℕ) (rest : List (List ℕ)) → bytes ≡ g → (g ≡ [] → ⊥) → ((k : ℕ) × (next ≡ option_map (added (take k bytes)) now)) → IsGathered all before now g rest → TearsText all before next
 page_torn all before now next g bytes rest e some w i = tears all before now next g rest w.0 some (w.1 ∙ ap (λ z. option_map (added (take w.0 z)) now) e) i
 
--- the last page is written
+-- The last page is written.
 pub last_page : (all : List (List ℕ)) (before now : Option (List ℕ)) (result : Result (Unit {0}) Ending) (h : List ℕ) → PageLeaves all before result h [] now → OnOk result (h ≡ []) → TextLeaves all result before now
 last_page all before now (Ok x) h i e = all_written all before now (subst (λ z. IsGathered all before now z []) e i)
 last_page all before now (Err e) h i n = i
 
--- a text by its characters
+-- A text by its characters.
 pub text_bytes : (bytes text : List ℕ) → IsUtf8 bytes → chars bytes ≡ text → bytes ≡ encode_utf8_all text
 text_bytes bytes text u e = sym (encodes-chars bytes u) ∙ ap encode_utf8_all e
 
--- what is written for an event, by what writes it
+-- What is written for an event, by what writes it.
 pub writer_chunk : (json : Bool) (p : Parts) → chunk_of (writer_of json p) ≡ p
 writer_chunk true p = refl
 writer_chunk false p = refl
@@ -169,6 +169,6 @@ pub writer_bytes : (json : Bool) (p : Parts) (depth : ℕ) (n : NodeAt) → enco
 writer_bytes true p depth n = refl
 writer_bytes false p depth n = refl
 
--- an event's text behind another, in UTF-8
+-- An event's text behind another, in UTF-8.
 pub written_more : (old new text : List ℕ) → new ≡ old ++ text → encode_utf8_all new ≡ encode_utf8_all old ++ encode_utf8_all text
 written_more old new text h = ap encode_utf8_all h ∙ encodes-append old text

@@ -10,11 +10,11 @@ parts_first : (r : Result Parts Flaw) (ps : List Parts) (p : Parts) → parts_wi
 parts_first (Ok q) ps p = refl
 parts_first (Err f) ps p = refl
 
--- a chunk more that is accepted
+-- A chunk more that is accepted.
 pub parts_more : (cs : List (List ℕ)) (c : List ℕ) (p : Parts) → read_parts c ≡ Ok p → all_parts (cs ++ c ∷ []) ≡ all_parts cs ++ p ∷ []
 parts_more [] c p e = ap (λ r. parts_with r []) e
 parts_more (d ∷ ds) c p e = ap (parts_with (read_parts d)) (parts_more ds c p e) ∙ parts_first (read_parts d) (all_parts ds) p
 
--- what is seen of the parts so far
+-- What is seen of the parts so far.
 pub seen_more : (Seen : List Parts → Type 0) (result : Result (Unit {0}) Ending) (cs : List (List ℕ)) (c : List ℕ) (p : Parts) → read_parts c ≡ Ok p → OnOk result (Seen (all_parts cs ++ p ∷ [])) → OnOk result (Seen (all_parts (cs ++ c ∷ [])))
 seen_more Seen result cs c p e h = subst (λ ps. OnOk result (Seen ps)) (sym (parts_more cs c p e)) h

@@ -15,7 +15,7 @@ use Rattle.jfr_report.specs.Reports.{writes, asks_texts}
 use Rattle.jfr_report.specs.Gathered.{Grew, TearsText, WritesSome, TextLeaves, TextCounted}
 use Rattle.jfr_report.proofs.PageLaws.{grew_on}
 
--- to write texts is to write all their bytes
+-- To write texts is to write all their bytes.
 pub done_writes : (texts : List (List ℕ)) (w : World) (o : Option (List ℕ)) → done (writes texts) (stand w o) ≡ stand w (option_map (added (concat texts)) o)
 done_writes [] w o = ap (stand w) (nothing o)
   where
@@ -47,7 +47,7 @@ breaks st all w o p t = record {
   cause = λ h. tt;
 }
 
--- a part that was asked for these texts
+-- A part that was asked for these texts.
 pub texts_stand : (st : Bool) (all : List (List ℕ)) (result : Result (Unit {0}) Ending) (w : World) (o p : Option (List ℕ)) → TextLeaves all result o p → PartStands st (Goes (writes all)) result (stand w o) (stand w p)
 texts_stand st all (Ok x) w o p t = (refl, ap (stand w) t ∙ sym (done_writes all w o))
 texts_stand st all (Err WriteFault) w o p t = breaks st all w o p t
@@ -57,7 +57,7 @@ texts_stand st all (Err (Refused r)) w o p t = absurd t
 texts_stand st all (Err ReadFault) w o p t = absurd t
 texts_stand st all (Err TooManyParts) w o p t = absurd t
 
--- a part of a command that writes these texts and leaves the place
+-- A part of a command that writes these texts and leaves the place.
 pub texts_told : (st : Bool) (all : List (List ℕ)) (result : Result (Unit {0}) Ending) (t : Option World) (o p : Option (List ℕ)) → TextLeaves all result o p → Told t t (PartTold st (Goes (writes all)) result o p)
 texts_told st all result None o p h = tt
 texts_told st all result (Some w) o p h = (refl, texts_stand st all result w o p h)
@@ -67,7 +67,7 @@ chunk_told st n m texts c parts result t o p e is h =
     subst (λ r. Told t t (PartTold st (asks_texts m (texts m) r) result o p)) (sym e)
     (subst (λ k. Told t t (PartTold st (Goes (writes (texts k parts))) result o p)) is (texts_told st (texts n parts) result t o p h))
 
--- its counts
+-- Its counts.
 pub texts_tallied : (result : Result (Unit {0}) Ending) (a : State) (s z : SinkState) → TextCounted result s.faults z.faults → PartTallied Text result (outside a s) (outside a z)
 texts_tallied (Ok x) a s z h = (refl, refl, h, refl)
 texts_tallied (Err WriteFault) a s z h = (refl, refl, h, refl)

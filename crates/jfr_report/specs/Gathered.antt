@@ -6,11 +6,11 @@ use Rattle.jfr_header.specs.declared.ending.Ending.TheVariants.{Done, Refused, R
 use Rattle.jfr_outside.specs.World.{added}
 use Rattle.jfr_plan.specs.Outcomes.{Kept, Rises}
 
--- the sink has these bytes more, where it tells its bytes
+-- The sink has these bytes more, where it tells its bytes.
 abbrev pub Grew : List ℕ → Option (List ℕ) → Option (List ℕ) → Type 0
 Grew bytes before now = now ≡ option_map (added bytes) before
 
--- of these texts the first are written, the next are gathered, and the rest are to come
+-- Of these texts the first are written, the next are gathered, and the rest are to come.
 pub record IsGathered (all : List (List ℕ)) (before now : Option (List ℕ)) (gathered : List ℕ) (rest : List (List ℕ)) : Type 0 where
   pub written : List (List ℕ)
   pub waiting : List (List ℕ)
@@ -18,7 +18,7 @@ pub record IsGathered (all : List (List ℕ)) (before now : Option (List ℕ)) (
   pub stands : Grew (concat written) before now
   pub gathers : gathered ≡ concat waiting
 
--- the first of the texts are written, and of the next one a prefix
+-- The first of the texts are written, and of the next one a prefix.
 pub record TearsText (all : List (List ℕ)) (before now : Option (List ℕ)) : Type 0 where
   pub first : List (List ℕ)
   pub torn : List ℕ
@@ -27,14 +27,14 @@ pub record TearsText (all : List (List ℕ)) (before now : Option (List ℕ)) : 
   pub parts : all ≡ first ++ torn ∷ rest
   pub stands : Grew (concat first ++ take bytes torn) before now
 
--- the first of the texts are written
+-- The first of the texts are written.
 pub record WritesSome (all : List (List ℕ)) (before now : Option (List ℕ)) : Type 0 where
   pub first : List (List ℕ)
   pub rest : List (List ℕ)
   pub parts : all ≡ first ++ rest
   pub stands : Grew (concat first) before now
 
--- what a call that writes these texts leaves on the sink, by its answer
+-- What a call that writes these texts leaves on the sink, by its answer.
 abbrev pub TextLeaves : List (List ℕ) → Result (Unit {0}) Ending → Option (List ℕ) → Option (List ℕ) → Type 0
 TextLeaves all (Ok x) before now = Grew (concat all) before now
 TextLeaves all (Err WriteFault) before now = TearsText all before now
@@ -44,7 +44,7 @@ TextLeaves all (Err (Refused r)) before now = ⊥
 TextLeaves all (Err ReadFault) before now = ⊥
 TextLeaves all (Err TooManyParts) before now = ⊥
 
--- its count of faults
+-- Its count of faults.
 abbrev pub TextCounted : Result (Unit {0}) Ending → ℕ → ℕ → Type 0
 TextCounted (Ok x) before now = Kept before now
 TextCounted (Err WriteFault) before now = Rises before now
@@ -54,7 +54,7 @@ TextCounted (Err (Refused r)) before now = ⊥
 TextCounted (Err ReadFault) before now = ⊥
 TextCounted (Err TooManyParts) before now = ⊥
 
--- what a call that gathers more of these texts leaves: the rest is to come, or it ended the command
+-- What a call that gathers more of these texts leaves: the rest is to come, or it ended the command.
 abbrev pub PageLeaves : List (List ℕ) → Option (List ℕ) → Result (Unit {0}) Ending → List ℕ → List (List ℕ) → Option (List ℕ) → Type 0
 PageLeaves all before (Ok x) gathered rest now = IsGathered all before now gathered rest
 PageLeaves all before (Err e) gathered rest now = TextLeaves all (Err e) before now

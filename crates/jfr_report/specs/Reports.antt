@@ -16,16 +16,16 @@ use Rattle.jfr_show.specs.Metadata.{metadata_shown}
 use Rattle.jfr_report.specs.declared.print.Writer.{Writer}
 use Rattle.jfr_report.specs.declared.print.Writer.TheVariants as writers
 
--- each text is written, one after another
+-- Each text is written, one after another.
 abbrev pub writes : List (List ℕ) → List Effect
 writes texts = map Write texts
 
--- chunk number n is refused, or the texts of its parts are written
+-- Chunk number n is refused, or the texts of its parts are written.
 abbrev pub asks_texts : ℕ → (Parts → List (List ℕ)) → Result Parts Flaw → Asked
 asks_texts n texts (Ok p) = Goes (writes (texts p))
 asks_texts n texts (Err flaw) = Stops (refused n flaw)
 
--- a command that writes texts for each chunk, by its number and its parts, and then the last ones
+-- A command that writes texts for each chunk, by its number and its parts, and then the last ones.
 abbrev pub texting : (ℕ → Parts → List (List ℕ)) → (List (List ℕ) → List (List ℕ)) → Rule
 texting texts last = record {
   opens = [];
@@ -34,16 +34,16 @@ texting texts last = record {
   target = Text;
 }
 
--- an event as a line of JSON, or as text, in UTF-8
+-- An event as a line of JSON, or as text, in UTF-8.
 abbrev pub event_bytes : Bool → ℕ → Parts → NodeAt → List ℕ
 event_bytes true depth p n = encode_utf8_all (event_json p depth n)
 event_bytes false depth p n = encode_utf8_all (event_shown p depth n)
 
--- those of events, in order
+-- Those of events, in order.
 abbrev pub events_bytes : Bool → ℕ → Parts → List EventAt → List (List ℕ)
 events_bytes json depth p es = map (λ e. event_bytes json depth p e.node) es
 
--- what writes the events of a chunk, its chunk, and what it writes for an event
+-- What writes the events of a chunk, its chunk, and what it writes for an event.
 abbrev pub writer_of : Bool → Parts → Writer
 writer_of true p = writers.Json p
 writer_of false p = writers.Text p
@@ -56,15 +56,15 @@ abbrev pub text_by : Writer → ℕ → NodeAt → List ℕ
 text_by (writers.Text p) depth n = event_shown p depth n
 text_by (writers.Json p) depth n = event_json p depth n
 
--- each event that a filter keeps is shown
+-- Each event that a filter keeps is shown.
 abbrev pub printing : Given → ℕ → Bool → Rule
 printing g depth json = texting (λ n p. events_bytes json depth p (kept_of g p)) (λ before. [])
 
--- the classes of each chunk
+-- The classes of each chunk.
 abbrev pub describing : Rule
 describing = texting (λ n p. encode_utf8_all (metadata_shown p n) ∷ []) (λ before. [])
 
--- the parts of the chunks that are accepted
+-- The parts of the chunks that are accepted.
 abbrev pub parts_with : Result Parts Flaw → List Parts → List Parts
 parts_with (Ok p) ps = p ∷ ps
 parts_with (Err flaw) ps = ps
@@ -73,6 +73,6 @@ abbrev pub all_parts : List (List ℕ) → List Parts
 all_parts [] = []
 all_parts (c ∷ cs) = parts_with (read_parts c) (all_parts cs)
 
--- the totals of the recording, at its end
+-- The totals of the recording, at its end.
 abbrev pub summing : Rule
 summing = texting (λ n p. []) (λ before. encode_utf8_all (summary_shown (totals_of (all_parts before))) ∷ [])

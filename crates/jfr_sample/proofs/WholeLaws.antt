@@ -9,11 +9,11 @@ use Rattle.jfr_sample.specs.Metadata.{metadata}
 use Rattle.jfr_sample.specs.Sample.{sample_header, before_checkpoint, events_to, checkpoint, sample_of}
 use Rattle.jfr_sample.proofs.Lengths.{length-metadata, events-le, checkpoint-le}
 
--- a header of a size that a chunk may have has no flaw
+-- A header of a size that a chunk may have has no flaw.
 no_flaw : (size pools : ℕ) → 68 ≤ size → size < 2 ^ 28 → field_flaw (sample_header size pools) ≡ None
 no_flaw size pools long short = grind (arith, nat_tests)
 
--- such a header over the first bytes of a chunk
+-- Such a header over the first bytes of a chunk.
 pub whole_by : (header chunk : List ℕ) (pools : ℕ) → length header ≡ 68 → 68 ≤ length chunk → length chunk < 2 ^ 28 → (field_flaw (sample_header (length chunk) pools) ≡ None → (header_flaw header ≡ None) × (header_of header ≡ sample_header (length chunk) pools)) → Whole (header ++ drop 68 chunk)
 whole_by header chunk pools is long short reads =
     let read = reads (no_flaw (length chunk) pools long short) in
@@ -25,15 +25,15 @@ whole_by header chunk pools is long short reads =
       size = ap size_of front ∙ ap (λ (h : Header). h.size) read.1 ∙ sym size;
     }
 
--- what stands behind the place of the header
+-- What stands behind the place of the header.
 abbrev pub filled : List ℕ → ℕ → ℕ → List ℕ
 filled blank seed events = blank ++ metadata ++ events_to seed events events ++ checkpoint events
 
--- it is added part by part
+-- It is added part by part.
 pub filled_by : (blank first second chunk : List ℕ) (seed events : ℕ) → first ≡ blank ++ metadata → second ≡ first ++ events_to seed events events → chunk ≡ second ++ checkpoint events → chunk ≡ filled blank seed events
 filled_by blank first second chunk seed events a b c = c ∙ ap (λ (l : List ℕ). l ++ checkpoint events) (b ∙ ap (λ (l : List ℕ). l ++ events_to seed events events) a)
 
--- how long that is
+-- How long that is.
 length-filled : (blank : List ℕ) (seed events : ℕ) → length blank ≡ 68 → length (filled blank seed events) ≡ 68 + length (before_checkpoint seed events) + length (checkpoint events)
 length-filled blank seed events is =
     omega (arith, length-append (blank ++ metadata ++ events_to seed events events) (checkpoint events), length-append (blank ++ metadata) (events_to seed events events), length-append blank metadata, length-append metadata (events_to seed events events))
@@ -45,7 +45,7 @@ pub filled-le : (blank : List ℕ) (seed events : ℕ) → length blank ≡ 68 �
 filled-le blank seed events is some most =
     omega (arith, length-filled blank seed events is, length-append metadata (events_to seed events events), length-metadata, events-le seed events events some most most, checkpoint-le events most)
 
--- with its header it is the sample
+-- With its header it is the sample.
 pub made_of : (blank : List ℕ) (seed events pools : ℕ) → length blank ≡ 68 → pools ≡ length (blank ++ metadata ++ events_to seed events events) → header_bytes (sample_header (length (filled blank seed events)) pools) ++ drop 68 (filled blank seed events) ≡ sample_of seed events
 unfolding sample_of
 made_of blank seed events pools is at =
@@ -59,6 +59,6 @@ made_of blank seed events pools is at =
     ∙ ap (λ (l : List ℕ). header_bytes (sample_header (68 + length before + length (checkpoint events)) (68 + length before)) ++ l) rest
     ∙ sym (append_assoc (header_bytes (sample_header (68 + length before + length (checkpoint events)) (68 + length before))) before (checkpoint events))
 
--- bytes that were written over by as many others
+-- Bytes that were written over by as many others.
 pub written_over : (count : ℕ) (new old : List ℕ) → count ≡ length old → length new ≡ length old → take count (new ++ drop (length new) old) ≡ new
 written_over count new old is same = ap (λ (n : ℕ). take n (new ++ drop (length new) old)) (is ∙ sym same) ∙ take-append_seam new (drop (length new) old)

@@ -6,60 +6,63 @@ use Rattle.jfr_header.specs.declared.header.Header.{Header}
 use Rattle.jfr_header.specs.Headers.{header_bytes}
 use Rattle.jfr_sample.specs.Metadata.{string_of, metadata}
 
--- the number that the generator draws after another
+-- The number that the generator draws after another.
 abbrev pub next_draw : ℕ → ℕ
 next_draw x = (1664525 * x + 1013904223) % 2 ^ 32
 
--- the draw for event i: the first draw is the one after the seed
+-- The draw for event i: the first draw is the one after the seed.
 unfoldable pub draw : ℕ → ℕ → ℕ
 draw seed zero = seed
 draw seed (suc i) = next_draw (draw seed i)
 
--- the key of a node, from 1 to the number of events, by a draw without its low eight bits
+-- The key of a node, from 1 to the number of events, by a draw without its low eight bits.
 abbrev pub key_of : ℕ → ℕ → ℕ
 key_of events x = 1 + (x / 256) % events
 
--- a record: its size in four bytes, and its body
+-- A record: its size in four bytes, and its body.
 abbrev pub record_of : List ℕ → List ℕ
 record_of body = spell_in 4 (4 + length body) ++ body
 
--- a t.A, of class 8, with its number and the key of its node
+-- A t.A, of class 8, with its number and the key of its node.
 abbrev pub event_a : ℕ → ℕ → List ℕ
 event_a i key = record_of (spell 8 ++ spell i ++ spell key)
 
--- a t.B, of class 9, with the key of its node
+-- A t.B, of class 9, with the key of its node.
 abbrev pub event_b : ℕ → List ℕ
 event_b key = record_of (spell 9 ++ spell key)
 
--- an event by its draw: a t.A in the lower half of the numbers, else a t.B
+-- An event by its draw: a t.A in the lower half of the numbers, else a t.B.
 abbrev pub event_by : ℕ → ℕ → ℕ → List ℕ
 event_by events i x = if nat_lt x (2 ^ 31) then event_a i (key_of events x) else event_b (key_of events x)
 
--- event i
+-- Event i.
 unfoldable pub event : ℕ → ℕ → ℕ → List ℕ
 event seed events i = event_by events i (draw seed i)
 
--- the key that entry k has for its next node: k - 2 where k is a multiple of 3, else k + 1, which may be missing
+-- The key that entry k has for its next node: k - 2 where k is a multiple of 3, else k + 1, which may be
+-- missing.
 abbrev pub next_of : ℕ → ℕ
 next_of k = if k % 3 == 0 then k - 2 else k + 1
 
--- entry k: its key, and its node, whose text is the key in decimal
+-- Entry k: its key, and its node, whose text is the key in decimal.
 unfoldable pub entry : ℕ → List ℕ
 entry k = spell k ++ spell (next_of k) ++ string_of (decimal k)
 
--- the events from 1 to n, one after another
+-- The events from 1 to n, one after another.
 abbrev pub events_to : ℕ → ℕ → ℕ → List ℕ
 events_to seed events n = flat_map (event seed events) (range_with_len 1 n)
 
--- the entries from 1 to n, one after another
+-- The entries from 1 to n, one after another.
 abbrev pub entries_to : ℕ → List ℕ
 entries_to n = flat_map entry (range_with_len 1 n)
 
--- the checkpoint: type 1, start 0, duration 0, delta 0, the type byte 0, and one pool, of class 7, with its entries
+-- The checkpoint: type 1, start 0, duration 0, delta 0, the type byte 0, and one pool, of class 7, with its
+-- entries.
 unfoldable pub checkpoint : ℕ → List ℕ
 checkpoint n = record_of ((1 ∷ 0 ∷ 0 ∷ 0 ∷ 0 ∷ 1 ∷ 7 ∷ []) ++ spell n ++ entries_to n)
 
--- the header of a chunk of version 2.1 with this size, whose metadata stands behind it; the last checkpoint stands at `pools`
+-- The header of a chunk of version 2.1 with this size, whose metadata stands behind it; the last checkpoint
+-- stands at `pools`.
 abbrev pub sample_header : ℕ → ℕ → Header
 sample_header size pools = record {
   major = 2;
@@ -76,11 +79,11 @@ sample_header size pools = record {
   flags = 3;
 }
 
--- the records before the checkpoint: the metadata and the events
+-- The records before the checkpoint: the metadata and the events.
 abbrev pub before_checkpoint : ℕ → ℕ → List ℕ
 before_checkpoint seed events = metadata ++ events_to seed events events
 
--- the sample: the header, and its records, of which the checkpoint is the last
+-- The sample: the header, and its records, of which the checkpoint is the last.
 unfoldable pub sample_of : ℕ → ℕ → List ℕ
 sample_of seed events =
     header_bytes (sample_header (68 + length (before_checkpoint seed events) + length (checkpoint events)) (68 + length (before_checkpoint seed events)))

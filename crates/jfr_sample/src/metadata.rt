@@ -20,15 +20,15 @@ const TEXTS: [&str; 24] = [
 /// and a value, and the number of elements in it.
 #[rattlefmt::skip]
 const ELEMENTS: [u8; 86] = [
-    // root and metadata
+    // Root and metadata.
     0, 0, 1, 1, 0, 5,
-    // class long, 5, and class java.lang.String, 6
+    // Class long, 5, and class java.lang.String, 6.
     2, 2, 3, 9, 4, 15, 0, 2, 2, 3, 10, 4, 16, 0,
-    // class t.Node, 7, with the fields next and text
+    // Class t.Node, 7, with the fields next and text.
     2, 2, 3, 11, 4, 17, 2, 6, 3, 3, 20, 2, 17, 7, 8, 0, 6, 2, 3, 21, 2, 16, 0,
-    // class t.A, 8, with the fields n and node
+    // Class t.A, 8, with the fields n and node.
     2, 3, 3, 12, 4, 18, 5, 14, 2, 6, 2, 3, 22, 2, 15, 0, 6, 3, 3, 23, 2, 17, 7, 8, 0,
-    // class t.B, 9, with the field node
+    // Class t.B, 9, with the field node.
     2, 3, 3, 13, 4, 19, 5, 14, 1, 6, 3, 3, 23, 2, 17, 7, 8, 0,
 ];
 

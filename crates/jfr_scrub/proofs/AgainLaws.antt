@@ -1,4 +1,5 @@
--- What a recording becomes is a recording: it is cut into the chunks that were written, and scrubbed again it stays the same.
+-- What a recording becomes is a recording: it is cut into the chunks that were written, and scrubbed again
+-- it stays the same.
 use Rattle.std.specs.Prelude.{◌≡◌, ℕ, ◌+◌, ◌^◌, ◌<◌, ◌≤◌, List, [], ◌∷◌, ◌++◌, map, length, drop, Bool, true, false, Option, Some, None, Result, Ok, Err, nat_le}
 use Rattle.std.specs.List.{AllByRecursion}
 use Rattle.std.proofs.Common.{ap, arith, refl, sym, subst, ◌∙◌}
@@ -34,19 +35,19 @@ scrubbed_one g c (Ok p) w e n =
     }
 scrubbed_one g c (Err flaw) w e n = cc
 
--- a chunk that isn't refused is scrubbed
+-- A chunk that isn't refused is scrubbed.
 pub is_scrubbed : (g : Given) (c : List ℕ) → Whole c → refusal_of c ≡ None → IsScrubbed g c (scrubbed g c)
 unfolding refusal_of scrubbed
 is_scrubbed g c w n = scrubbed_one g c (read_parts c) w refl n
 
--- and in no other way
+-- And in no other way.
 one_scrubbed : (g : Given) (c b : List ℕ) → Whole c → IsScrubbed g c b → (refusal_of c ≡ None) × (b ≡ scrubbed g c)
 unfolding refusal_of scrubbed
 one_scrubbed g c b w s =
     let e : read_parts c ≡ Ok s.parts = ((is_computed c w.long).parts s.parts).0 (s.bytes, s.stand) in
     (ap flaw_in e, s.becomes ∙ sym (ap (scrubbed_by g) e))
 
--- what a chunk becomes is whole, and no longer than the chunk
+-- What a chunk becomes is whole, and no longer than the chunk.
 becomes_whole : (g : Given) (c b : List ℕ) → IsScrubbed g c b → Whole b
 becomes_whole g c b s = subst Whole (sym s.becomes) s.settled.kept.whole
 
@@ -57,7 +58,7 @@ becomes_short g c b s =
     let n : length s.parts.bytes ≡ length c = ap (λ (z : List ℕ). length z) s.bytes in
     omega arith
 
--- it is accepted, and scrubbed once more it stays the same
+-- It is accepted, and scrubbed once more it stays the same.
 again_of : (g : Given) (c b : List ℕ) (s : IsScrubbed g c b) → read_parts b ≡ Ok s.settled.kept.parts
 again_of g c b s =
     let q = s.settled.kept in
@@ -73,7 +74,7 @@ same_again g c b s = ap (scrubbed_by g) (again_of g c b s) ∙ (s.settled.again 
 
 -- ---- one chunk after another
 
--- a chunk that stands at a front begins below byte 2^40
+-- A chunk that stands at a front begins below byte 2^40.
 begins_early : (rest c : List ℕ) (start : ℕ) (first : Bool) → front rest start first ≡ Chunk c → Whole c → start < 2 ^ 40
 begins_early rest c start first e w = by_order (nat_le (2 ^ 40) start) refl
   where
@@ -99,7 +100,7 @@ nothing_is_the_end : (start : ℕ) → front [] start false ≡ End
 unfolding front
 nothing_is_the_end start = refl
 
--- what is written starts no later than what is read, so each of its chunks is found
+-- What is written starts no later than what is read, so each of its chunks is found.
 written_cut : (g : Given) (cs : List (List ℕ)) (flaw : Option Flaw) (rest : List ℕ) (start later : ℕ) (first : Bool) → start ≤ later → AreCut cs flaw rest later first
     → AreCut (map (scrubbed g) (before_refused refusal_of cs)) None (joined (map (scrubbed g) (before_refused refusal_of cs))) start false
 written_cut g [] flaw rest start later first h a = nothing_is_the_end start
@@ -124,7 +125,7 @@ are_chunks : (bs : List (List ℕ)) → AllByRecursion Whole bs → AreCut bs No
 are_chunks [] w a = refl
 are_chunks (b ∷ bs) w a = cut_is (b ∷ bs) None (joined (b ∷ bs)) 0 true (whole_front b (joined bs) 0 true w.0 (omega arith), a.1)
 
--- the output is cut into just the chunks that were written
+-- The output is cut into just the chunks that were written.
 pub recording_chunks : (g : Given) (x : List ℕ) → AreChunksOf (map (scrubbed g) (before_refused refusal_of (cut x 0 true).chunks)) (recording_scrubbed g x)
 recording_chunks g x =
     let bs : List (List ℕ) = map (scrubbed g) (before_refused refusal_of (cut x 0 true).chunks) in
@@ -157,13 +158,13 @@ by_chunks g (b ∷ bs) a h =
     ap (λ (k : Cuts). joined (map (scrubbed g) (before_refused refusal_of k.chunks))) a
     ∙ ap joined (ap (map (scrubbed g)) h.0 ∙ h.1)
 
--- a scrubbed recording that is scrubbed again stays the same
+-- A scrubbed recording that is scrubbed again stays the same.
 pub recording_again : (g : Given) (x : List ℕ) → recording_scrubbed g (recording_scrubbed g x) ≡ recording_scrubbed g x
 recording_again g x =
     let cs : List (List ℕ) = (cut x 0 true).chunks in
     by_chunks g (map (scrubbed g) (before_refused refusal_of cs)) (recording_chunks g x) (all_same g cs (all_whole cs (cut x 0 true).flaw x 0 true (are_cut x 0 true)))
 
--- results that stand one to one with chunks are those chunks' scrubs
+-- Results that stand one to one with chunks are those chunks' scrubs.
 are_these : (g : Given) (cs bs : List (List ℕ)) → AllByRecursion Whole cs → AreScrubbed g cs bs → bs ≡ map (scrubbed g) cs
 are_these g [] [] w a = refl
 are_these g (c ∷ cs) (b ∷ bs) w a =
@@ -179,7 +180,7 @@ before_whole (c ∷ cs) w = by_flaw (refusal_of c) (before_whole cs w.1)
     by_flaw None later = (w.0, later)
     by_flaw (Some f) later = tt
 
--- a recording has one scrub
+-- A recording has one scrub.
 pub one_scrub : (g : Given) (x y : List ℕ) → IsScrubOf g x y → y ≡ recording_scrubbed g x
 one_scrub g x y s =
     let cs : List (List ℕ) = (cut x 0 true).chunks in

@@ -27,7 +27,7 @@ use Rattle.jfr_scrub.proofs.CursorLaws.{cursor_first, event_in, events_given}
 use Rattle.jfr_scrub.proofs.FitLaws.{pools_number}
 use Rattle.jfr_scrub.proofs.RunLaws.{event_alone}
 
--- what holds of each member, by membership
+-- What holds of each member, by membership.
 all_from : {X : Type 0} (P : X → Type 0) (xs : List X) → ((x : X) → In xs x → P x) → AllByRecursion P xs
 all_from P [] f = tt
 all_from P (x ∷ xs) f = (f x (inl refl), all_from P xs (λ y i. f y (inr i)))
@@ -60,7 +60,7 @@ in_get [] x i = absurd i
 in_get (y ∷ ys) x (inl e) = (zero, ap (λ z. Some z) e)
 in_get (y ∷ ys) x (inr i) = let r = in_get ys x i in (suc r.0, r.1)
 
--- the checkpoint of an entry
+-- The checkpoint of an entry.
 entry_link : (c : List ℕ) (k : Classes) (n : ℕ) (ls : List Link) (es : List EntryAt) (e : EntryAt) → AreEntries c k n ls es → In es e → (l : Link) × In (enumerate_from n ls) (e.checkpoint, l)
 entry_link c k n [] es e a i = absurd (subst (λ z. In z e) a i)
 entry_link c k n (l ∷ ls) es e a i = by_part (in_cases (entries_from n 0 a.0) a.2 e (subst (λ z. In z e) a.3 i)) (λ j. entry_link c k (n + 1) ls a.2 e a.4 j)
@@ -79,7 +79,7 @@ or_first : (b d : Bool) → b ≡ true → b || d ≡ true
 or_first b d e = ap (λ z. z || d) e
 
 module _ (p : Parts) (a : AreParts p) (ps : List Part) where
-  -- of what stays whole
+  -- Of what stays whole.
   whole_copied : (kept : List EventAt) (left : List EntryAt) (r : Framed) → AllByRecursion (OutputRecordIsCopied left ps) (output_records p kept) → In p.records r → link_there p r ≡ None → output_records_whole p kept r ≡ true → RecordIsCopied ps r
   whole_copied kept left r c i l w =
       all_in (OutputRecordIsCopied left ps) (output_records p kept) (Whole r) c (in_given (output_record_of p kept) p.records r (Whole r) i (λ j. output_record_by (l j) (w j) r))
@@ -115,7 +115,7 @@ module _ (p : Parts) (a : AreParts p) (ps : List Part) where
   unfolding remain
   entries_are_copied kept c = all_from (EntryIsCopied ps) (remain p kept) (λ e i. entry_copied kept c e i (in_marked (reached_marks p kept) p.entries e i))
 
-  -- no checkpoint is a metadata record
+  -- No checkpoint is a metadata record.
   no_link : link_there p a.metadata_record ≡ None
   no_link = by_find (link_there p a.metadata_record) refl
     where

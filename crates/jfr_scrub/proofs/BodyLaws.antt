@@ -24,16 +24,16 @@ range_filter n t (e ∷ es) a = by_test (t e) (range_filter n t es a.1)
     by_test true h = (a.0, h)
     by_test false h = h
 
--- each that is written fits
+-- Each that is written fits.
 abbrev pub WrittenFits : List ℕ → List EntryAt → Written → Type 0
 WrittenFits c left w = OutputRecordFits c left w.output_record w.at w.older
 
--- a place that was seen, or else one that comes later
+-- A place that was seen, or else one that comes later.
 abbrev pub or_place : Option ℕ → ℕ → ℕ
 or_place (Some place) later = place
 or_place None later = later
 
--- what is laid out, and what is left
+-- What is laid out, and what is left.
 pub record Going (p : Parts) (left : List EntryAt) (all ss : List OutputRecord) (b : Progress) : Type 0 where
   pub chunk : b.output.chunk ≡ p.bytes
   pub output : more b.output (flat_map (written_bytes p.bytes left) (written p.bytes left b.at b.older ss)) ≡ record { chunk = p.bytes; bytes = flat_map (written_bytes p.bytes left) (written p.bytes left 68 None all) }
@@ -48,7 +48,7 @@ pub going_none : (p : Parts) (left : List EntryAt) (all : List OutputRecord) (b 
     AllByRecursion (WrittenFits p.bytes left) (written p.bytes left 68 None all) → 68 + length (flat_map (written_bytes p.bytes left) (written p.bytes left 68 None all)) ≤ length p.bytes → Going p left all all b
 going_none p left all b e f w = subst (Going p left all all) (sym e) (record { chunk = refl; output = refl; at = refl; older = refl; metadata = refl; fits = f; before = tt; within = w })
 
--- what is left is no longer than all
+-- What is left is no longer than all.
 pub going_room : (p : Parts) (left : List EntryAt) (all ss : List OutputRecord) (s : OutputRecord) (b : Progress) → Going p left all (s ∷ ss) b → b.at + length (bytes_of p.bytes left s b.at b.older) ≤ length p.bytes
 going_room p left all ss s b g =
     let x = bytes_of p.bytes left s b.at b.older in
@@ -129,12 +129,12 @@ going_all p left all ss b g e = done (subst (λ z. Going p left all z b) e g)
           within = omega arith;
         }
 
--- entries that don't fall, from another number on
+-- Entries that don't fall, from another number on.
 not_less : (m n : ℕ) (es : List EntryAt) → m ≤ n → NotFalling n es → NotFalling m es
 not_less m n [] h a = tt
 not_less m n (e ∷ es) h a = let i : n ≤ e.checkpoint = a.0 in (omega arith, a.1)
 
--- those of the numbers before one, of that one, and of those behind it
+-- Those of the numbers before one, of that one, and of those behind it.
 pub record Parted (es before rest here behind : List EntryAt) (n : ℕ) : Type 0 where
   pub all : es ≡ before ++ rest
   pub some : rest ≡ here ++ behind
@@ -177,7 +177,7 @@ parted_here es before rest here behind n p =
     sym (ap (filter (none_of n)) p.all ∙ (filter_append n before rest ∙ (ap (λ z. z ++ filter (none_of n) rest) (filter_none n before (low_differ n before p.low))
     ∙ (ap (filter (none_of n)) p.some ∙ (filter_append n here behind ∙ (ap (λ z. filter (none_of n) here ++ z) (filter_none n behind p.high) ∙ (append-nil (filter (none_of n) here) ∙ filter_all n here p.this)))))))
 
--- what holds at the first places holds of the first members, and so for the others
+-- What holds at the first places holds of the first members, and so for the others.
 within_take : (P : EntryAt → Type 0) (xs : List EntryAt) (k : ℕ) → k ≤ length xs → AllWithin P xs 0 k → AllByRecursion P (take k xs)
 within_take P xs zero h a = tt
 within_take P [] (suc k) h a = tt
@@ -189,7 +189,7 @@ within_drop P [] (suc k) a = tt
 within_drop P (x ∷ xs) zero a = (a 0 x (omega arith) (omega arith), within_drop P xs zero (λ i d l m. a (suc i) d (omega arith) (omega arith)))
 within_drop P (x ∷ xs) (suc k) a = within_drop P xs k (λ i d l m. a (suc i) d (omega arith) (omega arith))
 
--- entries that don't fall, by their places
+-- Entries that don't fall, by their places.
 pub falling_at : (n : ℕ) (es : List EntryAt) → NotFalling n es → (i j : ℕ) (d : EntryAt) → i ≤ j → j < length es → (n ≤ (get_or es i d).checkpoint) × ((get_or es i d).checkpoint ≤ (get_or es j d).checkpoint)
 falling_at n [] a i j d h l = absurd (omega arith)
 falling_at n (e ∷ es) a zero zero d h l = (a.0, omega arith)
@@ -215,7 +215,7 @@ high_of : (n : ℕ) (es : List EntryAt) → AllByRecursion (λ e. leb e.checkpoi
 high_of n [] a = tt
 high_of n (e ∷ es) a = ((λ q. let f = leb-false e.checkpoint n a.0 in absurd (omega arith)), high_of n es a.1)
 
--- the entries of a number, between two places
+-- The entries of a number, between two places.
 pub entries_here : (es : List EntryAt) (n k m : ℕ) → k ≤ length es → AllWithin (λ e. ltb e.checkpoint n ≡ true) es 0 k → AllWithin (λ e. ltb e.checkpoint n ≡ false) es k (length es) →
     m ≤ length (drop k es) → AllWithin (λ e. leb e.checkpoint n ≡ true) (drop k es) 0 m → AllWithin (λ e. leb e.checkpoint n ≡ false) (drop k es) m (length (drop k es)) →
     take m (drop k es) ≡ filter (λ e. e.checkpoint == n) es
@@ -234,7 +234,7 @@ pub entries_between : (es rest here : List EntryAt) (n k m : ℕ) → rest ≡ d
 entries_between es rest here n k m r t h a b i c d =
     t ∙ (ap (take m) r ∙ entries_here es n k m h a b (subst (λ z. m ≤ length z) r i) (subst (λ z. AllWithin (λ e. leb e.checkpoint n ≡ true) z 0 m) r c) (subst (λ z. AllWithin (λ e. leb e.checkpoint n ≡ false) z m (length z)) r d))
 
--- the header before the body is what the chunk becomes
+-- The header before the body is what the chunk becomes.
 pub laid_all : (p : Parts) (kept : List EventAt) (left : List EntryAt) (b : Progress) (h : Header) (front joined : List ℕ) → left ≡ remain p kept → IsBody p left (output_records p kept) b → h ≡ header_of (take 68 p.bytes) →
     front ≡ header_bytes (record h { size = b.at; pools = unwrap_or b.older 0; metadata = unwrap_or b.metadata 0 }) → joined ≡ front ++ b.output.bytes → joined ≡ scrub_of p kept
 unfolding scrub_of

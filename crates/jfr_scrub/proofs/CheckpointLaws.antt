@@ -16,7 +16,7 @@ use Rattle.jfr_scrub.specs.Pieces.{Laying, more}
 use Rattle.jfr_scrub.proofs.Widths.{spelled_length}
 use Rattle.jfr_scrub.proofs.RemainingLaws.{by_leading, range_drop}
 
--- the entries of a group lie in the chunk
+-- The entries of a group lie in the chunk.
 abbrev pub GroupRange : ℕ → Group → Type 0
 GroupRange n g = AllByRecursion (HasRange n) g.entries
 
@@ -57,7 +57,7 @@ groups_length c (g ∷ gs) a =
     let i = groups_length c gs a.1 in
     omega arith
 
--- how many bytes come behind the size
+-- How many bytes come behind the size.
 pub tail_length : (c : List ℕ) (l : Link) (delta : ℕ) (gs : List Group) → LinkFits c l delta gs → AllByRecursion (GroupRange (length c)) gs →
     length (checkpoint_tail c l delta gs) ≡ (l.delta_at - l.frame.type_at) + length (spell delta) + 1 + length (spell (length gs)) + groups_size gs
 tail_length c l delta gs f a =
@@ -82,11 +82,11 @@ tail_length c l delta gs f a =
     let t₄ : length b ≡ groups_size gs = groups_length c gs a in
     omega arith
 
--- one part behind another
+-- One part behind another.
 pub more_more : (o : Laying) (a b : List ℕ) → more (more o a) b ≡ more o (a ++ b)
 more_more o a b = λ i. record { chunk = o.chunk; bytes = append_assoc o.bytes a b i }
 
--- one entry behind another
+-- One entry behind another.
 flat_map_suc : (f : EntryAt → List ℕ) (es : List EntryAt) (i : ℕ) (d : EntryAt) → i < length es → flat_map f (take (suc i) es) ≡ flat_map f (take i es) ++ f (get_or es i d)
 flat_map_suc f [] i d h = absurd (omega arith)
 flat_map_suc f (e ∷ es) zero d h = append-nil (f e)
@@ -102,7 +102,7 @@ entry_laid o now next es i d h l n =
 regrouped : (o s a t m d k n g : List ℕ) → a ≡ t ++ m → (((((o ++ s) ++ a) ++ d) ++ k) ++ n) ++ g ≡ o ++ (s ++ (t ++ (m ++ (d ++ (k ++ (n ++ g))))))
 regrouped o s a t m d k n g e = rw e (simp append_assoc)
 
--- one behind another, of the chunk that stays the same
+-- One behind another, of the chunk that stays the same.
 pub laid_parts : (o a b d e f g : Laying) (s v n : List ℕ) (p q t u : ℕ) (h : List ℕ → List ℕ) → a ≡ more o s → b ≡ more a (slice_range a.chunk p q) → d ≡ more b v → e ≡ more d (slice_range d.chunk t u) → f ≡ more e n → g ≡ more f (h f.chunk) →
     g ≡ more (more (more (more (more (more o s) (slice_range o.chunk p q)) v) (slice_range o.chunk t u)) n) (h o.chunk)
 laid_parts o a b d e f g s v n p q t u h i j k l m w =
@@ -112,7 +112,7 @@ laid_parts o a b d e f g s v n p q t u h i j k l m w =
     let f' : f ≡ more (more (more (more (more o s) (slice_range o.chunk p q)) v) (slice_range o.chunk t u)) n = m ∙ ap (λ z. more z n) e' in
     w ∙ ap (λ (z : Laying). more z (h z.chunk)) f'
 
--- the parts of a checkpoint
+-- The parts of a checkpoint.
 pub laid_checkpoint : (o : Laying) (l : Link) (delta size : ℕ) (gs : List Group) → LinkFits o.chunk l delta gs → size ≡ (l.frame.type_at - l.frame.at) + length (checkpoint_tail o.chunk l delta gs) →
     more (more (more (more (more (more o (spell_in (l.frame.type_at - l.frame.at) size)) (slice_range o.chunk l.frame.type_at l.delta_at)) (spell delta)) (slice_range o.chunk l.delta_end (l.delta_end + 1))) (spell (length gs))) (flat_map (group_bytes o.chunk) gs)
     ≡ more o (checkpoint_bytes o.chunk l delta gs)
@@ -123,7 +123,7 @@ laid_checkpoint o l delta size gs f e =
     let b = regrouped o.bytes (spell_in w size) (slice_range o.chunk l.frame.type_at l.delta_at) (slice_range o.chunk l.frame.type_at l.frame.body) (slice_range o.chunk l.frame.body l.delta_at) (spell delta) (slice_range o.chunk l.delta_end (l.delta_end + 1)) (spell (length gs)) (flat_map (group_bytes o.chunk) gs) a in
     (λ i. record { chunk = o.chunk; bytes = b i }) ∙ ap (λ n. more o (spell_in w n ++ checkpoint_tail o.chunk l delta gs)) e
 
--- the pools that are left to lay out
+-- The pools that are left to lay out.
 pub record LayingPools (o now : Laying) (es rest : List EntryAt) : Type 0 where
   pub chunk : now.chunk ≡ o.chunk
   pub laid : more now (flat_map (group_bytes o.chunk) (by_pool rest)) ≡ more o (flat_map (group_bytes o.chunk) (by_pool es))
@@ -164,7 +164,7 @@ pub laying_all : (o now : Laying) (es rest : List EntryAt) → LayingPools o now
 laying_all o now es [] m h = (λ i. record { chunk = now.chunk; bytes = sym (append-nil now.bytes) i }) ∙ m.laid
 laying_all o now es (e ∷ rest) m h = absurd (omega arith)
 
--- the size of what is written of a checkpoint
+-- The size of what is written of a checkpoint.
 pub size_is : (c : List ℕ) (l : Link) (delta : ℕ) (gs : List Group) (bytes v w : ℕ) → LinkFits c l delta gs → AllByRecursion (GroupRange (length c)) gs → length c < 2 ^ 64 →
     bytes ≡ capped (groups_size gs) → v ≡ length (spell delta) → w ≡ length (spell (length gs)) →
     (((l.frame.type_at - l.frame.at) + (l.delta_at - l.frame.type_at) + v + 1 + w) + bytes ≡ (l.frame.type_at - l.frame.at) + length (checkpoint_tail c l delta gs))
@@ -174,7 +174,7 @@ size_is c l delta gs bytes v w f a h b d e =
     let k : l.frame.at + l.frame.size ≤ length c = f.framed.within in
     omega arith
 
--- and how long it is
+-- And how long it is.
 pub checkpoint_length : (c : List ℕ) (l : Link) (delta : ℕ) (gs : List Group) → LinkFits c l delta gs → length (checkpoint_bytes c l delta gs) ≡ (l.frame.type_at - l.frame.at) + length (checkpoint_tail c l delta gs)
 checkpoint_length c l delta gs f =
     let w = l.frame.type_at - l.frame.at in
@@ -183,7 +183,7 @@ checkpoint_length c l delta gs f =
     let b : length (spell_in w n) ≡ w = spelled_length c l.frame n f.framed f.room in
     omega arith
 
--- what is made of the first pool, and of the others
+-- What is made of the first pool, and of the others.
 pub pools_parts : (es others : List EntryAt) (e : EntryAt) (n : ℕ) → slice_get es 0 ≡ Some e → n ≡ leading e es → others ≡ drop n es → flat_map pool_parts (by_pool es) ≡ (PoolClass ∷ EntryCount ∷ []) ++ flat_map pool_parts (by_pool others)
 pools_parts [] others e n g l o = cc
 pools_parts (x ∷ es) others e n g l o =

@@ -17,7 +17,7 @@ use Rattle.jfr_scrub.specs.Left.{HasRange}
 use Rattle.jfr_scrub.specs.Pieces.{EntryIsCopied, Grows, IsCopied, Keeps, made_parts}
 use Rattle.jfr_scrub.proofs.BodyLaws.{range_filter}
 
--- a piece among others, and the last one
+-- A piece among others, and the last one.
 get_left : (ps qs : List Part) (n : ℕ) (x : Part) → slice_get ps n ≡ Some x → slice_get (ps ++ qs) n ≡ Some x
 get_left [] qs n x e = cc
 get_left (p ∷ ps) qs zero x e = e
@@ -33,7 +33,7 @@ get_cases [] y (suc n) x e = cc
 get_cases (p ∷ ps) y zero x e = inl e
 get_cases (p ∷ ps) y (suc n) x e = get_cases ps y n x e
 
--- a range of a range that is copied
+-- A range of a range that is copied.
 pub narrower : (ps : List Part) (p q start end : ℕ) → IsCopied ps p q → p ≤ start → end ≤ q → IsCopied ps start end
 narrower ps p q start end c h i =
     let a : c.from ≤ p = c.begins in
@@ -58,7 +58,7 @@ copied_cases ps from to start end c = by_get (get_cases ps (parts.Copied from to
         let b : end ≤ c.to = c.ends in
         inr (omega arith, omega arith)
 
--- what is copied still is
+-- What is copied still is.
 pub keeps_same : (ps qs : List Part) → qs ≡ ps → Keeps ps qs
 keeps_same ps qs e = λ start end l c. subst (λ z. IsCopied z start end) (sym e) c
 
@@ -71,7 +71,7 @@ keeps_left ps qs rs e = λ start end l c. subst (λ z. IsCopied z start end) (sy
 pub keeps_behind : (x : Part) (ps rs : List Part) → rs ≡ x ∷ ps → Keeps ps rs
 keeps_behind x ps rs e = λ start end l c. subst (λ z. IsCopied z start end) (sym e) (record { number = suc c.number; from = c.from; to = c.to; piece = c.piece; begins = c.begins; ends = c.ends })
 
--- where the last range goes on
+-- Where the last range goes on.
 pub keeps_longer : (ps : List Part) (from to end : ℕ) → to ≤ end → Keeps (ps ++ parts.Copied from to ∷ []) (ps ++ parts.Copied from end ∷ [])
 keeps_longer ps from to end h = λ s e l c. by_case s e (copied_cases ps from to s e c)
   where
@@ -79,7 +79,7 @@ keeps_longer ps from to end h = λ s e l c. by_case s e (copied_cases ps from to
     by_case s e (inl d) = copied_left ps (parts.Copied from end ∷ []) s e d
     by_case s e (inr d) = let i : e ≤ to = d.1 in narrower (ps ++ parts.Copied from end ∷ []) from end s e (copied_last ps from end) d.0 (omega arith)
 
--- where the last range is a piece now, if it has a byte
+-- Where the last range is a piece now, if it has a byte.
 pub keeps_settled : (ps qs : List Part) (from to : ℕ) → Keeps ps qs → (from < to → IsCopied qs from to) → Keeps (ps ++ parts.Copied from to ∷ []) qs
 keeps_settled ps qs from to k h = λ s e l c. by_case s e l (copied_cases ps from to s e c)
   where
@@ -87,7 +87,7 @@ keeps_settled ps qs from to k h = λ s e l c. by_case s e l (copied_cases ps fro
     by_case s e l (inl d) = k s e l d
     by_case s e l (inr d) = let i : from ≤ s = d.0 in let j : e ≤ to = d.1 in narrower qs from to s e (h (omega arith)) d.0 d.1
 
--- what is made of pieces one behind another
+-- What is made of pieces one behind another.
 pub made_append : (ps qs : List Part) → made_parts (ps ++ qs) ≡ made_parts ps ++ made_parts qs
 made_append [] qs = refl
 made_append (parts.Copied from to ∷ ps) qs = made_append ps qs
@@ -102,7 +102,7 @@ grows_left ps qs rs e = record { keeps = keeps_left ps qs rs e; made = ap made_p
 pub grows_then : (ps qs rs : List Part) (a b : List MadePart) → Grows ps qs a → Grows qs rs b → Grows ps rs (a ++ b)
 grows_then ps qs rs a b g h = record { keeps = keeps_then ps qs rs g.keeps h.keeps; made = h.made ∙ (ap (λ z. z ++ b) g.made ∙ append_assoc (made_parts ps) a b) }
 
--- where the last range goes on, and where it is a piece now
+-- Where the last range goes on, and where it is a piece now.
 last_made : (ps : List Part) (from to : ℕ) → made_parts (ps ++ parts.Copied from to ∷ []) ≡ made_parts ps
 last_made ps from to = made_append ps (parts.Copied from to ∷ []) ∙ append-nil (made_parts ps)
 
@@ -112,7 +112,7 @@ grows_longer ps from to end h = record { keeps = keeps_longer ps from to end h; 
 pub grows_settled : (ps qs : List Part) (from to : ℕ) → Grows ps qs [] → (from < to → IsCopied qs from to) → Grows (ps ++ parts.Copied from to ∷ []) qs []
 grows_settled ps qs from to g h = record { keeps = keeps_settled ps qs from to g.keeps h; made = g.made ∙ ap (λ z. z ++ []) (sym (last_made ps from to)) }
 
--- what is made so far, and what is left of all that is made
+-- What is made so far, and what is left of all that is made.
 pub record MakingParts (ps now : List Part) (rest all : List MadePart) : Type 0 where
   pub done : List MadePart
   pub grows : Grows ps now done
@@ -128,7 +128,7 @@ making_next ps now next here before rest all e m g =
 pub making_all : (ps now : List Part) (rest all : List MadePart) → MakingParts ps now rest all → rest ≡ [] → Grows ps now all
 making_all ps now rest all m e = subst (Grows ps now) (sym (append-nil m.done) ∙ (ap (λ z. m.done ++ z) (sym e) ∙ m.left)) m.grows
 
--- nothing is made of a run
+-- Nothing is made of a run.
 pub run_parts : (left : List EntryAt) (rs : List Framed) (before rest : List OutputRecord) → before ≡ map (λ r. Whole r) rs ++ rest → flat_map (output_record_parts left) before ≡ flat_map (output_record_parts left) rest
 run_parts left rs before rest e = ap (flat_map (output_record_parts left)) e ∙ none rs
   where
@@ -136,7 +136,7 @@ run_parts left rs before rest e = ap (flat_map (output_record_parts left)) e ∙
     none [] = refl
     none (r ∷ rs) = none rs
 
--- what is made so far and what is left are all, behind a run and one that stays
+-- What is made so far and what is left are all, behind a run and one that stays.
 pub parts_next : (left : List EntryAt) (now mid next : List Part) (rs : List Framed) (before rest ss : List OutputRecord) (s : OutputRecord) (all : List MadePart) → before ≡ map (λ r. Whole r) rs ++ rest → rest ≡ s ∷ ss → Grows now mid [] → Grows mid next (output_record_parts left s) →
     made_parts now ++ flat_map (output_record_parts left) before ≡ all → made_parts next ++ flat_map (output_record_parts left) ss ≡ all
 parts_next left now mid next rs before rest ss s all e q g h m =
@@ -149,11 +149,11 @@ parts_all left now mid rs before rest all e q g m =
     let f = flat_map (output_record_parts left) in
     g.made ∙ (ap (λ z. made_parts now ++ z) (sym (run_parts left rs before rest e ∙ ap f q)) ∙ m)
 
--- with the last range as a piece
+-- With the last range as a piece.
 pub settled_parts : (ps qs os : List Part) (from to : ℕ) → Grows ps qs [] → ps ++ parts.Copied from to ∷ [] ≡ os → made_parts qs ≡ made_parts os
 settled_parts ps qs os from to g e = g.made ∙ (append-nil (made_parts ps) ∙ (sym (last_made ps from to) ∙ ap made_parts e))
 
--- entries that are copied still are
+-- Entries that are copied still are.
 pub entries_kept : (ps qs : List Part) → Keeps ps qs → (n : ℕ) (es : List EntryAt) → AllByRecursion (HasRange n) es → AllByRecursion (EntryIsCopied ps) es → AllByRecursion (EntryIsCopied qs) es
 entries_kept ps qs k n [] a c = tt
 entries_kept ps qs k n (e ∷ es) a c = (k e.key_at e.end a.0.order c.0, entries_kept ps qs k n es a.1 c.1)
@@ -163,7 +163,7 @@ output_record_kept ps qs k b left a (Whole r) at older f c = k r.at (record_end 
 output_record_kept ps qs k b left a (Chained number l) at older f c =
     entries_kept ps qs k (length b) (filter (λ e. e.checkpoint == number) left) (range_filter (length b) (λ e. e.checkpoint == number) left a) c
 
--- all are copied, where those that come still are in what keeps what is copied now
+-- All are copied, where those that come still are in what keeps what is copied now.
 abbrev pub SoFar : {X : Type 0} → (List Part → X → Type 0) → List Part → List X → List X → Type 0
 SoFar P now rest all = (ps : List Part) → Keeps now ps → AllByRecursion (P ps) rest → AllByRecursion (P ps) all
 
@@ -180,24 +180,24 @@ pub none_left : {X : Type 0} (rest : List X) → length rest ≤ 0 → rest ≡ 
 none_left [] h = refl
 none_left (x ∷ rest) h = absurd (omega arith)
 
--- entries behind the first of them
+-- Entries behind the first of them.
 pub so_far_entries : (n i : ℕ) (now next : List Part) (rest all pool : List EntryAt) → SoFar EntryIsCopied now rest all → Keeps now next → pool ≡ take i rest → AllByRecursion (HasRange n) pool → AllByRecursion (EntryIsCopied next) pool → SoFar EntryIsCopied next (drop i rest) all
 so_far_entries n i now next rest all pool s k e r c = λ ps m d.
     s ps (keeps_then now next ps k m) (subst (AllByRecursion (EntryIsCopied ps)) (ap (λ z. z ++ drop i rest) e ∙ take-append-drop i rest) (all_append (EntryIsCopied ps) pool (drop i rest) (entries_kept next ps m n pool r c) d))
 
--- entries behind one
+-- Entries behind one.
 pub so_far_entry : (n i : ℕ) (now next : List Part) (es all : List EntryAt) (d : EntryAt) → i < length es → SoFar EntryIsCopied now (drop i es) all → Keeps now next → HasRange n (get_or es i d) → EntryIsCopied next (get_or es i d) → SoFar EntryIsCopied next (drop (i + 1) es) all
 so_far_entry n i now next es all d h s k r c =
     let e = get_or es i d in
     let g : drop i es ≡ e ∷ drop (i + 1) es = drop-cons es i d h ∙ ap (λ m. e ∷ drop m es) (sym (add-one i)) in
     λ ps m b. s ps (keeps_then now next ps k m) (subst (AllByRecursion (EntryIsCopied ps)) (sym g) (m e.key_at e.end r.order c, b))
 
--- what stays behind one
+-- What stays behind one.
 pub so_far_output_record : (b : List ℕ) (left : List EntryAt) (now next : List Part) (s : OutputRecord) (rest all : List OutputRecord) (at : ℕ) (older : Option ℕ) → AllByRecursion (HasRange (length b)) left → OutputRecordFits b left s at older → SoFar (OutputRecordIsCopied left) now (s ∷ rest) all → Keeps now next → OutputRecordIsCopied left next s →
     SoFar (OutputRecordIsCopied left) next rest all
 so_far_output_record b left now next s rest all at older a f so k c = λ ps m d. so ps (keeps_then now next ps k m) (output_record_kept next ps m b left a s at older f c, d)
 
--- records of a range that is copied
+-- Records of a range that is copied.
 records_copied : (b : List ℕ) (left : List EntryAt) (now next : List Part) → Keeps now next → (p from to : ℕ) (rs : List Framed) → IsCopied now p to → p ≤ from → Tiles b from rs to → AllByRecursion (OutputRecordIsCopied left next) (map (λ r. Whole r) rs)
 records_copied b left now next k p from to [] c h t = tt
 records_copied b left now next k p from to (r ∷ rs) c h t =
@@ -205,7 +205,7 @@ records_copied b left now next k p from to (r ∷ rs) c h t =
     let e : r.at ≡ from = t.0 in
     (k r.at (record_end r) l (narrower now p to r.at (record_end r) c (omega arith) (tiles_order b (record_end r) to rs t.2)), records_copied b left now next k p (record_end r) to rs c (omega arith) t.2)
 
--- what stays behind a run
+-- What stays behind a run.
 pub so_far_run : (b : List ℕ) (left : List EntryAt) (now next : List Part) (before rest all : List OutputRecord) (rs : List Framed) (from to : ℕ) → before ≡ map (λ r. Whole r) rs ++ rest → Tiles b from rs to → SoFar (OutputRecordIsCopied left) now before all → Keeps now next → IsCopied next from to →
     SoFar (OutputRecordIsCopied left) next rest all
 so_far_run b left now next before rest all rs from to e t so k c = λ ps m d.

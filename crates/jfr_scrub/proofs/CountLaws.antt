@@ -5,7 +5,7 @@ use Rattle.std.proofs.Common.{arith, refl, ◌∙◌}
 use Rattle.std.proofs.lemmas.List.Sums.{sum_by-cons}
 use Rattle.jfr_chunk.specs.Reach.{marked}
 
--- as many are marked as there are marks
+-- As many are marked as there are marks.
 pub marked_count : {X : Type 0} (flags : List Bool) (xs : List X) → length flags ≡ length xs → count_by (λ keep. keep) flags ≡ length (marked flags xs)
 marked_count [] xs e = refl
 marked_count (f ∷ flags) [] e = absurd (omega (arith, e))

@@ -24,7 +24,7 @@ use Rattle.jfr_scrub.specs.declared.output_records.KeptRecord.{KeptRecord}
 use Rattle.jfr_scrub.specs.OutputRecords.{output_record_as, events_from, event_there, link_there, IsCursor, still_output_records, is_kept_at, event_behind, linked_at, link_behind}
 use Rattle.jfr_scrub.proofs.OutputRecordLaws.{Rises, rises_given, rises_marked, Stands, at_head, past_head, elsewhere, found_place, any_found, Occurs, AllOccur, in_order}
 
--- where an event, or a numbered checkpoint, starts
+-- Where an event, or a numbered checkpoint, starts.
 abbrev pub event_place : EventAt → ℕ
 event_place e = e.record_of.at
 
@@ -65,7 +65,7 @@ rising_at p rs n r a e = (omega arith, subst (λ m. Rising (r.at + 1) (drop m rs
     behind p (x ∷ rs) zero a e = let h : x ≡ r = cc in subst (λ z. Rising (z.at + 1) rs) h a.1
     behind p (x ∷ rs) (suc n) a e = behind (x.at + 1) rs n a.1 e
 
--- the event of a record, if it is one
+-- The event of a record, if it is one.
 abbrev pub event_in : Parts → Framed → Option EventAt
 event_in p r = cond (is_event_class p.classes r.type_id) (event_of p.bytes p.classes r) None
 
@@ -94,7 +94,7 @@ kept_stands es r e h = found_place event_place es r.at e h
 pub link_stands : (p : Parts) → Stands link_place (link_there p)
 link_stands p r l h = found_place link_place (enumerate_from 0 (reverse p.chain)) r.at l h
 
--- the events behind a record
+-- The events behind a record.
 pub record Passed (f g : Framed → Option EventAt) (es : List EventAt) (fs : List Bool) (r : Framed) (rs : List Framed) (m : ℕ) (keep : Bool) : Type 0 where
   pub events : drop m es ≡ filter_map f rs
   pub kept : marked (drop m fs) (drop m es) ≡ filter_map g rs
@@ -138,7 +138,7 @@ event_passed f g s t es fs n r rs a e k = by_head (slice_get es n) refl
     by_head None q = none_here (subst (Rises event_place (r.at + 1)) (sym (drop_none es n q)) tt)
     by_head (Some x) q = by_test x (drop_at es n x q) (event_place x == r.at) refl
 
--- the checkpoints behind a record
+-- The checkpoints behind a record.
 pub record LinkPassed (f : Framed → Option (ℕ × Link)) (ls : List Link) (r : Framed) (rs : List Framed) (m : ℕ) (there : Option (ℕ × Link)) : Type 0 where
   pub links : enumerate_from m (drop m ls) ≡ filter_map f rs
   pub here : there ≡ f r
@@ -161,7 +161,7 @@ link_passed f s ls n r rs a e = by_head (slice_get ls n) refl
     by_head None q = none_here (subst (λ z. Rises link_place (r.at + 1) (enumerate_from n z)) (sym (drop_none ls n q)) tt)
     by_head (Some l) q = by_test l (drop_at ls n l q) (l.frame.at == r.at) refl
 
--- a cursor behind a record
+-- A cursor behind a record.
 pub cursor_passed : (p : Parts) (flags : List Bool) (c : Cursor) (r : Framed) → IsCursor p flags c → slice_get p.records c.frame ≡ Some r →
     IsCursor p flags (record { frame = c.frame + 1; event = event_behind (events_of p) c.event r.at; link = link_behind (reverse p.chain) c.link r.at })
     × (is_kept_at (events_of p) flags c.event r.at ≡ list_any (λ e. e.record_of.at == r.at) (kept_by p flags))
@@ -177,7 +177,7 @@ cursor_passed p flags c r i e =
       v.here,
     )
 
--- a cursor behind the record that starts at a place
+-- A cursor behind the record that starts at a place.
 abbrev Behind : Parts → List Bool → Cursor → Framed → ℕ → Type 0
 Behind p flags c r at =
     IsCursor p flags (record { frame = c.frame + 1; event = event_behind (events_of p) c.event at; link = link_behind (reverse p.chain) c.link at })
@@ -197,7 +197,7 @@ place_passed p flags c at i h = by_record (slice_get p.records c.frame) refl h
     by_record None e h = cc
     by_record (Some r) e h = let q : r.at ≡ at = cc in record { frame = r; there = e; place = q; behind = subst (Behind p flags c r) q (cursor_passed p flags c r i e) }
 
--- what stays from a record on
+-- What stays from a record on.
 pub output_records_at : (p : Parts) (flags : List Bool) (c : Cursor) (r : Framed) → slice_get p.records c.frame ≡ Some r →
     still_output_records p flags c ≡ cons_option (output_record_of p (kept_by p flags) r) (filter_map (output_record_of p (kept_by p flags)) (drop (c.frame + 1) p.records))
 output_records_at p flags c r e = ap (filter_map (output_record_of p (kept_by p flags))) (drop_at p.records c.frame r e)
@@ -233,7 +233,7 @@ rises_first p (r ∷ rs) f s = by_value (f r) refl (occur_more r (filter_map f r
     by_value None e h = h
     by_value (Some x) e h = (inl (sym (s r x e)), h)
 
--- the checkpoints that stay are those that stand at the records
+-- The checkpoints that stay are those that stand at the records.
 chained_given : (all : List Numbered) (whole : Framed → Bool) (rs : List Framed) → chained_of (output_records_in all whole rs) ≡ filter_map (λ r. numbered_at all r.at) rs
 chained_given all whole [] = refl
 chained_given all whole (r ∷ rs) = by_value (numbered_at all r.at) (whole r) (chained_given all whole rs)
@@ -243,7 +243,7 @@ chained_given all whole (r ∷ rs) = by_value (numbered_at all r.at) (whole r) (
     by_value None true e = e
     by_value None false e = e
 
--- a cursor before the first record
+-- A cursor before the first record.
 pub cursor_first : (p : Parts) (flags : List Bool) → AreParts p → IsCursor p flags (record { frame = 0; event = 0; link = 0 })
 unfolding events_of
 cursor_first p flags a =

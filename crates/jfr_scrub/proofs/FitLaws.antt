@@ -32,13 +32,13 @@ use Rattle.jfr_scrub.proofs.BodyLaws.{WrittenFits}
 use Rattle.jfr_scrub.proofs.Widths.{size_width}
 
 module _ (c : List ℕ) (left : List EntryAt) (k : Classes) where
-  -- its delta takes no more bytes than before
+  -- Its delta takes no more bytes than before.
   delta_room : (l : Link) → LinkStands c l → (at : ℕ) (older : Option ℕ) → (is_some older ≡ true → l.delta_end ≡ l.delta_at + 9) → l.delta_at + length (spell (distance at older)) ≤ l.delta_end
   unfolding spell
   delta_room l s at None d = let i : l.delta_at < l.delta_end = int_some c l.delta_at l.delta_end s.word s.delta_spelled in omega arith
   delta_room l s at (Some o) d = let e : l.delta_end ≡ l.delta_at + 9 = d refl in let i = spell_most (distance at (Some o)) in omega arith
 
-  -- a checkpoint that can be written fits
+  -- A checkpoint that can be written fits.
   link_fits : (i : ℕ) (l : Link) (at : ℕ) (older : Option ℕ) → OutputRecordStands c left k (Chained i l) → (is_some older ≡ true → l.delta_end ≡ l.delta_at + 9) → LinkFits c l (distance at older) (groups_of left i)
   link_fits i l at older s d =
       let b : l.frame.body ≤ s.0.middle = s.0.start_spelled.order in
@@ -51,7 +51,7 @@ module _ (c : List ℕ) (left : List EntryAt) (k : Classes) where
   all_written (Whole r ∷ ss) at older a d = (a.0, all_written ss (at + length (bytes_of c left (Whole r) at older)) older a.1 d)
   all_written (Chained i l ∷ ss) at older a d = (link_fits i l at older a.0 d.0, all_written ss (at + length (bytes_of c left (Chained i l) at older)) (Some at) a.1 d.1)
 
--- what is written has a byte
+-- What is written has a byte.
 pub some_written : (c : List ℕ) (left : List EntryAt) (s : OutputRecord) (at : ℕ) (older : Option ℕ) → OutputRecordFits c left s at older → 1 ≤ length (bytes_of c left s at older)
 some_written c left (Whole r) at older f =
     let i = some_bytes c r f in
@@ -80,7 +80,7 @@ module _ (p : Parts) (a : AreParts p) (kept : List EventAt) where
       let j = sizes_within p.bytes (all_links p) (output_records_whole p kept) (records_of (all_links p) (chained_checkpoints p a)) p.records 68 (length p.bytes) a.records in
       omega arith
 
--- entries in the order of their checkpoints, each in its range
+-- Entries in the order of their checkpoints, each in its range.
 abbrev Ordered : ℕ → ℕ → List EntryAt → Type 0
 Ordered n m es = NotFalling m es × AllByRecursion (HasRange n) es
 
@@ -94,7 +94,7 @@ falling_marked n (m ∷ ms) [] b = tt
 falling_marked n (true ∷ ms) (e ∷ es) b = (b.0, falling_marked e.checkpoint ms es b.1)
 falling_marked n (false ∷ ms) (e ∷ es) b = falling_less n e.checkpoint (marked ms es) b.0 (falling_marked e.checkpoint ms es b.1)
 
--- entries of one checkpoint, and then later ones
+-- Entries of one checkpoint, and then later ones.
 falling_append : (n : ℕ) (xs ys : List EntryAt) → AllByRecursion (λ e. e.checkpoint ≡ n) xs → NotFalling n ys → NotFalling n (xs ++ ys)
 falling_append n [] ys b d = d
 falling_append n (x ∷ xs) ys b d =
@@ -147,7 +147,7 @@ module _ (p : Parts) (a : AreParts p) (kept : List EventAt) where
   unfolding remain
   left_ranges = all_marked (HasRange (length p.bytes)) (reached_marks p kept) p.entries (entries_range p.bytes p.classes 0 (reverse p.chain) p.entries (ends_of 0 (reverse p.chain) (chained_checkpoints p a)) a.entries)
 
--- as many marks as entries
+-- As many marks as entries.
 marked_length : (ms : List Bool) (is : List ℕ) → length (marked_at ms is) ≡ length ms
 marked_length ms [] = refl
 marked_length ms (i ∷ is) = marked_length (slice_set ms i true) is ∙ length-set ms i true
@@ -160,7 +160,7 @@ pub marks_length : (p : Parts) (kept : List EventAt) → length (reached_marks p
 unfolding reached_marks
 marks_length p kept = swept_length (length p.entries) (next_entries p) (marked_at (replicate (length p.entries) false) (roots p kept)) ∙ (marked_length (replicate (length p.entries) false) (roots p kept) ∙ length-replicate (length p.entries) false)
 
--- the entries that are marked remain
+-- The entries that are marked remain.
 pub left_is : (p : Parts) (kept : List EventAt) (ms : List Bool) (es left : List EntryAt) → ms ≡ reached_marks p kept → es ≡ p.entries → left ≡ marked ms es → left ≡ remain p kept
 unfolding remain
 left_is p kept ms es left m e l = l ∙ (λ i. marked (m i) (e i))

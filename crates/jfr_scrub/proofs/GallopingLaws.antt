@@ -27,7 +27,7 @@ rises_get place p [] k x a g = cc
 rises_get place p (y ∷ xs) zero x a g = let h : y ≡ x = cc in subst (λ z. p ≤ place z) h a.0
 rises_get place p (y ∷ xs) (suc k) x a g = let i : place y + 1 ≤ place x = rises_get place (place y + 1) xs k x a.1 g in let j : p ≤ place y = a.0 in omega arith
 
--- what a function gives stands behind the records of lower numbers
+-- What a function gives stands behind the records of lower numbers.
 given_later : {X : Type 0} (place : X → ℕ) (f : Framed → Option X) → Stands place f → (p : ℕ) (rs : List Framed) (i k : ℕ) (r : Framed) (x : X) → Rising p rs → i < k → slice_get (filter_map f rs) k ≡ Some x → slice_get rs i ≡ Some r → r.at < place x
 given_later place f s p [] i k r x a l g h = cc
 given_later place f s p (q ∷ rs) i zero r x a l g h = absurd (omega (arith, l))
@@ -48,7 +48,7 @@ given_later {X = X} place f s p (q ∷ rs) (suc i) (suc k) r x a l g h = by_valu
     by_value None g u v = u g
     by_value (Some y) g u v = v g
 
--- where one of them stands at the record of its number, the first record has one
+-- Where one of them stands at the record of its number, the first record has one.
 given_first : {X : Type 0} (place : X → ℕ) (f : Framed → Option X) → Stands place f → (p : ℕ) (q : Framed) (rs : List Framed) (k : ℕ) (r : Framed) (x : X) → Rising p (q ∷ rs) → slice_get (filter_map f (q ∷ rs)) k ≡ Some x → slice_get (q ∷ rs) k ≡ Some r → place x ≡ r.at → (y : X) × (f q ≡ Some y)
 given_first {X = X} place f s p q rs k r x a g h e = by_value (f q) refl g
   where
@@ -63,7 +63,7 @@ given_first {X = X} place f s p q rs k r x a g h e = by_value (f q) refl g
     by_value None t g = absurd (none_first k g h)
     by_value (Some y) t g = (y, t)
 
--- the record of a number and what the function gives by that number belong together
+-- The record of a number and what the function gives by that number belong together.
 record Given {X : Type 0} (f : Framed → Option X) (rs : List Framed) (i : ℕ) : Type 0 where
   framed : Framed
   value : X
@@ -71,7 +71,7 @@ record Given {X : Type 0} (f : Framed → Option X) (rs : List Framed) (i : ℕ)
   value_there : slice_get (filter_map f rs) i ≡ Some value
   given : f framed ≡ Some value
 
--- and all records up to that one have theirs
+-- And all records up to that one have theirs.
 given_each : {X : Type 0} (place : X → ℕ) (f : Framed → Option X) → Stands place f → (p : ℕ) (rs : List Framed) (k : ℕ) (r : Framed) (x : X) → Rising p rs → slice_get (filter_map f rs) k ≡ Some x → slice_get rs k ≡ Some r → place x ≡ r.at → (i : ℕ) → i ≤ k → Given f rs i
 given_each place f s p [] k r x a g h e i l = cc
 given_each place f s p (q ∷ rs) k r x a g h e zero l =
@@ -98,7 +98,7 @@ rising_behind p (r ∷ rs) (suc n) a = less p (r.at + 1) (drop n rs) (omega (ari
     less p q [] h a = tt
     less p q (s ∷ ss) h a = (let i : q ≤ s.at = a.0 in omega arith, a.1)
 
--- the event of a record has that record
+-- The event of a record has that record.
 pub event_recorded : (p : Parts) (r : Framed) (e : EventAt) → event_in p r ≡ Some e → (e.record_of ≡ r) × (is_event_class p.classes r.type_id ≡ true)
 event_recorded p r e h = by_test (is_event_class p.classes r.type_id) h
   where
@@ -114,7 +114,7 @@ event_recorded p r e h = by_test (is_event_class p.classes r.type_id) h
     by_test true q = (by_answer (run (value_format p.classes (inline r.type_id)) p.bytes (record_end r) r.body) q, refl)
     by_test false q = cc
 
--- where a record is the event of the same number from the cursor on, so are those before it
+-- Where a record is the event of the same number from the cursor on, so are those before it.
 pub events_before : (p : Parts) (c : Cursor) → IsAtEvents p c → (k : ℕ) → HasEventAt p c k → (i : ℕ) → i ≤ k → HasEventAt p c i
 events_before p c a k h i l =
     let e : drop c.event (events_of p) ≡ filter_map (event_in p) (drop c.frame p.records) = a.events ∙ events_given p (drop c.frame p.records) in
@@ -135,7 +135,7 @@ behind_first p s rs j r a e f = let i : s.at + 1 ≤ r.at = rises_get (λ (z : F
     each n [] b = tt
     each n (t ∷ ss) b = (b.0, each (t.at + 1) ss b.1)
 
--- one number leads to a record
+-- One number leads to a record.
 rising_one : (p : ℕ) (rs : List Framed) (i j : ℕ) (r : Framed) → Rising p rs → slice_get rs i ≡ Some r → slice_get rs j ≡ Some r → i ≡ j
 rising_one p [] i j r a e f = cc
 rising_one p (s ∷ rs) zero zero r a e f = refl
@@ -143,7 +143,7 @@ rising_one p (s ∷ rs) zero (suc j) r a e f = let h : s ≡ r = cc in absurd (b
 rising_one p (s ∷ rs) (suc i) zero r a e f = let h : s ≡ r = cc in absurd (behind_first p s rs i r a h e)
 rising_one p (s ∷ rs) (suc i) (suc j) r a e f = ap suc (rising_one (s.at + 1) rs i j r a.1 e f)
 
--- what is computed at an offset
+-- What is computed at an offset.
 pub tells_event : (p : Parts) (c : Cursor) (offset number : ℕ) → AreParts p → option_map (slice_get p.records) (Some number) ≡ option_map (λ (e : EventAt). Some e.record_of) (slice_get (events_of p) (c.event + offset)) → IsTrue (number == c.frame + offset) ↔ HasEventAt p c offset
 tells_event p c offset number a e = (by_true, by_event)
   where
@@ -168,7 +168,7 @@ tells_event p c offset number a e = (by_true, by_event)
 pub tells_none : (p : Parts) (c : Cursor) (offset : ℕ) → None ≡ option_map (λ (e : EventAt). Some e.record_of) (slice_get (events_of p) (c.event + offset)) → IsTrue false ↔ HasEventAt p c offset
 tells_none p c offset e = ((λ t. cc), (λ h. (let g : None ≡ Some (Some h.event.record_of) = e ∙ ap (option_map (λ (e : EventAt). Some e.record_of)) h.there in cc)))
 
--- there are no more records than bytes, and no more events than records
+-- There are no more records than bytes, and no more events than records.
 few_records : (c : List ℕ) (p q : ℕ) (rs : List Framed) → Tiles c p rs q → p + length rs ≤ q
 few_records c p q [] t = let e : p ≡ q = t in omega arith
 few_records c p q (r ∷ rs) t = let e : r.at ≡ p = t.0 in let b = some_bytes c r t.1 in let i = few_records c (record_end r) q rs t.2 in omega arith
@@ -195,7 +195,7 @@ counts_small p a =
 pub ahead_within : (p : Parts) (c : Cursor) (k : ℕ) → HasEventAt p c k → (c.frame + k < length p.records) × (c.event + k < length (events_of p))
 ahead_within p c k h = (slice_get_within p.records (c.frame + k) h.event.record_of h.framed, slice_get_within (events_of p) (c.event + k) h.event h.there)
 
--- so the numbers up to twice as far have room
+-- So the numbers up to twice as far have room.
 pub room_doubled : (p : Parts) (c : Cursor) → IsAccepted p → (k : ℕ) → HasEventAt p c k → HasRoom c (2 * k + 1)
 room_doubled p c a k h =
     let s = counts_small p a in
@@ -209,7 +209,7 @@ room_behind p c a r (suc n) h =
     let w = ahead_within p c n (h n (omega arith)) in
     record { event = omega (arith, s.1, w.1); frame = omega (arith, s.0, w.0) }
 
--- the cursor's record is its event and is kept
+-- The cursor's record is its event and is kept.
 pub record InRun (p : Parts) (flags : List Bool) (c : Cursor) : Type 0 where
   pub frame : Framed
   pub event : EventAt

@@ -32,7 +32,7 @@ use Rattle.jfr_scrub.specs.Scrubs.{scrubbed, scrubbed_by, scrubbing}
 use Rattle.jfr_scrub.proofs.AgainLaws.{is_scrubbed, recording_chunks}
 use Rattle.jfr_scrub.proofs.MadeFile.{made}
 
--- each chunk before the first refused one is scrubbed
+-- Each chunk before the first refused one is scrubbed.
 are_scrubbed : (g : Given) (cs : List (List ℕ)) → AllByRecursion Whole cs → AreScrubbed g (before_refused refusal_of cs) (map (scrubbed g) (before_refused refusal_of cs))
 are_scrubbed g [] w = tt
 are_scrubbed g (c ∷ cs) w = by_flaw (refusal_of c) refl (are_scrubbed g cs w.1)
@@ -42,7 +42,7 @@ are_scrubbed g (c ∷ cs) w = by_flaw (refusal_of c) refl (are_scrubbed g cs w.1
     by_flaw None e later = (is_scrubbed g c w.0 e, later)
     by_flaw (Some flaw) e later = tt
 
--- what a recording becomes is its scrub
+-- What a recording becomes is its scrub.
 pub is_scrub_of : (g : Given) (x : List ℕ) → IsScrubOf g x (recording_scrubbed g x)
 is_scrub_of g x =
     let cs : List (List ℕ) = (cut x 0 true).chunks in
@@ -58,7 +58,7 @@ scrubs_world g input output e w v p q d =
     let h = made refusal_of (scrubbed g) input output w v p q e d in
     record { recording = h.recording; read = h.read; written = recording_scrubbed g h.recording; stands = h.stands; scrub = is_scrub_of g h.recording }
 
--- where all effects of the plan are done, the output holds the scrub of the input
+-- Where all effects of the plan are done, the output holds the scrub of the input.
 scrubs : (g : Given) (input output : List ℕ) (e : End) (a b : State) → Ended (scrubbing g output) input e (alone a) (alone b) → Told a.told b.told (Scrubs g input output)
 scrubs g input output e a b d = by_told a.told b.told d
   where
@@ -67,7 +67,7 @@ scrubs g input output e a b d = by_told a.told b.told d
     by_told (Some w) None d = d
     by_told (Some w) (Some v) d = scrubs_world g input output e w v None None d
 
--- an answer that the plan ends with
+-- An answer that the plan ends with.
 pub headline : (g : Given) (input output : List ℕ) (e : Ending) (a b : State) → (e ≡ ending.Done → Ended (scrubbing g output) input Fine (alone a) (alone b))
     → ((r : Refusal) → e ≡ ending.Refused r → Ended (scrubbing g output) input (Refused r) (alone a) (alone b)) → IsByPlan e → Told a.told b.told (Scrubs g input output)
 headline g input output ending.Done a b d r h = scrubs g input output Fine a b (d refl)
@@ -77,18 +77,18 @@ headline g input output ending.WriteFault a b d r h = absurd h
 headline g input output ending.TooManyParts a b d r h = absurd h
 headline g input output ending.Memory a b d r h = absurd h
 
--- what the reader of a chunk tells is what refuses the chunk
+-- What the reader of a chunk tells is what refuses the chunk.
 pub refused_by : (c : List ℕ) (fault : ReadFault) → TellsFlaw (read_parts c) fault → IsFlawOf (refusal_of c) fault
 unfolding refusal_of
 refused_by c (Flawed flaw) e = ap flaw_in e
 refused_by c Memory e = tt
 
--- and what it reads is scrubbed
+-- And what it reads is scrubbed.
 pub made_of : (g : Given) (c b : List ℕ) (p : Parts) → read_parts c ≡ Ok p → b ≡ scrub_of p (kept_of g p) → (refusal_of c ≡ None) × (b ≡ scrubbed g c)
 unfolding refusal_of scrubbed
 made_of g c b p e h = (ap flaw_in e, h ∙ sym (ap (scrubbed_by g) e))
 
--- what an accepted chunk becomes is settled
+-- What an accepted chunk becomes is settled.
 pub is_settled : {T E : Type 0} (g : Given) (p : Parts) (r : Result T E) → IfOk r (λ s. IsAccepted p) → IfOk r (λ s. IsSettled g p)
 is_settled g p (Ok s) h = settled g p h.whole h.parts
 is_settled g p (Err fault) h = h

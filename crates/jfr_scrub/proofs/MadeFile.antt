@@ -15,11 +15,12 @@ use Rattle.jfr_plan.specs.Outcomes.{AllDone}
 use Rattle.jfr_plan.proofs.Walking.{done_append}
 use Rattle.jfr_scrub.specs.Headline.{before_refused, unless_refused}
 
--- the results for chunks are appended, one after another
+-- The results for chunks are appended, one after another.
 abbrev pub appends : (List ℕ → List ℕ) → List (List ℕ) → List Effect
 appends m cs = map (λ c. Append (m c)) cs
 
--- the effects of a walk: an output chunk for each chunk before the first refused one, and then the end or nothing
+-- The effects of a walk: an output chunk for each chunk before the first refused one, and then the end or
+-- nothing.
 pub record Walked (k : List ℕ → Option Flaw) (m : List ℕ → List ℕ) (steps : List Step) (cs : List (List ℕ)) : Type 0 where
   pub last : List Effect
   pub is_last : (last ≡ []) ⊎ (last ≡ Finish ∷ [])
@@ -37,7 +38,7 @@ walked k m output before (c ∷ cs) flaw =
     let h = walked_on k m (k c) c cs (length before + 1) (walk (making output k m) (before ++ c ∷ []) cs flaw) (walked k m output (before ++ c ∷ []) cs flaw) in
     record { last = h.0; is_last = h.1; effects_are = h.2 }
 
--- what is appended to the open output stands in its file
+-- What is appended to the open output stands in its file.
 appended : (m : List ℕ → List ℕ) (output : List ℕ) (cs : List (List ℕ)) (s : Stand) (b : List ℕ) → s.output ≡ Some output → fin.get s.files output ≡ Some b
     → fin.get (done (appends m cs) s).files output ≡ Some (b ++ joined (map m cs))
 appended m output [] s b o g = g ∙ ap Some (sym (append-nil b))
@@ -52,12 +53,12 @@ appended m output (c ∷ cs) s b o g =
         subst (λ z. fin.get (fin.insert s.files z (unwrap_or (fin.get s.files z) [] ++ m c)) output ≡ Some (b ++ m c)) (sym same)
         (is_there s.files output (unwrap_or (fin.get s.files output) [] ++ m c) ∙ ap (λ z. Some (unwrap_or z [] ++ m c)) g)
 
--- the end changes no file
+-- The end changes no file.
 ended : (last : List Effect) (s : Stand) → (last ≡ []) ⊎ (last ≡ Finish ∷ []) → (done last s).files ≡ s.files
 ended last s (inl e) = ap (λ es. (done es s).files) e
 ended last s (inr e) = ap (λ es. (done es s).files) e
 
--- where all effects of the plan are done, the results stand in the output, one after another
+-- Where all effects of the plan are done, the results stand in the output, one after another.
 pub record Made (k : List ℕ → Option Flaw) (m : List ℕ → List ℕ) (input output : List ℕ) (w v : World) : Type 0 where
   pub recording : List ℕ
   pub read : file w input ≡ Some recording

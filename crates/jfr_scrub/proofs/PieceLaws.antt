@@ -14,12 +14,12 @@ use Rattle.jfr_scrub.specs.declared.piece.Part.{Part}
 use Rattle.jfr_scrub.specs.declared.piece.Part.TheVariants as parts
 use Rattle.jfr_scrub.specs.Pieces.{IsHeaded, IsHeader, IsNumber, IsNumberIn, Laid, Laying, Lies, joined, laying_of, more, part_bytes}
 
--- what is made later changes no range of what was made
+-- What is made later changes no range of what was made.
 pub range_front : (xs ys : List ℕ) (p q : ℕ) → p ≤ q → q ≤ length xs → slice_range (xs ++ ys) p q ≡ slice_range xs p q
 range_front xs ys p q h i =
     ap (take (q - p)) (drop-append-le p xs ys (omega arith)) ∙ take-append-le (q - p) (drop p xs) ys (simp length-drop (omega arith))
 
--- the range of what is made last
+-- The range of what is made last.
 pub range_last : (xs ys : List ℕ) → slice_range (xs ++ ys) (length xs) (length (xs ++ ys)) ≡ ys
 range_last xs ys =
     ap (take (length (xs ++ ys) - length xs)) (drop-append_seam xs ys) ∙ take_all (length (xs ++ ys) - length xs) ys (omega (arith, length-append xs ys))
@@ -39,7 +39,7 @@ made_last made x more from to e f t =
     let g : to ≡ length (made ++ x) = t ∙ ap length e in
     ap (λ z. slice_range z from to) e ∙ (ap (λ n. slice_range (made ++ x) n to) f ∙ (ap (λ n. slice_range (made ++ x) (length made) n) g ∙ range_last made x))
 
--- bytes that are made last, as the last piece
+-- Bytes that are made last, as the last piece.
 pub put_last : (c made x more : List ℕ) (ps qs : List Part) (part : MadePart) (from to : ℕ) → AllByRecursion (Lies (length c) (length made)) ps → more ≡ made ++ x → from ≡ length made → to ≡ length more →
     qs ≡ ps ++ parts.Made part from to ∷ [] → flat_map (part_bytes c more) qs ≡ flat_map (part_bytes c made) ps ++ x
 put_last c made x more ps qs part from to a e f t q =
@@ -47,7 +47,7 @@ put_last c made x more ps qs part from to a e f t q =
     ∙ (ap (λ z. z ++ (slice_range more from to ++ [])) (ap (λ z. flat_map (part_bytes c z) ps) e ∙ same_pieces c made x ps a)
     ∙ ap (λ z. flat_map (part_bytes c made) ps ++ z) (append-nil (slice_range more from to) ∙ made_last made x more from to e f t)))
 
--- the same as the first piece
+-- The same as the first piece.
 pub put_first : (c made x more : List ℕ) (ps qs : List Part) (part : MadePart) (from to : ℕ) → AllByRecursion (Lies (length c) (length made)) ps → more ≡ made ++ x → from ≡ length made → to ≡ length more →
     qs ≡ parts.Made part from to ∷ ps → flat_map (part_bytes c more) qs ≡ x ++ flat_map (part_bytes c made) ps
 put_first c made x more ps qs part from to a e f t q =
@@ -55,7 +55,7 @@ put_first c made x more ps qs part from to a e f t q =
     ∙ (ap (λ z. slice_range more from to ++ z) (ap (λ z. flat_map (part_bytes c z) ps) e ∙ same_pieces c made x ps a)
     ∙ ap (λ z. z ++ flat_map (part_bytes c made) ps) (made_last made x more from to e f t))
 
--- the first pieces are written, and there is room for the others
+-- The first pieces are written, and there is room for the others.
 pub record Writing (c made : List ℕ) (ps : List Part) (before : List ℕ) (i : ℕ) (out : Vec ℕ Global) : Type 0 where
   pub items : out.items ++ flat_map (part_bytes c made) (drop i ps) ≡ before ++ flat_map (part_bytes c made) ps
   pub room : vec_len out + length (flat_map (part_bytes c made) (drop i ps)) ≤ vec_capacity out
@@ -96,7 +96,7 @@ lies_get n m [] i d a h = absurd (omega arith)
 lies_get n m (p ∷ ps) zero d a h = a.0
 lies_get n m (p ∷ ps) (suc i) d a h = lies_get n m ps i d a.1 (omega arith)
 
--- the pieces, and behind them a range of the chunk
+-- The pieces, and behind them a range of the chunk.
 abbrev pub pending : Laid → ℕ → ℕ → Laid
 pending l from to = record { chunk = l.chunk; made = l.made; pieces = l.pieces ++ parts.Copied from to ∷ [] }
 
@@ -107,7 +107,7 @@ pending_bytes l from to =
 laying_pending : (l : Laid) (from to : ℕ) → laying_of (pending l from to) ≡ record { chunk = l.chunk; bytes = joined l ++ slice_range l.chunk from to }
 laying_pending l from to = λ i. record { chunk = l.chunk; bytes = pending_bytes l from to i }
 
--- a range that goes on where the last one ends
+-- A range that goes on where the last one ends.
 pub longer_laid : (l o : Laid) (from middle at to : ℕ) → pending l from middle ≡ o → at ≡ middle → from ≤ middle → at ≤ to → laying_of (pending l from to) ≡ more (laying_of o) (slice_range o.chunk at to)
 longer_laid l o from middle at to v e h i =
     let c = l.chunk in
@@ -116,24 +116,24 @@ longer_laid l o from middle at to v e h i =
     laying_pending l from to ∙ ((λ i. record { chunk = c; bytes = split i })
     ∙ (ap (λ z. more z (slice_range c at to)) (sym (laying_pending l from middle)) ∙ ap (λ (z : Laid). more (laying_of z) (slice_range z.chunk at to)) v))
 
--- the last range is a piece now
+-- The last range is a piece now.
 settled : (l m o : Laid) (from to : ℕ) → pending l from to ≡ o → m.chunk ≡ l.chunk → joined m ≡ joined l ++ slice_range l.chunk from to → laying_of m ≡ laying_of o
 settled l m o from to v e f = (λ i. record { chunk = e i; bytes = f i }) ∙ (sym (laying_pending l from to) ∙ ap laying_of v)
 
--- another range
+-- Another range.
 pub next_laid : (l m o : Laid) (from to at end : ℕ) → pending l from to ≡ o → m.chunk ≡ l.chunk → joined m ≡ joined l ++ slice_range l.chunk from to → laying_of (pending m at end) ≡ more (laying_of o) (slice_range o.chunk at end)
 next_laid l m o from to at end v e f = laying_pending m at end ∙ ap (λ (z : Laying). more z (slice_range z.chunk at end)) (settled l m o from to v e f)
 
--- bytes that are made behind the last range
+-- Bytes that are made behind the last range.
 pub made_laid : (l m n o : Laid) (x : List ℕ) (from to : ℕ) → pending l from to ≡ o → m.chunk ≡ l.chunk → joined m ≡ joined l ++ slice_range l.chunk from to → n.chunk ≡ m.chunk → joined n ≡ joined m ++ x → laying_of (pending n 0 0) ≡ more (laying_of o) x
 made_laid l m n o x from to v e f g h =
     laying_pending n 0 0 ∙ ((λ i. record { chunk = g i; bytes = (append-nil (joined n) ∙ h) i }) ∙ ap (λ z. more z x) (settled l m o from to v e f))
 
--- the bytes before and with the last range
+-- The bytes before and with the last range.
 pub finished : (l o : Laid) (front all : List ℕ) (from to : ℕ) → pending l from to ≡ o → all ≡ front ++ (joined l ++ slice_range l.chunk from to) → all ≡ front ++ joined o
 finished l o front all from to v e = e ∙ ap (λ z. front ++ z) (sym (pending_bytes l from to) ∙ ap joined v)
 
--- one more range of the chunk lies in it, and what is made last in what is made
+-- One more range of the chunk lies in it, and what is made last in what is made.
 pub lies_range : (n m : ℕ) (ps qs : List Part) (from to : ℕ) → AllByRecursion (Lies n m) ps → qs ≡ ps ++ parts.Copied from to ∷ [] → from ≤ to → to ≤ n → AllByRecursion (Lies n m) qs
 lies_range n m ps qs from to a q h i = subst (AllByRecursion (Lies n m)) (sym q) (all_append (Lies n m) ps (parts.Copied from to ∷ []) a ((h, i), tt))
 
@@ -144,24 +144,24 @@ lies_last n made x more ps qs part from to a e f t q =
     subst (AllByRecursion (Lies n (length more))) (sym q)
     (all_append (Lies n (length more)) ps (parts.Made part from to ∷ []) (lies_more n (length made) (length more) ps (omega arith) a) ((omega arith, omega arith), tt))
 
--- what is made later changes no number
+-- What is made later changes no number.
 pub numbers_more : (n : ℕ) (made x : List ℕ) (ps : List Part) → AllByRecursion (Lies n (length made)) ps → AllByRecursion (IsNumberIn made) ps → AllByRecursion (IsNumberIn (made ++ x)) ps
 numbers_more n made x [] a b = tt
 numbers_more n made x (parts.Copied from to ∷ ps) a b = (tt, numbers_more n made x ps a.1 b.1)
 numbers_more n made x (parts.Made part from to ∷ ps) a b = (subst (IsNumber part) (sym (range_front made x from to a.0.0 a.0.1)) b.0, numbers_more n made x ps a.1 b.1)
 
--- one more number
+-- One more number.
 pub numbers_last : (n : ℕ) (made x more : List ℕ) (ps qs : List Part) (part : MadePart) (from to : ℕ) → AllByRecursion (Lies n (length made)) ps → more ≡ made ++ x → from ≡ length made → to ≡ length more →
     qs ≡ ps ++ parts.Made part from to ∷ [] → IsNumber part x → AllByRecursion (IsNumberIn made) ps → AllByRecursion (IsNumberIn more) qs
 numbers_last n made x more ps qs part from to a e f t q i b =
     let old : AllByRecursion (IsNumberIn more) ps = subst (λ z. AllByRecursion (IsNumberIn z) ps) (sym e) (numbers_more n made x ps a b) in
     subst (AllByRecursion (IsNumberIn more)) (sym q) (all_append (IsNumberIn more) ps (parts.Made part from to ∷ []) old (subst (IsNumber part) (sym (made_last made x more from to e f t)) i, tt))
 
--- one more range of the chunk
+-- One more range of the chunk.
 pub numbers_range : (made : List ℕ) (ps qs : List Part) (from to : ℕ) → qs ≡ ps ++ parts.Copied from to ∷ [] → AllByRecursion (IsNumberIn made) ps → AllByRecursion (IsNumberIn made) qs
 numbers_range made ps qs from to q b = subst (AllByRecursion (IsNumberIn made)) (sym q) (all_append (IsNumberIn made) ps (parts.Copied from to ∷ []) b (tt, tt))
 
--- the header before the numbers
+-- The header before the numbers.
 pub headed_first : (c made x more : List ℕ) (ps qs : List Part) (from to : ℕ) → AllByRecursion (Lies (length c) (length made)) ps → more ≡ made ++ x → from ≡ length made → to ≡ length more →
     qs ≡ parts.Made ChunkHeader from to ∷ ps → IsHeader x → AllByRecursion (IsNumberIn made) ps → IsHeaded (record { chunk = c; made = more; pieces = qs })
 headed_first c made x more ps qs from to a e f t q i b = record {

@@ -9,7 +9,7 @@ use Rattle.jfr_chunk.specs.Reach.{marked, is_marked}
 use Rattle.jfr_chunk.specs.Written.{Group, add_entry, by_pool}
 use Rattle.jfr_scrub.specs.Left.{HasRange, same_pool, leading, entries_size, pool_size, groups_size, capped}
 
--- of one pool: the same numbers
+-- Of one pool: the same numbers.
 same_is : (e f : EntryAt) → same_pool e f ≡ true → (e.pool ≡ f.pool) × (e.class ≡ f.class)
 same_is e f h = by_test (e.pool == f.pool) refl (e.class == f.class) refl h
   where
@@ -25,7 +25,7 @@ leading_same e f (x ∷ es) p q =
     ∙ (ap (λ n. if (f.pool == x.pool) && (n == x.class) then suc (leading e es) else 0) q
     ∙ ap (λ n. if same_pool f x then suc n else 0) (leading_same e f es p q))
 
--- the first pool of some entries
+-- The first pool of some entries.
 abbrev pub first_group : EntryAt → List EntryAt → Group
 first_group e es = record { class = e.class; pool = e.pool; entries = e ∷ take (leading e es) es }
 
@@ -45,7 +45,7 @@ by_first e (f ∷ fs) = let i = by_first f fs in ap (add_entry e) i ∙ by_test 
 pub itself : (e : EntryAt) → same_pool e e ≡ true
 itself e = let p : (e.pool == e.pool) ≡ true = grind (arith, nat_tests) in let q : (e.class == e.class) ≡ true = grind (arith, nat_tests) in rw (p, q) refl
 
--- the entries of the first pool, and those behind it
+-- The entries of the first pool, and those behind it.
 pub by_leading : (e : EntryAt) (es : List EntryAt) →
     by_pool (e ∷ es) ≡ record { class = e.class; pool = e.pool; entries = take (leading e (e ∷ es)) (e ∷ es) } ∷ by_pool (drop (leading e (e ∷ es)) (e ∷ es))
 by_leading e es =
@@ -55,7 +55,7 @@ by_leading e es =
 pub some_leading : (e : EntryAt) (es : List EntryAt) → 1 ≤ leading e (e ∷ es)
 some_leading e es = let l : leading e (e ∷ es) ≡ suc (leading e es) = ap (λ b. if b then suc (leading e es) else 0) (itself e) in omega arith
 
--- fewer are behind those of the first one's pool
+-- Fewer are behind those of the first one's pool.
 pub rest_smaller : (es rest : List EntryAt) (e : EntryAt) (n : ℕ) → slice_get es 0 ≡ Some e → n ≡ leading e es → rest ≡ drop n es → length rest < length es
 rest_smaller [] rest e n g l r = cc
 rest_smaller (x ∷ es) rest e n g l r =
@@ -75,7 +75,7 @@ leading_within e (f ∷ fs) = by_test (same_pool e f) (leading_within e fs)
 drop_get : (es : List EntryAt) (i : ℕ) (d : EntryAt) → i < length es → drop i es ≡ get_or es i d ∷ drop (i + 1) es
 drop_get es i d h = drop-cons es i d h ∙ ap (λ n. get_or es i d ∷ drop n es) (sym (add-one i))
 
--- going through the entries of one pool
+-- Going through the entries of one pool.
 pub leading_stops : (e : EntryAt) (es : List EntryAt) (i : ℕ) (d : EntryAt) → i < length es → leading e es ≡ i + leading e (drop i es) → same_pool e (get_or es i d) ≡ false → i ≡ leading e es
 leading_stops e es i d h l s =
     let z : leading e (drop i es) ≡ 0 = ap (leading e) (drop_get es i d h) ∙ ap (λ b. if b then suc (leading e (drop (i + 1) es)) else 0) s in
@@ -89,7 +89,7 @@ leading_goes e es i d h l s =
 pub leading_all : (e : EntryAt) (es : List EntryAt) (i : ℕ) → length es ≤ i → i ≤ length es → leading e es ≡ i + leading e (drop i es) → length es ≡ leading e es
 leading_all e es i h k l = let z : leading e (drop i es) ≡ 0 = ap (leading e) (drop_all i es h) in omega arith
 
--- what the entries that are left add
+-- What the entries that are left add.
 pub record Adding (es : List EntryAt) (i len : ℕ) : Type 0 where
   pub sum : capped (len + entries_size (drop i es)) ≡ capped (entries_size es)
   pub fits : len ≤ 18446744073709551615
@@ -124,7 +124,7 @@ range_take n es zero a = tt
 range_take n [] (suc i) a = tt
 range_take n (e ∷ es) (suc i) a = (a.0, range_take n es i a.1)
 
--- the pools of the entries that are left to measure
+-- The pools of the entries that are left to measure.
 pub record Measuring (es rest : List EntryAt) (count bytes : ℕ) : Type 0 where
   pub number : count + length (by_pool rest) ≡ length (by_pool es)
   pub sum : capped (bytes + groups_size (by_pool rest)) ≡ capped (groups_size (by_pool es))
@@ -184,7 +184,7 @@ measuring_all es [] count bytes m h =
     (omega arith, omega arith)
 measuring_all es (e ∷ rest) count bytes m h = absurd (omega arith)
 
--- the marked members from a place on
+-- The marked members from a place on.
 marked_suc : (ms : List Bool) (es : List EntryAt) (i : ℕ) (e : EntryAt) → i < length ms → slice_get es i ≡ Some e → marked (drop i ms) (drop i es) ≡ (if is_marked ms i then e ∷ [] else []) ++ marked (drop (suc i) ms) (drop (suc i) es)
 marked_suc [] es i e h g = absurd (omega arith)
 marked_suc (m ∷ ms) [] i e h g = cc
@@ -202,7 +202,7 @@ marked_next ms es left new i e keep h g k l n =
 pub marked_all : (ms : List Bool) (es left : List EntryAt) (i : ℕ) → length ms ≤ i → left ++ marked (drop i ms) (drop i es) ≡ marked ms es → left ≡ marked ms es
 marked_all ms es left i h l = sym (append-nil left) ∙ (ap (λ z. left ++ marked z (drop i es)) (sym (drop_all i ms h)) ∙ l)
 
--- while all members so far are marked
+-- While all members so far are marked.
 whole_suc : (ms : List Bool) (es : List EntryAt) (i : ℕ) → i < length ms → length ms ≡ length es → is_marked ms i ≡ true → take (suc i) es ++ marked (drop (suc i) ms) (drop (suc i) es) ≡ take i es ++ marked (drop i ms) (drop i es)
 whole_suc [] es i h n m = absurd (omega arith)
 whole_suc (b ∷ ms) [] i h n m = absurd (omega arith)

@@ -30,11 +30,11 @@ use Rattle.jfr_scrub.proofs.CheckpointLaws.{more_more}
 use Rattle.jfr_scrub.proofs.CursorLaws.{cursor_passed, output_records_at}
 use Rattle.jfr_scrub.proofs.FitLaws.{some_written}
 
--- the cursor behind its event
+-- The cursor behind its event.
 abbrev pub next_event : Cursor → Cursor
 next_event c = record { frame = c.frame + 1; event = c.event + 1; link = c.link }
 
--- the cursor's record is a kept event that a run passes
+-- The cursor's record is a kept event that a run passes.
 pub record AtRun (p : Parts) (flags : List Bool) (c : Cursor) : Type 0 where
   pub frame : Framed
   pub there : slice_get p.records c.frame ≡ Some frame
@@ -58,7 +58,7 @@ unlinked ls n at e = by_link (slice_get ls n) e
     by_link None e = refl
     by_link (Some l) e = by_test l (l.frame.at == at) e
 
--- an event is neither the metadata record nor a chained checkpoint
+-- An event is neither the metadata record nor a chained checkpoint.
 pub event_alone : (p : Parts) (a : AreParts p) (n : ℕ) (r : Framed) → slice_get p.records n ≡ Some r → is_event_class p.classes r.type_id ≡ true → ((r.at == metadata_at p.bytes) ≡ false) × (link_there p r ≡ None)
 event_alone p a n r e t = (by_test (r.at == metadata_at p.bytes) q.on_metadata, by_link (link_there p r) q.on_chained)
   where
@@ -93,7 +93,7 @@ at_run p flags c i h =
       output_records = output_records_at p flags c x.frame x.framed ∙ ap (λ o. cons_option o (filter_map (output_record_of p (kept_by p flags)) (drop (c.frame + 1) p.records))) s;
     }
 
--- what is computed of a record's place
+-- What is computed of a record's place.
 pub tells_run : (p : Parts) (flags : List Bool) (c : Cursor) (frames : List Framed) (here : Option ℕ) → frames ≡ p.records → here ≡ option_map (λ r. r.at) (slice_get frames c.frame) → option_map_or (is_kept_at (events_of p) flags c.event) here false ≡ is_in_run p flags c
 tells_run p flags c frames here f e = ap (λ o. option_map_or (is_kept_at (events_of p) flags c.event) o false) (e ∙ ap (λ rs. option_map (λ r. r.at) (slice_get rs c.frame)) f) ∙ by_record (slice_get p.records c.frame)
   where
@@ -108,7 +108,7 @@ starts_there p frames bytes n here at f b h a = a ∙ ((λ i. unwrap_or ((h ∙ 
     by_record None = refl
     by_record (Some r) = refl
 
--- a record among those that cover a range, and where the one behind it starts
+-- A record among those that cover a range, and where the one behind it starts.
 start_next : (c : List ℕ) (p q : ℕ) (rs : List Framed) (n : ℕ) (r : Framed) → Tiles c p rs q → slice_get rs n ≡ Some r → IsRecord c r × (option_map_or (λ s. s.at) (slice_get rs (suc n)) q ≡ record_end r)
 start_next c p q [] n r t e = cc
 start_next c p q (x ∷ rs) zero r t e = let h : x ≡ r = cc in subst (λ z. IsRecord c z × (option_map_or (λ s. s.at) (slice_get rs 0) q ≡ record_end z)) h (t.1, first (record_end x) rs t.2)
@@ -145,14 +145,14 @@ run_next p flags c d from u a =
       output_records = u.output_records ∙ (ap (λ ss. map (λ r. Whole r) u.records ++ ss) a.output_records ∙ more_output_records u.records a.frame (still_output_records p flags (next_event d)));
     }
 
--- where all events are kept, those that stand one behind another are a run
+-- Where all events are kept, those that stand one behind another are a run.
 all_flags : (flags : List Bool) (n : ℕ) → list_all (λ keep. keep) flags ≡ true → n < length flags → unwrap_or (slice_get flags n) false ≡ true
 all_flags [] n a l = absurd (omega (arith, l))
 all_flags (false ∷ flags) n a l = cc
 all_flags (true ∷ flags) zero a l = refl
 all_flags (true ∷ flags) (suc n) a l = all_flags flags n a (omega (arith, l))
 
--- which events are kept: all
+-- Which events are kept: all.
 pub record AllKept (p : Parts) (flags : List Bool) : Type 0 where
   pub set : list_all (λ keep. keep) flags ≡ true
   pub each : length flags ≡ length (events_of p)
@@ -165,7 +165,7 @@ kept_there p flags d x a t f =
     ∙ (ap (λ o. option_map_or (λ e. (e.record_of.at == x.record_of.at) && unwrap_or (slice_get flags d.event) false) o false) t
     ∙ (λ j. k j && all_flags flags d.event a.set l j))
 
--- the cursor behind so many events
+-- The cursor behind so many events.
 abbrev pub behind : Cursor → ℕ → Cursor
 behind c n = record { frame = c.frame + n; event = c.event + n; link = c.link }
 
@@ -183,7 +183,7 @@ passes_events p flags c i a (suc n) h =
     let e : (m : ℕ) → (m + n) + 1 ≡ m + suc n = λ m. omega arith in
     subst (Passes p flags c) (λ j. record { frame = e c.frame j; event = e c.event j; link = c.link }) (passes_next p flags c (behind c n) u (kept_there p flags (behind c n) x.event a x.there x.framed))
 
--- and it ends where the next record isn't the next event
+-- And it ends where the next record isn't the next event.
 pub ends_events : (p : Parts) (flags : List Bool) (c : Cursor) (n : ℕ) → IsCursor p flags (behind c n) → (HasEventAt p c n → ⊥) → is_in_run p flags (behind c n) ≡ false
 ends_events p flags c n i h = by_test (is_in_run p flags (behind c n)) refl
   where
@@ -191,7 +191,7 @@ ends_events p flags c n i h = by_test (is_in_run p flags (behind c n)) refl
     by_test true t = let x = in_run p flags (behind c n) i t in absurd (h (record { event = x.event; there = x.there; framed = x.framed ∙ ap (λ r. Some r) (sym ((event_recorded p x.frame x.event x.given).0)) }))
     by_test false t = refl
 
--- a run is laid out as its records are, one behind another
+-- A run is laid out as its records are, one behind another.
 seen_before : (before : Option ℕ) (at : ℕ) → place_seen before false at ≡ before
 seen_before None at = refl
 seen_before (Some place) at = refl
@@ -227,13 +227,13 @@ laid_run p left all ss (r ∷ rs) from to b g t o =
     let e = first_of_range b r left m to o.0 (subst (λ c. IsRecord c r) (sym g.chunk) t.1) (tiles_order p.bytes (record_end r) to rs t.2) in
     subst (Going p left all ss) (e ∙ ap (λ n. with_range b n to) t.0) rest
 
--- what is left to lay out behind a run
+-- What is left to lay out behind a run.
 pub going_run : (p : Parts) (flags : List Bool) (left : List EntryAt) (all rest : List OutputRecord) (c d : Cursor) (run : Run) (b next : Progress) → IsRun p flags c d run.from run.to → Going p left all (still_output_records p flags c) b → next ≡ body_with_run b run → still_output_records p flags d ≡ rest → Going p left all rest next
 going_run p flags left all rest c d run b next u g n e =
     let laid = laid_run p left all (still_output_records p flags d) u.records run.from run.to b (subst (λ ss. Going p left all ss b) u.output_records g) u.tiles u.others in
     subst (λ ss. Going p left all ss next) e (subst (Going p left all (still_output_records p flags d)) (sym n) laid)
 
--- what is laid out is no longer than the chunk
+-- What is laid out is no longer than the chunk.
 pub going_within : (p : Parts) (left : List EntryAt) (all ss : List OutputRecord) (b : Progress) → Going p left all ss b → b.at ≤ length p.bytes
 going_within p left all ss b g =
     let y = flat_map (written_bytes p.bytes left) (written p.bytes left b.at b.older ss) in

@@ -41,7 +41,8 @@ place_seen (Some place) now at = Some place
 place_seen None true at = Some at
 place_seen None false at = None
 
--- The body with one output record more: its bytes, the place behind it, the last checkpoint, and where the metadata record stands, which stood at a place.
+-- The body with one output record more: its bytes, the place behind it, the last checkpoint, and where the
+-- metadata record stands, which stood at a place.
 abbrev pub body_with : List EntryAt → ℕ → Progress → OutputRecord → Progress
 body_with left metadata b s =
     let bytes = bytes_of b.output.chunk left s b.at b.older in
@@ -60,12 +61,14 @@ abbrev pub NotFalling : ℕ → List EntryAt → Type 0
 NotFalling n [] = ⊤
 NotFalling n (e ∷ es) = (n ≤ e.checkpoint) × NotFalling e.checkpoint es
 
--- An output record is copied: a whole record lies in one copied piece, and so does each entry of a chained checkpoint.
+-- An output record is copied: a whole record lies in one copied piece, and so does each entry of a chained
+-- checkpoint.
 abbrev pub OutputRecordIsCopied : List EntryAt → List Part → OutputRecord → Type 0
 OutputRecordIsCopied left ps (Whole r) = RecordIsCopied ps r
 OutputRecordIsCopied left ps (Chained number l) = AllByRecursion (EntryIsCopied ps) (filter (λ e. e.checkpoint == number) left)
 
--- The output records are copied in these pieces, and in any pieces in which what these copy lies in one copied piece too.
+-- The output records are copied in these pieces, and in any pieces in which what these copy lies in one
+-- copied piece too.
 abbrev pub OutputRecordsAreCopied : List EntryAt → List OutputRecord → List Part → Type 0
 OutputRecordsAreCopied left ss ps = (qs : List Part) → Keeps ps qs → AllByRecursion (OutputRecordIsCopied left qs) ss
 
@@ -73,7 +76,8 @@ OutputRecordsAreCopied left ss ps = (qs : List Part) → Keeps ps qs → AllByRe
 abbrev pub pool_parts : Group → List MadePart
 pool_parts g = PoolClass ∷ EntryCount ∷ []
 
--- The parts that are made for a checkpoint: its size, its delta, its number of pools, and then those of each pool.
+-- The parts that are made for a checkpoint: its size, its delta, its number of pools, and then those of
+-- each pool.
 abbrev pub checkpoint_parts : List Group → List MadePart
 checkpoint_parts gs = CheckpointSize ∷ CheckpointDelta ∷ PoolCount ∷ flat_map pool_parts gs
 

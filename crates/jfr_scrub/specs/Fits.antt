@@ -4,7 +4,8 @@ use Rattle.jfr_frame.specs.Records.{IsRecord}
 use Rattle.jfr_pool.specs.declared.link.Link.{Link}
 use Rattle.jfr_chunk.specs.Written.{Group, checkpoint_tail}
 
--- The checkpoint's record and its delta stand in the chunk, and with this delta and these pools it isn't larger.
+-- The checkpoint's record and its delta stand in the chunk, and with this delta and these pools it isn't
+-- larger.
 pub record LinkFits (c : List ℕ) (l : Link) (delta : ℕ) (gs : List Group) : Type 0 where
   pub framed : IsRecord c l.frame
   pub behind : l.frame.body ≤ l.delta_at

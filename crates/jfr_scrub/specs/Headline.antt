@@ -23,7 +23,9 @@ abbrev pub before_refused : (List ℕ → Option Flaw) → List (List ℕ) → L
 before_refused refusal [] = []
 before_refused refusal (c ∷ cs) = unless_refused (refusal c) (c ∷ before_refused refusal cs)
 
--- The chunk c is accepted, and b is what it becomes: a chunk that is accepted again, with exactly the events that the filter keeps and exactly the constants that they reach, and of the same meaning; scrubbed once more it stays the same.
+-- The chunk c is accepted, and b is what it becomes: a chunk that is accepted again, with exactly the
+-- events that the filter keeps and exactly the constants that they reach, and of the same meaning; scrubbed
+-- once more it stays the same.
 pub record IsScrubbed (g : Given) (c b : List ℕ) : Type 0 where
   pub parts : Parts
   pub bytes : parts.bytes ≡ c

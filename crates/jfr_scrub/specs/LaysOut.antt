@@ -7,7 +7,9 @@ use Rattle.jfr_chunk.specs.Scrub.{scrub_of}
 use Rattle.jfr_scrub.specs.Bodies.{all_made}
 use Rattle.jfr_scrub.specs.Pieces.{EntryIsCopied, EventIsCopied, IsHeaded, Laid, MetadataIsCopied, joined, made_parts}
 
--- The pieces, joined, are what the chunk becomes where these events are kept. Made are the header and single integers, in the order of `kinds`; each kept event, each entry that remains, and the metadata record lie in one copied piece each. So many events are kept, and so many entries remain.
+-- The pieces, joined, are what the chunk becomes where these events are kept. Made are the header and
+-- single integers, in the order of `kinds`; each kept event, each entry that remains, and the metadata
+-- record lie in one copied piece each. So many events are kept, and so many entries remain.
 pub record LaysOut (p : Parts) (kept : List EventAt) (laid : Laid) (event_count entry_count : ℕ) : Type 0 where
   pub becomes : joined laid ≡ scrub_of p kept
   pub of_chunk : laid.chunk ≡ p.bytes

@@ -51,6 +51,7 @@ event_behind es n at = option_map_or (λ e. if e.record_of.at == at then n + 1 e
 abbrev pub linked_at : List Link → ℕ → ℕ → Option (ℕ × Link)
 linked_at ls n at = option_and_then (λ l. if l.frame.at == at then Some (n, l) else None) (slice_get ls n)
 
--- The number of the checkpoint that comes next behind a place: one more where the checkpoint of a number starts there.
+-- The number of the checkpoint that comes next behind a place: one more where the checkpoint of a number
+-- starts there.
 abbrev pub link_behind : List Link → ℕ → ℕ → ℕ
 link_behind ls n at = option_map_or (λ l. if l.frame.at == at then n + 1 else n) (slice_get ls n) n

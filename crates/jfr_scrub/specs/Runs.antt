@@ -37,7 +37,8 @@ pub record HasRoom (c : Cursor) (offset : ℕ) : Type 0 where
   pub event : c.event + offset < 2 ^ 64
   pub frame : c.frame + offset < 2 ^ 64
 
--- Records that are written whole take a range of the chunk, one behind another, and none is the metadata record. The output records from one cursor on are these, and then those from another.
+-- Records that are written whole take a range of the chunk, one behind another, and none is the metadata
+-- record. The output records from one cursor on are these, and then those from another.
 pub record IsRun (p : Parts) (flags : List Bool) (c d : Cursor) (from to : ℕ) : Type 0 where
   pub records : List Framed
   pub tiles : Tiles p.bytes from records to

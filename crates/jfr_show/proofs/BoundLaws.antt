@@ -20,7 +20,7 @@ use Rattle.jfr_show.specs.Totals.{Tallies, Totals, occurrence, occurrences}
 use Rattle.jfr_show.specs.declared.beginning.Beginning.{Beginning}
 use Rattle.jfr_show.proofs.SizeLaws.{chosen_within, occurrences_are, records_within}
 
--- each number of a chunk is at most its length
+-- Each number of a chunk is at most its length.
 pub record IsShort (p : Parts) : Type 0 where
   pub events : length (events_of p) ≤ length p.bytes
   pub checkpoints : length p.chain ≤ length p.bytes
@@ -35,7 +35,7 @@ passed_most test (x ∷ xs) = by_test (test x) (passed_most test xs)
     by_test true h = omega arith
     by_test false h = omega arith
 
--- the places of the checkpoints fall
+-- The places of the checkpoints fall.
 chain_short : (c : List ℕ) (rs : List Framed) (at : ℕ) (ls : List Link) → IsChain c rs at ls → length ls ≤ at + 1
 chain_short c rs at [] h = absurd h
 chain_short c rs at (l ∷ []) h = omega arith
@@ -70,15 +70,15 @@ chunk_short p a =
       inert = omega arith;
     }
 
--- a larger bound
+-- A larger bound.
 pub below_more : (m n : ℕ) (t : Tallies) → m ≤ n → AreBelow m t → AreBelow n t
 below_more m n t h b = record { each = λ q tally is. (let k = b.each q tally is in let e = k.0 in let f = k.1 in (omega arith, omega arith)) }
 
--- a number that is kept, and what a chunk adds to it
+-- A number that is kept, and what a chunk adds to it.
 pub sum_fits : (kept more bytes chunks size : ℕ) → chunks ≤ 2 ^ 35 → bytes ≤ 2 ^ 28 * chunks → kept ≤ bytes → more ≤ size → size < 2 ^ 28 → kept + more < 2 ^ 64
 sum_fits kept more bytes chunks size a b c d e = omega arith
 
--- the totals with a chunk more stay in bounds
+-- The totals with a chunk more stay in bounds.
 pub bounded_next : (t : Totals) (first : Option Beginning) (size duration events checkpoints constants inert : ℕ) (m : Tallies) → IsBounded t → t.chunks < 2 ^ 35 → size < 2 ^ 28 → duration < 2 ^ 64 → events ≤ size → checkpoints ≤ size → constants ≤ size → inert ≤ size → AreBelow (t.bytes + size) m
     → IsBounded (record { first = first; chunks = t.chunks + 1; bytes = t.bytes + size; duration = t.duration + duration; events = t.events + events; checkpoints = t.checkpoints + checkpoints; constants = t.constants + constants; inert = t.inert + inert; tallies = m })
 bounded_next t first size duration events checkpoints constants inert m b few small short e c k i below =

@@ -18,22 +18,22 @@ use Rattle.jfr_show.specs.Totals.{Occurrence, Tallies, occurrence, of_name, tall
 use Rattle.jfr_show.proofs.PlaceLaws.{event_has_place, name_at}
 use Rattle.jfr_show.proofs.TallyLaws.{tally_path}
 
--- one event more
+-- One event more.
 tally-cons : (e : Occurrence) (es : List Occurrence) → tally_of (e ∷ es) ≡ both (record { events = 1; bytes = e.size }) (tally_of es)
 tally-cons e es = let s = sum_by-cons (λ (e : Occurrence). e.size) e es in tally_path _ _ (omega arith) s
 
--- the events of two lists
+-- The events of two lists.
 pub tally-append : (xs ys : List Occurrence) → tally_of (xs ++ ys) ≡ both (tally_of xs) (tally_of ys)
 tally-append xs ys = tally_path _ _ (length-append xs ys) (sum_by-append (λ (e : Occurrence). e.size) xs ys)
 
 pub both_assoc : (s t u : Tally) → both (both s t) u ≡ both s (both t u)
 both_assoc s t u = tally_path _ _ (omega arith) (omega arith)
 
--- events are added
+-- Events are added.
 pub added_some : (o : Option Tally) (n : ℕ) (t : Tally) → t.events ≡ suc n → added o t ≡ Some (both (unwrap_or o no_tally) t)
 added_some o n t e = let z : (t.events == 0) ≡ false = grind (arith, nat_tests) in ap (λ b. cond b o (Some (both (unwrap_or o no_tally) t))) z
 
--- events that are added, and then others
+-- Events that are added, and then others.
 pub added_twice : (o : Option Tally) (xs ys : List Occurrence) → added (added o (tally_of xs)) (tally_of ys) ≡ added o (tally_of (xs ++ ys))
 added_twice o [] ys = refl
 added_twice o (x ∷ xs) [] = ap (λ z. added o (tally_of z)) (sym (append-nil (x ∷ xs)))
@@ -45,19 +45,19 @@ added_twice o (x ∷ xs) (y ∷ ys) =
     ∙ (added_some (Some (both (unwrap_or o no_tally) s)) (length ys) t refl
     ∙ (ap Some (both_assoc (unwrap_or o no_tally) s t ∙ ap (both (unwrap_or o no_tally)) (sym (tally-append (x ∷ xs) (y ∷ ys)))) ∙ sym (added_some o (length (xs ++ y ∷ ys)) (tally_of all) refl)))
 
--- the record is an event of a class before this place
+-- The record is an event of a class before this place.
 abbrev pub is_before : Classes → ℕ → Framed → Bool
 is_before k i r = option_map_or (λ n. nat_lt n i) (event_place k r.type_id) false
 
--- the events of the classes before a place
+-- The events of the classes before a place.
 abbrev pub before : Classes → ℕ → List Framed → List Occurrence
 before k i rs = map (occurrence k) (filter (is_before k i) rs)
 
--- those of a name among the events that pass a test
+-- Those of a name among the events that pass a test.
 abbrev chosen : Classes → List ℕ → (Framed → Bool) → List Framed → List Occurrence
 chosen k q test rs = of_name q (map (occurrence k) (filter test rs))
 
--- what a record adds to these
+-- What a record adds to these.
 abbrev one : Classes → List ℕ → Bool → Framed → Tally
 one k q b r = cond b (cond (bytes_eq (occurrence k r).name q) (record { events = 1; bytes = r.size }) no_tally) no_tally
 
@@ -82,7 +82,7 @@ both_chosen : (b : Bool) (s t : Tally) → cond b (both s t) no_tally ≡ both (
 both_chosen true s t = refl
 both_chosen false s t = refl
 
--- what a record adds to the tally of a class
+-- What a record adds to the tally of a class.
 abbrev pub single : Bool → Framed → Tally
 single b r = cond b (record { events = 1; bytes = r.size }) no_tally
 
@@ -93,7 +93,7 @@ class_tally-cons k i r rs = by_test (is_at k i r)
     by_test true = tally-cons (occurrence k r) (map (occurrence k) (filter (is_at k i) rs))
     by_test false = none_more (class_tally k rs i)
 
--- of the classes before the next place, a record's is before this place or at it
+-- Of the classes before the next place, a record's is before this place or at it.
 one_by : (x y z d b : Bool) (w : Tally) → x ≡ (y || z) → (y && z) ≡ false → (z ≡ true → d ≡ b) → cond x (cond d w no_tally) no_tally ≡ both (cond y (cond d w no_tally) no_tally) (cond b (cond z w no_tally) no_tally)
 one_by x true true d b w e f g = cc
 one_by x true false d b w e f g = ap (λ v. cond v (cond d w no_tally) no_tally) e ∙ by_name b
@@ -108,7 +108,7 @@ one_by x false false d b w e f g = ap (λ v. cond v (cond d w no_tally) no_tally
     by_name true = refl
     by_name false = refl
 
--- a number before the next one is before this one or is it
+-- A number before the next one is before this one or is it.
 record IsSplit (n i : ℕ) : Type 0 where
   either : nat_lt n (i + 1) ≡ (nat_lt n i || (n == i))
   apart : (nat_lt n i && (n == i)) ≡ false
@@ -130,7 +130,7 @@ module _ (k : Classes) (i : ℕ) (c : Class) (q : List ℕ) (there : slice_get k
           one_by (nat_lt n (i + 1)) (nat_lt n i) (n == i) (bytes_eq (occurrence k r).name q) (bytes_eq name q) (record { events = 1; bytes = r.size }) s.either s.apart
           (λ f. let h : event_place k r.type_id ≡ Some i = e ∙ ap Some (eqb-true n i f) in ap (λ t. bytes_eq (encode_utf8_all t) q) (name_at k r.type_id i c h there))
 
-  -- what the next class adds
+  -- What the next class adds.
   class_more : (rs : List Framed) → tally_of (of_name q (before k (i + 1) rs)) ≡ both (tally_of (of_name q (before k i rs))) (cond (bytes_eq name q) (class_tally k rs i) no_tally)
   class_more [] = by_name (bytes_eq name q)
     where
@@ -148,14 +148,14 @@ module _ (k : Classes) (i : ℕ) (c : Class) (q : List ℕ) (there : slice_get k
       ∙ (ap (λ t. both t (both (cond b one_at no_tally) (cond b (class_tally k rs i) no_tally))) (sym (chosen-cons k q (is_before k i) r rs))
       ∙ ap (both (tally_of (of_name q (before k i (r ∷ rs))))) (sym (both_chosen b one_at (class_tally k rs i)) ∙ ap (λ t. cond b t no_tally) (sym (class_tally-cons k i r rs)))))))
 
--- what is added under a name, by the tally of another list of the same
+-- What is added under a name, by the tally of another list of the same.
 added_class : (o : Option Tally) (xs ys zs : List Occurrence) → tally_of zs ≡ both (tally_of xs) (tally_of ys) → added (added o (tally_of xs)) (tally_of ys) ≡ added o (tally_of zs)
 added_class o xs ys zs e = added_twice o xs ys ∙ ap (added o) (tally-append xs ys ∙ sym e)
 
 pub both_none : (t : Tally) → both t no_tally ≡ t
 both_none t = tally_path _ _ (omega arith) (omega arith)
 
--- one class more is added
+-- One class more is added.
 pub classes_next : (k : Classes) (i : ℕ) (c : Class) (rs : List Framed) (bytes : List ℕ) (old now new : Tallies) → slice_get k i ≡ Some c → bytes ≡ encode_utf8_all c.name → AddsEvents old (before k i rs) now → AddsTally now bytes (class_tally k rs i) new → AddsEvents old (before k (i + 1) rs) new
 classes_next k i c rs bytes old now new there is a t = record { each = λ q. t.each q ∙ (ap (λ o. cond (bytes_eq bytes q) (added o (class_tally k rs i)) o) (a.each q) ∙ by_name q (bytes_eq bytes q) refl) }
   where
@@ -168,7 +168,7 @@ classes_next k i c rs bytes old now new there is a t = record { each = λ q. t.e
         let f : bytes_eq (encode_utf8_all c.name) q ≡ false = ap (λ z. bytes_eq z q) (sym is) ∙ e in
         ap (added (fin.get old q)) (sym (class_more k i c q there rs ∙ (ap (λ b. both (tally_of (of_name q (before k i rs))) (cond b (class_tally k rs i) no_tally)) f ∙ both_none (tally_of (of_name q (before k i rs))))))
 
--- before the first class there are no events
+-- Before the first class there are no events.
 before_none : (k : Classes) (rs : List Framed) → before k 0 rs ≡ []
 before_none k [] = refl
 before_none k (r ∷ rs) = by_place (event_place k r.type_id) (before_none k rs)
@@ -180,7 +180,7 @@ before_none k (r ∷ rs) = by_place (event_place k r.type_id) (before_none k rs)
 pub classes_none : (k : Classes) (rs : List Framed) (old : Tallies) → AddsEvents old (before k 0 rs) old
 classes_none k rs old = record { each = λ q. ap (λ es. added (fin.get old q) (tally_of (of_name q es))) (sym (before_none k rs)) }
 
--- before the end are all events
+-- Before the end are all events.
 before_test : (k : Classes) (r : Framed) → is_before k (length k) r ≡ is_event_class k r.type_id
 before_test k r = by_test (is_event_class k r.type_id) refl
   where

@@ -35,20 +35,20 @@ module _ (es : List EntryAt) (n : ℕ) (e : EntryAt) (there : slice_get es n ≡
       by_test true q = absurd (no_force (true_in_force q))
       by_test false q = q
 
-  -- what is asked next
+  -- What is asked next.
   numbered : get_or (enumerate_from 0 es) n (0, e) ≡ (n, e)
   numbered =
       let p : 0 + n ≡ n = omega arith in
       let q : get_or es n e ≡ e = get_or_from_slice_get es n e e there in
       get_or-enumerate_from 0 es n (0, e) (slice_get_within es n e there) ∙ (λ i. (p i, q i))
 
--- an entry stands within
+-- An entry stands within.
 entry_within : (es : List EntryAt) (n : ℕ) → n < length es → (e : EntryAt) × (slice_get es n ≡ Some e)
 entry_within [] n h = absurd (omega arith)
 entry_within (x ∷ xs) zero h = (x, refl)
 entry_within (x ∷ xs) (suc n) h = entry_within xs n (omega arith)
 
--- so far so many are in force
+-- So far so many are in force.
 pub record IsCount (es : List EntryAt) (n count : ℕ) : Type 0 where
   pub exact : count ≡ count_by (is_in_force es) (take n (enumerate_from 0 es))
   pub most : count ≤ n
@@ -75,6 +75,6 @@ module _ (es : List EntryAt) (n count : ℕ) (within : n < length es) (so : IsCo
         most = omega arith;
       }
 
--- all are counted
+-- All are counted.
 pub all_counted : (es : List EntryAt) (n count : ℕ) → length es ≤ n → IsCount es n count → count ≡ count_in_force es
 all_counted es n count all so = so.exact ∙ ap (count_by (is_in_force es)) (take_all n (enumerate_from 0 es) (let h = length-enumerate_from 0 es in omega arith))

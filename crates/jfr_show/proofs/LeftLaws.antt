@@ -8,8 +8,8 @@ use Rattle.jfr_value.specs.Nodes.{node_at, IsNode, IsRow}
 use Rattle.jfr_value.proofs.VisitLaws.{none_left}
 use Rattle.jfr_value.proofs.WalkLaws.{first_of}
 
--- Values of these shapes stand from one place up to the other, and what is made so far, with what `onto` makes of them, is
--- the whole.
+-- Values of these shapes stand from one place up to the other, and what is made so far, with what `onto`
+-- makes of them, is the whole.
 pub record Left {A : Type 0} (k : Classes) (c : List ℕ) (to : ℕ) (whole : A) (onto : A → Values → A) (ss : List Shape) (from : ℕ) (made : A) : Type 0 where
   pub others : Values
   pub row : IsRow k c from to ss others

@@ -10,15 +10,15 @@ use Rattle.jfr_show.specs.Texts.{newline, quoted}
 use Rattle.jfr_show.specs.Totals.{number_line}
 use Rattle.std.proofs.lemmas.Option.{get_or_from_slice_get, slice_get_within}
 
--- one member more
+-- One member more.
 pub take_next : {X : Type 0} (xs : List X) (i : ℕ) (x : X) → slice_get xs i ≡ Some x → take (i + 1) xs ≡ take i xs ++ x ∷ []
 take_next xs i x is = take_more xs i x (slice_get_within xs i x is) ∙ ap (λ y. take i xs ++ y ∷ []) (get_or_from_slice_get xs i x x is)
 
--- the piece of one member more
+-- The piece of one member more.
 pub pieces_more : {X : Type 0} (f : X → List ℕ) (xs : List X) (i : ℕ) (x : X) (start now new : List ℕ) → slice_get xs i ≡ Some x → now ≡ start ++ flat_map f (take i xs) → new ≡ now ++ f x → new ≡ start ++ flat_map f (take (i + 1) xs)
 pieces_more f xs i x start now new is so next = next ∙ (ap (λ z. z ++ f x) so ∙ (flat_map_more f start (take i xs) x ∙ ap (λ z. start ++ flat_map f z) (sym (take_next xs i x is))))
 
--- the same behind the first member
+-- The same behind the first member.
 pub others_more : {X : Type 0} (f : X → List ℕ) (xs : List X) (i : ℕ) (x : X) (start now new : List ℕ) → 1 ≤ i → slice_get xs i ≡ Some x → now ≡ start ++ flat_map f (drop 1 (take i xs)) → new ≡ now ++ f x → new ≡ start ++ flat_map f (drop 1 (take (i + 1) xs))
 others_more f xs zero x start now new h is so next = absurd (omega arith)
 others_more f [] (suc i) x start now new h is so next = cc
@@ -29,7 +29,7 @@ others_more f (y ∷ ys) (suc i) x start now new h is so next =
 joined : (a b c d e : List ℕ) → (((a ++ b) ++ c) ++ d) ++ e ≡ a ++ ((b ++ (c ++ d)) ++ e)
 joined a b c d e = simp append_assoc refl
 
--- the line of categories, from its parts
+-- The line of categories, from its parts.
 pub categories_shown : (cs : List (List ℕ)) (first : List ℕ) (n : ℕ) (was a b now : List ℕ) → slice_get cs 0 ≡ Some first → length cs ≤ n → a ≡ was ++ codes "  category " → b ≡ a ++ quoted first → now ≡ b ++ flat_map (λ c. codes ", " ++ quoted c) (drop 1 (take n cs)) → now ++ newline ≡ was ++ categories_line cs
 categories_shown [] first n was a b now is all p q r = cc
 categories_shown (c ∷ cs) first n was a b now is all p q r =
@@ -40,7 +40,7 @@ categories_shown (c ∷ cs) first n was a b now is all p q r =
     let e : now ++ newline ≡ (((was ++ word) ++ quoted c) ++ rest) ++ newline = ap (λ z. z ++ newline) (d ∙ ap (λ z. z ++ rest) (q ∙ (ap (λ z. a ++ quoted z) same ∙ ap (λ z. z ++ quoted c) p))) in
     e ∙ joined was word (quoted c) rest newline
 
--- the lines of a chunk's classes, from their parts
+-- The lines of a chunk's classes, from their parts.
 pub metadata_is : (p : Parts) (k : Classes) (number n : ℕ) (was a b d now : List ℕ) → k ≡ p.classes → length k ≤ n → a ≡ was ++ codes "chunk " → b ≡ a ++ decimal number → d ≡ b ++ newline → now ≡ d ++ flat_map (class_lines k) (take n k) → now ≡ was ++ metadata_shown p number
 unfolding metadata_shown
 metadata_is p k number n was a b d now same all e f g h =
@@ -48,6 +48,6 @@ metadata_is p k number n was a b d now same all e f g h =
     let rest : List ℕ = flat_map (class_lines p.classes) p.classes in
     h ∙ (ap (λ z. d ++ flat_map (class_lines k) z) (take_all n k all) ∙ (ap (λ z. d ++ flat_map (class_lines z) z) same ∙ ap (λ z. z ++ rest) (g ∙ (ap (λ z. z ++ newline) (f ∙ ap (λ z. z ++ decimal number) e))) ∙ simp append_assoc refl))
 
--- a line of a number more
+-- A line of a number more.
 pub line_more : (was now new lines word : List ℕ) (n m : ℕ) → now ≡ was ++ lines → new ≡ now ++ number_line word n → n ≡ m → new ≡ was ++ (lines ++ number_line word m)
 line_more was now new lines word n m so next e = next ∙ (ap (λ k. now ++ number_line word k) e ∙ (ap (λ z. z ++ number_line word m) so ∙ append_assoc was lines (number_line word m)))

@@ -10,7 +10,7 @@ use Rattle.jfr_layout.specs.Classes.{Class, Classes, class_place, extends_event,
 use Rattle.jfr_layout.specs.Events.{event_place}
 use Rattle.jfr_show.specs.Names.{class_name}
 
--- what is found stands at its position
+-- What is found stands at its position.
 stands_by : {X : Type 0} (p : X → Bool) (xs : List X) (n : ℕ) (b : Bool) → nat_lt (position_or_len p xs) (length xs) ≡ b → cond b (Some (position_or_len p xs)) None ≡ Some n → find p xs ≡ slice_get xs n
 stands_by p xs n true e q = let s : position_or_len p xs ≡ n = cc in find_at p xs ∙ ap (slice_get xs) s
 stands_by p xs n false e q = cc
@@ -18,7 +18,7 @@ stands_by p xs n false e q = cc
 stands : {X : Type 0} (p : X → Bool) (xs : List X) (n : ℕ) → position p xs ≡ Some n → find p xs ≡ slice_get xs n
 stands p xs n q = stands_by p xs n (nat_lt (position_or_len p xs) (length xs)) refl q
 
--- what is found has a position
+-- What is found has a position.
 pub record HasPlace (k : Classes) (id : ℕ) : Type 0 where
   pub place : ℕ
   pub is : class_place k id ≡ Some place
@@ -31,7 +31,7 @@ has_place k id c q =
     let w : n < length k = slice_get_within k n c (sym (find_at test k) ∙ q) in
     record { place = n; is = ap (λ b. cond b (Some n) None) (lt-ltb n (length k) w); within = w }
 
--- an event's class is there
+-- An event's class is there.
 event_found : (k : Classes) (id : ℕ) (b : Bool) (o : Option Class) → find_class k id ≡ o → (b && option_map_or extends_event o false) ≡ true → HasPlace k id
 event_found k id true None q e = cc
 event_found k id true (Some c) q e = has_place k id c q
@@ -41,7 +41,7 @@ pub event_has_place : (k : Classes) (id : ℕ) → is_event_class k id ≡ true 
 unfolding is_event_class
 event_has_place k id e = event_found k id (nat_lt 1 id) (find_class k id) refl e
 
--- the name of a class by its place
+-- The name of a class by its place.
 name_by : (k : Classes) (id n : ℕ) (c : Class) (b : Bool) → cond b (class_place k id) None ≡ Some n → slice_get k n ≡ Some c → class_name k id ≡ c.name
 name_by k id n c true q g = ap (λ o. option_map_or (λ (c : Class). c.name) o []) (stands (λ (c : Class). c.id == id) k n q ∙ g)
 name_by k id n c false q g = cc

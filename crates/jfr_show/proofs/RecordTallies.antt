@@ -21,7 +21,7 @@ use Rattle.jfr_show.proofs.TallyLaws.{tally_path}
 turned : (s : Tally) → both s no_tally ≡ both no_tally s
 turned s = tally_path _ _ (omega arith) (omega arith)
 
--- the tally of a class, with a record more
+-- The tally of a class, with a record more.
 class_tally-push : (k : Classes) (i : ℕ) (rs : List Framed) (r : Framed) → class_tally k (rs ++ r ∷ []) i ≡ both (class_tally k rs i) (single (is_at k i r) r)
 class_tally-push k i [] r = class_tally-cons k i r [] ∙ turned (single (is_at k i r) r)
 class_tally-push k i (x ∷ xs) r =
@@ -33,14 +33,14 @@ class_tally-push k i (x ∷ xs) r =
 both_none : (s : Tally) → both s no_tally ≡ s
 both_none s = tally_path _ _ (omega arith) (omega arith)
 
--- a record that is no event leaves the tallies as they are
+-- A record that is no event leaves the tallies as they are.
 pub other_counted : (k : Classes) (rs : List Framed) (r : Framed) (ts : List Tally) → is_event_class k r.type_id ≡ false → AreClassTallies k rs ts → AreClassTallies k (rs ++ r ∷ []) ts
 other_counted k rs r ts no_event a = record {
   count = a.count;
   each = λ i h. a.each i h ∙ ap Some (sym (class_tally-push k i rs r ∙ (ap (λ b. both (class_tally k rs i) (single (option_map_or (λ n. n == i) (cond b (class_place k r.type_id) None) false) r)) no_event ∙ both_none (class_tally k rs i))));
 }
 
--- an event is counted at the place of its class
+-- An event is counted at the place of its class.
 at_place : (k : Classes) (rs : List Framed) (r : Framed) (ts : List Tally) (place : ℕ) (v none : Tally) → event_place k r.type_id ≡ Some place → AreClassTallies k rs ts → v ≡ both (get_or ts place none) (record { events = 1; bytes = r.size })
     → (i : ℕ) → i < length k → (b : Bool) → (place == i) ≡ b → slice_get (slice_set ts place v) i ≡ Some (both (class_tally k rs i) (single b r))
 at_place k rs r ts place v none is a e i h true q =
@@ -62,11 +62,11 @@ event_counted k rs r ts place v none is e a = record {
       ∙ ap Some (sym (class_tally-push k i rs r ∙ ap (λ o. both (class_tally k rs i) (single (option_map_or (λ n. n == i) o false) r)) is));
 }
 
--- the place in an event's layout is that of its class
+-- The place in an event's layout is that of its class.
 pub layout_place : (k : Classes) (id : ℕ) (s : FieldLayout) → IsEventLayout k id s → event_place k id ≡ Some s.place
 layout_place k id s e = ap (λ b. cond b (class_place k id) None) e.event ∙ (ap (λ z. class_place k z.class) (sym e.shape) ∙ e.layout.place)
 
--- no records
+-- No records.
 pub none_counted : (k : Classes) (n : ℕ) → n ≡ length k → AreClassTallies k [] (replicate n no_tally)
 none_counted k n e = record {
   count = length-replicate n no_tally ∙ e;
@@ -74,7 +74,7 @@ none_counted k n e = record {
       slice_get-get_or (replicate n no_tally) i no_tally l ∙ ap Some (get_or-replicate n i no_tally no_tally (omega arith)));
 }
 
--- the tallies of few records are small
+-- The tallies of few records are small.
 pub counted_small : (k : Classes) (rs : List Framed) (n i : ℕ) (ts : List Tally) → AreWithin rs n → n < 2 ^ 28 → AreClassTallies k (take i rs) ts → AreSmall ts
 counted_small k rs n i ts w small a = record {
   each = λ place t g. (let within : place < length k = let l = slice_get_within ts place t g in let c = a.count in omega arith in
@@ -85,7 +85,7 @@ counted_small k rs n i ts w small a = record {
       (omega arith, omega arith));
 }
 
--- one record more is counted; the tallies stand at the front of their vector
+-- One record more is counted; the tallies stand at the front of their vector.
 pub next_counted : (k : Classes) (rs : List Framed) (i n : ℕ) (r : Framed) (old new rest : List Tally) → slice_get rs i ≡ Some r → length new ≡ n → AreClassTallies k (take i rs) old → ((xs : List Framed) → AreClassTallies k xs old → AreClassTallies k (xs ++ r ∷ []) new) → AreClassTallies k (take (i + 1) rs) (take n (new ++ rest))
 next_counted k rs i n r old new rest there l a step =
     let front : take n (new ++ rest) ≡ new = ap (λ m. take m (new ++ rest)) (sym l) ∙ take-append_seam new rest in

@@ -22,12 +22,12 @@ use Rattle.jfr_show.specs.declared.tally.Tally.{Tally}
 use Rattle.jfr_show.specs.Counting.{AddsEvents, AreBelow, FitsUnder, added, both, class_tally, is_at, no_tally}
 use Rattle.jfr_show.specs.Totals.{Occurrence, Tallies, occurrence, occurrences, of_name, tally_of}
 
--- no more than so many records, of no more than so many bytes
+-- No more than so many records, of no more than so many bytes.
 pub record AreWithin (rs : List Framed) (n : ℕ) : Type 0 where
   pub count : length rs ≤ n
   pub bytes : sum_by (λ r. r.size) rs ≤ n
 
--- no more than so many events, of no more than so many bytes
+-- No more than so many events, of no more than so many bytes.
 pub record IsWithin (t : Tally) (n : ℕ) : Type 0 where
   pub events : t.events ≤ n
   pub bytes : t.bytes ≤ n
@@ -46,18 +46,18 @@ tiles_within c p q (r ∷ rs) t =
 pub records_within : (c : List ℕ) (rs : List Framed) → AreRecords c rs → AreWithin rs (length c)
 records_within c rs t = let i = tiles_within c 68 (length c) rs t in record { count = omega (arith, i.0); bytes = omega (arith, i.1) }
 
--- each of the records is as small
+-- Each of the records is as small.
 pub record_within : (rs : List Framed) (n i : ℕ) (r : Framed) → AreWithin rs n → slice_get rs i ≡ Some r → r.size ≤ n
 record_within rs n i r w g =
     let a : r.size ≤ sum_by (λ (r : Framed). r.size) rs = subst (λ (x : Framed). x.size ≤ sum_by (λ (r : Framed). r.size) rs) (get_or_from_slice_get rs i r r g) (get_or-le-sum_by (λ (r : Framed). r.size) rs i r (slice_get_within rs i r g)) in
     let b = w.bytes in
     omega arith
 
--- the first records
+-- The first records.
 pub front_within : (rs : List Framed) (n i : ℕ) → AreWithin rs n → AreWithin (take i rs) n
 front_within rs n i w = let a = w.count in let b = w.bytes in let c = sum_by-take-le (λ (r : Framed). r.size) rs i in let d = length-take i rs in record { count = omega arith; bytes = omega arith }
 
--- those records that pass a test, as events
+-- Those records that pass a test, as events.
 chosen_most : (k : Classes) (test : Framed → Bool) (rs : List Framed) → (length (map (occurrence k) (filter test rs)) ≤ length rs) × (sum_by (λ e. e.size) (map (occurrence k) (filter test rs)) ≤ sum_by (λ r. r.size) rs)
 chosen_most k test [] = (omega arith, omega arith)
 chosen_most k test (r ∷ rs) = by_test (test r) (chosen_most k test rs)
@@ -79,7 +79,7 @@ chosen_most k test (r ∷ rs) = by_test (test r) (chosen_most k test rs)
 pub chosen_within : (k : Classes) (test : Framed → Bool) (rs : List Framed) (n : ℕ) → AreWithin rs n → IsWithin (tally_of (map (occurrence k) (filter test rs))) n
 chosen_within k test rs n w = let i = chosen_most k test rs in let a = i.0 in let b = i.1 in let c = w.count in let d = w.bytes in record { events = omega arith; bytes = omega arith }
 
--- those of a name
+-- Those of a name.
 named_most : (q : List ℕ) (es : List Occurrence) → (length (of_name q es) ≤ length es) × (sum_by (λ e. e.size) (of_name q es) ≤ sum_by (λ e. e.size) es)
 named_most q [] = (omega arith, omega arith)
 named_most q (e ∷ es) = by_test (bytes_eq e.name q) (named_most q es)
@@ -101,7 +101,7 @@ named_most q (e ∷ es) = by_test (bytes_eq e.name q) (named_most q es)
 named_within : (q : List ℕ) (es : List Occurrence) (n : ℕ) → IsWithin (tally_of es) n → IsWithin (tally_of (of_name q es)) n
 named_within q es n w = let i = named_most q es in let a = i.0 in let b = i.1 in let c = w.events in let d = w.bytes in record { events = omega arith; bytes = omega arith }
 
--- what is added stays as far below as it adds
+-- What is added stays as far below as it adds.
 added_within : (o : Option Tally) (s t : Tally) (most n : ℕ) → ((kept : Tally) → o ≡ Some kept → (kept.events ≤ most) × (kept.bytes ≤ most)) → IsWithin s n → added o s ≡ Some t → (t.events ≤ most + n) × (t.bytes ≤ most + n)
 added_within o s t most n h w e = by_events (s.events == 0) o h e
   where
@@ -132,11 +132,11 @@ added_within o s t most n h w e = by_events (s.events == 0) o h e
 pub events_below : (old now : Tallies) (es : List Occurrence) (most n : ℕ) → AddsEvents old es now → IsWithin (tally_of es) n → AreBelow most old → AreBelow (most + n) now
 events_below old now es most n a w b = record { each = λ q t e. added_within (fin.get old q) (tally_of (of_name q es)) t most n (b.each q) (named_within q es n w) (sym (a.each q) ∙ e) }
 
--- a tally that is small fits under each name
+-- A tally that is small fits under each name.
 pub below_fits : (m : Tallies) (q : List ℕ) (t : Tally) (most n : ℕ) → AreBelow most m → IsWithin t n → most + n < 2 ^ 64 → FitsUnder m q t
 below_fits m q t most n b w h = record { each = λ kept e. (let k = b.each q kept e in let f = k.0 in let g = k.1 in let c = w.events in let d = w.bytes in (omega arith, omega arith)) }
 
--- the events of a chunk are its records of event classes
+-- The events of a chunk are its records of event classes.
 named_events : (c : List ℕ) (k : Classes) (rs : List Framed) → AllByRecursion (IsRecord c) rs → AllByRecursion (HasFields c k) rs → map (λ e. occurrence k e.record_of) (filter_map (event_of c k) rs) ≡ map (occurrence k) rs
 named_events c k [] a h = refl
 named_events c k (r ∷ rs) a h =

@@ -23,32 +23,32 @@ use Rattle.jfr_show.specs.Counting.{AddsEvents, AddsTally, added, both, no_tally
 use Rattle.jfr_show.specs.Held.{entry_of, tallies_in}
 use Rattle.jfr_show.specs.Totals.{Occurrence, Tallies, of_name, tallies_of, tally_of}
 
--- tallies in memory, by name
+-- Tallies in memory, by name.
 abbrev pub TallyMap : Type 0
 TallyMap = BTreeMap (String Global) Tally
 
--- a name finds the same among the entries of both
+-- A name finds the same among the entries of both.
 found_in : (q : List ℕ) (es : List (String Global × Tally)) → find (slice_cmp nat_cmp) q (map entry_of es) ≡ lookup (is_at (λ k. slice_cmp nat_cmp q (string_bytes k))) es
 found_in q [] = refl
 found_in q (e ∷ es) = ap (cond (is_eq (slice_cmp nat_cmp q (string_bytes e.0))) (Some e.1)) (found_in q es)
 
--- a tally of the map
+-- A tally of the map.
 pub get-tallies_in : (m : TallyMap) (q : List ℕ) → fin.get (tallies_in m) q ≡ get_by_text m q
 get-tallies_in m q = get-from_entries nat_list_cmp_total (map entry_of m.entries) q ∙ found_in q m.entries
 
--- a map without entries has no tally
+-- A map without entries has no tally.
 pub none_there : (m : TallyMap) (q : List ℕ) (t : Tally) → m.entries ≡ [] → fin.get (tallies_in m) q ≡ Some t → ⊥
 none_there m q t e is = let n : None ≡ Some t = sym (get-tallies_in m q ∙ ap (lookup (is_at (λ k. slice_cmp nat_cmp q (string_bytes k)))) e) ∙ is in cc
 
--- a change at one name
+-- A change at one name.
 changed : (m n : TallyMap) (name : List ℕ) (v : Tally) → UpdatesBy string_cmp (λ k. slice_cmp nat_cmp name (string_bytes k)) m n (Some v) → (q : List ℕ) → fin.get (tallies_in n) q ≡ cond (bytes_eq name q) (Some v) (fin.get (tallies_in m) q)
 changed m n name v u q = get-tallies_in n q ∙ (btree_map_updates_text name m n (Some v) u q ∙ ap (cond (bytes_eq name q) (Some v)) (sym (get-tallies_in m q)))
 
--- equal numbers, equal tallies
+-- Equal numbers, equal tallies.
 pub tally_path : (s t : Tally) → s.events ≡ t.events → s.bytes ≡ t.bytes → s ≡ t
 tally_path s t a b = λ i. record { events = a i; bytes = b i }
 
--- of a tally that has events, what is added under a name
+-- Of a tally that has events, what is added under a name.
 under : (b : Bool) (kept o : Option Tally) (t : Tally) → (t.events == 0) ≡ false → (b ≡ true → o ≡ kept) → cond b (Some (both (unwrap_or kept no_tally) t)) o ≡ cond b (added o t) o
 under true kept o t h same = ap (λ k. Some (both (unwrap_or k no_tally) t)) (sym (same refl)) ∙ sym (ap (λ z. cond z o (Some (both (unwrap_or o no_tally) t))) h)
 under false kept o t h same = refl
@@ -61,18 +61,18 @@ adds_by m n name kept t v h is e u = record {
       ∙ under (bytes_eq name q) kept (fin.get (tallies_in m) q) t h (λ b. ap (fin.get (tallies_in m)) (sym ((bytes_eq-Decides name q).0 b)) ∙ (get-tallies_in m name ∙ is)));
 }
 
--- the tally under a name is replaced by that and another
+-- The tally under a name is replaced by that and another.
 pub adds_kept : (m n : TallyMap) (name : List ℕ) (kept t v : Tally) → (t.events == 0) ≡ false → Some kept ≡ get_by_text m name → v ≡ both kept t → UpdatesBy string_cmp (λ k. slice_cmp nat_cmp name (string_bytes k)) m n (Some v) → AddsTally (tallies_in m) name t (tallies_in n)
 adds_kept m n name kept t v h is e u = adds_by m n name (Some kept) t v h (sym is) e u
 
--- a tally is put under a name that had none
+-- A tally is put under a name that had none.
 pub adds_new : (m looked n : TallyMap) (key : String Global) (name : List ℕ) (t : Tally) → looked ≡ m → (t.events == 0) ≡ false → string_bytes key ≡ name → None ≡ get_by_text m name → UpdatesBy string_cmp (string_cmp key) looked n (Some t) → AddsTally (tallies_in m) name t (tallies_in n)
 adds_new m looked n key name t same h k is u =
     let alone : t ≡ both no_tally t = tally_path t (both no_tally t) (omega arith) (omega arith) in
     let at : AddsTally (tallies_in m) (string_bytes key) t (tallies_in n) = adds_by m n (string_bytes key) None t t h (ap (get_by_text m) k ∙ sym is) alone (subst (λ z. UpdatesBy string_cmp (string_cmp key) z n (Some t)) same u) in
     subst (λ z. AddsTally (tallies_in m) z t (tallies_in n)) k at
 
--- names that ascend are in the order of a map
+-- Names that ascend are in the order of a map.
 below_names : (x : String Global) (es : List (String Global × Tally)) → AllByRecursion (λ y. string_cmp x y ≡ Less) (keys_of es) → T (below_all (slice_cmp nat_cmp) (string_bytes x) (map entry_of es))
 below_names x [] h = tt
 below_names x (e ∷ es) h = both_true _ _ (subst (λ o. T (is_lt o)) (sym h.0) tt) (below_names x es h.1)
@@ -90,7 +90,7 @@ names_sorted (e ∷ es) h = both_true _ _ (below_names e.0 es h.0) (names_sorted
     both_true true b p q = q
     both_true false b p q = p
 
--- the entries of the map, in order
+-- The entries of the map, in order.
 pub entries-tallies_in : (m : TallyMap) → IsStrictlySortedBy string_cmp (keys_of m.entries) → fin.entries (tallies_in m) ≡ map entry_of m.entries
 entries-tallies_in m h =
     let es : List (List ℕ × Tally) = map entry_of m.entries in

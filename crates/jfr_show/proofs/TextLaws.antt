@@ -26,7 +26,7 @@ grown_char was old new c v u s e =
     let one : chars (encode c) ≡ c ∷ [] = ap chars (sym (append-nil (encode c))) ∙ chars-encodes (c ∷ []) t in
     grown was old new (encode c) v u e ∙ ap (λ z. was ++ z) one
 
--- so many levels, and one more
+-- So many levels, and one more.
 abbrev spaces : ℕ → List ℕ
 spaces n = replicate n 32
 

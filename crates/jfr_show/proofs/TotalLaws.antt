@@ -22,20 +22,20 @@ use Rattle.jfr_show.specs.Totals.{Occurrence, Tallies, Totals, beginning_of, cou
 use Rattle.jfr_show.proofs.ClassTallies.{added_some, added_twice, both_none}
 use Rattle.jfr_show.proofs.TallyLaws.{tally_path}
 
--- names tie where they have the same bytes
+-- Names tie where they have the same bytes.
 tied : (a b : List ℕ) → eq_by_cmp (slice_cmp nat_cmp) a b ≡ bytes_eq b a
 tied a b = (eq_by_cmp_equiv nat_list_cmp_total).symm a b ∙ is_eq-slice_cmp b a
 
--- what is put under an event's name
+-- What is put under an event's name.
 abbrev entry : List Occurrence → Occurrence → List ℕ × Tally
 entry all e = (e.name, tally_of (of_name e.name all))
 
--- the tally of all, where there are some
+-- The tally of all, where there are some.
 some_of : List Occurrence → Tally → Option Tally
 some_of [] t = None
 some_of (e ∷ es) t = Some t
 
--- what is found under a name
+-- What is found under a name.
 found : (all es : List Occurrence) (q : List ℕ) → find (slice_cmp nat_cmp) q (map (entry all) es) ≡ some_of (of_name q es) (tally_of (of_name q all))
 unfolding some_of
 found all [] q = refl
@@ -55,7 +55,7 @@ unfolding some_of
 some_added [] = refl
 some_added (e ∷ es) = sym (added_some None (length es) (tally_of (e ∷ es)) refl ∙ ap Some (none_less (tally_of (e ∷ es))))
 
--- under each name the events of that name are added to nothing
+-- Under each name the events of that name are added to nothing.
 get-tallies_of : (es : List Occurrence) (q : List ℕ) → fin.get (tallies_of es) q ≡ added None (tally_of (of_name q es))
 get-tallies_of es q = get-from_entries nat_list_cmp_total (map (entry es) es) q ∙ (found es es q ∙ some_added (of_name q es))
 
@@ -67,7 +67,7 @@ of_name-append q (x ∷ xs) ys = by_name (bytes_eq x.name q) (of_name-append q x
     by_name true h = ap (λ es. x ∷ es) h
     by_name false h = h
 
--- events that are added to the tallies of others
+-- Events that are added to the tallies of others.
 pub tallies_next : (ds es : List Occurrence) (now : Tallies) → AddsEvents (tallies_of ds) es now → now ≡ tallies_of (ds ++ es)
 tallies_next ds es now a =
     same_map nat_list_cmp_total (slice_cmp-IsAntisymmetric nat_cmp-IsAntisymmetric) now (tallies_of (ds ++ es)) (λ q.
@@ -84,7 +84,7 @@ first_next (x ∷ xs) p = refl
 all_next : (ps : List Parts) (p : Parts) → flat_map occurrences ps ++ occurrences p ≡ flat_map occurrences (ps ++ p ∷ [])
 all_next ps p = sym (flat_map-append occurrences ps (p ∷ []) ∙ ap (λ es. flat_map occurrences ps ++ es) (append-nil (occurrences p)))
 
--- the numbers of a chunk
+-- The numbers of a chunk.
 pub record AreNumbers (p : Parts) (n0 n1 n2 n3 n4 n5 : ℕ) : Type 0 where
   pub size : n0 ≡ length p.bytes
   pub duration : n1 ≡ (header_in p).duration_nanos
@@ -108,7 +108,7 @@ totals_next ps p first size duration events checkpoints constants inert m f n a 
     let q8 = tallies_next (flat_map occurrences ps) (occurrences p) m a ∙ ap tallies_of (all_next ps p) in
     λ i. record { first = q0 i; chunks = q1 i; bytes = q2 i; duration = q3 i; events = q4 i; checkpoints = q5 i; constants = q6 i; inert = q7 i; tallies = q8 i }
 
--- totals with these numbers more
+-- Totals with these numbers more.
 abbrev pub more : Totals → Option Beginning → (n0 n1 n2 n3 n4 n5 : ℕ) → Tallies → Totals
 more t first n0 n1 n2 n3 n4 n5 m = record { first = first; chunks = t.chunks + 1; bytes = t.bytes + n0; duration = t.duration + n1; events = t.events + n2; checkpoints = t.checkpoints + n3; constants = t.constants + n4; inert = t.inert + n5; tallies = m }
 

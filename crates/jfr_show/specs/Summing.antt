@@ -19,7 +19,8 @@ totals_in s = record {
   tallies = tallies_in s.tallies;
 }
 
--- A chunk has less than 2^28 bytes, and no more events, checkpoints, entries or other records than bytes. So no sum over fewer than 2^35 chunks wraps in 64 bits, nor one of durations in 128.
+-- A chunk has less than 2^28 bytes, and no more events, checkpoints, entries or other records than bytes.
+-- So no sum over fewer than 2^35 chunks wraps in 64 bits, nor one of durations in 128.
 pub record IsBounded (t : Totals) : Type 0 where
   pub chunks : t.chunks ≤ 2 ^ 35
   pub bytes : t.bytes ≤ 2 ^ 28 * t.chunks

@@ -19,8 +19,8 @@ indent level = replicate (2 * level) 32
 abbrev pub hex_byte : ℕ → List ℕ
 hex_byte b = digit_char (b / 16) ∷ digit_char (b % 16) ∷ []
 
--- A quote and a backslash stand behind a backslash; a character below U+0020, and U+007F, is \u and its number in four
--- hexadecimal digits; every other character is itself.
+-- A quote and a backslash stand behind a backslash; a character below U+0020, and U+007F, is \u and its
+-- number in four hexadecimal digits; every other character is itself.
 abbrev pub escaped : ℕ → List ℕ
 escaped c =
     if c == 34 then 92 ∷ 34 ∷ []

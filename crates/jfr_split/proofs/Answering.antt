@@ -21,7 +21,7 @@ for_all : (b : Option World) (F : World → Type 0) → ((w : World) → F w) �
 for_all None F f = tt
 for_all (Some w) F f = f w
 
--- the plan's end, or want of memory
+-- The plan's end, or want of memory.
 pub files_complete : (plan : Files → Plan) (way : Way) (a b : Outside) → AfterFiles plan way a b → Tallied File way a b → FilesComplete plan way a b
 files_complete plan (Ends e) a b t c = λ p q.
     told_before a.place.told b.place.told (λ w v. AllDone (plan w.files) e (stand w a.sink.written) (stand v b.sink.written)) (λ w. IsPlanned (Ends e) (plan w.files).end) t (λ w v h. ByPlan e refl h.end)
@@ -30,7 +30,7 @@ files_complete plan NotWritten a b t c = λ p q. absurd (q c.1.1)
 files_complete plan NoRoom a b t c = λ p q. for_all a.place.told (λ w. IsPlanned NoRoom (plan w.files).end) (λ w. ForMemory refl)
 
 module _ (out : List ℕ) where
-  -- these effects can be done wherever this output is open
+  -- These effects can be done wherever this output is open.
   abbrev CanGrow : List Effect → Type 0
   CanGrow es = (s : Stand) → s.output ≡ Some out → Cans es s
 
@@ -55,7 +55,7 @@ module _ (out : List ℕ) where
   all_can [] s o = tt
   all_can (x ∷ xs) s o = joining_can [] (x ∷ xs) s o
 
--- a steady place without an open output gives no write fault for a new name
+-- A steady place without an open output gives no write fault for a new name.
 pub can_create : (folder out : List ℕ) (e : Ending) (a b : Outside) → CanCreate out a.place → AfterFiles (assembling folder out) (way_of e) a b → e ≡ WriteFault → ⊥
 can_create folder out e a b c t is =
     let h : AfterFiles (assembling folder out) NotWritten a b = subst (λ (y : Ending). AfterFiles (assembling folder out) (way_of y) a b) is t in

@@ -25,7 +25,7 @@ use Rattle.jfr_split.proofs.Sorting.{bytes_of}
 use Rattle.jfr_split.proofs.Composing.{outcome_after}
 use Rattle.jfr_split.proofs.Joined.{part_ended}
 
--- each entry of a list in order is found under its key
+-- Each entry of a list in order is found under its key.
 apart_less : (a b : Ordering) → b ≡ ordering_reverse a → T (is_lt a) → is_eq b ≡ false
 apart_less Less b e h = ap is_eq e
 apart_less Equal b e h = absurd h
@@ -42,7 +42,7 @@ own_entries [] s = tt
 own_entries (e ∷ es) s =
     (ap (λ (b : Bool). cond b (Some e.1) (find order e.0 es)) (is_self e.0), own_later e es es (first_holds (below_all order e.0 es) (is_sorted order es) s) (own_entries es (second_holds (below_all order e.0 es) (is_sorted order es) s)))
 
--- the files that are joined are files
+-- The files that are joined are files.
 pub kept_at : (folder : List ℕ) (files : Files) (q : List ℕ) → fin.get (files_in folder files) q ≡ cond (is_joined folder q) (fin.get files q) None
 kept_at folder files q = get-retain_keys files (is_joined folder) q (λ x e. ap (is_joined folder) (sym (slice_cmp-IsAntisymmetric nat_cmp-IsAntisymmetric q x e)))
 
@@ -79,7 +79,7 @@ was_new : (o p : Option (List ℕ)) → true ≡ (true && not (is_some o) && not
 was_new None p e = refl
 was_new (Some x) p e = cc
 
--- the output is there beside the files that are joined
+-- The output is there beside the files that are joined.
 can_join : (folder out : List ℕ) (names : List (List ℕ)) (w v : World) → names ≡ fin.keys (files_in folder w.files) → stand v None ≡ done (Create out ∷ []) (stand w None) → CanJoin out names (fin.values (files_in folder w.files)) v
 can_join folder out names w v are s =
     let es = fin.entries (files_in folder w.files) in
@@ -92,7 +92,7 @@ can_join folder out names w v are s =
       held = ap (λ (fs : Files). map (λ q. fin.get fs q) names) files ∙ ap (λ (ns : List (List ℕ)). map (λ q. fin.get (fin.insert w.files out []) q) ns) are ∙ held_all es out w.files new there;
     }
 
--- the output was created, and then the files were joined
+-- The output was created, and then the files were joined.
 pub assembled : (steady : Bool) (folder out : List ℕ) (names : List (List ℕ)) (way : Way) (o : Unit {0}) (b a e : Option World) → IfSome b (λ w. names ≡ fin.keys (files_in folder w.files)) → Told b a (PartTold steady (Goes (Create out ∷ [])) (Ok o) None None)
     → ((contents : List (List ℕ)) → IfSome a (CanJoin out names contents) → Told a e (λ v u. FilesOutcome steady (joining_all contents) way (stand v None) (stand u None)))
     → Told b e (λ w u. FilesOutcome steady (assembling folder out w.files) way (stand w None) (stand u None))
@@ -103,12 +103,12 @@ assembled steady folder out names way o (Some w) (Some v) (Some u) are c f =
     let contents = fin.values (files_in folder w.files) in
     outcome_after steady (Create out ∷ []) (assembling folder out w.files) (joining_all contents) way (stand w None) (stand v None) (stand u None) refl refl refl c.1.1 (f contents (can_join folder out names w v are c.1.1))
 
--- the output could not be created
+-- The output could not be created.
 pub not_created : (steady : Bool) (folder out : List ℕ) (ending : Ending) (b a : Option World) → Told b a (PartTold steady (Goes (Create out ∷ [])) (Err ending) None None) → Told b a (λ w v. FilesOutcome steady (assembling folder out w.files) (way_of ending) (stand w None) (stand v None))
 not_created steady folder out ending b a h =
     map_told b a (PartTold steady (Goes (Create out ∷ [])) (Err ending) None None) (λ w v. FilesOutcome steady (assembling folder out w.files) (way_of ending) (stand w None) (stand v None)) h
     (λ w v k. part_ended steady (Create out ∷ []) (effects (joining_all (fin.values (files_in folder w.files))).steps) (assembling folder out w.files) (way_of ending) (stand w None) (stand v None) refl k.1)
 
--- what holds from a place as it was before holds from one that tells the same
+-- What holds from a place as it was before holds from one that tells the same.
 pub told_same : (P : Bool → World → World → Type 0) (st st' : Bool) (b b' a : Option World) → st' ≡ st → b' ≡ b → Told b' a (P st') → Told b a (P st)
 told_same P st st' b b' a e f h = subst (λ (y : Option World). Told y a (P st)) f (subst (λ (y : Bool). Told b' a (P y)) e h)

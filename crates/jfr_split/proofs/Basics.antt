@@ -36,7 +36,7 @@ none_is (Some x) e h = cc
 pub same_end : (a b : End) → ◌≡◌ {A = Option End} (Some a) (Some b) → a ≡ b
 same_end a b e = cc
 
--- effects are no end
+-- Effects are no end.
 pub goes_stops : (es : List Effect) (e : End) → Goes es ≡ Stops e → ⊥
 goes_stops es e h = cc
 
@@ -48,7 +48,7 @@ pub for_both : {X : Type 0} (P Q R : X → Type 0) (xs : List X) → ((x : X) �
 for_both P Q R [] f h k = tt
 for_both P Q R (x ∷ xs) f h k = (f x h.0 k.0, for_both P Q R xs f h.1 k.1)
 
--- what is told before a call, from a claim on it and what is told after
+-- What is told before a call, from a claim on it and what is told after.
 pub told_before : (b a : Option World) (P : World → World → Type 0) (F : World → Type 0) → Told b a P → ((w v : World) → P w v → F w) → IfSome b F
 told_before None a P F t f = tt
 told_before (Some w) None P F t f = absurd t

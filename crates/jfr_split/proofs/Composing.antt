@@ -10,7 +10,7 @@ use Rattle.jfr_split.specs.Clauses.{is_finish, Unfinished, FilesOutcome}
 use Rattle.jfr_split.specs.Joins.{then_by, plan_then}
 use Rattle.jfr_split.proofs.Basics.{same_end}
 
--- more effects come after these
+-- More effects come after these.
 pub some_more : (a b all : List Effect) (s t : Stand) → all ≡ a ++ b → SomeDone a s t → SomeDone all s t
 some_more a b all s t e h = record { first = h.first; rest = h.rest ++ b; parts = e ∙ ap (λ (x : List Effect). x ++ b) h.parts ∙ append_assoc h.first h.rest b; stands = h.stands }
 
@@ -35,7 +35,7 @@ unfinished_more steady a b all s t e h = record {
   cause = h.cause;
 }
 
--- these effects were done before
+-- These effects were done before.
 some_after : (a b : List Effect) (s t u : Stand) → t ≡ done a s → SomeDone b t u → SomeDone (a ++ b) s u
 some_after a b s t u e h = record {
   first = a ++ h.first;
@@ -67,7 +67,7 @@ unfinished_after steady a b s t u n e h = record {
   cause = h.cause;
 }
 
--- what stands by a plan, and the effects of which were done before, stands by the plan of both
+-- What stands by a plan, and the effects of which were done before, stands by the plan of both.
 pub outcome_after : (steady : Bool) (a : List Effect) (all later : Plan) (way : Way) (s t u : Stand) → effects all.steps ≡ a ++ effects later.steps → all.end ≡ later.end → list_any is_finish a ≡ false → t ≡ done a s → FilesOutcome steady later way t u → FilesOutcome steady all way s u
 outcome_after steady a all later (Ends e) s t u c d n k h = record {
   end = d ∙ h.end;
@@ -77,7 +77,7 @@ outcome_after steady a all later NotRead s t u c d n k h = subst (λ (x : List E
 outcome_after steady a all later NotWritten s t u c d n k h = subst (λ (x : List Effect). Breaks steady x s u) (sym c) (breaks_after steady a (effects later.steps) s t u k h)
 outcome_after steady a all later NoRoom s t u c d n k h = subst (λ (x : List Effect). SomeDone x s u) (sym c) (some_after a (effects later.steps) s t u k h)
 
--- a plan goes on with another
+-- A plan goes on with another.
 record GoesOn (p q : Plan) : Type 0 where
   pub later : List Effect
   pub is : effects q.steps ≡ effects p.steps ++ later
@@ -91,21 +91,21 @@ goes_by ss None later = record { later = []; is = sym (append-nil (effects ss)) 
 goes_on : (p later : Plan) → GoesOn p (plan_then p later)
 goes_on p later = goes_by p.steps p.end later
 
--- a plan that doesn't end well ends there
+-- A plan that doesn't end well ends there.
 ends_by : (ss : List Step) (o : Option End) (e : End) (later : Plan) (s t : Stand) → (e ≡ Fine → ⊥) → AllDone (record { steps = ss; end = o }) e s t → AllDone (then_by o (record { steps = ss; end = o }) later) e s t
 ends_by ss (Some Fine) e later s t n h = absurd (n (sym (same_end Fine e h.end)))
 ends_by ss (Some (Refused r)) e later s t n h = h
 ends_by ss (Some TooMany) e later s t n h = h
 ends_by ss None e later s t n h = h
 
--- the first plan did not end well
+-- The first plan did not end well.
 pub outcome_stops : (steady : Bool) (p later : Plan) (way : Way) (s t : Stand) → (way ≡ Ends Fine → ⊥) → FilesOutcome steady p way s t → FilesOutcome steady (plan_then p later) way s t
 outcome_stops steady p later (Ends e) s t n h = ends_by p.steps p.end e later s t (λ k. n (ap (λ (x : End). Ends x) k)) h
 outcome_stops steady p later NotRead s t n h = let g = goes_on p later in unfinished_more steady (effects p.steps) g.later (effects (plan_then p later).steps) s t g.is h
 outcome_stops steady p later NotWritten s t n h = let g = goes_on p later in breaks_more steady (effects p.steps) g.later (effects (plan_then p later).steps) s t g.is h
 outcome_stops steady p later NoRoom s t n h = let g = goes_on p later in some_more (effects p.steps) g.later (effects (plan_then p later).steps) s t g.is h
 
--- a plan that ends well is followed by the next
+-- A plan that ends well is followed by the next.
 pub record Follows (p later : Plan) (es : List Effect) : Type 0 where
   pub steps : effects (plan_then p later).steps ≡ es ++ effects later.steps
   pub end : (plan_then p later).end ≡ later.end

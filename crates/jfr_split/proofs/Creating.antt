@@ -24,12 +24,12 @@ use Rattle.jfr_split.proofs.Naming.{names_rise}
 use Rattle.jfr_split.proofs.Ordered.{order, order_same}
 use Rattle.jfr_split.proofs.Over.{is, Rises, same_name, look}
 
--- what is asked for, before later effects
+-- What is asked for, before later effects.
 abbrev on : Asked → List Effect → List Effect
 on (Stops e) later = []
 on (Goes es) later = es ++ later
 
--- the effects of chunks that come after a part
+-- The effects of chunks that come after a part.
 abbrev parted : SplitRule → (ℕ → List ℕ) → Part → List (List ℕ) → Option Flaw → List Effect
 parted rule name p [] None = closing p
 parted rule name p [] (Some f) = []
@@ -48,18 +48,18 @@ walked rule name before (c ∷ cs) flaw =
     walked_on a (length before + 1) (walk (splitting_as rule name) (before ++ c ∷ []) cs flaw)
     ∙ ap (on a) (walked rule name (before ++ c ∷ []) cs flaw ∙ ap (λ (q : Part). parted rule name q cs flaw) (of_snoc rule before c))
 
--- the name of a part after number n, up to the top
+-- The name of a part after number n, up to the top.
 abbrev IsLater : (ℕ → List ℕ) → ℕ → ℕ → List ℕ → Type 0
 IsLater name n top q = (m : ℕ) × (n < m) × (m ≤ top) × (q ≡ name m)
 
 abbrev AllLater : (ℕ → List ℕ) → ℕ → ℕ → List Effect → Type 0
 AllLater name n top es = AllByRecursion (IsLater name n top) (created_names es)
 
--- later effects still create later parts
+-- Later effects still create later parts.
 still_later : (name : ℕ → List ℕ) (n m top : ℕ) (es : List Effect) → n ≤ m → AllLater name m top es → AllLater name n top es
 still_later name n m top es l h = for_each (IsLater name m top) (IsLater name n top) (created_names es) (λ q k. (k.0, omega (arith, l, k.1), k.2, k.3)) h
 
--- the effects of a new part, by whether there is none before
+-- The effects of a new part, by whether there is none before.
 abbrev new_by : Bool → List ℕ → List ℕ → List Effect → List Effect
 new_by z name c later = ((if z then [] else Finish ∷ []) ++ Create name ∷ Append c ∷ []) ++ later
 
@@ -93,7 +93,7 @@ all_later rule name p [] None = later_end (p.number == 0) name p.number rule.max
 all_later rule name p [] (Some f) = tt
 all_later rule name p (c ∷ cs) flaw = later_by (begins rule p c) rule name p c (parted rule name (part_with rule p c) cs flaw) (all_later rule name (part_with rule p c) cs flaw)
 
--- no file has a name that these effects create
+-- No file has a name that these effects create.
 abbrev AllNew : Files → List Effect → Type 0
 AllNew files es = AllByRecursion (λ q. fin.get files q ≡ None) (created_names es)
 
@@ -108,7 +108,7 @@ no_tie true name top n m r l k e =
     less_equal : ◌≡◌ {A = Ordering} Less Equal → ⊥
     less_equal e = cc
 
--- an entry of this part leaves the names of later parts new
+-- An entry of this part leaves the names of later parts new.
 new_after : (name : ℕ → List ℕ) (n top : ℕ) (files : Files) (v : List ℕ) (es : List Effect) → Rises name top → AllLater name n top es → AllNew files es → AllNew (fin.insert files (name n) v) es
 new_after name n top files v es r later new =
     for_both (IsLater name n top) (λ q. fin.get files q ≡ None) (λ q. fin.get (fin.insert files (name n) v) q ≡ None) (created_names es)
@@ -117,7 +117,7 @@ new_after name n top files v es r later new =
     look files (name n) v q ∙ ap (λ (b : Bool). cond b (Some v) (fin.get files q)) apart ∙ h)
     later new
 
--- the name of the open output while a part is filled
+-- The name of the open output while a part is filled.
 abbrev open_name : (ℕ → List ℕ) → ℕ → Option (List ℕ)
 open_name name n = if n == 0 then None else Some (name n)
 
@@ -128,7 +128,7 @@ open_next name n = open_by (n + 1 == 0) refl
     open_by true e = absurd (grind (arith, common_steps, e))
     open_by false e = refl
 
--- what follows a part: it can be done wherever this part is open and the names of the later ones are new
+-- What follows a part: it can be done wherever this part is open and the names of the later ones are new.
 abbrev CanFollow : (ℕ → List ℕ) → ℕ → List Effect → Type 0
 CanFollow name n es = (s : Stand) → s.output ≡ open_name name n → AllNew s.files es → Cans es s
 
@@ -136,11 +136,11 @@ grown_new : (name : ℕ → List ℕ) (n top : ℕ) (files : Files) (o : Option 
 grown_new name n top files o c es e r later new =
     subst (λ (y : Option (List ℕ)). AllNew (grown y c files) es) (sym e) (new_after name n top files (unwrap_or (fin.get files (name n)) [] ++ c) es r later new)
 
--- the chunk goes to the open part
+-- The chunk goes to the open part.
 more_can : (name : ℕ → List ℕ) (n top : ℕ) (c : List ℕ) (later : List Effect) (s : Stand) → Rises name top → AllLater name n top later → CanFollow name n later → s.output ≡ Some (name n) → open_name name n ≡ Some (name n) → AllNew s.files later → Cans (Append c ∷ later) s
 more_can name n top c later s r l f o here new = (some_none s.output (name n) o, f (apply (Append c) s) (o ∙ sym here) (grown_new name n top s.files s.output c later o r l new))
 
--- a part is created, with no part open
+-- A part is created, with no part open.
 create_can : (name : ℕ → List ℕ) (n top : ℕ) (c : List ℕ) (later : List Effect) (s : Stand) → Rises name top → AllLater name n top later → CanFollow name n later → s.output ≡ None → open_name name n ≡ Some (name n) → fin.get s.files (name n) ≡ None → AllNew s.files later → Cans (Create (name n) ∷ Append c ∷ later) s
 create_can name n top c later s r l f o here free new =
     (λ can. none_is s.output o (can free), more_can name n top c later (apply (Create (name n)) s) r l f refl here (new_after name n top s.files [] later r l new))
@@ -175,7 +175,7 @@ follow rule name p [] (Some f) r s o new = tt
 follow rule name p (c ∷ cs) flaw r s o new =
     part_can (begins rule p c) rule name p c (parted rule name (part_with rule p c) cs flaw) refl r (all_later rule name (part_with rule p c) cs flaw) (follow rule name (part_with rule p c) cs flaw r) s o new
 
--- the names of the parts rise
+-- The names of the parts rise.
 pub rises : (rule : SplitRule) (folder : Option (List ℕ)) (file : List ℕ) → IsUsable rule → Rises (part_name folder file) rule.max_parts
 rises rule folder file u a b h k = names_rise folder file a b h (omega (arith, k, u.numbered))
 
@@ -188,7 +188,7 @@ plan_can rule file (Some x) s u o new =
     let e : effects (walk (splitting_as rule name) [] cs flaw).steps ≡ parted rule name no_part cs flaw = walked rule name [] cs flaw ∙ ap (λ (p : Part). parted rule name p cs flaw) (of_none rule) in
     subst (λ (es : List Effect). Cans es s) (sym e) (follow rule name no_part cs flaw (rises rule (folder_of rule) file u) s o (subst (λ (es : List Effect). AllNew s.files es) e new))
 
--- a steady place without an open output gives no write fault where the names of the parts are new
+-- A steady place without an open output gives no write fault where the names of the parts are new.
 pub can_create : (rule : SplitRule) (file : List ℕ) (e : Ending) (a b : Outside) → IsUsable rule → CanCreateAll (splitting rule file) file a.place → After (splitting rule file) [] file (way_of e) a b → e ≡ WriteFault → ⊥
 can_create rule file e a b u c t is =
     let r = splitting rule file in

@@ -15,7 +15,7 @@ use Rattle.jfr_split.proofs.Fold.{of_snoc, Groups, grouped, groups_after, groups
 use Rattle.jfr_split.proofs.Rejoin.{AllFull}
 use Rattle.jfr_split.proofs.Over.{Entries, is, over, numbered, Rises, over_numbered, hides, same_name, is_self, look}
 
--- after these effects the open part, which held b, and the later parts hold their chunks
+-- After these effects the open part, which held b, and the later parts hold their chunks.
 abbrev pub Fills : (ℕ → List ℕ) → ℕ → Groups → List Effect → Type 0
 Fills name n g es = (s : Stand) (b : List ℕ) → s.output ≡ Some (name n) → fin.get s.files (name n) ≡ Some b → (q : List ℕ)
     → fin.get (done es s).files q ≡ over ((name n, b ++ joined g.here) ∷ numbered name (n + 1) g.later) q (fin.get s.files q)
@@ -31,7 +31,7 @@ fills_none name n s b o h q =
 abbrev pub stands : Files → Option (List ℕ) → Option (List ℕ) → Bool → Stand
 stands files output text sound = record { files = files; output = output; text = text; sound = sound }
 
--- the output grows
+-- The output grows.
 pub grown_at : (s : Stand) (n b c : List ℕ) → s.output ≡ Some n → fin.get s.files n ≡ Some b → apply (Append c) s ≡ stands (fin.insert s.files n (b ++ c)) (Some n) s.text (s.sound && is_some s.output)
 grown_at s n b c o h = ap (λ (y : Option (List ℕ)). stands (grown y c s.files) y s.text (s.sound && is_some s.output)) o ∙ ap (λ (z : Option (List ℕ)). stands (fin.insert s.files n (unwrap_or z [] ++ c)) (Some n) s.text (s.sound && is_some s.output)) h
 
@@ -46,7 +46,7 @@ fills_more name n c g es f s b o h q =
     ∙ hides (numbered name (n + 1) g.later) k ((b ++ c) ++ joined g.here) q (Some (b ++ c)) (fin.get s.files q)
     ∙ ap (λ (x : List ℕ). over ((k, x) ∷ numbered name (n + 1) g.later) q (fin.get s.files q)) (append_assoc b c (joined g.here))
 
--- a part is created, and its first chunk appended
+-- A part is created, and its first chunk appended.
 pub fills_first : (name : ℕ → List ℕ) (n : ℕ) (c : List ℕ) (g : Groups) (es : List Effect) → Fills name n g es → (s : Stand) (q : List ℕ)
     → fin.get (done (Create (name n) ∷ Append c ∷ es) s).files q ≡ over ((name n, c ++ joined g.here) ∷ numbered name (n + 1) g.later) q (fin.get s.files q)
 fills_first name n c g es f s q =
@@ -57,7 +57,7 @@ fills_first name n c g es f s q =
     ∙ ap (λ (x : Option (List ℕ)). over ((k, c ++ joined g.here) ∷ numbered name (n + 1) g.later) q x) (look s.files k [] q)
     ∙ hides (numbered name (n + 1) g.later) k (c ++ joined g.here) q (Some []) (fin.get s.files q)
 
--- the part before is finished
+-- The part before is finished.
 pub fills_next : (name : ℕ → List ℕ) (top n : ℕ) (c : List ℕ) (g : Groups) (es : List Effect) → Rises name top → n + 1 + length g.later ≤ top → Fills name (n + 1) g es → Fills name n (grouped true c g) (Finish ∷ Create (name (n + 1)) ∷ Append c ∷ es)
 fills_next name top n c g es r l f s b o h q =
     let later = numbered name (n + 1) ((c ∷ g.here) ∷ g.later) in
@@ -65,7 +65,7 @@ fills_next name top n c g es r l f s b o h q =
     ∙ same_by (is q (name n)) q (name n) (b ++ []) (over later q (fin.get s.files q)) refl
     (λ e. ap (λ (x : List ℕ). over later x (fin.get s.files x)) e ∙ over_numbered name top n (n + 1) ((c ∷ g.here) ∷ g.later) (fin.get s.files (name n)) r (omega arith) (omega (arith, l)) ∙ h ∙ ap (λ (x : List ℕ). Some x) (sym (append-nil b)))
 
--- the effects of chunks that come after a part, and that none of them is the end
+-- The effects of chunks that come after a part, and that none of them is the end.
 abbrev pub filling : SplitRule → (ℕ → List ℕ) → Part → List (List ℕ) → List Effect
 filling rule name p [] = []
 filling rule name p (c ∷ cs) = asked (asks_part rule name (begins rule p c) p c) ++ filling rule name (part_with rule p c) cs
@@ -84,7 +84,7 @@ pub all_fit : (rule : SplitRule) (name : ℕ → List ℕ) (before cs : List (Li
 all_fit rule name before [] g = tt
 all_fit rule name before (c ∷ cs) g = (g.0, subst (λ (p : Part). AllFit rule name p cs) (of_snoc rule before c) (all_fit rule name (before ++ c ∷ []) cs g.1))
 
--- a new part may be had
+-- A new part may be had.
 new_by : (rule : SplitRule) (name : ℕ → List ℕ) (p : Part) (c : List ℕ) (m : ℕ) (b : Bool) → nat_le m p.number ≡ b → (es : List Effect) → IsGoing (if b then Stops TooMany else Goes es) → p.number < m
 new_by rule name p c m true e es g = cc
 new_by rule name p c m false e es g = leb-false m p.number e
@@ -103,7 +103,7 @@ pub closed : (n : ℕ) → 1 ≤ n → (if n == 0 then [] else Finish ∷ []) �
 closed zero h = absurd (omega (arith, h))
 closed (suc n) h = grind (arith, common_steps)
 
--- there are no more parts than may be
+-- There are no more parts than may be.
 within_by : (b : Bool) (rule : SplitRule) (name : ℕ → List ℕ) (p : Part) (c : List ℕ) (g : Groups) → IsGoing (asks_part rule name b p c) → p.number ≤ rule.max_parts → ((part_by b p c).number ≤ rule.max_parts → (part_by b p c).number + length g.later ≤ rule.max_parts) → p.number + length (grouped b c g).later ≤ rule.max_parts
 within_by true rule name p c g f h i = let k = may_begin rule name p c f in let m = i (omega (arith, k)) in omega (arith, m)
 within_by false rule name p c g f h i = i h
@@ -134,7 +134,7 @@ fills rule name p (c ∷ cs) r f h m =
     fill_by b rule name rule.max_parts p c (groups_after rule (part_with rule p c) cs) (filling rule name (part_with rule p c) cs) r f.0 h (all_within rule name (part_with rule p c) cs f.1 n)
     (fills rule name (part_with rule p c) cs r f.1 (some_number b p c h) n)
 
--- what the parts hold, over what stood there before
+-- What the parts hold, over what stood there before.
 pub filled : (rule : SplitRule) (name : ℕ → List ℕ) (cs : List (List ℕ)) → Rises name rule.max_parts → AllFit rule name no_part cs → (s : Stand) (q : List ℕ) → fin.get (done (filling rule name no_part cs) s).files q ≡ over (numbered name 1 (groups rule cs)) q (fin.get s.files q)
 filled rule name [] r f s q = refl
 filled rule name (c ∷ cs) r f s q =
@@ -143,7 +143,7 @@ filled rule name (c ∷ cs) r f s q =
     ap (λ (x : List Effect). fin.get (done (x ++ es) s).files q) (new_asks rule name no_part c f.0)
     ∙ fills_first name 1 c (groups_after rule (part_with rule no_part c) cs) es (fills rule name (part_with rule no_part c) cs r f.1 (omega arith) (omega (arith, k))) s q
 
--- no part is empty
+-- No part is empty.
 full_by : (b : Bool) (c : List ℕ) (g : Groups) → AllFull g.later → AllFull (grouped b c g).later
 full_by true c g h = h
 full_by false c g h = h

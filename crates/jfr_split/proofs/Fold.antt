@@ -7,12 +7,12 @@ after_snoc : (rule : SplitRule) (p : Part) (cs : List (List ℕ)) (c : List ℕ)
 after_snoc rule p [] c = refl
 after_snoc rule p (d ∷ cs) c = after_snoc rule (part_with rule p d) cs c
 
--- the last part after one chunk more
+-- The last part after one chunk more.
 pub of_snoc : (rule : SplitRule) (cs : List (List ℕ)) (c : List ℕ) → part_of rule (cs ++ c ∷ []) ≡ part_with rule (part_of rule cs) c
 unfolding part_of
 of_snoc rule cs c = after_snoc rule no_part cs c
 
--- the last part of all chunks, and of none
+-- The last part of all chunks, and of none.
 pub of_all : (rule : SplitRule) (cs : List (List ℕ)) → part_of rule cs ≡ part_after rule no_part cs
 unfolding part_of
 of_all rule cs = refl
@@ -21,7 +21,7 @@ pub of_none : (rule : SplitRule) → part_of rule [] ≡ no_part
 unfolding part_of
 of_none rule = refl
 
--- the chunks that still stand in the last part, and the parts behind it
+-- The chunks that still stand in the last part, and the parts behind it.
 pub record Groups : Type 0 where
   pub here : List (List ℕ)
   pub later : List (List (List ℕ))
@@ -34,11 +34,11 @@ abbrev pub groups_after : SplitRule → Part → List (List ℕ) → Groups
 groups_after rule p [] = record { here = []; later = [] }
 groups_after rule p (c ∷ cs) = grouped (begins rule p c) c (groups_after rule (part_with rule p c) cs)
 
--- the chunks of each part
+-- The chunks of each part.
 abbrev pub groups : SplitRule → List (List ℕ) → List (List (List ℕ))
 groups rule cs = (groups_after rule no_part cs).later
 
--- groups, one behind another
+-- Groups, one behind another.
 abbrev pub flat : List (List (List ℕ)) → List (List ℕ)
 flat gs = flat_map (λ g. g) gs
 
@@ -54,6 +54,6 @@ no_here : (rule : SplitRule) (cs : List (List ℕ)) → (groups_after rule no_pa
 no_here rule [] = refl
 no_here rule (c ∷ cs) = refl
 
--- the groups are all chunks
+-- The groups are all chunks.
 pub groups_flat : (rule : SplitRule) (cs : List (List ℕ)) → flat (groups rule cs) ≡ cs
 groups_flat rule cs = ap (λ (x : List (List ℕ)). x ++ flat (groups rule cs)) (sym (no_here rule cs)) ∙ after_flat rule no_part cs

@@ -19,7 +19,7 @@ use Rattle.jfr_split.proofs.Filling.{filling, AllFit, gone_filling, all_fit, all
 use Rattle.jfr_split.proofs.Rejoin.{appends, joined_append}
 use Rattle.jfr_split.proofs.Round.{never}
 
--- a part that is open has counted this group
+-- A part that is open has counted this group.
 record Counts (p : Part) (group : List (List ℕ)) : Type 0 where
   pub some : 1 ≤ p.number
   pub chunks : p.chunks ≡ length group
@@ -44,7 +44,7 @@ counts_more p group c h = record {
   bytes = ap (λ (n : ℕ). n + length c) h.bytes ∙ sym (length-append (joined group) c) ∙ ap (λ (x : List ℕ). length (joined group ++ x)) (sym (append-nil c)) ∙ ap length (sym (joined_append group (c ∷ [])));
 }
 
--- the groups that follow a part, which has this group so far
+-- The groups that follow a part, which has this group so far.
 record Follow (rule : SplitRule) (group : List (List ℕ)) (g : Groups) : Type 0 where
   pub fit : Fit rule group g.here
   pub full : WasFull rule (group ++ g.here) g.later
@@ -62,12 +62,12 @@ follow : (rule : SplitRule) (p : Part) (group cs : List (List ℕ)) → Counts p
 follow rule p group [] h = record { fit = tt; full = tt; are = tt }
 follow rule p group (c ∷ cs) h = follow_by (begins rule p c) rule p group c (groups_after rule (part_with rule p c) cs) (sym (full_for rule p group c h)) h (λ group' k. follow rule (part_with rule p c) group' cs k)
 
--- the groups are parts
+-- The groups are parts.
 are_parts : (rule : SplitRule) (cs : List (List ℕ)) → AreParts rule (groups rule cs)
 are_parts rule [] = tt
 are_parts rule (c ∷ cs) = let k = follow rule (part_with rule no_part c) (c ∷ []) cs (counts_first no_part c) in (k.fit, k.full, k.are)
 
--- what is done for chunks that come after a part, to its end
+-- What is done for chunks that come after a part, to its end.
 abbrev parted : SplitRule → (ℕ → List ℕ) → Part → List (List ℕ) → List Effect
 parted rule name p cs = filling rule name p cs ++ closing (part_after rule p cs)
 
@@ -100,7 +100,7 @@ all_written rule name (c ∷ cs) f =
 few_parts : (n m : ℕ) → 0 + n ≤ m → n ≤ m
 few_parts n m h = omega (arith, h)
 
--- a recording that was cut to its end is written as parts
+-- A recording that was cut to its end is written as parts.
 pub parts_written : (rule : SplitRule) (file x : List ℕ) → (split_plan rule file x).end ≡ Some Fine → AreWritten rule file x
 parts_written rule file x e =
     let name = part_name (folder_of rule) file in

@@ -17,7 +17,7 @@ all_go : (before cs : List (List ℕ)) → AllGo adding before cs
 all_go before [] = tt
 all_go before (c ∷ cs) = (refl, all_go (before ++ c ∷ []) cs)
 
--- no chunk finishes the output
+-- No chunk finishes the output.
 none_finishes : (before cs : List (List ℕ)) → list_any is_finish (gone adding before cs) ≡ false
 none_finishes before [] = refl
 none_finishes before (c ∷ cs) = none_finishes (before ++ c ∷ []) cs
@@ -50,12 +50,12 @@ met_first steady earlier x left s t never m =
       cause = never;
     }
 
--- with no input open nothing is done
+-- With no input open nothing is done.
 halted_first : (steady : Bool) (earlier : List (List ℕ)) (x : List ℕ) (left : Option (List ℕ)) (s t : Stand) → (IsTrue steady → ⊥) → MetIn adding earlier (Some x) left s t → Unfinished steady (effects (plan_after adding earlier (Some x)).steps) s t
 halted_first steady earlier x None s t never h = record { first = []; rest = effects (plan_after adding earlier (Some x)).steps; parts = refl; unfinished = refl; stands = h; cause = never }
 halted_first steady earlier x (Some left) s t never h = met_first steady earlier x left s t never h
 
--- what stands after one of the files, which is there
+-- What stands after one of the files, which is there.
 pub file_outcome : (steady : Bool) (earlier : List (List ℕ)) (x : List ℕ) (left : Option (List ℕ)) (way : Way) (s t : Stand) → OutcomeIn steady adding earlier (Some x) left way s t → FilesOutcome steady (plan_after adding earlier (Some x)) way s t
 file_outcome steady earlier x left (Ends e) s t h = h
 file_outcome steady earlier x left NotRead s t h = halted_first steady earlier x left s t (λ y. some_none (Some x) x refl (h.1 y)) h.0

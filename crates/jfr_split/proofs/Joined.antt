@@ -36,7 +36,7 @@ pub record Joined (contents : List (List ℕ)) (i start number : ℕ) (s t : Sta
   pub steps : effects (joining [] contents).steps ≡ appends earlier ++ effects (joining earlier (drop i contents)).steps
   pub end : (joining [] contents).end ≡ (joining earlier (drop i contents)).end
 
--- the content of the file at a place
+-- The content of the file at a place.
 record Found (f : List ℕ → Option (List ℕ)) (name : List ℕ) (contents : List (List ℕ)) (i : ℕ) : Type 0 where
   pub x : List ℕ
   pub is : f name ≡ Some x
@@ -59,7 +59,7 @@ each_at P [] i d h l = absurd (omega (arith, l))
 each_at P (s ∷ ss) zero d h l = h.0
 each_at P (s ∷ ss) (suc i) d h l = each_at P ss i d h.1 (omega (arith, l))
 
--- the files beside the output stay
+-- The files beside the output stay.
 other_files : (cs : List (List ℕ)) (out q : List ℕ) (s : Stand) → s.output ≡ Some out → is q out ≡ false → fin.get (done (appends cs) s).files q ≡ fin.get s.files q
 other_files [] out q s o n = refl
 other_files (c ∷ cs) out q s o n =
@@ -72,7 +72,7 @@ apart_by : (b : Bool) (q out : List ℕ) → is q out ≡ b → (q ≡ out → �
 apart_by true q out e n = absurd (n (same_name q out e))
 apart_by false q out e n = refl
 
--- a file that isn't the output is as it was
+-- A file that isn't the output is as it was.
 still_there : (out q x : List ℕ) (cs : List (List ℕ)) (w v : World) → w.output ≡ Some out → (q ≡ out → ⊥) → file w q ≡ Some x → stand v None ≡ done (appends cs) (stand w None) → file v q ≡ Some x
 still_there out q x cs w v o n e k = ap (λ (s : Stand). fin.get s.files q) k ∙ other_files cs out q (stand w None) o (apart_by (is q out) q out refl n) ∙ e
 
@@ -83,7 +83,7 @@ appends_finish (c ∷ cs) = appends_finish cs
 never_fine : NeverFine adding
 never_fine before c e = cc
 
--- a file that was joined well has no flaw
+-- A file that was joined well has no flaw.
 flawless : (earlier : List (List ℕ)) (x : List ℕ) → (plan_after adding earlier (Some x)).end ≡ Some Fine → cut_after earlier x ≡ record { chunks = (cut_after earlier x).chunks; flaw = None }
 flawless earlier x e =
     let all = cut_after earlier x in
@@ -93,7 +93,7 @@ flawless earlier x e =
 added : (earlier cs : List (List ℕ)) (x : List ℕ) → cut_after earlier x ≡ record { chunks = cs; flaw = None } → effects (plan_after adding earlier (Some x)).steps ≡ appends cs
 added earlier cs x e = ap (λ (y : Cuts). effects (plan_by adding (walk adding earlier y.chunks y.flaw)).steps) e ∙ (adds earlier cs).steps
 
--- one file more was joined
+-- One file more was joined.
 next_file : (contents : List (List ℕ)) (i start number start' number' : ℕ) (x : List ℕ) (s t u : Stand) → (j : Joined contents i start number s t) → drop i contents ≡ x ∷ drop (i + 1) contents → AllDone (plan_after adding j.earlier (Some x)) Fine t u → IsAt (j.earlier ++ (cut_after j.earlier x).chunks) start' number' → Joined contents (i + 1) start' number' s u
 next_file contents i start number start' number' x s t u j rest d at =
     let cs = (cut_after j.earlier x).chunks in
@@ -109,7 +109,7 @@ next_file contents i start number start' number' x s t u j rest d at =
       end = j.end ∙ ap (λ (xs : List (List ℕ)). (joining j.earlier xs).end) rest ∙ f.end;
     }
 
--- a file that ended the run
+-- A file that ended the run.
 last_file : (steady : Bool) (contents : List (List ℕ)) (i start number : ℕ) (x : List ℕ) (way : Way) (s t u : Stand) → (j : Joined contents i start number s t) → drop i contents ≡ x ∷ drop (i + 1) contents → (way ≡ Ends Fine → ⊥) → FilesOutcome steady (plan_after adding j.earlier (Some x)) way t u → FilesOutcome steady (joining [] contents) way s u
 last_file steady contents i start number x way s t u j rest n h =
     let later = joining (j.earlier ++ (cut_after j.earlier x).chunks) (drop (i + 1) contents) in
@@ -118,21 +118,21 @@ last_file steady contents i start number x way s t u j rest n h =
     (j.end ∙ ap (λ (xs : List (List ℕ)). (joining j.earlier xs).end) rest)
     (appends_finish j.earlier) j.stands (outcome_stops steady (plan_after adding j.earlier (Some x)) later way t u n h)
 
--- the first files were joined, between what a place tells before and after
+-- The first files were joined, between what a place tells before and after.
 abbrev pub JoinedFrom : List (List ℕ) → ℕ → ℕ → ℕ → Option World → Option World → Type 0
 JoinedFrom contents i start number b a = Told b a (λ w v. Joined contents i start number (stand w None) (stand v None))
 
--- no file was joined yet
+-- No file was joined yet.
 pub joined_none : (b : Option World) (contents : List (List ℕ)) (start number : ℕ) → start ≡ 0 → number ≡ 1 → JoinedFrom contents 0 start number b b
 joined_none None contents start number e f = tt
 joined_none (Some w) contents start number e f = record { earlier = []; at = (e, f); stands = refl; steps = refl; end = refl }
 
--- a clause on each way between two places
+-- A clause on each way between two places.
 abbrev pub JoinedSo : Bool → List (List ℕ) → Way → Option World → Option World → Type 0
 JoinedSo steady contents way b a = Told b a (λ w v. FilesOutcome steady (joining [] contents) way (stand w None) (stand v None))
 
 module _ (out : List ℕ) (ss : List (String Global)) (contents : List (List ℕ)) (i start number : ℕ) (d : String Global) where
-  -- one file more, where it was joined well
+  -- One file more, where it was joined well.
   pub file_joined : (steady : Bool) (b a e : Option World) (start' number' : ℕ) (name : List ℕ) → i < length ss → name ≡ string_bytes (get_or ss i d) → IfSome b (CanJoin out (bytes_of ss) contents) → JoinedFrom contents i start number b a
       → ((earlier : List (List ℕ)) → IsAt earlier start number → Told a e (OutcomeOf steady adding earlier name None None (Ends Fine)))
       → ((earlier : List (List ℕ)) → IsAt earlier start number → IfSome a (IsPast (λ _. Unit {0}) earlier name start' number'))
@@ -148,7 +148,7 @@ module _ (out : List ℕ) (ss : List (String Global)) (contents : List (List ℕ
       let past : IfSome (Some h.x) (λ x. Unit {0} × IsAt (j.earlier ++ (cut_after j.earlier x).chunks) start' number') = subst (λ (o : Option (List ℕ)). IfSome o (λ x. Unit {0} × IsAt (j.earlier ++ (cut_after j.earlier x).chunks) start' number')) is (g j.earlier j.at) in
       next_file contents i start number start' number' h.x (stand w None) (stand v None) (stand u None) j h.rest all past.1
 
-  -- the run ended with this file
+  -- The run ended with this file.
   pub file_ended : (steady : Bool) (b a e : Option World) (way : Way) (name : List ℕ) → i < length ss → name ≡ string_bytes (get_or ss i d) → (way ≡ Ends Fine → ⊥) → IfSome b (CanJoin out (bytes_of ss) contents) → JoinedFrom contents i start number b a
       → ((earlier : List (List ℕ)) → IsAt earlier start number → Told a e (OutcomeOf steady adding earlier name None None way))
       → JoinedSo steady contents way b e
@@ -162,7 +162,7 @@ module _ (out : List ℕ) (ss : List (String Global)) (contents : List (List ℕ
       let all : OutcomeIn steady adding j.earlier (Some h.x) u.input way (stand v None) (stand u None) = subst (λ (o : Option (List ℕ)). OutcomeIn steady adding j.earlier o u.input way (stand v None) (stand u None)) is (f j.earlier j.at) in
       last_file steady contents i start number h.x way (stand w None) (stand v None) (stand u None) j h.rest other (file_outcome steady j.earlier h.x u.input way (stand v None) (stand u None) all)
 
--- a part of the plan that ended the run
+-- A part of the plan that ended the run.
 pub part_ended : (steady : Bool) (es later : List Effect) (all : Plan) (way : Way) (s t : Stand) → effects all.steps ≡ es ++ later → PartEnded steady (Goes es) way s t → FilesOutcome steady all way s t
 part_ended steady es later all (Ends Fine) s t e h = absurd h
 part_ended steady es later all (Ends (Refused r)) s t e h = absurd (goes_stops es (Refused r) h.0)
@@ -178,7 +178,7 @@ nothing_left f (s ∷ ss) [] i e l = cc
 nothing_left f (s ∷ ss) (x ∷ xs) zero e l = absurd (omega (arith, l))
 nothing_left f (s ∷ ss) (x ∷ xs) (suc i) e l = let later : map f (bytes_of ss) ≡ map (λ x. Some x) xs = cc in nothing_left f ss xs i later (omega (arith, l))
 
--- the way of the part at the end
+-- The way of the part at the end.
 abbrev pub way_at_end : Result (Unit {0}) Ending → Way
 way_at_end (Ok o) = Ends Fine
 way_at_end (Err e) = way_of e
@@ -194,7 +194,7 @@ finish_all steady contents i start number result s t u j none h =
     (j.end ∙ ap (λ (xs : List (List ℕ)). (joining j.earlier xs).end) none)
     (appends_finish j.earlier) j.stands (finished_so steady result t u h)
 
--- all files were joined, and the output was to be finished
+-- All files were joined, and the output was to be finished.
 pub files_ended : (steady : Bool) (out : List ℕ) (ss : List (String Global)) (contents : List (List ℕ)) (i start number : ℕ) (result : Result (Unit {0}) Ending) (b a e : Option World) → length ss ≤ i → IfSome b (CanJoin out (bytes_of ss) contents) → JoinedFrom contents i start number b a → Told a e (PartTold steady (Goes (Finish ∷ [])) result None None) → JoinedSo steady contents (way_at_end result) b e
 files_ended steady out ss contents i start number result None a e l can j f = tt
 files_ended steady out ss contents i start number result (Some w) None e l can j f = absurd j
@@ -202,7 +202,7 @@ files_ended steady out ss contents i start number result (Some w) (Some v) None 
 files_ended steady out ss contents i start number result (Some w) (Some v) (Some u) l can j f =
     finish_all steady contents i start number result (stand w None) (stand v None) (stand u None) j (nothing_left (file w) ss contents i can.held l) f.1
 
--- an answer that tells a good end is the good one
+-- An answer that tells a good end is the good one.
 pub fine_done : (e : Ending) → way_of e ≡ Ends Fine → e ≡ Done
 fine_done Done h = refl
 fine_done (ending.Refused r) h = cc

@@ -15,7 +15,7 @@ use Rattle.jfr_split.specs.Parts.{SplitRule, Part}
 use Rattle.jfr_split.specs.Splits.{closing, asks_new}
 use Rattle.jfr_split.proofs.Basics.{goes_stops}
 
--- an ended part, of which more was asked
+-- An ended part, of which more was asked.
 ended_more : (st : Bool) (a b : List Effect) (way : Way) (s t : Stand) → PartEnded st (Goes a) way s t → PartEnded st (Goes (a ++ b)) way s t
 ended_more st a b (Ends Fine) s t h = h
 ended_more st a b (Ends (Refused r)) s t h = absurd (goes_stops a (Refused r) h.0)
@@ -32,7 +32,7 @@ ended_more st a b NotWritten s t h = record {
 }
 ended_more st a b NoRoom s t h = record { first = h.first; rest = h.rest ++ b; parts = ap (λ (x : List Effect). x ++ b) h.parts ∙ append_assoc h.first h.rest b; stands = h.stands }
 
--- a part that ended, after one that went on
+-- A part that ended, after one that went on.
 ended_after : (st : Bool) (a b : List Effect) (way : Way) (s t u : Stand) → t ≡ done a s → PartEnded st (Goes b) way t u → PartEnded st (Goes (a ++ b)) way s u
 ended_after st a b (Ends Fine) s t u e h = h
 ended_after st a b (Ends (Refused r)) s t u e h = absurd (goes_stops b (Refused r) h.0)
@@ -60,19 +60,19 @@ stands_after : (st : Bool) (a b : List Effect) (r : Result (Unit {0}) Ending) (s
 stands_after st a b (Ok x) s t u e h = (refl, h.1 ∙ ap (done b) e ∙ sym (done_append a b s))
 stands_after st a b (Err x) s t u e h = ended_after st a b (way_of x) s t u e h
 
--- one part ended, of which more was asked
+-- One part ended, of which more was asked.
 pub leaves_more : (a b : List Effect) (e : Ending) (x y : Outside) → PartLeaves (Goes a) (Err e) x y → PartLeaves (Goes (a ++ b)) (Err e) x y
 leaves_more a b e x y h =
     map_told x.place.told y.place.told (PartTold x.place.steady (Goes a) (Err e) x.sink.written y.sink.written) (PartTold x.place.steady (Goes (a ++ b)) (Err e) x.sink.written y.sink.written) h
     (λ w v k. (k.0, ended_more x.place.steady a b (way_of e) (stand w x.sink.written) (stand v y.sink.written) k.1))
 
--- one part went on, and memory was wanting for the next
+-- One part went on, and memory was wanting for the next.
 pub leaves_none : (a b : List Effect) (o : Unit {0}) (x y : Outside) → PartLeaves (Goes a) (Ok o) x y → PartLeaves (Goes (a ++ b)) (Err Memory) x y
 leaves_none a b o x y h =
     map_told x.place.told y.place.told (PartTold x.place.steady (Goes a) (Ok o) x.sink.written y.sink.written) (PartTold x.place.steady (Goes (a ++ b)) (Err Memory) x.sink.written y.sink.written) h
     (λ w v k. (k.0, record { first = a; rest = b; parts = refl; stands = k.1.1 }))
 
--- one part went on, and then the next was done
+-- One part went on, and then the next was done.
 pub leaves_then : (a b : List Effect) (o : Unit {0}) (r : Result (Unit {0}) Ending) (x y z : Outside) → y.place.steady ≡ x.place.steady → PartLeaves (Goes a) (Ok o) x y → PartLeaves (Goes b) r y z → PartLeaves (Goes (a ++ b)) r x z
 leaves_then a b o r x y z e h k =
     chain_told x.place.told y.place.told z.place.told (PartTold x.place.steady (Goes a) (Ok o) x.sink.written y.sink.written) (PartTold x.place.steady (Goes b) r y.sink.written z.sink.written) (PartTold x.place.steady (Goes (a ++ b)) r x.sink.written z.sink.written) h
@@ -90,12 +90,12 @@ tallied_after Parts NotWritten x y z h k = counted_after Kept Rises Kept x y z h
 tallied_after Text NotWritten x y z h k = counted_after Kept Kept Rises x y z h k
 tallied_after target NoRoom x y z h k = counted_after Kept Kept Kept x y z h k
 
--- which counts rose over two parts
+-- Which counts rose over two parts.
 pub tallied_then : (target : Target) (r : Result (Unit {0}) Ending) (x y z : Outside) → Counted Kept Kept Kept x y → PartTallied target r y z → PartTallied target r x z
 tallied_then target (Ok o) x y z h k = counted_after Kept Kept Kept x y z h k
 tallied_then target (Err e) x y z h k = tallied_after target (way_of e) x y z h k
 
--- there may be one part more
+-- There may be one part more.
 pub asks_some : (rule : SplitRule) (name : ℕ → List ℕ) (p : Part) (c : List ℕ) → p.number < rule.max_parts → asks_new rule name p c ≡ Goes ((closing p ++ Create (name (p.number + 1)) ∷ []) ++ Append c ∷ [])
 asks_some rule name p c h =
     let es = closing p ++ Create (name (p.number + 1)) ∷ Append c ∷ [] in

@@ -23,7 +23,7 @@ use Rattle.jfr_split.specs.Joins.{files_in}
 use Rattle.jfr_split.proofs.Ordered.{order}
 use Rattle.jfr_split.proofs.Sorting.{IsUp, HaveSameSums, bytes_of, same_sorted, up_sorted, up_keys}
 
--- the names that end in `.jfr`, with their folder
+-- The names that end in `.jfr`, with their folder.
 abbrev pub joined_in : List ℕ → List (List ℕ) → List (List ℕ)
 joined_in folder names = map (in_folder folder) (filter is_recording names)
 
@@ -49,7 +49,7 @@ split_name true folder name true rest e h =
     let back : drop n name ≡ rest = cc in
     sym (take-append-drop n name) ∙ ap (λ (x : List ℕ). x ++ drop n name) front ∙ ap (λ (x : List ℕ). in_folder folder [] ++ x) back ∙ append_assoc folder (47 ∷ []) rest
 
--- a name with a rest is its folder and the rest
+-- A name with a rest is its folder and the rest.
 name_is : (folder name rest : List ℕ) → rest_in folder name ≡ Some rest → name ≡ in_folder folder rest
 name_is folder name rest h = split_name (bytes_eq (take (length folder + 1) name) (in_folder folder [])) folder name (is_plain (drop (length folder + 1) name)) rest refl h
 
@@ -61,7 +61,7 @@ keep_by (Some rest) folder name kept later e h = keep (is_recording rest)
     keep true = ap (λ (x : List ℕ). x ∷ kept) (name_is folder name rest e) ∙ ap (λ (x : List (List ℕ)). in_folder folder rest ∷ x) h
     keep false = h
 
--- the names that are joined are the rests that end in `.jfr`
+-- The names that are joined are the rests that end in `.jfr`.
 joined_names : (folder : List ℕ) (names : List (List ℕ)) → filter (is_joined folder) names ≡ joined_in folder (filter_map (rest_in folder) names)
 unfolding is_joined
 joined_names folder [] = refl
@@ -75,7 +75,7 @@ keys_kept p (e ∷ es) = keys_by (p e.0) e.0 e.1 (filter (λ x. p x.0) es) (filt
     keys_by true k v xs ks h = ap (λ (y : List (List ℕ)). k ∷ y) h
     keys_by false k v xs ks h = h
 
--- the entries that are joined
+-- The entries that are joined.
 kept_entries : (folder : List ℕ) (files : Files) → fin.entries (files_in folder files) ≡ filter (λ e. is_joined folder e.0) (fin.entries files)
 kept_entries folder files =
     let p = is_joined folder in
@@ -102,12 +102,12 @@ sum_joined f folder (n ∷ ns) = sum_more (is_recording n) ∙ ap (λ (k : ℕ).
     sum_more true = sum_by-cons f (in_folder folder n) (joined_in folder ns)
     sum_more false = sym (zero-add (sum_by f (joined_in folder ns)))
 
--- names in any order give the same sums
+-- Names in any order give the same sums.
 same_sums : (folder : List ℕ) (ns ms : List (List ℕ)) → IsPermutation ns ms → HaveSameSums (joined_in folder ms) (joined_in folder ns)
 same_sums folder ns ms h = λ f.
     sum_joined f folder ms ∙ sum_by-IsPermutation (λ n. cond (is_recording n) (f (in_folder folder n)) 0) ns ms h ∙ sym (sum_joined f folder ns)
 
--- the listed names that end in `.jfr`, sorted, are the names of the files that are joined
+-- The listed names that end in `.jfr`, sorted, are the names of the files that are joined.
 pub sorted_files : (folder : List ℕ) (files : Files) (words : List (List ℕ)) (found sorted : List (String Global)) → IsListing folder files words → bytes_of found ≡ joined_in folder (map encode_utf8_all words) → IsPermutation found sorted → IsSorted string_cmp sorted → bytes_of sorted ≡ fin.keys (files_in folder files)
 sorted_files folder files words found sorted listing are moved up =
     same_sorted (bytes_of sorted) (fin.keys (files_in folder files)) (up_sorted sorted up) (up_keys (fin.entries (files_in folder files)) (entries_sorted (files_in folder files)))
@@ -117,7 +117,7 @@ sorted_files folder files words found sorted listing are moved up =
     ∙ same_sums folder (names_in folder files) (map encode_utf8_all words) listing f
     ∙ ap (λ (x : List (List ℕ)). sum_by f x) (sym (keys_joined folder files)))
 
--- one listed name more was looked at
+-- One listed name more was looked at.
 pub listed_more : (folder : List ℕ) (words : List (List ℕ)) (at : ℕ) (name : List ℕ) (found found' : List (String Global)) → at < length words → slice_get words at ≡ Some (chars name) → IsUtf8 name → bytes_of found ≡ joined_in folder (map encode_utf8_all (take at words))
     → bytes_of found' ≡ bytes_of found ++ (if is_recording name then in_folder folder name ∷ [] else []) → bytes_of found' ≡ joined_in folder (map encode_utf8_all (take (at + 1) words))
 listed_more folder words at name found found' l e u h k =

@@ -21,7 +21,7 @@ order_within : (folder : Option (List ℕ)) (x y : List ℕ) → order (within f
 order_within None x y = refl
 order_within (Some folder) x y = order_after folder (47 ∷ x) (47 ∷ y) ∙ order_after (47 ∷ []) x y
 
--- a later part has a greater name
+-- A later part has a greater name.
 pub names_rise : (folder : Option (List ℕ)) (file : List ℕ) (a b : ℕ) → a < b → b < 10 ^ 6 → order (part_name folder file a) (part_name folder file b) ≡ Less
 unfolding part_name
 names_rise folder file a b h l =
@@ -44,7 +44,7 @@ plain_each : (x : List ℕ) → ((k : ℕ) → k < length x → no_slash (get_or
 plain_each [] h = refl
 plain_each (b ∷ x) h = and_true (no_slash b) (is_plain x) (h 0 (omega arith)) (plain_each x (λ k l. h (suc k) (omega (arith, l))))
 
--- what stands behind the last slash has none
+-- What stands behind the last slash has none.
 plain_base : (file : List ℕ) → is_plain (base file) ≡ true
 plain_base file =
     let long = suffix_len no_slash file in
@@ -75,7 +75,7 @@ rest_by : (b : Bool) (x rest : List ℕ) → b ≡ true → x ≡ rest → ◌�
 rest_by true x rest e f = ap (λ (y : List ℕ). Some y) f
 rest_by false x rest e f = cc
 
--- the rest of a name in a folder
+-- The rest of a name in a folder.
 pub rest_found : (folder rest : List ℕ) → is_plain rest ≡ true → rest_in folder (in_folder folder rest) ≡ Some rest
 rest_found folder rest plain =
     let w = in_folder folder [] in
@@ -87,7 +87,7 @@ rest_found folder rest plain =
     rest_by (bytes_eq (take (length folder + 1) name) w && is_plain (drop (length folder + 1) name)) (drop (length folder + 1) name) rest
     (and_true (bytes_eq (take (length folder + 1) name) w) (is_plain (drop (length folder + 1) name)) ((bytes_decides (take (length folder + 1) name) w).1 front) (ap is_plain back ∙ plain)) back
 
--- a part stands in its folder, and ends in `.jfr`
+-- A part stands in its folder, and ends in `.jfr`.
 pub part_joined : (folder file : List ℕ) (n : ℕ) → is_joined folder (part_name (Some folder) file n) ≡ true
 unfolding part_name is_joined
 part_joined folder file n =

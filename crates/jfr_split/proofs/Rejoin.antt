@@ -13,7 +13,7 @@ use Rattle.jfr_split.specs.Joins.{adding, joining}
 use Rattle.jfr_split.proofs.Composing.{Follows, follows}
 use Rattle.jfr_split.proofs.Fold.{flat}
 
--- chunks that are whole and start early enough
+-- Chunks that are whole and start early enough.
 abbrev pub Early : ℕ → List (List ℕ) → Type 0
 Early s [] = Unit {0}
 Early s (c ∷ cs) = Whole c × (s < 2 ^ 40) × Early (s + length c) cs
@@ -42,7 +42,7 @@ later_cut s (c ∷ cs) h = (whole_front c (joined cs) s false h.0 h.1, subst (λ
 first_cut : (s : ℕ) (c : List ℕ) (cs : List (List ℕ)) → Early s (c ∷ cs) → AreCut (c ∷ cs) None (joined (c ∷ cs)) s true
 first_cut s c cs h = (whole_front c (joined cs) s true h.0 h.1, subst (λ (x : List ℕ). AreCut cs None x (s + length c) false) (sym (drop_chunk c (joined cs))) (later_cut (s + length c) cs h.2))
 
--- each part is cut into its chunks
+-- Each part is cut into its chunks.
 pub part_cut : (earlier : List (List ℕ)) (c : List ℕ) (cs : List (List ℕ)) → Early (length (joined earlier)) (c ∷ cs) → cut_after earlier (joined (c ∷ cs)) ≡ record { chunks = c ∷ cs; flaw = None }
 part_cut earlier c cs h = cut_is (c ∷ cs) None (joined (c ∷ cs)) (length (joined earlier)) true (first_cut (length (joined earlier)) c cs h)
 
@@ -57,7 +57,7 @@ pub adds : (earlier cs : List (List ℕ)) → Adds earlier cs
 adds earlier [] = record { steps = refl; end = refl }
 adds earlier (c ∷ cs) = let h = adds (earlier ++ c ∷ []) cs in record { steps = ap (λ (x : List Effect). Append c ∷ x) h.steps; end = h.end }
 
--- no group is empty
+-- No group is empty.
 abbrev pub AllFull : List (List (List ℕ)) → Type 0
 AllFull [] = Unit {0}
 AllFull ([] ∷ gs) = ⊥

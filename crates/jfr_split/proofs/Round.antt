@@ -45,7 +45,7 @@ never_by rule name false p c e = cc
 pub never : (rule : SplitRule) (name : ℕ → List ℕ) → NeverFine (splitting_as rule name)
 never rule name before c e = never_by rule name (begins rule (part_of rule before) c) (part_of rule before) c e
 
--- the last part is finished, and no file changes
+-- The last part is finished, and no file changes.
 closed_files : (b : Bool) (s : Stand) → (done (effects (needing AtEnd (if b then [] else Finish ∷ []))) s).files ≡ s.files
 closed_files true s = refl
 closed_files false s = refl
@@ -56,7 +56,7 @@ pub record WholeSplit (rule : SplitRule) (name : ℕ → List ℕ) (x : List ℕ
   pub fit : AllFit rule name no_part chunks
   pub files : (done (effects (plan_after (splitting_as rule name) [] (Some x)).steps) s).files ≡ (done (filling rule name no_part chunks) s).files
 
--- where the plan ends well, the parts are filled with all chunks
+-- Where the plan ends well, the parts are filled with all chunks.
 pub whole_parts : (rule : SplitRule) (name : ℕ → List ℕ) (x : List ℕ) (s : Stand) → (plan_after (splitting_as rule name) [] (Some x)).end ≡ Some Fine → WholeSplit rule name x s
 whole_parts rule name x s e =
     let r = splitting_as rule name in
@@ -93,7 +93,7 @@ early : (cs : List (List ℕ)) (x : List ℕ) (s : ℕ) (f : Bool) → AreCut cs
 early [] x s f a w = tt
 early (c ∷ cs) x s f a w = (w.0, starts_by (nat_le (2 ^ 40) s) x c s f refl a.0, early cs _ (s + length c) false a.1 w.1)
 
--- entries under names that all pass, over what has none
+-- Entries under names that all pass, over what has none.
 seen_by : (p : List ℕ → Bool) (es : Entries) (q k v : List ℕ) (o : Option (List ℕ)) (b : Bool) → is q k ≡ b → p k ≡ true → cond (p q) (over es q o) None ≡ find order q es → cond (p q) (cond b (Some v) (over es q o)) None ≡ cond b (Some v) (find order q es)
 seen_by p es q k v o true e h i = ap (λ (y : Bool). cond y (Some v) None) (ap p (same_name q k e) ∙ h)
 seen_by p es q k v o false e h i = i
@@ -106,7 +106,7 @@ held : (name : ℕ → List ℕ) (n : ℕ) (gs : List (List (List ℕ))) → map
 held name n [] = refl
 held name n (g ∷ gs) = ap (λ (l : List (List ℕ)). joined g ∷ l) (held name (n + 1) gs)
 
--- the folder then has the parts
+-- The folder then has the parts.
 values_are : (rule : SplitRule) (folder file : List ℕ) (cs : List (List ℕ)) (s : Stand) (files : Files) → IsUsable rule → files_in folder s.files ≡ fin.empty → AllFit rule (part_name (Some folder) file) no_part cs → files ≡ (done (filling rule (part_name (Some folder) file) no_part cs) s).files → fin.values (files_in folder files) ≡ map joined (groups rule cs)
 values_are rule folder file cs s files m h f e =
     let name = part_name (Some folder) file in
@@ -120,7 +120,7 @@ values_are rule folder file cs s files m h f e =
     let same : files_in folder files ≡ fin.from_sorted es = same_map nat_list_cmp_total (slice_cmp-IsAntisymmetric nat_cmp-IsAntisymmetric) (files_in folder files) (fin.from_sorted es) at in
     ap (λ (x : Files). fin.values x) same ∙ ap (λ (x : Entries). map (λ (y : List ℕ × List ℕ). y.1) x) (entries-from_sorted order es sorted) ∙ held name 1 (groups rule cs)
 
--- the chunks are appended to an output
+-- The chunks are appended to an output.
 all_appended : (cs : List (List ℕ)) (out b : List ℕ) (s : Stand) → s.output ≡ Some out → fin.get s.files out ≡ Some b → fin.get (done (appends cs ++ Finish ∷ []) s).files out ≡ Some (b ++ joined cs)
 all_appended [] out b s o h = h ∙ ap (λ (x : List ℕ). Some x) (sym (append-nil b))
 all_appended (c ∷ cs) out b s o h =

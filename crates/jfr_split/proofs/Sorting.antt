@@ -15,16 +15,16 @@ use Rattle.std.proofs.lemmas.List.Sorted.{ranks_by, sorted_far}
 use Rattle.jfr_split.proofs.Basics.{first_holds, second_holds}
 use Rattle.jfr_split.proofs.Ordered.{order, order_same}
 
--- none of these is below x
+-- None of these is below x.
 abbrev NoneBelow : List ℕ → List (List ℕ) → Type 0
 NoneBelow x ys = AllByRecursion (λ y. is_lt (order y x) ≡ false) ys
 
--- none is below one before it
+-- None is below one before it.
 abbrev pub IsUp : List (List ℕ) → Type 0
 IsUp [] = Unit {0}
 IsUp (x ∷ xs) = NoneBelow x xs × IsUp xs
 
--- the lists have the same sums, whatever is summed
+-- The lists have the same sums, whatever is summed.
 abbrev pub HaveSameSums : List (List ℕ) → List (List ℕ) → Type 0
 HaveSameSums xs ys = (f : List ℕ → ℕ) → sum_by f xs ≡ sum_by f ys
 
@@ -44,7 +44,7 @@ among q x (y ∷ ys) none h =
     let k : 0 < one_at q y + sum_by (one_at q) ys = subst (λ (n : ℕ). 0 < n) (sum_by-cons (one_at q) y ys) h in
     among_by (bytes_eq q y) q x y (sum_by (one_at q) ys) refl none.0 k (among q x ys none.1)
 
--- what stands in a list that is up isn't below its first
+-- What stands in a list that is up isn't below its first.
 least : (q y : List ℕ) (ys : List (List ℕ)) → NoneBelow y ys → 0 < sum_by (one_at q) (y ∷ ys) → is_lt (order q y) ≡ false
 least q y ys none h = among q y (y ∷ ys) (ap is_lt (order_same y), none) h
 
@@ -73,7 +73,7 @@ same_tails x y xs ys e h = λ f.
     let d = h f in
     omega (arith, a, b, c, d)
 
--- two lists that are up and have the same sums are equal
+-- Two lists that are up and have the same sums are equal.
 pub same_sorted : (xs ys : List (List ℕ)) → IsUp xs → IsUp ys → HaveSameSums xs ys → xs ≡ ys
 same_sorted [] [] u v h = refl
 same_sorted [] (y ∷ ys) u v h = absurd (none_here y ys (sym (h (one_at y))))
@@ -84,7 +84,7 @@ same_sorted (x ∷ xs) (y ∷ ys) u v h =
     let e : x ≡ y = same_first x y (least x y ys v.0 there) (least y x xs u.0 here) in
     ap (λ (z : List ℕ). z ∷ xs) e ∙ ap (λ (zs : List (List ℕ)). y ∷ zs) (same_sorted xs ys u.1 v.1 (same_tails x y xs ys e h))
 
--- the bytes of each string
+-- The bytes of each string.
 abbrev pub bytes_of : List (String Global) → List (List ℕ)
 bytes_of ss = map (λ s. string_bytes s) ss
 
@@ -97,7 +97,7 @@ sorted_tail s ss h = λ k d a l.
     let e : suc k + 1 ≡ suc (k + 1) = omega arith in
     subst (λ (i : ℕ). is_lt (string_cmp (get_or (s ∷ ss) i d) (get_or ss k d)) ≡ false) e (h (suc k) d (omega arith) (omega (arith, l)))
 
--- what a sort of strings leaves is up
+-- What a sort of strings leaves is up.
 pub up_sorted : (ss : List (String Global)) → IsSorted string_cmp ss → IsUp (bytes_of ss)
 up_sorted [] h = tt
 up_sorted (s ∷ ss) h = (
@@ -115,7 +115,7 @@ none_below x [] h = tt
 none_below x (e ∷ es) h =
     (flip (order x e.0) (order e.0 x) (nat_list_cmp_total.antisymm e.0 x) (first_holds (is_lt (order x e.0)) (below_all order x es) h), none_below x es (second_holds (is_lt (order x e.0)) (below_all order x es) h))
 
--- the keys of a map are up
+-- The keys of a map are up.
 pub up_keys : (es : List (List ℕ × List ℕ)) → T (is_sorted order es) → IsUp (map (λ e. e.0) es)
 up_keys [] h = tt
 up_keys (e ∷ es) h = (none_below e.0 es (first_holds (below_all order e.0 es) (is_sorted order es) h), up_keys es (second_holds (below_all order e.0 es) (is_sorted order es) h))

@@ -29,7 +29,7 @@ none_behind bs j none k h l =
     let other : get_or bs k 0 ≡ 47 → ⊥ = λ e. no (get_or-drop j bs (k - j) 0 ∙ ap (λ (i : ℕ). get_or bs i 0) at ∙ e) in
     ap not (ne_eqb (get_or bs k 0) 47 other)
 
--- behind the last slash
+-- Behind the last slash.
 pub base_found : (bs ys : List ℕ) (i j : ℕ) → RFindsChar 47 bs (Some (i, j)) → ys ≡ drop j bs → length ys + j ≡ length bs → ys ≡ base bs
 base_found bs ys i j h e l =
     let end : j ≡ i + 1 = h.1.ends in
@@ -37,11 +37,11 @@ base_found bs ys i j h e l =
     let slash : get_or bs (j - 1) 0 ≡ 47 = ap (λ (k : ℕ). get_or bs k 0) at ∙ h.1.byte (omega arith) in
     e ∙ sym (last_at bs j (omega (arith, l)) (none_behind bs j h.0) (λ k. ap not (eq-eqb (get_or bs (j - 1) 0) 47 slash)))
 
--- a name without a slash
+-- A name without a slash.
 pub base_whole : (bs : List ℕ) → NoCharPasses (λ d. d == 47) bs → bs ≡ base bs
 base_whole bs none = sym (last_at bs 0 (omega arith) (none_behind bs 0 none) (λ l. absurd (omega arith)))
 
--- what ends in `.jfr`
+-- What ends in `.jfr`.
 pub ends : (front : List ℕ) → is_recording (front ++ suffix) ≡ true
 ends front = ap (pointwise nat_eq suffix) (end_rest (front ++ suffix) suffix front refl)
 
@@ -51,6 +51,6 @@ no_end true name x e none =
     let n = length name - 4 in
     absurd (none (take n name) (sym (take-append-drop n name) ∙ ap (λ (y : List ℕ). take n name ++ y) (sym ((bytes_decides suffix (drop n name)).0 e))))
 
--- a name that doesn't end so
+-- A name that doesn't end so.
 pub suffix_none : (name : List ℕ) → ((front : List ℕ) → name ≡ front ++ suffix → ⊥) → name ≡ without_suffix name
 suffix_none name none = sym (no_end (is_recording name) name (take (length name - 4) name) refl none)

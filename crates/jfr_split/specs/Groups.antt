@@ -8,37 +8,37 @@ use Rattle.jfr_split.specs.Parts.{SplitRule, folder_of}
 use Rattle.jfr_split.specs.Names.{part_name}
 use Rattle.jfr_split.specs.Laws.{split_plan}
 
--- a group takes no such chunk: it has as many as may be, or too many bytes with it
+-- A group takes no such chunk: it has as many as may be, or too many bytes with it.
 abbrev pub is_full_for : SplitRule → List (List ℕ) → List ℕ → Bool
 is_full_for rule group chunk = nat_le rule.max_chunks (length group) || nat_lt rule.max_size (length (joined group) + length chunk)
 
--- none of these chunks, which come after others in a group, came to a full one
+-- None of these chunks, which come after others in a group, came to a full one.
 abbrev pub Fit : SplitRule → List (List ℕ) → List (List ℕ) → Type 0
 Fit rule before [] = Unit {0}
 Fit rule before (c ∷ cs) = (is_full_for rule before c ≡ false) × Fit rule (before ++ c ∷ []) cs
 
--- a group of one chunk or more, in which each chunk but the first fits behind those before it
+-- A group of one chunk or more, in which each chunk but the first fits behind those before it.
 abbrev pub IsPart : SplitRule → List (List ℕ) → Type 0
 IsPart rule [] = ⊥
 IsPart rule (c ∷ cs) = Fit rule (c ∷ []) cs
 
--- the next group, if there is one, begins with a chunk for which this group was full
+-- The next group, if there is one, begins with a chunk for which this group was full.
 abbrev pub WasFull : SplitRule → List (List ℕ) → List (List (List ℕ)) → Type 0
 WasFull rule group [] = Unit {0}
 WasFull rule group ([] ∷ groups) = ⊥
 WasFull rule group ((c ∷ cs) ∷ groups) = is_full_for rule group c ≡ true
 
--- each group is a part, and was full for the first chunk of the next
+-- Each group is a part, and was full for the first chunk of the next.
 abbrev pub AreParts : SplitRule → List (List (List ℕ)) → Type 0
 AreParts rule [] = Unit {0}
 AreParts rule (group ∷ groups) = IsPart rule group × WasFull rule group groups × AreParts rule groups
 
--- parts are written one after another, from number n on: each is created, gets its chunks, and is finished
+-- Parts are written one after another, from number n on: each is created, gets its chunks, and is finished.
 abbrev pub written : (ℕ → List ℕ) → ℕ → List (List (List ℕ)) → List Effect
 written name n [] = []
 written name n (part ∷ parts) = Create (name n) ∷ (map (λ c. Append c) part ++ Finish ∷ written name (n + 1) parts)
 
--- the chunks of a recording are written as parts, of which there are not too many
+-- The chunks of a recording are written as parts, of which there are not too many.
 pub record AreWritten (rule : SplitRule) (file recording : List ℕ) : Type 0 where
   pub parts : List (List (List ℕ))
   pub are : AreParts rule parts

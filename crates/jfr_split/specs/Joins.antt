@@ -10,7 +10,7 @@ use Rattle.jfr_plan.specs.Effects.{Create, Append, Finish, Nothing, AtEnd, needi
 use Rattle.jfr_plan.specs.Walks.{Rule, Goes, File, cut_after, plan_after}
 use Rattle.jfr_split.specs.Names.{is_joined}
 
--- each chunk of a file is appended
+-- Each chunk of a file is appended.
 abbrev pub adding : Rule
 adding = record {
   opens = [];
@@ -19,12 +19,12 @@ adding = record {
   target = File;
 }
 
--- a plan that ends so, and the next one where that is well
+-- A plan that ends so, and the next one where that is well.
 abbrev pub then_by : Option End → Plan → Plan → Plan
 then_by (Some Fine) p later = record { steps = p.steps ++ later.steps; end = later.end }
 then_by _ p later = p
 
--- a plan, and the next one where it ends well
+-- A plan, and the next one where it ends well.
 abbrev pub plan_then : Plan → Plan → Plan
 plan_then p later = then_by p.end p later
 
@@ -34,23 +34,23 @@ abbrev pub joining : List (List ℕ) → List (List ℕ) → Plan
 joining earlier [] = record { steps = needing AtEnd (Finish ∷ []); end = Some Fine }
 joining earlier (x ∷ xs) = plan_then (plan_after adding earlier (Some x)) (joining (earlier ++ (cut_after earlier x).chunks) xs)
 
--- no file at all is refused
+-- No file at all is refused.
 abbrev pub joining_all : List (List ℕ) → Plan
 joining_all [] = record { steps = []; end = Some (refused 1 (flaw_at 0 NoChunk)) }
 joining_all (x ∷ xs) = joining [] (x ∷ xs)
 
--- the files of a folder whose names end in `.jfr`, in byte order of their names
+-- The files of a folder whose names end in `.jfr`, in byte order of their names.
 abbrev pub files_in : List ℕ → Files → Files
 files_in folder files = fin.retain_keys files (is_joined folder)
 
--- the output is created, the chunks of each of the folder's files are appended, and the output is finished
+-- The output is created, the chunks of each of the folder's files are appended, and the output is finished.
 abbrev pub assembling : List ℕ → List ℕ → Files → Plan
 assembling folder output files = record {
   steps = needing Nothing (Create output ∷ []) ++ (joining_all (fin.values (files_in folder files))).steps;
   end = (joining_all (fin.values (files_in folder files))).end;
 }
 
--- the output is open, and each of these files is there beside it, with these contents
+-- The output is open, and each of these files is there beside it, with these contents.
 pub record CanJoin (output : List ℕ) (names contents : List (List ℕ)) (w : World) : Type 0 where
   pub opened : w.output ≡ Some output
   pub apart : AllByRecursion (λ name. name ≡ output → ⊥) names

@@ -4,40 +4,40 @@ use Rattle.std.specs.List.{after_last, ends_with}
 use Rattle.std.specs.Option.{option_map_or}
 use Rattle.jfr_outside.specs.World.{in_folder, rest_in}
 
--- `.jfr`
+-- `.jfr`.
 abbrev pub suffix : List ℕ
 suffix = 46 ∷ 106 ∷ 102 ∷ 114 ∷ []
 
--- a name that ends in `.jfr`
+-- A name that ends in `.jfr`.
 abbrev pub is_recording : List ℕ → Bool
 is_recording name = ends_with nat_eq name suffix
 
--- what stands in a name behind its last slash
+-- What stands in a name behind its last slash.
 abbrev pub base : List ℕ → List ℕ
 base name = after_last (λ b. b == 47) name
 
--- a name without a final `.jfr`, where something stands before that
+-- A name without a final `.jfr`, where something stands before that.
 abbrev pub without_suffix : List ℕ → List ℕ
 without_suffix name = if is_recording name && nat_lt 4 (length name) then take (length name - 4) name else name
 
--- the stem of a file's parts: its name without folders and without a final `.jfr`
+-- The stem of a file's parts: its name without folders and without a final `.jfr`.
 unfoldable pub stem : List ℕ → List ℕ
 stem file = without_suffix (base file)
 
--- the last so many decimal digits of a number, with zeros in front
+-- The last so many decimal digits of a number, with zeros in front.
 abbrev pub digits : ℕ → ℕ → List ℕ
 digits zero n = []
 digits (suc k) n = digits k (n / 10) ++ (48 + n % 10) ∷ []
 
--- a name in a folder, or as it is where no folder is given
+-- A name in a folder, or as it is where no folder is given.
 abbrev pub within : Option (List ℕ) → List ℕ → List ℕ
 within None name = name
 within (Some folder) name = in_folder folder name
 
--- part number n of a file: the stem, `_`, the number in six digits, and `.jfr`
+-- Part number n of a file: the stem, `_`, the number in six digits, and `.jfr`.
 unfoldable pub part_name : Option (List ℕ) → List ℕ → ℕ → List ℕ
 part_name folder file n = within folder (stem file ++ 95 ∷ (digits 6 n ++ suffix))
 
--- the name of a file that stands in the folder itself and ends in `.jfr`
+-- The name of a file that stands in the folder itself and ends in `.jfr`.
 unfoldable pub is_joined : List ℕ → List ℕ → Bool
 is_joined folder name = option_map_or is_recording (rest_in folder name) false

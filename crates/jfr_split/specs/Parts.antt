@@ -3,43 +3,43 @@ use Rattle.std.specs.Prelude.{ℕ, ◌+◌, ◌==◌, ◌||◌, ◌≤◌, Bool,
 pub use Rattle.jfr_split.specs.declared.part.SplitRule.{SplitRule}
 pub use Rattle.jfr_split.specs.declared.part.Part.{Part}
 
--- each bound is at least 1, and six digits number all parts
+-- Each bound is at least 1, and six digits number all parts.
 pub record IsUsable (rule : SplitRule) : Type 0 where
   pub chunks : 1 ≤ rule.max_chunks
   pub size : 1 ≤ rule.max_size
   pub some : 1 ≤ rule.max_parts
   pub numbered : rule.max_parts ≤ 999999
 
--- the bytes of the folder's name, if a folder is given
+-- The bytes of the folder's name, if a folder is given.
 abbrev pub folder_of : SplitRule → Option (List ℕ)
 folder_of rule = option_map encode_utf8_all rule.folder
 
--- no part yet
+-- No part yet.
 abbrev pub no_part : Part
 no_part = record { number = 0; chunks = 0; bytes = 0 }
 
--- the part takes no such chunk: it has as many as may be, or too many bytes with it
+-- The part takes no such chunk: it has as many as may be, or too many bytes with it.
 abbrev pub is_full : SplitRule → Part → List ℕ → Bool
 is_full rule part chunk = nat_le rule.max_chunks part.chunks || nat_lt rule.max_size (part.bytes + length chunk)
 
--- the chunk begins a new part
+-- The chunk begins a new part.
 abbrev pub begins : SplitRule → Part → List ℕ → Bool
 begins rule part chunk = (part.number == 0) || is_full rule part chunk
 
--- the part that a chunk stands in, by whether the chunk begins it
+-- The part that a chunk stands in, by whether the chunk begins it.
 abbrev pub part_by : Bool → Part → List ℕ → Part
 part_by true part chunk = record { number = part.number + 1; chunks = 1; bytes = length chunk }
 part_by false part chunk = record { number = part.number; chunks = part.chunks + 1; bytes = part.bytes + length chunk }
 
--- the part that the chunk stands in
+-- The part that the chunk stands in.
 abbrev pub part_with : SplitRule → Part → List ℕ → Part
 part_with rule part chunk = part_by (begins rule part chunk) part chunk
 
--- the last part after more chunks
+-- The last part after more chunks.
 abbrev pub part_after : SplitRule → Part → List (List ℕ) → Part
 part_after rule part [] = part
 part_after rule part (c ∷ cs) = part_after rule (part_with rule part c) cs
 
--- the last part of these chunks
+-- The last part of these chunks.
 unfoldable pub part_of : SplitRule → List (List ℕ) → Part
 part_of rule chunks = part_after rule no_part chunks

@@ -6,22 +6,22 @@ use Rattle.jfr_plan.specs.Walks.{Rule, Asked, Stops, Goes, Parts}
 use Rattle.jfr_split.specs.Parts.{SplitRule, Part, folder_of, begins, part_of}
 use Rattle.jfr_split.specs.Names.{part_name}
 
--- the last part is finished, if there is one
+-- The last part is finished, if there is one.
 abbrev pub closing : Part → List Effect
 closing part = if part.number == 0 then [] else Finish ∷ []
 
--- the last part is finished and the next one created with this chunk, unless there would be too many
+-- The last part is finished and the next one created with this chunk, unless there would be too many.
 abbrev pub asks_new : SplitRule → (ℕ → List ℕ) → Part → List ℕ → Asked
 asks_new rule name part chunk =
     if nat_le rule.max_parts part.number then Stops TooMany
     else Goes (closing part ++ Create (name (part.number + 1)) ∷ Append chunk ∷ [])
 
--- what a chunk asks for, by whether it begins a part
+-- What a chunk asks for, by whether it begins a part.
 abbrev pub asks_part : SplitRule → (ℕ → List ℕ) → Bool → Part → List ℕ → Asked
 asks_part rule name true part chunk = asks_new rule name part chunk
 asks_part rule name false part chunk = Goes (Append chunk ∷ [])
 
--- each chunk is appended to its part, which its first chunk creates; the parts have these names
+-- Each chunk is appended to its part, which its first chunk creates; the parts have these names.
 abbrev pub splitting_as : SplitRule → (ℕ → List ℕ) → Rule
 splitting_as rule name = record {
   opens = [];
@@ -30,6 +30,6 @@ splitting_as rule name = record {
   target = Parts;
 }
 
--- a file is cut into its parts
+-- A file is cut into its parts.
 abbrev pub splitting : SplitRule → List ℕ → Rule
 splitting rule file = splitting_as rule (part_name (folder_of rule) file)

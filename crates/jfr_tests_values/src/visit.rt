@@ -106,7 +106,7 @@ fn walk_to_end(
 fn references_and_string_keys_are_handed_out(rt: HostRuntime) -> Result<(), Fail> {
     let alloc = rt.alloc();
     let classes = node_classes(alloc)?;
-    // two nodes: the second has a text of its own, and no references
+    // Two nodes: the second has a text of its own, and no references.
     let bytes = [2, 7, 2, 9, 2, 5, 6, 42, 8, 3, 1, 120, 0, 43];
     let node = node_at_front(&classes, items(4), &bytes).ok_or("no value")?;
     assert_eq!(rt; node.end, 14);
@@ -128,7 +128,7 @@ fn the_walk_to_the_end_hands_out_the_same(rt: HostRuntime) -> Result<(), Fail> {
     let (targets, end) = walk_to_end(alloc, &classes, items(4), &bytes).ok_or("no memory")?;
     assert_eq!(rt; end, Ok(node.end));
     assert_eq!(rt; targets.as_slice(), all.as_slice());
-    // the second node's number is wanting
+    // The second node's number is wanting.
     let (_, short) = walk_to_end(alloc, &classes, items(4), &bytes[..13]).ok_or("no memory")?;
     let flaw = Flaw {
         offset: 13,
@@ -142,7 +142,7 @@ fn the_walk_to_the_end_hands_out_the_same(rt: HostRuntime) -> Result<(), Fail> {
 fn items_without_bytes_are_not_counted(rt: HostRuntime) -> Result<(), Fail> {
     let alloc = rt.alloc();
     let classes = node_classes(alloc)?;
-    // as many items as a count can say
+    // As many items as a count can say.
     let bytes = [0xff, 0xff, 0xff, 0xff, 0xff, 0xff, 0xff, 0xff, 0xff];
     let node = node_at_front(&classes, items(3), &bytes).ok_or("no value")?;
     let none = targets_of::<Brand>(alloc, Blank::new(1), &classes, node, 0).ok_or("no memory")?;

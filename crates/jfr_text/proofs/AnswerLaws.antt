@@ -31,7 +31,7 @@ module _ (x : List ℕ) (end at : ℕ) (order : at ≤ end) (within : end ≤ le
       (string_of_format true (slice_range x at s.end) (content_of s) i.exact).0
   spells (Err f) e = tt
 
-  -- bytes that the format reads by computing are a string of the content
+  -- Bytes that the format reads by computing are a string of the content.
   pub computed : (s : Content) (to : ℕ) → run (string_format true) x end at ≡ Ok (record { value = s; place = to }) → IsString (slice_range x at to) s
   computed s to e =
       let i = reads_exact (string_format true) x end at s to within order (string_free true) (subst (Says (string_format true) x end at) e (run_says (string_format true) x end at order within)) in
@@ -48,7 +48,7 @@ module _ (x : List ℕ) (end at : ℕ) (order : at ≤ end) (within : end ≤ le
       (after (content_of s) s.end read, i.within)
   ranges (Err f) e = tt
 
--- the key that stands at a place is the one that its format computes
+-- The key that stands at a place is the one that its format computes.
 pub key_computed : (x : List ℕ) (end at to key : ℕ) → at ≤ end → end ≤ length x → IntAt x at to key → to ≤ end → run key_format x end at ≡ Ok (record { value = Key key; place = to })
 unfolding run
 key_computed x end at to key order within stands before =

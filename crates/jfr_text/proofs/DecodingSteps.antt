@@ -3,7 +3,7 @@ use Rattle.std.specs.Prelude.{◌≡◌, ℕ, true, false, List, [], ◌∷◌, 
 use Rattle.std.specs.Char.Utf16.{utf16_chars, utf16_lossy_chars, lone_unit_char, surrogate_pair_char, is_high_surrogate, is_low_surrogate}
 use Rattle.std.proofs.Common.{ap, sym, ◌∙◌}
 
--- the character of a unit in no pair
+-- The character of a unit in no pair.
 abbrev pub lone_char : ℕ → ℕ
 lone_char unit = unwrap_or (lone_unit_char unit) 0xFFFD
 

@@ -26,7 +26,7 @@ one_stands (suc n) bytes v h e =
     let k : suc n - 1 ≡ n = omega arith in
     ap (λ o. option_map_or (λ (v : Var). v.value ∷ first_integers n (drop v.end bytes)) o []) e ∙ ap (λ m. v.value ∷ first_integers m (drop v.end bytes)) (rw k)
 
--- so many integers of one byte, one after another
+-- So many integers of one byte, one after another.
 pub short_passed : (n count : ℕ) (x : List ℕ) (at to end : ℕ) → to ≡ at + n → n ≤ count → to ≤ end → end ≤ length x → AreShort x at to
     → seen (run (times (count - n) integer) x end to) ≡ seen (run (times count integer) x end at)
 short_passed zero count x at to end e i j l short =

@@ -29,7 +29,7 @@ module _ {A : Type 0} (x : List ℕ) (end at : ℕ) where
   unfolding run
   run_there n next h = let t : nat_le (at + n) end ≡ true = grind arith in rw t refl
 
--- what is made of what was read, and of a flaw
+-- What is made of what was read, and of a flaw.
 module _ {A B : Type 0} (x : List ℕ) (end at : ℕ) (f : Format A) (g : A → Format B) where
   pub made_of_value : (v : A) (to : ℕ) → run f x end at ≡ Ok (record { value = v; place = to }) → run (f >>= g) x end at ≡ run (g v) x end to
   made_of_value v to h = run-bind f g x end at ∙ ap (λ r. on r (λ a p. run (g a) x end p)) h
@@ -37,7 +37,7 @@ module _ {A B : Type 0} (x : List ℕ) (end at : ℕ) (f : Format A) (g : A → 
   pub made_of_flaw : (e : Flaw) → run f x end at ≡ Err e → run (f >>= g) x end at ≡ Err e
   made_of_flaw e h = run-bind f g x end at ∙ ap (λ r. on r (λ a p. run (g a) x end p)) h
 
--- a string, by its kind byte
+-- A string, by its kind byte.
 module _ (x : List ℕ) (end at : ℕ) where
   pub kind_missing : end ≤ at → run (string_format true) x end at ≡ Err (record { offset = at; reason = Short })
   unfolding run string_format

@@ -58,22 +58,22 @@ row_key = refl
 text_key : text_of (Key 5) ≡ None
 text_key = refl
 
--- a count may be padded, and so may an integer of a unit
+-- A count may be padded, and so may an integer of a unit.
 row_padded : run (string_format true) (4 ∷ 0x81 ∷ 0 ∷ 0xC1 ∷ 0x80 ∷ 0 ∷ []) 6 0 ≡ Ok (record { value = Units (0x41 ∷ []); place = 6 })
 unfolding run string_format int_at
 row_padded = refl
 
--- of an integer above 16 bits the low ones count
+-- Of an integer above 16 bits the low ones count.
 text_wide : text_of (Units (0x10041 ∷ [])) ≡ Some (0x41 ∷ [])
 unfolding utf16_chars
 text_wide = refl
 
--- a length past the end: the run of bytes is missing
+-- A length past the end: the run of bytes is missing.
 row_beyond : run (string_format true) (3 ∷ 4 ∷ 0x61 ∷ 0x62 ∷ []) 4 0 ≡ refused 2 Short
 unfolding run string_format int_at
 row_beyond = refl
 
--- a count past the end: the first integer that is not there is missing
+-- A count past the end: the first integer that is not there is missing.
 row_units_beyond : run (string_format true) (4 ∷ 2 ∷ 0x41 ∷ []) 3 0 ≡ refused 3 Short
 unfolding run string_format int_at
 row_units_beyond = refl
@@ -86,7 +86,7 @@ row_kind_six : run (string_format true) (6 ∷ []) 1 0 ≡ refused 0 StringKind
 unfolding run string_format int_at
 row_kind_six = refl
 
--- where keys are not allowed
+-- Where keys are not allowed.
 row_no_key : run (string_format false) (2 ∷ 5 ∷ []) 2 0 ≡ refused 0 StringKind
 unfolding run string_format int_at
 row_no_key = refl

@@ -8,12 +8,12 @@ use Rattle.jfr_base.proofs.Shorts.{one_byte}
 use Rattle.jfr_text.proofs.IntegerSteps.{short_passed}
 use Rattle.jfr_text.proofs.ReadSteps.{int_there, done_there, made_of_value, kind_there}
 
--- an answer that ends at a place has a value
+-- An answer that ends at a place has a value.
 value_seen : {A : Type 0} (r : Answer A) (to : ℕ) → seen r ≡ Ok to → (v : A) × (r ≡ Ok (record { value = v; place = to }))
 value_seen (Ok got) to e = let p : got.place ≡ to = cc in (got.value, ap (λ t. Ok (record { value = got.value; place = t })) p)
 value_seen (Err flaw) to e = absurd cc
 
--- so many short integers end behind the last of them
+-- So many short integers end behind the last of them.
 module _ (count : ℕ) (x : List ℕ) (from end : ℕ) (inside : from + count ≤ end) (within : end ≤ length x) (short : AreShort x from (from + count)) where
   short_seen : seen (run (times count integer) x end from) ≡ Ok (from + count)
   unfolding run
@@ -24,7 +24,7 @@ module _ (count : ℕ) (x : List ℕ) (from end : ℕ) (inside : from + count �
   pub short_read : (units : List ℕ) × (run (times count integer) x end from ≡ Ok (record { value = units; place = from + count }))
   short_read = value_seen (run (times count integer) x end from) (from + count) short_seen
 
--- a string of such integers
+-- A string of such integers.
 module _ (x : List ℕ) (at end : ℕ) (within : end ≤ length x) (kind : slice_index x at ≡ 4) (small : slice_index x (at + 1) < 128) where
   pub short_units : at + 2 + slice_index x (at + 1) ≤ end → AreShort x (at + 2) (at + 2 + slice_index x (at + 1))
       → (units : List ℕ) × (run (string_format true) x end at ≡ Ok (record { value = Units units; place = at + 2 + slice_index x (at + 1) }))

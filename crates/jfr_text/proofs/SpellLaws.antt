@@ -1,4 +1,5 @@
--- Integers one after another: as the grammar spells them, as a format reads them, and from the front of some bytes.
+-- Integers one after another: as the grammar spells them, as a format reads them, and from the front of
+-- some bytes.
 use Rattle.std.specs.Prelude.{◌≡◌, ℕ, zero, suc, ◌+◌, ◌-◌, ◌≤◌, List, [], ◌∷◌, ◌++◌, length, take, drop, slice_range, Some, Ok, Err}
 use Rattle.std.specs.Option.{option_map, option_map_or}
 use Rattle.std.proofs.Common.{ap, refl, sym, subst, arith, ◌∙◌, append-nil, take_all, take_at, drop_at}
@@ -12,7 +13,7 @@ use Rattle.jfr_base.proofs.FreeLaws.{reads_exact, times_free}
 use Rattle.jfr_text.specs.Strings.{SpellAll}
 use Rattle.jfr_text.specs.Spans.{first_integers}
 
--- an integer alone
+-- An integer alone.
 integer_spells : (b : List ℕ) (v : ℕ) → Exactly integer b v → Spells b v
 integer_spells b v e =
     let whole : b ≡ e.0 = e.3 ∙ (ap (λ r. e.0 ++ r) e.6.1 ∙ append-nil e.0) in
@@ -24,7 +25,7 @@ spells_integer b v s = (b, [], v, sym (append-nil b), s, refl, (refl, refl))
 joined : (n : ℕ) (v : ℕ) (vs front rest b : List ℕ) → b ≡ front ++ rest → Spells front v → SpellAll rest vs × (length vs ≡ n) → SpellAll b (v ∷ vs) × (length (v ∷ vs) ≡ suc n)
 joined n v vs front rest b e s h = ((front, rest, e, s, h.0), ap (λ m. suc m) h.1)
 
--- what the format reads is spelled
+-- What the format reads is spelled.
 pub times_spelled : (n : ℕ) (b us : List ℕ) → Exactly (times n integer) b us → SpellAll b us × (length us ≡ n)
 times_spelled zero b [] e = (e.1, refl)
 times_spelled zero b (v ∷ vs) e = cc
@@ -36,14 +37,14 @@ times_spelled (suc n) b us e =
     subst (λ (zs : List ℕ). SpellAll b zs × (length zs ≡ suc n)) (sym j.second.0)
     (joined n i.value j.value i.front j.front b all (integer_spells i.front i.value i.first) (times_spelled n j.front j.value j.first))
 
--- and what is spelled is read
+-- And what is spelled is read.
 pub spelled_times : (us b : List ℕ) → SpellAll b us → Exactly (times (length us) integer) b us
 spelled_times [] b s = (refl, s)
 spelled_times (v ∷ vs) b s =
     bind_exact integer (λ a. times (length vs) integer >>= λ rest. Done (a ∷ rest)) s.0 s.1 b v (v ∷ vs) s.2 (spells_integer s.0 v s.3)
     (bind_exact (times (length vs) integer) (λ rest. Done (v ∷ rest)) s.1 [] s.1 vs (v ∷ vs) (sym (append-nil s.1)) (spelled_times vs s.1 s.4) (refl, refl))
 
--- a spelling at the front is the integer there
+-- A spelling at the front is the integer there.
 front_is : (front rest : List ℕ) (v : ℕ) → Spells front v → int_at (front ++ rest) 0 (length (front ++ rest)) ≡ Some (record { value = v; end = length front })
 unfolding int_at
 front_is front rest v s =
@@ -57,7 +58,7 @@ front_is front rest v s =
     ap (option_map (λ n. var (worth_within 8 (slice_range bytes 0 (0 + n))) (0 + n))) found
     ∙ (ap (λ w. Some (var w (0 + length front))) (ap (worth_within 8) part ∙ sym s.worth) ∙ ap (λ q. Some (var v q)) n)
 
--- so many from the front are the integers that are spelled
+-- So many from the front are the integers that are spelled.
 pub spelled_first : (us b : List ℕ) → SpellAll b us → first_integers (length us) b ≡ us
 unfolding first_integers
 spelled_first [] b s = refl
@@ -68,7 +69,7 @@ spelled_first (v ∷ vs) b s =
     ∙ (ap (λ o. option_map_or (λ (w : Var). w.value ∷ first_integers (length vs) (drop w.end (s.0 ++ s.1))) o []) (front_is s.0 s.1 v s.3)
     ∙ ap (λ z. v ∷ z) (ap (first_integers (length vs)) rest ∙ spelled_first vs s.1 s.4))
 
--- where so many integers end is enough to tell them
+-- Where so many integers end is enough to tell them.
 pub record ReadsAll (n : ℕ) (x : List ℕ) (end at to : ℕ) : Type 0 where
   pub order : at ≤ to
   pub spelled : SpellAll (slice_range x at to) (first_integers n (slice_range x at to))

@@ -13,7 +13,7 @@ use Rattle.jfr_base.proofs.RunLaws.{Stands, exact_run}
 use Rattle.jfr_text.specs.Strings.{Content, Null, Empty, Key, Utf8, Units, Latin, SpellAll, IsBody, IsString, IsAllowed, kind_fault, after_kind, string_format}
 use Rattle.jfr_text.proofs.SpellLaws.{times_spelled, spelled_times}
 
--- no unit asks for a place
+-- No unit asks for a place.
 pub string_free : (keyed : Bool) → PlaceFree (string_format keyed)
 unfolding string_format
 string_free keyed kind =

@@ -39,7 +39,7 @@ module _ (k m : Classes) where
       each [] b h = tt
       each (f ∷ fs) b h = (λ t e. h t (subst (AgreeWithin n k m) (sym e) b.0), each fs b.1 h)
 
-  -- so they have the same values
+  -- So they have the same values.
   pub value_agree : (s : Shape) → Agree k m s.class → value_format k s ≡ value_format m s
   unfolding value_format
   value_agree s a = shape_same (class_format 34 k) (class_format 34 m) s (λ t e. class_agree 34 t (subst (AgreeWithin 34 k m) (sym e) (a 34)))

@@ -33,7 +33,7 @@ node_reads k c s at to end v sound n l o h = by_answer (run (value_format k s) c
         subst (λ (z : Got Value). Reads (value_format k s) c end at z.value z.place) q r
     by_answer (Err f) e r = cc
 
--- a node has one end and one value
+-- A node has one end and one value.
 pub one_node : (k : Classes) (c : List ℕ) (s : Shape) (at to too : ℕ) (v w : Value) → Sound k → IsNode k c (node_at s at to) v → IsNode k c (node_at s at too) w → (to ≡ too) × (v ≡ w)
 one_node k c s at to too v w sound n m =
     let o = once_ok v w to too (run (value_format k s) c (length c) at) (node_read k c (node_at s at to) v (length c) sound n n.within (omega arith)) (node_read k c (node_at s at too) w (length c) sound m m.within (omega arith)) in
@@ -60,7 +60,7 @@ module _ (k : Classes) (c : List ℕ) (s : Shape) (at end : ℕ) (sound : Sound 
       by_answer (Ok g) r = let n = read_node k s c end at g.place g.value h o r in inl (g.place, n.1, (g.value, n.0))
       by_answer (Err e) r = inr (e, r)
 
--- what the place or the flaw of the format's answer says
+-- What the place or the flaw of the format's answer says.
 module _ (k : Classes) (x : List ℕ) (s : Shape) (at end : ℕ) (o : at ≤ end) (h : end ≤ length x) where
   pub end_ok : (r : Result ℕ Flaw) → r ≡ seen (run (value_format k s) x end at) → IfOk r (λ to. EndsAt k x s at to × (to ≤ end))
   end_ok r e = subst (λ z. IfOk z (λ to. EndsAt k x s at to × (to ≤ end))) (sym e) (by_answer (run (value_format k s) x end at) (run_says (value_format k s) x end at o h))

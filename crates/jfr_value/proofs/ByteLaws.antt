@@ -8,7 +8,7 @@ use Rattle.jfr_value.specs.Laws.{SameNode, SameSteps}
 use Rattle.jfr_value.proofs.InsideLaws.{fits_agree}
 use Rattle.jfr_value.proofs.NodeLaws.{part, child_is}
 
--- a node of the same shape and bytes, under classes that agree, has the same value
+-- A node of the same shape and bytes, under classes that agree, has the same value.
 pub node_agree : (k m : Classes) (c d : List ℕ) (n o : NodeAt) (v : Value) → IsNode k c n v → n.shape ≡ o.shape → node_bytes c n ≡ node_bytes d o → o.at ≤ o.end → o.end ≤ length d → Agree k m n.shape.class → IsNode m d o v
 node_agree k m c d n o v i s b p q a = record {
   shape = sym s ∙ i.shape;
@@ -26,7 +26,7 @@ both_join R S T f None y (Some c) r s = absurd r
 both_join R S T f (Some a) y None r s = absurd r
 both_join R S T f (Some a) None (Some c) r s = absurd s
 
--- the same steps, to nodes of equal shape and bytes
+-- The same steps, to nodes of equal shape and bytes.
 pub law_of_bytes : (k m : Classes) (c d : List ℕ) (n o : NodeAt) (v : Value) → Sound k → Sound m → IsNode k c n v → SameNode c d n o → o.at ≤ o.end → o.end ≤ length d → Agree k m n.shape.class → SameSteps k m c d n o
 law_of_bytes k m c d n o v sound also i e p q a step =
     both_join (IsNode k c) (IsNode m d) (SameNode c d)

@@ -172,7 +172,7 @@ module _ (k : Classes) (c : List ℕ) (n : NodeAt) (v : Value) (sound : Sound k)
       let f = fields_in k c n v d i a o q m in
       (f.parts, f.row, field_picked n.shape (children k c n) j a ∙ ap (λ z. slice_get z j) (children_are k c n v sound i ∙ f.is))
 
-  -- the same by the layouts of the class
+  -- The same by the layouts of the class.
   pub field_row : (j place : ℕ) (kind : Kind) (ss : List FieldLayout) → n.shape.array ≡ false → n.shape.constant ≡ false → slice_get k place ≡ find_class k n.shape.class → place < length k → IfSome (slice_get k place) (λ c. kind ≡ kind_of c.name) → kind ≡ kinds.Composite → IfSome (slice_get k place) (λ c. AreFieldLayouts k c.fields ss)
       → (vs : Values) × IsRow k c n.at n.end (map (λ s. s.shape) ss) vs × (child k c n (steps.Field j) ≡ slice_get (laid n.at (list_of vs)) j)
   field_row j place kind ss a o q l e m h =
@@ -200,7 +200,7 @@ module _ (k : Classes) (c : List ℕ) (n : NodeAt) (v : Value) (sound : Sound k)
   pub has_count : n.shape.array ≡ true → int_at c n.at n.end ≡ None → ⊥
   has_count a e = let f = items_in k c n v i a in let x = f.counted in cc
 
-  -- an array with an item that isn't a constant is of a known class
+  -- An array with an item that isn't a constant is of a known class.
   pub items_known : (j : ℕ) (w : Var) → n.shape.array ≡ true → int_at c n.at n.end ≡ Some w → j < w.value → n.shape.constant ≡ false → IsSome (find_class k n.shape.class)
   items_known j w a e l o = by_row w.value (item_is j w a e).1.0 l (item_is j w a e).1.1
     where
@@ -211,7 +211,7 @@ module _ (k : Classes) (c : List ℕ) (n : NodeAt) (v : Value) (sound : Sound k)
           let q : shape_of u ≡ item_of n.shape = (let x : shape_of u ∷ shapes_of vs ≡ item_of n.shape ∷ replicate m (item_of n.shape) = r.of_shapes in cc) in
           subst (λ (z : Shape). IsSome (find_class k z.class)) q (inline_known k u (ap (λ (z : Shape). z.array) q) (ap (λ (z : Shape). z.constant) q ∙ o) r.fit.0)
 
--- what the code hands out as a step's end is a value
+-- What the code hands out as a step's end is a value.
 pub child_value : (k : Classes) (n m : Node) (step : Step) → Sound k → IsValue k n → m.bytes.now ≡ n.bytes.now → child k n.bytes.now (node_of n) step ≡ Some (node_of m) → IsValue k m
 child_value k n m step sound (v, i) b e =
     by_part (part v step) (subst (λ z. Both (IsNode k n.bytes.now) z (part v step)) e (child_is k n.bytes.now (node_of n) v sound i step))

@@ -20,7 +20,7 @@ use Rattle.jfr_value.proofs.NodeLaws.{children_are, inner_is, node_read, node_st
 use Rattle.jfr_value.proofs.RowLaws.{row_stands}
 use Rattle.jfr_value.proofs.TargetLaws.{leaves_are, targets_are}
 
--- what is read is a node, and a node is read
+-- What is read is a node, and a node is read.
 pub node_reads : (k : Classes) (c : List ℕ) (s : Shape) (at to end : ℕ) (v : Value) → Sound k → at ≤ end → end ≤ length c → Reads (value_format k s) c end at v to ↔ (IsNode k c (node_at s at to) v × (to ≤ end))
 node_reads k c s at to end v sound o l =
     (λ r. read_node k s c end at to v l o r, λ (i, w). subst (λ (a : Answer Value). Says (value_format k s) c end at a) (node_read k c (node_at s at to) v end sound i w l) (run_says (value_format k s) c end at o l))

@@ -38,7 +38,7 @@ no_right : {X : Type 0} (xs ys : List X) → xs ++ ys ≡ [] → ys ≡ []
 no_right [] ys e = e
 no_right (x ∷ xs) ys e = cc
 
--- where nothing is found at any member
+-- Where nothing is found at any member.
 none_at : {X : Type 0} (found : ℕ → X → List ClassFlaw) (n : ℕ) (xs : List X) → flat_map (λ x. found x.0 x.1) (enumerate_from n xs) ≡ [] → AllByRecursion (λ x. (i : ℕ) × (found i x ≡ [])) xs
 none_at found n [] e = tt
 none_at found n (x ∷ xs) e = (
@@ -63,7 +63,7 @@ sound_inline k id c s e =
     let r = found_holds (λ c. (i : ℕ) × (flaw_if (goes_inline 33 k c) i None InlineDeep ≡ [])) (λ c. c.id == id) k c e (none_at (λ i c. flaw_if (goes_inline 33 k c) i None InlineDeep) 0 k (no_deep k s)) in
     no_flaw (goes_inline 33 k c) r.0 None InlineDeep r.1
 
--- a field's class is known
+-- A field's class is known.
 abbrev pub IsKnown : Classes → Shape → Type 0
 IsKnown k s = (c : Class) × (find_class k s.class ≡ Some c)
 
@@ -121,7 +121,7 @@ each_exact f (g ∷ fs) (Cons v vs) e a =
     bind_exact (f g.shape) (λ a. for_each fs (λ g. f g.shape) >>= λ rest. Done (a ∷ rest)) (bytes_of v) (bytes_of_all vs) (bytes_of v ++ bytes_of_all vs) v (v ∷ list_of vs) refl (subst (λ z. Exactly (f z) (bytes_of v) v) q a.0)
     (bind_exact (for_each fs (λ g. f g.shape)) (λ rest. Done (v ∷ rest)) (bytes_of_all vs) [] (bytes_of_all vs) (list_of vs) (v ∷ list_of vs) (sym (append-nil (bytes_of_all vs))) (each_exact f fs vs r a.1) (refl, refl))
 
--- what is handed on with its bytes
+-- What is handed on with its bytes.
 with_exact : {A B : Type 0} (f : Format A) (g : A → List ℕ → B) (c b : List ℕ) (a : A) → Exactly f b a → Exactly (with_bytes c f (λ a s. Done (g a s))) b (g a (c ++ b))
 with_exact (Done v) g c b a e = (ap (λ z. g z (c ++ b)) e.0 ∙ ap (λ z. g v z) (ap (λ z. c ++ z) e.1 ∙ append-nil c), e.1)
 with_exact (Stop next) g c b a e = absurd e
@@ -185,7 +185,7 @@ module _ (k : Classes) where
   abbrev AllRoom : ℕ → Values → Type 0
   AllRoom n vs = AllByRecursion (λ w. Room k n (shape_of w)) (list_of vs)
 
-  -- an inline step to a composite class
+  -- An inline step to a composite class.
   pub steps_to : (f : Field) (d : Class) → f.shape.constant ≡ false → find_class k f.shape.class ≡ Some d → is_composite (kind_of d.name) ≡ true → step_class k f ≡ Some d
   steps_to f d o q e =
       ap (λ t. if t then None else option_and_then (λ d. if is_composite (kind_of d.name) then Some d else None) (find_class k f.shape.class)) o
@@ -229,7 +229,7 @@ module _ (k : Classes) where
     all_exact Nil n r f = tt
     all_exact (Cons v vs) n r f = (fits_exact v n r.0 f.0, all_exact vs n r.1 f.1)
 
--- what fits is read, and nothing else is
+-- What fits is read, and nothing else is.
 pub fits_good : (k : Classes) (v : Value) → Sound k → Fits k v → Good k v
 unfolding value_format
 fits_good k v s f = fits_exact k v 33 (λ o c q e. sound_inline k (shape_of v).class c s q) f

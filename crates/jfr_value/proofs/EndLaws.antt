@@ -63,7 +63,7 @@ each_step f (z ∷ xs) zero y x end at e =
 each_step f (z ∷ xs) (suc i) y x end at e =
     let h : suc i + 1 ≡ suc (i + 1) = omega arith in rw h (each_step f xs i y x end at e)
 
--- one step of a loop whose step answered
+-- One step of a loop whose step answered.
 pub after_ok : (r : Result ℕ Flaw) (q : ℕ) (f : ℕ → Result ℕ Flaw) (a z : Result ℕ Flaw) → a ≡ then_at r f → r ≡ Ok q → a ≡ z → f q ≡ z
 after_ok r q f a z e h k = ap (λ v. then_at v f) (sym h) ∙ (sym e ∙ k)
 
@@ -93,7 +93,7 @@ pub no_more : {A : Type 0} (n i : ℕ) (f : Format A) (x : List ℕ) (end at : �
 unfolding run
 no_more n i f x end at h = let e : n - i ≡ 0 = omega arith in ap (λ k. seen (run (times k f) x end at)) e
 
--- the fields of a class by their layouts
+-- The fields of a class by their layouts.
 each_by : {X Y A : Type 0} (v : X → Y) (f : Y → Format A) (xs : List X) → for_each xs (λ x. f (v x)) ≡ for_each (map v xs) f
 each_by v f [] = refl
 each_by v f (x ∷ xs) = ap (λ z. f (v x) >>= λ a. z >>= λ rest. Done (a ∷ rest)) (each_by v f xs)
@@ -120,11 +120,11 @@ layout_text depth k s x end at z i e =
 pub layouts_there : (k : Classes) (s : FieldLayout) (ss : List FieldLayout) → IsFieldLayout k s → IfSome (slice_get k s.place) (λ c. AreFieldLayouts k c.fields ss) → AllByRecursion (IsFieldLayout k) ss
 layouts_there k s ss i a = let c = layout_class k s i in (subst (λ o. IfSome o (λ c. AreFieldLayouts k c.fields ss)) c.there a).each
 
--- a string ends where the format of its content does
+-- A string ends where the format of its content does.
 pub text_seen : (x : List ℕ) (end at : ℕ) (r : Answer Content) → r ≡ run (string_format true) x end at → seen r ≡ seen (run (base_format kinds.Text) x end at)
 text_seen x end at r e = ap seen e ∙ sym (seen-made (string_format true) key_of x end at)
 
--- items of a class without fields have no bytes, so an array of them is its count alone
+-- Items of a class without fields have no bytes, so an array of them is its count alone.
 pub hollow_item : (k : Classes) (s : Shape) (c : Class) → find_class k s.class ≡ Some c → kind_of c.name ≡ kinds.Composite → c.fields ≡ [] → s.constant ≡ false
     → (x : List ℕ) (end at : ℕ) → run (item_format (class_format 34 k) (item_of s)) x end at ≡ Ok (record { value = Group (item_of s) [] Nil; place = at })
 unfolding run
@@ -154,7 +154,7 @@ array_short k s x end at a e =
     ap (λ b. seen (run (if b then array_format (item_format (class_format 34 k) (item_of s)) s else item_format (class_format 34 k) s) x end at)) a
     ∙ ap (λ o. seen (after_int x at unchecked (λ n b p. run (times n (item_format (class_format 34 k) (item_of s)) >>= λ vs. Done (Group s b (values_of vs))) x end p) o)) e
 
--- the two answers about an array that was found to be hollow
+-- The two answers about an array that was found to be hollow.
 pub hollow_is : (k : Classes) (s : Shape) (place : ℕ) (b : Bool) (c : Class) → slice_get k place ≡ Some c → IfSome (slice_get k place) (λ c. IsTrue b ↔ IsHollowArray s c) → b ≡ true → IsHollowArray s c
 hollow_is k s place b c q h t = (subst (λ o. IfSome o (λ c. IsTrue b ↔ IsHollowArray s c)) q h).0 t
 

@@ -18,7 +18,7 @@ use Rattle.jfr_text.specs.Strings.{IsString, string_format}
 use Rattle.std.proofs.lemmas.List.{append-nil}
 use Rattle.jfr_value.proofs.TreeLaws.{Good, Tells, class_whole, shape_whole, parts_good, no_rest}
 
--- the case of one value, its parts' cases aside
+-- The case of one value, its parts' cases aside.
 abbrev pub Case : Classes → Value → Type 0
 Case k (Single s kind b key) = IsSingle k s kind b key
 Case k (Group s h vs) = IsHead k s h (shapes_of vs)
@@ -44,7 +44,7 @@ run_is n b key e = (ap length (no_rest b e.0 e.1 e.2 e.4.1) ∙ e.3, e.4.0)
 int_is : (b : List ℕ) (key : Option ℕ) → Exactly (Int unchecked (λ v spelled. Done None)) b key → (v : ℕ) × Spells b v × (key ≡ None)
 int_is b key e = (e.2, subst (λ z. Spells z e.2) (sym (no_rest b e.0 e.1 e.3 e.6.1)) e.4, e.6.0)
 
--- what the format of a base name reads is a value of it
+-- What the format of a base name reads is a value of it.
 pub base_is : (kd : Kind) (b : List ℕ) (key : Option ℕ) → is_composite kd ≡ false → Exactly (base_format kd) b key → IsBase kd b key
 base_is kinds.Boolean b key o e = run_is 1 b key e
 base_is kinds.Byte b key o e = run_is 1 b key e
@@ -59,7 +59,7 @@ base_is kinds.Text b key o e =
     (i.value, subst (λ z. IsString z i.value) (sym (no_rest b i.front i.rest i.split i.second.1)) (exact_is i.front i.value i.first), i.second.0)
 base_is kinds.Composite b key o e = cc
 
--- and back
+-- And back.
 is_run : (n : ℕ) (b : List ℕ) (key : Option ℕ) → length b ≡ n → key ≡ None → Exactly (Run n (λ bytes. Done None)) b key
 is_run n b key l q = (b, [], sym (append-nil b), l, (q, refl))
 

@@ -18,7 +18,7 @@ use Rattle.jfr_value.specs.Reading.{base_format, item_format, array_format, shap
 use Rattle.jfr_value.specs.Nodes.{IsValueReason}
 use Rattle.jfr_value.proofs.DepthLaws.{IsKnown, sound_inline, sound_known, any_none, steps_to}
 
--- whatever the format refuses, it refuses for such a reason
+-- Whatever the format refuses, it refuses for such a reason.
 abbrev RefusesOnly : {A : Type 0} → (Reason → Type 0) → Format A → Type 0
 RefusesOnly P (Done a) = ⊤
 RefusesOnly P (Stop next) = P Trailing × RefusesOnly P next
@@ -165,7 +165,7 @@ module _ (k : Classes) (sound : Sound k) where
       (subst (AllByRecursion (λ f. option_map_or (λ d. goes_inline m k d) (step_class k f) false ≡ false)) i (any_none (λ f. option_map_or (λ d. goes_inline m k d) (step_class k f) false) (inline_fields c.0) (r o c.0 c.1 q)))
       (class_plain m)))))
 
--- so no other flaw comes
+-- So no other flaw comes.
 pub value_plain : (k : Classes) (s : Shape) (x : List ℕ) (end at o : ℕ) (why : Reason) → Sound k → IsKnown k s → Fails (value_format k s) x end at o why → IsValueReason why
 unfolding value_format
 value_plain k s x end at o why sound known e =

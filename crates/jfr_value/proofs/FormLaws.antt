@@ -8,7 +8,7 @@ use Rattle.jfr_layout.specs.declared.kind.Kind.{Kind}
 use Rattle.jfr_layout.specs.declared.kind.Kind.TheVariants as kinds
 use Rattle.jfr_layout.specs.declared.field_layout.FieldLayout.{FieldLayout}
 
--- the form is that of an inline value
+-- The form is that of an inline value.
 abbrev pub IsInline : Form → Type 0
 IsInline forms.Array = ⊥
 IsInline forms.Key = ⊥
@@ -29,17 +29,17 @@ inline_is kinds.Double = tt
 inline_is kinds.Text = tt
 inline_is kinds.Composite = tt
 
--- then the layout has neither mark, and its kind has the form
+-- Then the layout has neither mark, and its kind has the form.
 pub record Inline (s : FieldLayout) (f : Form) : Type 0 where
   pub array : s.shape.array ≡ false
   pub constant : s.shape.constant ≡ false
   pub form : f ≡ inline_form s.kind
 
--- a kind of another form is another kind
+-- A kind of another form is another kind.
 pub other_kind : (f : Form) (kind other : Kind) → f ≡ inline_form kind → f ≢ inline_form other → kind ≢ other
 other_kind f kind other e n h = n (e ∙ ap inline_form h)
 
--- a value of a base name that refers to nothing
+-- A value of a base name that refers to nothing.
 pub record Plain (s : FieldLayout) : Type 0 where
   pub array : s.shape.array ≡ false
   pub constant : s.shape.constant ≡ false
@@ -66,12 +66,12 @@ module _ (s : FieldLayout) (h : s.form ≡ form_of s.shape s.kind) where
       by_marks false true p q g = (p, q)
       by_marks false false p q g = absurd (subst IsInline (sym g) (inline_is s.kind))
 
-  -- an integer or raw bytes
+  -- An integer or raw bytes.
   pub plain_there : (s.form ≡ forms.Integer) ⊎ ((n : ℕ) × (s.form ≡ forms.Raw n)) → Plain s
   plain_there (inl e) = plain_of s forms.Integer (inline_there forms.Integer e tt) (λ q. cc) (λ q. cc)
   plain_there (inr e) = plain_of s (forms.Raw e.0) (inline_there (forms.Raw e.0) e.1 tt) (λ q. cc) (λ q. cc)
 
--- the kinds of a form
+-- The kinds of a form.
 pub text_kind : (kind : Kind) → forms.Text ≡ inline_form kind → kind ≡ kinds.Text
 text_kind kinds.Text e = refl
 text_kind kinds.Boolean e = cc

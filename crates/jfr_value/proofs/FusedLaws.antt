@@ -91,7 +91,7 @@ module _ (k : Classes) (levels : ℕ) (x : List ℕ) (end : ℕ) where
   placed : (s : FieldLayout) → IsFieldLayout k s → IsPlaced k s
   placed s i = record { form = i.form; of_class = λ o. i }
 
-  -- one field
+  -- One field.
   alone_seen : (s : FieldLayout) (at : ℕ) → seen (row (s ∷ []) at) ≡ seen (run (one s) x end at)
   unfolding run
   alone_seen s at = seen-for_each s [] one x end at ∙ then_at_ok (seen (run (one s) x end at))
@@ -148,7 +148,7 @@ module _ (k : Classes) (levels : ℕ) (x : List ℕ) (end : ℕ) where
       let j = subst (AllByRecursion (IsFieldLayout k)) h.1 i in
       text_ends k h.0 levels x end at (placed h.0 j.0) h.2.0 ∙ (sym (alone_seen h.0 at) ∙ ap (λ z. seen (row z at)) (sym h.1))
 
-  -- what is taken of them
+  -- What is taken of them.
   module _ {A : Type 0} (takes : ℕ × ℕ → A → A → Type 0) where
     cons_ends : (s : FieldLayout) (ss : List FieldLayout) (at : ℕ) (old now new : A) → TakesRead takes (run (one s) x end at) old now → ((to : ℕ) → Ok to ≡ seen (run (one s) x end at) → TakesReadAll takes (row ss to) now new) → TakesReadAll takes (row (s ∷ ss) at) old new
     cons_ends s ss at old now new h t = by_end (seen (run (one s) x end at)) refl
@@ -215,7 +215,7 @@ module _ (k : Classes) (levels : ℕ) (x : List ℕ) (end : ℕ) where
         let u = subst (λ c. IfOk (run (string_format true) x end at) (λ got. TakesAll takes (option_to_list (option_map (λ key. (c, key)) (key_of got.value))) old new)) (sym h.2.1) t in
         subst (λ z. TakesReadAll takes (row z at) old new) (sym h.1) (alone_taken s at old new (text_taken k s levels x end at (placed s j.0) takes old new h.2.0 u))
 
-  -- the front: two integers, a key, and a key
+  -- The front: two integers, a key, and a key.
   module _ (thread trace : ℕ) (ss : List FieldLayout) (i : AllByRecursion (IsFieldLayout k) ss) (f : IsEventPrelude thread trace ss) where
     abbrev begun : List FieldLayout
     begun = f.start ∷ f.duration ∷ []
@@ -232,7 +232,7 @@ module _ (k : Classes) (levels : ℕ) (x : List ℕ) (end : ℕ) where
     trace_seen : (at : ℕ) → seen (run integer x end at) ≡ seen (row (f.traces ∷ []) at)
     trace_seen at = key_seen trace (f.traces ∷ []) at (each.1.1.1.0, tt) (f.traces, refl, f.trace_is)
 
-    -- the keys behind the integers, and the trace behind the thread
+    -- The keys behind the integers, and the trace behind the thread.
     behind : (at : ℕ) → seen (row ss at) ≡ then_at (seen (run (times 2 integer) x end at)) (λ p. seen (row (f.threads ∷ f.traces ∷ []) p))
     behind at =
         ap (λ z. seen (row z at)) f.all
@@ -244,7 +244,7 @@ module _ (k : Classes) (levels : ℕ) (x : List ℕ) (end : ℕ) where
         both_seen one x end (f.threads ∷ []) (f.traces ∷ []) at
         ∙ then_same (seen (row (f.threads ∷ []) at)) (seen (run integer x end at)) (λ p. seen (row (f.traces ∷ []) p)) (λ p. seen (run integer x end p)) (sym (thread_seen at)) (λ p. sym (trace_seen p))
 
-    -- where its parts end
+    -- Where its parts end.
     abbrev then_keys : ℕ → Result ℕ Flaw
     then_keys p = then_at (seen (run integer x end p)) (λ q. seen (run integer x end q))
 
@@ -269,7 +269,7 @@ module _ (k : Classes) (levels : ℕ) (x : List ℕ) (end : ℕ) where
         (key_taken takes thread (f.threads ∷ []) threads old now (each.1.1.0, tt) (f.threads, refl, f.thread_is) h)
         (key_taken takes trace (f.traces ∷ []) traces now new (each.1.1.1.0, tt) (f.traces, refl, f.trace_is) t)))
 
--- the layout of the class at a place
+-- The layout of the class at a place.
 pub row_layouts : (k : Classes) (o : Option Class) (row : ClassLayout) → IfSome o (λ c. IsClassLayout k c row) → IfSome o (λ c. AreFieldLayouts k c.fields row.layouts.items)
 row_layouts k None row h = h
 row_layouts k (Some c) row h = h.layouts
@@ -277,7 +277,7 @@ row_layouts k (Some c) row h = h.layouts
 pub row_fused : (k : Classes) (place : ℕ) (row : ClassLayout) → place < length k → IfSome (slice_get k place) (λ c. IsClassLayout k c row) → AreFused row.layouts.items row.fused_fields.items
 row_fused k place row l h = let c = get_within k place l in (subst (λ o. IfSome o (λ c. IsClassLayout k c row)) c.1 h).fused_fields
 
--- the fused fields from a number on
+-- The fused fields from a number on.
 module _ (ss : List FieldLayout) (fused_fields : List FusedFields) where
   abbrev pub left_by : ℕ → List FieldLayout
   left_by i = flat_map (passed_by ss) (drop i fused_fields)

@@ -25,7 +25,7 @@ module _ (k m : Classes) where
   agree_head s h ss g (inr p) =
       subst AgreeShapes (sym p.6) (agree_fields p.2.fields (λ n. (let a = g (suc n) in let e : a.0 ≡ p.2 = cc (p.3, a.2) in subst (λ c. AllByRecursion (λ f. AgreeWithin n k m f.shape.class) c.fields) e a.7)))
 
-  -- the class in the other list, with the same name and fields
+  -- The class in the other list, with the same name and fields.
   record Twin (c : Class) (id : ℕ) : Type 0 where
     class : Class
     found : find_class m id ≡ Some class

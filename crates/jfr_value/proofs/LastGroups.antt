@@ -14,7 +14,7 @@ use Rattle.jfr_value.specs.Groups.{AreLastGroups}
 use Rattle.jfr_value.proofs.SkipLaws.{skip_all, skip_end}
 use lib.Lanes.{mask_l}
 
--- the mask of a vector has such bits
+-- The mask of a vector has such bits.
 module _ (x : List ℕ) (at : ℕ) (room : at + 16 ≤ length x) where
   abbrev sixteen : List ℕ
   sixteen = take 16 (drop at x)
@@ -30,7 +30,7 @@ module _ (x : List ℕ) (at : ℕ) (room : at + 16 ≤ length x) where
       bit_mask_l (map (λ b. ltb b 128) sixteen) k
       ∙ ap (λ t. cond t 1 0) (get_or-map (λ b. ltb b 128) sixteen k 0 false (omega (arith, h, long)) ∙ ap (λ b. ltb b 128) (byte_is k h))
 
--- so many bits are not set, up to the first that is, or the ninth
+-- So many bits are not set, up to the first that is, or the ninth.
 pub record AreWithMore (lasts from count : ℕ) : Type 0 where
   pub range : count ≤ 8
   pub more : (k : ℕ) → k < count → bit_at lasts (from + k) ≡ 0
@@ -49,7 +49,7 @@ module _ (lasts from : ℕ) (small : lasts < 2 ^ 64) where
   ninth_is : bit_at marked 8 ≡ 1
   ninth_is = omega (arith, bit_at_or (lasts / 2 ^ from) 256 8, bit_at-pow_same 8, bit_at-lt (lasts / 2 ^ from) 8)
 
-  -- the place of the lowest bit
+  -- The place of the lowest bit.
   abbrev count : ℕ
   count = trailing_zeros w64 marked
 
@@ -76,7 +76,7 @@ module _ (lasts from : ℕ) (small : lasts < 2 ^ 64) where
     last = λ h. sym (marked_is count h) ∙ lowest.1;
   }
 
--- an integer of the bytes whose last group is one of the sixteen
+-- An integer of the bytes whose last group is one of the sixteen.
 pub last_there : (x : List ℕ) (at end lasts from count : ℕ) → AreLastGroups x at lasts → AreWithMore lasts from count → from + count < 16 → at + from + count < end → end ≤ length x
     → Ok (at + from + count + 1) ≡ seen (run integer x end (at + from))
 last_there x at end lasts from count bits w inside upto within =
@@ -86,7 +86,7 @@ last_there x at end lasts from count bits w inside upto within =
       | inr all ↦ inr (omega (arith, all, w.range))
     ])
   where
-    -- what a bit says of its byte
+    -- What a bit says of its byte.
     unset : (t : Bool) (n : ℕ) → n ≡ (if t then 1 else 0) → n ≡ 0 → t ≡ false
     unset true n e h = absurd (omega (arith, e, h))
     unset false n e h = refl

@@ -21,7 +21,7 @@ use Rattle.jfr_value.proofs.LayoutLaws.{layout_class}
 use Rattle.jfr_value.proofs.StackLaws.{inner_room}
 use Rattle.jfr_value.proofs.TakingLaws.{fields_taken, item_taken, string_taken}
 
--- an inline value by its class
+-- An inline value by its class.
 abbrev item : (Shape → Format Value) → Shape → Bool → Format Value
 item inline s t = if t then Int unchecked (λ key b. Done (Single (item_of s) (leaf_kinds.Key key) b (Some key))) else inline (item_of s)
 
@@ -42,7 +42,7 @@ module _ (k : Classes) (s : FieldLayout) (levels : ℕ) (x : List ℕ) (end at :
       let i = inline_there s p.form forms.Text e tt in
       ap (λ kind. seen (run (base_format kind) x end at)) (sym (text_kind s.kind i.form)) ∙ base_ends forms.Text i (λ q. cc)
 
-  -- the class of a layout of inline fields
+  -- The class of a layout of inline fields.
   pub record FieldsThere : Type 0 where
     pub of_class : IsFieldLayout k s
     pub array : s.shape.array ≡ false
@@ -54,7 +54,7 @@ module _ (k : Classes) (s : FieldLayout) (levels : ℕ) (x : List ℕ) (end at :
       let i = inline_there s p.form forms.Fields e tt in
       record { of_class = p.of_class i.constant; array = i.array; constant = i.constant; composite = fields_kind s.kind i.form }
 
-  -- there is an inline step less for its fields
+  -- There is an inline step less for its fields.
   pub room_left : s.form ≡ forms.Fields → Room k levels s.shape → 1 ≤ levels
   room_left e r =
       let f = fields_there e in
@@ -91,7 +91,7 @@ module _ (k : Classes) (s : FieldLayout) (levels : ℕ) (x : List ℕ) (end at :
         inline_taken f.array f.constant (fields_taken takes x end at (levels + 1) k s ss old new (omega arith) f.of_class f.composite a
         (subst (λ n. TakesReadAll takes (run (for_each ss (λ z. shape_format (class_format n k) z.shape)) x end at) old new) m h))
 
--- the room for each field of a layout's class
+-- The room for each field of a layout's class.
 room_each : (k : Classes) (levels : ℕ) (fs : List Field) (ss : List FieldLayout) → map (λ s. s.shape) ss ≡ map (λ f. f.shape) fs → AllByRecursion (λ f. Room k levels f.shape) fs → AllByRecursion (λ s. Room k levels s.shape) ss
 room_each k levels fs [] e a = tt
 room_each k levels [] (s ∷ ss) e a = cc

@@ -13,7 +13,7 @@ use Rattle.jfr_layout.specs.declared.field_layout.FieldLayout.{FieldLayout}
 use Rattle.jfr_value.specs.Values.{IsPlaced}
 use Rattle.jfr_value.proofs.PlaceLaws.{get_within, kind_there, placed_class, placed_some, placed_within}
 
--- the class of a layout's shape
+-- The class of a layout's shape.
 pub record LayoutClass (k : Classes) (s : FieldLayout) : Type 0 where
   pub class : Class
   pub found : find_class k s.shape.class ≡ Some class
@@ -37,7 +37,7 @@ layout_known k s i = subst IsSome (sym (layout_class k s i).found) refl
 pub layout_within : (k : Classes) (s : FieldLayout) → IsFieldLayout k s → s.place < length k
 layout_within k s i = placed_within k s.shape.class s.place i.place
 
--- the layout of a shape whose class stands at a place
+-- The layout of a shape whose class stands at a place.
 pub layout_made : (k : Classes) (s : Shape) (place : ℕ) (kind : Kind) → class_place k s.class ≡ Some place → IfSome (slice_get k place) (λ c. kind ≡ kind_of c.name) → IsFieldLayout k (layout_with s place kind)
 layout_made k s place kind p h =
     let c = placed_some k s.class place p in
@@ -47,7 +47,7 @@ layout_made k s place kind p h =
       form = refl;
     }
 
--- a layout that is read from a list of them
+-- A layout that is read from a list of them.
 abbrev pub no_layout : FieldLayout
 no_layout = record { shape = record { class = 0; constant = false; array = false }; place = 0; kind = kinds.Boolean; form = forms.Array }
 
@@ -62,7 +62,7 @@ layouts_at k (s ∷ ss) (suc i) a l = layouts_at k ss i a.1 (omega arith)
 pub placed_at : (k : Classes) (ss : List FieldLayout) (i : ℕ) → AllByRecursion (IsFieldLayout k) ss → i < length ss → IsPlaced k (get_or ss i no_layout)
 placed_at k ss i a l = let s : IsFieldLayout k (get_or ss i no_layout) = layouts_at k ss i a l in record { form = s.form; of_class = λ o. s }
 
--- the layouts of the class at a place
+-- The layouts of the class at a place.
 pub record LayoutsOf (k : Classes) (place : ℕ) (ss : List FieldLayout) : Type 0 where
   pub class : Class
   pub there : slice_get k place ≡ Some class
@@ -75,7 +75,7 @@ layouts_of k place ss l a =
     let h : AreFieldLayouts k c.0.fields ss = subst (λ o. IfSome o (λ c. AreFieldLayouts k c.fields ss)) c.1 a in
     record { class = c.0; there = c.1; layouts = h; count = omega (arith, ap length h.shapes, length-map ss (λ (s : FieldLayout). s.shape), length-map c.0.fields (λ (f : Field). f.shape)) }
 
--- the field of a layout
+-- The field of a layout.
 pub record FieldOf (k : Classes) (place number : ℕ) (s : FieldLayout) : Type 0 where
   pub field : Field
   pub there : field_at k place number ≡ Some field

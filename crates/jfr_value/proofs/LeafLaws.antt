@@ -26,7 +26,7 @@ head_none at s h = by_mark s.array
     by_mark true = refl
     by_mark false = refl
 
--- the key of a leaf is that of the value
+-- The key of a leaf is that of the value.
 pub string_key : (b : List ℕ) (s : Content) → IsString b s → spelled_key b ≡ key_of s
 string_key [] s i = absurd i
 string_key (kind ∷ rest) Null i = ap (λ z. spelled_key (z ∷ rest)) i.0
@@ -56,7 +56,7 @@ single_target : (s : Shape) (kind : LeafKind) (b : List ℕ) (key : Option ℕ) 
 single_target s kind b None e = ap (λ z. cons_option (option_map (λ key. (s.class, key)) z) []) e
 single_target s kind b (Some key) e = ap (λ z. cons_option (option_map (λ key. (s.class, key)) z) []) e
 
--- what a value refers to is what its leaves refer to
+-- What a value refers to is what its leaves refer to.
 mutual
   pub leaf_targets : (k : Classes) (at : ℕ) (v : Value) → Fits k v → filter_map leaf_target (leaves_at at v) ≡ targets_of v
   leaf_targets k at (Single s kind b key) f = single_target s kind b key (single_key k s kind b key f)
@@ -66,7 +66,7 @@ mutual
   leaf_targets_from k at Nil f = refl
   leaf_targets_from k at (Cons v vs) f = filter_map-append leaf_target (leaves_at at v) (leaves_from (at + length (bytes_of v)) vs) ∙ (ap (λ z. z ++ filter_map leaf_target (leaves_from (at + length (bytes_of v)) vs)) (leaf_targets k at v f.0) ∙ ap (λ z. targets_of v ++ z) (leaf_targets_from k (at + length (bytes_of v)) vs f.1))
 
--- a value without parts has a byte, and so has an array's count
+-- A value without parts has a byte, and so has an array's count.
 spelled : (k : ℕ) (h : List ℕ) → IsSpellingWithin k h → 1 ≤ length h
 spelled k [] s = absurd s
 spelled k (b ∷ h) s = omega arith
@@ -103,7 +103,7 @@ head_has k at s h ss (inr p) = by_mark s.array p.0
     by_mark true q = cc
     by_mark false q = omega arith
 
--- at most as many leaves as bytes
+-- At most as many leaves as bytes.
 mutual
   pub leaves_within : (k : Classes) (at : ℕ) (v : Value) → Fits k v → length (leaves_at at v) ≤ length (bytes_of v)
   leaves_within k at (Single s kind b key) f = single_has k s kind b key f

@@ -22,7 +22,7 @@ use Rattle.jfr_value.proofs.FitLaws.{good_fits}
 use Rattle.jfr_value.proofs.DepthLaws.{fits_good}
 use Rattle.jfr_value.proofs.StringLaws.{string_free}
 
--- the value's format asks for no place
+-- The value's format asks for no place.
 base_free : (kd : Kind) → PlaceFree (base_format kd)
 base_free kinds.Boolean = λ s. tt
 base_free kinds.Byte = λ s. tt
@@ -71,7 +71,7 @@ pub value_free : (k : Classes) (s : Shape) → PlaceFree (value_format k s)
 unfolding value_format
 value_free k s = shape_free (class_format 34 k) (class_free 34 k) s
 
--- what is read as a value is a node
+-- What is read as a value is a node.
 pub read_node : (k : Classes) (s : Shape) (c : List ℕ) (end at to : ℕ) (v : Value) → end ≤ length c → at ≤ end → Reads (value_format k s) c end at v to → IsNode k c (record { shape = s; at = at; end = to }) v × (to ≤ end)
 read_node k s c end at to v h i r =
     let e = reads_exact (value_format k s) c end at v to h i (value_free k s) r in
@@ -85,7 +85,7 @@ node_stands k c n v i = record { order = i.order; within = i.within; bytes = i.b
 pub stands_node : (k : Classes) (c : List ℕ) (at end : ℕ) (v : Value) → Stands c at end (bytes_of v) → Fits k v → IsNode k c (record { shape = shape_of v; at = at; end = end }) v
 stands_node k c at end v s f = record { shape = refl; order = s.order; within = s.within; bytes = s.bytes; fits = f }
 
--- a node is read, whatever comes after it
+-- A node is read, whatever comes after it.
 pub node_read : (k : Classes) (c : List ℕ) (n : NodeAt) (v : Value) (end : ℕ) → Sound k → IsNode k c n v → n.end ≤ end → end ≤ length c → run (value_format k n.shape) c end n.at ≡ Ok (record { value = v; place = n.end })
 node_read k c n v end s i l h =
     let e : Exactly (value_format k n.shape) (bytes_of v) v = subst (λ z. Exactly (value_format k z) (bytes_of v) v) (sym i.shape) (fits_good k v s i.fits) in
@@ -95,7 +95,7 @@ pub value_is : (k : Classes) (c : List ℕ) (n : NodeAt) (v : Value) → Sound k
 unfolding value_of
 value_is k c n v s i = ap got_value (node_read k c n v n.end s i (omega arith) i.within)
 
--- the members that lie one after another
+-- The members that lie one after another.
 laid_is : (k : Classes) (c : List ℕ) (at to : ℕ) (vs : Values) → Stands c at to (bytes_of_all vs) → AllFit k vs → (i : ℕ) → Both (IsNode k c) (slice_get (laid at (list_of vs)) i) (slice_get (list_of vs) i)
 laid_is k c at to Nil s g i = tt
 laid_is k c at to (Cons v vs) s g i =
@@ -127,14 +127,14 @@ picked_both R s xs ys f (steps.Item i) = by_mark s.array (f i)
     by_mark false r = tt
 picked_both R s xs ys f steps.Follow = tt
 
--- the part of a value that a step names
+-- The part of a value that a step names.
 abbrev pub part : Value → Step → Option Value
 part v step = picked (shape_of v) (parts_of v) step
 
 pub children_are : (k : Classes) (c : List ℕ) (n : NodeAt) (v : Value) → Sound k → IsNode k c n v → children k c n ≡ laid_in n.at v
 children_are k c n v s i = ap (λ o. option_map_or (laid_in n.at) o []) (value_is k c n v s i)
 
--- a step within a value
+-- A step within a value.
 pub child_is : (k : Classes) (c : List ℕ) (n : NodeAt) (v : Value) → Sound k → IsNode k c n v → (step : Step) → Both (IsNode k c) (child k c n step) (part v step)
 child_is k c n v s i step =
     let b = picked_both (IsNode k c) (shape_of v) (laid_in n.at v) (parts_of v) (inner_is k c n.at n.end v (node_stands k c n v i) i.fits) step in

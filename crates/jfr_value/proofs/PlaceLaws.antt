@@ -34,7 +34,7 @@ placed_within k id place e = (found_at (λ c. c.id == id) k place e).0
 pub placed_class : (k : Classes) (id place : ℕ) → class_place k id ≡ Some place → find_class k id ≡ slice_get k place
 placed_class k id place e = (found_at (λ c. c.id == id) k place e).1
 
--- the kind of the class at a place
+-- The kind of the class at a place.
 pub kind_there : (k : Classes) (place : ℕ) (c : Class) (kind : Kind) → IfSome (slice_get k place) (λ c. kind ≡ kind_of c.name) → slice_get k place ≡ Some c → kind ≡ kind_of c.name
 kind_there k place c kind e q = subst (λ o. IfSome o (λ c. kind ≡ kind_of c.name)) q e
 
@@ -46,7 +46,7 @@ none_found {X = X} p i (x ∷ xs) e = by_test (p x) refl e (λ q. none_found p (
     by_test true q e r = cc
     by_test false q e r = ap (λ t. cond t (Some x) (find p xs)) q ∙ r e
 
--- a known class has a place
+-- A known class has a place.
 pub known_placed : (k : Classes) (id : ℕ) → IsSome (find_class k id) → class_place k id ≡ None → ⊥
 known_placed k id h e = let n : find_class k id ≡ None = none_found (λ c. c.id == id) 0 k (sym (position_from-zero (λ c. c.id == id) k) ∙ e) in let q : IsSome {T = Class} None = subst (λ o. IsSome o) n h in cc
 
@@ -55,11 +55,11 @@ get_within [] i h = absurd (omega arith)
 get_within (x ∷ xs) zero h = (x, refl)
 get_within (x ∷ xs) (suc i) h = get_within xs i (omega arith)
 
--- and a class stands there
+-- And a class stands there.
 pub placed_some : (k : Classes) (id place : ℕ) → class_place k id ≡ Some place → (c : Class) × (slice_get k place ≡ Some c)
 placed_some k id place e = get_within k place (placed_within k id place e)
 
--- the place of a known class, where another number stands for no place
+-- The place of a known class, where another number stands for no place.
 pub known_place : (k : Classes) (id place other : ℕ) (o : Option ℕ) → o ≡ class_place k id → place ≡ unwrap_or o other → IsSome (find_class k id) → class_place k id ≡ Some place
 known_place k id place other None e u h = absurd (known_placed k id h (sym e))
 known_place k id place other (Some p) e u h = sym e ∙ ap (λ z. Some z) (sym u)

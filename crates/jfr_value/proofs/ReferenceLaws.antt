@@ -22,7 +22,7 @@ none_listed : (o : Option (ℕ × ℕ)) → [] ≡ option_to_list o → None ≡
 none_listed None e = refl
 none_listed (Some t) e = cc
 
--- a value without parts refers by itself to all that it refers to
+-- A value without parts refers by itself to all that it refers to.
 own_alone : (v : Value) (o : Option (ℕ × ℕ)) → parts_of v ≡ [] → targets_of v ≡ option_to_list o → own_target v ≡ o
 own_alone (Single s kind b None) o p e = none_listed o e
 own_alone (Single s kind b (Some key)) None p e = cc
@@ -30,7 +30,7 @@ own_alone (Single s kind b (Some key)) (Some t) p e = let h : (s.class, key) ≡
 own_alone (Group s h Nil) o p e = none_listed o e
 own_alone (Group s h (Cons v vs)) o p e = cc
 
--- of the base names only a string has a key
+-- Of the base names only a string has a key.
 keyed_text : (kind : Kind) (b : List ℕ) (key : ℕ) → IsBase kind b (Some key) → kind ≡ kinds.Text
 keyed_text kinds.Text b key i = refl
 keyed_text kinds.Boolean b key i = let e = i.1 in cc
@@ -56,7 +56,7 @@ module _ (k : Classes) (c : List ℕ) (at to : ℕ) (s : FieldLayout) (t : Shape
   if_known : IsLayoutIfKnown k s
   if_known = record { form = form; of_class = λ o f. known (subst (λ (z : Shape). IsSome (find_class k z.class)) shape f) }
 
-  -- a reference refers to its key
+  -- A reference refers to its key.
   pub key_refers : s.form ≡ forms.Key → (key : ℕ) × (int_at c at to ≡ Some (record { value = key; end = to })) × (target k c (node_at t at to) ≡ Some (t.class, key))
   key_refers e =
       let m = key_there s form e in
@@ -64,7 +64,7 @@ module _ (k : Classes) (c : List ℕ) (at to : ℕ) (s : FieldLayout) (t : Shape
       let p : parts_of v ≡ [] = constant_alone k v (ap (λ (z : Shape). z.array) (sym here.shape) ∙ m.0) (ap (λ (z : Shape). z.constant) (sym here.shape) ∙ m.1) here.fits in
       (n.key, n.found, subst (λ (z : Shape). target k c (node_at z at to) ≡ Some (z.class, n.key)) shape (target_is k c (node_at s.shape at to) v sound here ∙ own_alone v (Some (s.shape.class, n.key)) p n.targets))
 
-  -- a string refers to its key, if it is one
+  -- A string refers to its key, if it is one.
   pub text_refers : s.form ≡ forms.Text → (content : Content) × (run (string_format true) c to at ≡ Ok (record { value = content; place = to })) × (target k c (node_at t at to) ≡ option_map (λ key. (t.class, key)) (key_of content))
   text_refers e =
       let m = inline_there s form forms.Text e tt in
@@ -74,7 +74,7 @@ module _ (k : Classes) (c : List ℕ) (at to : ℕ) (s : FieldLayout) (t : Shape
       let p : parts_of v ≡ [] = base_alone k v d.class (ap (λ (z : Shape). z.array) (sym here.shape) ∙ m.array) (ap (λ (z : Shape). find_class k z.class) (sym here.shape) ∙ d.found) (λ z. (let y : kinds.Text ≡ kinds.Composite = sym x ∙ (d.kind_is ∙ z) in cc)) here.fits in
       (n.content, n.reads, subst (λ (z : Shape). target k c (node_at z at to) ≡ option_map (λ key. (z.class, key)) (key_of n.content)) shape (target_is k c (node_at s.shape at to) v sound here ∙ own_alone v (option_map (λ key. (s.shape.class, key)) (key_of n.content)) p n.targets))
 
-  -- and no other value refers to something by itself
+  -- And no other value refers to something by itself.
   pub none_refers : s.form ≢ forms.Key → s.form ≢ forms.Text → target k c (node_at t at to) ≡ None
   none_refers not_key not_text = target_is k c (node_at t at to) v sound i ∙ by_value v here
     where

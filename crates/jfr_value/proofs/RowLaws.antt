@@ -11,7 +11,7 @@ use Rattle.jfr_value.specs.Nodes.{node_at, IsNode, IsRow, laid}
 pub row_stands : (k : Classes) (c : List ℕ) (at to : ℕ) (ss : List Shape) (vs : Values) → IsRow k c at to ss vs → Stands c at to (bytes_of_all vs)
 row_stands k c at to ss vs r = record { order = r.order; within = r.within; bytes = r.bytes }
 
--- where the value of a number begins
+-- Where the value of a number begins.
 abbrev pub start_of : ℕ → Values → ℕ → ℕ
 start_of at vs zero = at
 start_of at Nil (suc i) = at
@@ -59,7 +59,7 @@ replicate_get zero i s h = absurd (omega arith)
 replicate_get (suc n) zero s h = refl
 replicate_get (suc n) (suc i) s h = replicate_get n i s (omega arith)
 
--- a value of a class without fields has no bytes
+-- A value of a class without fields has no bytes.
 pub hollow_bytes : (k : Classes) (v : Value) (c : Class) → (shape_of v).array ≡ false → (shape_of v).constant ≡ false → find_class k (shape_of v).class ≡ Some c → IsHollow c → Fits k v → bytes_of v ≡ []
 hollow_bytes k (Single s kind b key) c a o q h f = by_case f
   where

@@ -26,7 +26,7 @@ field name shape = record { name = name; shape = shape }
 abbrev class : ℕ → List ℕ → List Field → Class
 class id name fields = record { id = id; name = name; super_name = None; fields = fields; categories = [] }
 
--- long, java.lang.String, t.Node, t.A and t.B
+-- Long, java.lang.String, t.Node, t.A and t.B.
 abbrev classes : Classes
 classes =
     class 5 (codes "long") []
@@ -39,7 +39,7 @@ classes =
 abbrev node : Shape → ℕ → ℕ → NodeAt
 node shape at end = record { shape = shape; at = at; end = end }
 
--- the two events' bodies and the four entries' values, one after another
+-- The two events' bodies and the four entries' values, one after another.
 abbrev rings : List ℕ
 rings = 172 ∷ 2 ∷ 1 ∷ 3 ∷ 2 ∷ 3 ∷ 1 ∷ 112 ∷ 1 ∷ 3 ∷ 1 ∷ 113 ∷ 4 ∷ 3 ∷ 1 ∷ 114 ∷ 3 ∷ 3 ∷ 1 ∷ 115 ∷ []
 
@@ -88,7 +88,7 @@ entry_leaves : leaves classes rings (node (inline 7) 4 8) ≡
 unfolding run int_at class_format value_format string_format kind_of value_of
 entry_leaves = refl
 
--- a node whose text is a key, and three entries of strings, of which two are keys
+-- A node whose text is a key, and three entries of strings, of which two are keys.
 abbrev strings : List ℕ
 strings = 0 ∷ 2 ∷ 1 ∷ 2 ∷ 2 ∷ 2 ∷ 2 ∷ 3 ∷ 1 ∷ 120 ∷ []
 
@@ -101,17 +101,17 @@ string_target : target classes strings (node (inline 6) 1 3) ≡ Some (6, 1)
 unfolding run int_at class_format value_format string_format kind_of value_of
 string_target = refl
 
--- a count of 2^40 in seven bytes: the second item is wanting
+-- A count of 2^40 in seven bytes: the second item is wanting.
 long_array : run (value_format classes (record { class = 5; constant = false; array = true })) (128 ∷ 128 ∷ 128 ∷ 128 ∷ 128 ∷ 32 ∷ 1 ∷ []) 7 0 ≡ Err (record { offset = 7; reason = Short })
 unfolding run int_at class_format value_format string_format kind_of
 long_array = refl
 
--- a string of an unknown kind, behind a reference
+-- A string of an unknown kind, behind a reference.
 unknown_kind : run (value_format classes (inline 7)) (1 ∷ 6 ∷ []) 2 0 ≡ Err (record { offset = 1; reason = StringKind })
 unfolding run int_at class_format value_format string_format kind_of
 unknown_kind = refl
 
--- an array of references, in an array of composite values
+-- An array of references, in an array of composite values.
 abbrev nested : Classes
 nested =
     class 1 (codes "t.Outer") (field (codes "inner") (record { class = 2; constant = false; array = true }) ∷ [])
@@ -119,7 +119,7 @@ nested =
     ∷ class 3 (codes "double") []
     ∷ []
 
--- two items: the keys 7 and 8, and none
+-- Two items: the keys 7 and 8, and none.
 abbrev nested_bytes : List ℕ
 nested_bytes = 2 ∷ 2 ∷ 7 ∷ 8 ∷ 63 ∷ 240 ∷ 0 ∷ 0 ∷ 0 ∷ 0 ∷ 0 ∷ 0 ∷ 0 ∷ 64 ∷ 0 ∷ 0 ∷ 0 ∷ 0 ∷ 0 ∷ 0 ∷ 0 ∷ []
 
@@ -141,7 +141,7 @@ double_leaf : map (λ l. l.spelled) (leaves nested nested_bytes (node (inline 3)
 unfolding run int_at class_format value_format string_format kind_of value_of
 double_leaf = refl
 
--- so many composite classes, each with the one before it as its only field, and a long
+-- So many composite classes, each with the one before it as its only field, and a long.
 abbrev chain : ℕ → Classes
 chain zero = class 0 (codes "long") [] ∷ []
 chain (suc n) = class (suc n) (codes "t.C") (field (codes "f") (inline n) ∷ []) ∷ chain n

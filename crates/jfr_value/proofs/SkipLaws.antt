@@ -13,7 +13,7 @@ use Rattle.jfr_layout.specs.declared.kind.Kind.{Kind}
 use Rattle.jfr_layout.specs.declared.kind.Kind.TheVariants as kinds
 use Rattle.jfr_value.specs.Reading.{base_format}
 
--- what is made of an integer doesn't change where it ends
+-- What is made of an integer doesn't change where it ends.
 pub int_made : {A : Type 0} (g : ℕ → List ℕ → A) (x : List ℕ) (end at : ℕ) → seen (run integer x end at) ≡ seen (run (Int unchecked (λ v s. Done (g v s))) x end at)
 unfolding run
 int_made {A = A} g x end at = by_int (int_at x at end)
@@ -34,7 +34,7 @@ base_skipped kind x end at h = int_made nothing x end at ∙ ap (λ f. seen (run
     is_int (inr (inr (inl e))) = ap base_format (sym e)
     is_int (inr (inr (inr e))) = ap base_format (sym e)
 
--- it ends behind its last group, if that is there
+-- It ends behind its last group, if that is there.
 int_ends : (x : List ℕ) (end at n : ℕ) → front_within 8 (slice_range x at end) ≡ Some n → Ok (at + n) ≡ seen (run integer x end at)
 unfolding run int_at
 int_ends x end at n e = ap (λ o. seen (after_int x at unchecked (λ v s p. run (Done v) x end p) (option_map (λ n. record { value = worth_within 8 (slice_range x at (at + n)); end = at + n }) o))) (sym e)
@@ -43,7 +43,7 @@ int_short : (x : List ℕ) (end at : ℕ) → front_within 8 (slice_range x at e
 unfolding run int_at
 int_short x end at e = ap (λ o. seen (after_int x at unchecked (λ v s p. run (Done v) x end p) (option_map (λ n. record { value = worth_within 8 (slice_range x at (at + n)); end = at + n }) o))) (sym e)
 
--- an integer of the bytes ends by an end, too, that it doesn't pass, and by none that it passes
+-- An integer of the bytes ends by an end, too, that it doesn't pass, and by none that it passes.
 pub by_end : (x : List ℕ) (at end to : ℕ) → at ≤ end → end ≤ length x → Ok to ≡ seen (run integer x (length x) at) → to ≤ end → Ok to ≡ seen (run integer x end at)
 unfolding run
 by_end x at end to h i e l = by_int (int_at x at (length x)) refl e
@@ -60,7 +60,7 @@ past_end x at end to h i e l = by_int (int_at x at (length x)) refl e
     by_int None q e = cc
     by_int (Some v) q e = let g : to ≡ v.end = cc in ap (λ o. seen (after_int x at unchecked (λ v s p. run (Done v) x end p) o)) (sym (ends_past x at end (length x) v h i (omega arith) (omega arith) q (omega arith)))
 
--- what is known between two groups, after so many of seven bits
+-- What is known between two groups, after so many of seven bits.
 pub record Skipping (x : List ℕ) (at end passed : ℕ) : Type 0 where
   pub room : passed ≤ 8
   pub same : front_within 8 (slice_range x at end) ≡ option_map (λ n. passed + n) (front_within (8 - passed) (slice_range x (at + passed) end))
@@ -74,7 +74,7 @@ skip_start x at end =
     by_front None = refl
     by_front (Some n) = ap (λ z. Some z) (omega arith)
 
--- at a byte that is there
+-- At a byte that is there.
 at_byte : (x : List ℕ) (at end passed : ℕ) → Skipping x at end passed → at + passed < end → end ≤ length x
     → front_within 8 (slice_range x at end) ≡ option_map (λ n. passed + n) (front_within (8 - passed) (slice_index x (at + passed) ∷ slice_range x (at + (passed + 1)) end))
 at_byte x at end passed s l h =
@@ -94,7 +94,7 @@ skip_next x at end passed s m l h b =
     by_front None = refl
     by_front (Some n) = ap (λ z. Some z) (omega arith)
 
--- after so many bytes with more to come
+-- After so many bytes with more to come.
 pub skip_all : (x : List ℕ) (at end passed : ℕ) → passed ≤ 8 → at + passed ≤ end → end ≤ length x → ((k : ℕ) → k < passed → 128 ≤ slice_index x (at + k)) → Skipping x at end passed
 skip_all x at end zero m l h more = skip_start x at end
 skip_all x at end (suc n) m l h more =
@@ -114,6 +114,6 @@ skip_end x at end passed s l h t =
 pub skip_short : (x : List ℕ) (at end passed : ℕ) → Skipping x at end passed → end ≤ at + passed → Err (record { offset = at; reason = Short }) ≡ seen (run integer x end at)
 skip_short x at end passed s l = int_short x end at (s.same ∙ ap (λ y. option_map (λ n. passed + n) (front_within (8 - passed) y)) (range_none x (at + passed) end l))
 
--- a key by its integer
+-- A key by its integer.
 pub key_is : (x : List ℕ) (at end : ℕ) (v : Var) → int_at x at end ≡ Some v → run integer x end at ≡ Ok (record { value = v.value; place = v.end })
 key_is x at end v e = int_there x end at (λ w s. Done w) v e ∙ done_there x end v.end v.value

@@ -12,7 +12,7 @@ use Rattle.jfr_value.specs.declared.stack.Frame.TheVariants.{Fields, Items}
 use Rattle.jfr_value.specs.Walks.{Room, IsFrame, AreFrames, frame_shapes, shapes_left}
 use Rattle.jfr_value.proofs.DepthLaws.{any_none, steps_to}
 
--- what a pushed frame has comes first
+-- What a pushed frame has comes first.
 pub shapes_push : (k : Classes) (fs : List Frame) (f : Frame) → shapes_left k (fs ++ f ∷ []) ≡ frame_shapes k f ++ shapes_left k fs
 shapes_push k [] f = sym (append-nil (frame_shapes k f))
 shapes_push k (g ∷ fs) f = ap (λ z. z ++ frame_shapes k g) (shapes_push k fs f) ∙ append_assoc (frame_shapes k f) (shapes_left k fs) (frame_shapes k g)
@@ -25,7 +25,7 @@ pub frames_pop : (k : Classes) (h n : ℕ) (fs : List Frame) (f : Frame) → n �
 frames_pop k h n [] f e a = (tt, subst (λ z. IsFrame k z f) (let q : suc h ≡ n = omega arith in q) a.0)
 frames_pop k h n (g ∷ fs) f e a = let r = frames_pop k (suc h) n fs f (omega arith) a.1 in ((a.0, r.0), r.1)
 
--- the fields from a number on
+-- The fields from a number on.
 drop_at_get : {X : Type 0} (xs : List X) (i : ℕ) (x : X) → slice_get xs i ≡ Some x → drop i xs ≡ x ∷ drop (i + 1) xs
 drop_at_get [] i x e = cc
 drop_at_get (y ∷ ys) zero x e = let h : y ≡ x = cc in ap (λ z. z ∷ ys) h
@@ -37,7 +37,7 @@ drop_past [] (suc i) h = refl
 drop_past (x ∷ xs) zero h = absurd (omega arith)
 drop_past (x ∷ xs) (suc i) h = drop_past xs i (omega arith)
 
--- the field by its number, and its class
+-- The field by its number, and its class.
 pub field_there : (k : Classes) (place number : ℕ) (f : Field) → field_at k place number ≡ Some f → (c : Class) × (slice_get k place ≡ Some c) × (slice_get c.fields number ≡ Some f)
 field_there k place number f e = by_class (slice_get k place) refl e
   where
@@ -64,7 +64,7 @@ next_item k s place left n levels e = ap (λ z. replicate z s) e
 pub no_items : (k : Classes) (s : Shape) (place left levels : ℕ) → left ≡ 0 → frame_shapes k (Items s place left levels) ≡ []
 no_items k s place left levels e = ap (λ z. replicate z s) e
 
--- the room for a field
+-- The room for a field.
 all_get : {X : Type 0} (P : X → Type 0) (xs : List X) (i : ℕ) (x : X) → AllByRecursion P xs → slice_get xs i ≡ Some x → P x
 all_get P [] i x a e = cc
 all_get P (y ∷ xs) zero x a e = let h : y ≡ x = cc in subst P h a.0
@@ -89,7 +89,7 @@ inner_room k (suc n) s d r o q m =
           (rooms k n d.fields (subst (AllByRecursion (λ f. option_map_or (λ d. goes_inline n k d) (step_class k f) false ≡ false)) i (any_none (λ f. option_map_or (λ d. goes_inline n k d) (step_class k f) false) (inline_fields d) g))),
     )
 
--- the frame of the fields of a composite value
+-- The frame of the fields of a composite value.
 pub fields_frame : (k : Classes) (height levels place : ℕ) (s : Shape) (d : Class) → Room k levels s → s.constant ≡ false → find_class k s.class ≡ Some d → slice_get k place ≡ Some d → place < length k → kind_of d.name ≡ kinds.Composite → height + 2 * levels ≤ 68
     → IsFrame k (suc height) (Fields place 0 (levels - 1))
 fields_frame k height levels place s d r o q p l m b =
@@ -112,7 +112,7 @@ array_height false n e h = cc
 pub fields_from_start : (k : Classes) (place levels : ℕ) (d : Class) → slice_get k place ≡ Some d → frame_shapes k (Fields place 0 levels) ≡ map (λ f. f.shape) d.fields
 fields_from_start k place levels d q = ap (λ o. option_map_or (λ c. map (λ f. f.shape) (drop 0 c.fields)) o []) q
 
--- a frame that goes on with its next value
+-- A frame that goes on with its next value.
 pub pushed_field : (k : Classes) (fs new : List Frame) (place number levels : ℕ) (f : Field) (s : Shape) → field_at k place number ≡ Some f → s ≡ f.shape → new ≡ fs ++ Fields place (number + 1) levels ∷ []
     → frame_shapes k (Fields place number levels) ++ shapes_left k fs ≡ s ∷ shapes_left k new
 pushed_field k fs new place number levels f s e q n =
@@ -125,7 +125,7 @@ pushed_item k fs new s place left levels l n =
     ap (λ z. z ++ shapes_left k fs) (next_item k s place left (left - 1) levels (omega arith))
     ∙ ap (λ z. s ∷ z) (sym (ap (shapes_left k) n ∙ shapes_push k fs (Items s place (left - 1) levels)))
 
--- what a stack has before a frame is taken from it
+-- What a stack has before a frame is taken from it.
 pub record Popped (k : Classes) (fs gs : List Frame) (f : Frame) : Type 0 where
   pub frames : AreFrames k 0 gs
   pub frame : IsFrame k (length gs + 1) f

@@ -29,7 +29,7 @@ are_units b (v ∷ us) s =
 spelled_alone : (r h t : List ℕ) (v : ℕ) → r ≡ h ++ t → t ≡ [] → Spells h v → Spells r v
 spelled_alone r h t v e d s = subst (λ z. Spells z v) (sym (no_rest r h t e d)) s
 
--- a length, and a run of so many bytes
+-- A length, and a run of so many bytes.
 counted_run : (r h t : List ℕ) (n : ℕ) (c d : List ℕ) → r ≡ h ++ t → Spells h n → t ≡ c ++ d → length c ≡ n → d ≡ [] → Counted r (length c) (λ z. z ≡ c)
 counted_run r h t n c d e s f l g = (h, t, e, subst (Spells h) (sym l) s, no_rest t c d f g)
 
@@ -86,7 +86,7 @@ pub exact_is : (b : List ℕ) (s : Content) → Exactly (string_format true) b s
 unfolding string_format
 exact_is b s e = subst (λ z. IsString z s) (sym e.2) (body_is e.1 s e.0 e.3 e.4)
 
--- and back
+-- And back.
 body_exact : (s : Content) (kind : ℕ) (r : List ℕ) → IsBody s kind r → (kind ≤ 5) × Exactly (after_kind kind) r s
 body_exact Null kind r i = subst (λ z. (z ≤ 5) × Exactly (after_kind z) r Null) (sym i.0) (omega arith, (refl, i.1))
 body_exact Empty kind r i = subst (λ z. (z ≤ 5) × Exactly (after_kind z) r Empty) (sym i.0) (omega arith, (refl, i.1))

@@ -25,12 +25,12 @@ use Rattle.jfr_value.proofs.LayoutLaws.{layout_class}
 use Rattle.jfr_value.proofs.TargetLaws.{targets_are}
 use Rattle.jfr_value.proofs.VisitLaws.{takes_append}
 
--- of an answer that is a flaw nothing is said
+-- Of an answer that is a flaw nothing is said.
 pub no_value : {A : Type 0} (r : Answer A) (e : Flaw) (P : Got A → Type 0) → Err e ≡ seen r → IfOk r P
 no_value (Ok g) e P h = cc
 no_value (Err f) e P h = tt
 
--- what is made of what was read
+-- What is made of what was read.
 if_made : {A B : Type 0} (f : Format A) (h : A → B) (P : A → Type 0) (Q : B → Type 0) (x : List ℕ) (end at : ℕ) → ((a : A) → P a → Q (h a))
     → IfOk (run f x end at) (λ got. P got.value) → IfOk (run (f >>= λ a. Done (h a)) x end at) (λ got. Q got.value)
 unfolding run
@@ -45,7 +45,7 @@ checked_made : {A B : Type 0} (P : A → Type 0) (Q : B → Type 0) (at : ℕ) (
 checked_made P Q at None r s h p = h p
 checked_made P Q at (Some why) r s h p = tt
 
--- and of that and its bytes
+-- And of that and its bytes.
 if_with : {A B : Type 0} (b : List ℕ) (f : Format A) (h : A → List ℕ → B) (P : A → Type 0) (Q : B → Type 0) (x : List ℕ) (end at : ℕ) → ((a : A) (s : List ℕ) → P a → Q (h a s))
     → IfOk (run f x end at) (λ got. P got.value) → IfOk (run (with_bytes b f (λ a s. Done (h a s))) x end at) (λ got. Q got.value)
 unfolding run
@@ -79,7 +79,7 @@ if_with b (Run n next) h P Q x end at q p = by_test (nat_le (at + n) end) (if_wi
 if_with b (Here next) h P Q x end at q p = if_with b (next at) h P Q x end at q p
 if_with b (Refuse why) h P Q x end at q p = tt
 
--- a base name but the string's gives no key
+-- A base name but the string's gives no key.
 abbrev GivesNoKey : Answer (Option ℕ) → Type 0
 GivesNoKey r = IfOk r (λ got. got.value ≡ None)
 
@@ -113,7 +113,7 @@ plain_read kind x end at n = by_kind kind n
     by_kind kinds.Text n = absurd (n refl)
     by_kind kinds.Composite n = refl
 
--- what a value of a class refers to by a key, if it has one
+-- What a value of a class refers to by a key, if it has one.
 abbrev keyed : ℕ → Option ℕ → List (ℕ × ℕ)
 keyed class key = option_to_list (option_map (λ key. (class, key)) key)
 
@@ -122,13 +122,13 @@ single_refers s kind b None = refl
 single_refers s kind b (Some key) = refl
 
 module _ {A : Type 0} (takes : ℕ × ℕ → A → A → Type 0) (x : List ℕ) (end at : ℕ) where
-  -- a string by its content
+  -- A string by its content.
   text_taken : (class : ℕ) (old new : A) → IfOk (run (string_format true) x end at) (λ got. TakesAll takes (keyed class (key_of got.value)) old new)
       → IfOk (run (base_format kinds.Text) x end at) (λ got. TakesAll takes (keyed class got.value) old new)
   text_taken class old new h =
       if_made (string_format true) key_of (λ content. TakesAll takes (keyed class (key_of content)) old new) (λ key. TakesAll takes (keyed class key) old new) x end at (λ content p. p) h
 
-  -- an inline value of a base name by its key, if it has one
+  -- An inline value of a base name by its key, if it has one.
   pub base_taken : (depth : ℕ) (k : Classes) (s : FieldLayout) (old new : A) → 0 < depth → IsFieldLayout k s → s.kind ≢ kinds.Composite
       → IfOk (run (base_format s.kind) x end at) (λ got. TakesAll takes (keyed s.shape.class got.value) old new) → TakesRead takes (run (class_format depth k (item_of s.shape)) x end at) old new
   base_taken depth k s old new z i n h =
@@ -143,7 +143,7 @@ module _ {A : Type 0} (takes : ℕ × ℕ → A → A → Type 0) (x : List ℕ)
       base_taken depth k s old new z i (λ c. (let y : kinds.Text ≡ kinds.Composite = sym e ∙ c in cc))
       (subst (λ kind. IfOk (run (base_format kind) x end at) (λ got. TakesAll takes (keyed s.shape.class got.value) old new)) (sym e) (text_taken s.shape.class old new h))
 
-  -- one that is no string refers to nothing
+  -- One that is no string refers to nothing.
   pub plain_taken : (depth : ℕ) (k : Classes) (s : FieldLayout) (old : A) → 0 < depth → IsFieldLayout k s → s.kind ≢ kinds.Composite → s.kind ≢ kinds.Text → TakesRead takes (run (class_format depth k (item_of s.shape)) x end at) old old
   plain_taken depth k s old z i n m = base_taken depth k s old old z i n (by_answer (run (base_format s.kind) x end at) (plain_read s.kind x end at m))
     where
@@ -151,7 +151,7 @@ module _ {A : Type 0} (takes : ℕ × ℕ → A → A → Type 0) (x : List ℕ)
       by_answer (Ok g) e = subst (λ key. TakesAll takes (keyed s.shape.class key) old old) (sym e) refl
       by_answer (Err e) h = tt
 
-  -- a composite value by its fields
+  -- A composite value by its fields.
   pub fields_taken : (depth : ℕ) (k : Classes) (s : FieldLayout) (ss : List FieldLayout) (old new : A) → 0 < depth → IsFieldLayout k s → s.kind ≡ kinds.Composite → IfSome (slice_get k s.place) (λ c. AreFieldLayouts k c.fields ss)
       → TakesReadAll takes (run (for_each ss (λ z. shape_format (class_format (depth - 1) k) z.shape)) x end at) old new → TakesRead takes (run (class_format depth k (item_of s.shape)) x end at) old new
   fields_taken depth k s ss old new z i q a h =
@@ -161,14 +161,14 @@ module _ {A : Type 0} (takes : ℕ × ℕ → A → A → Type 0) (x : List ℕ)
       (subst (λ (f : Format (List Value)). TakesRead takes (run (f >>= λ vs. Done (Group (item_of s.shape) [] (values_of vs))) x end at) old new) (sym b)
       (if_made (for_each ss (λ z. shape_format (class_format (depth - 1) k) z.shape)) (λ vs. Group (item_of s.shape) [] (values_of vs)) (λ vs. TakesAll takes (targets_of_all (values_of vs)) old new) (λ v. TakesAll takes (targets_of v) old new) x end at (λ vs p. p) h))
 
-  -- one that is no array as an item
+  -- One that is no array as an item.
   pub item_taken : (inline : Shape → Format Value) (s : Shape) (old new : A) → s.array ≡ false → TakesRead takes (run (item_format inline (item_of s)) x end at) old new → TakesRead takes (run (shape_format inline s) x end at) old new
   item_taken inline s old new a h =
       let flat : Bool → Shape = λ b. record { class = s.class; constant = s.constant; array = b } in
       subst (λ b. TakesRead takes (run (if b then array_format (item_format inline (item_of s)) s else item_format inline (flat s.array)) x end at) old new) (sym a)
       (subst (λ b. TakesRead takes (run (item_format inline (flat b)) x end at) old new) (sym a) h)
 
-  -- an array by its items
+  -- An array by its items.
   pub items_taken : (inline : Shape → Format Value) (s : Shape) (v : Var) (old new : A) → s.array ≡ true → int_at x at end ≡ Some v
       → TakesReadAll takes (run (times v.value (item_format inline (item_of s))) x end v.end) old new → TakesRead takes (run (shape_format inline s) x end at) old new
   unfolding run
@@ -177,7 +177,7 @@ module _ {A : Type 0} (takes : ℕ × ℕ → A → A → Type 0) (x : List ℕ)
       (subst (λ o. TakesRead takes (after_int x at unchecked (λ n b p. run (times n (item_format inline (item_of s)) >>= λ vs. Done (Group s b (values_of vs))) x end p) o) old new) (sym e)
       (if_made (times v.value (item_format inline (item_of s))) (λ vs. Group s (slice_range x at v.end) (values_of vs)) (λ vs. TakesAll takes (targets_of_all (values_of vs)) old new) (λ v. TakesAll takes (targets_of v) old new) x end v.end (λ vs p. p) h))
 
-  -- a value and those behind it
+  -- A value and those behind it.
   pub cons_taken : (f : Format Value) (g : Format (List Value)) (to : ℕ) (old now new : A) → seen (run f x end at) ≡ Ok to → TakesRead takes (run f x end at) old now → TakesReadAll takes (run g x end to) now new
       → TakesReadAll takes (run (f >>= λ v. g >>= λ vs. Done (v ∷ vs)) x end at) old new
   cons_taken f g to old now new e h t =
@@ -217,7 +217,7 @@ module _ {A : Type 0} (takes : ℕ × ℕ → A → A → Type 0) (all : Answer 
       left_goes (f y) (for_each xs f) at to now new (subst (λ w. TakesLeft takes all (run (for_each (w ∷ xs) f) x end at) old now) p l) e h
   each_goes f (z ∷ xs) (suc i) y at to now new q l e h = let p : suc i + 1 ≡ suc (i + 1) = omega arith in rw p (each_goes f xs i y at to now new q l e h)
 
--- an array of items without bytes refers to nothing
+-- An array of items without bytes refers to nothing.
 module _ {A : Type 0} (takes : ℕ × ℕ → A → A → Type 0) (k : Classes) (x : List ℕ) (end at : ℕ) (a : A) where
   hollow_items_taken : (s : Shape) (c : Class) → find_class k s.class ≡ Some c → kind_of c.name ≡ kinds.Composite → c.fields ≡ [] → s.constant ≡ false → (n to : ℕ) → TakesReadAll takes (run (times n (item_format (class_format 34 k) (item_of s))) x end to) a a
   unfolding run
@@ -237,7 +237,7 @@ module _ {A : Type 0} (takes : ℕ × ℕ → A → A → Type 0) (k : Classes) 
       by_int (Some v) e = let c = layout_class k s i in let w = hollow_is k s.shape s.place b c.class c.there h t in
           items_taken takes x end at (class_format 34 k) s.shape v a a w.0 e (hollow_items_taken s.shape c.class c.found w.2.0 w.2.1 w.1 v.value v.end)
 
--- where a value was read, its targets are those of the node
+-- Where a value was read, its targets are those of the node.
 pub node_taken : {A : Type 0} (takes : ℕ × ℕ → A → A → Type 0) (k : Classes) (s : Shape) (x : List ℕ) (end at : ℕ) (old new : A) → Sound k → at ≤ end → end ≤ length x → (r : Result ℕ Flaw) → r ≡ seen (run (value_format k s) x end at)
     → TakesRead takes (run (value_format k s) x end at) old new → IfOk r (λ to. TakesAll takes (targets k x (node_at s at to)) old new)
 node_taken takes k s x end at old new sound o h r e t = subst (λ z. IfOk z (λ to. TakesAll takes (targets k x (node_at s at to)) old new)) (sym e) (by_answer (run (value_format k s) x end at) (run_says (value_format k s) x end at o h) t)

@@ -16,7 +16,7 @@ use Rattle.jfr_value.specs.Laws.{RefersByParts}
 use Rattle.jfr_value.proofs.LeafLaws.{leaf_targets, leaves_within}
 use Rattle.jfr_value.proofs.NodeLaws.{part, child_is, target_is, value_is}
 
--- where a path leads within a value
+-- Where a path leads within a value.
 abbrev pub within : Value → List Step → Option Value
 within v [] = Some v
 within v (step ∷ path) = option_and_then (λ w. within w path) (part v step)
@@ -58,7 +58,7 @@ part_in : (v : Value) (step : Step) (w : Value) (t : ℕ × ℕ) → part v step
 part_in (Single s kind b key) step w t e j = let g = picked_get s [] step w e in let h : None ≡ Some w = g.1 in cc
 part_in (Group s h vs) step w t e j = let g = picked_get s (list_of vs) step w e in member_in vs g.0 w t g.1 j
 
--- what a part refers to, the value does
+-- What a part refers to, the value does.
 pub within_in : (path : List Step) (v w : Value) (t : ℕ × ℕ) → within v path ≡ Some w → own_target w ≡ Some t → Contains (targets_of v) t
 within_in [] v w t e o = let h : w ≡ v = cc in own_in v t (ap own_target (sym h) ∙ o)
 within_in (step ∷ path) v w t e o = by_part (part v step) refl e (λ u q. within_in path u w t q o)
@@ -67,7 +67,7 @@ within_in (step ∷ path) v w t e o = by_part (part v step) refl e (λ u q. with
     by_part None p q r = cc
     by_part (Some u) p q r = part_in v step u t p (r u q)
 
--- and back
+-- And back.
 pub record RefersWithin (v : Value) (t : ℕ × ℕ) : Type 0 where
   pub path : List Step
   pub value : Value

@@ -11,11 +11,11 @@ use Rattle.jfr_value.specs.Reading.{base_format}
 use Rattle.jfr_value.specs.Visits.{TakesAll}
 
 module _ (x : List ℕ) (end at : ℕ) (is_key : run (string_format true) x end at ≡ run key_format x end (at + 1)) where
-  -- it ends where the integer does
+  -- It ends where the integer does.
   pub key_ends : seen (run integer x end (at + 1)) ≡ seen (run (base_format kinds.Text) x end at)
   key_ends = sym (seen-made (string_format true) key_of x end at ∙ (ap seen is_key ∙ seen-made integer (λ key. Key key) x end (at + 1)))
 
-  -- and what is handed on is the integer
+  -- And what is handed on is the integer.
   module _ {A : Type 0} (takes : ℕ × ℕ → A → A → Type 0) (class : ℕ) (old new : A) where
     abbrev Taken : Answer Content → Type 0
     Taken r = IfOk r (λ got. TakesAll takes (option_to_list (option_map (λ key. (class, key)) (key_of got.value))) old new)

@@ -63,7 +63,7 @@ pub record Whole (f : Shape → Format Value) (s : Shape) (b : List ℕ) (v : Va
   pub bytes : bytes_of v ≡ b
   pub parts : AllByRecursion (λ w. Exactly (f (shape_of w)) (bytes_of w) w) (parts_of v)
 
--- parts that are read one after another
+-- Parts that are read one after another.
 pub record ClassLayout (f : Shape → Format Value) (b : List ℕ) (vs : List Value) : Type 0 where
   pub bytes : bytes_of_all (values_of vs) ≡ b
   pub each : AllByRecursion (λ w. Exactly (f (shape_of w)) (bytes_of w) w) (list_of (values_of vs))
@@ -104,7 +104,7 @@ parts_whole f s h r b vs v e d i = subst (Whole f s b) (sym e) (record { shape =
 pub no_rest : (b h r : List ℕ) → b ≡ h ++ r → r ≡ [] → b ≡ h
 no_rest b h r e d = e ∙ (ap (λ z. h ++ z) d ∙ append-nil h)
 
--- the same for a format of items and of shapes
+-- The same for a format of items and of shapes.
 abbrev pub Each : (f : Shape → Format Value) → Type 0
 Each f = (s : Shape) (b : List ℕ) (v : Value) → Exactly (f s) b v → Whole (shape_format f) s b v
 
@@ -167,7 +167,7 @@ module _ (k : Classes) where
       by_class (Some c) e m =
           kind_whole (shape_format (class_format n k)) (λ s b v e. (let w = shape_whole (class_format n k) m s b v e in (w.shape, w.bytes))) (kind_of c.name) s c.fields b v e
 
-  -- a value, and each part of a value, is read by its shape from its bytes
+  -- A value, and each part of a value, is read by its shape from its bytes.
   abbrev pub Good : Value → Type 0
   Good v = Exactly (value_format k (shape_of v)) (bytes_of v) v
 

@@ -46,7 +46,7 @@ pub takes_one : {A : Type 0} (takes : ℕ × ℕ → A → A → Type 0) (ts : L
 takes_one takes ts t a b e h = subst (λ z. TakesAll takes z a b) (sym e) (b, h, refl)
 
 module _ (k : Classes) (c : List ℕ) (at to end : ℕ) (s : Shape) (l : to ≤ end) (w : end ≤ length c) where
-  -- a reference: its key stands there
+  -- A reference: its key stands there.
   pub record KeyNode (v : Value) : Type 0 where
     pub key : ℕ
     pub found : int_at c at end ≡ Some (record { value = key; end = to })
@@ -72,7 +72,7 @@ module _ (k : Classes) (c : List ℕ) (at to end : ℕ) (s : Shape) (l : to ≤ 
       by_case (inl p) = let z : t.array ≡ false = ap (λ (z : Shape). z.array) (sym i.shape) ∙ a in let y = p.0 in cc
       by_case (inr p) = let z : t.constant ≡ true = ap (λ (z : Shape). z.constant) (sym i.shape) ∙ o in let y = p.1 in cc
 
-  -- an inline value is of the class at its place
+  -- An inline value is of the class at its place.
   pub record InlineNode (place : ℕ) (kind : Kind) : Type 0 where
     pub class : Class
     pub found : find_class k s.class ≡ Some class
@@ -87,7 +87,7 @@ module _ (k : Classes) (c : List ℕ) (at to end : ℕ) (s : Shape) (l : to ≤ 
       let d = layout_class k (record { shape = s; place = place; kind = kind; form = form }) q in
       record { class = d.class; found = d.found; there = d.there; within = placed_within k s.class place q.place; kind_is = d.kind }
 
-  -- a value of a base name
+  -- A value of a base name.
   record BaseNode (kind : Kind) (v : Value) : Type 0 where
     key : Option ℕ
     is : IsBase kind (slice_range c at to) key
@@ -128,7 +128,7 @@ module _ (k : Classes) (c : List ℕ) (at to end : ℕ) (s : Shape) (l : to ≤ 
   base_runs : (kind : Kind) (v : Value) (n : BaseNode kind v) → run (base_format kind) c end at ≡ Ok (record { value = n.key; place = to })
   base_runs kind v n = exact_run c end w (base_format kind) at to (slice_range c at to) n.key (is_base kind (slice_range c at to) n.key n.is) n.stands l
 
-  -- one that is no string refers to nothing
+  -- One that is no string refers to nothing.
   pub record PlainNode (kind : Kind) (v : Value) : Type 0 where
     pub ends : seen (run (base_format kind) c end at) ≡ Ok to
     pub leaves : length (leaves_at at v) ≡ 1
@@ -153,7 +153,7 @@ module _ (k : Classes) (c : List ℕ) (at to end : ℕ) (s : Shape) (l : to ≤ 
       no_key kinds.Text b key x i = absurd (x refl)
       no_key kinds.Composite b key x i = absurd i
 
-  -- a string refers to its key, where it is one
+  -- A string refers to its key, where it is one.
   pub record TextNode (v : Value) : Type 0 where
     pub content : Content
     pub reads : run (string_format true) c end at ≡ Ok (record { value = content; place = to })
@@ -176,7 +176,7 @@ module _ (k : Classes) (c : List ℕ) (at to end : ℕ) (s : Shape) (l : to ≤ 
   pub inline_plain : (v : Value) (place : ℕ) (kind : Kind) (form : Form) → IsNode k c (node_at s at to) v → s.array ≡ false → s.constant ≡ false → IsLayoutIfKnown k (record { shape = s; place = place; kind = kind; form = form }) → kind ≢ kinds.Text → kind ≢ kinds.Composite → PlainNode kind v
   inline_plain v place kind form i a o p x n = plain_node kind v (base_node v place kind i a o (inline_node v place kind form i a o p) n) x
 
-  -- parts that stand from a place on, behind so many leaves
+  -- Parts that stand from a place on, behind so many leaves.
   pub record PartsNode (from more : ℕ) (ss : List Shape) (v : Value) : Type 0 where
     pub parts : Values
     pub row : IsRow k c from to ss parts
@@ -210,7 +210,7 @@ module _ (k : Classes) (c : List ℕ) (at to end : ℕ) (s : Shape) (l : to ≤ 
   shapes_there : (place : ℕ) (d : Class) → slice_get k place ≡ Some d → field_shapes k place ≡ map (λ f. f.shape) d.fields
   shapes_there place d e = ap (λ o. option_map_or (λ c. map (λ f. f.shape) c.fields) o []) e
 
-  -- a composite value: its fields
+  -- A composite value: its fields.
   pub fields_node : (v : Value) (place : ℕ) (kind : Kind) → IsNode k c (node_at s at to) v → s.array ≡ false → s.constant ≡ false → InlineNode place kind → kind ≡ kinds.Composite → PartsNode at 0 (field_shapes k place) v
   fields_node v place kind i a o d m = subst (λ z. PartsNode at 0 z v) (sym (shapes_there place d.class d.there)) (fields_of v d.class i a o d.found (sym d.kind_is ∙ m))
 
@@ -218,12 +218,12 @@ module _ (k : Classes) (c : List ℕ) (at to end : ℕ) (s : Shape) (l : to ≤ 
   rooms P [] a = tt
   rooms P (f ∷ fs) a = (a.0, rooms P fs a.1)
 
-  -- and the room for them
+  -- And the room for them.
   pub room_within : (place : ℕ) (kind : Kind) (levels : ℕ) → InlineNode place kind → kind ≡ kinds.Composite → s.constant ≡ false → Room k levels s → AllByRecursion (Room k (levels - 1)) (field_shapes k place)
   room_within place kind levels d m o r =
       subst (AllByRecursion (Room k (levels - 1))) (sym (shapes_there place d.class d.there)) (rooms (Room k (levels - 1)) d.class.fields (inner_room k levels s d.class r o d.found (sym d.kind_is ∙ m)).1)
 
-  -- an array: its count, and the items behind it
+  -- An array: its count, and the items behind it.
   record ArrayNode (v : Value) : Type 0 where
     count : Var
     found : int_at c at end ≡ Some count
@@ -265,7 +265,7 @@ module _ (k : Classes) (c : List ℕ) (at to end : ℕ) (s : Shape) (l : to ≤ 
       let q : n.count ≡ count = (let x : int_at c at end ≡ Some n.count = n.found in cc) in
       subst (λ (z : Var). PartsNode z.end 1 (replicate z.value (item_of s)) v) q n.items
 
--- where no values are left, or values without bytes: there are no leaves, and they refer to nothing
+-- Where no values are left, or values without bytes: there are no leaves, and they refer to nothing.
 pub record Nothing (at to : ℕ) (vs : Values) : Type 0 where
   pub ends : at ≡ to
   pub leaves : length (leaves_from at vs) ≡ 0
@@ -300,7 +300,7 @@ module _ (k : Classes) (c : List ℕ) (at to : ℕ) where
           let b : bytes_of v ≡ [] = hollow_bytes k v d (ap (λ (z : Shape). z.array) p ∙ a) (ap (λ (z : Shape). z.constant) p ∙ o) (ap (λ (z : Shape). find_class k z.class) p ∙ q) h f.0 in
           ap (λ z. z ++ bytes_of_all vs) b ∙ none n vs g f.1
 
-  -- the class of an array's items is known where there is one
+  -- The class of an array's items is known where there is one.
   pub items_known : (n : ℕ) (s : Shape) (vs : Values) → IsRow k c at to (replicate n (item_of s)) vs → n ≢ 0 → s.constant ≡ false → IsSome (find_class k s.class)
   items_known zero s vs r n o = absurd (n refl)
   items_known (suc n) s Nil r m o = let h = r.of_shapes in cc
@@ -314,8 +314,8 @@ module _ (k : Classes) (c : List ℕ) (at to : ℕ) where
       let d = placed_some k s.class place q in
       no_bytes n (item_of s) d.0 vs r refl o (placed_class k s.class place q ∙ d.1) (subst (λ z. IfSome z IsHollow) d.1 h)
 
--- A loop over values that stand one behind another: those that are left stand from a place on, and what they refer to is to
--- be taken yet, at a step for each of their leaves.
+-- A loop over values that stand one behind another: those that are left stand from a place on, and what
+-- they refer to is to be taken yet, at a step for each of their leaves.
 pub record Left {A : Type 0} (takes : ℕ × ℕ → A → A → Type 0) (k : Classes) (c : List ℕ) (at to : ℕ) (vs : Values) (old : A) (before : ℕ) (ss : List Shape) (from : ℕ) (now : A) (after : ℕ) : Type 0 where
   pub others : Values
   pub row : IsRow k c from to ss others
@@ -328,7 +328,7 @@ module _ {A : Type 0} (takes : ℕ × ℕ → A → A → Type 0) (k : Classes) 
       let n = none_left k c from to ss f.others f.row e in
       (n.ends, f.taken now (takes_none takes (targets_of_all f.others) now n.targets), (let x = n.leaves in let y = f.steps in omega arith))
 
-  -- the value that stands first
+  -- The value that stands first.
   pub record FirstLeft (s : Shape) (from : ℕ) : Type 0 where
     pub place : ℕ
     pub value : Value
@@ -340,7 +340,7 @@ module _ {A : Type 0} (takes : ℕ × ℕ → A → A → Type 0) (k : Classes) 
       let g = first_of k c from to s ss f.others (subst (λ z. IsRow k c from to z f.others) e f.row) in
       record { place = from + length (bytes_of g.value); value = g.value; node = record { shape = sym g.shape; order = g.stands.order; within = g.stands.within; bytes = g.stands.bytes; fits = g.fits }; within = g.row.order }
 
-  -- what is left behind it
+  -- What is left behind it.
   pub left_goes : (s : Shape) (ss us : List Shape) (from : ℕ) (now : A) (after end result : ℕ) (new : A) (next : ℕ) → Left takes k c at to vs old before us from now after → us ≡ s ∷ ss → to ≤ end
       → ((p : ℕ) (v : Value) → IsNode k c (node_at s from p) v → p ≤ end → (result ≡ p) × TakesAll takes (targets_of v) now new × (next ≡ after + length (leaves_at from v)))
       → Left takes k c at to vs old before ss result new next
@@ -359,7 +359,7 @@ module _ {A : Type 0} (takes : ℕ × ℕ → A → A → Type 0) (k : Classes) 
         steps = (let i = f.steps in omega arith);
       }
 
--- the shapes of fields and of items from a number on
+-- The shapes of fields and of items from a number on.
 drop_map : (fs : List Field) (i : ℕ) (f : Field) → slice_get fs i ≡ Some f → drop i (map (λ f. f.shape) fs) ≡ f.shape ∷ drop (i + 1) (map (λ f. f.shape) fs)
 drop_map [] i f e = cc
 drop_map (g ∷ fs) zero f e = let h : g ≡ f = cc in ap (λ (z : Field). z.shape ∷ map (λ f. f.shape) fs) h

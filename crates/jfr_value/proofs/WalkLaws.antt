@@ -92,7 +92,7 @@ first_of k c at end s ss (Cons v vs) r =
       row = record { order = h.second.order; within = h.second.within; bytes = h.second.bytes; fit = r.fit.1; of_shapes = (let x : shape_of v ∷ shapes_of vs ≡ s ∷ ss = r.of_shapes in cc) };
     }
 
--- the first leaf is handed out, and these values are left
+-- The first leaf is handed out, and these values are left.
 pub record Taken (k : Classes) (c : List ℕ) (at end to : ℕ) (kind : LeafKind) (class : ℕ) (ss : List Shape) (vs : Values) : Type 0 where
   pub others : Values
   pub row : IsRow k c to end ss others
@@ -113,7 +113,7 @@ int_not_none c at end n b s p l h e =
     let q : int_at c at end ≡ Some (record { value = n; end = at + length b }) = int_computed c at end (at + length b) n o h i l in
     cc
 
--- a single value, up to the place where it ends
+-- A single value, up to the place where it ends.
 single_taken : (k : Classes) (c : List ℕ) (at end to : ℕ) (s t : Shape) (kind other : LeafKind) (b : List ℕ) (key : Option ℕ) (ss : List Shape) (vs us : Values) → vs ≡ Cons (Single t kind b key) us → t ≡ s → kind ≡ other → at + length b ≡ to
     → Stands c at (at + length b) b → IsRow k c (at + length b) end ss us → Taken k c at end to other s.class ss vs
 single_taken k c at end to s t kind other b key ss vs us e q h z p r =
@@ -142,7 +142,7 @@ no_base : (k : Classes) (d : Class) (e : Class) (b : List ℕ) (key : Option ℕ
 no_base k d e b key q m i = subst (λ z. IsBase z b key) (ap (λ (z : Class). kind_of z.name) q ∙ m) i
 
 module _ (k : Classes) (c : List ℕ) (at end : ℕ) (s : Shape) (ss : List Shape) where
-  -- a reference
+  -- A reference.
   pub key_taken : (vs : Values) (w : Var) → IsRow k c at end (s ∷ ss) vs → s.array ≡ false → s.constant ≡ true → int_at c at end ≡ Some w → Taken k c at end w.end (leaf_kinds.Key w.value) s.class ss vs
   unfolding first_of
   key_taken Nil w r a o e = let h = r.of_shapes in cc
@@ -185,7 +185,7 @@ module _ (k : Classes) (c : List ℕ) (at end : ℕ) (s : Shape) (ss : List Shap
       by_case (inl p) = let z : t.array ≡ false = array_is t s false f.shape a in let y = p.0 in cc
       by_case (inr p) = let z : t.constant ≡ true = constant_is t s true f.shape o in let y = p.1 in cc
 
-  -- a value of a base name
+  -- A value of a base name.
   pub base_ends : (vs : Values) (d : Class) → IsRow k c at end (s ∷ ss) vs → s.array ≡ false → s.constant ≡ false → find_class k s.class ≡ Some d → kind_of d.name ≢ kinds.Composite
       → (to : ℕ) × (seen (run (base_format (kind_of d.name)) c end at) ≡ Ok to) × Taken k c at end to (leaf_kinds.Base (kind_of d.name)) s.class ss vs
   unfolding first_of
@@ -214,7 +214,7 @@ module _ (k : Classes) (c : List ℕ) (at end : ℕ) (s : Shape) (ss : List Shap
       by_case (inl p) = let z : t.array ≡ false = array_is t s false f.shape a in let y = p.0 in cc
       by_case (inr p) = let e : p.2 ≡ d = found_is k t s p.2 d f.shape p.3 q in absurd (m (ap (λ (z : Class). kind_of z.name) (sym e) ∙ p.4))
 
-  -- a composite value: its fields are what comes next
+  -- A composite value: its fields are what comes next.
   pub fields_next : (vs : Values) (d : Class) → IsRow k c at end (s ∷ ss) vs → s.array ≡ false → s.constant ≡ false → find_class k s.class ≡ Some d → kind_of d.name ≡ kinds.Composite
       → (ws : Values) × IsRow k c at end (map (λ f. f.shape) d.fields ++ ss) ws × (leaves_from at vs ≡ leaves_from at ws) × (size_of_all vs ≡ 2 + size_of_all ws)
   unfolding first_of
@@ -254,7 +254,7 @@ module _ (k : Classes) (c : List ℕ) (at end : ℕ) (s : Shape) (ss : List Shap
             (let i = size_behind ps us in omega arith),
           )
 
-  -- an array: its count is handed out, and its items are what comes next
+  -- An array: its count is handed out, and its items are what comes next.
   record Counted (vs : Values) (w : Var) : Type 0 where
     items : Values
     others : Values
@@ -343,7 +343,7 @@ module _ (k : Classes) (c : List ℕ) (at end : ℕ) (s : Shape) (ss : List Shap
           let m : at + length h ≤ end = (let o = f.row.order in omega arith) in
           int_not_none c at end p.1 h y.first p.2 m r.within e
 
-  -- items without bytes have no leaves either
+  -- Items without bytes have no leaves either.
   hollow_all : (d : Class) → s.constant ≡ false → find_class k s.class ≡ Some d → IsHollow d → (n : ℕ) (ps : Values) → shapes_of ps ≡ replicate n (item_of s) → AllFit k ps → bytes_of_all ps ≡ []
   hollow_all d o q h n Nil e f = refl
   hollow_all d o q h zero (Cons v ps) e f = cc
@@ -379,7 +379,7 @@ module _ (k : Classes) (c : List ℕ) (at end : ℕ) (s : Shape) (ss : List Shap
       none_of [] h = refl
       none_of (x ∷ xs) h = absurd (omega arith)
 
--- an inline value of a row is of the class at its place
+-- An inline value of a row is of the class at its place.
 pub record Placed (k : Classes) (s : Shape) (place : ℕ) : Type 0 where
   pub class : Class
   pub found : find_class k s.class ≡ Some class
@@ -399,13 +399,13 @@ pub base_found : (k : Classes) (c : List ℕ) (at end : ℕ) (s : Shape) (ss : L
 base_found k c at end s ss vs d kind r a o q e m =
     subst (λ z. (to : ℕ) × (seen (run (base_format z) c end at) ≡ Ok to) × Taken k c at end to (leaf_kinds.Base z) s.class ss vs) (sym e) (base_ends k c at end s ss vs d r a o q (λ z. m (e ∙ z)))
 
--- an array whose items are walked over, or have no bytes
+-- An array whose items are walked over, or have no bytes.
 pub array_found : (k : Classes) (c : List ℕ) (at end : ℕ) (s : Shape) (ss : List Shape) (vs : Values) (w : Var) (place left : ℕ) → IsRow k c at end (s ∷ ss) vs → s.array ≡ true → int_at c at end ≡ Some w → IsPlacedIfKnown k s place
     → (left ≡ w.value) ⊎ ((left ≡ 0) × (s.constant ≡ false) × (place < length k) × IfSome (slice_get k place) IsHollow) → Taken k c at end w.end (leaf_kinds.Count w.value) s.class (replicate left (item_of s) ++ ss) vs
 array_found k c at end s ss vs w place left r a e p (inl q) = subst (λ z. Taken k c at end w.end (leaf_kinds.Count w.value) s.class (replicate z (item_of s) ++ ss) vs) (sym q) (array_taken k c at end s ss vs w r a e)
 array_found k c at end s ss vs w place left r a e p (inr q) = subst (λ z. Taken k c at end w.end (leaf_kinds.Count w.value) s.class (replicate z (item_of s) ++ ss) vs) (sym q.0) (hollow_taken k c at end s ss vs w place r a e p q.1 q.2 q.3)
 
--- where no shapes are left, no leaves are
+-- Where no shapes are left, no leaves are.
 pub no_leaves : (k : Classes) (c : List ℕ) (at end : ℕ) (vs : Values) → IsRow k c at end [] vs → leaves_from at vs ≡ []
 no_leaves k c at end Nil r = refl
 no_leaves k c at end (Cons v vs) r = let h = r.of_shapes in cc
@@ -427,14 +427,14 @@ left_is k c end cursor vs s r =
     ap got_values (exact_run c end r.within (for_each (shapes_left k cursor.stack) (value_format k)) cursor.at end (bytes_of_all vs) (list_of vs) (rows_exact k (shapes_left k cursor.stack) vs s r.fit r.of_shapes) (record { order = r.order; within = r.within; bytes = r.bytes }) (omega arith))
     ∙ values_again vs
 
--- a walk that goes on
+-- A walk that goes on.
 pub walk_on : (k : Classes) (c : List ℕ) (end : ℕ) (cursor : Cursor) (ws : Values) → Sound k → AreFrames k 0 cursor.stack → IsLeft k c end cursor ws → IsWalk k c end cursor
 walk_on k c end cursor ws s f l = record { sound = s; frames = f; left = subst (IsLeft k c end cursor) (sym (left_is k c end cursor ws s l)) l }
 
 pub leaves_are_left : (k : Classes) (c : List ℕ) (end : ℕ) (cursor : Cursor) (ws : Values) → Sound k → IsLeft k c end cursor ws → leaves_left k c end cursor ≡ leaves_from cursor.at ws
 leaves_are_left k c end cursor ws s l = ap (leaves_from cursor.at) (left_is k c end cursor ws s l)
 
--- a walk that begins at a node
+-- A walk that begins at a node.
 pub walk_begins : (k : Classes) (c : List ℕ) (n : NodeAt) (v : Value) (place : ℕ) (cursor : Cursor) → Sound k → IsNode k c n v → IsPlacedIfKnown k n.shape place → cursor.at ≡ n.at → cursor.stack ≡ Items n.shape place 1 33 ∷ []
     → AreFrames k 0 cursor.stack × IsLeft k c n.end cursor (Cons v Nil)
 walk_begins k c n v place cursor s i p a e =

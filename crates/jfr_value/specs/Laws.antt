@@ -14,7 +14,7 @@ use Rattle.jfr_value.specs.Reading.{value_format}
 use Rattle.jfr_value.specs.Nodes.{NodeAt, node_at, node_bytes, IsNode, EndsAt, IsRefused, IsValueReason, child, children, inside, target, targets, Both}
 use Rattle.jfr_value.specs.Leaves.{leaves, leaf_target}
 
--- the trees that fit are those that the format reads, each from its own bytes alone
+-- The trees that fit are those that the format reads, each from its own bytes alone.
 abbrev pub AreRead : Classes → Type 0
 AreRead k = (v : Value) → Fits k v ↔ Exactly (value_format k (shape_of v)) (bytes_of v) v
 
@@ -27,39 +27,39 @@ pub record HasOneAnswer (k : Classes) (c : List ℕ) (s : Shape) (at end : ℕ) 
   pub one_flaw : (flaw other : Flaw) → IsRefused k c s at end flaw → IsRefused k c s at end other → flaw ≡ other
   pub reason : (flaw : Flaw) → IsRefused k c s at end flaw → IsValueReason flaw.reason
 
--- nodes of equal shape and bytes
+-- Nodes of equal shape and bytes.
 pub record SameNode (c d : List ℕ) (n o : NodeAt) : Type 0 where
   pub shape : n.shape ≡ o.shape
   pub bytes : node_bytes c n ≡ node_bytes d o
 
--- nodes that have the same field and item steps, each to nodes of equal shape and bytes
+-- Nodes that have the same field and item steps, each to nodes of equal shape and bytes.
 abbrev pub SameSteps : Classes → Classes → List ℕ → List ℕ → NodeAt → NodeAt → Type 0
 SameSteps k m c d n o = (step : Step) → Both (SameNode c d) (child k c n step) (child m d o step)
 
--- a path of fields and items leads to a node that refers to this class and key
+-- A path of fields and items leads to a node that refers to this class and key.
 abbrev pub RefersInside : Classes → List ℕ → NodeAt → ℕ × ℕ → Type 0
 RefersInside k c n t = (path : List Step) × (m : NodeAt) × (inside k c n path ≡ Some m) × (target k c m ≡ Some t)
 
--- what a node refers to is what the ends of its paths of fields and items refer to, and what its leaves do
+-- What a node refers to is what the ends of its paths of fields and items refer to, and what its leaves do.
 pub record RefersByParts (k : Classes) (c : List ℕ) (n : NodeAt) : Type 0 where
   pub paths : (t : ℕ × ℕ) → Contains (targets k c n) t ↔ RefersInside k c n t
   pub leaves_too : filter_map leaf_target (leaves k c n) ≡ targets k c n
 
--- the nodes are where values of these shapes stand, one behind another, from one place up to the other
+-- The nodes are where values of these shapes stand, one behind another, from one place up to the other.
 abbrev pub Cover : Classes → List ℕ → ℕ → ℕ → List Shape → List NodeAt → Type 0
 Cover k c at to [] [] = at ≡ to
 Cover k c at to (s ∷ ss) (n ∷ ns) = (n.at ≡ at) × (n.shape ≡ s) × ((v : Value) × IsNode k c n v) × Cover k c n.end to ss ns
 Cover k c at to [] (n ∷ ns) = ⊥
 Cover k c at to (s ∷ ss) [] = ⊥
 
--- an array's items cover what stands behind its count, which is read at its start
+-- An array's items cover what stands behind its count, which is read at its start.
 pub record ItemsCover (k : Classes) (c : List ℕ) (n : NodeAt) : Type 0 where
   pub count : Var
   pub counted : int_at c n.at n.end ≡ Some count
   pub cover : Cover k c count.end n.end (replicate count.value (item_of n.shape)) (children k c n)
 
--- the leaves of a node where this value stands: a reference, or a value of a base name, alone; or else
--- those of its children in order, and before them an array's count
+-- The leaves of a node where this value stands: a reference, or a value of a base name, alone; or else
+-- those of its children in order, and before them an array's count.
 abbrev pub LeavesInOrder : Classes → List ℕ → NodeAt → Value → Type 0
 LeavesInOrder k c n (Single s kind b key) = leaves k c n ≡ record { kind = kind; class = s.class; at = n.at; spelled = b } ∷ []
 LeavesInOrder k c n (Group s h vs) = leaves k c n ≡ (if s.array then record { kind = leaf_kinds.Count (worth_within 8 h); class = s.class; at = n.at; spelled = h } ∷ [] else []) ++ flat_map (leaves k c) (children k c n)

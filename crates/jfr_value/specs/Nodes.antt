@@ -13,7 +13,7 @@ use Rattle.jfr_value.specs.declared.node.Step.TheVariants as steps
 use Rattle.jfr_value.specs.Values.{Value, Values, bytes_of_all, AllFit, shapes_of, shape_of, head_of, parts_of, bytes_of, own_target, targets_of, Fits}
 use Rattle.jfr_value.specs.Reading.{value_format}
 
--- a shape, and the range of a value's bytes in the chunk
+-- A shape, and the range of a value's bytes in the chunk.
 pub record NodeAt : Type 0 where
   pub shape : Shape
   pub at : ℕ
@@ -22,11 +22,11 @@ pub record NodeAt : Type 0 where
 abbrev pub node_at : Shape → ℕ → ℕ → NodeAt
 node_at s at end = record { shape = s; at = at; end = end }
 
--- the bytes of a node
+-- The bytes of a node.
 abbrev pub node_bytes : List ℕ → NodeAt → List ℕ
 node_bytes c n = slice_range c n.at n.end
 
--- the node is where this value stands
+-- The node is where this value stands.
 pub record IsNode (k : Classes) (c : List ℕ) (n : NodeAt) (v : Value) : Type 0 where
   pub shape : n.shape ≡ shape_of v
   pub order : n.at ≤ n.end
@@ -34,19 +34,19 @@ pub record IsNode (k : Classes) (c : List ℕ) (n : NodeAt) (v : Value) : Type 0
   pub bytes : node_bytes c n ≡ bytes_of v
   pub fits : Fits k v
 
--- a node that the code hands around, as a node in the chunk
+-- A node that the code hands around, as a node in the chunk.
 abbrev pub node_of : Node → NodeAt
 node_of n = node_at n.shape n.at n.end
 
--- a value stands there
+-- A value stands there.
 abbrev pub IsValue : Classes → Node → Type 0
 IsValue k n = (v : Value) × IsNode k n.bytes.now (node_of n) v
 
--- a value of the shape stands from one place to the other
+-- A value of the shape stands from one place to the other.
 abbrev pub EndsAt : Classes → List ℕ → Shape → ℕ → ℕ → Type 0
 EndsAt k c s at to = (v : Value) × IsNode k c (node_at s at to) v
 
--- values of these shapes stand one after another, from one place up to the other
+-- Values of these shapes stand one after another, from one place up to the other.
 pub record IsRow (k : Classes) (c : List ℕ) (at to : ℕ) (shapes : List Shape) (vs : Values) : Type 0 where
   pub order : at ≤ to
   pub within : to ≤ length c
@@ -54,12 +54,12 @@ pub record IsRow (k : Classes) (c : List ℕ) (at to : ℕ) (shapes : List Shape
   pub fit : AllFit k vs
   pub of_shapes : shapes_of vs ≡ shapes
 
--- what begins at a place is refused as a value of the shape: the units of its format before the flaw's
--- place stand by the end, and the one there doesn't
+-- What begins at a place is refused as a value of the shape: the units of its format before the flaw's
+-- place stand by the end, and the one there doesn't.
 abbrev pub IsRefused : Classes → List ℕ → Shape → ℕ → ℕ → Flaw → Type 0
 IsRefused k c s at end flaw = Fails (value_format k s) c end at flaw.offset flaw.reason
 
--- a part is wanting, or a string's kind isn't known
+-- A part is wanting, or a string's kind isn't known.
 abbrev pub IsValueReason : Reason → Type 0
 IsValueReason why = (why ≡ Short) ⊎ (why ≡ StringKind)
 
@@ -67,47 +67,47 @@ abbrev pub got_value : Answer Value → Option Value
 got_value (Ok g) = Some g.value
 got_value (Err e) = None
 
--- the value of a node, by computing
+-- The value of a node, by computing.
 unfoldable pub value_of : Classes → List ℕ → NodeAt → Option Value
 value_of k c n = got_value (run (value_format k n.shape) c n.end n.at)
 
--- the nodes of values that lie one after another, from a place on
+-- The nodes of values that lie one after another, from a place on.
 abbrev pub laid : ℕ → List Value → List NodeAt
 laid at [] = []
 laid at (v ∷ vs) = record { shape = shape_of v; at = at; end = at + length (bytes_of v) } ∷ laid (at + length (bytes_of v)) vs
 
--- the nodes of the parts of a value that begins at a place
+-- The nodes of the parts of a value that begins at a place.
 abbrev pub laid_in : ℕ → Value → List NodeAt
 laid_in at v = laid (at + length (head_of v)) (parts_of v)
 
--- the fields of a composite node, or the items of an array
+-- The fields of a composite node, or the items of an array.
 abbrev pub children : Classes → List ℕ → NodeAt → List NodeAt
 children k c n = option_map_or (laid_in n.at) (value_of k c n) []
 
--- the member that a step names among the fields or items
+-- The member that a step names among the fields or items.
 abbrev pub picked : {A : Type 0} → Shape → List A → Step → Option A
 picked s xs (steps.Field i) = if s.array then None else slice_get xs i
 picked s xs (steps.Item i) = if s.array then slice_get xs i else None
 picked s xs steps.Follow = None
 
--- the field or the item that a step leads to
+-- The field or the item that a step leads to.
 abbrev pub child : Classes → List ℕ → NodeAt → Step → Option NodeAt
 child k c n step = picked n.shape (children k c n) step
 
--- the class and the key that the node refers to, by itself
+-- The class and the key that the node refers to, by itself.
 abbrev pub target : Classes → List ℕ → NodeAt → Option (ℕ × ℕ)
 target k c n = option_and_then own_target (value_of k c n)
 
--- the classes and keys that the node refers to at any depth, from left to right
+-- The classes and keys that the node refers to at any depth, from left to right.
 abbrev pub targets : Classes → List ℕ → NodeAt → List (ℕ × ℕ)
 targets k c n = option_map_or targets_of (value_of k c n) []
 
--- where a path of fields and items leads; Follow leads nowhere here
+-- Where a path of fields and items leads; Follow leads nowhere here.
 abbrev pub inside : Classes → List ℕ → NodeAt → List Step → Option NodeAt
 inside k c n [] = Some n
 inside k c n (step ∷ path) = option_and_then (λ m. inside k c m path) (child k c n step)
 
--- both are there and are related, or neither is there
+-- Both are there and are related, or neither is there.
 abbrev pub Both : {A B : Type 0} → (A → B → Type 0) → Option A → Option B → Type 0
 Both R None None = ⊤
 Both R (Some a) (Some b) = R a b

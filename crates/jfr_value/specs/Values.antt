@@ -13,47 +13,47 @@ use Rattle.jfr_value.specs.declared.leaf.LeafKind.TheVariants as leaf_kinds
 
 mutual
   pub data Value : Type 0 where
-    -- a value without parts: what kind of leaf it is, its bytes, and the key of a reference or of a string
-    -- that is one
+    -- A value without parts: what kind of leaf it is, its bytes, and the key of a reference or of a string
+    -- that is one.
     Single : (shape : Shape) (kind : LeafKind) (bytes : List ℕ) (key : Option ℕ) → Value
-    -- an array behind its count, or a composite value, of which the head is empty
+    -- An array behind its count, or a composite value, of which the head is empty.
     Group : (shape : Shape) (head : List ℕ) (parts : Values) → Value
 
   pub data Values : Type 0 where
     Nil : Values
     Cons : (first : Value) (rest : Values) → Values
 
--- a list as values
+-- A list as values.
 abbrev pub values_of : List Value → Values
 values_of [] = Nil
 values_of (v ∷ vs) = Cons v (values_of vs)
 
--- values as a list
+-- Values as a list.
 abbrev pub list_of : Values → List Value
 list_of Nil = []
 list_of (Cons v vs) = v ∷ list_of vs
 
--- the shape of a value
+-- The shape of a value.
 abbrev pub shape_of : Value → Shape
 shape_of (Single s kind b key) = s
 shape_of (Group s h vs) = s
 
--- the shapes of values, in order
+-- The shapes of values, in order.
 abbrev pub shapes_of : Values → List Shape
 shapes_of Nil = []
 shapes_of (Cons v vs) = shape_of v ∷ shapes_of vs
 
--- the bytes before the parts
+-- The bytes before the parts.
 abbrev pub head_of : Value → List ℕ
 head_of (Single s kind b key) = b
 head_of (Group s h vs) = h
 
--- the fields of a composite value, or the items of an array
+-- The fields of a composite value, or the items of an array.
 abbrev pub parts_of : Value → List Value
 parts_of (Single s kind b key) = []
 parts_of (Group s h vs) = list_of vs
 
--- all bytes of the value, from left to right
+-- All bytes of the value, from left to right.
 abbrev mutual
   pub bytes_of : Value → List ℕ
   bytes_of (Single s kind b key) = b
@@ -63,12 +63,12 @@ abbrev mutual
   bytes_of_all Nil = []
   bytes_of_all (Cons v vs) = bytes_of v ++ bytes_of_all vs
 
--- the class and the key that the value itself refers to
+-- The class and the key that the value itself refers to.
 abbrev pub own_target : Value → Option (ℕ × ℕ)
 own_target (Single s kind b key) = option_map (λ k. (s.class, k)) key
 own_target (Group s h vs) = None
 
--- the classes and keys that the value and its parts refer to, at any depth, from left to right
+-- The classes and keys that the value and its parts refer to, at any depth, from left to right.
 abbrev mutual
   pub targets_of : Value → List (ℕ × ℕ)
   targets_of (Single s kind b None) = []
@@ -79,7 +79,7 @@ abbrev mutual
   targets_of_all Nil = []
   targets_of_all (Cons v vs) = targets_of v ++ targets_of_all vs
 
--- the key of a string that is one
+-- The key of a string that is one.
 abbrev pub key_of : Content → Option ℕ
 key_of (Key key) = Some key
 key_of Null = None
@@ -88,7 +88,7 @@ key_of (Utf8 bytes) = None
 key_of (Units units) = None
 key_of (Latin bytes) = None
 
--- these bytes are a value of a base name, and this is its key
+-- These bytes are a value of a base name, and this is its key.
 abbrev pub IsBase : Kind → List ℕ → Option ℕ → Type 0
 IsBase kinds.Boolean b key = (length b ≡ 1) × (key ≡ None)
 IsBase kinds.Byte b key = (length b ≡ 1) × (key ≡ None)
@@ -101,20 +101,20 @@ IsBase kinds.Double b key = (length b ≡ 8) × (key ≡ None)
 IsBase kinds.Text b key = (s : Content) × IsString b s × (key ≡ key_of s)
 IsBase kinds.Composite b key = ⊥
 
--- a value without parts is a reference's key, or an inline value of a base name
+-- A value without parts is a reference's key, or an inline value of a base name.
 abbrev pub IsSingle : Classes → Shape → LeafKind → List ℕ → Option ℕ → Type 0
 IsSingle k s kind b key =
     ((s.array ≡ false) × (s.constant ≡ true) × (n : ℕ) × Spells b n × (kind ≡ leaf_kinds.Key n) × (key ≡ Some n))
     ⊎ ((s.array ≡ false) × (s.constant ≡ false) × (c : Class) × (find_class k s.class ≡ Some c) × (kind ≡ leaf_kinds.Base (kind_of c.name)) × IsBase (kind_of c.name) b key)
 
--- what stands before the parts, and the shapes of these: an array has its count and so many items, a
--- composite value nothing and its fields
+-- What stands before the parts, and the shapes of these: an array has its count and so many items, a
+-- composite value nothing and its fields.
 abbrev pub IsHead : Classes → Shape → List ℕ → List Shape → Type 0
 IsHead k s h parts =
     ((s.array ≡ true) × (n : ℕ) × Spells h n × (parts ≡ replicate n (item_of s)))
     ⊎ ((s.array ≡ false) × (s.constant ≡ false) × (c : Class) × (find_class k s.class ≡ Some c) × (kind_of c.name ≡ kinds.Composite) × (h ≡ []) × (parts ≡ map (λ f. f.shape) c.fields))
 
--- the tree is a value of its shape
+-- The tree is a value of its shape.
 abbrev mutual
   pub Fits : Classes → Value → Type 0
   Fits k (Single s kind b key) = IsSingle k s kind b key
@@ -124,15 +124,15 @@ abbrev mutual
   AllFit k Nil = ⊤
   AllFit k (Cons v vs) = Fits k v × AllFit k vs
 
--- a composite class without fields: its inline values have no bytes
+-- A composite class without fields: its inline values have no bytes.
 abbrev pub IsHollow : Class → Type 0
 IsHollow c = (kind_of c.name ≡ kinds.Composite) × (c.fields ≡ [])
 
--- an array of inline values of such a class, which is its count alone
+-- An array of inline values of such a class, which is its count alone.
 abbrev pub IsHollowArray : Shape → Class → Type 0
 IsHollowArray s c = (s.array ≡ true) × (s.constant ≡ false) × IsHollow c
 
--- the layout has its form, and is that of its class; of a constant the class doesn't matter
+-- The layout has its form, and is that of its class; of a constant the class doesn't matter.
 pub record IsPlaced (k : Classes) (s : FieldLayout) : Type 0 where
   pub form : s.form ≡ form_of s.shape s.kind
   pub of_class : s.shape.constant ≡ false → IsFieldLayout k s

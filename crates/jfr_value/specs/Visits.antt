@@ -6,19 +6,19 @@ use Rattle.jfr_layout.specs.Classes.{Classes}
 use Rattle.jfr_layout.specs.declared.shape.Shape.{Shape}
 use Rattle.jfr_value.specs.Values.{Value, targets_of, targets_of_all, values_of}
 
--- the targets are taken one after another, and what is taken into goes from old to new
+-- The targets are taken one after another, and what is taken into goes from old to new.
 abbrev pub TakesAll : {A : Type 0} → (ℕ × ℕ → A → A → Type 0) → List (ℕ × ℕ) → A → A → Type 0
 TakesAll takes [] old new = old ≡ new
 TakesAll {A = A} takes (t ∷ ts) old new = (next : A) × takes t old next × TakesAll takes ts next new
 
--- where a value was read, what it refers to is taken
+-- Where a value was read, what it refers to is taken.
 abbrev pub TakesRead : {A : Type 0} → (ℕ × ℕ → A → A → Type 0) → Answer Value → A → A → Type 0
 TakesRead takes answer old new = IfOk answer (λ got. TakesAll takes (targets_of got.value) old new)
 
--- where values were read one after another, what they refer to is taken
+-- Where values were read one after another, what they refer to is taken.
 abbrev pub TakesReadAll : {A : Type 0} → (ℕ × ℕ → A → A → Type 0) → Answer (List Value) → A → A → Type 0
 TakesReadAll takes answer old new = IfOk answer (λ got. TakesAll takes (targets_of_all (values_of got.value)) old new)
 
--- the shapes of the fields of the class of an index
+-- The shapes of the fields of the class of an index.
 abbrev pub field_shapes : Classes → ℕ → List Shape
 field_shapes k place = option_map_or (λ c. map (λ f. f.shape) c.fields) (slice_get k place) []

@@ -16,30 +16,30 @@ use Rattle.jfr_value.specs.Reading.{value_format}
 use Rattle.jfr_value.specs.Nodes.{IsRow}
 use Rattle.jfr_value.specs.Leaves.{LeafAt, leaf_of, leaves_from}
 
--- from an inline value of the shape no chain of so many inline steps begins
+-- From an inline value of the shape no chain of so many inline steps begins.
 abbrev pub Room : Classes → ℕ → Shape → Type 0
 Room k n s = s.constant ≡ false → (c : Class) → find_class k s.class ≡ Some c → is_composite (kind_of c.name) ≡ true → goes_inline n k c ≡ false
 
--- the shapes of the values that a frame still has
+-- The shapes of the values that a frame still has.
 abbrev pub frame_shapes : Classes → Frame → List Shape
 frame_shapes k (Fields place number levels) = option_map_or (λ c. map (λ f. f.shape) (drop number c.fields)) (slice_get k place) []
 frame_shapes k (Items shape place left levels) = replicate left shape
 
--- the shapes of the values that a stack still has; those of its last frame come first
+-- The shapes of the values that a stack still has; those of its last frame come first.
 abbrev pub shapes_left : Classes → List Frame → List Shape
 shapes_left k [] = []
 shapes_left k (f ∷ fs) = shapes_left k fs ++ frame_shapes k f
 
--- this is the index of the class of the shape, if the class is known
+-- This is the index of the class of the shape, if the class is known.
 abbrev pub IsPlacedIfKnown : Classes → Shape → ℕ → Type 0
 IsPlacedIfKnown k s place = s.constant ≡ false → IsSome (find_class k s.class) → class_place k s.class ≡ Some place
 
--- the layout has its form, and is that of its class, if the class is known
+-- The layout has its form, and is that of its class, if the class is known.
 pub record IsLayoutIfKnown (k : Classes) (s : FieldLayout) : Type 0 where
   pub form : s.form ≡ form_of s.shape s.kind
   pub of_class : s.shape.constant ≡ false → IsSome (find_class k s.shape.class) → IsFieldLayout k s
 
--- a frame at a height of the stack: so many inline steps may follow, each with two frames at most
+-- A frame at a height of the stack: so many inline steps may follow, each with two frames at most.
 abbrev pub IsFrame : Classes → ℕ → Frame → Type 0
 IsFrame k height (Fields place number levels) = (height + 2 * levels ≤ 67) × (place < length k) × ((c : Class) → slice_get k place ≡ Some c → AllByRecursion (λ f. Room k levels f.shape) c.fields)
 IsFrame k height (Items shape place left levels) = (height + 2 * levels ≤ (if shape.array then 67 else 68)) × IsPlacedIfKnown k shape place × Room k levels shape
@@ -48,7 +48,7 @@ abbrev pub AreFrames : Classes → ℕ → List Frame → Type 0
 AreFrames k height [] = ⊤
 AreFrames k height (f ∷ fs) = IsFrame k (suc height) f × AreFrames k (suc height) fs
 
--- these values are what is left, up to an end
+-- These values are what is left, up to an end.
 abbrev pub IsLeft : Classes → List ℕ → ℕ → Cursor → Values → Type 0
 IsLeft k c end cursor vs = IsRow k c cursor.at end (shapes_left k cursor.stack) vs
 
@@ -56,16 +56,16 @@ abbrev pub got_values : Answer (List Value) → Values
 got_values (Ok g) = values_of g.value
 got_values (Err e) = Nil
 
--- the values that are left, by computing
+-- The values that are left, by computing.
 unfoldable pub values_left : Classes → List ℕ → ℕ → Cursor → Values
 values_left k c end cursor = got_values (run (for_each (shapes_left k cursor.stack) (value_format k)) c end cursor.at)
 
--- the leaves that are left
+-- The leaves that are left.
 abbrev pub leaves_left : Classes → List ℕ → ℕ → Cursor → List LeafAt
 leaves_left k c end cursor = leaves_from cursor.at (values_left k c end cursor)
 
--- how many values there are, of which each with parts counts twice, so that every step of a walk makes the
--- number smaller
+-- How many values there are, of which each with parts counts twice, so that every step of a walk makes the
+-- number smaller.
 abbrev mutual
   pub size_of : Value → ℕ
   size_of (Single s kind b key) = 1
@@ -75,13 +75,13 @@ abbrev mutual
   size_of_all Nil = 0
   size_of_all (Cons v vs) = size_of v + size_of_all vs
 
--- what one step of a walk does: it ends, hands out the first leaf, or comes closer to it
+-- What one step of a walk does: it ends, hands out the first leaf, or comes closer to it.
 abbrev pub GoesOn : Classes → List ℕ → ℕ → ℕ → Values → ℕ → Cursor → Progress → Type 0
 GoesOn k c end at vs size cursor Ended = (ws : Values) × IsLeft k c end cursor ws × (leaves_from at vs ≡ []) × (leaves_from cursor.at ws ≡ [])
 GoesOn k c end at vs size cursor (Found leaf) = (ws : Values) × IsLeft k c end cursor ws × (leaves_from at vs ≡ leaf_of leaf ∷ leaves_from cursor.at ws)
 GoesOn k c end at vs size cursor Onward = (ws : Values) × IsLeft k c end cursor ws × (leaves_from at vs ≡ leaves_from cursor.at ws) × (size_of_all ws + length cursor.stack < size)
 
--- a walk over values that stand there
+-- A walk over values that stand there.
 pub record IsWalk (k : Classes) (c : List ℕ) (end : ℕ) (cursor : Cursor) : Type 0 where
   pub sound : Sound k
   pub frames : AreFrames k 0 cursor.stack

@@ -30,7 +30,7 @@ no_digits : (word : List ℕ) → digits word ≡ false → number_of word ≡ N
 unfolding number_of
 no_digits word e = rw e refl
 
--- a text and its characters spell the same number
+-- A text and its characters spell the same number.
 pub number_of-chars : (text : List ℕ) → IsUtf8 text → number_of (chars text) ≡ number_of text
 number_of-chars text u = by_tests (digits text) (digits (chars text)) refl refl
   where
@@ -39,7 +39,7 @@ number_of-chars text u = by_tests (digits text) (digits (chars text)) refl refl
     by_tests false true e f = ap number_of (sym (encodes-IsAscii (chars text) (digits_ascii (chars text) f)) ∙ encodes-chars text u)
     by_tests false false e f = no_digits (chars text) f ∙ sym (no_digits text e)
 
--- more than nineteen bytes, and bytes that aren't digits, are no number
+-- More than nineteen bytes, and bytes that aren't digits, are no number.
 pub long_none : (text : List ℕ) → IsUtf8 text → 19 < length text → number_of (chars text) ≡ None
 unfolding number_of
 long_none text u h = number_of-chars text u ∙ by_tests (digits text) (nat_lt 0 (length text))
@@ -55,7 +55,7 @@ long_none text u h = number_of-chars text u ∙ by_tests (digits text) (nat_lt 0
 pub other_none : (text : List ℕ) → IsUtf8 text → digits text ≡ false → number_of (chars text) ≡ None
 other_none text u e = number_of-chars text u ∙ no_digits text e
 
--- at most nineteen digits are a number exactly where they parse, and the number is what they parse to
+-- At most nineteen digits are a number exactly where they parse, and the number is what they parse to.
 pub number_parsed : {E : Type 0} (text : List ℕ) (r : Result ℕ E) → IsUtf8 text → digits text ≡ true → length text ≤ 19 → ParsesUnsigned 64 10 text r → result_ok r ≡ number_of (chars text)
 unfolding number_of
 number_parsed text r u e l p = by_result r p ∙ sym (number_of-chars text u)

@@ -3,11 +3,11 @@ use Rattle.std.specs.Prelude.{◌≡◌, ℕ, List, [], ◌∷◌, drop, Option,
 use Rattle.std.specs.Option.{option_map_or}
 use Rattle.std.proofs.Common.{ap, sym, ◌∙◌}
 
--- how a command's words are read, from what is given so far
+-- How a command's words are read, from what is given so far.
 pub record Reads {G O X : Type 0} (from : G → List (List ℕ) → Option X) (option : List ℕ → Option O) (given : O → List ℕ → G → Option G) (named : G → List (List ℕ) → Option X) : Type 0 where
   pub on : (g : G) (word next : List ℕ) (rest : List (List ℕ)) → from g (word ∷ next ∷ rest) ≡ option_map_or (λ o. option_and_then (λ h. from h rest) (given o next g)) (option word) (named g (word ∷ next ∷ rest))
 
--- where an option took the next word, the words after it give what all gave
+-- Where an option took the next word, the words after it give what all gave.
 pub option_taken : {G O X : Type 0} (from : G → List (List ℕ) → Option X) (option : List ℕ → Option O) (given : O → List ℕ → G → Option G) (named : G → List (List ℕ) → Option X) → Reads from option given named
     → (g h : G) (o : O) (next : List ℕ) (before left rest : List (List ℕ)) → Some o ≡ option_and_then option (slice_get before 0) → left ≡ drop 1 before → left ≡ next ∷ rest → given o next g ≡ Some h → from h rest ≡ from g before
 option_taken from option given named reads g h o next [] left rest e l m f = cc

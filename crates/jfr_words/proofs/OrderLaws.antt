@@ -25,11 +25,11 @@ use Rattle.jfr_words.specs.Splits.{no_split_option, split_option_of, is_split_gi
 use Rattle.jfr_words.specs.Words.{order_of, sample_of, IsRead, IsUsableOrder}
 use Rattle.jfr_words.proofs.WordLaws.{chars_of}
 
--- the order of a command that is this word
+-- The order of a command that is this word.
 pub order_at : (rest : List (List ℕ)) (command word : List ℕ) → list_all is_ascii word ≡ true → command ≡ word → order_of (chars command ∷ rest) ≡ order_of (word ∷ rest)
 order_at rest command word a e = ap (λ c. order_of (c ∷ rest)) (chars_of command word a e)
 
--- what an option gives, if it gives anything
+-- What an option gives, if it gives anything.
 abbrev Gives : {X : Type 0} → (X → Type 0) → Option X → Type 0
 Gives P None = Unit {0}
 Gives P (Some x) = P x
@@ -50,7 +50,7 @@ gives_if : {X : Type 0} (P : X → Type 0) (b : Bool) (o p : Option X) → Gives
 gives_if P true o p u v = u
 gives_if P false o p u v = v
 
--- a number is in its range
+-- A number is in its range.
 number_within : (low high : ℕ) (word : List ℕ) → Gives (λ n. (low ≤ n) × (n ≤ high)) (number_in low high word)
 number_within low high word = gives_after (λ n. (low ≤ n) × (n ≤ high)) (within low high) (number_of word) (λ n. by_tests n (nat_le low n) (nat_le n high) refl refl)
   where
@@ -66,7 +66,7 @@ gives_number P f low high word h = by_number (number_in low high word) (number_w
     by_number None r = tt
     by_number (Some n) r = h n r.0 r.1
 
--- the depth of a print
+-- The depth of a print.
 abbrev IsShallow : PrintGiven → Type 0
 IsShallow g = Gives (λ d. d ≤ 8) g.depth
 
@@ -97,7 +97,7 @@ print_usable g (word ∷ next ∷ rest) s = by_option (print_option_of word) (λ
     by_option None u v = print_named_usable g (word ∷ next ∷ rest) s
     by_option (Some o) u v = gives_then IsShallow IsUsableOrder _ (print_with o next g) (shallow_with o next g s) (λ h t. goes_on o _ _ (u h t) (v h t))
 
--- the numbers of a disassembly
+-- The numbers of a disassembly.
 abbrev IsPositive : SplitGiven → Type 0
 IsPositive g = Gives (λ n. 1 ≤ n) g.max_chunks × Gives (λ n. 1 ≤ n) g.max_size
 
@@ -147,7 +147,7 @@ sample_usable (a ∷ b ∷ []) =
     below s h = omega arith
 sample_usable (a ∷ b ∷ c ∷ rest) = tt
 
--- every order is usable
+-- Every order is usable.
 order_usable : (words : List (List ℕ)) → Gives IsUsableOrder (order_of words)
 unfolding order_of
 order_usable [] = tt

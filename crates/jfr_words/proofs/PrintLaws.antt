@@ -15,13 +15,13 @@ use Rattle.jfr_words.specs.Patterns.{given_with}
 use Rattle.jfr_words.specs.Prints.{print_option_of, print_with, print_goes_on, print_named, print_from}
 use Rattle.jfr_words.specs.Words.{IsRead, StillGives}
 
--- what an option and the words behind it give
+-- What an option and the words behind it give.
 option_read : (g : PrintGiven) (option : PrintOption) (word next : List ℕ) (rest : List (List ℕ)) → print_option_of word ≡ Some option
     → print_from g (word ∷ next ∷ rest) ≡ option_and_then (λ h. print_goes_on option (print_from h (next ∷ rest)) (print_from h rest)) (print_with option next g)
 option_read g option word next rest e =
     ap (λ z. option_map_or (λ o. option_and_then (λ h. print_goes_on o (print_from h (next ∷ rest)) (print_from h rest)) (print_with o next g)) z (print_named g (word ∷ next ∷ rest))) e
 
--- what was read is given, and the words after it give what all gave
+-- What was read is given, and the words after it give what all gave.
 given_still : {T : Type 0} (before : Option Order) (o : Option PrintGiven) (from : PrintGiven → Option Order) (r : Result T WordsFault) (h : PrintGiven) → before ≡ option_and_then from o → IsRead o r (λ _. h) → StillGives before (from h) r
 given_still before o from (Ok x) h e i = sym (e ∙ ap (option_and_then from) i)
 given_still before o from (Err Usage) h e i = e ∙ ap (option_and_then from) i
@@ -32,7 +32,7 @@ patterns_read o g (Ok x) f i = ap (option_map (λ k. record g { filter = k })) i
 patterns_read o g (Err Usage) f i = ap (option_map (λ k. record g { filter = k })) i
 patterns_read o g (Err Memory) f i = tt
 
--- `--json` is no name
+-- `--json` is no name.
 json_alone : (g : PrintGiven) (word : List ℕ) → print_option_of word ≡ Some Json → print_from g (word ∷ []) ≡ None
 json_alone g word e = grind (arith, common_steps)
 

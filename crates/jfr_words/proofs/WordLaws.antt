@@ -11,7 +11,7 @@ use Rattle.std.proofs.lemmas.Str.{chars-IsAscii, IsUtf8-from_ascii}
 use Rattle.std.proofs.lemmas.Str.Ascii.{IsAscii-cons, IsAscii-nil}
 use Rattle.jfr_base.proofs.TextLaws.{bytes_eq-chars, word_ascii}
 
--- past the end nothing is left
+-- Past the end nothing is left.
 pub none_left : {X : Type 0} (xs : List X) (i : ℕ) → slice_get xs i ≡ None → drop i xs ≡ []
 none_left [] i e = drop_of_length-le [] (omega arith)
 none_left (x ∷ xs) zero e = cc
@@ -21,11 +21,11 @@ pub no_first : {X : Type 0} (xs : List X) → slice_get xs 0 ≡ None → xs ≡
 no_first [] e = refl
 no_first (x ∷ xs) e = cc
 
--- the characters of a text that is a word in ASCII
+-- The characters of a text that is a word in ASCII.
 pub chars_of : (t word : List ℕ) → list_all is_ascii word ≡ true → t ≡ word → chars t ≡ word
 chars_of t word a e = ap chars e ∙ chars-IsAscii word (word_ascii word a)
 
--- another text has other characters
+-- Another text has other characters.
 pub is_other : (t word : List ℕ) → IsUtf8 t → list_all is_ascii word ≡ true → (t ≡ word → ⊥) → bytes_eq (chars t) word ≡ false
 is_other t word u a n = by_test (bytes_eq t word) (bytes_eq-chars t word u (IsUtf8-from_ascii word (word_ascii word a)) ∙ ap (bytes_eq (chars t)) (chars-IsAscii word (word_ascii word a))) (bytes_eq-Decides t word).0
   where

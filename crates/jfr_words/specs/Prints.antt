@@ -26,8 +26,8 @@ print_option_of word =
 abbrev pub no_print_option : PrintGiven
 no_print_option = record { filter = nothing_given; depth = None; json = false }
 
--- An option is given with the next word, unless it was given before or the word is no value of it; `--json` asks nothing
--- of the word.
+-- An option is given with the next word, unless it was given before or the word is no value of it; `--json`
+-- asks nothing of the word.
 abbrev pub print_with : PrintOption → List ℕ → PrintGiven → Option PrintGiven
 print_with (Patterns side) next g = option_map (λ h. record g { filter = h }) (given_with side next g.filter)
 print_with Depth next g = if is_some g.depth then None else option_map (λ d. record g { depth = Some d }) (number_in 0 8 next)
@@ -42,7 +42,8 @@ print_goes_on _ at_next behind_it = behind_it
 abbrev pub print_named : PrintGiven → List (List ℕ) → Option Order
 print_named g words = option_map (λ file. Print g.filter (unwrap_or g.depth 2) g.json file) (only_name words)
 
--- The words after `print`, where this is given so far: the options, whose values are any words, and then the name.
+-- The words after `print`, where this is given so far: the options, whose values are any words, and then
+-- the name.
 abbrev pub print_from : PrintGiven → List (List ℕ) → Option Order
 print_from g (word ∷ next ∷ rest) =
     option_map_or (λ option. option_and_then (λ h. print_goes_on option (print_from h (next ∷ rest)) (print_from h rest)) (print_with option next g))

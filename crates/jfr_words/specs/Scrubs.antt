@@ -25,8 +25,8 @@ side_of word =
 abbrev pub scrub_named : Given → List (List ℕ) → Option Order
 scrub_named g words = option_map (λ names. Scrub g names.0 names.1) (two_names words)
 
--- The words after `scrub`, where this is given so far: an option takes the next word as its list of patterns, whatever
--- word that is; after the options the names are left.
+-- The words after `scrub`, where this is given so far: an option takes the next word as its list of
+-- patterns, whatever word that is; after the options the names are left.
 abbrev pub scrub_from : Given → List (List ℕ) → Option Order
 scrub_from g (word ∷ next ∷ rest) = option_map_or (λ side. option_and_then (λ h. scrub_from h rest) (given_with side next g)) (side_of word) (scrub_named g (word ∷ next ∷ rest))
 scrub_from g words = scrub_named g words

@@ -39,7 +39,8 @@ split_set MaxSize value g = option_map (λ n. record g { max_size = Some n }) (n
 abbrev pub split_with : SplitOption → List ℕ → SplitGiven → Option SplitGiven
 split_with option value g = if is_split_given option g then None else split_set option value g
 
--- A part has at most 5 chunks and at most 2 ^ 40 bytes where nothing else is given, and there are at most 999,999 parts.
+-- A part has at most 5 chunks and at most 2 ^ 40 bytes where nothing else is given, and there are at most
+-- 999,999 parts.
 abbrev pub split_rule : SplitGiven → SplitRule
 split_rule g = record { folder = g.folder; max_chunks = unwrap_or g.max_chunks 5; max_size = unwrap_or g.max_size (2 ^ 40); max_parts = 999999 }
 
@@ -47,8 +48,8 @@ split_rule g = record { folder = g.folder; max_chunks = unwrap_or g.max_chunks 5
 abbrev pub split_named : SplitGiven → List (List ℕ) → Option Order
 split_named g words = option_map (λ file. Disassemble file (split_rule g)) (only_name words)
 
--- The words after `disassemble`, where this is given so far: an option takes the next word as its value, whatever word
--- that is; after the options the name is left.
+-- The words after `disassemble`, where this is given so far: an option takes the next word as its value,
+-- whatever word that is; after the options the name is left.
 abbrev pub split_from : SplitGiven → List (List ℕ) → Option Order
 split_from g (word ∷ next ∷ rest) = option_map_or (λ option. option_and_then (λ h. split_from h rest) (split_with option next g)) (split_option_of word) (split_named g (word ∷ next ∷ rest))
 split_from g words = split_named g words

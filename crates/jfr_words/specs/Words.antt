@@ -1,5 +1,5 @@
--- The order that the words of the command line give. It is a function of them, so every list of words has one answer:
--- an order, or none, and then the words are a usage fault.
+-- The order that the words of the command line give. It is a function of them, so every list of words has
+-- one answer: an order, or none, and then the words are a usage fault.
 use Rattle.std.specs.Prelude.{◌≡◌, ℕ, ◌≤◌, ◌<◌, ◌^◌, List, [], ◌∷◌, Option, None, Some, option_map, option_and_then, Result, Ok, Err, ⊤, if◌then◌else◌, codes, encode_utf8_all}
 use Rattle.std.specs.Str.{bytes_eq}
 use Rattle.jfr_filter.specs.Filters.{nothing_given}
@@ -48,14 +48,15 @@ order_of (command ∷ rest) =
 abbrev pub file_name : List ℕ → List ℕ
 file_name word = encode_utf8_all word
 
--- What was read is this; a usage fault, exactly where there is none; where memory was wanting, nothing is said.
+-- What was read is this; a usage fault, exactly where there is none; where memory was wanting, nothing is
+-- said.
 abbrev pub IsRead : {T V : Type 0} → Option V → Result T WordsFault → (T → V) → Type 0
 IsRead o (Ok x) seen = o ≡ Some (seen x)
 IsRead o (Err Usage) seen = o ≡ None
 IsRead o (Err Memory) seen = ⊤
 
--- What is given and left now gives what all gave before; a usage fault, exactly where that was none; where memory was
--- wanting, nothing is said.
+-- What is given and left now gives what all gave before; a usage fault, exactly where that was none; where
+-- memory was wanting, nothing is said.
 abbrev pub StillGives : {T : Type 0} → Option Order → Option Order → Result T WordsFault → Type 0
 StillGives before now (Ok x) = now ≡ before
 StillGives before now (Err Usage) = before ≡ None

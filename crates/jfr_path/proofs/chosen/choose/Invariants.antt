@@ -3,7 +3,7 @@ use Rattle.std.specs.Prelude.{take}
 use Rattle.jfr_chunk.specs.Chosen.{chosen}
 use Rattle.jfr_path.proofs.chosen.choose.Given as goal
 
--- the events so far have their truth values, and threads are asked for by the filter and the chunk
+-- The events so far have their truth values, and threads are asked for by the filter and the chunk.
 abbrev pub invariant-loop-number : goal.invariant-loop-number
 invariant-loop-number l = record {
   filter : l.threads.filter ≡ l.fn.filter;

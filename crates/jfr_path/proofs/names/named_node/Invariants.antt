@@ -4,7 +4,7 @@ use Rattle.jfr_chunk.specs.Paths.{named_node}
 use Rattle.jfr_value.specs.Nodes.{IsValue, node_of}
 use Rattle.jfr_path.proofs.names.named_node.Given as goal
 
--- the place is where the names so far lead
+-- The place is where the names so far lead.
 abbrev pub invariant-loop-number : goal.invariant-loop-number
 invariant-loop-number l = record {
   value : IsValue l.chunk.classes l.place;

@@ -6,7 +6,7 @@ use Rattle.jfr_report.specs.Reports.{events_bytes, writer_of}
 use Rattle.jfr_report.specs.Gathered.{IsGathered}
 use Rattle.jfr_report.proofs.print.print_events.Given as goal
 
--- the kept events so far are written or gathered
+-- The kept events so far are written or gathered.
 abbrev pub invariant-loop-number : goal.invariant-loop-number
 invariant-loop-number g l = record {
   gathered : IsGathered (events_bytes l.fn.style.json l.fn.style.depth l.fn.chunk (kept_by l.fn.chunk l.fn.kept)) (g.O.Sink.state l.fn.out).written (g.O.Sink.state l.out).written (encode_utf8_all l.page)

@@ -13,25 +13,25 @@ use Rattle.jfr_show.proofs.ClassTallies.{before, before_all, classes_next, class
 use Rattle.jfr_show.proofs.SizeLaws.{below_fits, chosen_within, events_below, occurrences_are, records_within}
 use Rattle.jfr_show.proofs.counting.add_classes.Goals as goal
 
--- the tallies with the classes before a place added are no larger than before and the chunk
+-- The tallies with the classes before a place added are no larger than before and the chunk.
 grown : (p : Parts) (place most : ℕ) (old now : Tallies) → AreParts p → AddsEvents old (before p.classes place p.records) now → AreBelow most old → AreBelow (most + length p.bytes) now
 grown p place most old now a e b =
     events_below old now (before p.classes place p.records) most (length p.bytes) e (chosen_within p.classes (is_before p.classes place) p.records (length p.bytes) (records_within p.bytes p.records a.records)) b
 
--- the tally of a class may be added
+-- The tally of a class may be added.
 fits : (p : Parts) (place : ℕ) (old now : Tallies) (ts : List Tally) (name : List ℕ) (none : Tally) → AreParts p → length p.bytes < 2 ^ 28 → AreBelow (2 ^ 63) old → AddsEvents old (before p.classes place p.records) now → AreClassTallies p.classes p.records ts → place < length p.classes → FitsUnder now name (get_or ts place none)
 fits p place old now ts name none a small b e counted within =
     let t : get_or ts place none ≡ class_tally p.classes p.records place = get_or_from_slice_get ts place (class_tally p.classes p.records place) none (counted.each place within) in
     subst (FitsUnder now name) (sym t) (below_fits now name (class_tally p.classes p.records place) (2 ^ 63 + length p.bytes) (length p.bytes) (grown p place (2 ^ 63) old now a e b)
     (chosen_within p.classes (is_at p.classes place) p.records (length p.bytes) (records_within p.bytes p.records a.records)) (omega arith))
 
--- the next class is added
+-- The next class is added.
 next : (p : Parts) (k : Classes) (place : ℕ) (class : Class) (old now new : Tallies) (ts : List Tally) (name : List ℕ) (none : Tally) → k ≡ p.classes → slice_get k place ≡ Some class → name ≡ encode_utf8_all class.name → AddsEvents old (before p.classes place p.records) now → AreClassTallies p.classes p.records ts → place < length p.classes → AddsTally now name (get_or ts place none) new → AddsEvents old (before p.classes (place + 1) p.records) new
 next p k place class old now new ts name none same there is e counted within t =
     let v : get_or ts place none ≡ class_tally p.classes p.records place = get_or_from_slice_get ts place (class_tally p.classes p.records place) none (counted.each place within) in
     classes_next p.classes place class p.records name old now new (ap (λ z. slice_get z place) (sym same) ∙ there) is e (subst (λ z. AddsTally now name z new) v t)
 
--- all classes are added
+-- All classes are added.
 done : (p : Parts) (place : ℕ) (old now : Tallies) → AreParts p → place ≡ length p.classes → AddsEvents old (before p.classes place p.records) now → AddsEvents old (occurrences p) now
 done p place old now a all e = subst (λ es. AddsEvents old es now) (ap (λ n. before p.classes n p.records) all ∙ (before_all p.classes p.records ∙ sym (occurrences_are p a))) e
 

@@ -8,7 +8,7 @@ use Rattle.jfr_text.specs.Spans.{content_by, content_of, first_integers, answer_
 use Rattle.jfr_text.proofs.ReadSteps.{int_missing, int_there, done_there, made_of_value, made_of_flaw}
 use Rattle.jfr_text.proofs.read.read_kind.Goals as goal
 
--- the answer of what follows the kind byte
+-- The answer of what follows the kind byte.
 abbrev Follows : List ℕ → ℕ → ℕ → Answer Content → ℕ → Type 0
 Follows x end at r kind = r ≡ checked at (kind_fault true kind) (run (after_kind kind) x end (at + 1))
 
@@ -21,7 +21,7 @@ answered v to = Ok (record { value = v; place = to })
 got : (v w : Content) (p q : ℕ) → v ≡ w → p ≡ q → answered v p ≡ answered w q
 got v w p q e f = ap (λ z. answered z p) e ∙ ap (λ z. answered w z) f
 
--- what was read, as what the string holds
+-- What was read, as what the string holds.
 module _ (x : List ℕ) (end at : ℕ) {A : Type 0} (f : Format A) (g : A → Content) where
   holds : (span : StringSpan) (v : A) (to : ℕ) → content_of span ≡ g v → span.end ≡ to → run f x end at ≡ Ok (record { value = v; place = to })
       → answer_of (Ok span) ≡ run (f >>= λ a. Done (g a)) x end at

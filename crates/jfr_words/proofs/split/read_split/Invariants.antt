@@ -2,7 +2,7 @@ use Rattle.std.proofs.Common.{◌≡◌, length}
 use Rattle.jfr_words.specs.Splits.{no_split_option, split_from}
 use Rattle.jfr_words.proofs.split.read_split.Given as goal
 
--- what is left gives what all the words after the command give
+-- What is left gives what all the words after the command give.
 abbrev pub invariant-options : goal.invariant-options
 invariant-options l = split_from l.given l.left ≡ split_from no_split_option l.fn.left
 

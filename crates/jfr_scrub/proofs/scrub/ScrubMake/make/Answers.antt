@@ -9,11 +9,11 @@ use Rattle.jfr_scrub.proofs.scrub.ScrubMake.make.Goals as goal
 pub returns-in_err-chunk-clause-refused : goal.returns-in_err-chunk-clause-refused
 returns-in_err-chunk-clause-refused c = search (rules, refused_by)
 
--- the chunk of which the ranges are
+-- The chunk of which the ranges are.
 of_chunk : (c : goal.After-drop-self-6) → laid_in c.in_ok-laid.laid.laid.chunk c.into_ranges.result ≡ laid_in c.args.chunk.now c.into_ranges.result
 of_chunk c = ap (λ (x : List ℕ). laid_in x c.into_ranges.result) (c.in_ok-laid.ensures.laid.of_chunk ∙ c.in_ok-chunk.ensures.ok)
 
--- what the chunk becomes
+-- What the chunk becomes.
 made : (c : goal.After-drop-self-6) → (refusal_of c.args.chunk.now ≡ None) × (joined (laid_in c.args.chunk.now c.into_ranges.result) ≡ scrubbed c.args.self.now.filter.now c.args.chunk.now)
 made c =
     made_of c.args.self.now.filter.now c.args.chunk.now (joined (laid_in c.args.chunk.now c.into_ranges.result)) c.in_ok-chunk.chunk c.in_ok-chunk.ensures.exact
