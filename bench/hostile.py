@@ -310,6 +310,15 @@ def long_categories(size):
     return chunk(metadata(event_class(annotations=[values])), record(EVENT, b"") * 1000)
 
 
+def long_class_names(size):
+    """2^16 event classes of one name of a megabyte, which is their category too."""
+    def make(of):
+        long = "n" * count(2**20, size)
+        category = element(of, "annotation", [("class", str(CATEGORY)), ("value-0", long)])
+        return [class_(of, long, 100 + n, [category], event=True) for n in range(count(2**16, size))]
+    return chunk(metadata(make))
+
+
 def inline(steps, *last, wide=False):
     """The classes of a chain of so many inline steps, of which the first is of events; the field of the last."""
     def make(of):
@@ -467,8 +476,8 @@ def cut(kind):
 KINDS = {make.__name__: make for make in (
     constants, distinct_constants, events, checkpoints, inert_checkpoints, inert_empty_checkpoints, pools, references,
     array, array_short, strings, elements, attributes, long_key, long_names, classes, same_names, fields, categories,
-    long_categories, inline_32, inline_33, inline_wide, inline_array, ring, string_ring, fan, chain, thread_name,
-    shared_name, shared_text, chunks, delta_self, delta_forward, delta_amid,
+    long_categories, long_class_names, inline_32, inline_33, inline_wide, inline_array, ring, string_ring, fan, chain,
+    thread_name, shared_name, shared_text, chunks, delta_self, delta_forward, delta_amid,
 )}
 for place in ("strings", "string", "attributes", "children", "pools", "entries", "items", "bytes", "units", "characters"):
     KINDS["count_" + place] = lambda size, place=place: counted(place)

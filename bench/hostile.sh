@@ -64,6 +64,7 @@ for kind in "${kinds[@]}"; do
     run 'print --depth 8' print --depth 8 "$file"
     run scrub scrub "$file" "$work/out.jfr"
     run 'scrub, threads' scrub --include-threads '*a*a*a*b,*a*a*a*c' "$file" "$work/out.jfr"
+    run 'scrub, events' scrub --include-events '*a*a*a*b,*a*a*a*c' "$file" "$work/out.jfr"
     run 'scrub, categories' scrub --include-categories '*a*a*a*b,*a*a*a*c' "$file" "$work/out.jfr"
     run disassemble disassemble --output "$work/made" "$file"
     rm -f "$file"

@@ -1,9 +1,11 @@
 // An accepted chunk.
 ghost use Rattle.std.specs.Prelude.{◌≡◌, ◌+◌, ◌<◌, ◌^◌, true, length, filter, replicate, reverse, slice_get, take, option_map, Ok, IfOk, IfErr, IfSome, MatchResult};
+ghost use Rattle.std.specs.List.{AllZip};
 ghost use Rattle.jfr_header.specs.Fronts.{Whole};
 ghost use Rattle.jfr_header.specs.Headers.{header_of};
 ghost use Rattle.jfr_layout.specs.Classes.{Sound};
 ghost use Rattle.jfr_meta.specs.Answers.{IfFlawed};
+ghost use Rattle.jfr_meta.specs.Described.{IsNamedBy};
 ghost use Rattle.jfr_value.specs.Nodes.{IsValue, node_of};
 ghost use Rattle.jfr_pool.specs.Entries.{entry_node};
 ghost use Rattle.jfr_pool.specs.Faults.{TellsFlaw};
@@ -16,11 +18,11 @@ ghost use Rattle.jfr_chunk.specs.Seen.{IsOfChunk, event_at};
 use crate::event_index::EventIndex;
 use crate::read::{header_in, read_events, record_named};
 use crate::{Event, Kept, Room};
-use jfr_base::{Flaw, NoMemory, ReadFault, Reason};
+use jfr_base::{Flaw, NoMemory, ReadFault, Reason, Words};
 use jfr_frame::{Framed, Frames};
 use jfr_header::Header;
 use jfr_layout::{Classes, Shape};
-use jfr_meta::{Metadata, read_metadata};
+use jfr_meta::{ClassNames, Metadata, class_names, read_metadata};
 use jfr_pool::{Chain, Pools};
 use jfr_value::Node;
 use std::alloc::Global;
@@ -167,6 +169,21 @@ impl<'a> Chunk<'a> {
         ensures { result.now ≡ self.now.classes }
     {
         &self.metadata.classes
+    }
+
+    /// The strings of the metadata's table, as texts.
+    pub fn strings(&self) -> &Words
+        ensures { result.now ≡ self.now.body.strings }
+    {
+        &self.metadata.strings
+    }
+
+    /// Which strings of the metadata's table name each class, in the order of the classes.
+    pub fn class_names(&self, alloc: Global) -> Result<Vec<ClassNames>, NoMemory>
+        ensures ok { IfOk result (λ names. AllZip (IsNamedBy self.now.body.strings) self.now.classes names.items) }
+    {
+        let names = class_names(alloc, &self.metadata.strings, &self.metadata.root)?;
+        Ok(names)
     }
 
     /// The chained checkpoints, in the order of the file.

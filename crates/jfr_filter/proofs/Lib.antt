@@ -1,6 +1,7 @@
 pub mod AnyLaws
 pub mod GlobLaws
 pub mod KeepLaws
+pub mod TextsLaws
 pub mod NameLaws
 pub mod Rows
 pub mod SplitLaws

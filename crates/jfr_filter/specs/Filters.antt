@@ -1,5 +1,5 @@
 -- Which events a filter keeps.
-use Rattle.std.specs.Prelude.{ℕ, Bool, true, false, ◌&&◌, ◌||◌, not, List, Option, Some, None}
+use Rattle.std.specs.Prelude.{ℕ, Bool, true, false, ◌&&◌, ◌||◌, not, List, Option, Some, None, is_some}
 use Rattle.std.specs.Option.{option_map_or}
 use Rattle.std.specs.List.{list_any}
 use Rattle.jfr_filter.specs.declared.side.Side.{Side}
@@ -69,3 +69,20 @@ keeps g name categories thread =
     allows (event_matches name) g.include_events g.exclude_events
     && (allows (category_matches categories) g.include_categories g.exclude_categories
     && allows (thread_matches thread) g.include_threads g.exclude_threads)
+
+-- A pattern of an option matches a text: a class name for the options over events, a category or a thread
+-- text for the others.
+abbrev pub side_matches : Side → List ℕ → List ℕ → Bool
+side_matches IncludeEvents name pattern = event_matches name pattern
+side_matches ExcludeEvents name pattern = event_matches name pattern
+side_matches _ text pattern = glob pattern text
+
+-- Some pattern of the option matches the text.
+abbrev pub some_matches : Given → Side → List ℕ → Bool
+some_matches g side text = option_map_or (list_any (side_matches side text)) (given_at side g) false
+
+-- An include and an exclude option allow these texts: the first matches one of them, where it is given, and
+-- the second none.
+abbrev pub allows_texts : Given → Side → Side → List (List ℕ) → Bool
+allows_texts g include exclude texts =
+    (not (is_some (given_at include g)) || list_any (some_matches g include) texts) && not (list_any (some_matches g exclude) texts)

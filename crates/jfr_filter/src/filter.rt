@@ -3,11 +3,11 @@ ghost use Rattle.std.specs.Prelude.{◌≡◌, ◌↔◌, IsTrue, OnOk, OnErr, I
 ghost use Rattle.std.specs.Str.{chars};
 ghost use Rattle.jfr_base.specs.Texts.{text_in};
 ghost use Rattle.jfr_filter.specs.declared.side.FilterFault.TheVariants.{EmptyPattern};
-ghost use Rattle.jfr_filter.specs.Filters.{nothing_given, given_at, with_patterns, event_matches, category_matches, allows, allows_class, allows_thread, keeps};
+ghost use Rattle.jfr_filter.specs.Filters.{nothing_given, given_at, with_patterns, event_matches, category_matches, allows, allows_class, allows_thread, keeps, some_matches};
 ghost use Rattle.jfr_filter.specs.Patterns.{patterns_in, has_empty_part};
 
 use crate::list::{has_empty_part, patterns_of};
-use crate::matching::{any_category, any_event, any_thread};
+use crate::matching::{any_category, any_event, any_text, any_thread};
 use crate::{FilterFault, Side};
 use jfr_base::Words;
 use std::alloc::Global;
@@ -135,6 +135,20 @@ impl Filter {
             return false;
         }
         true
+    }
+
+    /// Whether some pattern of the option matches the text: the name of a class for the options over events,
+    /// a category or a thread text for the others. It takes no memory.
+    pub fn matches(&self, side: Side, text: &str) -> bool
+        ensures { result ≡ some_matches self.now side (chars text.now) }
+    {
+        let Some(patterns) = self.patterns(side) else {
+            return false;
+        };
+        match side {
+            Side::IncludeEvents | Side::ExcludeEvents => any_event(patterns, text),
+            _ => any_text(patterns, text),
+        }
     }
 
     /// Whether the options over events allow the class name.

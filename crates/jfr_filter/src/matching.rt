@@ -42,7 +42,7 @@ pub(crate) fn any_thread(patterns: &Words, thread: Option<&str>) -> bool
 }
 
 /// Whether some pattern matches the text.
-fn any_text(patterns: &Words, text: &str) -> bool
+pub(crate) fn any_text(patterns: &Words, text: &str) -> bool
     ensures { result ≡ list_any (λ pattern. glob pattern (chars text.now)) patterns.now }
 {
     for at in 0..patterns.len() {

@@ -1,4 +1,4 @@
-mod Lists
+pub mod Lists
 mod Places
 mod Stages
 mod NamesSeen

@@ -6,6 +6,7 @@ pub mod ElementsStand
 pub mod FirstValues
 pub mod Ids
 pub mod Judging
+pub mod NamedLaws
 pub mod OneDescription
 pub mod Parts
 pub mod Runs

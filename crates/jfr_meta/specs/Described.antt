@@ -13,6 +13,7 @@ use Rattle.jfr_frame.specs.declared.framed.Framed.{Framed}
 use Rattle.jfr_frame.specs.Records.{record_end}
 use Rattle.jfr_layout.specs.declared.shape.Shape.{Shape}
 use Rattle.jfr_layout.specs.Classes.{Class, Classes, Field, ClassFlaw, class_faults}
+use Rattle.jfr_meta.specs.declared.named.ClassNames.{ClassNames}
 use Rattle.jfr_meta.specs.Trees.{Tree, place_of, name_of, pairs_of, children_of}
 use Rattle.jfr_meta.specs.Body.{Body, meta_format}
 use Rattle.jfr_meta.specs.Attributes.{text_at, first_value, attribute, named, id_of, flag_of, values_of}
@@ -90,19 +91,28 @@ category_annotation texts hs t = find (is_category texts hs) (annotations_of tex
 abbrev pub categories_of : List (List ℕ) → List (ℕ × List ℕ) → Tree → List (List ℕ)
 categories_of texts hs t = option_map_or (values_of texts) (category_annotation texts hs t) []
 
--- The class of a class element that has an id and a name.
-unfoldable pub class_of : List (List ℕ) → List (ℕ × List ℕ) → Tree → Option Class
-class_of texts hs t = option_map (λ h. record {
+-- The class of a class element with this id and this name.
+abbrev pub class_with : List (List ℕ) → List (ℕ × List ℕ) → Tree → ℕ × List ℕ → Class
+class_with texts hs t h = record {
   id = h.0;
   name = h.1;
   super_name = attribute texts t (codes "superType");
   fields = filter_map (field_of texts) (field_elements texts t);
   categories = categories_of texts hs t;
-}) (class_head texts t)
+}
+
+-- The class of a class element that has an id and a name.
+unfoldable pub class_of : List (List ℕ) → List (ℕ × List ℕ) → Tree → Option Class
+class_of texts hs t = option_map (class_with texts hs t) (class_head texts t)
 
 -- The classes of the class elements, in order.
 unfoldable pub classes_of : List (List ℕ) → List Tree → Classes
 classes_of texts ts = filter_map (class_of texts (heads texts ts)) ts
+
+-- These strings of the table name the class: its name, and its categories in order.
+pub record IsNamedBy (texts : List (List ℕ)) (class : Class) (names : ClassNames) : Type 0 where
+  pub name : text_at texts names.name ≡ class.name
+  pub categories : map (text_at texts) names.categories.items ≡ class.categories
 
 -- Where a flaw of the list of classes lies: at the class element, or at its field element.
 abbrev pub element_place : List (List ℕ) → Tree → Option ℕ → ℕ

@@ -39,6 +39,17 @@ pub(crate) fn full_text(strings: &Words, index: u64) -> Option<&Text>
     }
 }
 
+/// The index, where its text isn't empty.
+pub(crate) fn full_index(strings: &Words, index: u64) -> Option<u64>
+    ensures { option_map (text_at strings.now) result ≡ not_empty (text_at strings.now index) }
+{
+    if text_at(strings, index).is_empty() {
+        None
+    } else {
+        Some(index)
+    }
+}
+
 /// The index of the value of the element's first attribute with this key.
 fn first_index(strings: &Words, element: &Element, key: &str) -> Option<u64>
     requires { IsWord key.now }
@@ -66,6 +77,14 @@ pub(crate) fn attribute<'a>(strings: &'a Words, element: &Element, key: &str) ->
     ensures { option_copied result ≡ attribute strings.now element.now key.now }
 {
     full_text(strings, first_index(strings, element, key)?)
+}
+
+/// The index of the value of the element's attribute with this key; an empty value counts as absent.
+pub(crate) fn attribute_index(strings: &Words, element: &Element, key: &str) -> Option<u64>
+    requires { IsWord key.now }
+    ensures { option_map (text_at strings.now) result ≡ attribute strings.now element.now key.now }
+{
+    full_index(strings, first_index(strings, element, key)?)
 }
 
 /// How many digits an id has at most.

@@ -6,14 +6,14 @@ ghost use Rattle.std.specs.Option.{option_copied, option_to_list};
 ghost use Rattle.std.specs.Ordering.{nat_cmp};
 ghost use Rattle.jfr_base.specs.declared.flaw.ReadFault.TheVariants.{Flawed};
 ghost use Rattle.jfr_meta.specs.Answers.{Judges};
-ghost use Rattle.jfr_meta.specs.Attributes.{values_of};
+ghost use Rattle.jfr_meta.specs.Attributes.{text_at};
 ghost use Rattle.jfr_meta.specs.Described.{AreCategoryIds, heads, is_category, is_category_id, category_annotation, categories_of, class_head, class_of, classes_of, class_flaws, field_of, field_elements, field_flaws};
 ghost use Rattle.jfr_meta.specs.Trees.{place_of};
 
 use crate::Element;
 use crate::attributes::{attribute, is_word};
 use crate::field::{id_attribute, named, shape_of};
-use crate::values::values_of;
+use crate::values::{texts_at, value_indices};
 use jfr_base::{Flaw, NoMemory, ReadFault, Reason, Text, Words};
 use jfr_layout::{ClassInfo, ClassList, FieldInfo, Fields};
 use std::alloc::{AllocError, Global};
@@ -33,7 +33,7 @@ pub(crate) fn refused(element: &Element, reason: Reason) -> ReadFault
 }
 
 /// The id and the name of a class element, where it has both.
-fn class_head<'a>(strings: &'a Words, element: &Element) -> Option<(u64, &'a Text)>
+pub(crate) fn class_head<'a>(strings: &'a Words, element: &Element) -> Option<(u64, &'a Text)>
     ensures { option_map (λ h. (h.0, h.1.now)) result ≡ class_head strings.now element.now }
 {
     let name = attribute(strings, element, "name")?;
@@ -101,7 +101,7 @@ fn add_category(
 }
 
 /// The ids of the class elements whose name is `CATEGORY`.
-fn category_ids(
+pub(crate) fn category_ids(
     alloc: Global,
     strings: &Words,
     elements: &[&Element],
@@ -172,6 +172,21 @@ fn category_annotation<'a>(
     Ok(None)
 }
 
+/// The indices of the categories of a class element in the table of strings.
+pub(crate) fn category_indices(
+    alloc: Global,
+    strings: &Words,
+    ids: &BTreeSet<u64>,
+    element: &Element,
+) -> Result<Vec<u64>, NoMemory>
+    ensures ok { IfOk result (λ indices. (hs : List (ℕ × List ℕ)) → AreCategoryIds hs ids.now → map (text_at strings.now) indices.items ≡ categories_of strings.now hs element.now) }
+{
+    match category_annotation(alloc, strings, ids, element)? {
+        Some(annotation) => value_indices(alloc, strings, annotation),
+        None => Ok(Vec::new(alloc)),
+    }
+}
+
 /// The categories of a class element.
 fn categories_of(
     alloc: Global,
@@ -181,10 +196,8 @@ fn categories_of(
 ) -> Result<Words, NoMemory>
     ensures ok { IfOk result (λ words. (hs : List (ℕ × List ℕ)) → AreCategoryIds hs ids.now → words ≡ categories_of strings.now hs element.now) }
 {
-    match category_annotation(alloc, strings, ids, element)? {
-        Some(annotation) => values_of(alloc, strings, annotation),
-        None => Ok(Words::new(alloc)),
-    }
+    let indices = category_indices(alloc, strings, ids, element)?;
+    texts_at(alloc, strings, &indices)
 }
 
 /// The classes of the class elements, in order.

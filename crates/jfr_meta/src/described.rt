@@ -101,7 +101,7 @@ fn sound_classes(
 }
 
 /// The class elements, where the root has a child for them.
-fn class_elements<'a>(
+pub(crate) fn class_elements<'a>(
     alloc: Global,
     strings: &Words,
     root: &'a Element,

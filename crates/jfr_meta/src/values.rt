@@ -1,12 +1,12 @@
 // The values of annotations.
-ghost use Rattle.std.specs.Prelude.{◌≡◌, ℕ, List, length, option_and_then, IfOk};
-ghost use Rattle.std.specs.Option.{option_copied, option_to_list};
-ghost use Rattle.jfr_meta.specs.Attributes.{attribute, first_value, not_empty, value_key, values_from, values_of};
+ghost use Rattle.std.specs.Prelude.{◌≡◌, ℕ, List, length, map, option_and_then, option_map, IfOk};
+ghost use Rattle.std.specs.Option.{option_to_list};
+ghost use Rattle.jfr_meta.specs.Attributes.{attribute, first_value, not_empty, text_at, value_key, values_from, values_of};
 ghost use Rattle.jfr_meta.specs.Trees.{pairs_of};
 ghost use Rattle.jfr_meta.specs.Values.{HasFirst};
 
 use crate::Element;
-use crate::attributes::{attribute, full_text, text_at};
+use crate::attributes::{attribute_index, full_index, text_at};
 use jfr_base::{NoMemory, Text, Words};
 use std::alloc::Global;
 use std::collections::BTreeMap;
@@ -35,61 +35,91 @@ fn first_values<'a>(
     Ok(values)
 }
 
-/// The value with a number, where there is one that isn't empty.
-fn value_at<'a>(
+/// The index of the value with a number, where there is one that isn't empty.
+fn value_at(
     alloc: Global,
-    strings: &'a Words,
+    strings: &Words,
     values: &BTreeMap<&str, u64>,
     number: usize,
-) -> Result<Option<&'a Text>, NoMemory>
-    ensures ok { IfOk result (λ found. (ps : List (ℕ × ℕ)) → HasFirst strings.now ps values.now → option_copied found ≡ option_and_then not_empty (first_value strings.now (value_key number) ps)) }
+) -> Result<Option<u64>, NoMemory>
+    ensures ok { IfOk result (λ found. (ps : List (ℕ × ℕ)) → HasFirst strings.now ps values.now → option_map (text_at strings.now) found ≡ option_and_then not_empty (first_value strings.now (value_key number) ps)) }
 {
     let key = format!(in alloc; "value-{number}")?;
     match values.get(key.as_str()) {
-        Some(value) => Ok(full_text(strings, *value)),
+        Some(value) => Ok(full_index(strings, *value)),
         None => Ok(None),
     }
 }
 
-/// The values with numbers from 0 on, up to the first absent one.
-fn numbered(alloc: Global, strings: &Words, annotation: &Element) -> Result<Words, NoMemory>
-    ensures ok { IfOk result (λ words. words ≡ values_from (λ i. attribute strings.now annotation.now (value_key i)) 0 (length (pairs_of annotation.now))) }
-{
-    let pairs = annotation.attributes().as_slice();
-    let values = first_values(alloc, strings, pairs)?;
-    let mut words = Words::new(alloc);
-    for number in 0..pairs.len() {
-        match value_at(alloc, strings, &values, number)? {
-            Some(text) => words.push_text(text.share()?)?,
-            None => return Ok(words),
-        }
-    }
-    Ok(words)
-}
-
-/// The list of the text alone, where there is one; else the empty list.
-fn single(alloc: Global, text: Option<&Text>) -> Result<Words, NoMemory>
-    ensures ok { IfOk result (λ words. words ≡ option_to_list (option_copied text.entry)) }
-{
-    let mut words = Words::new(alloc);
-    if let Some(text) = text {
-        words.push_text(text.share()?)?;
-    }
-    Ok(words)
-}
-
-/// The values of an annotation, in order: those of `value-0`, `value-1` and so on up to the first absent
-/// one, or else that of `value` alone.
-pub(crate) fn values_of(
+/// The indices of the values with numbers from 0 on, up to the first absent one.
+fn numbered(
     alloc: Global,
     strings: &Words,
     annotation: &Element,
-) -> Result<Words, NoMemory>
-    ensures ok { IfOk result (λ words. words ≡ values_of strings.now annotation.now) }
+) -> Result<Vec<u64>, NoMemory>
+    ensures ok { IfOk result (λ indices. map (text_at strings.now) indices.items ≡ values_from (λ i. attribute strings.now annotation.now (value_key i)) 0 (length (pairs_of annotation.now))) }
 {
-    let words = numbered(alloc, strings, annotation)?;
-    if words.len() > 0 {
-        return Ok(words);
+    let pairs = annotation.attributes().as_slice();
+    let values = first_values(alloc, strings, pairs)?;
+    let mut indices = Vec::new(alloc);
+    for number in 0..pairs.len() {
+        match value_at(alloc, strings, &values, number)? {
+            Some(index) => indices.push(index)?,
+            None => return Ok(indices),
+        }
     }
-    single(alloc, attribute(strings, annotation, "value"))
+    Ok(indices)
+}
+
+/// The list of the index alone, where there is one; else the empty list.
+fn single(alloc: Global, index: Option<u64>) -> Result<Vec<u64>, NoMemory>
+    ensures ok { IfOk result (λ indices. indices.items ≡ option_to_list index) }
+{
+    let mut indices = Vec::new(alloc);
+    if let Some(index) = index {
+        indices.push(index)?;
+    }
+    Ok(indices)
+}
+
+/// The indices of the values of an annotation, in order: those of `value-0`, `value-1` and so on up to the
+/// first absent one, or else that of `value` alone.
+pub(crate) fn value_indices(
+    alloc: Global,
+    strings: &Words,
+    annotation: &Element,
+) -> Result<Vec<u64>, NoMemory>
+    ensures ok { IfOk result (λ indices. map (text_at strings.now) indices.items ≡ values_of strings.now annotation.now) }
+{
+    let indices = numbered(alloc, strings, annotation)?;
+    if indices.len() > 0 {
+        return Ok(indices);
+    }
+    single(alloc, attribute_index(strings, annotation, "value"))
+}
+
+/// The text of an index into the table, shared; the empty one where the table has no such string.
+fn shared_text(alloc: Global, strings: &Words, index: u64) -> Result<Text, NoMemory>
+    ensures ok { IfOk result (λ text. text ≡ text_at strings.now index) }
+{
+    match strings.text(index as usize) {
+        Some(text) => text.share(),
+        None => Text::make(alloc, ""),
+    }
+}
+
+/// The texts of these indices into the table, in order. They are shared, and not copied.
+pub(crate) fn texts_at(
+    alloc: Global,
+    strings: &Words,
+    indices: &[u64],
+) -> Result<Words, NoMemory>
+    ensures ok { IfOk result (λ words. words ≡ map (text_at strings.now) indices.now) }
+{
+    let mut words = Words::with_room(alloc, indices.len())?;
+    for index in indices {
+        let text = shared_text(alloc, strings, *index)?;
+        words.push_text(text)?;
+    }
+    Ok(words)
 }

@@ -4,6 +4,7 @@ pub mod FollowLaws
 pub mod ListLaws
 pub mod NameLaws
 pub mod StepLaws
+pub mod StringLaws
 pub mod TargetBytes
 pub mod TextLaws
 pub mod TextVerdictLaws

@@ -16,13 +16,13 @@ use jfr_filter::Filter;
 use jfr_value::{Step, child};
 use std::alloc::Global;
 
-/// Which events of the chunk the filter keeps. It is asked once about each class. Where an option on
-/// threads is given, the thread is looked up once for each class and key by which events refer to it, and
-/// the filter is asked once about each text.
+/// Which events of the chunk the filter keeps. It is asked once about each string that names a class. Where
+/// an option on threads is given, the thread is looked up once for each class and key by which events refer
+/// to it, and the filter is asked once about each text.
 pub fn choose(alloc: Global, chunk: &Chunk<'_>, filter: &Filter) -> Result<Kept, NoMemory>
     ensures ok { IfOk result (λ kept. kept ≡ chosen filter.now chunk.now) }
 {
-    let verdicts = verdicts_on(alloc, chunk.classes(), filter)?;
+    let verdicts = verdicts_on(alloc, chunk, filter)?;
     if are_all_kept(&verdicts) {
         return chunk.keep_all(alloc);
     }

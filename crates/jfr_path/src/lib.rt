@@ -2,14 +2,16 @@
 //! lead to, and the events that a filter keeps.
 //!
 //! `leads` takes the steps of a `Path`, and `named` the fields of some names; `choose` asks a filter about
-//! each class of a chunk, and about the texts of its threads. What they mean is in `specs/Paths.antt` and
+//! each string that names a class of a chunk, and about the texts of its threads. What they mean is in `specs/Paths.antt` and
 //! `specs/Chosen.antt` of `jfr_chunk`.
 #![tactic(auto)]
 
+mod allowed;
 mod chosen;
 mod names;
 mod path;
 mod steps;
+mod strings;
 mod texts;
 mod threads;
 mod verdict;

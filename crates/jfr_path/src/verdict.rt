@@ -2,11 +2,14 @@
 ghost use Rattle.std.specs.Prelude.{◌≡◌, ◌||◌, IfOk, codes, is_some};
 ghost use Rattle.std.specs.List.{AllZip, list_all};
 ghost use Rattle.jfr_layout.specs.Classes.{field_number};
+ghost use Rattle.jfr_path.specs.Strings.{is_allowed};
 ghost use Rattle.jfr_path.specs.Verdicts.{IsVerdict, is_kept};
 
+use crate::allowed::allowed_classes;
 use jfr_base::NoMemory;
+use jfr_chunk::Chunk;
 use jfr_filter::{Filter, Side};
-use jfr_layout::{ClassInfo, Classes};
+use jfr_layout::ClassInfo;
 use std::alloc::Global;
 
 /// What a filter says of the events of a class.
@@ -23,14 +26,16 @@ pub(crate) enum ClassVerdict {
 /// The verdict on each class, in their order.
 pub(crate) fn verdicts_on(
     alloc: Global,
-    classes: &Classes,
+    chunk: &Chunk<'_>,
     filter: &Filter,
 ) -> Result<Vec<ClassVerdict>, NoMemory>
-    ensures ok { IfOk result (λ verdicts. AllZip (IsVerdict filter.now) classes.now verdicts.items) }
+    ensures ok { IfOk result (λ verdicts. AllZip (IsVerdict filter.now) chunk.now.classes verdicts.items) }
 {
+    let allowed = allowed_classes(alloc, chunk, filter)?;
+    let classes = chunk.classes();
     let mut verdicts = Vec::new(alloc);
-    for place in 0..classes.len() {
-        verdicts.push(verdict_on(classes.class_at(place), filter))?;
+    for index in 0..allowed.len() {
+        verdicts.push(verdict_on(classes.class_at(index), allowed[index], filter))?;
     }
     Ok(verdicts)
 }
@@ -44,12 +49,13 @@ pub(crate) fn are_all_kept(verdicts: &[ClassVerdict]) -> bool
         .all(|verdict| matches!(verdict, ClassVerdict::Kept))
 }
 
-/// The verdict on a class.
+/// The verdict on a class, which the options over events and over categories allow or not.
 #[tactic(auto, using(crate::proofs::VerdictLaws::dropped, crate::proofs::VerdictLaws::unasked_kept, crate::proofs::VerdictLaws::threadless_kept, crate::proofs::VerdictLaws::threadless_dropped, crate::proofs::VerdictLaws::asked_by_thread))]
-fn verdict_on(class: &ClassInfo, filter: &Filter) -> ClassVerdict
+fn verdict_on(class: &ClassInfo, allowed: bool, filter: &Filter) -> ClassVerdict
+    requires { allowed ≡ is_allowed filter.now class.now }
     ensures { IsVerdict filter.now class.now result }
 {
-    if !filter.allows_class(class.name.as_str(), &class.categories) {
+    if !allowed {
         return ClassVerdict::Dropped;
     }
     if !asks_for_threads(filter) {
