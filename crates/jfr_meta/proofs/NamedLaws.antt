@@ -1,5 +1,5 @@
 -- The strings that name the class of a class element.
-use Rattle.std.specs.Prelude.{◌≡◌, ◌<◌, ◌+◌, ℕ, Bool, true, false, List, [], ◌∷◌, ◌++◌, length, map, take, Option, Some, None, is_some, option_map, option_and_then, codes}
+use Rattle.std.specs.Prelude.{◌≡◌, ◌<◌, ◌+◌, ℕ, true, false, List, [], ◌∷◌, ◌++◌, length, map, take, Option, Some, None, is_some, option_map, option_and_then, codes}
 use Rattle.std.specs.Borrow.{Bor}
 use Rattle.std.specs.List.{AllZip, cons_option, filter_map}
 use Rattle.std.specs.Option.{option_to_list}

@@ -1,14 +1,12 @@
 -- Texts as lists of characters.
 use Rattle.std.proofs.Common.{◌≡◌, ℕ, List, [], ◌∙◌, ap, arith, refl, sym, eqb-true, get_or}
-use Rattle.std.specs.Prelude.{Option, Some, None, unwrap_or, slice_get, suc, Bool, true, false, ◌&&◌, ◌==◌, ◌∷◌, length}
+use Rattle.std.specs.Prelude.{Option, Some, None, unwrap_or, slice_get, suc, true, false, ◌==◌, ◌∷◌, length}
 use Rattle.jfr_meta.specs.Attributes.{not_empty}
 use Rattle.std.specs.Borrow.{Bor}
 use Rattle.jfr_base.specs.Texts.{text_in}
 use Rattle.jfr_base.proofs.TextLaws.{bytes_eq-chars, word_ascii}
-use Rattle.std.specs.Str.{chars, bytes_eq, IsUtf8, IsAscii, encode_utf8_all}
+use Rattle.std.specs.Str.{chars, bytes_eq, IsUtf8, encode_utf8_all}
 use Rattle.std.proofs.lemmas.Str.{encodes-chars, chars-nil, chars-IsAscii}
-use Rattle.std.proofs.lemmas.Str.Ascii.{IsAscii-cons, IsAscii-nil}
-use Rattle.std.proofs.lemmas.Bool.Decides.{nat_tests}
 use Rattle.std.proofs.lemmas.Option.{unwrap_or-slice_get}
 use Rattle.std.specs.Char.{is_ascii}
 use Rattle.std.specs.List.{list_all}

@@ -52,11 +52,7 @@ fn value_at(
 }
 
 /// The indices of the values with numbers from 0 on, up to the first absent one.
-fn numbered(
-    alloc: Global,
-    strings: &Words,
-    annotation: &Element,
-) -> Result<Vec<u64>, NoMemory>
+fn numbered(alloc: Global, strings: &Words, annotation: &Element) -> Result<Vec<u64>, NoMemory>
     ensures ok { IfOk result (λ indices. map (text_at strings.now) indices.items ≡ values_from (λ i. attribute strings.now annotation.now (value_key i)) 0 (length (pairs_of annotation.now))) }
 {
     let pairs = annotation.attributes().as_slice();
@@ -109,11 +105,7 @@ fn shared_text(alloc: Global, strings: &Words, index: u64) -> Result<Text, NoMem
 }
 
 /// The texts of these indices into the table, in order. They are shared, and not copied.
-pub(crate) fn texts_at(
-    alloc: Global,
-    strings: &Words,
-    indices: &[u64],
-) -> Result<Words, NoMemory>
+pub(crate) fn texts_at(alloc: Global, strings: &Words, indices: &[u64]) -> Result<Words, NoMemory>
     ensures ok { IfOk result (λ words. words ≡ map (text_at strings.now) indices.now) }
 {
     let mut words = Words::with_room(alloc, indices.len())?;

@@ -5,7 +5,6 @@ pub mod ListLaws
 pub mod NameLaws
 pub mod StepLaws
 pub mod StringLaws
-pub mod TargetBytes
 pub mod TextLaws
 pub mod TextVerdictLaws
 pub mod ThreadLaws

@@ -1,12 +1,16 @@
 -- What options say of strings is kept by index, and says which classes a filter allows.
-use Rattle.std.specs.Prelude.{◌≡◌, ℕ, ◌+◌, ◌≤◌, Bool, true, false, ◌&&◌, ◌||◌, not, List, [], ◌∷◌, length, drop, map, slice_get, Some, IfSome, cond, is_some}
+use Rattle.std.specs.Prelude.{◌≡◌, ℕ, ◌+◌, ◌≤◌, Bool, true, false, ◌&&◌, ◌||◌, not, List, [], ◌∷◌, length, drop, map, slice_get, Option, Some, IfSome, unwrap_or, cond, is_some}
 use Rattle.std.specs.List.{AllZip, list_any}
+use Rattle.std.specs.Borrow.{Bor}
+use Rattle.std.specs.Str.{chars}
 use Rattle.std.specs.BTreeMap as tree
 use Rattle.std.specs.BTreeMap.{BTreeMap, is_at}
 use Rattle.std.specs.Cmp.{Equal-is}
 use Rattle.std.specs.Ordering.{nat_cmp}
 use Rattle.std.proofs.Common.{ap, refl, sym, ◌∙◌, subst}
 use Rattle.std.proofs.lemmas.Map.Lookups.{exact_unsigned}
+use Rattle.std.proofs.lemmas.Option.{unwrap_or-slice_get}
+use Rattle.jfr_base.specs.Texts.{text_in}
 use Rattle.jfr_filter.specs.declared.side.Side.TheVariants.{IncludeEvents, ExcludeEvents, IncludeCategories, ExcludeCategories}
 use Rattle.jfr_filter.specs.Filters.{Given, allows_class, allows_texts, given_at, some_matches}
 use Rattle.jfr_filter.proofs.AnyLaws.{any_end, any_found, any_next, drop_at_get}
@@ -15,12 +19,22 @@ use Rattle.jfr_layout.specs.Classes.{Classes}
 use Rattle.jfr_meta.specs.declared.named.ClassNames.{ClassNames}
 use Rattle.jfr_meta.specs.Attributes.{text_at}
 use Rattle.jfr_meta.specs.Described.{IsNamedBy}
+use Rattle.jfr_meta.proofs.Texts.{text_or}
 use Rattle.jfr_path.specs.Strings.{AreMatches, Options, is_allowed, is_named_allowed, matches_of}
+
+-- The text of an index, as the code reads it.
+pub text_of_index : (texts : List (List ℕ)) (i : ℕ) (o : Option (Bor (List ℕ))) (d : Bor (List ℕ)) → text_in o ≡ slice_get texts i → chars d.now ≡ [] → chars (unwrap_or o d).now ≡ text_at texts i
+text_of_index texts i o d e n = text_or o d n ∙ (ap (λ z. unwrap_or z []) e ∙ unwrap_or-slice_get texts i [])
 
 module _ (o : Options) where
   -- What was kept.
   pub match_kept : (matches : BTreeMap ℕ (Bool × Bool)) (i : ℕ) (found : Bool × Bool) → AreMatches o matches → Some found ≡ tree.get nat_cmp matches i → found ≡ matches_of o i
   match_kept matches i found a e = subst (λ z. IfSome z (λ found. found ≡ matches_of o i)) (sym e) (a i)
+
+  -- What is found of both options.
+  pub of_both : (i : ℕ) (text : List ℕ) (first second : Bool) → text ≡ text_at o.strings i → first ≡ some_matches o.filter o.include text → second ≡ some_matches o.filter o.exclude text → (first, second) ≡ matches_of o i
+  of_both i text first second e f g =
+      ap (λ b. (b, second)) (f ∙ ap (some_matches o.filter o.include) e) ∙ ap (λ b. (some_matches o.filter o.include (text_at o.strings i), b)) (g ∙ ap (some_matches o.filter o.exclude) e)
 
   -- What is kept more.
   pub matches_next : (old new : BTreeMap ℕ (Bool × Bool)) (i : ℕ) (found : Bool × Bool) → AreMatches o old → found ≡ matches_of o i → tree.Updates nat_cmp old new i (Some found) → AreMatches o new
@@ -51,8 +65,8 @@ module _ (o : Options) where
       ∙ ap (λ b. (not (is_some (given_at o.include o.filter)) || list_any is_included indices) && not b) (any_map (some_matches o.filter o.exclude) (text_at o.strings) indices)
 
   -- The indices so far: whether one is included, and none is excluded.
-  pub record IsAsked (indices : List ℕ) (i : ℕ) (included : Bool) : Type 0 where
-    pub included : (included || list_any is_included (drop i indices)) ≡ (not (is_some (given_at o.include o.filter)) || list_any is_included indices)
+  pub record IsAsked (indices : List ℕ) (i : ℕ) (so_far : Bool) : Type 0 where
+    pub included : (so_far || list_any is_included (drop i indices)) ≡ (not (is_some (given_at o.include o.filter)) || list_any is_included indices)
     pub excluded : list_any is_excluded (drop i indices) ≡ list_any is_excluded indices
 
   or_assoc : (a b c : Bool) → ((a || b) || c) ≡ (a || (b || c))

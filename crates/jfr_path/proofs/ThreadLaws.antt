@@ -1,5 +1,5 @@
 -- The text behind a reference depends on its class and its key alone, and so does what a filter says of it.
-use Rattle.std.specs.Prelude.{◌≡◌, ℕ, Bool, true, false, List, [], ◌∷◌, Option, Some, None, IfSome, cond, codes, option_map, option_and_then}
+use Rattle.std.specs.Prelude.{◌≡◌, ℕ, Bool, true, false, List, [], ◌∷◌, Option, Some, None, IfSome, cond, codes, option_map, option_and_then, if◌then◌else◌}
 use Rattle.std.specs.BTreeMap as tree
 use Rattle.std.specs.BTreeMap.{BTreeMap, is_at}
 use Rattle.std.specs.Cmp.{Equal-is}
@@ -15,11 +15,18 @@ use Rattle.jfr_value.proofs.ChildLaws.{no_field_of_constant}
 use Rattle.jfr_pool.specs.Entries.{in_force, entry_node}
 use Rattle.jfr_chunk.specs.Parts.{Parts, AreParts}
 use Rattle.jfr_chunk.specs.Paths.{follow, follow_while, is_reference, named_field, named_text}
-use Rattle.jfr_path.specs.Threads.{Asked, AreVerdicts, IsReferenceTo, allows_behind, pair_cmp}
+use Rattle.jfr_path.specs.Threads.{AreVerdicts, IsReferenceTo, allows_behind, pair_cmp}
 use Rattle.jfr_path.proofs.FollowLaws.{followed, ends}
 use Rattle.jfr_path.proofs.NameLaws.{named_next}
 use Rattle.jfr_path.proofs.StepLaws.{sound, value_place}
-use Rattle.jfr_path.proofs.TargetBytes.{marks_of_reference}
+
+-- The marks of a reference.
+marks_of_reference : (n : NodeAt) → is_reference n ≡ true → (n.shape.array ≡ false) × (n.shape.constant ≡ true)
+marks_of_reference n e = by_marks n.shape.array n.shape.constant e
+  where
+    by_marks : (a c : Bool) → (if a then false else c) ≡ true → (a ≡ false) × (c ≡ true)
+    by_marks true c e = cc
+    by_marks false c e = (refl, e)
 
 module _ (p : Parts) (parts : AreParts p) (t : ℕ × ℕ) where
   -- A reference has no field.
@@ -52,11 +59,10 @@ module _ (p : Parts) (parts : AreParts p) (t : ℕ × ℕ) where
     same_allowed : (g : Given) → allows_behind g p n ≡ allows_behind g p m
     same_allowed g = ap (allows_thread g) (same_text (codes "javaName") [])
 
--- A reference that the code hands around.
-pub reference_to : (a : Asked) (p : Parts) (n : Node) (key : ℕ) (reference : Bool) → p ≡ a.chunk → IsValue a.chunk.classes n → n.bytes.now ≡ a.chunk.bytes → reference ≡ is_reference (node_of n) → reference ≡ true → target p.classes p.bytes (node_of n) ≡ Some (n.shape.class, key) → IsReferenceTo p (n.shape.class, key) (node_of n)
-reference_to a p n key reference q v b e t h =
-    let w = value_place p n (b ∙ ap (λ (z : Parts). z.bytes) (sym q)) (subst (λ (z : Parts). IsValue z.classes n) (sym q) v) in
-    record { value = w.0; node = w.1; reference = sym e ∙ t; target = h }
+-- What a reference that the code hands around refers to.
+pub referred_to : (p : Parts) (n : Node) (o : Option (ℕ × ℕ)) → IsValue p.classes n → n.bytes.now ≡ p.bytes → is_reference (node_of n) ≡ true → o ≡ target p.classes p.bytes (node_of n) → IfSome o (λ t. IsReferenceTo p t (node_of n))
+referred_to p n None v b r e = tt
+referred_to p n (Some t) v b r e = let w = value_place p n b v in record { value = w.0; node = w.1; reference = r; target = sym e }
 
 -- A verdict that was kept.
 pub verdict_kept : (g : Given) (p : Parts) (verdicts : BTreeMap (ℕ × ℕ) Bool) (t : ℕ × ℕ) (n : NodeAt) (allowed : Bool) → AreVerdicts g p verdicts → IsReferenceTo p t n → Some allowed ≡ tree.get pair_cmp verdicts t → allowed ≡ allows_behind g p n

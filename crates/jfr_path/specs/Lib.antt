@@ -1,2 +1,3 @@
+pub mod Strings
 pub mod Threads
 pub mod Verdicts

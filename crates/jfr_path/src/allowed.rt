@@ -61,10 +61,20 @@ fn allowed_by_strings(
 {
     let classes = chunk.class_names(alloc)?;
     let strings = chunk.strings();
-    let mut names =
-        StringVerdicts::new(alloc, filter, Side::IncludeEvents, Side::ExcludeEvents, strings);
-    let mut categories =
-        StringVerdicts::new(alloc, filter, Side::IncludeCategories, Side::ExcludeCategories, strings);
+    let mut names = StringVerdicts::new(
+        alloc,
+        filter,
+        Side::IncludeEvents,
+        Side::ExcludeEvents,
+        strings,
+    );
+    let mut categories = StringVerdicts::new(
+        alloc,
+        filter,
+        Side::IncludeCategories,
+        Side::ExcludeCategories,
+        strings,
+    );
     let mut allowed = Vec::new(alloc);
     for class in &classes {
         let allow = is_allowed(&mut names, &mut categories, class)?;
@@ -86,5 +96,6 @@ fn is_allowed(
     if !names.allow(&[class.name])? {
         return Ok(false);
     }
-    categories.allow(&class.categories)
+    let allowed = categories.allow(&class.categories)?;
+    Ok(allowed)
 }

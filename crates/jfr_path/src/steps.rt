@@ -1,13 +1,12 @@
 // Steps from value to value.
-ghost use Rattle.std.specs.Prelude.{◌≡◌, Some, IfSome, IsTrue, option_map, slice_get};
+ghost use Rattle.std.specs.Prelude.{◌≡◌, Some, IfSome, option_map, slice_get};
 ghost use Rattle.jfr_chunk.specs.Parts.{AreParts, events_of};
-ghost use Rattle.jfr_chunk.specs.Paths.{follow, is_reference, leads, step, string_of};
+ghost use Rattle.jfr_chunk.specs.Paths.{follow, leads, step, string_of};
 ghost use Rattle.jfr_chunk.specs.Seen.{event_at};
 ghost use Rattle.jfr_text.specs.Spans.{content_of};
-ghost use Rattle.jfr_value.specs.Nodes.{IsValue, node_of, target};
+ghost use Rattle.jfr_value.specs.Nodes.{IsValue, node_of};
 
 use crate::Path;
-use jfr_base::read_within;
 use jfr_chunk::{Chunk, Event};
 use jfr_layout::Kind;
 use jfr_text::{StringSpan, read_string};
@@ -77,20 +76,6 @@ pub(crate) fn follow<'a>(chunk: &Chunk<'a>, node: &Node<'a>) -> Option<Node<'a>>
     let (class, key) = target(chunk.classes(), node)?;
     let number = chunk.pools().entry(class, key)?;
     chunk.entry_node(number)
-}
-
-/// The key of a reference.
-pub(crate) fn reference_key(chunk: &Chunk<'_>, node: &Node<'_>) -> u64
-    requires parts { AreParts chunk.now }
-    requires value { IsValue chunk.now.classes node.now }
-    requires of_chunk { node.now.bytes.now ≡ chunk.now.bytes }
-    requires reference { IsTrue (is_reference (node_of node.now)) }
-    ensures { target chunk.now.classes chunk.now.bytes (node_of node.now) ≡ Some (node.now.shape.class, result) }
-{
-    match read_within(node.bytes, node.at, node.end) {
-        Ok(key) => key.value,
-        Err(_) => unreachable!(),
-    }
 }
 
 /// The string of a node; `None` exactly where its value is no string.

@@ -1,16 +1,15 @@
 // What a filter says of the threads of a chunk.
-ghost use Rattle.std.specs.Prelude.{◌≡◌, IfOk};
+ghost use Rattle.std.specs.Prelude.{◌≡◌, IfOk, IfSome};
 ghost use Rattle.jfr_chunk.specs.Parts.{AreParts};
 ghost use Rattle.jfr_value.specs.Nodes.{IsValue, node_of};
-ghost use Rattle.jfr_path.specs.Threads.{allows_behind};
+ghost use Rattle.jfr_path.specs.Threads.{IsReferenceTo, allows_behind};
 
 use crate::names::is_reference;
-use crate::steps::reference_key;
 use crate::texts::TextVerdicts;
 use jfr_base::NoMemory;
 use jfr_chunk::Chunk;
 use jfr_filter::Filter;
-use jfr_value::Node;
+use jfr_value::{Node, target};
 use std::alloc::Global;
 use std::collections::BTreeMap;
 use std::marker::Model;
@@ -62,13 +61,9 @@ impl<'c, 'a> ThreadVerdicts<'c, 'a> {
         ensures ok { IfOk result (λ allowed. allowed ≡ allows_behind self.old.filter self.old.chunk (node_of thread.now)) }
         ensures same { self.new ≡ self.old }
     {
-        if !is_reference(thread) {
+        let Some(target) = referred(self.texts.chunk(), thread) else {
             return self.texts.allows_behind(thread);
-        }
-        let target = (
-            thread.shape.class,
-            reference_key(self.texts.chunk(), thread),
-        );
+        };
         if let Some(allowed) = self.verdicts.get(&target) {
             return Ok(*allowed);
         }
@@ -76,4 +71,16 @@ impl<'c, 'a> ThreadVerdicts<'c, 'a> {
         self.verdicts.insert(target, allowed)?;
         Ok(allowed)
     }
+}
+
+/// The class and the key of a reference; `None` where the value is none.
+fn referred(chunk: &Chunk<'_>, node: &Node<'_>) -> Option<(u64, u64)>
+    requires value { IsValue chunk.now.classes node.now }
+    requires of_chunk { node.now.bytes.now ≡ chunk.now.bytes }
+    ensures { IfSome result (λ target. IsReferenceTo chunk.now target (node_of node.now)) }
+{
+    if !is_reference(node) {
+        return None;
+    }
+    target(chunk.classes(), node)
 }

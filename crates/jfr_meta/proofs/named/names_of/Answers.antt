@@ -1,4 +1,4 @@
-use Rattle.std.proofs.Common.{map, take, subst, sym, arith, ap}
+use Rattle.std.proofs.Common.{map, take, subst, arith}
 use Rattle.std.specs.List.{AllZip, filter_map}
 use Rattle.std.proofs.lemmas.List.{take_all}
 use Rattle.jfr_meta.specs.Described.{IsNamedBy, class_of, heads}

@@ -3,7 +3,6 @@ use Rattle.std.specs.Prelude.{IfOk, None, slice_get}
 use Rattle.std.specs.Option.{option_copied}
 use Rattle.std.proofs.Common.{subst}
 use Rattle.std.proofs.lemmas.Str.{chars-nil}
-use Rattle.jfr_meta.specs.Attributes.{text_at}
 use Rattle.jfr_meta.proofs.Texts.{text_missing}
 use Rattle.jfr_meta.proofs.values.shared_text.Goals as goal
 

@@ -1,14 +1,13 @@
 use Rattle.std.proofs.Common.{◌≡◌, ◌+◌, ◌<◌, ap, arith, length, subst, sym, true, ◌∙◌}
-use Rattle.std.specs.List.{AllZip, list_all}
+use Rattle.std.specs.List.{list_all}
 use Rattle.std.specs.Prelude.{IfOk, Some, option_map, slice_get, take}
 use Rattle.std.proofs.lemmas.List.{length-set}
 use Rattle.std.proofs.lemmas.Option.{slice_get-map}
 use Rattle.jfr_chunk.specs.Parts.{events_of}
 use Rattle.jfr_chunk.specs.Seen.{event_at}
 use Rattle.jfr_chunk.specs.Chosen.{chosen, is_chosen}
-use Rattle.jfr_layout.specs.Classes.{Classes}
 use Rattle.jfr_path.specs.Threads.{Asked}
-use Rattle.jfr_path.specs.Verdicts.{IsVerdict, is_kept}
+use Rattle.jfr_path.specs.Verdicts.{is_kept}
 use Rattle.jfr_path.proofs.ChosenLaws.{all_chosen}
 use Rattle.jfr_path.proofs.ListLaws.{set_next}
 use Rattle.jfr_path.proofs.chosen.choose.Goals as goal
@@ -29,7 +28,6 @@ loop-number-preserved c =
 
 pub returns-then-are_all_kept : goal.returns-then-are_all_kept
 returns-then-are_all_kept c =
-    let z = subst (λ (k : Classes). AllZip (IsVerdict c.args.filter.now) k c.in_ok-verdicts.verdicts.items) c.classes.ensures c.in_ok-verdicts.ensures.ok in
     let k : list_all is_kept c.in_ok-verdicts.verdicts.items ≡ true = ap (list_all is_kept) (sym c.deref.ensures.value) ∙ (sym c.are_all_kept.ensures ∙ c.if-are_all_kept.true) in
-    let e = all_chosen c.args.filter.now c.args.chunk.now c.keep_all.ensures.parts c.in_ok-verdicts.verdicts.items z k in
+    let e = all_chosen c.args.filter.now c.args.chunk.now c.keep_all.ensures.parts c.in_ok-verdicts.verdicts.items c.in_ok-verdicts.ensures.ok k in
     record { ok = subst (λ bs. IfOk c.keep_all.result (λ kept. kept ≡ bs)) (sym e) c.keep_all.ensures.ok }
