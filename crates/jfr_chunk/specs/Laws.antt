@@ -1,10 +1,9 @@
 -- What holds of the parts of accepted chunks.
-use Rattle.std.specs.Prelude.{◌≡◌, ◌↔◌, ℕ, ◌<◌, List, slice_get, [], ◌∷◌, Some, Ok, ◌⊎◌, All, Contains, ⊤}
+use Rattle.std.specs.Prelude.{◌≡◌, ◌↔◌, ℕ, List, [], ◌∷◌, Some, Ok, ◌⊎◌, All, Contains, ⊤}
 use Rattle.jfr_layout.specs.Classes.{Agree}
 use Rattle.jfr_frame.specs.Records.{record_bytes}
 use Rattle.jfr_value.specs.declared.node.Step.{Step}
 use Rattle.jfr_value.specs.Nodes.{NodeAt, target}
-use Rattle.jfr_pool.specs.declared.entry.EntryAt.{EntryAt}
 use Rattle.jfr_base.specs.declared.flaw.Flaw.{Flaw}
 use Rattle.jfr_chunk.specs.Parts.{Parts, EventAt, events_of, AreParts}
 use Rattle.jfr_chunk.specs.Refusal.{Refused, read_parts, refusal_of}
@@ -33,14 +32,6 @@ SameRecords p q (e ∷ es) [] = ⊥
 -- path of a kept event refers.
 abbrev pub SameOnPaths : Parts → Parts → List EventAt → Type 0
 SameOnPaths p q kept = (e : EventAt) (path : List Step) (n : NodeAt) (key : ℕ × ℕ) → Contains kept e → leads p e.node path ≡ Some n → target p.classes p.bytes n ≡ Some key → SameEntry p q key
-
--- The entry of this number is the last one of the class and the key.
-pub record IsLast (es : List EntryAt) (target : ℕ × ℕ) (number : ℕ) : Type 0 where
-  pub entry : EntryAt
-  pub there : slice_get es number ≡ Some entry
-  pub class : entry.class ≡ target.0
-  pub key : entry.key ≡ target.1
-  pub last : (later : ℕ) (other : EntryAt) → number < later → slice_get es later ≡ Some other → other.class ≡ target.0 → other.key ≡ target.1 → ⊥
 
 -- An entry is marked exactly where a path of a kept event reaches it.
 abbrev pub AreReached : Parts → List EventAt → Type 0

@@ -209,13 +209,8 @@ impl<'a> Chunk<'a> {
         ensures value { IfSome result (IsValue self.now.classes) }
     {
         let entry = self.pools.get(number)?;
-        let shape = Shape {
-            class: entry.class,
-            constant: false,
-            array: false,
-        };
         Some(Node {
-            shape,
+            shape: Shape::inline(entry.class),
             bytes: self.bytes,
             at: entry.value_at,
             end: entry.end,
@@ -254,13 +249,8 @@ impl<'a> Chunk<'a> {
     {
         let fields = self.events.fields_at(number)?;
         let frame = self.frames.get(fields.record as usize)?;
-        let shape = Shape {
-            class: frame.type_id,
-            constant: false,
-            array: false,
-        };
         let node = Node {
-            shape,
+            shape: Shape::inline(frame.type_id),
             bytes: self.bytes,
             at: frame.body,
             end: self.events.end_of_fields(fields.record, frame),

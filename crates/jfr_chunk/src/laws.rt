@@ -1,10 +1,8 @@
 // Laws of the parts of accepted chunks. These calls do nothing.
-ghost use Rattle.std.specs.Prelude.{◌≡◌, ◌↔◌, ℕ, ◌≤◌, List, Some, length};
-ghost use Rattle.jfr_chunk.specs.Laws.{AreEvents, AreReached, HasOneAnswer, IsComputed, IsLast, SameOnPaths, SameRecords};
+ghost use Rattle.std.specs.Prelude.{◌≡◌, ℕ, ◌≤◌, List, length};
+ghost use Rattle.jfr_chunk.specs.Laws.{AreEvents, AreReached, HasOneAnswer, IsComputed, SameOnPaths, SameRecords};
 ghost use Rattle.jfr_chunk.specs.Meaning.{SameMeaning};
 ghost use Rattle.jfr_chunk.specs.Parts.{AreParts, EventAt, Parts};
-ghost use Rattle.jfr_pool.specs.Entries.{number_in_force};
-ghost use Rattle.jfr_pool.specs.declared.entry.EntryAt.{EntryAt};
 
 /// A chunk consists of parts, or it is refused: one of the two, and for one flaw.
 pub fn one_answer()
@@ -31,9 +29,4 @@ pub fn same_paths()
 /// What paths of any length reach from the kept events is what is marked, and nothing else is.
 pub fn marked_by_paths()
     ensures { (p : Parts) (kept : List EventAt) → AreParts p → AreEvents p kept → AreReached p kept }
-{}
-
-/// One entry at most is in force for a class and a key: the one that stands last.
-pub fn one_in_force()
-    ensures { (entries : List EntryAt) (key : ℕ × ℕ) (number : ℕ) → (number_in_force entries key ≡ Some number) ↔ IsLast entries key number }
 {}

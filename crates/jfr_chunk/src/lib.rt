@@ -20,5 +20,5 @@ mod room;
 pub use chunk::Chunk;
 pub use event::Event;
 pub use kept::Kept;
-pub use laws::{computed_answer, marked_by_paths, one_answer, one_in_force, one_parts, same_paths};
+pub use laws::{computed_answer, marked_by_paths, one_answer, one_parts, same_paths};
 pub use room::Room;

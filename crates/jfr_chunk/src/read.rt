@@ -84,7 +84,7 @@ pub(crate) fn read_events(
         };
         let end = fields_end(chunk, classes, pools, &layout, frame, &mut refs)?;
         let record = number as u32;
-        if end < frame.at + frame.size {
+        if end < frame.end() {
             add_early(&mut early, record, end as u32)?;
         }
         fields.push(EventIndexEntry {
@@ -140,6 +140,6 @@ fn fields_end(
     ensures exact { result ≡ seen (run (value_format classes.now (inline frame.type_id)) chunk.now (record_end frame) frame.body) }
     ensures refs_end { IfOk result (λ end. AddsRefs (node_entries pools.now classes.now chunk.now (node_at (inline frame.type_id) frame.body end)) refs.old refs.new) }
 {
-    let end = frame.at + frame.size;
+    let end = frame.end();
     end_visiting(classes, layout, chunk, frame.body, end, refs, pools)
 }

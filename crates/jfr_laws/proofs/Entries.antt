@@ -11,12 +11,13 @@ use Rattle.jfr_layout.specs.Classes.{Classes}
 use Rattle.jfr_value.specs.Nodes.{node_bytes, Both}
 use Rattle.jfr_pool.specs.declared.entry.EntryAt.{EntryAt}
 use Rattle.jfr_pool.specs.Entries.{entry_of, entries_from, or_later, last_from, number_in_force, entry_node}
-use Rattle.jfr_chunk.specs.Laws.{IsLast}
+use Rattle.jfr_pool.specs.Laws.{IsLast}
+use Rattle.jfr_pool.proofs.OneLaws.{last_is}
+use Rattle.jfr_pool.proofs.Targets.{hits}
 use Rattle.jfr_chunk.specs.Parts.{Parts}
 use Rattle.jfr_chunk.specs.Meaning.{SameEntry}
 use Rattle.jfr_chunk.specs.Reach.{IsMarked, marked}
 use Rattle.jfr_chunk.specs.Written.{Group, entry_bytes, group_bytes}
-use Rattle.jfr_chunk.proofs.ForceLaws.{fits, last_in_force}
 use Rattle.jfr_laws.specs.Laws.{IsCopied, AreCopied}
 use Rattle.jfr_laws.proofs.Marks.{rank, rank_get, rank_order, Ranked, ranked}
 use Rattle.jfr_laws.proofs.Standing.{EntryStands, GroupStands}
@@ -89,8 +90,8 @@ copied_last p q n [] [] target a = refl
 copied_last p q n [] (f ∷ fs) target a = absurd a
 copied_last p q n (e ∷ es) [] target a = absurd a
 copied_last p q n (e ∷ es) (f ∷ fs) target a =
-    let same : fits e target ≡ fits f target = ap (λ z. (z == target.0) && (e.key == target.1)) a.0.class ∙ ap (λ z. (f.class == target.0) && (z == target.1)) a.0.key in
-    ap (λ z. or_later n z (last_from (n + 1) es target)) same ∙ ap (or_later n (fits f target)) (copied_last p q (n + 1) es fs target a.1)
+    let same : hits e target ≡ hits f target = ap (λ z. (z == target.0) && (e.key == target.1)) a.0.class ∙ ap (λ z. (f.class == target.0) && (z == target.1)) a.0.key in
+    ap (λ z. or_later n z (last_from (n + 1) es target)) same ∙ ap (or_later n (hits f target)) (copied_last p q (n + 1) es fs target a.1)
 
 -- Copies are in force where the originals are.
 pub copied_force : (p q : Parts) (es fs : List EntryAt) (target : ℕ × ℕ) → AreCopied p q es fs → number_in_force es target ≡ number_in_force fs target
@@ -100,33 +101,32 @@ copied_force p q es fs target a = copied_last p q 0 es fs target a
 -- What is in force and marked is in force among those that are marked.
 pub marked_force : (marks : List Bool) (es : List EntryAt) (target : ℕ × ℕ) (n : ℕ) → number_in_force es target ≡ Some n → IsMarked marks n → number_in_force (marked marks es) target ≡ Some (rank marks n)
 marked_force marks es target n e m =
-    let i : IsLast es target n = (last_in_force es target n).0 e in
-    (last_in_force (marked marks es) target (rank marks n)).1
+    let i : IsLast es target n = (last_is es target n).0 e in
+    (last_is (marked marks es) target (rank marks n)).1
     (record {
       entry = i.entry;
-      there = rank_get marks es n m ∙ i.there;
-      class = i.class;
-      key = i.key;
-      last = λ later other l g a b. last i later other l g a b;
+      stands = rank_get marks es n m ∙ i.stands;
+      has = i.has;
+      last = λ later other l g a. last i later other l g a;
     })
   where
-    last : IsLast es target n → (later : ℕ) (other : EntryAt) → rank marks n < later → slice_get (marked marks es) later ≡ Some other → other.class ≡ target.0 → other.key ≡ target.1 → ⊥
-    last i later other l g a b =
+    last : IsLast es target n → (later : ℕ) (other : EntryAt) → rank marks n < later → slice_get (marked marks es) later ≡ Some other → (other.class, other.key) ≡ target → ⊥
+    last i later other l g a =
         let r = ranked marks es later (slice_get_within (marked marks es) later other g) in
         let h : slice_get es r.place ≡ Some other = sym (rank_get marks es r.place r.is_marked) ∙ (ap (slice_get (marked marks es)) r.number_is ∙ g) in
         by_order r h (cases_lt n r.place)
       where
         by_order : (r : Ranked marks es later) → slice_get es r.place ≡ Some other → (n < r.place) ⊎ (r.place ≤ n) → ⊥
-        by_order r h (inl o) = i.last r.place other o h a b
+        by_order r h (inl o) = i.last r.place other o h a
         by_order r h (inr o) = let j : rank marks r.place ≤ rank marks n = rank_order marks r.place n o in let u : rank marks r.place ≡ later = r.number_is in omega arith
 
 -- Nothing is in force among those that are marked where nothing is.
 marked_none : (n m : ℕ) (marks : List Bool) (es : List EntryAt) (target : ℕ × ℕ) → last_from n es target ≡ None → last_from m (marked marks es) target ≡ None
 marked_none n m [] es target e = refl
 marked_none n m (b ∷ ms) [] target e = refl
-marked_none n m (b ∷ ms) (x ∷ xs) target e = by_rest (last_from (n + 1) xs target) refl (fits x target) refl e b (λ k. marked_none (n + 1) k ms xs target)
+marked_none n m (b ∷ ms) (x ∷ xs) target e = by_rest (last_from (n + 1) xs target) refl (hits x target) refl e b (λ k. marked_none (n + 1) k ms xs target)
   where
-    by_rest : (o : Option ℕ) → last_from (n + 1) xs target ≡ o → (t : Bool) → fits x target ≡ t → or_later n t o ≡ None → (b : Bool) → ((k : ℕ) → last_from (n + 1) xs target ≡ None → last_from k (marked ms xs) target ≡ None)
+    by_rest : (o : Option ℕ) → last_from (n + 1) xs target ≡ o → (t : Bool) → hits x target ≡ t → or_later n t o ≡ None → (b : Bool) → ((k : ℕ) → last_from (n + 1) xs target ≡ None → last_from k (marked ms xs) target ≡ None)
         → last_from m (marked (b ∷ ms) (x ∷ xs)) target ≡ None
     by_rest (Some i) q t r e b f = cc
     by_rest None q true r e b f = cc

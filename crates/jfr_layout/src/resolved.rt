@@ -45,11 +45,11 @@ fn kinds_of(alloc: Global, list: &ClassList) -> Result<Vec<Kind>, NoMemory>
     Ok(kinds)
 }
 
-// Whether the class is composite and has the super type of events.
-fn extends_event(class: &ClassInfo) -> bool
-    ensures { result ≡ extends_event class.now }
+// Whether the class, which is of this kind, is composite and has the super type of events.
+fn extends_event(class: &ClassInfo, kind: Kind) -> bool
+    ensures { kind ≡ kind_of class.now.name → result ≡ extends_event class.now }
 {
-    match Kind::of(&class.name) {
+    match kind {
         Kind::Composite => {}
         _ => return false,
     }
@@ -110,7 +110,7 @@ fn class_layout_of(
     Ok(ClassLayout {
         layouts,
         fused_fields,
-        is_event: extends_event(list.at(class)),
+        is_event: extends_event(list.at(class), kinds[class]),
     })
 }
 

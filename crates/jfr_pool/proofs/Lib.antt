@@ -5,7 +5,7 @@ mod CountLaws
 mod EntryLaws
 mod IndexLaws
 mod Listings
-mod OneLaws
+pub mod OneLaws
 mod Rows
 mod Seats
-mod Targets
+pub mod Targets

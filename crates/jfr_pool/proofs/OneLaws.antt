@@ -86,8 +86,7 @@ module _ (c : List ℕ) (k : Classes) (ls : List Link) (read : IsReadFrom c ls) 
     flaw = λ o why. ((λ h. entries_fail c k 0 ls o why stand h), (λ e. subst (Told c k 0 ls) e (entries_told c k 0 ls stand)));
   }
 
--- The entry in force.
--- the last one of entries that are counted from a number on.
+-- The last one of entries that are counted from a number on.
 pub record LastFrom (n : ℕ) (es : List EntryAt) (t : ℕ × ℕ) (m : ℕ) : Type 0 where
   pub place : ℕ
   pub counted : m ≡ n + place

@@ -84,7 +84,7 @@ fn read_link(chunk: &[u8], frame: Framed) -> Result<Link, Flaw>
     requires { IsRecord chunk.now frame }
     ensures exact { result ≡ linked frame (run head_format chunk.now (record_end frame) frame.body) }
 {
-    let end = frame.at + frame.size;
+    let end = frame.end();
     let start = read_within(chunk, frame.body, end)?;
     let duration = read_within(chunk, start.end, end)?;
     let delta = read_within(chunk, duration.end, end)?;

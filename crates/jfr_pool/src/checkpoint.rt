@@ -32,7 +32,7 @@ pub(crate) fn read_checkpoint(
     requires { IsRecord chunk.now frame }
     ensures exact { Adds (listed (entries_from number 0) (run (checkpoint_format classes.now) chunk.now (record_end frame) frame.body)) entries.old.items entries.new.items result }
 {
-    let limit = frame.at + frame.size;
+    let limit = frame.end();
     let count = pool_count(chunk, frame.body, limit)?;
     let to = read_pools(
         chunk,
@@ -179,12 +179,7 @@ fn read_entry(
     ensures range { IfOk result (λ e. e.end ≤ limit) }
 {
     let key = read_within(chunk, at, limit)?;
-    let shape = Shape {
-        class: pool.class,
-        constant: false,
-        array: false,
-    };
-    let end = end_of(classes, shape, chunk, key.end, limit)?;
+    let end = end_of(classes, Shape::inline(pool.class), chunk, key.end, limit)?;
     Ok(EntryAt {
         class: pool.class,
         key: key.value,

@@ -102,7 +102,7 @@ fn lay_record(
     match output_record {
         KeptRecord::Whole(frame) => {
             body.metadata = seen(body.metadata, frame.at as u64 == metadata, at);
-            body.output.copy(frame.at, frame.at + frame.size)?;
+            body.output.copy(frame.at, frame.end())?;
             body.at = at + frame.size;
         }
         KeptRecord::Chained(number, link) => {

@@ -10,7 +10,7 @@ use Rattle.jfr_chunk.proofs.RefLaws.{all_refs}
 use Rattle.jfr_chunk.proofs.read.fields_end.Goals as goal
 
 pub returns-clause-exact : goal.returns-clause-exact
-returns-clause-exact c = c.end_visiting.ensures.exact ∙ ap (λ s. seen (run (value_format c.args.classes.now s) c.args.chunk.now (record_end c.args.frame) c.args.frame.body)) c.requires.event.shape
+returns-clause-exact c = (rw c.end-end.ensures at c.end_visiting.ensures.exact) ∙ ap (λ s. seen (run (value_format c.args.classes.now s) c.args.chunk.now (record_end c.args.frame) c.args.frame.body)) c.requires.event.shape
 
 pub returns-clause-refs_end : goal.returns-clause-refs_end
 returns-clause-refs_end c =

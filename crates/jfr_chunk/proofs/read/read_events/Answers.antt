@@ -6,7 +6,7 @@ use Rattle.jfr_chunk.proofs.EndLaws.{EndIs, end_early, end_full}
 use Rattle.jfr_chunk.proofs.EventReading.{ReadTo, record_of, read_none, read_other, read_event, read_stops, read_all}
 use Rattle.jfr_chunk.proofs.RefLaws.{event_refs}
 use Rattle.jfr_chunk.proofs.read.read_events.Goals as goal
-use Rattle.jfr_chunk.proofs.read.read_events.Goals.{then-end-frame+in_ok-add_early, else-end-frame}
+use Rattle.jfr_chunk.proofs.read.read_events.Goals.{then-end+in_ok-add_early, else-end}
 
 pub fields_end-requires-clause-record : goal.fields_end-requires-clause-record
 fields_end-requires-clause-record c = record_of c.args.chunk.now c.args.frames.now c.loop-number.number c.at-frame.result c.requires.records c.at-frame.ensures
@@ -34,8 +34,8 @@ fields_end-requires-clause-entries c =
 pub overflow_cast-record : goal.overflow_cast-record
 overflow_cast-record c = let f = number_fits c.args.chunk.now c.args.frames.now c.loop-number.number _ c.requires.whole c.loop-number.invariant.counted in omega arith
 
-pub overflow_add-frame : goal.overflow_add-frame
-overflow_add-frame c =
+pub end-requires : goal.end-requires
+end-requires c =
     let i = record_of c.args.chunk.now c.args.frames.now c.loop-number.number c.at-frame.result c.requires.records c.at-frame.ensures in
     let w = whole_small c.args.chunk.now c.requires.whole in
     omega (arith, i.within)
@@ -57,19 +57,19 @@ loop-number-preserved c =
     let e = counted_event c.args.classes.now c.requires.sound c.args.chunk.now c.args.pools.now c.args.frames.now c.loop-number.number c.in_ok-end.end _ _ _ c.requires.whole c.requires.records
     c.at-frame.ensures (sym c.in_ok-end.was ∙ c.fields_end.ensures.exact) c.in_ok-end.ensures.refs_end.few c.loop-number.invariant.counted in
     let b = c.loop-number.invariant.read.before in
-    let i : EndIs c.loop-number.early c.if-end-frame.early c.loop-number.number c.at-frame.result c.in_ok-end.end =
-    elim c.if-end-frame.branch [
-      | then-end-frame+in_ok-add_early w ↦ subst (λ z. EndIs c.loop-number.early z c.loop-number.number c.at-frame.result c.in_ok-end.end) (sym w.early-is) (end_early _ _ _ _ _ w.in_ok-add_early.ensures)
-      | else-end-frame w ↦ subst (λ z. EndIs c.loop-number.early z c.loop-number.number c.at-frame.result c.in_ok-end.end) (sym w.early-is) (end_full _ _ _ _ (b.ahead c.loop-number.number (omega arith)) (omega (arith, e.within, w.if-end-frame.false)))
+    let i : EndIs c.loop-number.early c.if-end.early c.loop-number.number c.at-frame.result c.in_ok-end.end =
+    elim c.if-end.branch [
+      | then-end+in_ok-add_early w ↦ subst (λ z. EndIs c.loop-number.early z c.loop-number.number c.at-frame.result c.in_ok-end.end) (sym w.early-is) (end_early _ _ _ _ _ w.in_ok-add_early.ensures)
+      | else-end w ↦ subst (λ z. EndIs c.loop-number.early z c.loop-number.number c.at-frame.result c.in_ok-end.end) (sym w.early-is) (end_full _ _ _ _ (b.ahead c.loop-number.number (omega arith)) (omega (arith, e.within, w.if-end.false, c.end.ensures)))
     ] in
     record {
       read =
-          subst (ReadTo c.args.chunk.now c.args.classes.now c.args.frames.now (c.loop-number.number + 1) c.if-end-frame.early) (sym c.in_ok-push.ensures.items)
-          (read_event c.args.chunk.now c.args.classes.now c.args.frames.now c.loop-number.number c.loop-number.early c.if-end-frame.early c.loop-number.fields.items c.at-frame.result c.in_ok-end.end c.len-in-loop-number.result c.at-frame.ensures c.in-Some.ensures.event (sym c.in_ok-end.was ∙ c.fields_end.ensures.exact) i c.loop-number.invariant.read);
+          subst (ReadTo c.args.chunk.now c.args.classes.now c.args.frames.now (c.loop-number.number + 1) c.if-end.early) (sym c.in_ok-push.ensures.items)
+          (read_event c.args.chunk.now c.args.classes.now c.args.frames.now c.loop-number.number c.loop-number.early c.if-end.early c.loop-number.fields.items c.at-frame.result c.in_ok-end.end c.len-in-loop-number.result c.at-frame.ensures c.in-Some.ensures.event (sym c.in_ok-end.was ∙ c.fields_end.ensures.exact) i c.loop-number.invariant.read);
       counted = e.counted;
       refs_end = λ h.
-          subst (λ z. AreRefs (due c.args.pools.now c.args.classes.now c.args.chunk.now c.args.frames.now c.if-end-frame.early) 0 z c.fields_end.new.refs.numbers.items) (sym c.in_ok-push.ensures.items)
-          (event_refs c.args.pools.now c.args.classes.now c.args.chunk.now c.args.frames.now c.loop-number.early c.if-end-frame.early c.loop-number.number c.in_ok-end.end c.len-in-loop-number.result c.at-frame.result c.loop-number.fields.items c.loop-number.refs.numbers.items c.fields_end.new.refs.numbers.items
+          subst (λ z. AreRefs (due c.args.pools.now c.args.classes.now c.args.chunk.now c.args.frames.now c.if-end.early) 0 z c.fields_end.new.refs.numbers.items) (sym c.in_ok-push.ensures.items)
+          (event_refs c.args.pools.now c.args.classes.now c.args.chunk.now c.args.frames.now c.loop-number.early c.if-end.early c.loop-number.number c.in_ok-end.end c.len-in-loop-number.result c.at-frame.result c.loop-number.fields.items c.loop-number.refs.numbers.items c.fields_end.new.refs.numbers.items
           c.at-frame.ensures i b.each (c.in_ok-end.ensures.refs_end.appended h) (omega (arith, c.len-in-loop-number.ensures)) (c.loop-number.invariant.refs_end (c.in_ok-end.ensures.refs_end.lacked_none h)));
     }
 

@@ -4,4 +4,4 @@ use Rattle.jfr_layout.proofs.resolved.extends_event.Goals as goal
 
 pub returns-in-Some : goal.returns-in-Some
 unfolding chars
-returns-in-Some c = extends_is c.args.class.now c.of.result c.in-Some.name c.is_text.result c.of.ensures c.in-Composite.is c.in-Some.is c.is_text.ensures
+returns-in-Some c = λ h. extends_is c.args.class.now c.args.kind c.in-Some.name c.is_text.result h c.in-Composite.is c.in-Some.is c.is_text.ensures

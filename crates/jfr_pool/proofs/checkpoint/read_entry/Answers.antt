@@ -11,8 +11,8 @@ returns-in_err-key-clause-exact c =
 pub returns-in_err-end-clause-exact : goal.returns-in_err-end-clause-exact
 returns-in_err-end-clause-exact c =
     let p = err_from_is_err_and c.from_residual-in_err-end.result c.from_residual-in_err-end.ensures.1 in
-    rw (p.1, p.2) (entry_valued c.args.pool c.args.classes.now c.args.chunk.now c.args.limit c.args.at c.in_ok-key.key c.in_ok-key.ensures.exact ∙ ap (valued c.args.pool c.args.at c.in_ok-key.key) (sym c.end_of.ensures.exact ∙ c.in_err-end.was))
+    rw (p.1, p.2) (entry_valued c.args.pool c.args.classes.now c.args.chunk.now c.args.limit c.args.at c.in_ok-key.key c.in_ok-key.ensures.exact ∙ ap (valued c.args.pool c.args.at c.in_ok-key.key) (sym (rw c.inline.ensures at c.end_of.ensures.exact) ∙ c.in_err-end.was))
 
 pub returns-clause-exact : goal.returns-clause-exact
 returns-clause-exact c =
-    entry_valued c.args.pool c.args.classes.now c.args.chunk.now c.args.limit c.args.at c.in_ok-key.key c.in_ok-key.ensures.exact ∙ ap (valued c.args.pool c.args.at c.in_ok-key.key) (sym c.end_of.ensures.exact ∙ c.in_ok-end.was)
+    entry_valued c.args.pool c.args.classes.now c.args.chunk.now c.args.limit c.args.at c.in_ok-key.key c.in_ok-key.ensures.exact ∙ ap (valued c.args.pool c.args.at c.in_ok-key.key) (sym (rw c.inline.ensures at c.end_of.ensures.exact) ∙ c.in_ok-end.was)

@@ -1,5 +1,6 @@
 use Rattle.std.proofs.Common.{rules, arith, ◌≡◌, ap, refl, sym, ◌∙◌, map, subst}
-use Rattle.std.specs.Prelude.{Some, None, false, slice_get, option_map}
+use Rattle.std.specs.Prelude.{Some, None, slice_get, option_map}
+use Rattle.jfr_value.specs.Nodes.{node_at}
 use Rattle.jfr_chunk.specs.Parts.{AreParts, Parts, events_of}
 use Rattle.jfr_chunk.specs.Seen.{event_kept, event_at, event_with}
 use Rattle.jfr_chunk.proofs.CountLaws.{whole_small}
@@ -26,10 +27,10 @@ returns-clause-exact c =
     let e : map (event_kept c.args.self.now.records c.self.inside.events.early) c.self.inside.events.fields.items ≡ map Some (events_of c.args.self.now) = search rules in
     let g : slice_get c.self.inside.events.fields.items c.args.number ≡ Some c.in_ok-fields.fields = search rules in
     let h : slice_get c.args.self.now.records c.in_ok-fields.fields.record ≡ Some c.in_ok-frame.frame = search rules in
-    ap (λ end. Some (event_with end c.in_ok-frame.frame)) c.end_of_fields.ensures ∙ event_found c.args.self.now c.self.inside.events.early c.self.inside.events.fields.items c.args.number c.in_ok-fields.fields c.in_ok-frame.frame e g h
+    rw c.inline.ensures (ap (λ end. Some (event_with end c.in_ok-frame.frame)) c.end_of_fields.ensures ∙ event_found c.args.self.now c.self.inside.events.early c.self.inside.events.fields.items c.args.number c.in_ok-fields.fields c.in_ok-frame.frame e g h)
 
 pub returns-clause-value : goal.returns-clause-value
 returns-clause-value c =
-    event_value c.args.self.now (subst AreParts c.self.view_is c.self.invariant.parts) c.args.number (event_with c.end_of_fields.result c.in_ok-frame.frame)
-    (record { shape = record { class = c.in_ok-frame.frame.type_id; constant = false; array = false }; bytes = c.self.inside.bytes; at = c.in_ok-frame.frame.body; end = c.end_of_fields.result })
+    event_value c.args.self.now (subst AreParts c.self.view_is c.self.invariant.parts) c.args.number (record { record_of = c.in_ok-frame.frame; node = node_at c.inline.result c.in_ok-frame.frame.body c.end_of_fields.result })
+    (record { shape = c.inline.result; bytes = c.self.inside.bytes; at = c.in_ok-frame.frame.body; end = c.end_of_fields.result })
     (sym (returns-clause-exact c)) refl (ap (λ (p : Parts). p.bytes) c.self.view_is)
