@@ -1,5 +1,6 @@
 pub mod Cuts
 pub mod Cutters
+pub mod Endings
 pub mod Fronts
 pub mod Headers
 pub mod Judging

@@ -17,6 +17,10 @@ use Rattle.jfr_header.specs.declared.cutter.Cut.TheVariants.{Chunk, End, Refused
 abbrev pub flaw_of : Refusal → Flaw
 flaw_of r = record { offset = r.offset; reason = r.reason }
 
+-- A flaw as that of the chunk of this number.
+abbrev pub at_chunk : ℕ → Flaw → Refusal
+at_chunk number f = record { chunk = number; offset = f.offset; reason = f.reason }
+
 -- What stands at the front of what is left, where a cutter stands.
 abbrev pub ahead_of : Cutter → List ℕ → fronts.Front
 ahead_of c rest = front rest c.start (not c.given)
@@ -55,7 +59,7 @@ Counted Memory before now = now ≡ before
 
 -- The answer that a front gives to the chunk of this number.
 abbrev pub answer_to : ℕ → fronts.Front → Cut
-answer_to number (fronts.Bad f) = Refused (record { chunk = number; offset = f.offset; reason = f.reason })
+answer_to number (fronts.Bad f) = Refused (at_chunk number f)
 answer_to number fronts.End = End
 answer_to number (fronts.Chunk c) = Chunk
 

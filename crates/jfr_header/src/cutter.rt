@@ -4,6 +4,7 @@ ghost use Rattle.jfr_header.specs.Taking.{Took, Takes, Tells, IfLeft, IsKept};
 ghost use Rattle.jfr_header.specs.Nexts.{NextOf, CutOf, Counted, IsDue, IfRefused, answer_to, ahead_of, is_header};
 
 use crate::buffer::Buffer;
+use crate::ending::with_number;
 use crate::judge::{Verdict, judge};
 use jfr_base::{Reason, Refusal};
 use jfr_outside::{Fault, Place};
@@ -122,11 +123,7 @@ impl ChunkCutter {
         }
         let size = match judge(self.bytes.as_slice(), self.start, self.given) {
             Verdict::End => return Cut::End,
-            Verdict::Bad(flaw) => return Cut::Refused(Refusal {
-                chunk: self.number,
-                offset: flaw.offset,
-                reason: flaw.reason,
-            }),
+            Verdict::Bad(flaw) => return Cut::Refused(with_number(flaw, self.number)),
             Verdict::Sized(size) => size,
         };
         match self.bytes.fill(place, size) {

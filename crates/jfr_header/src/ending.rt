@@ -1,6 +1,10 @@
 // How a command ends.
+ghost use Rattle.std.specs.Prelude.{◌≡◌};
+ghost use Rattle.jfr_header.specs.Nexts.{at_chunk};
+ghost use Rattle.jfr_header.specs.Endings.{after_read, after_write, after_chunk};
 
-use jfr_base::Refusal;
+use jfr_base::{Flaw, ReadFault, Refusal};
+use jfr_outside::Fault;
 
 /// How a command over recordings ended. The program's exit status says it, too.
 #[derive(Clone, Copy, Debug, PartialEq, Eq)]
@@ -17,4 +21,47 @@ pub enum Ending {
     TooManyParts,
     /// Memory was wanting.
     Memory,
+}
+
+impl Ending {
+    /// How a command ends at a read that gave up.
+    pub fn of_read(fault: Fault) -> Ending
+        ensures { result ≡ after_read fault }
+    {
+        match fault {
+            Fault::Failed => Ending::ReadFault,
+            Fault::Memory => Ending::Memory,
+        }
+    }
+
+    /// How a command ends at a write that gave up.
+    pub fn of_write(fault: Fault) -> Ending
+        ensures { result ≡ after_write fault }
+    {
+        match fault {
+            Fault::Failed => Ending::WriteFault,
+            Fault::Memory => Ending::Memory,
+        }
+    }
+
+    /// How a command ends at a chunk that could not be taken in, by the chunk's number.
+    pub fn of_chunk(number: u64, fault: ReadFault) -> Ending
+        ensures { result ≡ after_chunk number fault }
+    {
+        match fault {
+            ReadFault::Flawed(flaw) => Ending::Refused(with_number(flaw, number)),
+            ReadFault::Memory => Ending::Memory,
+        }
+    }
+}
+
+/// The flaw as that of the chunk of a number.
+pub(crate) fn with_number(flaw: Flaw, number: u64) -> Refusal
+    ensures { result ≡ at_chunk number flaw }
+{
+    Refusal {
+        chunk: number,
+        offset: flaw.offset,
+        reason: flaw.reason,
+    }
 }

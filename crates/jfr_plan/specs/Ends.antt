@@ -2,6 +2,7 @@
 use Rattle.std.specs.Prelude.{ℕ}
 use Rattle.jfr_base.specs.declared.flaw.Flaw.{Flaw}
 use Rattle.jfr_base.specs.declared.flaw.Refusal.{Refusal}
+use Rattle.jfr_header.specs.Nexts.{at_chunk}
 use Rattle.jfr_header.specs.declared.ending.Ending.{Ending}
 use Rattle.jfr_header.specs.declared.ending.Ending.TheVariants as ending
 
@@ -30,4 +31,4 @@ way_of ending.Memory = NoRoom
 
 -- Chunk number n is refused for this flaw.
 abbrev pub refused : ℕ → Flaw → End
-refused n f = Refused (record { chunk = n; offset = f.offset; reason = f.reason })
+refused n f = Refused (at_chunk n f)

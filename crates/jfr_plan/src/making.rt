@@ -10,9 +10,8 @@ ghost use Rattle.jfr_plan.specs.Makes.{making};
 ghost use Rattle.jfr_plan.specs.Clauses.{Ended, Halted, Broken, Partly, IsComplete, CanRead, CanCreate};
 
 use crate::{Discard, Make, Position, Stage, run_stage};
-use jfr_base::{ReadFault, Refusal};
 use jfr_header::Ending;
-use jfr_outside::{Fault, Place, Sink};
+use jfr_outside::{Place, Sink};
 use std::alloc::Global;
 
 // The command over a `Make`: creates the output, appends each output chunk, and finishes the output.
@@ -31,11 +30,7 @@ impl<M: Make> Stage for Making<'_, M> {
     ghost seen = { λ s before. Unit {0} };
 
     fn opened<P: Place, O: Sink>(&self, place: &mut P, _out: &mut O) -> Result<(), Ending> {
-        match place.create_output(self.output) {
-            Ok(()) => Ok(()),
-            Err(Fault::Failed) => Err(Ending::WriteFault),
-            Err(Fault::Memory) => Err(Ending::Memory),
-        }
+        place.create_output(self.output).map_err(Ending::of_write)
     }
 
     fn chunk<P: Place, O: Sink>(
@@ -47,31 +42,16 @@ impl<M: Make> Stage for Making<'_, M> {
     ) -> Result<(), Ending> {
         match self.make.make(self.alloc, chunk) {
             Ok(()) => {}
-            Err(ReadFault::Flawed(flaw)) => {
-                return Err(Ending::Refused(Refusal {
-                    chunk: number,
-                    offset: flaw.offset,
-                    reason: flaw.reason,
-                }));
-            }
-            Err(ReadFault::Memory) => return Err(Ending::Memory),
+            Err(fault) => return Err(Ending::of_chunk(number, fault)),
         }
         let Ok(pieces) = self.make.pieces(self.alloc, chunk) else {
             return Err(Ending::Memory);
         };
-        match place.append_pieces(&pieces) {
-            Ok(()) => Ok(()),
-            Err(Fault::Failed) => Err(Ending::WriteFault),
-            Err(Fault::Memory) => Err(Ending::Memory),
-        }
+        place.append_pieces(&pieces).map_err(Ending::of_write)
     }
 
     fn end<P: Place, O: Sink>(&self, place: &mut P, _out: &mut O) -> Result<(), Ending> {
-        match place.finish_output() {
-            Ok(()) => Ok(()),
-            Err(Fault::Failed) => Err(Ending::WriteFault),
-            Err(Fault::Memory) => Err(Ending::Memory),
-        }
+        place.finish_output().map_err(Ending::of_write)
     }
 }
 

@@ -11,7 +11,7 @@ ghost use Rattle.jfr_plan.specs.Goings.{Staged, IsAt, IsPast};
 
 use crate::Position;
 use jfr_header::{Cut, Ending};
-use jfr_outside::{Fault, Place, Sink};
+use jfr_outside::{Place, Sink};
 
 /// A command over an input: what it does when the input is open, with each chunk, and at the end.
 ///
@@ -130,8 +130,7 @@ pub fn run_stage<P: Place, O: Sink, S: Stage>(
 {
     match place.open_input(input) {
         Ok(()) => {}
-        Err(Fault::Failed) => return Ending::ReadFault,
-        Err(Fault::Memory) => return Ending::Memory,
+        Err(fault) => return Ending::of_read(fault),
     }
     match stage.opened(place, out) {
         Ok(()) => {}

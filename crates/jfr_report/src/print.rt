@@ -1,9 +1,12 @@
 // The command that shows the events of a recording.
-ghost use Rattle.std.specs.Prelude.{◌≡◌, ◌≤◌, ◌<◌, ◌+◌, [], ◌∷◌, ◌++◌, ℕ, List, Option, IfOk, OnOk, Some, length, drop, slice_get, encode_utf8_all};
-ghost use Rattle.jfr_plan.specs.Ends.{way_of};
+ghost use Rattle.std.specs.Prelude.{◌≡◌, ◌≢◌, ◌≤◌, ◌<◌, ◌+◌, [], ◌∷◌, ◌++◌, ℕ, List, Option, IfOk, OnOk, Some, length, drop, slice_get, encode_utf8_all};
+ghost use Rattle.jfr_base.specs.declared.flaw.Refusal.{Refusal};
+ghost use Rattle.jfr_outside.specs.Counts.{Rose};
+ghost use Rattle.jfr_plan.specs.Ends.{Fine, Refused, way_of};
 ghost use Rattle.jfr_plan.specs.Effects.{outside};
 ghost use Rattle.jfr_plan.specs.Walks.{Text};
 ghost use Rattle.jfr_plan.specs.Outcomes.{After, Tallied};
+ghost use Rattle.jfr_plan.specs.Clauses.{Ended, Halted, Broken, Partly, IsComplete, CanRead};
 ghost use Rattle.jfr_value.specs.Nodes.{node_of};
 ghost use Rattle.jfr_chunk.specs.Parts.{events_of};
 ghost use Rattle.jfr_chunk.specs.Seen.{event_at};
@@ -206,10 +209,39 @@ pub fn print_stream<P: Place, O: Sink>(
     json: bool,
 ) -> Ending
     requires depth { depth ≤ 8 }
+
+    // What stands after the call, and which counts rose, by the answer.
     ensures told { After (printing filter.now depth json) [] file.now (way_of result)
         (outside (P.state place.old) (O.state out.old)) (outside (P.state place.new) (O.state out.new)) }
     ensures counts { Tallied Text (way_of result)
         (outside (P.state place.old) (O.state out.old)) (outside (P.state place.new) (O.state out.new)) }
+
+    // What stands after each answer, where the place tells its files.
+    ensures done { result ≡ Ending.Done → Ended (printing filter.now depth json) file.now Fine
+        (outside (P.state place.old) (O.state out.old)) (outside (P.state place.new) (O.state out.new)) }
+    ensures refused { (r : Refusal) → result ≡ Ending.Refused r → Ended (printing filter.now depth json) file.now (Refused r)
+        (outside (P.state place.old) (O.state out.old)) (outside (P.state place.new) (O.state out.new)) }
+    ensures halted { result ≡ Ending.ReadFault → Halted (printing filter.now depth json) file.now
+        (outside (P.state place.old) (O.state out.old)) (outside (P.state place.new) (O.state out.new)) }
+    ensures broken { result ≡ Ending.WriteFault → Broken (printing filter.now depth json) file.now
+        (outside (P.state place.old) (O.state out.old)) (outside (P.state place.new) (O.state out.new)) }
+    ensures memory { result ≡ Ending.Memory → Partly (printing filter.now depth json) file.now
+        (outside (P.state place.old) (O.state out.old)) (outside (P.state place.new) (O.state out.new)) }
+
+    // A fault comes only where it was counted, and none is passed over.
+    ensures read_fault { result ≡ Ending.ReadFault → Rose (P.state place.old).read_faults (P.state place.new).read_faults }
+    ensures write_fault { result ≡ Ending.WriteFault → Rose (O.state out.old).faults (O.state out.new).faults }
+    ensures no_read_passed { (P.state place.old).read_faults < (P.state place.new).read_faults → result ≡ Ending.ReadFault }
+    ensures no_write_passed { (O.state out.old).faults < (O.state out.new).faults → result ≡ Ending.WriteFault }
+
+    // Without a fault the answer is the plan's end, or memory was wanting.
+    ensures complete { IsComplete (printing filter.now depth json) file.now (way_of result)
+        (outside (P.state place.old) (O.state out.old)) (outside (P.state place.new) (O.state out.new)) }
+    ensures parts { result ≢ Ending.TooManyParts }
+
+    // The call brings no fault about by itself.
+    ensures can_read { CanRead file.now (P.state place.old) → (result ≢ Ending.ReadFault) × ((P.state place.new).read_faults ≡ (P.state place.old).read_faults) }
+    ensures same { (P.state place.new).steady ≡ (P.state place.old).steady }
 {
     let report = Printing {
         filter,

@@ -1,9 +1,12 @@
 // A command that writes texts for each chunk, and last ones at the end.
-ghost use Rattle.std.specs.Prelude.{◌≡◌, ◌<◌, ◌++◌, ◌∷◌, ◌^◌, ℕ, List, [], OnOk};
-ghost use Rattle.jfr_plan.specs.Ends.{way_of};
+ghost use Rattle.std.specs.Prelude.{◌≡◌, ◌≢◌, ◌<◌, ◌++◌, ◌∷◌, ◌^◌, ℕ, List, [], OnOk};
+ghost use Rattle.jfr_base.specs.declared.flaw.Refusal.{Refusal};
+ghost use Rattle.jfr_outside.specs.Counts.{Rose};
+ghost use Rattle.jfr_plan.specs.Ends.{Fine, Refused, way_of};
 ghost use Rattle.jfr_plan.specs.Effects.{outside};
 ghost use Rattle.jfr_plan.specs.Walks.{Text};
 ghost use Rattle.jfr_plan.specs.Outcomes.{After, Tallied};
+ghost use Rattle.jfr_plan.specs.Clauses.{Ended, Halted, Broken, Partly, IsComplete, CanRead};
 ghost use Rattle.jfr_chunk.specs.Parts.{Parts};
 ghost use Rattle.jfr_report.specs.Reports.{texting, all_parts};
 ghost use Rattle.jfr_report.specs.Gathered.{TextLeaves, TextCounted};
@@ -95,8 +98,9 @@ impl<R: Report> Stage for Reporting<R> {
     }
 }
 
-/// Takes a recording to its end, and writes what the report asks for.
-pub(crate) fn report_stream<P: Place, O: Sink, R: Report>(
+// Takes a recording to its end, and writes what the report asks for. All clauses of `report_stream` follow
+// from these two.
+fn report_each<P: Place, O: Sink, R: Report>(
     alloc: Global,
     place: &mut P,
     out: &mut O,
@@ -116,4 +120,50 @@ pub(crate) fn report_stream<P: Place, O: Sink, R: Report>(
     };
     let mut at = Position::first(alloc);
     run_stage(place, out, &mut stage, file, &mut at)
+}
+
+/// Takes a recording to its end, and writes what the report asks for.
+pub(crate) fn report_stream<P: Place, O: Sink, R: Report>(
+    alloc: Global,
+    place: &mut P,
+    out: &mut O,
+    report: R,
+    file: &str,
+) -> Ending
+    requires new { R.seen report [] }
+
+    // What stands after the call, and which counts rose, by the answer.
+    ensures told { After (texting (R.texts report) (λ before. R.last report (all_parts before))) [] file.now (way_of result)
+        (outside (P.state place.old) (O.state out.old)) (outside (P.state place.new) (O.state out.new)) }
+    ensures counts { Tallied Text (way_of result)
+        (outside (P.state place.old) (O.state out.old)) (outside (P.state place.new) (O.state out.new)) }
+
+    // What stands after each answer, where the place tells its files.
+    ensures done { result ≡ Ending.Done → Ended (texting (R.texts report) (λ before. R.last report (all_parts before))) file.now Fine
+        (outside (P.state place.old) (O.state out.old)) (outside (P.state place.new) (O.state out.new)) }
+    ensures refused { (r : Refusal) → result ≡ Ending.Refused r → Ended (texting (R.texts report) (λ before. R.last report (all_parts before))) file.now (Refused r)
+        (outside (P.state place.old) (O.state out.old)) (outside (P.state place.new) (O.state out.new)) }
+    ensures halted { result ≡ Ending.ReadFault → Halted (texting (R.texts report) (λ before. R.last report (all_parts before))) file.now
+        (outside (P.state place.old) (O.state out.old)) (outside (P.state place.new) (O.state out.new)) }
+    ensures broken { result ≡ Ending.WriteFault → Broken (texting (R.texts report) (λ before. R.last report (all_parts before))) file.now
+        (outside (P.state place.old) (O.state out.old)) (outside (P.state place.new) (O.state out.new)) }
+    ensures memory { result ≡ Ending.Memory → Partly (texting (R.texts report) (λ before. R.last report (all_parts before))) file.now
+        (outside (P.state place.old) (O.state out.old)) (outside (P.state place.new) (O.state out.new)) }
+
+    // A fault comes only where it was counted, and none is passed over.
+    ensures read_fault { result ≡ Ending.ReadFault → Rose (P.state place.old).read_faults (P.state place.new).read_faults }
+    ensures write_fault { result ≡ Ending.WriteFault → Rose (O.state out.old).faults (O.state out.new).faults }
+    ensures no_read_passed { (P.state place.old).read_faults < (P.state place.new).read_faults → result ≡ Ending.ReadFault }
+    ensures no_write_passed { (O.state out.old).faults < (O.state out.new).faults → result ≡ Ending.WriteFault }
+
+    // Without a fault the answer is the plan's end, or memory was wanting.
+    ensures complete { IsComplete (texting (R.texts report) (λ before. R.last report (all_parts before))) file.now (way_of result)
+        (outside (P.state place.old) (O.state out.old)) (outside (P.state place.new) (O.state out.new)) }
+    ensures parts { result ≢ Ending.TooManyParts }
+
+    // The call brings no fault about by itself.
+    ensures can_read { CanRead file.now (P.state place.old) → (result ≢ Ending.ReadFault) × ((P.state place.new).read_faults ≡ (P.state place.old).read_faults) }
+    ensures same { (P.state place.new).steady ≡ (P.state place.old).steady }
+{
+    report_each(alloc, place, out, report, file)
 }

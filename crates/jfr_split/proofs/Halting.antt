@@ -1,10 +1,16 @@
 -- After a failed read within one of the files the first of its chunks are appended.
-use Rattle.std.proofs.Common.{IsTrue, ◌≡◌, ℕ, ◌+◌, ◌-◌, ◌≤◌, refl, sym, ◌∙◌, ap, Bool, true, false, List, [], ◌∷◌, ◌++◌, length, take, drop, Option, None, Some, take-append-drop, length-take-le, nat_le, if◌then◌else◌, arith}
+use Rattle.std.proofs.Common.{IsTrue, Err, ◌≡◌, ℕ, ◌+◌, ◌-◌, ◌≤◌, refl, sym, ◌∙◌, ap, Bool, true, false, List, [], ◌∷◌, ◌++◌, length, take, drop, Option, None, Some, take-append-drop, length-take-le, nat_le, if◌then◌else◌, arith}
 use Rattle.std.specs.List.{list_any}
+use Rattle.std.specs.Prelude.{IsErrOf}
 use Rattle.jfr_base.specs.declared.flaw.Flaw.{Flaw}
+use Rattle.jfr_outside.specs.World.{World, Files, Told, Leaves, unchanged}
+use Rattle.jfr_outside.specs.declared.fault.Fault.{Fault}
+use Rattle.jfr_outside.specs.declared.fault.Fault.TheVariants as faults
+use Rattle.jfr_header.specs.declared.ending.Ending.{Ending}
+use Rattle.jfr_header.specs.Endings.{after_read}
 use Rattle.jfr_header.specs.Cuts.{whole_in}
-use Rattle.jfr_plan.specs.Ends.{Way, Ends, NotRead, NotWritten, NoRoom}
-use Rattle.jfr_plan.specs.Effects.{Effect, Stand, done, effects, keep_met}
+use Rattle.jfr_plan.specs.Ends.{Way, Ends, NotRead, NotWritten, NoRoom, way_of}
+use Rattle.jfr_plan.specs.Effects.{Effect, Plan, Stand, stand, done, effects, keep_met}
 use Rattle.jfr_plan.specs.Walks.{walk, gone, AllGo, cut_after, plan_after}
 use Rattle.jfr_plan.specs.Outcomes.{NeedsMet, MetIn, OutcomeIn, held_count}
 use Rattle.jfr_plan.proofs.Walking.{past}
@@ -61,3 +67,9 @@ file_outcome steady earlier x left (Ends e) s t h = h
 file_outcome steady earlier x left NotRead s t h = halted_first steady earlier x left s t (λ y. some_none (Some x) x refl (h.1 y)) h.0
 file_outcome steady earlier x left NotWritten s t h = h
 file_outcome steady earlier x left NoRoom s t h = h
+
+-- The folder could not be listed, and nothing is done.
+pub not_listed : (T : Type 0) (steady : Bool) (plan : Files → Plan) (fault : Fault) (y : Ending) (o : Option (List ℕ)) (b a : Option World) → y ≡ after_read fault → Leaves {T = T} (Err fault) b a (λ _. unchanged) unchanged → (IsTrue steady → IsErrOf {T = T} (Err fault) faults.Failed → ⊥) → Told b a (λ w v. FilesOutcome steady (plan w.files) (way_of y) (stand w o) (stand v o))
+not_listed T steady plan fault y o None a is t never = tt
+not_listed T steady plan faults.Failed y o (Some w) a is t never = rw is (rw t (record { first = []; rest = effects (plan w.files).steps; parts = refl; unfinished = refl; stands = refl; cause = λ k. never k refl }))
+not_listed T steady plan faults.Memory y o (Some w) a is t never = rw is (rw t (record { first = []; rest = effects (plan w.files).steps; parts = refl; stands = refl }))

@@ -6,7 +6,7 @@ ghost use Rattle.jfr_plan.specs.Walks.{Goes, File, Parts};
 ghost use Rattle.jfr_plan.specs.Parts.{PartLeaves, PartTallied};
 
 use jfr_header::Ending;
-use jfr_outside::{Fault, Place};
+use jfr_outside::Place;
 
 /// Finishes the output.
 pub fn finish_output<P: Place>(place: &mut P) -> Result<(), Ending>
@@ -17,11 +17,7 @@ pub fn finish_output<P: Place>(place: &mut P) -> Result<(), Ending>
     ensures part { (sink : SinkState) → PartTallied Parts result
         (outside (P.state place.old) sink) (outside (P.state place.new) sink) }
 {
-    match place.finish_output() {
-        Ok(()) => Ok(()),
-        Err(Fault::Failed) => Err(Ending::WriteFault),
-        Err(Fault::Memory) => Err(Ending::Memory),
-    }
+    place.finish_output().map_err(Ending::of_write)
 }
 
 /// Creates the output.
@@ -33,11 +29,7 @@ pub fn create_output<P: Place>(place: &mut P, name: &str) -> Result<(), Ending>
     ensures part { (sink : SinkState) → PartTallied Parts result
         (outside (P.state place.old) sink) (outside (P.state place.new) sink) }
 {
-    match place.create_output(name) {
-        Ok(()) => Ok(()),
-        Err(Fault::Failed) => Err(Ending::WriteFault),
-        Err(Fault::Memory) => Err(Ending::Memory),
-    }
+    place.create_output(name).map_err(Ending::of_write)
 }
 
 /// Appends a chunk to the output.
@@ -49,9 +41,5 @@ pub fn append_chunk<P: Place>(place: &mut P, chunk: &[u8]) -> Result<(), Ending>
     ensures part { (sink : SinkState) → PartTallied Parts result
         (outside (P.state place.old) sink) (outside (P.state place.new) sink) }
 {
-    match place.append(chunk) {
-        Ok(()) => Ok(()),
-        Err(Fault::Failed) => Err(Ending::WriteFault),
-        Err(Fault::Memory) => Err(Ending::Memory),
-    }
+    place.append(chunk).map_err(Ending::of_write)
 }

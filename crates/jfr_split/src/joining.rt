@@ -17,7 +17,7 @@ use crate::effects::{append_chunk, create_output, finish_output};
 use crate::listing::joined_files;
 use jfr_base::{Reason, Refusal};
 use jfr_header::Ending;
-use jfr_outside::{Fault, NoMemory, Place, Sink};
+use jfr_outside::{NoMemory, Place, Sink};
 use jfr_plan::{Discard, Position, Stage, run_stage};
 use std::alloc::Global;
 
@@ -119,8 +119,7 @@ fn list_files<P: Place>(alloc: Global, place: &mut P, folder: &str) -> Result<Ve
 {
     let names = match place.list(alloc, folder) {
         Ok(names) => names,
-        Err(Fault::Failed) => return Err(Ending::ReadFault),
-        Err(Fault::Memory) => return Err(Ending::Memory),
+        Err(fault) => return Err(Ending::of_read(fault)),
     };
     match joined_files(alloc, folder, &names) {
         Ok(files) => Ok(files),

@@ -1,4 +1,4 @@
-use Rattle.std.proofs.Common.{arith, ℕ, ◌+◌, sym, ◌∙◌, ap, subst, List, [], ◌∷◌, ◌++◌, IfSome, Bool, IsTrue, refl, length, Ok, Err}
+use Rattle.std.proofs.Common.{arith, ℕ, sym, ◌∙◌, subst, List, [], ◌∷◌, ◌++◌, IfSome, Bool, IsTrue, refl, Ok, Err}
 use Rattle.jfr_outside.specs.World.{Told}
 use Rattle.jfr_plan.specs.Effects.{outside}
 use Rattle.jfr_plan.specs.Walks.{Rule, Goes}

@@ -1,21 +1,37 @@
-use Rattle.std.proofs.Common.{◌∙◌, subst, Bool, Err}
+use Rattle.std.proofs.Common.{◌∙◌, refl, subst, Bool, Err}
 use Rattle.jfr_outside.specs.World.{Told}
 use Rattle.jfr_plan.specs.Ends.{way_of}
+use Rattle.jfr_plan.specs.Effects.{outside}
 use Rattle.jfr_plan.specs.Walks.{Goes}
 use Rattle.jfr_plan.specs.Parts.{PartTold}
 use Rattle.jfr_plan.specs.Outcomes.{OutcomeOf}
+use Rattle.jfr_plan.proofs.Failing.{open_failed, read_tallied, open_ended}
 use Rattle.jfr_plan.proofs.Staging.{opened_err, opened_ok}
 use Rattle.jfr_plan.proofs.stage.run_stage.Goals as goal
 
 pub returns-in-Err-clause-told : goal.returns-in-Err-clause-told
 returns-in-Err-clause-told g c = λ earlier s m.
+    open_failed (g.P.Place.state c.args.place.now).steady (g.S.Stage.rule c.args.stage.now) earlier c.args.input.now c.in-Err.fault c.of_read.result (g.O.Sink.state c.args.out.now).written (g.P.Place.state c.args.place.now).told (g.P.Place.state c.open_input.new.self).told c.of_read.ensures
+    (rw c.in-Err.is at c.open_input.ensures.told)
+    (rw c.in-Err.is at c.open_input.ensures.steady)
+
+pub returns-in-Err-clause-later : goal.returns-in-Err-clause-later
+returns-in-Err-clause-later g c = λ earlier s m e. absurd (open_ended c.in-Err.fault c.of_read.result c.of_read.ensures e)
+
+pub returns-in-Err-clause-counts : goal.returns-in-Err-clause-counts
+returns-in-Err-clause-counts g c =
+    read_tallied (g.S.Stage.rule c.args.stage.now).target c.in-Err.fault c.of_read.result (outside (g.P.Place.state c.args.place.now) (g.O.Sink.state c.args.out.now)) (outside (g.P.Place.state c.open_input.new.self) (g.O.Sink.state c.args.out.now)) c.of_read.ensures
+    (rw c.in-Err.is at c.open_input.ensures.reads) c.open_input.ensures.writes refl c.open_input.ensures.same
+
+pub returns-in-Err-opened-clause-told : goal.returns-in-Err-opened-clause-told
+returns-in-Err-opened-clause-told g c = λ earlier s m.
     let r = g.S.Stage.rule c.args.stage.now in
     let o = (g.O.Sink.state c.args.out.now).written in
     let q = (g.O.Sink.state c.opened.new.out).written in
     let a = (g.P.Place.state c.open_input.new.self).told in
     let d = (g.P.Place.state c.opened.new.place).told in
-    opened_err (g.P.Place.state c.args.place.now).steady r earlier c.args.input.now c.in-Err.ending o q (g.P.Place.state c.args.place.now).told a d c.in-Ok.ensures.told c.in-Ok.ensures.there
-    (subst (λ (k : Bool). Told a d (PartTold k (Goes r.opens) (Err c.in-Err.ending) o q)) c.in-Ok.ensures.same c.in-Err.ensures.told)
+    opened_err (g.P.Place.state c.args.place.now).steady r earlier c.args.input.now c.in-Err-opened.ending o q (g.P.Place.state c.args.place.now).told a d c.in-Ok.ensures.told c.in-Ok.ensures.there
+    (subst (λ (k : Bool). Told a d (PartTold k (Goes r.opens) (Err c.in-Err-opened.ending) o q)) c.in-Ok.ensures.same c.in-Err-opened.ensures.told)
 
 pub returns-clause-told : goal.returns-clause-told
 returns-clause-told g c = λ earlier s m.

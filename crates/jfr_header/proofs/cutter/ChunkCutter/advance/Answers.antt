@@ -40,7 +40,7 @@ returns-in-Bad-clause-told g c =
     let judged : IsJudged c.fill.new.self c.args.self.now.start c.args.self.now.given (verdicts.Bad c.in-Bad.flaw) = judged_at _ c.args.self.now c.as_slice.result.now c.fill.new.self (verdicts.Bad c.in-Bad.flaw) c.self.view_is c.as_slice.ensures c.in-Bad.ensures in
     let most : length c.fill.new.self ≤ 68 = search (rules, c.in-Ok.ensures.bound) in
     with_both (g.P.Place.state c.args.place.now).told (g.P.Place.state c.fill.new.place).told (λ v. IsSome v.input) (λ v. v.input ≡ Some []) (length c.fill.new.self < 68) (Moved [] c.fill.new.self) _ first opened ended
-    (λ w v m o e. judged_bad c.args.self.now c.self.inside.number c.in-Bad.flaw c.fill.new.self w v most judged m o e)
+    (λ w v m o e. rw c.with_number.ensures (judged_bad c.args.self.now c.self.inside.number c.in-Bad.flaw c.fill.new.self w v most judged m o e))
 
 pub fill-requires-2 : goal.fill-requires-2
 fill-requires-2 g c =
