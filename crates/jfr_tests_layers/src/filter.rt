@@ -120,3 +120,17 @@ fn parts(rt: HostRuntime) -> Result<(), Fail> {
     assert!(rt; !filter.keeps("t.A", &java, Some("main")));
     Ok(())
 }
+
+// Each option by itself, for one text.
+#[test]
+fn sides(rt: HostRuntime) -> Result<(), Fail> {
+    let mut filter = Filter::new(rt.alloc());
+    filter.add(Side::IncludeEvents, "A")?;
+    filter.add(Side::ExcludeCategories, "A,Java*")?;
+    // A class is matched by its simple name too, a category as it stands.
+    assert!(rt; filter.matches(Side::IncludeEvents, "t.A"));
+    assert!(rt; !filter.matches(Side::ExcludeCategories, "t.A"));
+    assert!(rt; filter.matches(Side::ExcludeCategories, "Java Application"));
+    assert!(rt; !filter.matches(Side::IncludeThreads, "A"));
+    Ok(())
+}
