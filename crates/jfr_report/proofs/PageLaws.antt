@@ -10,13 +10,18 @@ use Rattle.std.proofs.Common.{Result, Ok, Err, OnOk}
 use Rattle.std.specs.Prelude.{encode_utf8_all}
 use Rattle.std.specs.Str.{chars, IsUtf8}
 use Rattle.std.proofs.lemmas.Str.{encodes-append, encodes-chars}
-use Rattle.jfr_outside.specs.World.{added}
+use Rattle.jfr_outside.specs.World.{LeavesPrefix, added}
+use Rattle.jfr_outside.specs.Counts.{Counts}
+use Rattle.jfr_outside.specs.declared.fault.Fault.{Fault}
+use Rattle.jfr_outside.specs.declared.fault.Fault.TheVariants as faults
 use Rattle.jfr_base.specs.declared.memory.NoMemory.{NoMemory}
 use Rattle.jfr_header.specs.declared.ending.Ending.{Ending}
+use Rattle.jfr_header.specs.Endings.{after_write}
+use Rattle.jfr_plan.proofs.Failing.{Passes, passed}
 use Rattle.jfr_value.specs.Nodes.{NodeAt}
 use Rattle.jfr_chunk.specs.Parts.{Parts}
 use Rattle.jfr_report.specs.Reports.{event_bytes, chunk_of, text_by, writer_of}
-use Rattle.jfr_report.specs.Gathered.{Grew, IsGathered, TearsText, WritesSome, TextLeaves, PageLeaves}
+use Rattle.jfr_report.specs.Gathered.{Grew, IsGathered, TearsText, WritesSome, TextLeaves, TextCounted, PageLeaves}
 
 -- Nothing is written or gathered yet.
 pub begins : (all : List (List ℕ)) (before : Option (List ℕ)) → IsGathered all before before [] all
@@ -150,6 +155,30 @@ page_written all before now next g bytes h rest e n w i =
 
 pub page_torn : (all : List (List ℕ)) (before now next : Option (List ℕ)) (g bytes : List ℕ) (rest : List (List ℕ)) → bytes ≡ g → (g ≡ [] → ⊥) → ((k : ℕ) × (next ≡ option_map (added (take k bytes)) now)) → IsGathered all before now g rest → TearsText all before next
 page_torn all before now next g bytes rest e some w i = tears all before now next g rest w.0 some (w.1 ∙ ap (λ z. option_map (added (take w.0 z)) now) e) i
+
+-- The page could not be written.
+pub page_failed : (all : List (List ℕ)) (before now next : Option (List ℕ)) (g bytes : List ℕ) (rest : List (List ℕ)) (fault : Fault) (y : Ending) → y ≡ after_write fault → bytes ≡ g → (g ≡ [] → ⊥) → LeavesPrefix {T = Unit {0}} (Err fault) now next bytes added → IsGathered all before now g rest → TextLeaves all (Err y) before next
+page_failed all before now next g bytes rest faults.Failed y is e some w i = rw is (page_torn all before now next g bytes rest e some w i)
+page_failed all before now next g bytes rest faults.Memory y is e some w i = rw is (rw w (some_written all before now g rest i))
+
+pub page_counted : (fault : Fault) (y : Ending) (before now : ℕ) → y ≡ after_write fault → Counts {T = Unit {0}} (Err fault) before now → TextCounted (Err y) before now
+page_counted faults.Failed y before now is c = rw is c
+page_counted faults.Memory y before now is c = rw is c
+
+-- One text is written, as its write answers.
+pub text_leaves : (text : List ℕ) (before now : Option (List ℕ)) (r : Result (Unit {0}) Fault) (z : Result (Unit {0}) Ending) → Passes r z → LeavesPrefix r before now text added → TextLeaves (text ∷ []) z before now
+text_leaves text before now r z h t =
+    passed (λ y. TextLeaves (text ∷ []) y before now) r z h
+    (λ x e. let w : now ≡ option_map (added text) before = rw e at t in w ∙ ap (λ y. option_map (added y) before) (sym (append-nil text)))
+    (λ e. tears_one text before now (rw e at t))
+    (λ e. let w : now ≡ before = rw e at t in rw w (some_written (text ∷ []) before before [] (text ∷ []) (begins (text ∷ []) before)))
+
+pub text_counted : (before now : ℕ) (r : Result (Unit {0}) Fault) (z : Result (Unit {0}) Ending) → Passes r z → Counts r before now → TextCounted z before now
+text_counted before now r z h c =
+    passed (λ y. TextCounted y before now) r z h
+    (λ x e. rw e at c)
+    (λ e. rw e at c)
+    (λ e. rw e at c)
 
 -- The last page is written.
 pub last_page : (all : List (List ℕ)) (before now : Option (List ℕ)) (result : Result (Unit {0}) Ending) (h : List ℕ) → PageLeaves all before result h [] now → OnOk result (h ≡ []) → TextLeaves all result before now

@@ -4,7 +4,7 @@ ghost use Rattle.std.specs.Prelude.{◌≡◌, [], ◌∷◌, ℕ, List, Option,
 ghost use Rattle.jfr_report.specs.Gathered.{IsGathered, PageLeaves, TextLeaves, TextCounted};
 
 use jfr_header::Ending;
-use jfr_outside::{Fault, Sink};
+use jfr_outside::Sink;
 use jfr_show::TextBuilder;
 
 /// A page is written as soon as it has so many bytes.
@@ -36,8 +36,7 @@ pub(crate) fn write_page<O: Sink>(out: &mut O, page: &mut TextBuilder) -> Result
     }
     match out.write(page.as_bytes()) {
         Ok(()) => {}
-        Err(Fault::Failed) => return Err(Ending::WriteFault),
-        Err(Fault::Memory) => return Err(Ending::Memory),
+        Err(fault) => return Err(Ending::of_write(fault)),
     }
     page.clear();
     Ok(())
@@ -48,9 +47,5 @@ pub(crate) fn write_text<O: Sink>(out: &mut O, text: &[u8]) -> Result<(), Ending
     ensures texts { TextLeaves (text.now ∷ []) result (O.state out.old).written (O.state out.new).written }
     ensures faults { TextCounted result (O.state out.old).faults (O.state out.new).faults }
 {
-    match out.write(text) {
-        Ok(()) => Ok(()),
-        Err(Fault::Failed) => Err(Ending::WriteFault),
-        Err(Fault::Memory) => Err(Ending::Memory),
-    }
+    out.write(text).map_err(Ending::of_write)
 }

@@ -11,7 +11,6 @@ ghost use Rattle.jfr_chunk.specs.Parts.{Parts};
 ghost use Rattle.jfr_report.specs.Reports.{texting, all_parts};
 ghost use Rattle.jfr_report.specs.Gathered.{TextLeaves, TextCounted};
 
-use jfr_base::{ReadFault, Refusal};
 use jfr_chunk::{Chunk, Room};
 use jfr_header::Ending;
 use jfr_outside::{Place, Sink};
@@ -79,14 +78,7 @@ impl<R: Report> Stage for Reporting<R> {
         let room = mem::replace(&mut self.room, Room::new(self.alloc));
         let chunk = match Chunk::read_in(self.alloc, room, chunk) {
             Ok(chunk) => chunk,
-            Err(ReadFault::Flawed(flaw)) => {
-                return Err(Ending::Refused(Refusal {
-                    chunk: number,
-                    offset: flaw.offset,
-                    reason: flaw.reason,
-                }));
-            }
-            Err(ReadFault::Memory) => return Err(Ending::Memory),
+            Err(fault) => return Err(Ending::of_chunk(number, fault)),
         };
         let written = self.report.chunk(self.alloc, out, &chunk, number);
         self.room = chunk.into_room();

@@ -1,11 +1,21 @@
 // The words of the command line that are not yet read.
-ghost use Rattle.std.specs.Prelude.{◌≡◌, ◌≢◌, ◌∷◌, [], MatchOption, MatchResult, slice_get};
+ghost use Rattle.std.specs.Prelude.{◌≡◌, ◌≢◌, ◌∷◌, [], ℕ, List, Option, MatchOption, MatchResult, OnSome, IfNone, option_and_then, slice_get, drop};
 ghost use Rattle.std.specs.Str.{chars};
 ghost use Rattle.jfr_base.specs.Texts.{text_in};
 
 use crate::WordsFault;
 use jfr_outside::Words;
 use std::marker::Model;
+
+/// An option of a command, which a word names.
+pub(crate) trait Named: Drop {
+    // What a word names.
+    ghost named: { List ℕ → Option Self };
+
+    /// The option that a word names.
+    fn of_word(word: &str) -> Option<Self>
+        ensures { result ≡ named (chars word.now) };
+}
 
 /// The words that are left. Contracts see them as their list.
 #[derive(Drop)]
@@ -47,6 +57,17 @@ impl<'a> Left<'a> {
         let word = self.words.get(self.at)?;
         self.at += 1;
         Some(word)
+    }
+
+    /// Takes the first word, if it names an option.
+    pub(crate) fn take_option<T: Named>(&mut self) -> Option<T>
+        ensures option { result ≡ option_and_then T.named (slice_get self.old 0) }
+        ensures taken { OnSome result (self.new ≡ drop 1 self.old) }
+        ensures unchanged { IfNone result (self.new ≡ self.old) }
+    {
+        let option = T::of_word(self.first()?)?;
+        let _ = self.take();
+        Some(option)
     }
 
     /// Takes the first word, which must be there.

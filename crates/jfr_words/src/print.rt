@@ -1,10 +1,10 @@
 // The words after `print`.
-ghost use Rattle.std.specs.Prelude.{◌≡◌, ◌≤◌, ◌∷◌, ℕ, List, length, Some, OnOk, OnSome, IfNone, option_and_then, slice_get, drop};
+ghost use Rattle.std.specs.Prelude.{◌≡◌, ◌≤◌, ◌∷◌, ℕ, List, length, Some, OnOk};
 ghost use Rattle.std.specs.Str.{chars};
 ghost use Rattle.jfr_words.specs.Prints.{no_print_option, print_option_of, print_from, print_with};
 ghost use Rattle.jfr_words.specs.Words.{IsRead, StillGives};
 
-use crate::left::Left;
+use crate::left::{Left, Named};
 use crate::name::read_only_name;
 use crate::number::read_number;
 use crate::patterns::give_patterns;
@@ -42,7 +42,7 @@ pub(crate) fn read_print(alloc: Global, left: &mut Left<'_>) -> Result<Order, Wo
     ensures { IsRead (print_from no_print_option left.old) result (λ order. order) }
 {
     let mut given = PrintGiven::none(alloc);
-    'options: while let Some(option) = take_option(left) {
+    'options: while let Some(option) = left.take_option() {
         given.give(option, left)?;
     }
     let file = read_only_name(alloc, left)?;
@@ -102,26 +102,18 @@ impl PrintGiven {
     }
 }
 
-/// Takes the first word, if it names an option.
-fn take_option(left: &mut Left<'_>) -> Option<PrintOption>
-    ensures option { result ≡ option_and_then print_option_of (slice_get left.old 0) }
-    ensures taken { OnSome result (left.new ≡ drop 1 left.old) }
-    ensures unchanged { IfNone result (left.new ≡ left.old) }
-{
-    let option = option_of(left.first()?)?;
-    let _ = left.take();
-    Some(option)
-}
+impl Named for PrintOption {
+    ghost use Rattle.jfr_words.specs.Prints.{print_option_of};
 
-/// The option that a word names.
-fn option_of(word: &str) -> Option<PrintOption>
-    ensures { result ≡ print_option_of (chars word.now) }
-{
-    match word {
-        "--events" => Some(PrintOption::Patterns(Side::IncludeEvents)),
-        "--categories" => Some(PrintOption::Patterns(Side::IncludeCategories)),
-        "--depth" => Some(PrintOption::Depth),
-        "--json" => Some(PrintOption::Json),
-        _ => None,
+    ghost named = { λ word. print_option_of word };
+
+    fn of_word(word: &str) -> Option<Self> {
+        match word {
+            "--events" => Some(PrintOption::Patterns(Side::IncludeEvents)),
+            "--categories" => Some(PrintOption::Patterns(Side::IncludeCategories)),
+            "--depth" => Some(PrintOption::Depth),
+            "--json" => Some(PrintOption::Json),
+            _ => None,
+        }
     }
 }

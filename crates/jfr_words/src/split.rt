@@ -1,10 +1,10 @@
 // The words after `disassemble`.
-ghost use Rattle.std.specs.Prelude.{◌≡◌, OnSome, IfNone, option_and_then, slice_get, drop};
+ghost use Rattle.std.specs.Prelude.{◌≡◌};
 ghost use Rattle.std.specs.Str.{chars};
-ghost use Rattle.jfr_words.specs.Splits.{no_split_option, split_option_of, split_with, split_from, split_rule, is_split_given};
+ghost use Rattle.jfr_words.specs.Splits.{no_split_option, split_with, split_from, split_rule, is_split_given};
 ghost use Rattle.jfr_words.specs.Words.{IsRead};
 
-use crate::left::Left;
+use crate::left::{Left, Named};
 use crate::name::{read_name, read_only_name};
 use crate::number::read_number;
 use crate::{Order, WordsFault};
@@ -48,7 +48,7 @@ pub(crate) fn read_split(alloc: Global, left: &mut Left<'_>) -> Result<Order, Wo
     ensures { IsRead (split_from no_split_option left.old) result (λ order. order) }
 {
     let mut given = SplitGiven::none();
-    'options: while let Some(option) = take_option(left) {
+    'options: while let Some(option) = left.take_option() {
         let value = left.next_word()?;
         given.give(alloc, option, value)?;
     }
@@ -110,25 +110,17 @@ impl SplitGiven {
     }
 }
 
-/// Takes the first word, if it names an option.
-fn take_option(left: &mut Left<'_>) -> Option<SplitOption>
-    ensures option { result ≡ option_and_then split_option_of (slice_get left.old 0) }
-    ensures taken { OnSome result (left.new ≡ drop 1 left.old) }
-    ensures unchanged { IfNone result (left.new ≡ left.old) }
-{
-    let option = option_of(left.first()?)?;
-    let _ = left.take();
-    Some(option)
-}
+impl Named for SplitOption {
+    ghost use Rattle.jfr_words.specs.Splits.{split_option_of};
 
-/// The option that a word names.
-fn option_of(word: &str) -> Option<SplitOption>
-    ensures { result ≡ split_option_of (chars word.now) }
-{
-    match word {
-        "--output" => Some(SplitOption::Output),
-        "--max-chunks" => Some(SplitOption::MaxChunks),
-        "--max-size" => Some(SplitOption::MaxSize),
-        _ => None,
+    ghost named = { λ word. split_option_of word };
+
+    fn of_word(word: &str) -> Option<Self> {
+        match word {
+            "--output" => Some(SplitOption::Output),
+            "--max-chunks" => Some(SplitOption::MaxChunks),
+            "--max-size" => Some(SplitOption::MaxSize),
+            _ => None,
+        }
     }
 }

@@ -6,5 +6,5 @@ use Rattle.jfr_words.proofs.scrub.read_scrub.Goals as goal
 
 pub options-preserved : goal.options-preserved
 options-preserved c =
-    option_taken scrub_from side_of given_with scrub_named (record { on = λ g word next rest. refl }) c.options.filter c.give_patterns.new.filter c.in-Some.side _ c.options.left c.take_side.new.left _ c.in-Some.ensures.side c.in-Some.ensures.taken c.in_ok-list.ensures c.in_ok-give_patterns.ensures
+    option_taken scrub_from side_of given_with scrub_named (record { on = λ g word next rest. refl }) c.options.filter c.give_patterns.new.filter c.in-Some.side _ c.options.left c.take_option.new.self _ c.in-Some.ensures.option c.in-Some.ensures.taken c.in_ok-list.ensures c.in_ok-give_patterns.ensures
     ∙ c.options.invariant

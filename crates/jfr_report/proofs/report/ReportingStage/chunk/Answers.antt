@@ -1,8 +1,21 @@
-use Rattle.std.proofs.Common.{◌+◌, length}
+use Rattle.std.proofs.Common.{◌+◌, ap, length}
+use Rattle.jfr_plan.specs.Effects.{outside}
+use Rattle.jfr_plan.specs.Walks.{Text}
+use Rattle.jfr_plan.proofs.Failing.{chunk_refused, chunk_tallied}
+use Rattle.jfr_chunk.specs.Refusal.{read_parts}
 use Rattle.jfr_report.proofs.PlanLaws.{chunk_told}
 use Rattle.jfr_report.proofs.PartsLaws.{seen_more}
-use Rattle.jfr_report.specs.Reports.{all_parts}
+use Rattle.jfr_report.specs.Reports.{all_parts, asks_texts}
 use Rattle.jfr_report.proofs.report.ReportingStage.chunk.Goals as goal
+
+pub returns-in-Err-clause-told : goal.returns-in-Err-clause-told
+returns-in-Err-clause-told g c = λ before s number.
+    let texts = g.R.Report.texts c.args.self.now.report (length before + 1) in
+    chunk_refused (g.P.Place.state c.args._place.now).steady (asks_texts (length before + 1) texts (read_parts c.args.chunk.now)) (length before + 1) c.args.number c.in-Err.fault c.of_chunk.result (g.O.Sink.state c.args.out.now).written (g.P.Place.state c.args._place.now).told c.of_chunk.ensures number
+    (λ f e. ap (asks_texts (length before + 1) texts) (rw e at c.in-Err.ensures.exact))
+
+pub returns-in-Err-clause-counts : goal.returns-in-Err-clause-counts
+returns-in-Err-clause-counts g c = chunk_tallied Text c.args.number c.in-Err.fault c.of_chunk.result (outside (g.P.Place.state c.args._place.now) (g.O.Sink.state c.args.out.now)) c.of_chunk.ensures
 
 pub returns-clause-seen : goal.returns-clause-seen
 returns-clause-seen g c = λ before s number.

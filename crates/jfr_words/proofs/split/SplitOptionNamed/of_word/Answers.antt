@@ -2,7 +2,7 @@ use Rattle.std.proofs.Common.{refl, sym, ap}
 use Rattle.std.specs.Prelude.{codes}
 use Rattle.jfr_words.specs.Splits.{split_option_of}
 use Rattle.jfr_words.proofs.WordLaws.{chars_of, is_other}
-use Rattle.jfr_words.proofs.split.option_of.Goals as goal
+use Rattle.jfr_words.proofs.split.SplitOptionNamed.of_word.Goals as goal
 
 pub returns-in-text : goal.returns-in-text
 returns-in-text c = sym (ap split_option_of (chars_of _ (codes "--output") refl c.in-text.is))
