@@ -51,7 +51,7 @@ goes_tell k i c kind goes n t e h q l s u m g = rw e (
     let r : t ≡ step_goes m k f.0 = rw (field_of k i n c f.0 e f.1) at (s m g) in
     sym (list_any_at (step_goes m k) c.fields n f.0 l (ap (step_goes m k) (get_or_from_slice_get c.fields n f.0 f.0 f.1) ∙ (sym r ∙ u))) ∙ ap (list_any (step_goes m k)) (inline_all c (kind_here k i c kind e h q)))
 
--- The flags of the classes before a place, one step more.
+-- The flags of the classes before an index, one step more.
 pub record Round (k : Classes) (goes : List Bool) (n : ℕ) (next : List Bool) : Type 0 where
   pub each : (m : ℕ) → goes ≡ map (goes_inline m k) k → next ≡ map (goes_inline (suc m) k) (take n k)
 
@@ -76,7 +76,7 @@ all_go (c ∷ k) m = ap (λ ts. true ∷ ts) (all_go k m)
 abbrev pub found_deep : Classes → ℕ → Class → List ClassFlaw
 found_deep k i c = flaw_if (goes_inline 33 k c) i None InlineDeep
 
--- The classes before a place begin no chain that is too long.
+-- The classes before an index begin no chain that is too long.
 pub record Shallow (k : Classes) (n : ℕ) : Type 0 where
   pub left : deep k ≡ rest (found_deep k) k n
 

@@ -1,4 +1,4 @@
--- Event classes, and the places of them.
+-- Event classes, and the indexes of them.
 use Rattle.std.proofs.Common.{◌≡◌, ℕ, ◌<◌, ◌≤◌, List, [], ◌∷◌, ◌++◌, length, get_or, cond, None, Some, Bool, true, false, ◌&&◌, sym, ◌∙◌, ap, refl, subst, arith}
 use Rattle.std.specs.Prelude.{MatchOption, Option, is_some, nat_lt, option_map}
 use Rattle.std.specs.List.{slice_get}
@@ -8,9 +8,9 @@ use Rattle.std.proofs.lemmas.Option.{slice_get-get_or, same_Some}
 use Rattle.jfr_layout.specs.declared.kind.Kind.{Kind}
 use Rattle.jfr_layout.specs.declared.kind.Kind.TheVariants.{Boolean, Byte, Char, Short, Int, Long, Float, Double, Text, Composite}
 use Rattle.jfr_layout.specs.declared.field_layout.FieldLayout.{FieldLayout}
-use Rattle.jfr_layout.specs.Classes.{Class, Classes, IsEventLayout, class_place, find_class, extends_event, is_composite, is_event_class, kind_of, layout_with}
-use Rattle.jfr_layout.specs.Events.{AreEventPlaces, event_place}
-use Rattle.jfr_layout.proofs.FieldPlaces.{placed_class}
+use Rattle.jfr_layout.specs.Classes.{Class, Classes, IsEventLayout, class_index, find_class, extends_event, is_composite, is_event_class, kind_of, layout_with}
+use Rattle.jfr_layout.specs.Events.{AreEventIndices, event_index}
+use Rattle.jfr_layout.proofs.FieldIndices.{indexed_class}
 use Rattle.jfr_layout.proofs.Lists.{present, filled_push}
 
 no_event : (t : Bool) → false ≡ (t && false)
@@ -32,24 +32,24 @@ event_at k id p t l e w h =
     let r : t ≡ extends_event c.0 = rw c.1 at h in
     r ∙ (ap (λ o. option_map_or extends_event o false) (sym c.1 ∙ e) ∙ sym (ap (λ b. b && option_map_or extends_event (find_class k id) false) (lt-ltb 1 id l)))
 
--- No place where records of the type are no events, and the class's where they are.
-pub no_event_place : (k : Classes) (id : ℕ) → false ≡ is_event_class k id → None ≡ event_place k id
-no_event_place k id e = ap (λ t. cond t (class_place k id) None) e
+-- No index where records of the type are no events, and the class's where they are.
+pub no_event_index : (k : Classes) (id : ℕ) → false ≡ is_event_class k id → None ≡ event_index k id
+no_event_index k id e = ap (λ t. cond t (class_index k id) None) e
 
-pub event_placed : (k : Classes) (id p : ℕ) → Some p ≡ class_place k id → true ≡ is_event_class k id → Some p ≡ event_place k id
-event_placed k id p o e = o ∙ ap (λ t. cond t (class_place k id) None) e
+pub event_indexed : (k : Classes) (id p : ℕ) → Some p ≡ class_index k id → true ≡ is_event_class k id → Some p ≡ event_index k id
+event_indexed k id p o e = o ∙ ap (λ t. cond t (class_index k id) None) e
 
 -- And back.
-not_placed : (k : Classes) (id : ℕ) (t : Bool) → t ≡ is_event_class k id → None ≡ cond t (class_place k id) None → t ≡ false
-not_placed k id false q e = refl
-not_placed k id true q e = let n = event_none k id (placed_class k id None e) in cc
+not_indexed : (k : Classes) (id : ℕ) (t : Bool) → t ≡ is_event_class k id → None ≡ cond t (class_index k id) None → t ≡ false
+not_indexed k id false q e = refl
+not_indexed k id true q e = let n = event_none k id (indexed_class k id None e) in cc
 
-pub not_event : (k : Classes) (id : ℕ) → None ≡ event_place k id → is_event_class k id ≡ false
-not_event k id e = not_placed k id (is_event_class k id) refl e
+pub not_event : (k : Classes) (id : ℕ) → None ≡ event_index k id → is_event_class k id ≡ false
+not_event k id e = not_indexed k id (is_event_class k id) refl e
 
-is_placed : (t : Bool) (o : Option ℕ) (p : ℕ) → Some p ≡ cond t o None → (t ≡ true) × (o ≡ Some p)
-is_placed false o p e = cc
-is_placed true o p e = (refl, sym e)
+is_indexed : (t : Bool) (o : Option ℕ) (p : ℕ) → Some p ≡ cond t o None → (t ≡ true) × (o ≡ Some p)
+is_indexed false o p e = cc
+is_indexed true o p e = (refl, sym e)
 
 composite : (kind : Kind) (t : Bool) → (is_composite kind && t) ≡ true → kind ≡ Composite
 composite Boolean t e = cc
@@ -73,13 +73,13 @@ unfolding is_event_class
 composite_event k id e = event_kind (nat_lt 1 id) (find_class k id) e
 
 -- The layout of the fields of an event.
-pub event_layout : (k : Classes) (id p : ℕ) (s : FieldLayout) → Some p ≡ event_place k id → s ≡ layout_with (record { class = id; constant = false; array = false }) p Composite → IsEventLayout k id s
+pub event_layout : (k : Classes) (id p : ℕ) (s : FieldLayout) → Some p ≡ event_index k id → s ≡ layout_with (record { class = id; constant = false; array = false }) p Composite → IsEventLayout k id s
 event_layout k id p s o q =
-    let e = is_placed (is_event_class k id) (class_place k id) p o in
+    let e = is_indexed (is_event_class k id) (class_index k id) p o in
     subst (IsEventLayout k id) (sym q) (record {
       event = e.0;
       shape = refl;
-      layout = record { place = e.1; kind = composite_event k id e.0; form = refl };
+      layout = record { class_index = e.1; kind = composite_event k id e.0; form = refl };
     })
 
 -- It is found where there is one.
@@ -88,12 +88,12 @@ event_found k id None h = sym h
 event_found k id (Some s) h = sym h.event
 
 -- A table of no ids, and of one more.
-pub places_none : (k : Classes) → AreEventPlaces k []
-places_none k = record { at = λ id l. absurd (omega arith) }
+pub indices_none : (k : Classes) → AreEventIndices k []
+indices_none k = record { at = λ id l. absurd (omega arith) }
 
-pub places_push : (k : Classes) (id : ℕ) (places : List (Option ℕ)) (place : Option ℕ) → AreEventPlaces k places → length places ≡ id → place ≡ event_place k id → AreEventPlaces k (places ++ place ∷ [])
-places_push k id places place a n e = record { at = filled_push (event_place k) places place a.at (e ∙ ap (event_place k) (sym n)) }
+pub indices_push : (k : Classes) (id : ℕ) (indices : List (Option ℕ)) (index : Option ℕ) → AreEventIndices k indices → length indices ≡ id → index ≡ event_index k id → AreEventIndices k (indices ++ index ∷ [])
+indices_push k id indices index a n e = record { at = filled_push (event_index k) indices index a.at (e ∙ ap (event_index k) (sym n)) }
 
 -- What a table has.
-pub places_at : (k : Classes) (places : List (Option ℕ)) (id : ℕ) (place : Option ℕ) → AreEventPlaces k places → id < length places → place ≡ get_or places id place → place ≡ event_place k id
-places_at k places id place a l e = e ∙ same_Some (get_or places id place) (event_place k id) (sym (slice_get-get_or places id place l) ∙ a.at id l)
+pub indices_at : (k : Classes) (indices : List (Option ℕ)) (id : ℕ) (index : Option ℕ) → AreEventIndices k indices → id < length indices → index ≡ get_or indices id index → index ≡ event_index k id
+indices_at k indices id index a l e = e ∙ same_Some (get_or indices id index) (event_index k id) (sym (slice_get-get_or indices id index l) ∙ a.at id l)

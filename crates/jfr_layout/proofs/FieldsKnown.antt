@@ -12,10 +12,10 @@ use Rattle.jfr_layout.specs.declared.kind.Kind.{Kind}
 use Rattle.jfr_layout.specs.declared.class_layout.ClassLayout.{ClassLayout}
 use Rattle.jfr_layout.specs.declared.field_layout.FieldLayout.{FieldLayout}
 use Rattle.jfr_layout.specs.Classes.{Class, Classes, Field, ClassFlaw, TellsFirst, AreFieldLayouts, flaw_if, flaws_in, unknown, is_unknown, find_class, kind_of, layout_with}
-use Rattle.jfr_layout.specs.Resolved.{AreClassLayouts, IsIndex, IsClassLayout, place_in}
+use Rattle.jfr_layout.specs.Resolved.{AreClassLayouts, IsIndex, IsClassLayout, index_in}
 use Rattle.jfr_layout.proofs.FieldLayouts.{layouts_push, layout_at}
 use Rattle.jfr_layout.proofs.Lists.{present, take_next, zip_push}
-use Rattle.jfr_layout.proofs.Places.{is_some-find}
+use Rattle.jfr_layout.proofs.Indices.{is_some-find}
 use Rattle.jfr_layout.proofs.Stages.{rest, stage_next, stage_tells, stage_none}
 
 -- What is found at a field.
@@ -27,12 +27,12 @@ pub record FieldsKnown (k : Classes) (i : ℕ) (fs : List Field) (n : ℕ) (layo
   pub left : flaws_in UnknownType (is_unknown k) i fs ≡ rest (found_unknown k i) fs n
   pub found : AreFieldLayouts k (take n fs) layouts
 
-known_at : (k : Classes) (index : Index) (id : ℕ) → IsIndex k index → is_some (find_class k id) ≡ is_some (place_in index id)
+known_at : (k : Classes) (index : Index) (id : ℕ) → IsIndex k index → is_some (find_class k id) ≡ is_some (index_in index id)
 known_at k index id s = is_some-find (λ (c : Class). c.id == id) k ∙ ap is_some (sym (s.at id))
 
 -- A class that is known.
 pub known_next : (k : Classes) (i : ℕ) (fs : List Field) (n : ℕ) (index : Index) (kinds : List Kind) (f : Field) (layouts more : List FieldLayout) (p : ℕ) (d : Kind) → IsIndex k index → kinds ≡ map (λ c. kind_of c.name) k → FieldsKnown k i fs n layouts → slice_get fs n ≡ Some f
-    → Some p ≡ place_in index f.shape.class → more ≡ layouts ++ layout_with f.shape p (get_or kinds p d) ∷ []
+    → Some p ≡ index_in index f.shape.class → more ≡ layouts ++ layout_with f.shape p (get_or kinds p d) ∷ []
     → FieldsKnown k i fs (n + 1) more
 known_next k i fs n index kinds f layouts more p d x ks s e g m = record {
   left = stage_next (found_unknown k i) fs n f (flaws_in UnknownType (is_unknown k) i fs) s.left e
@@ -42,7 +42,7 @@ known_next k i fs n index kinds f layouts more p d x ks s e g m = record {
 
 -- A class that isn't.
 pub known_tell : (k : Classes) (i : ℕ) (fs : List Field) (n : ℕ) (index : Index) (f : Field) (layouts : List FieldLayout) → IsIndex k index → FieldsKnown k i fs n layouts → slice_get fs n ≡ Some f
-    → None ≡ place_in index f.shape.class
+    → None ≡ index_in index f.shape.class
     → TellsFirst (flaws_in UnknownType (is_unknown k) i fs) (Flawed i (Some n) UnknownType)
 known_tell k i fs n index f layouts x s e g = stage_tells (found_unknown k i) fs n f (flaws_in UnknownType (is_unknown k) i fs) (Flawed i (Some n) UnknownType) s.left e
     (ap (λ t. slice_get (flaw_if (not t) i (Some n) UnknownType) 0) (known_at k index f.shape.class x ∙ ap is_some (sym g)))
@@ -57,7 +57,7 @@ known_all k i fs n layouts s l = subst (λ z. AreFieldLayouts k z layouts) (take
 abbrev pub found_unknowns : Classes → ℕ → Class → List ClassFlaw
 found_unknowns k i c = flaws_in UnknownType (is_unknown k) i c.fields
 
--- The same of the classes before a place.
+-- The classes of the fields of the classes before an index are known, and these are their layouts.
 pub record ClassesKnown (k : Classes) (n : ℕ) (all : List ClassLayout) : Type 0 where
   pub left : unknown k ≡ rest (found_unknowns k) k n
   pub found : AreClassLayouts k (take n k) all

@@ -1,10 +1,10 @@
 pub mod Lists
-mod Places
+mod Indices
 mod Stages
 mod NamesSeen
 mod IdsSeen
 mod FieldsKnown
-mod FieldPlaces
+mod FieldIndices
 mod FieldLayouts
 mod FusedLaws
 mod Steps

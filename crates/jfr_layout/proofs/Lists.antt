@@ -1,4 +1,4 @@
--- Lists by their members' places.
+-- Lists member by member.
 use Rattle.std.proofs.Common.{◌≡◌, ℕ, zero, suc, ◌+◌, ◌<◌, List, [], ◌∷◌, ◌++◌, length, take, get_or, map, Option, Some, None, false, sym, ◌∙◌, ap, refl, subst, arith}
 use Rattle.std.specs.Prelude.{is_some, IsSome, option_map}
 use Rattle.std.specs.List.{slice_get, flat_map, enumerate_from, AllByRecursion, AllZip}
@@ -6,7 +6,7 @@ use Rattle.std.specs.Option.{option_and_then}
 use Rattle.std.proofs.lemmas.List.{take_more, map_more, length-map}
 use Rattle.std.proofs.lemmas.Option.{slice_get_within, get_or_from_slice_get, slice_get-get_or, slice_get-map, same_Some}
 
--- What a list has at a place within it.
+-- What a list has at an index within it.
 pub present : {X : Type 0} (xs : List X) (i : ℕ) → i < length xs → (x : X) × (slice_get xs i ≡ Some x)
 present [] i l = absurd (omega arith)
 present (x ∷ xs) zero l = (x, refl)
@@ -18,7 +18,7 @@ take_next xs i x e = take_more xs i x (slice_get_within xs i x e) ∙ ap (λ y. 
 pub map_next : {X Y : Type 0} (f : X → Y) (xs : List X) (i : ℕ) (x : X) → slice_get xs i ≡ Some x → map f (take (i + 1) xs) ≡ map f (take i xs) ++ f x ∷ []
 map_next f xs i x e = map_more f xs i x (slice_get_within xs i x e) ∙ ap (λ y. map f (take i xs) ++ f y ∷ []) (get_or_from_slice_get xs i x x e)
 
--- Two lists that are seen alike are seen alike at each place.
+-- Two lists that are seen alike are seen alike at each index.
 pub mapped_at : {X Y Z : Type 0} (f : X → Z) (g : Y → Z) (xs : List X) (ys : List Y) (i : ℕ) (x : X) (y : Y) → map f xs ≡ map g ys → slice_get ys i ≡ Some y → x ≡ get_or xs i x → f x ≡ g y
 mapped_at f g xs ys i x y m e r =
     let l : i < length xs = omega (arith, slice_get_within ys i y e, ap length m, length-map xs f, length-map ys g) in
@@ -62,14 +62,14 @@ pub all_push : {X : Type 0} (P : X → Type 0) (xs : List X) (x : X) → AllByRe
 all_push P [] x a p = (p, tt)
 all_push P (y ∷ xs) x a p = (a.0, all_push P xs x a.1 p)
 
--- A list that has at each place what a function says of the place.
+-- A list that has at each index what a function says of the index.
 pub filled_push : {X : Type 0} (f : ℕ → X) (xs : List X) (x : X) → ((i : ℕ) → i < length xs → slice_get xs i ≡ Some (f i)) → x ≡ f (length xs) → (i : ℕ) → i < length (xs ++ x ∷ []) → slice_get (xs ++ x ∷ []) i ≡ Some (f i)
 filled_push f [] x a e zero l = ap Some e
 filled_push f [] x a e (suc i) l = absurd (omega arith)
 filled_push f (y ∷ xs) x a e zero l = a 0 (omega arith)
 filled_push f (y ∷ xs) x a e (suc i) l = filled_push (λ j. f (suc j)) xs x (λ j m. a (suc j) (omega arith)) e i (omega arith)
 
--- Two lists that are related place by place.
+-- Two lists that are related member by member.
 pub zip_at : {X Y : Type 0} (R : X → Y → Type 0) (xs : List X) (ys : List Y) (i : ℕ) (x : X) → AllZip R xs ys → slice_get xs i ≡ Some x → (y : Y) × (slice_get ys i ≡ Some y) × R x y
 zip_at R [] ys i x a e = cc
 zip_at R (w ∷ xs) [] i x a e = absurd a

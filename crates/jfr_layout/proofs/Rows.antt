@@ -4,7 +4,7 @@ use Rattle.std.proofs.Common.{refl}
 use Rattle.jfr_base.specs.declared.reason.Reason.TheVariants.{ClassTwice, FieldTwice, UnknownType, EmptyInline, InlineDeep}
 use Rattle.jfr_layout.specs.declared.kind.Kind.TheVariants.{Long, Text, Composite}
 use Rattle.jfr_layout.specs.declared.shape.Shape.{Shape}
-use Rattle.jfr_layout.specs.Classes.{Class, Classes, Field, class_faults, class_place, field_number, find_class, is_event_class, kind_of}
+use Rattle.jfr_layout.specs.Classes.{Class, Classes, Field, class_faults, class_index, field_number, find_class, is_event_class, kind_of}
 
 inline : ℕ → Shape
 inline id = record { class = id; constant = false; array = false }
@@ -39,9 +39,9 @@ rings_are_sound : class_faults rings ≡ []
 unfolding inline reference field class event rings class_faults kind_of
 rings_are_sound = refl
 
-rings_places : map (class_place rings) (5 ∷ 9 ∷ 4 ∷ []) ≡ Some 0 ∷ Some 4 ∷ None ∷ []
+rings_indices : map (class_index rings) (5 ∷ 9 ∷ 4 ∷ []) ≡ Some 0 ∷ Some 4 ∷ None ∷ []
 unfolding inline reference field class event rings
-rings_places = refl
+rings_indices = refl
 
 rings_kinds : map (λ c. kind_of c.name) rings ≡ Long ∷ Text ∷ Composite ∷ Composite ∷ Composite ∷ []
 unfolding inline reference field class event rings kind_of

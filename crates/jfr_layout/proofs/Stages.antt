@@ -8,7 +8,7 @@ use Rattle.jfr_layout.specs.declared.fault.ClassFault.{ClassFault}
 use Rattle.jfr_layout.specs.declared.fault.ClassFault.TheVariants.{Flawed, Memory}
 use Rattle.jfr_layout.specs.Classes.{ClassFlaw, TellsFirst, flaw_if}
 
--- What is found from a place on.
+-- What is found from an index on.
 abbrev pub rest : {X : Type 0} → (ℕ → X → List ClassFlaw) → List X → ℕ → List ClassFlaw
 rest found xs i = flat_map (λ x. found x.0 x.1) (enumerate_from i (drop i xs))
 

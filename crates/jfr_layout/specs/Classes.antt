@@ -31,12 +31,12 @@ abbrev pub find_class : Classes → ℕ → Option Class
 find_class k id = find (λ c. c.id == id) k
 
 -- The index in the list of the class of an id.
-abbrev pub class_place : Classes → ℕ → Option ℕ
-class_place k id = position (λ c. c.id == id) k
+abbrev pub class_index : Classes → ℕ → Option ℕ
+class_index k id = position (λ c. c.id == id) k
 
 -- The field by its number, of the class of an index.
 abbrev pub field_at : Classes → ℕ → ℕ → Option Field
-field_at k place number = option_and_then (λ c. slice_get c.fields number) (slice_get k place)
+field_at k index number = option_and_then (λ c. slice_get c.fields number) (slice_get k index)
 
 -- The number of the field of a name.
 abbrev pub field_number : List Field → List ℕ → Option ℕ
@@ -74,9 +74,9 @@ inline_form Composite = forms.Fields
 abbrev pub form_of : Shape → Kind → Form
 form_of s kind = if s.array then forms.Array else if s.constant then forms.Key else inline_form kind
 
--- The layout of a shape whose class has this place and this kind.
+-- The layout of a shape whose class has this index and this kind.
 abbrev pub layout_with : Shape → ℕ → Kind → FieldLayout
-layout_with s place kind = record { shape = s; place = place; kind = kind; form = form_of s kind }
+layout_with s index kind = record { shape = s; class_index = index; kind = kind; form = form_of s kind }
 
 -- The kind is not one of the nine base kinds.
 abbrev pub is_composite : Kind → Bool
@@ -91,9 +91,9 @@ extends_event c = is_composite (kind_of c.name) && option_map_or (λ n. bytes_eq
 unfoldable pub is_event_class : Classes → ℕ → Bool
 is_event_class k id = nat_lt 1 id && option_map_or extends_event (find_class k id) false
 
--- The layout has the place and the kind of the class of its shape, and the form that these give.
+-- The layout has the index and the kind of the class of its shape, and the form that these give.
 pub record IsFieldLayout (k : Classes) (s : FieldLayout) : Type 0 where
-  pub place : class_place k s.shape.class ≡ Some s.place
+  pub class_index : class_index k s.shape.class ≡ Some s.class_index
   pub kind : option_map (λ c. kind_of c.name) (find_class k s.shape.class) ≡ Some s.kind
   pub form : s.form ≡ form_of s.shape s.kind
 
@@ -130,7 +130,7 @@ goes_inline (suc n) k c = list_any (λ f. option_map_or (λ d. goes_inline n k d
 abbrev pub step_goes : ℕ → Classes → Field → Bool
 step_goes n k f = option_map_or (λ d. goes_inline n k d) (step_class k f) false
 
--- A flaw of a list of classes: the place of the class, the number of the field that it is about, and the
+-- A flaw of a list of classes: the index of the class, the number of the field that it is about, and the
 -- reason.
 pub record ClassFlaw : Type 0 where
   pub class : ℕ
@@ -141,7 +141,7 @@ pub record ClassFlaw : Type 0 where
 abbrev pub flaw_if : Bool → ℕ → Option ℕ → Reason → List ClassFlaw
 flaw_if bad i j why = if bad then record { class = i; field = j; reason = why } ∷ [] else []
 
--- What is found at each member with its place, in order.
+-- What is found at each member with its index, in order.
 abbrev pub each_at : {X : Type 0} → (ℕ → X → List ClassFlaw) → List X → List ClassFlaw
 each_at found xs = flat_map (λ x. found x.0 x.1) (enumerate_from 0 xs)
 

@@ -1,12 +1,12 @@
 -- The indexes of the event classes, so that an event's class is found in one step.
 use Rattle.std.specs.Prelude.{◌≡◌, ℕ, ◌<◌, List, length, Option, Some, None, if◌then◌else◌, slice_get}
-use Rattle.jfr_layout.specs.Classes.{Classes, class_place, is_event_class}
+use Rattle.jfr_layout.specs.Classes.{Classes, class_index, is_event_class}
 
 -- The index of the class of an id, where records of this type are events.
-abbrev pub event_place : Classes → ℕ → Option ℕ
-event_place k id = if is_event_class k id then class_place k id else None
+abbrev pub event_index : Classes → ℕ → Option ℕ
+event_index k id = if is_event_class k id then class_index k id else None
 
 -- A table has for each id below its length the index of the event class of this id, and none where records
 -- of the type are no events.
-pub record AreEventPlaces (k : Classes) (places : List (Option ℕ)) : Type 0 where
-  pub at : (id : ℕ) → id < length places → slice_get places id ≡ Some (event_place k id)
+pub record AreEventIndices (k : Classes) (indices : List (Option ℕ)) : Type 0 where
+  pub at : (id : ℕ) → id < length indices → slice_get indices id ≡ Some (event_index k id)

@@ -7,15 +7,15 @@ use Rattle.jfr_layout.specs.declared.index.Index.{Index}
 use Rattle.jfr_layout.specs.declared.kind.Kind.{Kind}
 use Rattle.jfr_layout.specs.declared.class_layout.ClassLayout.{ClassLayout}
 use Rattle.jfr_layout.specs.Fused.{AreFused}
-use Rattle.jfr_layout.specs.Classes.{Class, Classes, AreFieldLayouts, class_place, extends_event, kind_of, repeats, unknown}
+use Rattle.jfr_layout.specs.Classes.{Class, Classes, AreFieldLayouts, class_index, extends_event, kind_of, repeats, unknown}
 
 -- What the look-up of an id gives: the direct table's answer, and past the end of the table the map's.
-abbrev pub place_in : Index → ℕ → Option ℕ
-place_in index id = unwrap_or (slice_get index.near.items id) (tree.get nat_cmp index.far id)
+abbrev pub index_in : Index → ℕ → Option ℕ
+index_in by_id id = unwrap_or (slice_get by_id.near.items id) (tree.get nat_cmp by_id.far id)
 
--- The index leads from each id to the place of its class.
-pub record IsIndex (k : Classes) (index : Index) : Type 0 where
-  pub at : (id : ℕ) → place_in index id ≡ class_place k id
+-- Each id leads to the index of its class.
+pub record IsIndex (k : Classes) (by_id : Index) : Type 0 where
+  pub at : (id : ℕ) → index_in by_id id ≡ class_index k id
 
 -- The layout of a class has those of its fields, and groups of fields that are passed at once.
 pub record IsClassLayout (k : Classes) (c : Class) (class_layout : ClassLayout) : Type 0 where

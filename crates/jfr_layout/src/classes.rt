@@ -2,11 +2,11 @@
 ghost use Rattle.std.specs.Prelude.{◌≡◌, ◌<◌, length, false, OnOk, IfOk, IfErr, IfSome, MatchOption, slice_get, option_map, option_and_then};
 ghost use Rattle.std.specs.Option.{option_copied};
 ghost use Rattle.std.specs.Str.{chars};
-ghost use Rattle.jfr_layout.specs.Classes.{class_faults, Sound, TellsFirst, find_class, class_place, kind_of, field_number, is_event_class, AreFieldLayouts, IsEventLayout};
-ghost use Rattle.jfr_layout.specs.Events.{event_place};
+ghost use Rattle.jfr_layout.specs.Classes.{class_faults, Sound, TellsFirst, find_class, class_index, kind_of, field_number, is_event_class, AreFieldLayouts, IsEventLayout};
+ghost use Rattle.jfr_layout.specs.Events.{event_index};
 ghost use Rattle.jfr_layout.specs.Resolved.{IsClassLayout};
 
-use crate::event::{event_place, event_places};
+use crate::event::{event_index, event_indices};
 use crate::inline::{check_depth, check_filled};
 use crate::resolved::Resolved;
 use crate::{ClassFault, ClassInfo, ClassLayout, ClassList, FieldLayout, Kind, Shape};
@@ -27,13 +27,13 @@ impl Model for Classes {
     ghost use Rattle.std.specs.Prelude.{List};
     ghost use Rattle.jfr_layout.specs.declared.class.ClassInfo.{ClassInfo};
     ghost use Rattle.jfr_layout.specs.Classes.{Sound};
-    ghost use Rattle.jfr_layout.specs.Events.{AreEventPlaces};
+    ghost use Rattle.jfr_layout.specs.Events.{AreEventIndices};
 
     ghost Value = { List ClassInfo };
 
     ghost view = { λ c. c.resolved };
 
-    ghost invariant = { λ c. Sound c.resolved × AreEventPlaces c.resolved c.events.items };
+    ghost invariant = { λ c. Sound c.resolved × AreEventIndices c.resolved c.events.items };
 }
 
 impl Classes {
@@ -50,7 +50,7 @@ impl Classes {
         let resolved = Resolved::make(alloc, list)?;
         check_filled(&resolved)?;
         check_depth(alloc, &resolved)?;
-        let events = event_places(alloc, &resolved, resolved.near_len())?;
+        let events = event_indices(alloc, &resolved, resolved.near_len())?;
         Ok(Classes { resolved, events })
     }
 
@@ -73,8 +73,8 @@ impl Classes {
     pub fn find(&self, id: u64) -> Option<&ClassInfo>
         ensures { option_copied result ≡ find_class self.now id }
     {
-        match self.resolved.place(id) {
-            Some(place) => Some(self.resolved.class_at(place)),
+        match self.resolved.index_of(id) {
+            Some(index) => Some(self.resolved.class_at(index)),
             None => None,
         }
     }
@@ -83,8 +83,8 @@ impl Classes {
     pub fn kind(&self, id: u64) -> Option<Kind>
         ensures { result ≡ option_map (λ c. kind_of c.name) (find_class self.now id) }
     {
-        match self.resolved.place(id) {
-            Some(place) => Some(self.resolved.kind_at(place)),
+        match self.resolved.index_of(id) {
+            Some(index) => Some(self.resolved.kind_at(index)),
             None => None,
         }
     }
@@ -113,71 +113,71 @@ impl Classes {
     pub fn event_layout(&self, id: u64) -> Option<FieldLayout>
         ensures { MatchOption result (is_event_class self.now id ≡ false) (IsEventLayout self.now id) }
     {
-        let place = self.event_place(id)?;
-        Some(FieldLayout::new(Shape::inline(id), place, Kind::Composite))
+        let index = self.event_index(id)?;
+        Some(FieldLayout::new(Shape::inline(id), index, Kind::Composite))
     }
 
     // The index of the class of an id, where records of this type are events.
     #[inline]
-    fn event_place(&self, id: u64) -> Option<usize>
-        ensures { result ≡ event_place self.now id }
+    fn event_index(&self, id: u64) -> Option<usize>
+        ensures { result ≡ event_index self.now id }
     {
         match self.events.get(id as usize) {
-            Some(place) => *place,
-            None => self.far_event_place(id),
+            Some(index) => *index,
+            None => self.far_event_index(id),
         }
     }
 
     // The index of the class of an event id that is past the end of the direct table.
     #[cold]
     #[inline(never)]
-    fn far_event_place(&self, id: u64) -> Option<usize>
-        ensures { result ≡ event_place self.now id }
+    fn far_event_index(&self, id: u64) -> Option<usize>
+        ensures { result ≡ event_index self.now id }
     {
-        event_place(&self.resolved, id)
+        event_index(&self.resolved, id)
     }
 
-    /// The index of the class of an id, for the calls that take it as `place`; `None` exactly where no
+    /// The index of the class of an id, for the calls that take it as `index`; `None` exactly where no
     /// class has the id.
-    pub fn place(&self, id: u64) -> Option<usize>
-        ensures exact { result ≡ class_place self.now id }
+    pub fn index_of(&self, id: u64) -> Option<usize>
+        ensures exact { result ≡ class_index self.now id }
         ensures class { option_and_then (slice_get self.now) result ≡ find_class self.now id }
-        ensures within { IfSome result (λ place. place < length self.now) }
+        ensures within { IfSome result (λ index. index < length self.now) }
         ensures sound { Sound self.now }
     {
-        self.resolved.place(id)
+        self.resolved.index_of(id)
     }
 
     /// The class of an index.
-    pub fn class_at(&self, place: usize) -> &ClassInfo
-        requires { place < length self.now }
-        ensures { slice_get self.now place ≡ Some result.now }
+    pub fn class_at(&self, index: usize) -> &ClassInfo
+        requires { index < length self.now }
+        ensures { slice_get self.now index ≡ Some result.now }
     {
-        self.resolved.class_at(place)
+        self.resolved.class_at(index)
     }
 
     /// The kind of the class of an index.
-    pub fn kind_at(&self, place: usize) -> Kind
-        requires { place < length self.now }
-        ensures { IfSome (slice_get self.now place) (λ c. result ≡ kind_of c.name) }
+    pub fn kind_at(&self, index: usize) -> Kind
+        requires { index < length self.now }
+        ensures { IfSome (slice_get self.now index) (λ c. result ≡ kind_of c.name) }
     {
-        self.resolved.kind_at(place)
+        self.resolved.kind_at(index)
     }
 
     /// The layout of the class of an index: how the values of its fields are spelled, and which of them are
     /// passed at once.
-    pub fn class_layout(&self, place: usize) -> &ClassLayout
-        requires { place < length self.now }
-        ensures { IfSome (slice_get self.now place) (λ c. IsClassLayout self.now c result.now) }
+    pub fn class_layout(&self, index: usize) -> &ClassLayout
+        requires { index < length self.now }
+        ensures { IfSome (slice_get self.now index) (λ c. IsClassLayout self.now c result.now) }
     {
-        self.resolved.class_layout(place)
+        self.resolved.class_layout(index)
     }
 
     /// How the values of each field of the class of an index are spelled, in order.
-    pub fn layouts(&self, place: usize) -> &[FieldLayout]
-        requires { place < length self.now }
-        ensures exact { IfSome (slice_get self.now place) (λ c. AreFieldLayouts self.now c.fields result.now) }
+    pub fn layouts(&self, index: usize) -> &[FieldLayout]
+        requires { index < length self.now }
+        ensures exact { IfSome (slice_get self.now index) (λ c. AreFieldLayouts self.now c.fields result.now) }
     {
-        self.resolved.layouts(place)
+        self.resolved.layouts(index)
     }
 }

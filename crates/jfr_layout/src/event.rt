@@ -1,6 +1,6 @@
 // The indexes of the event classes.
 ghost use Rattle.std.specs.Prelude.{◌≡◌, length, IfOk};
-ghost use Rattle.jfr_layout.specs.Events.{AreEventPlaces, event_place};
+ghost use Rattle.jfr_layout.specs.Events.{AreEventIndices, event_index};
 
 use crate::resolved::Resolved;
 use jfr_base::NoMemory;
@@ -10,15 +10,15 @@ use std::alloc::Global;
 const LAST_OWN_TYPE: u64 = 1;
 
 /// The index of the class of an id, where records of this type are events.
-pub(crate) fn event_place(resolved: &Resolved, id: u64) -> Option<usize>
-    ensures { result ≡ event_place resolved.now id }
+pub(crate) fn event_index(resolved: &Resolved, id: u64) -> Option<usize>
+    ensures { result ≡ event_index resolved.now id }
 {
     if id <= LAST_OWN_TYPE {
         return None;
     }
-    let place = resolved.place(id)?;
-    if resolved.extends_event(place) {
-        Some(place)
+    let index = resolved.index_of(id)?;
+    if resolved.extends_event(index) {
+        Some(index)
     } else {
         None
     }
@@ -26,17 +26,17 @@ pub(crate) fn event_place(resolved: &Resolved, id: u64) -> Option<usize>
 
 /// The indexes of the event classes, for so many ids from 0 on: `None` where records of the type are no
 /// events.
-pub(crate) fn event_places(
+pub(crate) fn event_indices(
     alloc: Global,
     resolved: &Resolved,
     ids: usize,
 ) -> Result<Vec<Option<usize>>, NoMemory>
-    ensures exact { IfOk result (λ places. AreEventPlaces resolved.now places.items) }
-    ensures count { IfOk result (λ places. length places.items ≡ ids) }
+    ensures exact { IfOk result (λ indices. AreEventIndices resolved.now indices.items) }
+    ensures count { IfOk result (λ indices. length indices.items ≡ ids) }
 {
-    let mut places = Vec::with_capacity(alloc, ids)?;
+    let mut indices = Vec::with_capacity(alloc, ids)?;
     for id in 0..ids {
-        places.push(event_place(resolved, id as u64))?;
+        indices.push(event_index(resolved, id as u64))?;
     }
-    Ok(places)
+    Ok(indices)
 }

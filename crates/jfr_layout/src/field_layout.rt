@@ -10,7 +10,7 @@ pub struct FieldLayout {
     /// The field's shape.
     pub shape: Shape,
     /// The index of the class of the shape.
-    pub place: usize,
+    pub class_index: usize,
     /// The kind of that class.
     pub kind: Kind,
     /// The form of the shape with that kind.
@@ -21,12 +21,12 @@ impl FieldLayout {
     ghost use Rattle.jfr_layout.specs.Classes.{layout_with};
 
     /// The layout of a field whose shape's class has this index and this kind.
-    pub fn new(shape: Shape, place: usize, kind: Kind) -> FieldLayout
-        ensures { result ≡ layout_with shape place kind }
+    pub fn new(shape: Shape, class_index: usize, kind: Kind) -> FieldLayout
+        ensures { result ≡ layout_with shape class_index kind }
     {
         FieldLayout {
             shape,
-            place,
+            class_index,
             kind,
             form: Form::of(shape, kind),
         }

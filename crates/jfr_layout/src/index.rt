@@ -3,7 +3,7 @@ ghost use Rattle.std.specs.Prelude.{◌≡◌, ℕ, ◌+◌, ◌*◌, ◌≤◌,
 ghost use Rattle.std.specs.BTreeMap as tree;
 ghost use Rattle.std.specs.Ordering.{nat_cmp};
 ghost use Rattle.jfr_layout.specs.Classes.{Judges, repeats, name_repeats};
-ghost use Rattle.jfr_layout.specs.Resolved.{IsIndex, place_in};
+ghost use Rattle.jfr_layout.specs.Resolved.{IsIndex, index_in};
 
 use crate::{ClassFault, ClassList, Fields};
 use jfr_base::{NoMemory, Reason};
@@ -26,7 +26,7 @@ pub struct Index {
 impl Index {
     // The index of no classes, with a table for so many ids.
     fn new(alloc: Global, ids: usize) -> Result<Index, NoMemory>
-        ensures { IfOk result (λ index. (id : ℕ) → place_in index id ≡ None) }
+        ensures { IfOk result (λ index. (id : ℕ) → index_in index id ≡ None) }
     {
         let near = vec![in alloc; None; ids]?;
         Ok(Index {
@@ -36,16 +36,16 @@ impl Index {
     }
 
     // Sets the index of the class of an id, and tells whether the id had one before.
-    fn insert(&mut self, id: u64, place: usize) -> Result<bool, NoMemory>
-        ensures used { IfOk result (λ used. used ≡ is_some (place_in self.old id)) }
-        ensures places { IfOk result (λ _. (other : ℕ) → place_in self.new other ≡ (if id == other then Some place else place_in self.old other)) }
+    fn insert(&mut self, id: u64, index: usize) -> Result<bool, NoMemory>
+        ensures used { IfOk result (λ used. used ≡ is_some (index_in self.old id)) }
+        ensures indices { IfOk result (λ _. (other : ℕ) → index_in self.new other ≡ (if id == other then Some index else index_in self.old other)) }
     {
         if id < self.near.len() as u64 {
             let used = self.near[id as usize].is_some();
-            self.near[id as usize] = Some(place);
+            self.near[id as usize] = Some(index);
             return Ok(used);
         }
-        let old = self.far.insert(id, place)?;
+        let old = self.far.insert(id, index)?;
         Ok(old.is_some())
     }
 
@@ -58,18 +58,18 @@ impl Index {
 
     /// The index of the class of an id; `None` exactly where no class has it.
     #[inline]
-    pub fn place(&self, id: u64) -> Option<usize>
-        ensures { result ≡ place_in self.now id }
+    pub fn index_of(&self, id: u64) -> Option<usize>
+        ensures { result ≡ index_in self.now id }
     {
         if id < self.near.len() as u64 {
             return self.near[id as usize];
         }
-        self.far_place(id)
+        self.far_index_of(id)
     }
 
     // The index of the class of an id past the end of the direct table.
     #[cold]
-    fn far_place(&self, id: u64) -> Option<usize>
+    fn far_index_of(&self, id: u64) -> Option<usize>
         ensures { result ≡ tree.get nat_cmp self.now.far id }
     {
         self.far.get(&id).copied()
@@ -110,7 +110,7 @@ fn check_names(alloc: Global, class: usize, fields: &Fields) -> Result<(), Class
 
 /// The index of each id. It is refused where a class has the id of an earlier one, or a field the name of
 /// an earlier one of its class.
-pub fn index_of(alloc: Global, list: &ClassList) -> Result<Index, ClassFault>
+pub fn index_classes(alloc: Global, list: &ClassList) -> Result<Index, ClassFault>
     ensures exact { IfOk result (IsIndex list.now) }
     ensures judged { Judges (repeats list.now) result }
 {

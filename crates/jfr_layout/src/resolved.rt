@@ -3,11 +3,11 @@
 ghost use Rattle.std.specs.Prelude.{◌≡◌, ◌<◌, ◌++◌, length, map, IfOk, IfSome, IsSome, slice_get, option_and_then};
 ghost use Rattle.std.specs.Option.{option_copied};
 ghost use Rattle.jfr_base.specs.declared.reason.Reason.TheVariants.{UnknownType};
-ghost use Rattle.jfr_layout.specs.Classes.{Judges, repeats, unknown, flaws_in, is_unknown, field_at, find_class, class_place, kind_of, step_class, extends_event, AreFieldLayouts};
+ghost use Rattle.jfr_layout.specs.Classes.{Judges, repeats, unknown, flaws_in, is_unknown, field_at, find_class, class_index, kind_of, step_class, extends_event, AreFieldLayouts};
 ghost use Rattle.jfr_layout.specs.Resolved.{AreClassLayouts, IsIndex, IsClassLayout};
 
 use crate::fused::fused_of;
-use crate::index::{Index, index_of};
+use crate::index::{Index, index_classes};
 use crate::{ClassFault, ClassInfo, ClassLayout, ClassList, FieldLayout, Kind, is_text};
 use jfr_base::{NoMemory, Reason};
 use std::alloc::Global;
@@ -77,8 +77,12 @@ fn layouts_of(
     let mut layouts = Vec::with_capacity(alloc, fields.len())?;
     for number in 0..fields.len() {
         let shape = fields.at(number).shape;
-        match index.place(shape.class) {
-            Some(place) => layouts.push(FieldLayout::new(shape, place, kinds[place]))?,
+        match index.index_of(shape.class) {
+            Some(class_index) => layouts.push(FieldLayout::new(
+                shape,
+                class_index,
+                kinds[class_index],
+            ))?,
             None => {
                 return Err(ClassFault::Flawed {
                     class,
@@ -139,7 +143,7 @@ impl Resolved {
         ensures exact { IfOk result (λ made. made ≡ list) }
         ensures judged { Judges (repeats list ++ unknown list) result }
     {
-        let index = index_of(alloc, &list)?;
+        let index = index_classes(alloc, &list)?;
         let kinds = kinds_of(alloc, &list)?;
         let class_layouts = class_layouts_of(alloc, &list, &index, &kinds)?;
         Ok(Resolved {
@@ -165,20 +169,20 @@ impl Resolved {
     }
 
     /// The class of an index.
-    pub fn class_at(&self, place: usize) -> &ClassInfo
-        requires { place < length self.now }
-        ensures { slice_get self.now place ≡ Some result.now }
+    pub fn class_at(&self, index: usize) -> &ClassInfo
+        requires { index < length self.now }
+        ensures { slice_get self.now index ≡ Some result.now }
     {
-        self.list.at(place)
+        self.list.at(index)
     }
 
     /// The index of the class of an id; `None` exactly where no class has it.
-    pub fn place(&self, id: u64) -> Option<usize>
-        ensures exact { result ≡ class_place self.now id }
+    pub fn index_of(&self, id: u64) -> Option<usize>
+        ensures exact { result ≡ class_index self.now id }
         ensures class { option_and_then (slice_get self.now) result ≡ find_class self.now id }
-        ensures within { IfSome result (λ place. place < length self.now) }
+        ensures within { IfSome result (λ index. index < length self.now) }
     {
-        self.index.place(id)
+        self.index.index_of(id)
     }
 
     /// The size of the index's direct table, which is a good size for other tables by id. Nothing else is
@@ -188,50 +192,50 @@ impl Resolved {
     }
 
     /// The kind of the class of an index.
-    pub fn kind_at(&self, place: usize) -> Kind
-        requires { place < length self.now }
-        ensures { IfSome (slice_get self.now place) (λ c. result ≡ kind_of c.name) }
+    pub fn kind_at(&self, index: usize) -> Kind
+        requires { index < length self.now }
+        ensures { IfSome (slice_get self.now index) (λ c. result ≡ kind_of c.name) }
     {
-        self.kinds[place]
+        self.kinds[index]
     }
 
     /// The layout of the class of an index.
-    pub fn class_layout(&self, place: usize) -> &ClassLayout
-        requires { place < length self.now }
-        ensures { IfSome (slice_get self.now place) (λ c. IsClassLayout self.now c result.now) }
+    pub fn class_layout(&self, index: usize) -> &ClassLayout
+        requires { index < length self.now }
+        ensures { IfSome (slice_get self.now index) (λ c. IsClassLayout self.now c result.now) }
     {
-        &self.class_layouts[place]
+        &self.class_layouts[index]
     }
 
     /// Whether the class of an index is composite and has the super type of events.
-    pub fn extends_event(&self, place: usize) -> bool
-        requires { place < length self.now }
-        ensures { IfSome (slice_get self.now place) (λ c. result ≡ extends_event c) }
+    pub fn extends_event(&self, index: usize) -> bool
+        requires { index < length self.now }
+        ensures { IfSome (slice_get self.now index) (λ c. result ≡ extends_event c) }
     {
-        self.class_layout(place).is_event
+        self.class_layout(index).is_event
     }
 
     /// The layouts of the fields of the class of an index, in order.
-    pub fn layouts(&self, place: usize) -> &[FieldLayout]
-        requires { place < length self.now }
-        ensures { IfSome (slice_get self.now place) (λ c. AreFieldLayouts self.now c.fields result.now) }
+    pub fn layouts(&self, index: usize) -> &[FieldLayout]
+        requires { index < length self.now }
+        ensures { IfSome (slice_get self.now index) (λ c. AreFieldLayouts self.now c.fields result.now) }
     {
-        &self.class_layout(place).layouts
+        &self.class_layout(index).layouts
     }
 
     /// The index of the class to which the inline step by a field goes; `None` exactly where that is no
     /// inline step.
-    pub fn step(&self, place: usize, number: usize) -> Option<usize>
-        requires { IsSome (field_at self.now place number) }
-        ensures exact { IfSome (field_at self.now place number) (λ f. option_and_then (slice_get self.now) result ≡ step_class self.now f) }
+    pub fn step(&self, index: usize, number: usize) -> Option<usize>
+        requires { IsSome (field_at self.now index number) }
+        ensures exact { IfSome (field_at self.now index number) (λ f. option_and_then (slice_get self.now) result ≡ step_class self.now f) }
         ensures within { IfSome result (λ target. target < length self.now) }
     {
-        let layout = self.layouts(place)[number];
+        let layout = self.layouts(index)[number];
         if layout.shape.constant {
             return None;
         }
         match layout.kind {
-            Kind::Composite => Some(layout.place),
+            Kind::Composite => Some(layout.class_index),
             _ => None,
         }
     }

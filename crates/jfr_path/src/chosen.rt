@@ -72,8 +72,8 @@ fn verdict_of(chunk: &Chunk<'_>, event: &Event<'_>, verdicts: &[ClassVerdict]) -
     ensures { (g : Given) → AllZip (IsVerdict g) chunk.now.classes verdicts.now → Says g chunk.now (event_at event.now) result }
 {
     let fields = fields_of(chunk, event);
-    match chunk.classes().place(fields.shape.class) {
-        Some(place) => verdicts[place],
+    match chunk.classes().index_of(fields.shape.class) {
+        Some(index) => verdicts[index],
         None => unreachable!(),
     }
 }

@@ -8,8 +8,8 @@ use Rattle.std.proofs.lemmas.Bool.{eqb-true, lt-ltb, le-ltb, ltb-true}
 use Rattle.std.proofs.lemmas.Bool.Decides.{nat_tests}
 use Rattle.std.proofs.lemmas.List.{length-append}
 use Rattle.std.proofs.lemmas.List.Sums.{sum_by-append, sum_by-cons}
-use Rattle.jfr_layout.specs.Classes.{Class, Classes, class_place, is_event_class}
-use Rattle.jfr_layout.specs.Events.{event_place}
+use Rattle.jfr_layout.specs.Classes.{Class, Classes, class_index, is_event_class}
+use Rattle.jfr_layout.specs.Events.{event_index}
 use Rattle.jfr_frame.specs.declared.framed.Framed.{Framed}
 use Rattle.jfr_chunk.specs.Parts.{event_records}
 use Rattle.jfr_show.specs.declared.tally.Tally.{Tally}
@@ -47,7 +47,7 @@ added_twice o (x ∷ xs) (y ∷ ys) =
 
 -- The record is an event of a class before this place.
 abbrev pub is_before : Classes → ℕ → Framed → Bool
-is_before k i r = option_map_or (λ n. nat_lt n i) (event_place k r.type_id) false
+is_before k i r = option_map_or (λ n. nat_lt n i) (event_index k r.type_id) false
 
 -- The events of the classes before a place.
 abbrev pub before : Classes → ℕ → List Framed → List Occurrence
@@ -121,14 +121,14 @@ module _ (k : Classes) (i : ℕ) (c : Class) (q : List ℕ) (there : slice_get k
   name = encode_utf8_all c.name
 
   one_step : (r : Framed) → one k q (is_before k (i + 1) r) r ≡ both (one k q (is_before k i r) r) (cond (bytes_eq name q) (single (is_at k i r) r) no_tally)
-  one_step r = by_place (event_place k r.type_id) refl
+  one_step r = by_place (event_index k r.type_id) refl
     where
-      by_place : (o : Option ℕ) → event_place k r.type_id ≡ o → one k q (option_map_or (λ n. nat_lt n (i + 1)) o false) r ≡ both (one k q (option_map_or (λ n. nat_lt n i) o false) r) (cond (bytes_eq name q) (single (option_map_or (λ n. n == i) o false) r) no_tally)
+      by_place : (o : Option ℕ) → event_index k r.type_id ≡ o → one k q (option_map_or (λ n. nat_lt n (i + 1)) o false) r ≡ both (one k q (option_map_or (λ n. nat_lt n i) o false) r) (cond (bytes_eq name q) (single (option_map_or (λ n. n == i) o false) r) no_tally)
       by_place None e = one_by false false false (bytes_eq (occurrence k r).name q) (bytes_eq name q) (record { events = 1; bytes = r.size }) refl refl (λ f. cc)
       by_place (Some n) e =
           let s = split n i in
           one_by (nat_lt n (i + 1)) (nat_lt n i) (n == i) (bytes_eq (occurrence k r).name q) (bytes_eq name q) (record { events = 1; bytes = r.size }) s.either s.apart
-          (λ f. let h : event_place k r.type_id ≡ Some i = e ∙ ap Some (eqb-true n i f) in ap (λ t. bytes_eq (encode_utf8_all t) q) (name_at k r.type_id i c h there))
+          (λ f. let h : event_index k r.type_id ≡ Some i = e ∙ ap Some (eqb-true n i f) in ap (λ t. bytes_eq (encode_utf8_all t) q) (name_at k r.type_id i c h there))
 
   -- What the next class adds.
   class_more : (rs : List Framed) → tally_of (of_name q (before k (i + 1) rs)) ≡ both (tally_of (of_name q (before k i rs))) (cond (bytes_eq name q) (class_tally k rs i) no_tally)
@@ -171,7 +171,7 @@ classes_next k i c rs bytes old now new there is a t = record { each = λ q. t.e
 -- Before the first class there are no events.
 before_none : (k : Classes) (rs : List Framed) → before k 0 rs ≡ []
 before_none k [] = refl
-before_none k (r ∷ rs) = by_place (event_place k r.type_id) (before_none k rs)
+before_none k (r ∷ rs) = by_place (event_index k r.type_id) (before_none k rs)
   where
     by_place : (o : Option ℕ) → before k 0 rs ≡ [] → map (occurrence k) (cond (option_map_or (λ n. nat_lt n 0) o false) (r ∷ filter (is_before k 0) rs) (filter (is_before k 0) rs)) ≡ []
     by_place None e = e
@@ -187,8 +187,8 @@ before_test k r = by_test (is_event_class k r.type_id) refl
     by_test : (b : Bool) → is_event_class k r.type_id ≡ b → is_before k (length k) r ≡ b
     by_test true e =
         let h = event_has_place k r.type_id e in
-        ap (λ o. option_map_or (λ n. nat_lt n (length k)) o false) (ap (λ b. cond b (class_place k r.type_id) None) e ∙ h.is) ∙ lt-ltb h.place (length k) h.within
-    by_test false e = ap (λ b. option_map_or (λ n. nat_lt n (length k)) (cond b (class_place k r.type_id) None) false) e
+        ap (λ o. option_map_or (λ n. nat_lt n (length k)) o false) (ap (λ b. cond b (class_index k r.type_id) None) e ∙ h.is) ∙ lt-ltb h.place (length k) h.within
+    by_test false e = ap (λ b. option_map_or (λ n. nat_lt n (length k)) (cond b (class_index k r.type_id) None) false) e
 
 pub before_all : (k : Classes) (rs : List Framed) → before k (length k) rs ≡ map (occurrence k) (event_records k rs)
 before_all k [] = refl

@@ -35,8 +35,8 @@ module _ (k : Classes) (c : List ℕ) (at to end : ℕ) (s : FieldLayout) (l : t
   abbrev inline : (f : Form) → s.form ≡ f → IsInline f → Inline s f
   inline f e x = inline_there s is.form f e x
 
-  pub inline_layout : (f : Form) → s.form ≡ f → IsInline f → InlineNode k c at to end s.shape l w s.place s.kind
-  inline_layout f e x = let m = inline f e x in inline_node k c at to end s.shape l w v s.place s.kind s.form i m.array m.constant is
+  pub inline_layout : (f : Form) → s.form ≡ f → IsInline f → InlineNode k c at to end s.shape l w s.class_index s.kind
+  inline_layout f e x = let m = inline f e x in inline_node k c at to end s.shape l w v s.class_index s.kind s.form i m.array m.constant is
 
   -- An integer.
   integer : s.form ≡ forms.Integer → IntegerForm k c at to end s.shape l w s.kind v
@@ -125,9 +125,9 @@ module _ (k : Classes) (c : List ℕ) (at to end : ℕ) (s : FieldLayout) (l : t
     pub array : s.shape.array ≡ false
     pub class : Class
     pub found : find_class k s.shape.class ≡ Some class
-    pub there : slice_get k s.place ≡ Some class
+    pub there : slice_get k s.class_index ≡ Some class
     pub parts : Values
-    pub row : IsRow k c at to (field_shapes k s.place) parts
+    pub row : IsRow k c at to (field_shapes k s.class_index) parts
     pub value : v ≡ Group s.shape [] parts
 
   pub is_composite : s.form ≡ forms.Fields → IsComposite
@@ -141,7 +141,7 @@ module _ (k : Classes) (c : List ℕ) (at to end : ℕ) (s : FieldLayout) (l : t
         found = d.found;
         there = d.there;
         parts = f.parts;
-        row = subst (λ z. IsRow k c at to z f.parts) (sym (shapes_at k s.place d.class d.there)) f.row;
+        row = subst (λ z. IsRow k c at to z f.parts) (sym (shapes_at k s.class_index d.class d.there)) f.row;
         value = f.value;
       }
 
@@ -162,5 +162,5 @@ module _ (k : Classes) (c : List ℕ) (at to end : ℕ) (s : FieldLayout) (l : t
       record { head = f.head; parts = f.parts; row = subst (λ (z : Var). IsRow k c z.end to (replicate z.value (item_of s.shape)) f.parts) q f.row; value = f.value }
 
 -- The layout of an array's items is known where the array's is.
-pub item_known : (k : Classes) (s t : FieldLayout) → IsLayoutIfKnown k s → t ≡ layout_with (item_of s.shape) s.place s.kind → IsLayoutIfKnown k t
-item_known k s t is e = subst (λ (z : FieldLayout). IsLayoutIfKnown k z) (sym e) (record { form = refl; of_class = λ o h. (let q = is.of_class o h in record { place = q.place; kind = q.kind; form = refl }) })
+pub item_known : (k : Classes) (s t : FieldLayout) → IsLayoutIfKnown k s → t ≡ layout_with (item_of s.shape) s.class_index s.kind → IsLayoutIfKnown k t
+item_known k s t is e = subst (λ (z : FieldLayout). IsLayoutIfKnown k z) (sym e) (record { form = refl; of_class = λ o h. (let q = is.of_class o h in record { class_index = q.class_index; kind = q.kind; form = refl }) })

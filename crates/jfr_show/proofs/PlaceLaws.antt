@@ -6,8 +6,8 @@ use Rattle.std.proofs.Common.{ap, arith, refl, sym, ◌∙◌}
 use Rattle.std.proofs.lemmas.Bool.{ltb-true, lt-ltb}
 use Rattle.std.proofs.lemmas.List.Folds.{find_at}
 use Rattle.std.proofs.lemmas.Option.{slice_get_within}
-use Rattle.jfr_layout.specs.Classes.{Class, Classes, class_place, extends_event, find_class, is_event_class}
-use Rattle.jfr_layout.specs.Events.{event_place}
+use Rattle.jfr_layout.specs.Classes.{Class, Classes, class_index, extends_event, find_class, is_event_class}
+use Rattle.jfr_layout.specs.Events.{event_index}
 use Rattle.jfr_show.specs.Names.{class_name}
 
 -- What is found stands at its position.
@@ -21,7 +21,7 @@ stands p xs n q = stands_by p xs n (nat_lt (position_or_len p xs) (length xs)) r
 -- What is found has a position.
 pub record HasPlace (k : Classes) (id : ℕ) : Type 0 where
   pub place : ℕ
-  pub is : class_place k id ≡ Some place
+  pub is : class_index k id ≡ Some place
   pub within : place < length k
 
 has_place : (k : Classes) (id : ℕ) (c : Class) → find_class k id ≡ Some c → HasPlace k id
@@ -42,9 +42,9 @@ unfolding is_event_class
 event_has_place k id e = event_found k id (nat_lt 1 id) (find_class k id) refl e
 
 -- The name of a class by its place.
-name_by : (k : Classes) (id n : ℕ) (c : Class) (b : Bool) → cond b (class_place k id) None ≡ Some n → slice_get k n ≡ Some c → class_name k id ≡ c.name
+name_by : (k : Classes) (id n : ℕ) (c : Class) (b : Bool) → cond b (class_index k id) None ≡ Some n → slice_get k n ≡ Some c → class_name k id ≡ c.name
 name_by k id n c true q g = ap (λ o. option_map_or (λ (c : Class). c.name) o []) (stands (λ (c : Class). c.id == id) k n q ∙ g)
 name_by k id n c false q g = cc
 
-pub name_at : (k : Classes) (id n : ℕ) (c : Class) → event_place k id ≡ Some n → slice_get k n ≡ Some c → class_name k id ≡ c.name
+pub name_at : (k : Classes) (id n : ℕ) (c : Class) → event_index k id ≡ Some n → slice_get k n ≡ Some c → class_name k id ≡ c.name
 name_at k id n c q g = name_by k id n c (is_event_class k id) q g

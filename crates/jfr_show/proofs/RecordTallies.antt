@@ -7,8 +7,8 @@ use Rattle.std.proofs.lemmas.Bool.{eqb-true}
 use Rattle.std.proofs.lemmas.Bool.Decides.{nat_tests}
 use Rattle.std.proofs.lemmas.List.{get_or-set_same, get_or-set_other, length-set, get_or-replicate, length-replicate}
 use Rattle.std.proofs.lemmas.Option.{get_or_from_slice_get, slice_get-get_or, slice_get_within}
-use Rattle.jfr_layout.specs.Classes.{Classes, IsEventLayout, class_place, is_event_class}
-use Rattle.jfr_layout.specs.Events.{event_place}
+use Rattle.jfr_layout.specs.Classes.{Classes, IsEventLayout, class_index, is_event_class}
+use Rattle.jfr_layout.specs.Events.{event_index}
 use Rattle.jfr_layout.specs.declared.field_layout.FieldLayout.{FieldLayout}
 use Rattle.jfr_frame.specs.declared.framed.Framed.{Framed}
 use Rattle.jfr_show.specs.declared.tally.Tally.{Tally}
@@ -37,11 +37,11 @@ both_none s = tally_path _ _ (omega arith) (omega arith)
 pub other_counted : (k : Classes) (rs : List Framed) (r : Framed) (ts : List Tally) → is_event_class k r.type_id ≡ false → AreClassTallies k rs ts → AreClassTallies k (rs ++ r ∷ []) ts
 other_counted k rs r ts no_event a = record {
   count = a.count;
-  each = λ i h. a.each i h ∙ ap Some (sym (class_tally-push k i rs r ∙ (ap (λ b. both (class_tally k rs i) (single (option_map_or (λ n. n == i) (cond b (class_place k r.type_id) None) false) r)) no_event ∙ both_none (class_tally k rs i))));
+  each = λ i h. a.each i h ∙ ap Some (sym (class_tally-push k i rs r ∙ (ap (λ b. both (class_tally k rs i) (single (option_map_or (λ n. n == i) (cond b (class_index k r.type_id) None) false) r)) no_event ∙ both_none (class_tally k rs i))));
 }
 
 -- An event is counted at the place of its class.
-at_place : (k : Classes) (rs : List Framed) (r : Framed) (ts : List Tally) (place : ℕ) (v none : Tally) → event_place k r.type_id ≡ Some place → AreClassTallies k rs ts → v ≡ both (get_or ts place none) (record { events = 1; bytes = r.size })
+at_place : (k : Classes) (rs : List Framed) (r : Framed) (ts : List Tally) (place : ℕ) (v none : Tally) → event_index k r.type_id ≡ Some place → AreClassTallies k rs ts → v ≡ both (get_or ts place none) (record { events = 1; bytes = r.size })
     → (i : ℕ) → i < length k → (b : Bool) → (place == i) ≡ b → slice_get (slice_set ts place v) i ≡ Some (both (class_tally k rs i) (single b r))
 at_place k rs r ts place v none is a e i h true q =
     let same : place ≡ i = eqb-true place i q in
@@ -54,7 +54,7 @@ at_place k rs r ts place v none is a e i h false q =
     slice_get-get_or (slice_set ts place v) i none l
     ∙ ap Some (get_or-set_other ts place i v none (λ f. (let g : (place == i) ≡ true = grind (arith, nat_tests) in cc)) ∙ (get_or_from_slice_get ts i (class_tally k rs i) none (a.each i h) ∙ sym (both_none (class_tally k rs i))))
 
-pub event_counted : (k : Classes) (rs : List Framed) (r : Framed) (ts : List Tally) (place : ℕ) (v none : Tally) → event_place k r.type_id ≡ Some place → v ≡ both (get_or ts place none) (record { events = 1; bytes = r.size }) → AreClassTallies k rs ts → AreClassTallies k (rs ++ r ∷ []) (slice_set ts place v)
+pub event_counted : (k : Classes) (rs : List Framed) (r : Framed) (ts : List Tally) (place : ℕ) (v none : Tally) → event_index k r.type_id ≡ Some place → v ≡ both (get_or ts place none) (record { events = 1; bytes = r.size }) → AreClassTallies k rs ts → AreClassTallies k (rs ++ r ∷ []) (slice_set ts place v)
 event_counted k rs r ts place v none is e a = record {
   count = length-set ts place v ∙ a.count;
   each = λ i h.
@@ -62,9 +62,9 @@ event_counted k rs r ts place v none is e a = record {
       ∙ ap Some (sym (class_tally-push k i rs r ∙ ap (λ o. both (class_tally k rs i) (single (option_map_or (λ n. n == i) o false) r)) is));
 }
 
--- The place in an event's layout is that of its class.
-pub layout_place : (k : Classes) (id : ℕ) (s : FieldLayout) → IsEventLayout k id s → event_place k id ≡ Some s.place
-layout_place k id s e = ap (λ b. cond b (class_place k id) None) e.event ∙ (ap (λ z. class_place k z.class) (sym e.shape) ∙ e.layout.place)
+-- The index in an event's layout is that of its class.
+pub layout_index : (k : Classes) (id : ℕ) (s : FieldLayout) → IsEventLayout k id s → event_index k id ≡ Some s.class_index
+layout_index k id s e = ap (λ b. cond b (class_index k id) None) e.event ∙ (ap (λ z. class_index k z.class) (sym e.shape) ∙ e.layout.class_index)
 
 -- No records.
 pub none_counted : (k : Classes) (n : ℕ) → n ≡ length k → AreClassTallies k [] (replicate n no_tally)

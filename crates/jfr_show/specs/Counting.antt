@@ -5,13 +5,13 @@ use Rattle.std.specs.Str.{bytes_eq}
 use Rattle.std.specs.FinMap as fin
 use Rattle.jfr_frame.specs.declared.framed.Framed.{Framed}
 use Rattle.jfr_layout.specs.Classes.{Classes}
-use Rattle.jfr_layout.specs.Events.{event_place}
+use Rattle.jfr_layout.specs.Events.{event_index}
 use Rattle.jfr_show.specs.declared.tally.Tally.{Tally}
 use Rattle.jfr_show.specs.Totals.{Occurrence, Tallies, occurrence, of_name, tally_of}
 
 -- The record is an event of the class at this place.
 abbrev pub is_at : Classes → ℕ → Framed → Bool
-is_at k place r = option_map_or (λ n. n == place) (event_place k r.type_id) false
+is_at k place r = option_map_or (λ n. n == place) (event_index k r.type_id) false
 
 -- The tally of the events of the class at a place.
 abbrev pub class_tally : Classes → List Framed → ℕ → Tally

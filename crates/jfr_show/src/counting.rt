@@ -60,8 +60,8 @@ fn count_record(classes: &Classes, frame: Framed, counted: &mut [Tally])
     ensures { (rs : List Record) → AreClassTallies classes.now rs counted.old → AreClassTallies classes.now (rs ++ frame ∷ []) counted.new }
 {
     if let Some(layout) = classes.event_layout(frame.type_id) {
-        let tally = counted[layout.place];
-        counted[layout.place] = Tally {
+        let tally = counted[layout.class_index];
+        counted[layout.class_index] = Tally {
             events: tally.events + 1,
             bytes: tally.bytes + frame.size as u64,
         };

@@ -89,7 +89,7 @@ pub(crate) fn show_value(
             }
             Ok(string.end)
         }
-        Form::Fields => show_fields(chunk, layout.place, at, limit, depth, out),
+        Form::Fields => show_fields(chunk, layout.class_index, at, limit, depth, out),
         Form::Array => show_items(chunk, layout, at, limit, depth, out),
     }
 }

@@ -99,7 +99,15 @@ fn show_event_node(
     let layout = layout_of(chunk.classes(), node.shape);
     match layout.form {
         Form::Fields => {
-            let _end = show_fields(chunk, kept, layout.place, node.at, node.end, depth, out)?;
+            let _end = show_fields(
+                chunk,
+                kept,
+                layout.class_index,
+                node.at,
+                node.end,
+                depth,
+                out,
+            )?;
             Ok(())
         }
         _ => show_node(chunk, node, depth, out),

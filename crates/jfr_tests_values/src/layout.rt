@@ -112,7 +112,7 @@ fn finds_by_id(rt: HostRuntime) -> Result<(), Fail> {
     assert_eq!(rt; classes.kind(6), Some(Kind::Int));
     assert_eq!(rt; classes.kind(9), None);
     assert_eq!(rt; classes.field_named(1, "m"), Some(1));
-    assert_eq!(rt; classes.place(8), Some(3));
+    assert_eq!(rt; classes.index_of(8), Some(3));
     assert!(rt; classes.find(5).is_none());
     Ok(())
 }
@@ -166,8 +166,8 @@ fn fields_are_fused(rt: HostRuntime) -> Result<(), Fail> {
         fields,
         kind,
     };
-    let place = classes.place(7).expect(&rt, "an event class");
-    let layout = classes.class_layout(place);
+    let index = classes.index_of(7).expect(&rt, "an event class");
+    let layout = classes.class_layout(index);
     assert_eq!(rt; layout.layouts.len(), 14);
     assert!(rt; layout.is_event);
     assert_eq!(rt;

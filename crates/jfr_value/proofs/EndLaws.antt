@@ -7,7 +7,7 @@ use Rattle.jfr_base.specs.declared.integer.Var.{Var}
 use Rattle.jfr_base.specs.declared.reason.Reason.TheVariants.{Short}
 use Rattle.jfr_base.specs.Formats.{Answer, Format, Done, Int, ◌>>=◌, int_at, for_each, integer, unchecked, after_int, run, seen, times, with_bytes}
 use Rattle.jfr_base.proofs.SeenLaws.{then_at, seen-made, seen-times, seen-for_each, seen-with}
-use Rattle.jfr_layout.specs.Classes.{AreFieldLayouts, Class, Classes, Field, IsFieldLayout, find_class, class_place, kind_of, item_of}
+use Rattle.jfr_layout.specs.Classes.{AreFieldLayouts, Class, Classes, Field, IsFieldLayout, find_class, class_index, kind_of, item_of}
 use Rattle.jfr_layout.specs.declared.kind.Kind.{Kind}
 use Rattle.jfr_layout.specs.declared.kind.Kind.TheVariants as kinds
 use Rattle.jfr_layout.specs.declared.shape.Shape.{Shape}
@@ -101,7 +101,7 @@ each_by v f (x ∷ xs) = ap (λ z. f (v x) >>= λ a. z >>= λ rest. Done (a ∷ 
 pub fields_by : (k : Classes) (inline : Shape → Format Value) (fs : List Field) (ss : List FieldLayout) → AreFieldLayouts k fs ss → fields_format inline fs ≡ for_each ss (λ s. shape_format inline s.shape)
 fields_by k inline fs ss a = each_by (λ f. f.shape) (shape_format inline) fs ∙ (ap (λ z. for_each z (shape_format inline)) (sym a.shapes) ∙ sym (each_by (λ s. s.shape) (shape_format inline) ss))
 
-pub layout_fields : (depth : ℕ) (k : Classes) (s : FieldLayout) (ss : List FieldLayout) (x : List ℕ) (end at : ℕ) → 0 < depth → IsFieldLayout k s → s.kind ≡ kinds.Composite → IfSome (slice_get k s.place) (λ c. AreFieldLayouts k c.fields ss)
+pub layout_fields : (depth : ℕ) (k : Classes) (s : FieldLayout) (ss : List FieldLayout) (x : List ℕ) (end at : ℕ) → 0 < depth → IsFieldLayout k s → s.kind ≡ kinds.Composite → IfSome (slice_get k s.class_index) (λ c. AreFieldLayouts k c.fields ss)
     → seen (run (class_format depth k (item_of s.shape)) x end at) ≡ seen (run (for_each ss (λ z. shape_format (class_format (depth - 1) k) z.shape)) x end at)
 layout_fields depth k s ss x end at z i q a =
     let c = layout_class k s i in
@@ -117,7 +117,7 @@ pub layout_text : (depth : ℕ) (k : Classes) (s : FieldLayout) (x : List ℕ) (
 layout_text depth k s x end at z i e =
     layout_base depth k s x end at z i (λ n. (let y : kinds.Text ≡ kinds.Composite = sym e ∙ n in cc)) ∙ ap (λ kind. seen (run (base_format kind) x end at)) e
 
-pub layouts_there : (k : Classes) (s : FieldLayout) (ss : List FieldLayout) → IsFieldLayout k s → IfSome (slice_get k s.place) (λ c. AreFieldLayouts k c.fields ss) → AllByRecursion (IsFieldLayout k) ss
+pub layouts_there : (k : Classes) (s : FieldLayout) (ss : List FieldLayout) → IsFieldLayout k s → IfSome (slice_get k s.class_index) (λ c. AreFieldLayouts k c.fields ss) → AllByRecursion (IsFieldLayout k) ss
 layouts_there k s ss i a = let c = layout_class k s i in (subst (λ o. IfSome o (λ c. AreFieldLayouts k c.fields ss)) c.there a).each
 
 -- A string ends where the format of its content does.
@@ -142,7 +142,7 @@ hollow_items k s c q e z o (suc n) x end at =
     ∙ (ap (λ r. then_at (seen r) (λ p. seen (run (times n (item_format (class_format 34 k) (item_of s))) x end p))) (hollow_item k s c q e z o x end at)
     ∙ hollow_items k s c q e z o n x end at)
 
-pub hollow_array : (k : Classes) (s : Shape) (place : ℕ) (c : Class) (v : Var) (x : List ℕ) (end at : ℕ) → class_place k s.class ≡ Some place → slice_get k place ≡ Some c → IsHollowArray s c → int_at x at end ≡ Some v
+pub hollow_array : (k : Classes) (s : Shape) (place : ℕ) (c : Class) (v : Var) (x : List ℕ) (end at : ℕ) → class_index k s.class ≡ Some place → slice_get k place ≡ Some c → IsHollowArray s c → int_at x at end ≡ Some v
     → seen (run (value_format k s) x end at) ≡ Ok v.end
 unfolding value_format
 hollow_array k s place c v x end at p q h e =
@@ -158,14 +158,14 @@ array_short k s x end at a e =
 pub hollow_is : (k : Classes) (s : Shape) (place : ℕ) (b : Bool) (c : Class) → slice_get k place ≡ Some c → IfSome (slice_get k place) (λ c. IsTrue b ↔ IsHollowArray s c) → b ≡ true → IsHollowArray s c
 hollow_is k s place b c q h t = (subst (λ o. IfSome o (λ c. IsTrue b ↔ IsHollowArray s c)) q h).0 t
 
-pub hollow_count : (k : Classes) (s : FieldLayout) (b : Bool) (x : List ℕ) (end at : ℕ) → IsFieldLayout k s → IfSome (slice_get k s.place) (λ c. IsTrue b ↔ IsHollowArray s.shape c) → b ≡ true
+pub hollow_count : (k : Classes) (s : FieldLayout) (b : Bool) (x : List ℕ) (end at : ℕ) → IsFieldLayout k s → IfSome (slice_get k s.class_index) (λ c. IsTrue b ↔ IsHollowArray s.shape c) → b ≡ true
     → seen (run integer x end at) ≡ seen (run (value_format k s.shape) x end at)
 unfolding run
 hollow_count k s b x end at i h t = by_int (int_at x at end) refl
   where
-    hollow : (c : Class) × (slice_get k s.place ≡ Some c) × IsHollowArray s.shape c
-    hollow = let c = layout_class k s i in (c.class, c.there, hollow_is k s.shape s.place b c.class c.there h t)
+    hollow : (c : Class) × (slice_get k s.class_index ≡ Some c) × IsHollowArray s.shape c
+    hollow = let c = layout_class k s i in (c.class, c.there, hollow_is k s.shape s.class_index b c.class c.there h t)
 
     by_int : (o : Option Var) → int_at x at end ≡ o → seen (after_int x at unchecked (λ v s p. run (Done v) x end p) o) ≡ seen (run (value_format k s.shape) x end at)
     by_int None e = sym (array_short k s.shape x end at hollow.2.0 e)
-    by_int (Some v) e = sym (hollow_array k s.shape s.place hollow.0 v x end at i.place hollow.1 hollow.2 e)
+    by_int (Some v) e = sym (hollow_array k s.shape s.class_index hollow.0 v x end at i.class_index hollow.1 hollow.2 e)

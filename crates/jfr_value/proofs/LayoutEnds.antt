@@ -61,7 +61,7 @@ module _ (k : Classes) (s : FieldLayout) (levels : ℕ) (x : List ℕ) (end at :
       let c = layout_class k s f.of_class in
       (inner_room k levels s.shape c.class r f.constant c.found (sym c.kind ∙ f.composite)).0
 
-  pub fields_end : (ss : List FieldLayout) → s.form ≡ forms.Fields → Room k levels s.shape → IfSome (slice_get k s.place) (λ c. AreFieldLayouts k c.fields ss)
+  pub fields_end : (ss : List FieldLayout) → s.form ≡ forms.Fields → Room k levels s.shape → IfSome (slice_get k s.class_index) (λ c. AreFieldLayouts k c.fields ss)
       → seen (run (for_each ss (λ z. shape_format (class_format (levels - 1 + 1) k) z.shape)) x end at) ≡ seen reading
   fields_end ss e r a =
       let f = fields_there e in
@@ -82,7 +82,7 @@ module _ (k : Classes) (s : FieldLayout) (levels : ℕ) (x : List ℕ) (end at :
         let i = inline_there s p.form forms.Text e tt in
         inline_taken i.array i.constant (string_taken takes x end at (levels + 1) k s old new (omega arith) (p.of_class i.constant) (text_kind s.kind i.form) h)
 
-    pub fields_go : (ss : List FieldLayout) → s.form ≡ forms.Fields → Room k levels s.shape → IfSome (slice_get k s.place) (λ c. AreFieldLayouts k c.fields ss)
+    pub fields_go : (ss : List FieldLayout) → s.form ≡ forms.Fields → Room k levels s.shape → IfSome (slice_get k s.class_index) (λ c. AreFieldLayouts k c.fields ss)
         → TakesReadAll takes (run (for_each ss (λ z. shape_format (class_format (levels - 1 + 1) k) z.shape)) x end at) old new → TakesRead takes reading old new
     fields_go ss e r a h =
         let f = fields_there e in
@@ -100,7 +100,7 @@ room_each k levels (f ∷ fs) (s ∷ ss) e a =
     let r : map (λ s. s.shape) ss ≡ map (λ f. f.shape) fs = (let z : s.shape ∷ map (λ s. s.shape) ss ≡ f.shape ∷ map (λ f. f.shape) fs = e in cc) in
     (subst (Room k levels) q a.0, room_each k levels fs ss r a.1)
 
-pub room_within : (k : Classes) (s : FieldLayout) (levels : ℕ) (ss : List FieldLayout) → IsPlaced k s → s.form ≡ forms.Fields → Room k levels s.shape → IfSome (slice_get k s.place) (λ c. AreFieldLayouts k c.fields ss)
+pub room_within : (k : Classes) (s : FieldLayout) (levels : ℕ) (ss : List FieldLayout) → IsPlaced k s → s.form ≡ forms.Fields → Room k levels s.shape → IfSome (slice_get k s.class_index) (λ c. AreFieldLayouts k c.fields ss)
     → AllByRecursion (λ z. Room k (levels - 1) z.shape) ss
 room_within k s levels ss p e r a =
     let i = inline_there s p.form forms.Fields e tt in

@@ -4,7 +4,7 @@ use Rattle.std.specs.List.{AllByRecursion}
 use Rattle.std.proofs.Common.{ap, arith, get_or, refl, subst, sym, ◌∙◌}
 use Rattle.std.proofs.lemmas.List.{length-map}
 use Rattle.std.proofs.lemmas.Option.{slice_get-get_or}
-use Rattle.jfr_layout.specs.Classes.{Class, Classes, Field, AreFieldLayouts, IsFieldLayout, class_place, field_at, find_class, kind_of, layout_with}
+use Rattle.jfr_layout.specs.Classes.{Class, Classes, Field, AreFieldLayouts, IsFieldLayout, class_index, field_at, find_class, kind_of, layout_with}
 use Rattle.jfr_layout.specs.declared.form.Form.TheVariants as forms
 use Rattle.jfr_layout.specs.declared.kind.Kind.{Kind}
 use Rattle.jfr_layout.specs.declared.kind.Kind.TheVariants as kinds
@@ -17,13 +17,13 @@ use Rattle.jfr_value.proofs.PlaceLaws.{get_within, kind_there, placed_class, pla
 pub record LayoutClass (k : Classes) (s : FieldLayout) : Type 0 where
   pub class : Class
   pub found : find_class k s.shape.class ≡ Some class
-  pub there : slice_get k s.place ≡ Some class
+  pub there : slice_get k s.class_index ≡ Some class
   pub kind : s.kind ≡ kind_of class.name
 
 pub layout_class : (k : Classes) (s : FieldLayout) → IsFieldLayout k s → LayoutClass k s
 layout_class k s i =
-    let c = placed_some k s.shape.class s.place i.place in
-    let f : find_class k s.shape.class ≡ Some c.0 = placed_class k s.shape.class s.place i.place ∙ c.1 in
+    let c = placed_some k s.shape.class s.class_index i.class_index in
+    let f : find_class k s.shape.class ≡ Some c.0 = placed_class k s.shape.class s.class_index i.class_index ∙ c.1 in
     record {
       class = c.0;
       found = f;
@@ -34,22 +34,22 @@ layout_class k s i =
 pub layout_known : (k : Classes) (s : FieldLayout) → IsFieldLayout k s → IsSome (find_class k s.shape.class)
 layout_known k s i = subst IsSome (sym (layout_class k s i).found) refl
 
-pub layout_within : (k : Classes) (s : FieldLayout) → IsFieldLayout k s → s.place < length k
-layout_within k s i = placed_within k s.shape.class s.place i.place
+pub layout_within : (k : Classes) (s : FieldLayout) → IsFieldLayout k s → s.class_index < length k
+layout_within k s i = placed_within k s.shape.class s.class_index i.class_index
 
 -- The layout of a shape whose class stands at a place.
-pub layout_made : (k : Classes) (s : Shape) (place : ℕ) (kind : Kind) → class_place k s.class ≡ Some place → IfSome (slice_get k place) (λ c. kind ≡ kind_of c.name) → IsFieldLayout k (layout_with s place kind)
+pub layout_made : (k : Classes) (s : Shape) (place : ℕ) (kind : Kind) → class_index k s.class ≡ Some place → IfSome (slice_get k place) (λ c. kind ≡ kind_of c.name) → IsFieldLayout k (layout_with s place kind)
 layout_made k s place kind p h =
     let c = placed_some k s.class place p in
     record {
-      place = p;
+      class_index = p;
       kind = ap (option_map (λ (d : Class). kind_of d.name)) (placed_class k s.class place p ∙ c.1) ∙ ap (λ z. Some z) (sym (kind_there k place c.0 kind h c.1));
       form = refl;
     }
 
 -- A layout that is read from a list of them.
 abbrev pub no_layout : FieldLayout
-no_layout = record { shape = record { class = 0; constant = false; array = false }; place = 0; kind = kinds.Boolean; form = forms.Array }
+no_layout = record { shape = record { class = 0; constant = false; array = false }; class_index = 0; kind = kinds.Boolean; form = forms.Array }
 
 pub layout_there : (ss : List FieldLayout) (i : ℕ) → i < length ss → slice_get ss i ≡ Some (get_or ss i no_layout)
 layout_there ss i l = slice_get-get_or ss i no_layout l

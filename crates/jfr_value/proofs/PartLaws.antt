@@ -37,7 +37,7 @@ part_there k c at end ss vs i s place r e p =
     }
 
 -- Items without bytes all stand at one place.
-pub hollow_part : (k : Classes) (c : List ℕ) (at end : ℕ) (s : FieldLayout) (count i : ℕ) (vs : Values) (b : Bool) → IsPlaced k s → s.shape.array ≡ false → s.shape.constant ≡ false → IfSome (slice_get k s.place) (λ c. IsTrue b ↔ IsHollow c) → b ≡ true
+pub hollow_part : (k : Classes) (c : List ℕ) (at end : ℕ) (s : FieldLayout) (count i : ℕ) (vs : Values) (b : Bool) → IsPlaced k s → s.shape.array ≡ false → s.shape.constant ≡ false → IfSome (slice_get k s.class_index) (λ c. IsTrue b ↔ IsHollow c) → b ≡ true
     → IsRow k c at end (replicate count s.shape) vs → i < count → slice_get (laid at (list_of vs)) i ≡ Some (node_at s.shape at at)
 hollow_part k c at end s count i vs b p a o h t r l =
     let d = layout_class k s (p.of_class o) in

@@ -3,7 +3,7 @@ use Rattle.std.specs.Prelude.{◌≡◌, ℕ, zero, suc, ◌+◌, ◌<◌, Bool,
 use Rattle.std.specs.List.{position_from}
 use Rattle.std.proofs.Common.{ap, arith, refl, sym, ◌∙◌, subst}
 use Rattle.std.proofs.lemmas.Iterator.Adapters.{position_from-zero}
-use Rattle.jfr_layout.specs.Classes.{Class, Classes, find_class, class_place, kind_of}
+use Rattle.jfr_layout.specs.Classes.{Class, Classes, find_class, class_index, kind_of}
 use Rattle.jfr_layout.specs.declared.kind.Kind.{Kind}
 
 record FoundAt {X : Type 0} (p : X → Bool) (xs : List X) (n i : ℕ) : Type 0 where
@@ -28,10 +28,10 @@ found_at p xs n e =
     let q : f.number ≡ n = omega (arith, f.place) in
     (omega (arith, f.within), subst (λ z. find p xs ≡ slice_get xs z) q f.found)
 
-pub placed_within : (k : Classes) (id place : ℕ) → class_place k id ≡ Some place → place < length k
+pub placed_within : (k : Classes) (id place : ℕ) → class_index k id ≡ Some place → place < length k
 placed_within k id place e = (found_at (λ c. c.id == id) k place e).0
 
-pub placed_class : (k : Classes) (id place : ℕ) → class_place k id ≡ Some place → find_class k id ≡ slice_get k place
+pub placed_class : (k : Classes) (id place : ℕ) → class_index k id ≡ Some place → find_class k id ≡ slice_get k place
 placed_class k id place e = (found_at (λ c. c.id == id) k place e).1
 
 -- The kind of the class at a place.
@@ -47,7 +47,7 @@ none_found {X = X} p i (x ∷ xs) e = by_test (p x) refl e (λ q. none_found p (
     by_test false q e r = ap (λ t. cond t (Some x) (find p xs)) q ∙ r e
 
 -- A known class has a place.
-pub known_placed : (k : Classes) (id : ℕ) → IsSome (find_class k id) → class_place k id ≡ None → ⊥
+pub known_placed : (k : Classes) (id : ℕ) → IsSome (find_class k id) → class_index k id ≡ None → ⊥
 known_placed k id h e = let n : find_class k id ≡ None = none_found (λ c. c.id == id) 0 k (sym (position_from-zero (λ c. c.id == id) k) ∙ e) in let q : IsSome {T = Class} None = subst (λ o. IsSome o) n h in cc
 
 pub get_within : {X : Type 0} (xs : List X) (i : ℕ) → i < length xs → (x : X) × (slice_get xs i ≡ Some x)
@@ -56,10 +56,10 @@ get_within (x ∷ xs) zero h = (x, refl)
 get_within (x ∷ xs) (suc i) h = get_within xs i (omega arith)
 
 -- And a class stands there.
-pub placed_some : (k : Classes) (id place : ℕ) → class_place k id ≡ Some place → (c : Class) × (slice_get k place ≡ Some c)
+pub placed_some : (k : Classes) (id place : ℕ) → class_index k id ≡ Some place → (c : Class) × (slice_get k place ≡ Some c)
 placed_some k id place e = get_within k place (placed_within k id place e)
 
 -- The place of a known class, where another number stands for no place.
-pub known_place : (k : Classes) (id place other : ℕ) (o : Option ℕ) → o ≡ class_place k id → place ≡ unwrap_or o other → IsSome (find_class k id) → class_place k id ≡ Some place
+pub known_place : (k : Classes) (id place other : ℕ) (o : Option ℕ) → o ≡ class_index k id → place ≡ unwrap_or o other → IsSome (find_class k id) → class_index k id ≡ Some place
 known_place k id place other None e u h = absurd (known_placed k id h (sym e))
 known_place k id place other (Some p) e u h = sym e ∙ ap (λ z. Some z) (sym u)

@@ -69,8 +69,8 @@ module _ (k : Classes) (c : List ℕ) (at to : ℕ) (s : FieldLayout) (t : Shape
   text_refers e =
       let m = inline_there s form forms.Text e tt in
       let x = text_kind s.kind m.form in
-      let n = inline_text k c at to to s.shape (omega arith) here.within v s.place s.kind s.form here m.array m.constant if_known x in
-      let d = inline_node k c at to to s.shape (omega arith) here.within v s.place s.kind s.form here m.array m.constant if_known in
+      let n = inline_text k c at to to s.shape (omega arith) here.within v s.class_index s.kind s.form here m.array m.constant if_known x in
+      let d = inline_node k c at to to s.shape (omega arith) here.within v s.class_index s.kind s.form here m.array m.constant if_known in
       let p : parts_of v ≡ [] = base_alone k v d.class (ap (λ (z : Shape). z.array) (sym here.shape) ∙ m.array) (ap (λ (z : Shape). find_class k z.class) (sym here.shape) ∙ d.found) (λ z. (let y : kinds.Text ≡ kinds.Composite = sym x ∙ (d.kind_is ∙ z) in cc)) here.fits in
       (n.content, n.reads, subst (λ (z : Shape). target k c (node_at z at to) ≡ option_map (λ key. (z.class, key)) (key_of n.content)) shape (target_is k c (node_at s.shape at to) v sound here ∙ own_alone v (option_map (λ key. (s.shape.class, key)) (key_of n.content)) p n.targets))
 

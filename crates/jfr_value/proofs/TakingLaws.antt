@@ -152,7 +152,7 @@ module _ {A : Type 0} (takes : ℕ × ℕ → A → A → Type 0) (x : List ℕ)
       by_answer (Err e) h = tt
 
   -- A composite value by its fields.
-  pub fields_taken : (depth : ℕ) (k : Classes) (s : FieldLayout) (ss : List FieldLayout) (old new : A) → 0 < depth → IsFieldLayout k s → s.kind ≡ kinds.Composite → IfSome (slice_get k s.place) (λ c. AreFieldLayouts k c.fields ss)
+  pub fields_taken : (depth : ℕ) (k : Classes) (s : FieldLayout) (ss : List FieldLayout) (old new : A) → 0 < depth → IsFieldLayout k s → s.kind ≡ kinds.Composite → IfSome (slice_get k s.class_index) (λ c. AreFieldLayouts k c.fields ss)
       → TakesReadAll takes (run (for_each ss (λ z. shape_format (class_format (depth - 1) k) z.shape)) x end at) old new → TakesRead takes (run (class_format depth k (item_of s.shape)) x end at) old new
   fields_taken depth k s ss old new z i q a h =
       let c = layout_class k s i in
@@ -227,14 +227,14 @@ module _ {A : Type 0} (takes : ℕ × ℕ → A → A → Type 0) (k : Classes) 
       cons_taken takes x end to (item_format (class_format 34 k) (item_of s)) (times n (item_format (class_format 34 k) (item_of s))) to a a a (ap seen i)
       (subst (λ (r : Answer Value). TakesRead takes r a a) (sym i) refl) (hollow_items_taken s c q e z o n to)
 
-  pub hollow_taken : (s : FieldLayout) (b : Bool) → IsFieldLayout k s → IfSome (slice_get k s.place) (λ c. IsTrue b ↔ IsHollowArray s.shape c) → b ≡ true → TakesRead takes (run (value_format k s.shape) x end at) a a
+  pub hollow_taken : (s : FieldLayout) (b : Bool) → IsFieldLayout k s → IfSome (slice_get k s.class_index) (λ c. IsTrue b ↔ IsHollowArray s.shape c) → b ≡ true → TakesRead takes (run (value_format k s.shape) x end at) a a
   unfolding value_format
   hollow_taken s b i h t = by_int (int_at x at end) refl
     where
       by_int : (o : Option Var) → int_at x at end ≡ o → TakesRead takes (run (shape_format (class_format 34 k) s.shape) x end at) a a
-      by_int None e = let c = layout_class k s i in let w = hollow_is k s.shape s.place b c.class c.there h t in
+      by_int None e = let c = layout_class k s i in let w = hollow_is k s.shape s.class_index b c.class c.there h t in
           no_value (run (shape_format (class_format 34 k) s.shape) x end at) (record { offset = at; reason = Short }) (λ got. TakesAll takes (targets_of got.value) a a) (sym (array_short k s.shape x end at w.0 e))
-      by_int (Some v) e = let c = layout_class k s i in let w = hollow_is k s.shape s.place b c.class c.there h t in
+      by_int (Some v) e = let c = layout_class k s i in let w = hollow_is k s.shape s.class_index b c.class c.there h t in
           items_taken takes x end at (class_format 34 k) s.shape v a a w.0 e (hollow_items_taken s.shape c.class c.found w.2.0 w.2.1 w.1 v.value v.end)
 
 -- Where a value was read, its targets are those of the node.

@@ -80,12 +80,12 @@ module _ (k : Classes) (c : List ℕ) (at to end : ℕ) (s : Shape) (l : to ≤ 
     pub within : place < length k
     pub kind_is : kind ≡ kind_of class.name
 
-  pub inline_node : (v : Value) (place : ℕ) (kind : Kind) (form : Form) → IsNode k c (node_at s at to) v → s.array ≡ false → s.constant ≡ false → IsLayoutIfKnown k (record { shape = s; place = place; kind = kind; form = form }) → InlineNode place kind
+  pub inline_node : (v : Value) (place : ℕ) (kind : Kind) (form : Form) → IsNode k c (node_at s at to) v → s.array ≡ false → s.constant ≡ false → IsLayoutIfKnown k (record { shape = s; class_index = place; kind = kind; form = form }) → InlineNode place kind
   inline_node v place kind form i a o p =
       let known : IsSome (find_class k s.class) = subst (λ (z : Shape). IsSome (find_class k z.class)) (sym i.shape) (inline_known k v (ap (λ (z : Shape). z.array) (sym i.shape) ∙ a) (ap (λ (z : Shape). z.constant) (sym i.shape) ∙ o) i.fits) in
       let q = p.of_class o known in
-      let d = layout_class k (record { shape = s; place = place; kind = kind; form = form }) q in
-      record { class = d.class; found = d.found; there = d.there; within = placed_within k s.class place q.place; kind_is = d.kind }
+      let d = layout_class k (record { shape = s; class_index = place; kind = kind; form = form }) q in
+      record { class = d.class; found = d.found; there = d.there; within = placed_within k s.class place q.class_index; kind_is = d.kind }
 
   -- A value of a base name.
   record BaseNode (kind : Kind) (v : Value) : Type 0 where
@@ -170,10 +170,10 @@ module _ (k : Classes) (c : List ℕ) (at to end : ℕ) (s : Shape) (l : to ≤ 
         targets = n.targets ∙ ap (λ z. option_to_list (option_map (λ key. (s.class, key)) z)) i.2;
       }
 
-  pub inline_text : (v : Value) (place : ℕ) (kind : Kind) (form : Form) → IsNode k c (node_at s at to) v → s.array ≡ false → s.constant ≡ false → IsLayoutIfKnown k (record { shape = s; place = place; kind = kind; form = form }) → kind ≡ kinds.Text → TextNode v
+  pub inline_text : (v : Value) (place : ℕ) (kind : Kind) (form : Form) → IsNode k c (node_at s at to) v → s.array ≡ false → s.constant ≡ false → IsLayoutIfKnown k (record { shape = s; class_index = place; kind = kind; form = form }) → kind ≡ kinds.Text → TextNode v
   inline_text v place kind form i a o p x = text_node kind v (base_node v place kind i a o (inline_node v place kind form i a o p) (λ y. (let z : kinds.Text ≡ kinds.Composite = sym x ∙ y in cc))) x
 
-  pub inline_plain : (v : Value) (place : ℕ) (kind : Kind) (form : Form) → IsNode k c (node_at s at to) v → s.array ≡ false → s.constant ≡ false → IsLayoutIfKnown k (record { shape = s; place = place; kind = kind; form = form }) → kind ≢ kinds.Text → kind ≢ kinds.Composite → PlainNode kind v
+  pub inline_plain : (v : Value) (place : ℕ) (kind : Kind) (form : Form) → IsNode k c (node_at s at to) v → s.array ≡ false → s.constant ≡ false → IsLayoutIfKnown k (record { shape = s; class_index = place; kind = kind; form = form }) → kind ≢ kinds.Text → kind ≢ kinds.Composite → PlainNode kind v
   inline_plain v place kind form i a o p x n = plain_node kind v (base_node v place kind i a o (inline_node v place kind form i a o p) n) x
 
   -- Parts that stand from a place on, behind so many leaves.
@@ -308,9 +308,9 @@ module _ (k : Classes) (c : List ℕ) (at to : ℕ) where
       let p : shape_of v ≡ item_of s = (let x : shape_of v ∷ shapes_of vs ≡ item_of s ∷ replicate n (item_of s) = r.of_shapes in cc) in
       subst (λ (z : Shape). IsSome (find_class k z.class)) p (inline_known k v (ap (λ (z : Shape). z.array) p) (ap (λ (z : Shape). z.constant) p ∙ o) r.fit.0)
 
-  pub hollow_items : (n place : ℕ) (kind : Kind) (form : Form) (s : Shape) (vs : Values) → IsRow k c at to (replicate n (item_of s)) vs → n ≢ 0 → IsLayoutIfKnown k (record { shape = s; place = place; kind = kind; form = form }) → s.constant ≡ false → IfSome (slice_get k place) IsHollow → Nothing at to vs
+  pub hollow_items : (n place : ℕ) (kind : Kind) (form : Form) (s : Shape) (vs : Values) → IsRow k c at to (replicate n (item_of s)) vs → n ≢ 0 → IsLayoutIfKnown k (record { shape = s; class_index = place; kind = kind; form = form }) → s.constant ≡ false → IfSome (slice_get k place) IsHollow → Nothing at to vs
   hollow_items n place kind form s vs r m p o h =
-      let q = (p.of_class o (items_known n s vs r m o)).place in
+      let q = (p.of_class o (items_known n s vs r m o)).class_index in
       let d = placed_some k s.class place q in
       no_bytes n (item_of s) d.0 vs r refl o (placed_class k s.class place q ∙ d.1) (subst (λ z. IfSome z IsHollow) d.1 h)
 

@@ -3,7 +3,7 @@ use Rattle.std.specs.Prelude.{◌≡◌, ℕ, suc, ◌+◌, ◌*◌, ◌<◌, �
 use Rattle.std.specs.Option.{option_map_or}
 use Rattle.std.specs.List.{AllByRecursion}
 use Rattle.jfr_base.specs.Formats.{Answer, for_each, run}
-use Rattle.jfr_layout.specs.Classes.{Class, Classes, IsFieldLayout, Sound, find_class, class_place, form_of, goes_inline, is_composite, kind_of}
+use Rattle.jfr_layout.specs.Classes.{Class, Classes, IsFieldLayout, Sound, find_class, class_index, form_of, goes_inline, is_composite, kind_of}
 use Rattle.jfr_layout.specs.declared.shape.Shape.{Shape}
 use Rattle.jfr_layout.specs.declared.field_layout.FieldLayout.{FieldLayout}
 use Rattle.jfr_value.specs.declared.stack.Frame.{Frame}
@@ -32,7 +32,7 @@ shapes_left k (f ∷ fs) = shapes_left k fs ++ frame_shapes k f
 
 -- This is the index of the class of the shape, if the class is known.
 abbrev pub IsPlacedIfKnown : Classes → Shape → ℕ → Type 0
-IsPlacedIfKnown k s place = s.constant ≡ false → IsSome (find_class k s.class) → class_place k s.class ≡ Some place
+IsPlacedIfKnown k s place = s.constant ≡ false → IsSome (find_class k s.class) → class_index k s.class ≡ Some place
 
 -- The layout has its form, and is that of its class, if the class is known.
 pub record IsLayoutIfKnown (k : Classes) (s : FieldLayout) : Type 0 where

@@ -106,7 +106,7 @@ fn next_field<'a>(
         number: number + 1,
         levels,
     });
-    enter(cursor, walk, layout.shape, layout.place, levels)
+    enter(cursor, walk, layout.shape, layout.class_index, levels)
 }
 
 /// Enters the next item of a frame that was taken from the stack, where one is left.

@@ -106,7 +106,7 @@ fn value_end<C, V: Visit<C>>(
 {
     match layout.form {
         Form::Fields => {
-            let class_layout = walk.classes.class_layout(layout.place);
+            let class_layout = walk.classes.class_layout(layout.class_index);
             whole_row_end(walk, class_layout, at, STEPS - 1, visitor)
         }
         _ => other_end(walk, layout, at, visitor),
@@ -158,7 +158,7 @@ pub fn layout_of(classes: &Classes, shape: Shape) -> FieldLayout
     ensures known { IsSome (find_class classes.now shape.class) → IsFieldLayout classes.now result }
     ensures sound { Sound classes.now }
 {
-    match classes.place(shape.class) {
+    match classes.index_of(shape.class) {
         Some(place) => FieldLayout::new(shape, place, classes.kind_at(place)),
         None => FieldLayout::new(shape, 0, Kind::Composite),
     }
@@ -167,13 +167,13 @@ pub fn layout_of(classes: &Classes, shape: Shape) -> FieldLayout
 /// Whether the layout is one of arrays of inline values without bytes: its class is composite and has no
 /// fields.
 fn is_hollow_array(classes: &Classes, layout: &FieldLayout) -> bool
-    requires { layout.now.place < length classes.now }
-    ensures { IfSome (slice_get classes.now layout.now.place) (λ c. IsTrue result ↔ IsHollowArray layout.now.shape c) }
+    requires { layout.now.class_index < length classes.now }
+    ensures { IfSome (slice_get classes.now layout.now.class_index) (λ c. IsTrue result ↔ IsHollowArray layout.now.shape c) }
 {
     if !layout.shape.array || layout.shape.constant {
         return false;
     }
-    is_hollow(classes, layout.place)
+    is_hollow(classes, layout.class_index)
 }
 
 /// Whether the inline values of the class of an index have no bytes.
@@ -285,7 +285,7 @@ fn compound_end<C, V: Visit<C>>(
 {
     match layout.form {
         Form::Fields => {
-            let fields = walk.classes.layouts(layout.place);
+            let fields = walk.classes.layouts(layout.class_index);
             let to = fields_end(walk, fields, at, levels - 1, visitor)?;
             Ok(to)
         }
@@ -405,7 +405,7 @@ fn array_end<C, V: Visit<C>>(
 
 /// The layout of an array's items.
 pub fn item_layout(array: &FieldLayout) -> FieldLayout
-    ensures { result ≡ layout_with (item_of array.now.shape) array.now.place array.now.kind }
+    ensures { result ≡ layout_with (item_of array.now.shape) array.now.class_index array.now.kind }
 {
-    FieldLayout::new(item_of(array.shape), array.place, array.kind)
+    FieldLayout::new(item_of(array.shape), array.class_index, array.kind)
 }

@@ -37,7 +37,7 @@ impl<'c, 'a> Leaves<'c, 'a> {
         requires { IsValue classes.now node }
         ensures { result ≡ leaves classes.now node.entry.bytes.now (node_of node.entry) }
     {
-        let place = classes.place(node.shape.class).unwrap_or(0);
+        let place = classes.index_of(node.shape.class).unwrap_or(0);
         let mut stack = Stack::new();
         stack.push(Frame::Items {
             shape: node.shape,

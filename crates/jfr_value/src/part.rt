@@ -33,7 +33,7 @@ fn field<'a>(classes: &Classes, node: &Node<'a>, number: usize) -> Option<Node<'
     ensures bytes { IfSome result (λ part. part.bytes.now ≡ node.now.bytes.now) }
     ensures value { IfSome result (IsValue classes.now) }
 {
-    let Some(place) = classes.place(node.shape.class) else {
+    let Some(place) = classes.index_of(node.shape.class) else {
         return None;
     };
     if node.shape.array || node.shape.constant {
@@ -148,7 +148,7 @@ fn nth_item<'a>(
     ensures bytes { result.bytes.now ≡ node.now.bytes.now }
 {
     let shape = layout.shape;
-    if !shape.constant && is_hollow(classes, layout.place) {
+    if !shape.constant && is_hollow(classes, layout.class_index) {
         return Node {
             shape,
             bytes: node.bytes,

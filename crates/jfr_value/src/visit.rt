@@ -84,7 +84,7 @@ fn visit_value<C, V: Visit<C>, L: Ledger>(
         Form::Integer | Form::Raw(_) => visit_plain(walk, layout.kind, at, steps),
         Form::Key => visit_key(walk, layout.shape.class, at, visitor, steps),
         Form::Text => visit_string(walk, layout.shape.class, at, visitor, steps),
-        Form::Fields => visit_fields(walk, layout.place, at, levels - 1, visitor, steps),
+        Form::Fields => visit_fields(walk, layout.class_index, at, levels - 1, visitor, steps),
         Form::Array => visit_array(walk, layout, at, levels, visitor, steps),
     }
 }
@@ -155,13 +155,13 @@ fn visit_array<C, V: Visit<C>, L: Ledger>(
 
 /// Whether the items of an array have bytes.
 fn has_bytes(classes: &Classes, layout: &FieldLayout) -> bool
-    requires { layout.now.shape.constant ≡ false → layout.now.place < length classes.now }
-    ensures { result ≡ false → (layout.now.shape.constant ≡ false) × IfSome (slice_get classes.now layout.now.place) IsHollow }
+    requires { layout.now.shape.constant ≡ false → layout.now.class_index < length classes.now }
+    ensures { result ≡ false → (layout.now.shape.constant ≡ false) × IfSome (slice_get classes.now layout.now.class_index) IsHollow }
 {
     if layout.shape.constant {
         return true;
     }
-    !is_hollow(classes, layout.place)
+    !is_hollow(classes, layout.class_index)
 }
 
 /// Visits a reference of a class, at a step, and says where it ends.

@@ -92,7 +92,7 @@ fn push_value(
             }
             Ok(string.end)
         }
-        Form::Fields => push_fields(source, layout.place, at, limit, reach, out),
+        Form::Fields => push_fields(source, layout.class_index, at, limit, reach, out),
         Form::Array => push_items(source, layout, at, limit, reach, out),
     }
 }

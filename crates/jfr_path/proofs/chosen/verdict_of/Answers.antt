@@ -8,4 +8,4 @@ unreachable-requires c =
 
 pub returns : goal.returns
 returns c = λ g all.
-    said c.args.chunk.now c.fields_of-fields.ensures.parts c.args.event.now c.requires.event c.classes.result.now c.classes.ensures c.fields_of-fields.result c.fields_of-fields.ensures.exact g c.args.verdicts.now c.in-Some.place Kept all c.in-Some.ensures.class
+    said c.args.chunk.now c.fields_of-fields.ensures.parts c.args.event.now c.requires.event c.classes.result.now c.classes.ensures c.fields_of-fields.result c.fields_of-fields.ensures.exact g c.args.verdicts.now c.in-Some.index Kept all c.in-Some.ensures.class

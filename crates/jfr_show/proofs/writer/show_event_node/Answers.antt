@@ -25,7 +25,7 @@ show_fields-requires-clause-room c =
     let m = inline_there c.layout_of-layout.result known.form forms.Fields c.in-Fields.is tt in
     let e = fields_kind c.layout_of-layout.result.kind m.form in
     let d = inline_layout c.args.chunk.now.classes c.args.chunk.now.bytes c.args.node.now.at c.args.node.now.end c.args.node.now.end c.layout_of-layout.result l n.within known v.0 there forms.Fields c.in-Fields.is tt in
-    room_within c.args.chunk.now.classes c.args.chunk.now.bytes c.args.node.now.at c.args.node.now.end c.args.node.now.end c.layout_of-layout.result.shape l n.within c.layout_of-layout.result.place c.layout_of-layout.result.kind c.args.depth.reach.composites d e m.constant room
+    room_within c.args.chunk.now.classes c.args.chunk.now.bytes c.args.node.now.at c.args.node.now.end c.args.node.now.end c.layout_of-layout.result.shape l n.within c.layout_of-layout.result.class_index c.layout_of-layout.result.kind c.args.depth.reach.composites d e m.constant room
 
 pub show_fields-requires-clause-stand : goal.show_fields-requires-clause-stand
 show_fields-requires-clause-stand c =

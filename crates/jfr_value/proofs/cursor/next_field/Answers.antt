@@ -30,7 +30,7 @@ pub enter-requires-clause-height : goal.enter-requires-clause-height
 enter-requires-clause-height c = either_height (get_or c.layouts-layouts.result.now c.args.number no_layout).shape.array (length c.push.new.self + 2 * c.args.levels) (let h = c.requires.frame.0 in omega (arith, c.push.ensures.len))
 
 pub enter-requires-clause-placed : goal.enter-requires-clause-placed
-enter-requires-clause-placed c = λ o h. (field_of c.args.walk.now.classes.now c.args.place c.args.number c.layouts-layouts.result.now c.requires.frame.1 c.layouts-layouts.ensures.exact c.if-number-layouts.false).of_class.place
+enter-requires-clause-placed c = λ o h. (field_of c.args.walk.now.classes.now c.args.place c.args.number c.layouts-layouts.result.now c.requires.frame.1 c.layouts-layouts.ensures.exact c.if-number-layouts.false).of_class.class_index
 
 pub enter-requires-clause-room : goal.enter-requires-clause-room
 enter-requires-clause-room c =

@@ -46,13 +46,13 @@ visit_array-has_bytes-requires g t c = λ o.
     (let r = c.requires.stands in
     let n = items_node c.args.walk.now.classes.now c.args.walk.now.bytes.now c.args.at r.0 c.args.walk.now.end c.args.layout.now.shape r.2 c.args.walk.now.within r.1.0 c.in-Ok.count r.1.1 c.requires.array c.in-Ok.ensures.exact in
     let h = items_known c.args.walk.now.classes.now c.args.walk.now.bytes.now c.in-Ok.count.end r.0 c.in-Ok.count.value c.args.layout.now.shape n.parts n.row c.if-count-eq0.false o in
-    placed_within c.args.walk.now.classes.now c.args.layout.now.shape.class c.args.layout.now.place (c.requires.layout.of_class o h).place)
+    placed_within c.args.walk.now.classes.now c.args.layout.now.shape.class c.args.layout.now.class_index (c.requires.layout.of_class o h).class_index)
 
 pub visit_array-returns-then-not-has_bytes-clause-visited : goal.visit_array-returns-then-not-has_bytes-clause-visited
 visit_array-returns-then-not-has_bytes-clause-visited g t c = λ to v i l.
     (let n = items_node c.args.walk.now.classes.now c.args.walk.now.bytes.now c.args.at to c.args.walk.now.end c.args.layout.now.shape l c.args.walk.now.within v c.in-Ok.count i c.requires.array c.in-Ok.ensures.exact in
     let h = c.has_bytes.ensures c.if-not-has_bytes.true in
-    let x = hollow_items c.args.walk.now.classes.now c.args.walk.now.bytes.now c.in-Ok.count.end to c.in-Ok.count.value c.args.layout.now.place c.args.layout.now.kind c.args.layout.now.form c.args.layout.now.shape n.parts n.row c.if-count-eq0.false c.requires.layout h.0 h.1 in
+    let x = hollow_items c.args.walk.now.classes.now c.args.walk.now.bytes.now c.in-Ok.count.end to c.in-Ok.count.value c.args.layout.now.class_index c.args.layout.now.kind c.args.layout.now.form c.args.layout.now.shape n.parts n.row c.if-count-eq0.false c.requires.layout h.0 h.1 in
     (x.ends, takes_none (g.V.Visit.takes c.args.walk.now.with.now) _ c.args.visitor.now (n.targets ∙ x.targets), omega (arith, n.leaves, x.leaves, c.tick.ensures)))
 
 pub visit_array-visit_value-to-requires : goal.visit_array-visit_value-to-requires
@@ -116,7 +116,7 @@ pub visit_value-overflow_sub-levels : goal.visit_value-overflow_sub-levels
 visit_value-overflow_sub-levels g t c =
     let r = c.requires.stands in
     let m = inline_there c.args.layout.now c.requires.layout.form forms.Fields c.in-Fields.is tt in
-    let d = inline_node c.args.walk.now.classes.now c.args.walk.now.bytes.now c.args.at r.0 c.args.walk.now.end c.args.layout.now.shape r.2 c.args.walk.now.within r.1.0 c.args.layout.now.place c.args.layout.now.kind c.args.layout.now.form r.1.1 m.array m.constant c.requires.layout in
+    let d = inline_node c.args.walk.now.classes.now c.args.walk.now.bytes.now c.args.at r.0 c.args.walk.now.end c.args.layout.now.shape r.2 c.args.walk.now.within r.1.0 c.args.layout.now.class_index c.args.layout.now.kind c.args.layout.now.form r.1.1 m.array m.constant c.requires.layout in
     (inner_room c.args.walk.now.classes.now c.args.levels c.args.layout.now.shape d.class c.requires.room m.constant d.found (sym d.kind_is ∙ fields_kind c.args.layout.now.kind m.form)).0
 
 pub visit_value-visit_fields-requires : goal.visit_value-visit_fields-requires
@@ -124,39 +124,39 @@ visit_value-visit_fields-requires g t c =
     let r = c.requires.stands in
     let m = inline_there c.args.layout.now c.requires.layout.form forms.Fields c.in-Fields.is tt in
     let e = fields_kind c.args.layout.now.kind m.form in
-    let d = inline_node c.args.walk.now.classes.now c.args.walk.now.bytes.now c.args.at r.0 c.args.walk.now.end c.args.layout.now.shape r.2 c.args.walk.now.within r.1.0 c.args.layout.now.place c.args.layout.now.kind c.args.layout.now.form r.1.1 m.array m.constant c.requires.layout in
-    let room = room_within c.args.walk.now.classes.now c.args.walk.now.bytes.now c.args.at r.0 c.args.walk.now.end c.args.layout.now.shape r.2 c.args.walk.now.within c.args.layout.now.place c.args.layout.now.kind c.args.levels d e m.constant c.requires.room in
-    let n = fields_node c.args.walk.now.classes.now c.args.walk.now.bytes.now c.args.at r.0 c.args.walk.now.end c.args.layout.now.shape r.2 c.args.walk.now.within r.1.0 c.args.layout.now.place c.args.layout.now.kind r.1.1 m.array m.constant d e in
-    let within : c.args.layout.now.place < length c.args.walk.now.classes.now = d.within in
-    let stand : (to : ℕ) × (vs : Values) × IsRow c.args.walk.now.classes.now c.args.walk.now.bytes.now c.args.at to (field_shapes c.args.walk.now.classes.now c.args.layout.now.place) vs × (to ≤ c.args.walk.now.end) = (r.0, n.parts, n.row, r.2) in
+    let d = inline_node c.args.walk.now.classes.now c.args.walk.now.bytes.now c.args.at r.0 c.args.walk.now.end c.args.layout.now.shape r.2 c.args.walk.now.within r.1.0 c.args.layout.now.class_index c.args.layout.now.kind c.args.layout.now.form r.1.1 m.array m.constant c.requires.layout in
+    let room = room_within c.args.walk.now.classes.now c.args.walk.now.bytes.now c.args.at r.0 c.args.walk.now.end c.args.layout.now.shape r.2 c.args.walk.now.within c.args.layout.now.class_index c.args.layout.now.kind c.args.levels d e m.constant c.requires.room in
+    let n = fields_node c.args.walk.now.classes.now c.args.walk.now.bytes.now c.args.at r.0 c.args.walk.now.end c.args.layout.now.shape r.2 c.args.walk.now.within r.1.0 c.args.layout.now.class_index c.args.layout.now.kind r.1.1 m.array m.constant d e in
+    let within : c.args.layout.now.class_index < length c.args.walk.now.classes.now = d.within in
+    let stand : (to : ℕ) × (vs : Values) × IsRow c.args.walk.now.classes.now c.args.walk.now.bytes.now c.args.at to (field_shapes c.args.walk.now.classes.now c.args.layout.now.class_index) vs × (to ≤ c.args.walk.now.end) = (r.0, n.parts, n.row, r.2) in
     search (rules, room, within, stand)
 
 pub visit_value-visit_string-requires-clause-stands : goal.visit_value-visit_string-requires-clause-stands
 visit_value-visit_string-requires-clause-stands g t c =
     let r = c.requires.stands in
     let m = inline_there c.args.layout.now c.requires.layout.form forms.Text c.in-Text.is tt in
-    let n = inline_text c.args.walk.now.classes.now c.args.walk.now.bytes.now c.args.at r.0 c.args.walk.now.end c.args.layout.now.shape r.2 c.args.walk.now.within r.1.0 c.args.layout.now.place c.args.layout.now.kind c.args.layout.now.form r.1.1 m.array m.constant c.requires.layout (text_kind c.args.layout.now.kind m.form) in
+    let n = inline_text c.args.walk.now.classes.now c.args.walk.now.bytes.now c.args.at r.0 c.args.walk.now.end c.args.layout.now.shape r.2 c.args.walk.now.within r.1.0 c.args.layout.now.class_index c.args.layout.now.kind c.args.layout.now.form r.1.1 m.array m.constant c.requires.layout (text_kind c.args.layout.now.kind m.form) in
     subst (λ z. IsOk z) (sym n.reads) refl
 
 pub visit_value-visit_plain-requires : goal.visit_value-visit_plain-requires
 visit_value-visit_plain-requires g t c =
     let r = c.requires.stands in
     let m = plain_there c.args.layout.now c.requires.layout.form c.in-Integer.is in
-    let n = inline_plain c.args.walk.now.classes.now c.args.walk.now.bytes.now c.args.at r.0 c.args.walk.now.end c.args.layout.now.shape r.2 c.args.walk.now.within r.1.0 c.args.layout.now.place c.args.layout.now.kind c.args.layout.now.form r.1.1 m.array m.constant c.requires.layout m.not_text m.not_composite in
+    let n = inline_plain c.args.walk.now.classes.now c.args.walk.now.bytes.now c.args.at r.0 c.args.walk.now.end c.args.layout.now.shape r.2 c.args.walk.now.within r.1.0 c.args.layout.now.class_index c.args.layout.now.kind c.args.layout.now.form r.1.1 m.array m.constant c.requires.layout m.not_text m.not_composite in
     record { order = (let o = r.1.1.order in let l = r.2 in omega arith); stands = subst (λ z. IsOk z) (sym n.ends) refl }
 
 pub visit_value-returns-in-Fields-clause-visited : goal.visit_value-returns-in-Fields-clause-visited
 visit_value-returns-in-Fields-clause-visited g t c = λ to v i l.
     (let m = inline_there c.args.layout.now c.requires.layout.form forms.Fields c.in-Fields.is tt in
-    let d = inline_node c.args.walk.now.classes.now c.args.walk.now.bytes.now c.args.at to c.args.walk.now.end c.args.layout.now.shape l c.args.walk.now.within v c.args.layout.now.place c.args.layout.now.kind c.args.layout.now.form i m.array m.constant c.requires.layout in
-    let n = fields_node c.args.walk.now.classes.now c.args.walk.now.bytes.now c.args.at to c.args.walk.now.end c.args.layout.now.shape l c.args.walk.now.within v c.args.layout.now.place c.args.layout.now.kind i m.array m.constant d (fields_kind c.args.layout.now.kind m.form) in
+    let d = inline_node c.args.walk.now.classes.now c.args.walk.now.bytes.now c.args.at to c.args.walk.now.end c.args.layout.now.shape l c.args.walk.now.within v c.args.layout.now.class_index c.args.layout.now.kind c.args.layout.now.form i m.array m.constant c.requires.layout in
+    let n = fields_node c.args.walk.now.classes.now c.args.walk.now.bytes.now c.args.at to c.args.walk.now.end c.args.layout.now.shape l c.args.walk.now.within v c.args.layout.now.class_index c.args.layout.now.kind i m.array m.constant d (fields_kind c.args.layout.now.kind m.form) in
     let e = c.visit_fields.ensures.visited to n.parts n.row l in
     (e.0, subst (λ z. TakesAll (g.V.Visit.takes c.args.walk.now.with.now) z c.args.visitor.now c.visit_fields.new.visitor) (sym n.targets) e.1, omega (arith, n.leaves, e.2)))
 
 pub visit_value-returns-in-Text-clause-visited : goal.visit_value-returns-in-Text-clause-visited
 visit_value-returns-in-Text-clause-visited g t c = λ to v i l.
     (let m = inline_there c.args.layout.now c.requires.layout.form forms.Text c.in-Text.is tt in
-    let n = inline_text c.args.walk.now.classes.now c.args.walk.now.bytes.now c.args.at to c.args.walk.now.end c.args.layout.now.shape l c.args.walk.now.within v c.args.layout.now.place c.args.layout.now.kind c.args.layout.now.form i m.array m.constant c.requires.layout (text_kind c.args.layout.now.kind m.form) in
+    let n = inline_text c.args.walk.now.classes.now c.args.walk.now.bytes.now c.args.at to c.args.walk.now.end c.args.layout.now.shape l c.args.walk.now.within v c.args.layout.now.class_index c.args.layout.now.kind c.args.layout.now.form i m.array m.constant c.requires.layout (text_kind c.args.layout.now.kind m.form) in
     let h = subst (λ z. IfOk z (λ got. (c.visit_string.result ≡ got.place) × TakesAll (g.V.Visit.takes c.args.walk.now.with.now) (option_to_list (option_map (λ key. (c.args.layout.now.shape.class, key)) (key_of got.value))) c.args.visitor.now c.visit_string.new.visitor)) n.reads c.visit_string.ensures.visited in
     (h.0, subst (λ z. TakesAll (g.V.Visit.takes c.args.walk.now.with.now) z c.args.visitor.now c.visit_string.new.visitor) (sym n.targets) h.1, rw n.leaves c.visit_string.ensures.cost))
 
@@ -164,7 +164,7 @@ pub visit_value-returns-in-Integer : goal.visit_value-returns-in-Integer
 visit_value-returns-in-Integer g t c = record {
   visited = λ to v i l.
       (let m = plain_there c.args.layout.now c.requires.layout.form c.in-Integer.is in
-      let n = inline_plain c.args.walk.now.classes.now c.args.walk.now.bytes.now c.args.at to c.args.walk.now.end c.args.layout.now.shape l c.args.walk.now.within v c.args.layout.now.place c.args.layout.now.kind c.args.layout.now.form i m.array m.constant c.requires.layout m.not_text m.not_composite in
+      let n = inline_plain c.args.walk.now.classes.now c.args.walk.now.bytes.now c.args.at to c.args.walk.now.end c.args.layout.now.shape l c.args.walk.now.within v c.args.layout.now.class_index c.args.layout.now.kind c.args.layout.now.form i m.array m.constant c.requires.layout m.not_text m.not_composite in
       (subst (λ z. IfOk z (λ to. c.visit_plain.result ≡ to)) n.ends c.visit_plain.ensures.ends, takes_none (g.V.Visit.takes c.args.walk.now.with.now) _ c.args.visitor.now n.targets, rw n.leaves c.visit_plain.ensures.cost));
   ready = c.requires.ready;
 }

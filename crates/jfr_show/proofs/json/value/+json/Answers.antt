@@ -131,10 +131,10 @@ push_value-push_fields-requires t c =
     let e = fields_kind c.args.layout.now.kind m.form in
     let d = inline_layout c.args.source.now.chunk.now.classes c.args.source.now.chunk.now.bytes c.args.at r.0 c.args.limit c.args.layout.now r.2 c.requires.within c.requires.layout r.1.0 r.1.1 forms.Fields c.in-Fields.is tt in
     let f = is_composite c.args.source.now.chunk.now.classes c.args.source.now.chunk.now.bytes c.args.at r.0 c.args.limit c.args.layout.now r.2 c.requires.within c.requires.layout r.1.0 r.1.1 c.in-Fields.is in
-    let room : AllByRecursion (Room c.args.source.now.chunk.now.classes (c.args.reach.composites - 1)) (field_shapes c.args.source.now.chunk.now.classes c.args.layout.now.place) = room_within c.args.source.now.chunk.now.classes c.args.source.now.chunk.now.bytes c.args.at r.0 c.args.limit c.args.layout.now.shape r.2 c.requires.within c.args.layout.now.place c.args.layout.now.kind c.args.reach.composites d e m.constant c.requires.room in
+    let room : AllByRecursion (Room c.args.source.now.chunk.now.classes (c.args.reach.composites - 1)) (field_shapes c.args.source.now.chunk.now.classes c.args.layout.now.class_index) = room_within c.args.source.now.chunk.now.classes c.args.source.now.chunk.now.bytes c.args.at r.0 c.args.limit c.args.layout.now.shape r.2 c.requires.within c.args.layout.now.class_index c.args.layout.now.kind c.args.reach.composites d e m.constant c.requires.room in
     let inner : 1 ≤ c.args.reach.composites = (inner_room c.args.source.now.chunk.now.classes c.args.reach.composites c.args.layout.now.shape d.class c.requires.room m.constant d.found (sym d.kind_is ∙ e)).0 in
-    let within : c.args.layout.now.place < length c.args.source.now.chunk.now.classes = d.within in
-    let stand : (to : ℕ) × (vs : Values) × IsRow c.args.source.now.chunk.now.classes c.args.source.now.chunk.now.bytes c.args.at to (field_shapes c.args.source.now.chunk.now.classes c.args.layout.now.place) vs × (to ≤ c.args.limit) = (r.0, f.parts, f.row, r.2) in
+    let within : c.args.layout.now.class_index < length c.args.source.now.chunk.now.classes = d.within in
+    let stand : (to : ℕ) × (vs : Values) × IsRow c.args.source.now.chunk.now.classes c.args.source.now.chunk.now.bytes c.args.at to (field_shapes c.args.source.now.chunk.now.classes c.args.layout.now.class_index) vs × (to ≤ c.args.limit) = (r.0, f.parts, f.row, r.2) in
     let flat = m.array in
     search (rules, room, within, stand, inner, flat)
 

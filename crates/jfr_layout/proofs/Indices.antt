@@ -1,4 +1,4 @@
--- The place of the class of an id, and what stands there.
+-- The index of the class of an id, and what stands there.
 use Rattle.std.proofs.Common.{◌≡◌, ℕ, suc, ◌+◌, ◌<◌, List, [], ◌∷◌, ◌++◌, length, Some, None, Bool, true, false, cond, ◌||◌, sym, ◌∙◌, ap, refl, arith}
 use Rattle.std.specs.Prelude.{is_some, position, find, nat_lt, ◌==◌}
 use Rattle.std.specs.Option.{option_or}
@@ -7,7 +7,7 @@ use Rattle.std.proofs.lemmas.List.Folds.{find_at}
 use Rattle.std.proofs.lemmas.List.Quantifiers.{position-Some}
 use Rattle.std.proofs.lemmas.Option.{cond_some}
 use Rattle.std.proofs.lemmas.Iterator.Adapters.{position_from-zero}
-use Rattle.jfr_layout.specs.Classes.{Class, Classes, class_place, find_class}
+use Rattle.jfr_layout.specs.Classes.{Class, Classes, class_index, find_class}
 
 -- By cases on what a test gives.
 by_test : {A : Type 0} (f g : Bool → A) → f true ≡ g true → f false ≡ g false → (b : Bool) → f b ≡ g b
@@ -36,18 +36,18 @@ some_found : {X : Type 0} (p : X → Bool) (xs : List X) → is_some (find p xs)
 some_found p [] = refl
 some_found p (x ∷ xs) = by_test (λ t. is_some (cond t (Some x) (find p xs))) (λ t. t || list_any p xs) refl (some_found p xs) (p x)
 
--- There is a class of the id exactly where it has a place.
+-- There is a class of the id exactly where it has an index.
 pub is_some-find : {X : Type 0} (p : X → Bool) (xs : List X) → is_some (find p xs) ≡ is_some (position p xs)
 is_some-find p xs = some_found p xs ∙ sym (is_some-position p xs)
 
--- The class of an id stands at its place.
+-- The class of an id stands at its index.
 pub find-position : {X : Type 0} (p : X → Bool) (xs : List X) (i : ℕ) → position p xs ≡ Some i → find p xs ≡ slice_get xs i
 find-position p xs i e = find_at p xs ∙ ap (slice_get xs) (cond_some (nat_lt (position_or_len p xs) (length xs)) (position_or_len p xs) i e).1
 
 -- And within the list.
-pub place_within : (k : Classes) (id p : ℕ) → class_place k id ≡ Some p → p < length k
-place_within [] id p e = cc
-place_within (c ∷ k) id p e = (position-Some (λ (d : Class). d.id == id) (c ∷ k) p c e).0
+pub index_within : (k : Classes) (id p : ℕ) → class_index k id ≡ Some p → p < length k
+index_within [] id p e = cc
+index_within (c ∷ k) id p e = (position-Some (λ (d : Class). d.id == id) (c ∷ k) p c e).0
 
-pub stands : (k : Classes) (id p : ℕ) → class_place k id ≡ Some p → find_class k id ≡ slice_get k p
+pub stands : (k : Classes) (id p : ℕ) → class_index k id ≡ Some p → find_class k id ≡ slice_get k p
 stands k id p e = find-position (λ (c : Class). c.id == id) k p e

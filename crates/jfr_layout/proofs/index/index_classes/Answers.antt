@@ -1,7 +1,7 @@
 use Rattle.std.proofs.Common.{sym, ◌∙◌, arith}
 use Rattle.std.proofs.lemmas.Result.{err_from_is_err_and}
 use Rattle.jfr_layout.proofs.IdsSeen.{ids_next, ids_tell, ids_names_tell}
-use Rattle.jfr_layout.proofs.index.index_of.Goals as goal
+use Rattle.jfr_layout.proofs.index.index_classes.Goals as goal
 
 pub returns-then-branch-clause-judged : goal.returns-then-branch-clause-judged
 returns-then-branch-clause-judged c = ids_tell c.args.list.now c.loop-at.at c.loop-at.index c.at-class.result.now
@@ -15,4 +15,4 @@ returns-in_err-check_names-clause-judged c = let p = err_from_is_err_and c.from_
 pub loop-at-preserved : goal.loop-at-preserved
 loop-at-preserved c = ids_next c.args.list.now c.loop-at.at c.loop-at.index c.insert.new.self c.at-class.result.now
     c.loop-at.invariant c.at-class.ensures (omega arith) (sym c.in_ok-insert.ensures.used ∙ c.if-branch.false)
-    c.in_ok-insert.ensures.places c.in_ok-check_names.ensures
+    c.in_ok-insert.ensures.indices c.in_ok-check_names.ensures

@@ -1,7 +1,0 @@
-use Rattle.jfr_layout.proofs.Events.{places_at}
-use Rattle.jfr_layout.proofs.classes.Classes.event_place.Goals as goal
-
-pub returns-in-Some : goal.returns-in-Some
-returns-in-Some c =
-    let found = rw c.deref.ensures.value at c.in-Some.ensures.lookup in
-    rw (← c.self.view_is) (places_at c.self.inside.resolved c.self.inside.events.items c.args.id c.in-Some.place.now c.self.invariant.1 found.3.0 found.1)
