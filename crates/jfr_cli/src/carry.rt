@@ -7,11 +7,10 @@ ghost use Rattle.std.specs.Prelude.{◌≤◌};
 ghost use Rattle.jfr_split.specs.Parts.{IsUsable};
 ghost use Rattle.jfr_cli.specs.Runs.{Carries};
 
-use jfr_base::{ReadFault, Refusal};
 use jfr_demo::sample_text;
 use jfr_filter::Filter;
 use jfr_header::Ending;
-use jfr_outside::{Fault, Place, Sink, Text};
+use jfr_outside::{Place, Sink, Text};
 use jfr_report::{metadata_stream, print_stream, summary_stream};
 use jfr_scrub::scrub_stream;
 use jfr_split::{SplitRule, assemble, disassemble};
@@ -126,18 +125,10 @@ fn say_sample<P: Place, O: Sink>(
 {
     let text = match sample_text(alloc, seed, events) {
         Ok(text) => text,
-        Err(ReadFault::Flawed(flaw)) => {
-            return Ending::Refused(Refusal {
-                chunk: 1,
-                offset: flaw.offset,
-                reason: flaw.reason,
-            });
-        }
-        Err(ReadFault::Memory) => return Ending::Memory,
+        Err(fault) => return Ending::of_chunk(1, fault),
     };
     match out.write(text.as_str().as_bytes()) {
         Ok(()) => Ending::Done,
-        Err(Fault::Failed) => Ending::WriteFault,
-        Err(Fault::Memory) => Ending::Memory,
+        Err(fault) => Ending::of_write(fault),
     }
 }
