@@ -3,6 +3,7 @@ use crate::reading::read;
 use jfr_chunk::Chunk;
 use jfr_fixtures::JDK_LIKE;
 use jfr_meta::ClassNames;
+use std::alloc::Global;
 use std::process::Abort;
 use std::test::Fail;
 
@@ -30,15 +31,29 @@ fn compare_names(
     }
 }
 
-#[test]
-fn strings_name_the_classes(rt: HostRuntime) -> Result<(), Fail> {
-    let chunk = read(rt.alloc(), &JDK_LIKE)?;
-    let names = chunk.class_names(rt.alloc())?;
-    assert_eq!(rt; names.len(), chunk.classes().len());
+// Compares those of the last classes.
+fn compare_last(rt: &impl Abort, chunk: &Chunk<'_>, names: &[ClassNames]) -> Result<(), Fail> {
     let first = names.len().saturating_sub(LAST_CLASSES.len());
     for (number, (name, categories)) in LAST_CLASSES.iter().enumerate() {
-        let class = names.get(first + number).ok_or("too few classes")?;
-        compare_names(&rt, &chunk, class, name, categories);
+        let class = names.get(first.saturating_add(number)).ok_or("too few classes")?;
+        compare_names(rt, chunk, class, name, categories);
     }
     Ok(())
+}
+
+// Each class of a chunk has its names.
+fn compare_all(rt: &impl Abort, alloc: Global, chunk: &Chunk<'_>) -> Result<(), Fail> {
+    let names = chunk.class_names(alloc)?;
+    assert_eq!(rt; names.len(), chunk.classes().len());
+    compare_last(rt, chunk, &names)
+}
+
+fn compare_jdk_like(rt: &impl Abort, alloc: Global) -> Result<(), Fail> {
+    let chunk = read(alloc, &JDK_LIKE)?;
+    compare_all(rt, alloc, &chunk)
+}
+
+#[test]
+fn strings_name_the_classes(rt: HostRuntime) -> Result<(), Fail> {
+    compare_jdk_like(&rt, rt.alloc())
 }

@@ -1,6 +1,6 @@
 // Where paths and names lead.
 use crate::reading::read;
-use jfr_chunk::Chunk;
+use jfr_chunk::{Chunk, Kept};
 use jfr_filter::{Filter, Side};
 use jfr_fixtures::{JDK_LIKE, KEYS, RINGS, STRINGS, with_classes};
 use jfr_outside::{NoMemory, Text, Words};
@@ -23,12 +23,18 @@ const ENTER_AND_LOAD: &[bool] = &[false, true, true];
 
 const NONE: &[bool] = &[false, false, false];
 
-// The path of these steps.
-fn path_of(alloc: Global, steps: &[Step]) -> Result<Path, NoMemory> {
-    let mut path = Path::new(alloc);
+// Adds steps to a path.
+fn push_steps(path: &mut Path, steps: &[Step]) -> Result<(), NoMemory> {
     for step in steps {
         path.push(*step)?;
     }
+    Ok(())
+}
+
+// The path of these steps.
+fn path_of(alloc: Global, steps: &[Step]) -> Result<Path, NoMemory> {
+    let mut path = Path::new(alloc);
+    push_steps(&mut path, steps)?;
     Ok(path)
 }
 
@@ -68,15 +74,23 @@ const TEXT: Step = Step::Field(1);
 
 const FOLLOW: Step = Step::Follow;
 
+// Around a ring of two nodes.
+const SECOND: &[Step] = &[NODE, FOLLOW, NEXT, FOLLOW];
+
+const BACK_TO_THE_FIRST: &[Step] = &[NODE, FOLLOW, NEXT, FOLLOW, NEXT, FOLLOW];
+
+// Through a string that is a key, and around a ring of them.
+const KEY: &[Step] = &[NODE, FOLLOW, TEXT, FOLLOW];
+
+const KEY_OF_A_KEY: &[Step] = &[NODE, FOLLOW, TEXT, FOLLOW, FOLLOW, FOLLOW];
+
 // Through fields and constants, around a ring and back to where it began.
 fn compare_ring(rt: &impl Abort, alloc: Global, chunk: &Chunk<'_>) -> Result<(), Fail> {
     compare_place(rt, alloc, chunk, &[], Some((327, 330)))?;
     compare_place(rt, alloc, chunk, &[NODE], Some((329, 330)))?;
     compare_place(rt, alloc, chunk, &[NODE, FOLLOW], Some((343, 347)))?;
-    let second = [NODE, FOLLOW, NEXT, FOLLOW];
-    compare_place(rt, alloc, chunk, &second, Some((348, 352)))?;
-    let first = [NODE, FOLLOW, NEXT, FOLLOW, NEXT, FOLLOW];
-    compare_place(rt, alloc, chunk, &first, Some((343, 347)))
+    compare_place(rt, alloc, chunk, SECOND, Some((348, 352)))?;
+    compare_place(rt, alloc, chunk, BACK_TO_THE_FIRST, Some((343, 347)))
 }
 
 // Where there is no such field, item or constant.
@@ -88,32 +102,52 @@ fn compare_nowhere(rt: &impl Abort, alloc: Global, chunk: &Chunk<'_>) -> Result<
     compare_place(rt, alloc, chunk, &[NODE, FOLLOW, TEXT, FOLLOW], None)
 }
 
-// Paths lead around a ring, or nowhere.
+// In the chunk of rings, paths lead around a ring, or nowhere.
+fn compare_rings(rt: &impl Abort, alloc: Global) -> Result<(), Fail> {
+    let bytes = with_classes(alloc, RINGS, 333)?;
+    let chunk = read(alloc, &bytes)?;
+    compare_ring(rt, alloc, &chunk)?;
+    compare_nowhere(rt, alloc, &chunk)
+}
+
 #[test]
 fn paths_lead_around_a_ring(rt: HostRuntime) -> Result<(), Fail> {
-    let bytes = with_classes(rt.alloc(), RINGS, 333)?;
-    let chunk = read(rt.alloc(), &bytes)?;
-    compare_ring(&rt, rt.alloc(), &chunk)?;
-    compare_nowhere(&rt, rt.alloc(), &chunk)
+    compare_rings(&rt, rt.alloc())
 }
 
 // Through strings that are keys, also of themselves.
 fn compare_strings(rt: &impl Abort, alloc: Global, chunk: &Chunk<'_>) -> Result<(), Fail> {
-    let text = [NODE, FOLLOW, TEXT];
-    compare_place(rt, alloc, chunk, &text, Some((341, 343)))?;
-    let key = [NODE, FOLLOW, TEXT, FOLLOW];
-    compare_place(rt, alloc, chunk, &key, Some((346, 348)))?;
-    let ring = [NODE, FOLLOW, TEXT, FOLLOW, FOLLOW, FOLLOW];
-    compare_place(rt, alloc, chunk, &ring, Some((349, 351)))?;
+    compare_place(rt, alloc, chunk, &[NODE, FOLLOW, TEXT], Some((341, 343)))?;
+    compare_place(rt, alloc, chunk, KEY, Some((346, 348)))?;
+    compare_place(rt, alloc, chunk, KEY_OF_A_KEY, Some((349, 351)))?;
     compare_place(rt, alloc, chunk, &[NODE, FOLLOW, NEXT, FOLLOW], None)
 }
 
-// Paths lead through strings.
+// In the chunk of strings, paths lead through strings.
+fn compare_keys(rt: &impl Abort, alloc: Global) -> Result<(), Fail> {
+    let bytes = with_classes(alloc, STRINGS, 330)?;
+    let chunk = read(alloc, &bytes)?;
+    compare_strings(rt, alloc, &chunk)
+}
+
 #[test]
 fn paths_lead_through_strings(rt: HostRuntime) -> Result<(), Fail> {
-    let bytes = with_classes(rt.alloc(), STRINGS, 330)?;
-    let chunk = read(rt.alloc(), &bytes)?;
-    compare_strings(&rt, rt.alloc(), &chunk)
+    compare_keys(&rt, rt.alloc())
+}
+
+// Adds names to words.
+fn push_names(words: &mut Words, names: &[&str]) -> Result<(), NoMemory> {
+    for name in names {
+        words.push(name)?;
+    }
+    Ok(())
+}
+
+// The words of these names.
+fn words_of(alloc: Global, names: &[&str]) -> Result<Words, NoMemory> {
+    let mut words = Words::new(alloc);
+    push_names(&mut words, names)?;
+    Ok(words)
 }
 
 // The text to which names lead from an event.
@@ -123,11 +157,8 @@ fn text_of(
     number: usize,
     names: &[&str],
 ) -> Result<Option<Text>, Fail> {
-    let mut words = Words::new(alloc);
-    for name in names {
-        words.push(name)?;
-    }
     let event = chunk.event(number).ok_or("no event")?;
+    let words = words_of(alloc, names)?;
     Ok(named(alloc, chunk, &event, &words)?)
 }
 
@@ -174,35 +205,52 @@ fn compare_texts(
 
 // Names lead through references to texts, and through strings that are keys. A string that is no text
 // in the end, and a field that isn't there, have none.
+const OF_RINGS: &[Named<'static>] = &[
+    (0, &["node", "text"], Some("p")),
+    (0, &["node", "next", "text"], Some("q")),
+    (0, &["node", "next", "next", "text"], Some("p")),
+    (1, &["node", "text"], Some("r")),
+    (0, &["n"], None),
+    (0, &["node"], None),
+    (0, &["text"], None),
+];
+
+const OF_KEYS: &[Named<'static>] = &[
+    (0, &["node", "text"], None),
+    (1, &["node", "text"], Some("x")),
+];
+
+const OF_STRINGS: &[Named<'static>] = &[(0, &["node", "text"], None)];
+
 #[test]
 fn names_lead_to_texts(rt: HostRuntime) -> Result<(), Fail> {
-    let texts = [
-        (0, &["node", "text"][..], Some("p")),
-        (0, &["node", "next", "text"][..], Some("q")),
-        (0, &["node", "next", "next", "text"][..], Some("p")),
-        (1, &["node", "text"][..], Some("r")),
-        (0, &["n"][..], None),
-        (0, &["node"][..], None),
-        (0, &["text"][..], None),
-    ];
-    compare_texts(&rt, rt.alloc(), RINGS, 333, &texts)?;
-    let texts = [
-        (0, &["node", "text"][..], None),
-        (1, &["node", "text"][..], Some("x")),
-    ];
-    compare_texts(&rt, rt.alloc(), KEYS, 333, &texts)?;
-    let texts = [(0, &["node", "text"][..], None)];
-    compare_texts(&rt, rt.alloc(), STRINGS, 330, &texts)
+    compare_texts(&rt, rt.alloc(), RINGS, 333, OF_RINGS)?;
+    compare_texts(&rt, rt.alloc(), KEYS, 333, OF_KEYS)?;
+    compare_texts(&rt, rt.alloc(), STRINGS, 330, OF_STRINGS)
+}
+
+// Gives an option to a filter that lacks it.
+fn give(filter: &mut Filter, side: Side, list: &str) -> Result<(), Fail> {
+    if filter.has(side) {
+        Err("the option is given already")?;
+    }
+    filter.add(side, list)?;
+    Ok(())
 }
 
 // The filter of one option.
 fn filter_of(alloc: Global, side: Side, list: &str) -> Result<Filter, Fail> {
     let mut filter = Filter::new(alloc);
-    if filter.has(side) {
-        Err("the option is given already")?;
-    }
-    filter.add(side, list)?;
+    give(&mut filter, side, list)?;
     Ok(filter)
+}
+
+// Compares the flags of events.
+fn compare_flags(rt: &impl Abort, kept: &Kept, list: &str, flags: &[bool]) {
+    assert_eq!(rt; kept.len(), flags.len(), "{list}");
+    for (number, flag) in flags.iter().enumerate() {
+        assert_eq!(rt; kept.get(number), Some(*flag), "{list}");
+    }
 }
 
 // Compares which events of a chunk an option keeps.
@@ -216,10 +264,7 @@ fn compare_kept(
 ) -> Result<(), Fail> {
     let filter = filter_of(alloc, side, list)?;
     let kept = choose(alloc, chunk, &filter)?;
-    assert_eq!(rt; kept.len(), flags.len(), "{list}");
-    for (number, flag) in flags.iter().enumerate() {
-        assert_eq!(rt; kept.get(number), Some(*flag), "{list}");
-    }
+    compare_flags(rt, &kept, list, flags);
     Ok(())
 }
 
@@ -264,8 +309,12 @@ fn compare_choices(rt: &impl Abort, alloc: Global, chunk: &Chunk<'_>) -> Result<
 }
 
 // Events are chosen by what the options say.
+fn compare_chosen(rt: &impl Abort, alloc: Global) -> Result<(), Fail> {
+    let chunk = read(alloc, &JDK_LIKE)?;
+    compare_choices(rt, alloc, &chunk)
+}
+
 #[test]
 fn events_are_chosen(rt: HostRuntime) -> Result<(), Fail> {
-    let chunk = read(rt.alloc(), &JDK_LIKE)?;
-    compare_choices(&rt, rt.alloc(), &chunk)
+    compare_chosen(&rt, rt.alloc())
 }

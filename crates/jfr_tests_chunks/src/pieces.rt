@@ -11,19 +11,36 @@ use std::alloc::Global;
 use std::process::Abort;
 use std::test::Fail;
 
-// The pieces joined.
-fn joined(alloc: Global, scrubber: &Scrubber<'_>) -> Result<Vec<u8>, Fail> {
-    let mut bytes = Vec::new(alloc);
-    for number in 0..scrubber.piece_count() {
-        match scrubber.piece(number) {
-            Some(Piece::Copied { bytes: copied, .. }) => bytes.extend_from_slice(copied)?,
-            Some(Piece::Made { from, to, .. }) => {
-                bytes.extend_from_slice(scrubber.made().get(from..to).ok_or("no such bytes")?)?
-            }
-            None => Err("no such piece")?,
+// The bytes of a piece.
+fn bytes_of<'s>(scrubber: &'s Scrubber<'_>, number: usize) -> Result<&'s [u8], Fail> {
+    match scrubber.piece(number) {
+        Some(Piece::Copied { bytes, .. }) => Ok(bytes),
+        Some(Piece::Made { from, to, .. }) => {
+            Ok(scrubber.made().get(from..to).ok_or("no such bytes")?)
         }
+        None => Err("no such piece")?,
     }
-    Ok(bytes)
+}
+
+// Adds the pieces.
+fn push_pieces(bytes: &mut Vec<u8>, scrubber: &Scrubber<'_>) -> Result<(), Fail> {
+    for number in 0..scrubber.piece_count() {
+        bytes.extend_from_slice(bytes_of(scrubber, number)?)?;
+    }
+    Ok(())
+}
+
+// Compares the pieces joined.
+fn compare_joined(
+    rt: &impl Abort,
+    alloc: Global,
+    scrubber: &Scrubber<'_>,
+    expected: &[u8],
+) -> Result<(), Fail> {
+    let mut pieces = Vec::new(alloc);
+    push_pieces(&mut pieces, scrubber)?;
+    assert_eq!(rt; pieces.as_slice(), expected);
+    Ok(())
 }
 
 // Compares what is made of a chunk, before and after it is written.
@@ -34,8 +51,7 @@ fn compare_pieces(
     expected: &[u8],
     kept: (usize, usize),
 ) -> Result<(), Fail> {
-    let pieces = joined(alloc, scrubber)?;
-    assert_eq!(rt; pieces.as_slice(), expected);
+    compare_joined(rt, alloc, scrubber, expected)?;
     assert!(rt; scrubber.bytes().is_empty());
     scrubber.write();
     assert_eq!(rt; scrubber.bytes(), expected);
@@ -69,33 +85,50 @@ fn compare_scrub(
     compare_chunk(rt, alloc, &chunk, expected, kept)
 }
 
-// Compares what the chunk of records becomes; with each the place of the last checkpoint.
+// Compares what the chunk of these records becomes.
 fn compare_records(
     rt: &impl Abort,
     alloc: Global,
-    records: (&[u8], u64),
-    scrubbed: (&[u8], u64),
+    (records, last): (&[u8], u64),
+    expected: &[u8],
     kept: (usize, usize),
 ) -> Result<(), Fail> {
-    let bytes = with_classes(alloc, records.0, records.1)?;
-    let expected = with_classes(alloc, scrubbed.0, scrubbed.1)?;
-    compare_scrub(rt, alloc, &bytes, &expected, kept)
+    let bytes = with_classes(alloc, records, last)?;
+    compare_scrub(rt, alloc, &bytes, expected, kept)
+}
+
+// Records and what is left of them, with each the place of the last checkpoint; and how many events and
+// entries are kept.
+type Left = ((&'static [u8], u64), (&'static [u8], u64), (usize, usize));
+
+const LEFT: [Left; 5] = [
+    ((RINGS, 333), (RINGS, 333), (2, 4)),
+    ((TWICE, 344), (TWICE_SCRUBBED, 337), (1, 1)),
+    ((THREE, 366), (THREE_SCRUBBED, 359), (1, 1)),
+    ((STRINGS, 330), (STRINGS_SCRUBBED, 330), (1, 3)),
+    ((WIDE, 352), (WIDE_SCRUBBED, 345), (1, 1)),
+];
+
+// Compares what is left of records.
+fn compare_left(rt: &impl Abort, alloc: Global, left: &Left) -> Result<(), Fail> {
+    let (records, (scrubbed, last), kept) = *left;
+    let expected = with_classes(alloc, scrubbed, last)?;
+    compare_records(rt, alloc, records, &expected, kept)
+}
+
+// Compares what is left of inert records.
+fn compare_inert(rt: &impl Abort, alloc: Global) -> Result<(), Fail> {
+    let bytes = inert(alloc)?;
+    compare_scrub(rt, alloc, &bytes, &PLAIN, (0, 0))
 }
 
 // Without a filter a chunk keeps its events and what they reach, and nothing else.
 #[test]
 fn chunks_become_what_is_reached(rt: HostRuntime) -> Result<(), Fail> {
-    let alloc = rt.alloc();
-    for (records, scrubbed, kept) in [
-        ((RINGS, 333), (RINGS, 333), (2, 4)),
-        ((TWICE, 344), (TWICE_SCRUBBED, 337), (1, 1)),
-        ((THREE, 366), (THREE_SCRUBBED, 359), (1, 1)),
-        ((STRINGS, 330), (STRINGS_SCRUBBED, 330), (1, 3)),
-        ((WIDE, 352), (WIDE_SCRUBBED, 345), (1, 1)),
-    ] {
-        compare_records(&rt, alloc, records, scrubbed, kept)?;
+    for left in LEFT.iter() {
+        compare_left(&rt, rt.alloc(), left)?;
     }
-    compare_scrub(&rt, alloc, &inert(alloc)?, &PLAIN, (0, 0))
+    compare_inert(&rt, rt.alloc())
 }
 
 // The bytes of a range of the chunk, where one piece copies the whole of it.
@@ -125,19 +158,39 @@ fn compare_copied(
     Ok(())
 }
 
-// Compares what is copied of the two events of a chunk, of which the first is kept.
-fn compare_events(rt: &impl Abort, alloc: Global, chunk: &Chunk<'_>) -> Result<(), Fail> {
+// Compares what is copied of the two events of a chunk, of which the filter keeps the first.
+fn compare_events(
+    rt: &impl Abort,
+    alloc: Global,
+    chunk: &Chunk<'_>,
+    filter: &Filter,
+) -> Result<(), Fail> {
+    let event = Some(&[5, 8, 0xAC, 2, 1][..]);
+    compare_copied(rt, alloc, chunk, filter, (325, 330), event)?;
+    compare_copied(rt, alloc, chunk, filter, (330, 333), None)
+}
+
+// The filter that keeps it.
+fn first_event(alloc: Global) -> Result<Filter, Fail> {
     let mut filter = Filter::new(alloc);
     filter.add(Side::IncludeEvents, "t.A")?;
-    let event = [5, 8, 0xAC, 2, 1];
-    compare_copied(rt, alloc, chunk, &filter, (325, 330), Some(&event))?;
-    compare_copied(rt, alloc, chunk, &filter, (330, 333), None)
+    Ok(filter)
 }
 
 // A kept event lies in one piece that is copied from where it stands, and one that goes in none.
+fn compare_first_event(rt: &impl Abort, alloc: Global, bytes: &[u8]) -> Result<(), Fail> {
+    let chunk = read(alloc, bytes)?;
+    let filter = first_event(alloc)?;
+    compare_events(rt, alloc, &chunk, &filter)
+}
+
+// They are copied of the chunk of rings.
+fn compare_rings(rt: &impl Abort, alloc: Global) -> Result<(), Fail> {
+    let bytes = with_classes(alloc, RINGS, 333)?;
+    compare_first_event(rt, alloc, &bytes)
+}
+
 #[test]
 fn events_are_copied(rt: HostRuntime) -> Result<(), Fail> {
-    let bytes = with_classes(rt.alloc(), RINGS, 333)?;
-    let chunk = read(rt.alloc(), &bytes)?;
-    compare_events(&rt, rt.alloc(), &chunk)
+    compare_rings(&rt, rt.alloc())
 }

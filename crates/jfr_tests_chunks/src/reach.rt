@@ -78,23 +78,28 @@ fn compare_reached(
     compare_marks(rt, alloc, &chunk, flags, reached)
 }
 
+// Which entries the first event reaches, and which the second.
+const FIRST: &[bool] = &[true, true, false, false];
+
+const SECOND: &[bool] = &[false, false, true, true];
+
+// Compares which entries each choice of the two events reaches.
+fn compare_rings(rt: &impl Abort, alloc: Global) -> Result<(), Fail> {
+    compare_reached(rt, alloc, RINGS, 333, &[true, false], FIRST)?;
+    compare_reached(rt, alloc, RINGS, 333, &[false, true], SECOND)?;
+    compare_reached(rt, alloc, RINGS, 333, &[true, true], &[true; 4])?;
+    compare_reached(rt, alloc, RINGS, 333, &[false, false], &[false; 4])
+}
+
 // An event reaches its own ring and no other, through strings too. Of two entries of a key it reaches
 // the last.
 #[test]
 fn events_reach_their_constants(rt: HostRuntime) -> Result<(), Fail> {
-    let alloc = rt.alloc();
-    let all = [true; 4];
-    let none = [false; 4];
-    let first = [true, true, false, false];
-    let second = [false, false, true, true];
-    compare_reached(&rt, alloc, RINGS, 333, &[true, false], &first)?;
-    compare_reached(&rt, alloc, RINGS, 333, &[false, true], &second)?;
-    compare_reached(&rt, alloc, RINGS, 333, &[true, true], &all)?;
-    compare_reached(&rt, alloc, RINGS, 333, &[false, false], &none)?;
-    compare_reached(&rt, alloc, TWICE, 344, &[true], &[false, true])?;
+    compare_rings(&rt, rt.alloc())?;
+    compare_reached(&rt, rt.alloc(), TWICE, 344, &[true], &[false, true])?;
     compare_reached(
         &rt,
-        alloc,
+        rt.alloc(),
         STRINGS,
         330,
         &[true],

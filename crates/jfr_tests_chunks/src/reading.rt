@@ -6,6 +6,7 @@ use jfr_fixtures::{
 };
 use jfr_header::is_cut;
 use std::alloc::{AllocError, Global};
+use std::process::Abort;
 use std::test::Fail;
 
 // The plain chunk.
@@ -42,26 +43,39 @@ fn counts(alloc: Global, bytes: &[u8]) -> Result<(usize, usize, usize, u64), Rea
     ))
 }
 
-#[test]
-fn counts_what_a_chunk_has(rt: HostRuntime) -> Result<(), Fail> {
-    let alloc = rt.alloc();
-    assert_eq!(rt; counts(alloc, &plain(alloc)?)?, (0, 1, 0, 0));
-    assert_eq!(rt; counts(alloc, &rings(alloc)?)?, (2, 1, 4, 0));
-    assert_eq!(rt; counts(alloc, &no_nodes(alloc)?)?, (2, 1, 0, 0));
-    let older = &[
-        15, 1, 0, 0, 0xf9, 0xff, 0xff, 0xff, 0xff, 0xff, 0xff, 0xff, 0xff, 0, 0,
-    ];
-    let chained = chunk_of(alloc, &[NO_CLASSES, NO_POOLS, older], 103, 68)?;
-    assert_eq!(rt; counts(alloc, &chained)?, (0, 2, 0, 0));
-    assert_eq!(rt; counts(alloc, &inert(alloc)?)?, (0, 1, 0, 3));
+// Compares how many a chunk has.
+fn compare_counts(
+    rt: &impl Abort,
+    alloc: Global,
+    bytes: Vec<u8>,
+    expected: (usize, usize, usize, u64),
+) -> Result<(), Fail> {
+    assert_eq!(rt; counts(alloc, &bytes)?, expected);
     Ok(())
 }
 
+// A checkpoint that refers to the one before.
+const OLDER: &[u8] = &[
+    15, 1, 0, 0, 0xf9, 0xff, 0xff, 0xff, 0xff, 0xff, 0xff, 0xff, 0xff, 0, 0,
+];
+
+// The plain chunk with it.
+fn chained(alloc: Global) -> Result<Vec<u8>, AllocError> {
+    chunk_of(alloc, &[NO_CLASSES, NO_POOLS, OLDER], 103, 68)
+}
+
 #[test]
-fn events_end_with_their_last_field(rt: HostRuntime) -> Result<(), Fail> {
+fn counts_what_a_chunk_has(rt: HostRuntime) -> Result<(), Fail> {
     let alloc = rt.alloc();
-    let bytes = with_classes(alloc, BYTES_LEFT, 334)?;
-    let chunk = read(alloc, &bytes)?;
+    compare_counts(&rt, alloc, plain(alloc)?, (0, 1, 0, 0))?;
+    compare_counts(&rt, alloc, rings(alloc)?, (2, 1, 4, 0))?;
+    compare_counts(&rt, alloc, no_nodes(alloc)?, (2, 1, 0, 0))?;
+    compare_counts(&rt, alloc, chained(alloc)?, (0, 2, 0, 0))?;
+    compare_counts(&rt, alloc, inert(alloc)?, (0, 1, 0, 3))
+}
+
+// Compares the second of two events, behind whose last field bytes are left.
+fn compare_last_event(rt: &impl Abort, chunk: &Chunk<'_>) {
     assert_eq!(rt; chunk.event_count(), 2);
     let places = chunk
         .event(1)
@@ -70,7 +84,19 @@ fn events_end_with_their_last_field(rt: HostRuntime) -> Result<(), Fail> {
     assert!(rt; chunk.event(2).is_none());
     assert_eq!(rt; chunk.event_record(1), Some(2));
     assert!(rt; chunk.event_record(2).is_none());
+}
+
+// Reads it.
+fn read_bytes_left(rt: &impl Abort, alloc: Global) -> Result<(), Fail> {
+    let bytes = with_classes(alloc, BYTES_LEFT, 334)?;
+    let chunk = read(alloc, &bytes)?;
+    compare_last_event(rt, &chunk);
     Ok(())
+}
+
+#[test]
+fn events_end_with_their_last_field(rt: HostRuntime) -> Result<(), Fail> {
+    read_bytes_left(&rt, rt.alloc())
 }
 
 // The places of bytes and what they become, and the flaw.
@@ -119,6 +145,15 @@ fn refusal_of(alloc: Global, bytes: &[u8]) -> Result<Option<Flaw>, ReadFault> {
     }
 }
 
+// Edits some bytes.
+fn edit(bytes: &mut [u8], edits: &[(usize, u8)]) {
+    for (at, byte) in edits {
+        if let Some(edited) = bytes.get_mut(*at) {
+            *edited = *byte;
+        }
+    }
+}
+
 // Why a chunk with some bytes edited is refused.
 fn refusal_of_edited(
     alloc: Global,
@@ -126,60 +161,89 @@ fn refusal_of_edited(
     edits: &[(usize, u8)],
 ) -> Result<Option<Flaw>, ReadFault> {
     let mut bytes = Vec::from_slice(alloc, chunk)?;
-    for (at, byte) in edits {
-        if let Some(edited) = bytes.get_mut(*at) {
-            *edited = *byte;
-        }
-    }
+    edit(&mut bytes, edits);
     refusal_of(alloc, &bytes)
+}
+
+// Compares the flaw of each edit of a chunk.
+fn compare_edits(
+    rt: &impl Abort,
+    alloc: Global,
+    chunk: Vec<u8>,
+    edits: &[Edit],
+) -> Result<(), Fail> {
+    for edit in edits {
+        compare_edit(rt, alloc, &chunk, *edit)?;
+    }
+    Ok(())
+}
+
+// Compares the flaw of an edit.
+fn compare_edit(
+    rt: &impl Abort,
+    alloc: Global,
+    chunk: &[u8],
+    (edits, offset, reason): Edit,
+) -> Result<(), Fail> {
+    assert_eq!(rt;
+        refusal_of_edited(alloc, chunk, edits)?,
+        Some(Flaw { offset, reason })
+    );
+    Ok(())
 }
 
 #[test]
 fn tells_the_first_flaw(rt: HostRuntime) -> Result<(), Fail> {
     let alloc = rt.alloc();
-    for (edits, offset, reason) in EDITS_OF_PLAIN {
-        assert_eq!(rt;
-            refusal_of_edited(alloc, &plain(alloc)?, edits)?,
-            Some(Flaw { offset, reason })
-        );
-    }
-    for (edits, offset, reason) in EDITS_OF_RINGS {
-        assert_eq!(rt;
-            refusal_of_edited(alloc, &rings(alloc)?, edits)?,
-            Some(Flaw { offset, reason })
-        );
-    }
-    for (edits, offset, reason) in EDITS_OF_NO_NODES {
-        assert_eq!(rt;
-            refusal_of_edited(alloc, &no_nodes(alloc)?, edits)?,
-            Some(Flaw { offset, reason })
-        );
-    }
+    compare_edits(&rt, alloc, plain(alloc)?, &EDITS_OF_PLAIN)?;
+    compare_edits(&rt, alloc, rings(alloc)?, &EDITS_OF_RINGS)?;
+    compare_edits(&rt, alloc, no_nodes(alloc)?, &EDITS_OF_NO_NODES)
+}
+
+// Compares why a chunk is refused, where it is.
+fn compare_refusal(
+    rt: &impl Abort,
+    alloc: Global,
+    bytes: Vec<u8>,
+    flaw: Option<Flaw>,
+) -> Result<(), Fail> {
+    assert_eq!(rt; refusal_of(alloc, &bytes)?, flaw);
     Ok(())
+}
+
+// Compares the flaw of the plain chunk with another checkpoint.
+fn compare_checkpoint(
+    rt: &impl Abort,
+    alloc: Global,
+    checkpoint: &[u8],
+    offset: u64,
+    reason: Reason,
+) -> Result<(), Fail> {
+    let bytes = plain_with(alloc, NO_CLASSES, checkpoint)?;
+    compare_refusal(rt, alloc, bytes, Some(Flaw { offset, reason }))
 }
 
 #[test]
 fn checkpoints_end_with_their_last_pool(rt: HostRuntime) -> Result<(), Fail> {
     let alloc = rt.alloc();
-    let table: [(&[u8], u64, Reason); 2] = [
-        (&[4, 1, 0, 0], 100, Reason::Short),
-        (&[8, 1, 0, 0, 0, 0, 0, 0], 103, Reason::Trailing),
-    ];
-    for (checkpoint, offset, reason) in table {
-        let chunk = plain_with(alloc, NO_CLASSES, checkpoint)?;
-        assert_eq!(rt; refusal_of(alloc, &chunk)?, Some(Flaw { offset, reason }));
+    compare_checkpoint(&rt, alloc, &[4, 1, 0, 0], 100, Reason::Short)?;
+    let byte_left = &[8, 1, 0, 0, 0, 0, 0, 0];
+    compare_checkpoint(&rt, alloc, byte_left, 103, Reason::Trailing)
+}
+
+// Adds elements, each of which stands in the one before.
+fn push_levels(metadata: &mut Vec<u8>, levels: u8) -> Result<(), AllocError> {
+    for _ in 1..levels {
+        metadata.extend_from_slice(&[1, 0, 1])?;
     }
-    Ok(())
+    metadata.extend_from_slice(&[1, 0, 0])
 }
 
 // A chunk whose elements stand so many levels deep.
 fn levels(alloc: Global, levels: u8) -> Result<Vec<u8>, AllocError> {
     let (head, _) = NO_CLASSES.split_at(22);
     let mut metadata = Vec::from_slice(alloc, head)?;
-    for _ in 1..levels {
-        metadata.extend_from_slice(&[1, 0, 1])?;
-    }
-    metadata.extend_from_slice(&[1, 0, 0])?;
+    push_levels(&mut metadata, levels)?;
     if let Some(size) = metadata.get_mut(0) {
         *size = 22u8.saturating_add(levels.saturating_mul(3));
     }
@@ -189,11 +253,10 @@ fn levels(alloc: Global, levels: u8) -> Result<Vec<u8>, AllocError> {
 #[test]
 fn sixteen_levels_are_read(rt: HostRuntime) -> Result<(), Fail> {
     let alloc = rt.alloc();
-    assert_eq!(rt; refusal_of(alloc, &levels(alloc, 16)?)?, None);
+    compare_refusal(&rt, alloc, levels(alloc, 16)?, None)?;
     let flaw = Flaw {
         offset: 138,
         reason: Reason::TreeDeep,
     };
-    assert_eq!(rt; refusal_of(alloc, &levels(alloc, 17)?)?, Some(flaw));
-    Ok(())
+    compare_refusal(&rt, alloc, levels(alloc, 17)?, Some(flaw))
 }

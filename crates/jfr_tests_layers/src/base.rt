@@ -1,37 +1,46 @@
 // Integers, read and written.
 use jfr_base::{Short, Var, read_var, signed, var_len, write_in, write_var};
-use std::test::Fail;
+use std::process::Abort;
+
+// The bytes of an integer, and what is read.
+type Read = (&'static [u8], Result<Var, Short>);
+
+const READS: [Read; 6] = [
+    (&[0xAC, 0x02], Ok(Var { value: 300, end: 2 })),
+    (&[0xAC, 0x82, 0x80, 0x00], Ok(Var { value: 300, end: 4 })),
+    (
+        &[0xFF; 9],
+        Ok(Var {
+            value: u64::MAX,
+            end: 9,
+        }),
+    ),
+    (
+        &[0x9C, 0xFF, 0xFF, 0xFF, 0xFF, 0xFF, 0xFF, 0xFF, 0xFF],
+        Ok(Var {
+            value: u64::MAX - 99,
+            end: 9,
+        }),
+    ),
+    (
+        &[0x80; 9],
+        Ok(Var {
+            value: 1 << 63,
+            end: 9,
+        }),
+    ),
+    (&[0x80], Err(Short)),
+];
+
+// Compares what is read.
+fn see_read(rt: &impl Abort, (bytes, read): Read) {
+    assert_eq!(rt; read_var(bytes, 0), read, "of {bytes:?}");
+}
 
 #[test]
 fn integers_are_read(rt: HostRuntime) {
-    let table: [(&[u8], Result<Var, Short>); 6] = [
-        (&[0xAC, 0x02], Ok(Var { value: 300, end: 2 })),
-        (&[0xAC, 0x82, 0x80, 0x00], Ok(Var { value: 300, end: 4 })),
-        (
-            &[0xFF; 9],
-            Ok(Var {
-                value: u64::MAX,
-                end: 9,
-            }),
-        ),
-        (
-            &[0x9C, 0xFF, 0xFF, 0xFF, 0xFF, 0xFF, 0xFF, 0xFF, 0xFF],
-            Ok(Var {
-                value: u64::MAX - 99,
-                end: 9,
-            }),
-        ),
-        (
-            &[0x80; 9],
-            Ok(Var {
-                value: 1 << 63,
-                end: 9,
-            }),
-        ),
-        (&[0x80], Err(Short)),
-    ];
-    for (bytes, read) in table {
-        assert_eq!(rt; read_var(bytes, 0), read, "of {bytes:?}");
+    for read in READS.iter() {
+        see_read(&rt, *read);
     }
     assert_eq!(rt; signed(u64::MAX), -1);
     assert_eq!(rt; signed(u64::MAX - 99), -100);

@@ -5,7 +5,7 @@ use jfr_fixtures::{CLASSES, NO_CLASSES};
 use jfr_frame::next_record;
 use jfr_meta::{Element, Elements, Metadata, Pairs, metadata_len, read_metadata, write_metadata};
 use jfr_outside::{NoMemory, Words};
-use std::alloc::Global;
+use std::alloc::{AllocError, Global};
 use std::process::Abort;
 use std::test::Fail;
 
@@ -37,6 +37,11 @@ fn read(alloc: Global, record: &[u8]) -> Result<Metadata, ReadFault> {
     }
 }
 
+// Why a record is refused.
+fn fault_in(alloc: Global, record: &[u8]) -> Result<Option<ReadFault>, ReadFault> {
+    Ok(read(alloc, record).err())
+}
+
 // Why a record with one byte edited is refused.
 fn fault_of(
     alloc: Global,
@@ -48,67 +53,105 @@ fn fault_of(
     if let Some(edited) = bytes.get_mut(at) {
         *edited = byte;
     }
-    Ok(read(alloc, &bytes).err())
+    fault_in(alloc, &bytes)
 }
 
 fn flawed(offset: u64, reason: Reason) -> Option<ReadFault> {
     Some(ReadFault::Flawed(Flaw { offset, reason }))
 }
 
-#[test]
-fn reads_no_classes(rt: HostRuntime) -> Result<(), Fail> {
-    let none = read(rt.alloc(), NO_CLASSES)?;
+// The metadata of a chunk without classes.
+fn see_no_classes(rt: &impl Abort, none: &Metadata) {
     assert_eq!(rt; (none.start, none.duration, none.id), (0, 0, 1));
     assert_eq!(rt; none.strings.get(1), Some("metadata"));
     assert_eq!(rt; none.classes.len(), 0);
+}
+
+fn read_no_classes(rt: &impl Abort, alloc: Global) -> Result<(), Fail> {
+    let none = read(alloc, NO_CLASSES)?;
+    see_no_classes(rt, &none);
+    Ok(())
+}
+
+#[test]
+fn reads_no_classes(rt: HostRuntime) -> Result<(), Fail> {
+    read_no_classes(&rt, rt.alloc())
+}
+
+// The metadata of five classes.
+fn see_classes(rt: &impl Abort, some: &Metadata) {
+    assert_eq!(rt; (some.strings.len(), some.classes.len()), (24, 5));
+    assert_eq!(rt; some.classes.field_named(8, "node"), Some(1));
+    assert!(rt; some.classes.is_event(9) && !some.classes.is_event(7));
+}
+
+fn read_classes(rt: &impl Abort, alloc: Global) -> Result<(), Fail> {
+    let some = read(alloc, CLASSES)?;
+    see_classes(rt, &some);
     Ok(())
 }
 
 #[test]
 fn reads_classes(rt: HostRuntime) -> Result<(), Fail> {
-    let some = read(rt.alloc(), CLASSES)?;
-    assert_eq!(rt; (some.strings.len(), some.classes.len()), (24, 5));
-    assert_eq!(rt; some.classes.field_named(8, "node"), Some(1));
-    assert!(rt; some.classes.is_event(9) && !some.classes.is_event(7));
+    read_classes(&rt, rt.alloc())
+}
+
+// Compares the flaw of an edit of a record.
+fn see_edit(
+    rt: &impl Abort,
+    alloc: Global,
+    record: &[u8],
+    (at, byte, offset, reason): Edit,
+) -> Result<(), Fail> {
+    assert_eq!(rt; fault_of(alloc, record, at, byte)?, flawed(offset, reason));
     Ok(())
 }
 
 #[test]
 fn tells_the_flaws_of_edited_records(rt: HostRuntime) -> Result<(), Fail> {
-    let alloc = rt.alloc();
-    for (at, byte, offset, reason) in EDITS_OF_NO_CLASSES {
-        assert_eq!(rt;
-            fault_of(alloc, NO_CLASSES, at, byte)?,
-            flawed(offset, reason)
-        );
+    for edit in EDITS_OF_NO_CLASSES.iter() {
+        see_edit(&rt, rt.alloc(), NO_CLASSES, *edit)?;
     }
-    for (at, byte, offset, reason) in EDITS_OF_CLASSES {
-        assert_eq!(rt; fault_of(alloc, CLASSES, at, byte)?, flawed(offset, reason));
+    for edit in EDITS_OF_CLASSES.iter() {
+        see_edit(&rt, rt.alloc(), CLASSES, *edit)?;
     }
     Ok(())
+}
+
+// Adds elements, each of which stands in the one before.
+fn push_levels(bytes: &mut Vec<u8>, levels: u8) -> Result<(), AllocError> {
+    for _ in 1..levels {
+        bytes.extend_from_slice(&[1, 0, 1])?;
+    }
+    bytes.extend_from_slice(&[1, 0, 0])
 }
 
 // Why a record with so many levels of elements is refused.
 fn fault_of_levels(alloc: Global, levels: u8) -> Result<Option<ReadFault>, ReadFault> {
     let (head, _) = NO_CLASSES.split_at(22);
     let mut bytes = Vec::from_slice(alloc, head)?;
-    for level in 1..levels {
-        let _ = level;
-        bytes.extend_from_slice(&[1, 0, 1])?;
-    }
-    bytes.extend_from_slice(&[1, 0, 0])?;
+    push_levels(&mut bytes, levels)?;
     if let Some(size) = bytes.get_mut(0) {
         *size = 22u8.saturating_add(levels.saturating_mul(3));
     }
-    Ok(read(alloc, &bytes).err())
+    fault_in(alloc, &bytes)
+}
+
+// Compares why a record with so many levels is refused, where it is.
+fn see_levels(
+    rt: &impl Abort,
+    alloc: Global,
+    levels: u8,
+    fault: Option<ReadFault>,
+) -> Result<(), Fail> {
+    assert_eq!(rt; fault_of_levels(alloc, levels)?, fault);
+    Ok(())
 }
 
 #[test]
 fn sixteen_levels_are_read(rt: HostRuntime) -> Result<(), Fail> {
-    let alloc = rt.alloc();
-    assert_eq!(rt; fault_of_levels(alloc, 16)?, None);
-    assert_eq!(rt; fault_of_levels(alloc, 17)?, flawed(70, Reason::TreeDeep));
-    Ok(())
+    see_levels(&rt, rt.alloc(), 16, None)?;
+    see_levels(&rt, rt.alloc(), 17, flawed(70, Reason::TreeDeep))
 }
 
 // The record of a chunk without classes as it is written: its size takes four bytes.
@@ -129,17 +172,30 @@ fn written(rt: &impl Abort, alloc: Global) -> Result<Vec<u8>, NoMemory> {
     write_metadata(alloc, 0, 0, 1, &strings, &root)
 }
 
-#[test]
-fn writes_a_record(rt: HostRuntime) -> Result<(), Fail> {
-    let record = written(&rt, rt.alloc())?;
+fn see_written(rt: &impl Abort, alloc: Global) -> Result<(), Fail> {
+    let record = written(rt, alloc)?;
     assert_eq!(rt; record.as_slice(), WRITTEN.as_slice());
     Ok(())
 }
 
 #[test]
-fn reads_what_is_written(rt: HostRuntime) -> Result<(), Fail> {
-    let again = read(rt.alloc(), &WRITTEN)?;
+fn writes_a_record(rt: HostRuntime) -> Result<(), Fail> {
+    see_written(&rt, rt.alloc())
+}
+
+// Compares what is read of it.
+fn see_read(rt: &impl Abort, again: &Metadata) {
     assert_eq!(rt; again.root.children().len(), 1);
     assert_eq!(rt; again.strings.get(0), Some("root"));
+}
+
+fn read_written(rt: &impl Abort, alloc: Global) -> Result<(), Fail> {
+    let again = read(alloc, &WRITTEN)?;
+    see_read(rt, &again);
     Ok(())
+}
+
+#[test]
+fn reads_what_is_written(rt: HostRuntime) -> Result<(), Fail> {
+    read_written(&rt, rt.alloc())
 }
