@@ -35,7 +35,9 @@ fn compare_names(
 fn compare_last(rt: &impl Abort, chunk: &Chunk<'_>, names: &[ClassNames]) -> Result<(), Fail> {
     let first = names.len().saturating_sub(LAST_CLASSES.len());
     for (number, (name, categories)) in LAST_CLASSES.iter().enumerate() {
-        let class = names.get(first.saturating_add(number)).ok_or("too few classes")?;
+        let class = names
+            .get(first.saturating_add(number))
+            .ok_or("too few classes")?;
         compare_names(rt, chunk, class, name, categories);
     }
     Ok(())
