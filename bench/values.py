@@ -5,7 +5,8 @@ OURS has an object in each line, THEIRS one object for the recording. For each t
 field the values of all events are compared as a collection, since the JDK prints events in the order of
 time and this program in that of the file. Compared are the fields in which both show integers, booleans
 or strings throughout: the JDK shows times, durations and constants otherwise. A string with U+FFFD isn't
-compared: it stands for a surrogate without its partner, which the JDK prints as it is.
+compared: it stands for a surrogate without its partner, which the JDK prints as it is. Integers are
+compared by their 64 bits: JDK 21 and later show fields that are marked unsigned without a sign.
 
 Prints how much was compared, and the first values that differ; ends with 1 where there are any.
 """
@@ -32,8 +33,12 @@ def is_lossy(value):
     return type(value) is str and any(c == "\ufffd" or "\ud800" <= c <= "\udfff" for c in value)
 
 
+def signed(value):
+    return value - 2**64 if type(value) is int and value >= 2**63 else value
+
+
 def compared(values):
-    return Counter(value for value in values if not is_lossy(value))
+    return Counter(signed(value) for value in values if not is_lossy(value))
 
 
 with open(sys.argv[1], encoding="utf-8") as file:
