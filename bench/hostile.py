@@ -276,6 +276,15 @@ def long_names(size):
     return chunk(metadata(make))
 
 
+def alike_fields(size):
+    """2^18 classes with fields of the same two names of two megabytes, which differ in their last letter alone."""
+    def make(of):
+        long, one = "n" * count(2**21, size), [("name", "t.C")]
+        both = [field(of, long + last, LONG) for last in "ab"]
+        return [element(of, "class", one + [("id", str(100 + n))], both) for n in range(count(2**18, size))]
+    return chunk(metadata(make))
+
+
 def classes(size):
     """2^20 event classes, and an event of each."""
     many = count(2**20, size)
@@ -317,6 +326,13 @@ def long_class_names(size):
         category = element(of, "annotation", [("class", str(CATEGORY)), ("value-0", long)])
         return [class_(of, long, 100 + n, [category], event=True) for n in range(count(2**16, size))]
     return chunk(metadata(make))
+
+
+def alike_classes(size):
+    """2^17 event classes of two names of two megabytes, which differ in their last letter alone, and an event of each."""
+    many, names = count(2**17, size), ["n" * count(2**21, size) + last for last in "ab"]
+    described = metadata(lambda of: [class_(of, names[n % 2], 100 + n, event=True) for n in range(many)])
+    return chunk(described, b"".join(record(100 + n, b"") for n in range(many)))
 
 
 def inline(steps, *last, wide=False):
@@ -474,10 +490,11 @@ def cut(kind):
 
 
 KINDS = {make.__name__: make for make in (
-    constants, distinct_constants, events, checkpoints, inert_checkpoints, inert_empty_checkpoints, pools, references,
-    array, array_short, strings, elements, attributes, long_key, long_names, classes, same_names, fields, categories,
-    long_categories, long_class_names, inline_32, inline_33, inline_wide, inline_array, ring, string_ring, fan, chain,
-    thread_name, shared_name, shared_text, chunks, delta_self, delta_forward, delta_amid,
+    constants, distinct_constants, events, checkpoints, inert_checkpoints, inert_empty_checkpoints, pools,
+    references, array, array_short, strings, elements, attributes, long_key, long_names, alike_fields, classes,
+    same_names, fields, categories, long_categories, long_class_names, alike_classes, inline_32, inline_33,
+    inline_wide, inline_array, ring, string_ring, fan, chain, thread_name, shared_name, shared_text, chunks,
+    delta_self, delta_forward, delta_amid,
 )}
 for place in ("strings", "string", "attributes", "children", "pools", "entries", "items", "bytes", "units", "characters"):
     KINDS["count_" + place] = lambda size, place=place: counted(place)

@@ -1,4 +1,4 @@
--- Event classes, and the indexes of them.
+-- Event classes, and the indices of them.
 use Rattle.std.proofs.Common.{◌≡◌, ℕ, ◌<◌, ◌≤◌, List, [], ◌∷◌, ◌++◌, length, get_or, cond, None, Some, Bool, true, false, ◌&&◌, sym, ◌∙◌, ap, refl, subst, arith}
 use Rattle.std.specs.Prelude.{MatchOption, Option, is_some, nat_lt, option_map}
 use Rattle.std.specs.List.{slice_get}

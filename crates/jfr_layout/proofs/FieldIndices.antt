@@ -1,4 +1,4 @@
--- The indexes of the classes of fields and of ids.
+-- The indices of the classes of fields and of ids.
 use Rattle.std.proofs.Common.{◌≡◌, ℕ, ◌<◌, [], length, Option, Some, None, Bool, true, false, not, sym, ◌∙◌, ap, refl}
 use Rattle.std.specs.Prelude.{is_some, ◌==◌}
 use Rattle.std.specs.List.{slice_get}

@@ -1,6 +1,7 @@
 pub mod Lists
 mod Indices
 mod Stages
+pub mod Numbered
 mod NamesSeen
 mod IdsSeen
 mod FieldsKnown

@@ -1,4 +1,4 @@
--- Inline steps by indexes.
+-- Inline steps by indices.
 use Rattle.std.proofs.Common.{◌≡◌, ℕ, ◌<◌, length, List, Option, Some, None, Bool, true, false, ◌&&◌, sym, ◌∙◌, ap, refl}
 use Rattle.std.specs.Prelude.{if◌then◌else◌, codes}
 use Rattle.std.specs.List.{slice_get}

@@ -1,4 +1,4 @@
--- The indexes of the event classes, so that an event's class is found in one step.
+-- The indices of the event classes, so that an event's class is found in one step.
 use Rattle.std.specs.Prelude.{◌≡◌, ℕ, ◌<◌, List, length, Option, Some, None, if◌then◌else◌, slice_get}
 use Rattle.jfr_layout.specs.Classes.{Classes, class_index, is_event_class}
 

@@ -1,4 +1,5 @@
 pub mod Classes
+pub mod Names
 pub mod Events
 pub mod Fused
 pub mod Resolved

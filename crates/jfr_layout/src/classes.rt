@@ -4,10 +4,12 @@ ghost use Rattle.std.specs.Option.{option_copied};
 ghost use Rattle.std.specs.Str.{chars};
 ghost use Rattle.jfr_layout.specs.Classes.{class_faults, Sound, TellsFirst, find_class, class_index, kind_of, field_number, is_event_class, AreFieldLayouts, IsEventLayout};
 ghost use Rattle.jfr_layout.specs.Events.{event_index};
+ghost use Rattle.jfr_layout.specs.Names.{AreAllNumbered};
 ghost use Rattle.jfr_layout.specs.Resolved.{IsClassLayout};
 
 use crate::event::{event_index, event_indices};
 use crate::inline::{check_depth, check_filled};
+use crate::numbers::number_fields;
 use crate::resolved::Resolved;
 use crate::{ClassFault, ClassInfo, ClassLayout, ClassList, FieldLayout, Kind, Shape};
 use std::alloc::Global;
@@ -19,7 +21,7 @@ use std::marker::Model;
 #[derive(Drop)]
 pub struct Classes {
     resolved: Resolved,
-    // The indexes of the event classes, by id, as far as the direct table goes.
+    // The indices of the event classes, by id, as far as the direct table goes.
     events: Vec<Option<usize>>,
 }
 
@@ -47,7 +49,24 @@ impl Classes {
         ensures exact { IfOk result (λ classes. classes ≡ list) }
         ensures refused { IfErr result (TellsFirst (class_faults list)) }
     {
-        let resolved = Resolved::make(alloc, list)?;
+        let numbers = number_fields(alloc, &list)?;
+        Classes::make_numbered(alloc, list, &numbers)
+    }
+
+    /// The same, where each name of a field has a number already: within a class, two fields have the same
+    /// number exactly where they have the same name. No names are compared then, so that long ones that
+    /// begin alike, however often they are used, cost nothing.
+    pub fn make_numbered(
+        alloc: Global,
+        list: ClassList,
+        numbers: &[Vec<u64>],
+    ) -> Result<Classes, ClassFault>
+        requires numbered { AreAllNumbered list numbers.now }
+        ensures ok { OnOk result (Sound list) }
+        ensures exact { IfOk result (λ classes. classes ≡ list) }
+        ensures refused { IfErr result (TellsFirst (class_faults list)) }
+    {
+        let resolved = Resolved::make(alloc, list, numbers)?;
         check_filled(&resolved)?;
         check_depth(alloc, &resolved)?;
         let events = event_indices(alloc, &resolved, resolved.near_len())?;

@@ -1,4 +1,4 @@
-// The indexes of the event classes.
+// The indices of the event classes.
 ghost use Rattle.std.specs.Prelude.{◌≡◌, length, IfOk};
 ghost use Rattle.jfr_layout.specs.Events.{AreEventIndices, event_index};
 
@@ -24,7 +24,7 @@ pub(crate) fn event_index(resolved: &Resolved, id: u64) -> Option<usize>
     }
 }
 
-/// The indexes of the event classes, for so many ids from 0 on: `None` where records of the type are no
+/// The indices of the event classes, for so many ids from 0 on: `None` where records of the type are no
 /// events.
 pub(crate) fn event_indices(
     alloc: Global,

@@ -3,12 +3,13 @@ ghost use Rattle.std.specs.Prelude.{◌≡◌, ℕ, ◌+◌, ◌*◌, ◌≤◌,
 ghost use Rattle.std.specs.BTreeMap as tree;
 ghost use Rattle.std.specs.Ordering.{nat_cmp};
 ghost use Rattle.jfr_layout.specs.Classes.{Judges, repeats, name_repeats};
+ghost use Rattle.jfr_layout.specs.Names.{AreAllNumbered, AreNumbered};
 ghost use Rattle.jfr_layout.specs.Resolved.{IsIndex, index_in};
 
 use crate::{ClassFault, ClassList, Fields};
 use jfr_base::{NoMemory, Reason};
 use std::alloc::Global;
-use std::collections::BTreeMap;
+use std::collections::{BTreeMap, BTreeSet};
 
 /// How large the direct table may be whatever the number of classes.
 const FEW_IDS: u64 = 16384;
@@ -16,7 +17,7 @@ const FEW_IDS: u64 = 16384;
 /// How much larger it may be for each class.
 const IDS_A_CLASS: u64 = 4;
 
-/// The indexes of classes by their ids: those of small ids in a direct table, and the others in a map.
+/// The indices of classes by their ids: those of small ids in a direct table, and the others in a map.
 #[derive(Drop)]
 pub struct Index {
     near: Vec<Option<usize>>,
@@ -90,17 +91,23 @@ fn near_ids(list: &ClassList) -> usize
     ids.min(most) as usize
 }
 
-// No field has the name of an earlier one.
-fn check_names(alloc: Global, class: usize, fields: &Fields) -> Result<(), ClassFault>
+// No field has the name of an earlier one, by the numbers of their names.
+fn check_names(
+    alloc: Global,
+    class: usize,
+    fields: &Fields,
+    numbers: &[u64],
+) -> Result<(), ClassFault>
+    requires { AreNumbered fields.now numbers.now }
     ensures { Judges (name_repeats class fields.now) result }
 {
-    let mut names = BTreeMap::new(alloc);
-    for number in 0..fields.len() {
-        let name = fields.at(number).name.as_str();
-        if names.insert(name, number)?.is_some() {
+    let mut seen = BTreeSet::new(alloc);
+    for field in 0..fields.len() {
+        let is_new = seen.insert(numbers[field])?;
+        if !is_new {
             return Err(ClassFault::Flawed {
                 class,
-                field: Some(number),
+                field: Some(field),
                 reason: Reason::FieldTwice,
             });
         }
@@ -109,8 +116,13 @@ fn check_names(alloc: Global, class: usize, fields: &Fields) -> Result<(), Class
 }
 
 /// The index of each id. It is refused where a class has the id of an earlier one, or a field the name of
-/// an earlier one of its class.
-pub fn index_classes(alloc: Global, list: &ClassList) -> Result<Index, ClassFault>
+/// an earlier one of its class. `numbers` are those of the names of each class's fields.
+pub fn index_classes(
+    alloc: Global,
+    list: &ClassList,
+    numbers: &[Vec<u64>],
+) -> Result<Index, ClassFault>
+    requires numbered { AreAllNumbered list.now numbers.now }
     ensures exact { IfOk result (IsIndex list.now) }
     ensures judged { Judges (repeats list.now) result }
 {
@@ -124,7 +136,7 @@ pub fn index_classes(alloc: Global, list: &ClassList) -> Result<Index, ClassFaul
                 reason: Reason::ClassTwice,
             });
         }
-        check_names(alloc, at, &class.fields)?;
+        check_names(alloc, at, &class.fields, &numbers[at])?;
     }
     Ok(index)
 }

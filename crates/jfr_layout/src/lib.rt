@@ -20,6 +20,7 @@ mod inline;
 mod kind;
 mod laws;
 mod name;
+mod numbers;
 mod resolved;
 mod shape;
 

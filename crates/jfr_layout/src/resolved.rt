@@ -4,6 +4,7 @@ ghost use Rattle.std.specs.Prelude.{◌≡◌, ◌<◌, ◌++◌, length, map, I
 ghost use Rattle.std.specs.Option.{option_copied};
 ghost use Rattle.jfr_base.specs.declared.reason.Reason.TheVariants.{UnknownType};
 ghost use Rattle.jfr_layout.specs.Classes.{Judges, repeats, unknown, flaws_in, is_unknown, field_at, find_class, class_index, kind_of, step_class, extends_event, AreFieldLayouts};
+ghost use Rattle.jfr_layout.specs.Names.{AreAllNumbered};
 ghost use Rattle.jfr_layout.specs.Resolved.{AreClassLayouts, IsIndex, IsClassLayout};
 
 use crate::fused::fused_of;
@@ -139,11 +140,17 @@ fn class_layouts_of(
 
 impl Resolved {
     /// Resolves the classes of all fields. A repeated id or name, and a class that isn't defined, are faults.
-    pub fn make(alloc: Global, list: ClassList) -> Result<Resolved, ClassFault>
+    /// `numbers` are those of the names of each class's fields.
+    pub fn make(
+        alloc: Global,
+        list: ClassList,
+        numbers: &[Vec<u64>],
+    ) -> Result<Resolved, ClassFault>
+        requires { AreAllNumbered list numbers.now }
         ensures exact { IfOk result (λ made. made ≡ list) }
         ensures judged { Judges (repeats list ++ unknown list) result }
     {
-        let index = index_classes(alloc, &list)?;
+        let index = index_classes(alloc, &list, numbers)?;
         let kinds = kinds_of(alloc, &list)?;
         let class_layouts = class_layouts_of(alloc, &list, &index, &kinds)?;
         Ok(Resolved {

@@ -18,7 +18,8 @@ use Rattle.std.specs.Bool.{Decides}
 use Rattle.std.proofs.lemmas.List.{drop_all}
 use Rattle.std.specs.Option.{option_map_or}
 use Rattle.jfr_meta.specs.Attributes.{text_at, first_value, value_key, values_from}
-use Rattle.jfr_meta.specs.Values.{CanBeAsked, HasFirst, value_under}
+use Rattle.jfr_layout.specs.Names.{value_under}
+use Rattle.jfr_meta.specs.Values.{CanBeAsked, HasFirst}
 use Rattle.jfr_meta.proofs.Categories.{find_at, passed_at}
 use Rattle.jfr_base.proofs.TextLaws.{bytes_eq-encodes, word_ascii}
 

@@ -7,6 +7,7 @@ pub mod FirstValues
 pub mod Ids
 pub mod Judging
 pub mod NamedLaws
+pub mod NameLaws
 pub mod OneDescription
 pub mod Parts
 pub mod Runs

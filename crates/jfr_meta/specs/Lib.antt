@@ -3,6 +3,7 @@ pub mod Answers
 pub mod Body
 pub mod Heads
 pub mod Attributes
+pub mod Names
 pub mod Values
 pub mod Described
 pub mod Written

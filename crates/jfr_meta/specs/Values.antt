@@ -1,15 +1,10 @@
 -- The attributes of an element by their keys.
-use Rattle.std.specs.Prelude.{◌≡◌, ◌≤◌, ℕ, List, Option, find, length, option_map}
+use Rattle.std.specs.Prelude.{◌≡◌, ◌≤◌, ℕ, List, find, length, option_map}
 use Rattle.std.specs.Borrow.{Bor}
-use Rattle.std.specs.BTreeMap.{BTreeMap, get_by}
-use Rattle.std.specs.Cmp.Lexicographic.{slice_cmp}
-use Rattle.std.specs.Ordering.{nat_cmp}
+use Rattle.std.specs.BTreeMap.{BTreeMap}
 use Rattle.std.specs.Str.{bytes_eq, encode_utf8_all}
+use Rattle.jfr_layout.specs.Names.{value_under}
 use Rattle.jfr_meta.specs.Attributes.{text_at}
-
--- The index of the value under a key of these characters.
-abbrev pub value_under : BTreeMap (Bor (List ℕ)) ℕ → List ℕ → Option ℕ
-value_under values key = get_by (λ k. slice_cmp nat_cmp (encode_utf8_all key) k.now) values
 
 -- A key that can be asked for: `value-` and a number below 2 ^ 64 take 26 bytes at most.
 abbrev pub CanBeAsked : List ℕ → Type 0

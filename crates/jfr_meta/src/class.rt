@@ -5,15 +5,18 @@ ghost use Rattle.std.specs.List.{filter_map, flat_map};
 ghost use Rattle.std.specs.Option.{option_copied, option_to_list};
 ghost use Rattle.std.specs.Ordering.{nat_cmp};
 ghost use Rattle.jfr_base.specs.declared.flaw.ReadFault.TheVariants.{Flawed};
+ghost use Rattle.jfr_layout.specs.Names.{AreAllNumbered, AreNumbered};
 ghost use Rattle.jfr_meta.specs.Answers.{Judges};
 ghost use Rattle.jfr_meta.specs.Attributes.{text_at};
 ghost use Rattle.jfr_meta.specs.Described.{AreCategoryIds, heads, is_category, is_category_id, category_annotation, categories_of, class_head, class_of, classes_of, class_flaws, field_of, field_elements, field_flaws};
+ghost use Rattle.jfr_meta.specs.Names.{AreNumbers, Grow, number_of};
 ghost use Rattle.jfr_meta.specs.Trees.{place_of};
 
 use crate::Element;
-use crate::attributes::{attribute, is_word};
+use crate::attributes::{attribute, attribute_index, is_word};
 use crate::field::{id_attribute, named, shape_of};
-use crate::values::{texts_at, value_indices};
+use crate::names::NameNumbers;
+use crate::values::{shared_text, texts_at, value_indices};
 use jfr_base::{Flaw, NoMemory, ReadFault, Reason, Text, Words};
 use jfr_layout::{ClassInfo, ClassList, FieldInfo, Fields};
 use std::alloc::{AllocError, Global};
@@ -51,36 +54,53 @@ fn shared(text: Option<&Text>) -> Result<Option<Text>, NoMemory>
     }
 }
 
-/// The field of a field element.
+/// The field of a field element, and the number of its name.
 #[tactic(auto, unfolding(crate::specs::Described::field_of))]
-fn read_field(strings: &Words, element: &Element) -> Result<FieldInfo, ReadFault>
-    ensures ok { IfOk result (λ field. field_of strings.now element.now ≡ Some field) }
+fn read_field<'a>(
+    alloc: Global,
+    strings: &'a Words,
+    element: &Element,
+    names: &mut NameNumbers<'a>,
+) -> Result<(FieldInfo, u64), ReadFault>
+    requires { AreNumbers strings.now names.old }
+    ensures ok { IfOk result (λ read. field_of strings.now element.now ≡ Some read.0) }
     ensures judged { Judges (field_flaws strings.now element.now) result }
+    ensures number { IfOk result (λ read. number_of names.new read.0.name ≡ Some read.1) }
+    ensures grow { OnOk result (Grow strings.now names.old names.new) }
 {
-    let Some(name) = attribute(strings, element, "name") else {
+    let Some(index) = attribute_index(strings, element, "name") else {
         return Err(refused(element, Reason::FieldBad));
     };
     let Some(shape) = shape_of(strings, element) else {
         return Err(refused(element, Reason::FieldBad));
     };
-    Ok(FieldInfo {
-        name: name.share()?,
-        shape,
-    })
+    let name = shared_text(alloc, strings, index)?;
+    let number = names.number(strings, index)?;
+    Ok((FieldInfo { name, shape }, number))
 }
 
-/// The fields of a class element, in order.
-fn read_fields(alloc: Global, strings: &Words, element: &Element) -> Result<Fields, ReadFault>
-    ensures ok { IfOk result (λ fields. fields ≡ filter_map (field_of strings.now) (field_elements strings.now element.now)) }
+/// The fields of a class element, in order, and the numbers of their names.
+fn read_fields<'a>(
+    alloc: Global,
+    strings: &'a Words,
+    element: &Element,
+    names: &mut NameNumbers<'a>,
+) -> Result<(Fields, Vec<u64>), ReadFault>
+    requires { AreNumbers strings.now names.old }
+    ensures ok { IfOk result (λ read. read.0 ≡ filter_map (field_of strings.now) (field_elements strings.now element.now)) }
     ensures judged { Judges (flat_map (field_flaws strings.now) (field_elements strings.now element.now)) result }
+    ensures numbered { IfOk result (λ read. AreNumbered read.0 read.1.items) }
+    ensures names { OnOk result (AreNumbers strings.now names.new) }
 {
     let elements = named(alloc, strings, element, "field")?;
     let mut fields = Fields::new(alloc);
+    let mut numbers = Vec::with_capacity(alloc, elements.len())?;
     for at in 0..elements.len() {
-        let field = read_field(strings, elements[at])?;
+        let (field, number) = read_field(alloc, strings, elements[at], names)?;
         fields.push(field)?;
+        numbers.push(number)?;
     }
-    Ok(fields)
+    Ok((fields, numbers))
 }
 
 /// Adds the id of a class element whose name is `CATEGORY`.
@@ -125,32 +145,37 @@ fn is_category(strings: &Words, ids: &BTreeSet<u64>, annotation: &Element) -> bo
     }
 }
 
-/// The class of a class element, where its attributes and those of its fields are good. `ids` are those
-/// that `category_ids` gives.
+/// The class of a class element, where its attributes and those of its fields are good, and the numbers of
+/// its fields' names. `ids` are those that `category_ids` gives.
 #[tactic(auto, unfolding(crate::specs::Described::class_of, crate::specs::Described::class_flaws))]
-fn read_class(
+fn read_class<'a>(
     alloc: Global,
-    strings: &Words,
+    strings: &'a Words,
     ids: &BTreeSet<u64>,
     element: &Element,
-) -> Result<ClassInfo, ReadFault>
-    ensures ok { IfOk result (λ class. (hs : List (ℕ × List ℕ)) → AreCategoryIds hs ids.now → class_of strings.now hs element.now ≡ Some class) }
+    names: &mut NameNumbers<'a>,
+) -> Result<(ClassInfo, Vec<u64>), ReadFault>
+    requires { AreNumbers strings.now names.old }
+    ensures ok { IfOk result (λ read. (hs : List (ℕ × List ℕ)) → AreCategoryIds hs ids.now → class_of strings.now hs element.now ≡ Some read.0) }
     ensures judged { Judges (class_flaws strings.now element.now) result }
+    ensures numbered { IfOk result (λ read. AreNumbered read.0.fields read.1.items) }
+    ensures names { OnOk result (AreNumbers strings.now names.new) }
 {
     let Some((id, name)) = class_head(strings, element) else {
         return Err(refused(element, Reason::ClassBad));
     };
-    let fields = read_fields(alloc, strings, element)?;
+    let (fields, numbers) = read_fields(alloc, strings, element, names)?;
     let name = name.share()?;
     let super_name = shared(attribute(strings, element, "superType"))?;
     let categories = categories_of(alloc, strings, ids, element)?;
-    Ok(ClassInfo {
+    let class = ClassInfo {
         id,
         name,
         super_name,
         fields,
         categories,
-    })
+    };
+    Ok((class, numbers))
 }
 
 /// The first annotation of a class element that is one of categories.
@@ -200,20 +225,24 @@ fn categories_of(
     texts_at(alloc, strings, &indices)
 }
 
-/// The classes of the class elements, in order.
+/// The classes of the class elements, in order, and the numbers of their fields' names.
 pub(crate) fn read_classes(
     alloc: Global,
     strings: &Words,
     elements: &[&Element],
-) -> Result<ClassList, ReadFault>
-    ensures ok { IfOk result (λ classes. classes ≡ classes_of strings.now (map (λ e. e.now) elements.now)) }
+) -> Result<(ClassList, Vec<Vec<u64>>), ReadFault>
+    ensures ok { IfOk result (λ read. read.0 ≡ classes_of strings.now (map (λ e. e.now) elements.now)) }
     ensures judged { Judges (flat_map (class_flaws strings.now) (map (λ e. e.now) elements.now)) result }
+    ensures numbered { IfOk result (λ read. AreAllNumbered read.0 read.1.items) }
 {
     let ids = category_ids(alloc, strings, elements)?;
+    let mut names = NameNumbers::new(alloc);
     let mut classes = ClassList::new(alloc);
+    let mut numbers = Vec::with_capacity(alloc, elements.len())?;
     for element in elements {
-        let class = read_class(alloc, strings, &ids, element)?;
+        let (class, of_fields) = read_class(alloc, strings, &ids, element, &mut names)?;
         classes.push(class)?;
+        numbers.push(of_fields)?;
     }
-    Ok(classes)
+    Ok((classes, numbers))
 }

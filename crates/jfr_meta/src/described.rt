@@ -93,8 +93,11 @@ fn sound_classes(
     ensures ok { IfOk result (λ classes. classes ≡ classes_of strings.now (map (λ e. e.now) elements.now)) }
     ensures judged { Judges (tree_flaws strings.now (map (λ e. e.now) elements.now)) result }
 {
-    let list = read_classes(alloc, strings, elements)?;
-    match Classes::make(alloc, list) {
+    let made = {
+        let (list, numbers) = read_classes(alloc, strings, elements)?;
+        Classes::make_numbered(alloc, list, &numbers)
+    };
+    match made {
         Ok(classes) => Ok(classes),
         Err(fault) => Err(placed(alloc, strings, elements, fault)),
     }

@@ -16,6 +16,7 @@ mod field;
 mod laws;
 mod metadata;
 mod named;
+mod names;
 mod pairs;
 mod strings;
 mod values;

@@ -95,7 +95,7 @@ pub(crate) fn value_indices(
 }
 
 /// The text of an index into the table, shared; the empty one where the table has no such string.
-fn shared_text(alloc: Global, strings: &Words, index: u64) -> Result<Text, NoMemory>
+pub(crate) fn shared_text(alloc: Global, strings: &Words, index: u64) -> Result<Text, NoMemory>
     ensures ok { IfOk result (λ text. text ≡ text_at strings.now index) }
 {
     match strings.text(index as usize) {

@@ -2,8 +2,8 @@
 //! lead to, and the events that a filter keeps.
 //!
 //! `leads` takes the steps of a `Path`, and `named` the fields of some names; `choose` asks a filter about
-//! each string that names a class of a chunk, and about the texts of its threads. What they mean is in `specs/Paths.antt` and
-//! `specs/Chosen.antt` of `jfr_chunk`.
+//! each string that names a class of a chunk, and about the texts of its threads. What they mean is in
+//! `specs/Paths.antt` and `specs/Chosen.antt` of `jfr_chunk`.
 #![tactic(auto)]
 
 mod allowed;

@@ -1,7 +1,22 @@
-use Rattle.std.proofs.Common.{sym, ◌∙◌, arith}
+use Rattle.std.proofs.Common.{sym, ◌∙◌, arith, subst, rules, ◌<◌, length}
 use Rattle.std.proofs.lemmas.Result.{err_from_is_err_and}
 use Rattle.jfr_layout.proofs.IdsSeen.{ids_next, ids_tell, ids_names_tell}
+use Rattle.jfr_layout.specs.Names.{AreNumbered}
+use Rattle.jfr_layout.proofs.NamesSeen.{are_numbers_of, numbers_within}
 use Rattle.jfr_layout.proofs.index.index_classes.Goals as goal
+
+pub offset_bounds-numbers-at : goal.offset_bounds-numbers-at
+offset_bounds-numbers-at c =
+    let within : c.loop-at.at < length c.args.numbers.now = numbers_within c.args.list.now c.args.numbers.now c.loop-at.at c.at-class.result.now c.requires.numbered c.at-class.ensures in
+    search (rules, within)
+
+pub bounds-numbers-at : goal.bounds-numbers-at
+bounds-numbers-at c = numbers_within c.args.list.now c.args.numbers.now c.loop-at.at c.at-class.result.now c.requires.numbered c.at-class.ensures
+
+pub check_names-requires : goal.check_names-requires
+check_names-requires c =
+    subst (AreNumbered c.at-class.result.now.fields) (sym c.deref.ensures.value)
+    (are_numbers_of c.args.list.now c.args.numbers.now c.loop-at.at c.at-class.result.now c.index-numbers-at.result _ c.requires.numbered c.at-class.ensures c.index-numbers-at.is)
 
 pub returns-then-branch-clause-judged : goal.returns-then-branch-clause-judged
 returns-then-branch-clause-judged c = ids_tell c.args.list.now c.loop-at.at c.loop-at.index c.at-class.result.now

@@ -1,6 +1,6 @@
 use Rattle.std.proofs.lemmas.Result.{err_from_is_err_and}
 use Rattle.jfr_layout.proofs.Soundness.{told_names, told_empty, told_deep, sound_from}
-use Rattle.jfr_layout.proofs.classes.Classes.make.Goals as goal
+use Rattle.jfr_layout.proofs.classes.Classes.make_numbered.Goals as goal
 
 pub returns-in_err-resolved-clause-refused : goal.returns-in_err-resolved-clause-refused
 returns-in_err-resolved-clause-refused c = let p = err_from_is_err_and c.from_residual.result c.from_residual.ensures.1 in rw (p.1, p.2) (told_names c.args.list c.in_err-resolved.field-0.0 c.in_err-resolved.ensures.judged)

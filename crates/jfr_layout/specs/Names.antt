@@ -1,0 +1,24 @@
+-- The names of fields, compared by numbers.
+use Rattle.std.specs.Prelude.{◌≡◌, ℕ, List, Option, Some, Vec}
+use Rattle.std.specs.Borrow.{Bor}
+use Rattle.std.specs.BTreeMap.{BTreeMap, get_by}
+use Rattle.std.specs.Cmp.Lexicographic.{slice_cmp}
+use Rattle.std.specs.List.{AllZip}
+use Rattle.std.specs.Ordering.{nat_cmp}
+use Rattle.std.specs.Str.{encode_utf8_all}
+use Rattle.std.specs.declared.alloc.Global.{Global}
+use Rattle.jfr_layout.specs.Classes.{Classes, Field}
+
+-- The value under a text.
+abbrev pub value_under : BTreeMap (Bor (List ℕ)) ℕ → List ℕ → Option ℕ
+value_under values text = get_by (λ k. slice_cmp nat_cmp (encode_utf8_all text) k.now) values
+
+-- Each field has the number of its name, and no number is that of two names.
+pub record AreNumbered (fs : List Field) (numbers : List ℕ) : Type 0 where
+  pub number : List ℕ → Option ℕ
+  pub one_name : (p q : List ℕ) (n : ℕ) → number p ≡ Some n → number q ≡ Some n → p ≡ q
+  pub each : AllZip (λ f n. number f.name ≡ Some n) fs numbers
+
+-- The fields of each class are numbered.
+abbrev pub AreAllNumbered : Classes → List (Vec ℕ Global) → Type 0
+AreAllNumbered k numbers = AllZip (λ c ns. AreNumbered c.fields ns.items) k numbers
