@@ -1,10 +1,11 @@
 //! Classes and their layout: kinds, shapes, fields, and what makes a list of classes sound.
 //!
 //! `Classes::make` takes the classes that a chunk's metadata lists, and gives the sound classes or the
-//! first flaw. A `Classes` value is always sound. Look-ups go by a class's id or, for walks over many
-//! values, by its index in the list.
+//! first flaw; so does `Classes::make_numbered`, where the names of fields have numbers already. A
+//! `Classes` value is always sound. Look-ups go by a class's id or, for walks over many values, by its
+//! index in the list.
 //!
-//! Read `specs/Classes.antt` first, and then `specs/Laws.antt`.
+//! Read `specs/Classes.antt` first, then `specs/Names.antt` and `specs/Laws.antt`.
 #![tactic(auto)]
 
 mod class;
