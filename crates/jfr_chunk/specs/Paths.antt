@@ -42,6 +42,7 @@ is_reference n = if n.shape.array then Bool.false else n.shape.constant
 abbrev pub always : NodeAt → Bool
 always n = Bool.true
 
+-- The string that was read, if none was refused.
 abbrev pub content_in : Answer Content → Option Content
 content_in (Ok g) = Some g.value
 content_in (Err flaw) = None

@@ -81,10 +81,12 @@ abbrev pub found_or : Flaw → Option Framed → Result Framed Flaw
 found_or flaw (Some r) = Ok r
 found_or flaw None = Err flaw
 
+-- The body that was read, or its flaw.
 abbrev pub body_by : Answer Body → Result Body Flaw
 body_by (Ok g) = Ok g.value
 body_by (Err flaw) = Err flaw
 
+-- The flaw of an event's fields, or else what is found of the events behind it.
 abbrev pub fields_by : Answer Value → Result (List Framed) Flaw → Result (List Framed) Flaw
 fields_by (Ok g) later = later
 fields_by (Err flaw) later = Err flaw
@@ -107,6 +109,7 @@ read_parts c =
     and_then (events_checked c classes (event_records classes rs) (event_records classes rs)) λ events.
     Ok (record { bytes = c; records = rs; chain = chain; body = body; classes = classes; entries = entries })
 
+-- The flaw of an answer, if it is one.
 abbrev pub flaw_in : {A : Type 0} → Result A Flaw → Option Flaw
 flaw_in (Ok a) = None
 flaw_in (Err flaw) = Some flaw

@@ -25,7 +25,7 @@ output_record_by (Some l) other r = Some (Chained l.0 l.1)
 output_record_by None true r = Some (Whole r)
 output_record_by None false r = None
 
--- A kept event, or the header's metadata record.
+-- A record is written whole where it is that of a kept event, or the header's metadata record.
 abbrev pub output_records_whole : Parts → List EventAt → Framed → Bool
 output_records_whole p kept r = list_any (λ e. e.record_of.at == r.at) kept || (r.at == metadata_at p.bytes)
 
@@ -54,6 +54,7 @@ abbrev pub bytes_of : List ℕ → List EntryAt → OutputRecord → ℕ → Opt
 bytes_of c left (Whole r) at older = record_bytes c r
 bytes_of c left (Chained number l) at older = checkpoint_bytes c l (distance at older) (groups_of left number)
 
+-- The bytes of an output record at its place in the output.
 abbrev pub written_bytes : List ℕ → List EntryAt → Written → List ℕ
 written_bytes c left w = bytes_of c left w.output_record w.at w.older
 

@@ -17,10 +17,11 @@ pub record Options : Type 0 where
   pub exclude : Side
   pub strings : List (List ℕ)
 
--- The options over events, and those over categories.
+-- The options over events.
 abbrev pub over_events : Given → List (List ℕ) → Options
 over_events g texts = record { filter = g; include = IncludeEvents; exclude = ExcludeEvents; strings = texts }
 
+-- The options over categories.
 abbrev pub over_categories : Given → List (List ℕ) → Options
 over_categories g texts = record { filter = g; include = IncludeCategories; exclude = ExcludeCategories; strings = texts }
 
@@ -32,9 +33,10 @@ matches_of o i = (some_matches o.filter o.include (text_at o.strings i), some_ma
 abbrev pub AreMatches : Options → BTreeMap ℕ (Bool × Bool) → Type 0
 AreMatches o matches = (i : ℕ) → IfSome (tree.get nat_cmp matches i) (λ found. found ≡ matches_of o i)
 
--- Whether the filter allows a class, and one that these strings name.
+-- Whether the filter allows a class.
 abbrev pub is_allowed : Given → Class → Bool
 is_allowed g class = allows_class g class.name class.categories
 
+-- Whether it allows a class that these strings name.
 abbrev pub is_named_allowed : Given → List (List ℕ) → ClassNames → Bool
 is_named_allowed g texts names = allows_class g (text_at texts names.name) (map (text_at texts) names.categories.items)

@@ -12,7 +12,8 @@ use jfr_layout::Kind;
 use jfr_text::{StringSpan, read_string};
 use jfr_value::{Node, Step, child, target};
 
-/// The node of an event's fields, where paths begin.
+/// The node of an event's fields, where paths begin. It lies in the bytes of this chunk, also where another
+/// chunk of the same parts handed out the event.
 pub fn fields_of<'a>(chunk: &Chunk<'a>, event: &Event<'_>) -> Node<'a>
     requires { slice_get (events_of chunk.now) event.now.number ≡ Some (event_at event.now) }
     ensures exact { node_of result ≡ node_of event.now.node }

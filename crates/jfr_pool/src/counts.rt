@@ -9,7 +9,8 @@ use std::alloc::Global;
 // Classes with ids below this may have a row.
 const ROWS: u64 = 4096;
 
-// So many of them have a row whatever the entries are, though it may be one without keys.
+// Classes with ids below this have a row whatever the entries are: one of the key 0 alone, where no other
+// fits.
 const FEW: usize = 1024;
 
 // How many counts all rows of a chunk together may have, whatever the number of entries.
@@ -108,7 +109,8 @@ impl Counts {
     }
 }
 
-/// The range of keys of each class, up to the largest id that may have a row.
+/// The range of the keys above 0 of each class, by its id: of all ids below `FEW`, and from there up to the
+/// largest id below `ROWS` that an entry has.
 fn key_ranges(alloc: Global, entries: &[EntryAt]) -> Result<Vec<KeyRange>, NoMemory> {
     let mut ranges = vec![in alloc; NO_KEYS; FEW]?;
     for entry in entries {

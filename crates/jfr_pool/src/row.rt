@@ -1,11 +1,11 @@
-// The row of a class: a count for each key of a range.
+// The row of a class: the number of its entry in force for each key of a range.
 ghost use Rattle.std.specs.Prelude.{◌≡◌, ◌≢◌, ℕ, option_map, replicate, IfOk};
 
 use jfr_base::NoMemory;
 use std::alloc::Global;
 
-/// The row of a class: a count for the key 0, and one for each key of a range that begins at `first`. Other
-/// keys have none.
+/// The row of a class: a count for the key 0, and one for each key of a range that begins at `first`. The
+/// count of a key is the number of its entry in force plus 1, and 0 where none is. Other keys have none.
 #[derive(Drop)]
 pub(crate) struct Row {
     /// The first key of the range.

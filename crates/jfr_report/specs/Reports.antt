@@ -43,15 +43,17 @@ event_bytes false depth p n = encode_utf8_all (event_shown p depth n)
 abbrev pub events_bytes : Bool → ℕ → Parts → List EventAt → List (List ℕ)
 events_bytes json depth p es = map (λ e. event_bytes json depth p e.node) es
 
--- What writes the events of a chunk, its chunk, and what it writes for an event.
+-- What writes the events of a chunk: as JSON, or as text.
 abbrev pub writer_of : Bool → Parts → Writer
 writer_of true p = writers.Json p
 writer_of false p = writers.Text p
 
+-- The chunk whose events it writes.
 abbrev pub chunk_of : Writer → Parts
 chunk_of (writers.Text p) = p
 chunk_of (writers.Json p) = p
 
+-- What it writes for an event.
 abbrev pub text_by : Writer → ℕ → NodeAt → List ℕ
 text_by (writers.Text p) depth n = event_shown p depth n
 text_by (writers.Json p) depth n = event_json p depth n
@@ -64,11 +66,12 @@ printing g depth json = texting (λ n p. events_bytes json depth p (kept_of g p)
 abbrev pub describing : Rule
 describing = texting (λ n p. encode_utf8_all (metadata_shown p n) ∷ []) (λ before. [])
 
--- The parts of the chunks that are accepted.
+-- The parts of a chunk, if it is accepted, and then others.
 abbrev pub parts_with : Result Parts Flaw → List Parts → List Parts
 parts_with (Ok p) ps = p ∷ ps
 parts_with (Err flaw) ps = ps
 
+-- The parts of the chunks that are accepted.
 abbrev pub all_parts : List (List ℕ) → List Parts
 all_parts [] = []
 all_parts (c ∷ cs) = parts_with (read_parts c) (all_parts cs)

@@ -40,7 +40,7 @@ Lies n m (parts.Made part from to) = (from ≤ to) × (to ≤ m)
 abbrev pub LieIn : Laid → Type 0
 LieIn l = AllByRecursion (Lies (length l.chunk) (length l.made)) l.pieces
 
--- Ranges of a chunk.
+-- The pieces that ranges are over a chunk.
 abbrev pub laid_in : List ℕ → Ranges → Laid
 laid_in c r = record { chunk = c; made = r.made.items; pieces = r.parts.items }
 

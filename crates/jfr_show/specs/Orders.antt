@@ -27,10 +27,11 @@ pub record IsOrder (fs : List Field) (ms : List (List ℕ × ℕ)) : Type 0 wher
   pub within : AllByRecursion (λ m. m.1 < length fs) ms
   pub exact : (ds : List Data) → length ds ≡ length fs → members_text false (members_with no_members fs ds) ≡ laid_out ms ds
 
--- What the code keeps of a member, and of a class.
+-- What the code keeps of a member.
 abbrev pub lead_of : Lead → List ℕ × ℕ
 lead_of m = (string_bytes m.text, m.field)
 
+-- What it keeps of a class.
 abbrev pub leads_of : Order → List (List ℕ × ℕ)
 leads_of o = map lead_of o.leads.items
 
@@ -44,6 +45,7 @@ pub record AreOrders (k : Classes) (os : List (Option Order)) : Type 0 where
   pub count : length os ≡ length k
   pub each : (place : ℕ) (o : Order) → slice_get os place ≡ Some (Some o) → IsOrderAt k place o
 
+-- A source has an order for each class of its chunk.
 abbrev pub IsSource : Source → Type 0
 IsSource s = AreOrders s.chunk.now.classes s.orders.now
 

@@ -2,7 +2,8 @@
 ghost use Rattle.std.specs.Prelude.{◌≡◌, ◌+◌, ◌-◌, ◌≤◌, false};
 ghost use Rattle.jfr_show.specs.Depths.{deepest};
 
-/// Fewer composite values than this stand within one another, where no reference is followed.
+/// At most so many composite values stand within one another where no reference is followed: the outermost,
+/// and 32 by inline steps (FORMAT.md, Limits).
 const COMPOSITES: u32 = 33;
 
 /// How far what is shown goes from a value.
@@ -10,7 +11,7 @@ const COMPOSITES: u32 = 33;
 pub(crate) struct Reach {
     /// So many references are followed.
     pub(crate) references: u8,
-    /// Fewer composite values than this stand within one another.
+    /// At most so many composite values stand within one another from here on.
     pub(crate) composites: u32,
 }
 

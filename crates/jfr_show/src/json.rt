@@ -3,12 +3,12 @@
 // A line is the compact text of a value of `serde_json`, and no such value is made for it: the parts of an
 // event are walked as for its text, and what `serde_json` would write for them is added to a string. An
 // object has its members in the order of their keys, and a class its fields in another, so `Order` says
-// for each class of the chunk in which order its fields are written and what stands before each value; it
-// is worked out by `serde_json`'s own map, once a chunk where no field has a long name. `places.rt` says
-// where the fields of a value stand, so that they can be written in any order. The definition stays that of
-// the library's text.
+// for each class of the chunk in which order its fields are written and what stands before each value. It is
+// worked out by `serde_json`'s own map: once a chunk for a class of which no field has a long name, and for
+// another each time that one of its values is written. `places.rt` says where the fields of a value stand, so
+// that they can be written in any order. The definition stays that of the library's text.
 //
-// With a value of `serde_json` for each event a recording of 34 MB took 8.8 s, and so it takes 3.5 s.
+// A recording of 34 MB took 8.8 s when a value of `serde_json` was made for each event, and takes 3.5 s.
 ghost use Rattle.std.specs.Prelude.{◌≡◌, ◌≤◌, ◌++◌, Some, IfOk, OnOk, slice_get, string_bytes};
 ghost use Rattle.serde_json.specs.Written.{compact_text};
 ghost use Rattle.jfr_chunk.specs.Parts.{events_of};

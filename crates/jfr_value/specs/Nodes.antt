@@ -19,6 +19,7 @@ pub record NodeAt : Type 0 where
   pub at : ℕ
   pub end : ℕ
 
+-- The node of a shape from one offset to another.
 abbrev pub node_at : Shape → ℕ → ℕ → NodeAt
 node_at s at end = record { shape = s; at = at; end = end }
 
@@ -63,6 +64,7 @@ IsRefused k c s at end flaw = Fails (value_format k s) c end at flaw.offset flaw
 abbrev pub IsValueReason : Reason → Type 0
 IsValueReason why = (why ≡ Short) ⊎ (why ≡ StringKind)
 
+-- The value that was read, if none was refused.
 abbrev pub got_value : Answer Value → Option Value
 got_value (Ok g) = Some g.value
 got_value (Err e) = None

@@ -44,6 +44,7 @@ abbrev pub IsFrame : Classes → ℕ → Frame → Type 0
 IsFrame k height (Fields place number levels) = (height + 2 * levels ≤ 67) × (place < length k) × ((c : Class) → slice_get k place ≡ Some c → AllByRecursion (λ f. Room k levels f.shape) c.fields)
 IsFrame k height (Items shape place left levels) = (height + 2 * levels ≤ (if shape.array then 67 else 68)) × IsPlacedIfKnown k shape place × Room k levels shape
 
+-- Each frame of a stack stands at its height, counted from the bottom.
 abbrev pub AreFrames : Classes → ℕ → List Frame → Type 0
 AreFrames k height [] = ⊤
 AreFrames k height (f ∷ fs) = IsFrame k (suc height) f × AreFrames k (suc height) fs
@@ -52,6 +53,7 @@ AreFrames k height (f ∷ fs) = IsFrame k (suc height) f × AreFrames k (suc hei
 abbrev pub IsLeft : Classes → List ℕ → ℕ → Cursor → Values → Type 0
 IsLeft k c end cursor vs = IsRow k c cursor.at end (shapes_left k cursor.stack) vs
 
+-- The values that were read; none where one was refused.
 abbrev pub got_values : Answer (List Value) → Values
 got_values (Ok g) = values_of g.value
 got_values (Err e) = Nil
