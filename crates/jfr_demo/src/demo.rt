@@ -26,18 +26,10 @@ pub fn sample_text(alloc: Global, seed: u32, events: u32) -> Result<Text, ReadFa
     requires most { events ≤ 1000000 }
     ensures exact { MatchResult result (λ text. sampled seed events ≡ Ok text) (TellsFlaw (sampled seed events)) }
 {
-    let bytes = match sample(alloc, seed, events) {
-        Ok(bytes) => bytes,
-        Err(NoMemory) => return Err(ReadFault::Memory),
-    };
-    let chunk = match Chunk::read(alloc, &bytes) {
-        Ok(chunk) => chunk,
-        Err(fault) => return Err(fault),
-    };
-    match counted(alloc, &chunk) {
-        Ok(text) => Ok(text),
-        Err(NoMemory) => Err(ReadFault::Memory),
-    }
+    let bytes = sample(alloc, seed, events)?;
+    let chunk = Chunk::read(alloc, &bytes)?;
+    let text = counted(alloc, &chunk)?;
+    Ok(text)
 }
 
 /// What a chunk has, and what its scrub keeps.
