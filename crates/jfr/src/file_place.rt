@@ -6,7 +6,7 @@ ghost use Rattle.jfr_outside.specs.Counts.{Counts};
 ghost use Rattle.jfr_outside.specs.World.{bytes_in};
 ghost use Rattle.jfr.specs.Edges.{untold, Grew, Took};
 
-use crate::counts::raise;
+use crate::counts::failed;
 use jfr_outside::{Fault, Place, Words};
 use std::alloc::{Alloc, Global};
 use std::fs::{Files, OpenOptions};
@@ -126,10 +126,7 @@ impl<'a, R: Files + Alloc + Clone + Drop> Place for FilePlace<'a, R> {
                 self.input = Some(file);
                 Ok(())
             }
-            Err(_) => {
-                raise(&mut self.read_faults);
-                Err(Fault::Failed)
-            }
+            Err(_) => Err(failed(&mut self.read_faults)),
         }
     }
 
@@ -141,17 +138,11 @@ impl<'a, R: Files + Alloc + Clone + Drop> Place for FilePlace<'a, R> {
     {
         let count = match &mut self.input {
             Some(file) => file.read(into),
-            None => {
-                raise(&mut self.read_faults);
-                return Err(Fault::Failed);
-            }
+            None => return Err(failed(&mut self.read_faults)),
         };
         match count {
             Ok(count) => Ok(count),
-            Err(_) => {
-                raise(&mut self.read_faults);
-                Err(Fault::Failed)
-            }
+            Err(_) => Err(failed(&mut self.read_faults)),
         }
     }
 
@@ -170,8 +161,7 @@ impl<'a, R: Files + Alloc + Clone + Drop> Place for FilePlace<'a, R> {
     {
         if self.output.is_some() {
             self.output = None;
-            raise(&mut self.write_faults);
-            return Err(Fault::Failed);
+            return Err(failed(&mut self.write_faults));
         }
         match OpenOptions::new()
             .write(true)
@@ -182,10 +172,7 @@ impl<'a, R: Files + Alloc + Clone + Drop> Place for FilePlace<'a, R> {
                 self.output = Some(file);
                 Ok(())
             }
-            Err(_) => {
-                raise(&mut self.write_faults);
-                Err(Fault::Failed)
-            }
+            Err(_) => Err(failed(&mut self.write_faults)),
         }
     }
 
@@ -196,17 +183,11 @@ impl<'a, R: Files + Alloc + Clone + Drop> Place for FilePlace<'a, R> {
     {
         let written = match &mut self.output {
             Some(file) => write_portions(file, bytes),
-            None => {
-                raise(&mut self.write_faults);
-                return Err(Fault::Failed);
-            }
+            None => return Err(failed(&mut self.write_faults)),
         };
         match written {
             Ok(()) => Ok(()),
-            Err(_) => {
-                raise(&mut self.write_faults);
-                Err(Fault::Failed)
-            }
+            Err(_) => Err(failed(&mut self.write_faults)),
         }
     }
 
@@ -217,8 +198,7 @@ impl<'a, R: Files + Alloc + Clone + Drop> Place for FilePlace<'a, R> {
         ensures writes { Counts result self.old.write_faults self.new.write_faults }
     {
         let Some(file) = self.output.take() else {
-            raise(&mut self.write_faults);
-            return Err(Fault::Failed);
+            return Err(failed(&mut self.write_faults));
         };
         match write_pieces(self.alloc, file, pieces) {
             Ok(file) => {
@@ -226,10 +206,7 @@ impl<'a, R: Files + Alloc + Clone + Drop> Place for FilePlace<'a, R> {
                 Ok(())
             }
             Err(Fault::Memory) => Err(Fault::Memory),
-            Err(Fault::Failed) => {
-                raise(&mut self.write_faults);
-                Err(Fault::Failed)
-            }
+            Err(Fault::Failed) => Err(failed(&mut self.write_faults)),
         }
     }
 
@@ -241,18 +218,12 @@ impl<'a, R: Files + Alloc + Clone + Drop> Place for FilePlace<'a, R> {
     {
         let flushed = match &mut self.output {
             Some(file) => file.flush(),
-            None => {
-                raise(&mut self.write_faults);
-                return Err(Fault::Failed);
-            }
+            None => return Err(failed(&mut self.write_faults)),
         };
         self.output = None;
         match flushed {
             Ok(()) => Ok(()),
-            Err(_) => {
-                raise(&mut self.write_faults);
-                Err(Fault::Failed)
-            }
+            Err(_) => Err(failed(&mut self.write_faults)),
         }
     }
 
@@ -267,10 +238,7 @@ impl<'a, R: Files + Alloc + Clone + Drop> Place for FilePlace<'a, R> {
         match names_in(self.rt, alloc, folder) {
             Ok(names) => Ok(names),
             Err(error) if error.kind() == ErrorKind::OutOfMemory => Err(Fault::Memory),
-            Err(_) => {
-                raise(&mut self.read_faults);
-                Err(Fault::Failed)
-            }
+            Err(_) => Err(failed(&mut self.read_faults)),
         }
     }
 }

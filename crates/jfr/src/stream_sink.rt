@@ -4,7 +4,7 @@ ghost use Rattle.std.specs.Io.KnownBytes.{Appends};
 ghost use Rattle.jfr_outside.specs.Counts.{Counts};
 ghost use Rattle.jfr.specs.Edges.{unseen};
 
-use crate::counts::raise;
+use crate::counts::failed;
 use jfr_outside::{Fault, Sink};
 use std::io::Write;
 
@@ -32,12 +32,10 @@ impl<W: Write + Drop> Sink for StreamSink<W> {
         ensures faults { Counts result self.old.faults self.new.faults }
     {
         if self.stream.write_all(bytes).is_err() {
-            raise(&mut self.faults);
-            return Err(Fault::Failed);
+            return Err(failed(&mut self.faults));
         }
         if self.stream.flush().is_err() {
-            raise(&mut self.faults);
-            return Err(Fault::Failed);
+            return Err(failed(&mut self.faults));
         }
         Ok(())
     }
