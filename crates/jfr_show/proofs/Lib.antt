@@ -13,6 +13,7 @@ mod TextLaws
 mod ListingLaws
 mod TallyLaws
 mod PlaceLaws
+mod LeaderLaws
 mod ClassTallies
 mod SizeLaws
 mod RecordTallies

@@ -1,30 +1,62 @@
--- How the events of a chunk are counted: by their class first, and then under the names of the classes.
-use Rattle.std.specs.Prelude.{◌≡◌, ℕ, ◌+◌, ◌^◌, ◌<◌, ◌≤◌, ◌==◌, Bool, false, List, filter, length, map, Option, Some, slice_get, unwrap_or, if◌then◌else◌}
+-- How the events of a chunk are counted: first at a leader of their class, which is a class of the same name,
+-- and then under the names of the classes.
+use Rattle.std.specs.Prelude.{◌≡◌, ℕ, ◌+◌, ◌^◌, ◌<◌, ◌≤◌, ◌==◌, Bool, false, List, filter, length, map, Option, Some, IfSome, option_and_then, option_map, slice_get, unwrap_or, if◌then◌else◌}
+use Rattle.std.specs.List.{AllZip}
 use Rattle.std.specs.Option.{option_map_or}
+use Rattle.std.specs.Ordering.{nat_cmp}
 use Rattle.std.specs.Str.{bytes_eq}
+use Rattle.std.specs.BTreeMap as tree
+use Rattle.std.specs.BTreeMap.{BTreeMap}
 use Rattle.std.specs.FinMap as fin
 use Rattle.jfr_frame.specs.declared.framed.Framed.{Framed}
-use Rattle.jfr_layout.specs.Classes.{Classes}
+use Rattle.jfr_layout.specs.Classes.{Class, Classes}
 use Rattle.jfr_layout.specs.Events.{event_index}
+use Rattle.jfr_meta.specs.Attributes.{text_at}
 use Rattle.jfr_show.specs.declared.tally.Tally.{Tally}
 use Rattle.jfr_show.specs.Totals.{Occurrence, Tallies, occurrence, of_name, tally_of}
 
--- The record is an event of the class at this place.
-abbrev pub is_at : Classes → ℕ → Framed → Bool
-is_at k place r = option_map_or (λ n. n == place) (event_index k r.type_id) false
+-- The class at this index has this name.
+abbrev pub HasName : Classes → List ℕ → ℕ → Type 0
+HasName k name index = option_map (λ c. c.name) (slice_get k index) ≡ Some name
 
--- The tally of the events of the class at a place.
-abbrev pub class_tally : Classes → List Framed → ℕ → Tally
-class_tally k rs place = tally_of (map (occurrence k) (filter (is_at k place) rs))
+-- The class is led by the one at this index.
+abbrev pub IsLed : Classes → Class → ℕ → Type 0
+IsLed k class leader = HasName k class.name leader
 
--- A tally for each class, in the order of the classes.
-pub record AreClassTallies (k : Classes) (rs : List Framed) (ts : List Tally) : Type 0 where
+-- The index of a leader for each class, in order.
+abbrev pub AreLeaders : Classes → List ℕ → Type 0
+AreLeaders k leaders = AllZip (IsLed k) k leaders
+
+-- Strings of a table by their indices, each with the index of a class that it names.
+abbrev pub AreNamed : Classes → List (List ℕ) → BTreeMap ℕ ℕ → Type 0
+AreNamed k texts named = (string : ℕ) → IfSome (tree.get nat_cmp named string) (HasName k (text_at texts string))
+
+-- The index of the leader of the class of an id, where records of this type are events.
+abbrev pub leader_of : Classes → List ℕ → ℕ → Option ℕ
+leader_of k leaders id = option_and_then (slice_get leaders) (event_index k id)
+
+-- The record is an event of a class that is led by the one at this index.
+abbrev pub is_at : Classes → List ℕ → ℕ → Framed → Bool
+is_at k leaders index r = option_map_or (λ n. n == index) (leader_of k leaders r.type_id) false
+
+-- The tally of the events of the classes that are led by the one at an index.
+abbrev pub class_tally : Classes → List ℕ → List Framed → ℕ → Tally
+class_tally k leaders rs index = tally_of (map (occurrence k) (filter (is_at k leaders index) rs))
+
+-- A tally for each class, in order, of the events of the classes that it leads.
+pub record AreTallies (k : Classes) (leaders : List ℕ) (rs : List Framed) (ts : List Tally) : Type 0 where
   pub count : length ts ≡ length k
-  pub each : (place : ℕ) → place < length k → slice_get ts place ≡ Some (class_tally k rs place)
+  pub each : (index : ℕ) → index < length k → slice_get ts index ≡ Some (class_tally k leaders rs index)
+
+-- The same for some leaders.
+pub record AreClassTallies (k : Classes) (rs : List Framed) (ts : List Tally) : Type 0 where
+  pub leaders : List ℕ
+  pub led : AreLeaders k leaders
+  pub tallies : AreTallies k leaders rs ts
 
 -- One event more fits in each.
 pub record AreSmall (ts : List Tally) : Type 0 where
-  pub each : (place : ℕ) (t : Tally) → slice_get ts place ≡ Some t → (t.events < 2 ^ 32) × (t.bytes < 2 ^ 32)
+  pub each : (index : ℕ) (t : Tally) → slice_get ts index ≡ Some t → (t.events < 2 ^ 32) × (t.bytes < 2 ^ 32)
 
 -- The tally of no events.
 abbrev pub no_tally : Tally

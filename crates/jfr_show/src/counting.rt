@@ -2,10 +2,11 @@
 ghost use Rattle.std.specs.Prelude.{◌≡◌, ℕ, ◌+◌, ◌^◌, ◌<◌, ◌≤◌, List, ◌∷◌, [], ◌++◌, length, IfOk, OnOk};
 ghost use Rattle.jfr_frame.specs.declared.framed.Framed.{Framed as Record};
 ghost use Rattle.jfr_chunk.specs.Parts.{AreParts};
-ghost use Rattle.jfr_show.specs.Counting.{AddsEvents, AreBelow, AreClassTallies, AreSmall};
+ghost use Rattle.jfr_show.specs.Counting.{AddsEvents, AreBelow, AreClassTallies, AreLeaders, AreSmall, AreTallies};
 ghost use Rattle.jfr_show.specs.Held.{tallies_in};
 ghost use Rattle.jfr_show.specs.Totals.{count_in_force, occurrences};
 
+use crate::leaders::{class_leaders, leader_of};
 use crate::tally::{Tally, TallyMap, add_tally};
 use jfr_base::NoMemory;
 use jfr_chunk::Chunk;
@@ -20,7 +21,8 @@ const NO_EVENTS: Tally = Tally {
 };
 
 /// Adds the events of a chunk to the tallies under the names of their classes. They are counted by class
-/// first, so that a name is looked up once for each class. Where memory was wanting, some are added.
+/// first, so that a name is looked up once for each string that names classes. Where memory was wanting,
+/// some are added.
 pub(crate) fn add_events(
     alloc: Global,
     chunk: &Chunk<'_>,
@@ -36,39 +38,42 @@ pub(crate) fn add_events(
     add_classes(alloc, chunk, &counted, tallies)
 }
 
-// The tallies of the events of each class, in the order of the classes.
+// A tally for each class, in order, of the events of the classes that it leads.
 fn class_tallies(alloc: Global, chunk: &Chunk<'_>) -> Result<Vec<Tally>, NoMemory>
     requires parts { AreParts chunk.now }
     requires small { length chunk.now.bytes < 2 ^ 28 }
     ensures { IfOk result (λ counted. AreClassTallies chunk.now.classes chunk.now.records counted.items) }
 {
+    let leaders = class_leaders(alloc, chunk)?;
     let classes = chunk.classes();
     let frames = chunk.frames();
     let mut counted = vec![in alloc; NO_EVENTS; classes.len()]?;
     for number in 0..frames.len() {
-        count_record(classes, frames.at(number), &mut counted);
+        count_record(classes, &leaders, frames.at(number), &mut counted);
     }
     Ok(counted)
 }
 
-// Counts a record, if it is an event.
+// Counts a record at the leader of its class, if it is an event.
 #[inline(always)]
-fn count_record(classes: &Classes, frame: Framed, counted: &mut [Tally])
+fn count_record(classes: &Classes, leaders: &[usize], frame: Framed, counted: &mut [Tally])
+    requires led { AreLeaders classes.now leaders.now }
     requires each { length counted.old ≡ length classes.now }
     requires small { AreSmall counted.old }
     requires size { frame.size < 2 ^ 32 }
-    ensures { (rs : List Record) → AreClassTallies classes.now rs counted.old → AreClassTallies classes.now (rs ++ frame ∷ []) counted.new }
+    ensures { (rs : List Record) → AreTallies classes.now leaders.now rs counted.old → AreTallies classes.now leaders.now (rs ++ frame ∷ []) counted.new }
 {
-    if let Some(layout) = classes.event_layout(frame.type_id) {
-        let tally = counted[layout.class_index];
-        counted[layout.class_index] = Tally {
+    if let Some(leader) = leader_of(classes, leaders, frame.type_id) {
+        let tally = counted[leader];
+        counted[leader] = Tally {
             events: tally.events + 1,
             bytes: tally.bytes + frame.size as u64,
         };
     }
 }
 
-// Adds the tallies of the classes of a chunk to those under their names.
+// Adds the tallies of the classes of a chunk to those under their names. A class that is led by another has
+// no events.
 fn add_classes(
     alloc: Global,
     chunk: &Chunk<'_>,
@@ -83,9 +88,9 @@ fn add_classes(
     ensures below { (most : ℕ) → AreBelow most (tallies_in tallies.old) → AreBelow (most + length chunk.now.bytes) (tallies_in tallies.new) }
 {
     let classes = chunk.classes();
-    for place in 0..classes.len() {
-        let name = classes.class_at(place).name.as_str();
-        add_tally(alloc, tallies, name, counted[place])?;
+    for index in 0..classes.len() {
+        let name = classes.class_at(index).name.as_str();
+        add_tally(alloc, tallies, name, counted[index])?;
     }
     Ok(())
 }

@@ -14,6 +14,7 @@ mod depth;
 mod event;
 mod json;
 mod kept;
+mod leaders;
 mod leaf;
 mod metadata;
 mod quoted;
