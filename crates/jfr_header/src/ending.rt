@@ -4,7 +4,7 @@ ghost use Rattle.jfr_header.specs.Nexts.{at_chunk};
 ghost use Rattle.jfr_header.specs.Endings.{after_read, after_write, after_chunk};
 
 use jfr_base::{Flaw, ReadFault, Refusal};
-use jfr_outside::Fault;
+use jfr_outside::{Fault, NoMemory};
 
 /// How a command over recordings ended. The program's exit status says it, too.
 #[derive(Clone, Copy, Debug, PartialEq, Eq)]
@@ -21,6 +21,16 @@ pub enum Ending {
     TooManyParts,
     /// Memory was wanting.
     Memory,
+}
+
+impl From<NoMemory> for Ending {
+    ghost use Rattle.jfr_header.specs.declared.ending.Ending.TheVariants.{Memory};
+
+    ghost from_gives = { λ _ ending. ending ≡ Memory };
+
+    fn from(_: NoMemory) -> Self {
+        Ending::Memory
+    }
 }
 
 impl Ending {
