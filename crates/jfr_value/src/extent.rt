@@ -20,7 +20,7 @@ use crate::fused::fused_end;
 use crate::integers::integer_end;
 use crate::keys::{key_end, text_end};
 use crate::part::item_of;
-use crate::walk::{STEPS, Walk};
+use crate::walk::{LEVELS, Walk};
 use jfr_base::{Flaw, Reason, read_within};
 use jfr_layout::{ClassLayout, Classes, FieldLayout, Form, Kind, Shape};
 use jfr_text::read_string;
@@ -107,7 +107,7 @@ fn value_end<C, V: Visit<C>>(
     match layout.form {
         Form::Fields => {
             let class_layout = walk.classes.class_layout(layout.class_index);
-            whole_row_end(walk, class_layout, at, STEPS - 1, visitor)
+            whole_row_end(walk, class_layout, at, LEVELS - 1, visitor)
         }
         _ => other_end(walk, layout, at, visitor),
     }
@@ -132,7 +132,7 @@ fn other_end<C, V: Visit<C>>(
     if is_hollow_array(walk.classes, layout) {
         return integer_end(walk.bytes, at, walk.end);
     }
-    layout_end(&walk, layout, at, STEPS, visitor)
+    layout_end(&walk, layout, at, LEVELS, visitor)
 }
 
 /// A visitor that takes nothing.
@@ -207,10 +207,7 @@ fn string_end(bytes: &[u8], at: usize, end: usize) -> Result<usize, Flaw>
     ensures exact { result ≡ seen (run (base_format kinds.Text) bytes.now end at) }
     ensures range { IfOk result (λ to. (at ≤ to) × (to ≤ end)) }
 {
-    match read_string(bytes, at, end) {
-        Ok(string) => Ok(string.end),
-        Err(flaw) => Err(flaw),
-    }
+    Ok(read_string(bytes, at, end)?.end)
 }
 
 /// Where a value of a base name ends.

@@ -5,7 +5,7 @@ ghost use Rattle.jfr_value.specs.Nodes.{IsValue, node_of};
 
 use crate::cursor::{Cursor, next_in};
 use crate::stack::{Frame, Stack};
-use crate::walk::{STEPS, Walk};
+use crate::walk::{LEVELS, Walk};
 use crate::{Leaf, Node, Steps};
 use jfr_layout::Classes;
 use std::marker::Model;
@@ -43,7 +43,7 @@ impl<'c, 'a> Leaves<'c, 'a> {
             shape: node.shape,
             place,
             left: 1,
-            levels: STEPS,
+            levels: LEVELS,
         });
         let walk = Walk {
             classes,

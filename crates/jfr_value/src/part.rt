@@ -6,7 +6,7 @@ ghost use Rattle.jfr_value.specs.Nodes.{EndsAt, IsRow, IsValue, child, laid, nod
 ghost use Rattle.jfr_value.specs.Values.{IsPlaced, Values, list_of};
 
 use crate::extent::{NoVisit, is_hollow, layout_end, layout_of};
-use crate::walk::{STEPS, Walk};
+use crate::walk::{LEVELS, Walk};
 use crate::{Node, Step};
 use jfr_base::{Var, read_within};
 use jfr_layout::{Classes, FieldLayout, Kind, Shape};
@@ -33,9 +33,7 @@ fn field<'a>(classes: &Classes, node: &Node<'a>, number: usize) -> Option<Node<'
     ensures bytes { IfSome result (λ part. part.bytes.now ≡ node.now.bytes.now) }
     ensures value { IfSome result (IsValue classes.now) }
 {
-    let Some(place) = classes.index_of(node.shape.class) else {
-        return None;
-    };
+    let place = classes.index_of(node.shape.class)?;
     if node.shape.array || node.shape.constant {
         return None;
     }
@@ -96,7 +94,7 @@ fn part_end(classes: &Classes, layout: &FieldLayout, bytes: &[u8], at: usize, en
         end,
         with: &(),
     };
-    match layout_end(&walk, layout, at, STEPS, &mut NoVisit) {
+    match layout_end(&walk, layout, at, LEVELS, &mut NoVisit) {
         Ok(to) => to,
         Err(_) => unreachable!(),
     }

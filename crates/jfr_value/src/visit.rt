@@ -13,7 +13,7 @@ ghost use Rattle.jfr_value.specs.Visits.{TakesAll, field_shapes};
 ghost use Rattle.jfr_value.specs.Walks.{IsLayoutIfKnown, Room};
 
 use crate::extent::{base_end, is_hollow, item_layout, layout_of};
-use crate::walk::{STEPS, Walk};
+use crate::walk::{LEVELS, Walk};
 use crate::{Node, Steps};
 use jfr_base::read_within;
 use jfr_layout::{Classes, FieldLayout, Form, Kind};
@@ -57,7 +57,7 @@ pub fn visit_targets<C, V: Visit<C>, L: Ledger>(
         end: node.end,
         with,
     };
-    let _end = visit_value(&walk, &layout, node.at, STEPS, visitor, steps);
+    let _end = visit_value(&walk, &layout, node.at, LEVELS, visitor, steps);
 }
 
 /// Visits a value of a layout, and says where it ends.

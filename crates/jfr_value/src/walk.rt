@@ -6,7 +6,7 @@ use std::alloc::AllocError;
 
 /// How many composite classes may stand within one another in sound classes: the outermost, and at most 32
 /// by inline steps.
-pub(crate) const STEPS: u32 = 33;
+pub(crate) const LEVELS: u32 = 33;
 
 /// What stays the same in a walk over a value: the classes, the bytes of the chunk, the offset by which the
 /// value has to end, and what the visitor looks at. Where the walk over an event is inlined, this is passed

@@ -13,38 +13,34 @@ returns-then-node-clause-exact c = elim c.then-node.branch [
   | then-node-via-else-node+then-node-2 w ↦ sym (no_field_of_constant c.args.classes.now c.args.node.now.bytes.now (node_of c.args.node.now) c.requires.0 c.index_of.ensures.sound c.requires.1 c.args.number w.if-node.false w.if-node-2.true)
 ]
 
+pub returns-in_err-place-clause-exact : goal.returns-in_err-place-clause-exact
+returns-in_err-place-clause-exact c = rw c.from_residual.ensures (sym (no_field_of_unknown c.args.classes.now c.args.node.now.bytes.now (node_of c.args.node.now) c.requires.0 c.index_of.ensures.sound c.requires.1 c.args.number (sym c.in_err-place.ensures.class)))
+
 pub returns-in_default : goal.returns-in_default
 returns-in_default c = record {
-  exact = sym (no_field_of_unknown c.args.classes.now c.args.node.now.bytes.now (node_of c.args.node.now) c.requires.0 c.index_of.ensures.sound c.requires.1 c.args.number (sym c.in_default.ensures.class));
-  bytes = tt;
-  value = tt;
-}
-
-pub returns-in_default-kind_at : goal.returns-in_default-kind_at
-returns-in_default-kind_at c = record {
-  exact = sym (no_field_of_kind c.args.classes.now c.args.node.now.bytes.now (node_of c.args.node.now) c.requires.0 c.index_of.ensures.sound c.requires.1 c.args.number c.in-Some.place c.kind_at.result c.if-node.false c.in-Some.ensures.class
-      c.in-Some.ensures.within c.kind_at.ensures c.in_default-kind_at.not-Composite);
+  exact = sym (no_field_of_kind c.args.classes.now c.args.node.now.bytes.now (node_of c.args.node.now) c.requires.0 c.index_of.ensures.sound c.requires.1 c.args.number c.in_ok-place.place c.kind_at.result c.if-node.false c.in_ok-place.ensures.class
+      c.in_ok-place.ensures.within c.kind_at.ensures c.in_default.not-Composite);
   bytes = tt;
   value = tt;
 }
 
 pub returns-then-number-layouts-clause-exact : goal.returns-then-number-layouts-clause-exact
-returns-then-number-layouts-clause-exact c = sym (no_field_past c.args.classes.now c.args.node.now.bytes.now (node_of c.args.node.now) c.requires.0 c.index_of.ensures.sound c.requires.1 c.args.number c.in-Some.place c.kind_at.result c.layouts-layouts.result.now c.if-node.false c.if-node-2.false c.in-Some.ensures.class
-    c.in-Some.ensures.within c.kind_at.ensures c.in-Composite.is c.layouts-layouts.ensures.exact c.if-number-layouts.true)
+returns-then-number-layouts-clause-exact c = sym (no_field_past c.args.classes.now c.args.node.now.bytes.now (node_of c.args.node.now) c.requires.0 c.index_of.ensures.sound c.requires.1 c.args.number c.in_ok-place.place c.kind_at.result c.layouts-layouts.result.now c.if-node.false c.if-node-2.false c.in_ok-place.ensures.class
+    c.in_ok-place.ensures.within c.kind_at.ensures c.in-Composite.is c.layouts-layouts.ensures.exact c.if-number-layouts.true)
 
 pub nth_field-requires-clause-layouts : goal.nth_field-requires-clause-layouts
-nth_field-requires-clause-layouts c = (layouts_of c.args.classes.now c.in-Some.place c.layouts-layouts.result.now c.in-Some.ensures.within c.layouts-layouts.ensures.exact).layouts.each
+nth_field-requires-clause-layouts c = (layouts_of c.args.classes.now c.in_ok-place.place c.layouts-layouts.result.now c.in_ok-place.ensures.within c.layouts-layouts.ensures.exact).layouts.each
 
 pub nth_field-requires-clause-row : goal.nth_field-requires-clause-row
 nth_field-requires-clause-row c =
-    let f = field_row c.args.classes.now c.args.node.now.bytes.now (node_of c.args.node.now) c.requires.0 c.index_of.ensures.sound c.requires.1 c.args.number c.in-Some.place c.kind_at.result c.layouts-layouts.result.now c.if-node.false c.if-node-2.false c.in-Some.ensures.class
-    c.in-Some.ensures.within c.kind_at.ensures c.in-Composite.is c.layouts-layouts.ensures.exact in
+    let f = field_row c.args.classes.now c.args.node.now.bytes.now (node_of c.args.node.now) c.requires.0 c.index_of.ensures.sound c.requires.1 c.args.number c.in_ok-place.place c.kind_at.result c.layouts-layouts.result.now c.if-node.false c.if-node-2.false c.in_ok-place.ensures.class
+    c.in_ok-place.ensures.within c.kind_at.ensures c.in-Composite.is c.layouts-layouts.ensures.exact in
     (f.0, f.1)
 
 pub returns-clause-exact : goal.returns-clause-exact
 returns-clause-exact c =
-    let f = field_row c.args.classes.now c.args.node.now.bytes.now (node_of c.args.node.now) c.requires.0 c.index_of.ensures.sound c.requires.1 c.args.number c.in-Some.place c.kind_at.result c.layouts-layouts.result.now c.if-node.false c.if-node-2.false c.in-Some.ensures.class
-    c.in-Some.ensures.within c.kind_at.ensures c.in-Composite.is c.layouts-layouts.ensures.exact in
+    let f = field_row c.args.classes.now c.args.node.now.bytes.now (node_of c.args.node.now) c.requires.0 c.index_of.ensures.sound c.requires.1 c.args.number c.in_ok-place.place c.kind_at.result c.layouts-layouts.result.now c.if-node.false c.if-node-2.false c.in_ok-place.ensures.class
+    c.in_ok-place.ensures.within c.kind_at.ensures c.in-Composite.is c.layouts-layouts.ensures.exact in
     sym (f.2 ∙ c.nth_field.ensures.exact f.0 f.1)
 
 pub returns-clause-value : goal.returns-clause-value
