@@ -10,15 +10,15 @@ use Rattle.jfr_pool.specs.declared.entry.EntryAt.{EntryAt}
 use Rattle.jfr_pool.specs.declared.index.Index.{Index}
 use Rattle.jfr_pool.specs.declared.index.Slot.{Slot}
 use Rattle.jfr_pool.specs.declared.index.TheConstants.{REACH}
-use Rattle.jfr_pool.specs.declared.row.Row.{Row}
-use Rattle.jfr_pool.specs.Counts.{count_at}
+use Rattle.jfr_pool.specs.declared.table.Table.{Table}
+use Rattle.jfr_pool.specs.Tables.{ordinal_at}
 use Rattle.jfr_pool.specs.Entries.{number_in_force}
 use Rattle.jfr_pool.specs.Index.{target_cmp, Placed, held, number_in, is_open, slot_at, seat_from, home, seat, number_at, number_of, Indexes}
 use Rattle.jfr_pool.proofs.Targets.{clash, hits, same_target, target_same, eq_target, force_push, force_none, some_push}
-use Rattle.jfr_pool.proofs.Seats.{home_same, seat_found, held_counted, none_of}
+use Rattle.jfr_pool.proofs.Seats.{home_same, seat_found, held_numbered, none_of}
 
 abbrev empty : Slot
-empty = record { key = 0; class = 0; count = 0 }
+empty = record { key = 0; class = 0; ordinal = 0 }
 
 no_some : (o : Option ℕ) → o ≡ None → IsSome o → ⊥
 no_some None q h = cc
@@ -30,8 +30,8 @@ get_replicate (suc n) zero x = refl
 get_replicate (suc n) (suc i) x = get_replicate n i x
 
 -- Where all slots are empty and there are no others, nothing has a number.
-pub indexes_none : (rows : List Row) (index : Index) (n : ℕ) → index.slots.items ≡ replicate n empty → IsEmpty index.others → Indexes rows index []
-indexes_none rows index n slots o = record {
+pub indexes_none : (by_class : List Table) (index : Index) (n : ℕ) → index.slots.items ≡ replicate n empty → IsEmpty index.others → Indexes by_class index []
+indexes_none by_class index n slots o = record {
   leads = λ t p. none_of index t (no_others t) (λ i p q. absurd (differ i p q)) ∙ sym (force_none t);
   in_slots = λ i p q. absurd (differ i p q);
   in_others = λ t q. absurd (no_some (get target_cmp index.others t) (no_others t) q);
@@ -44,12 +44,12 @@ indexes_none rows index n slots o = record {
     differ i p q = let f : held (slot_at index.slots.items i) ≡ None = ap (λ z. held (slot_at z i)) slots ∙ ap held (get_replicate n i empty) in cc
 
 -- An open slot takes the entry.
-module _ (old new : Index) (e : EntryAt) (number place : ℕ) (within : place < length old.slots.items) (slots : new.slots.items ≡ set old.slots.items place (record { key = e.key; class = e.class; count = number + 1 })) (others : new.others ≡ old.others) where
+module _ (old new : Index) (e : EntryAt) (number place : ℕ) (within : place < length old.slots.items) (slots : new.slots.items ≡ set old.slots.items place (record { key = e.key; class = e.class; ordinal = number + 1 })) (others : new.others ≡ old.others) where
   abbrev placed : Placed
   placed = record { class = e.class; key = e.key; number = number }
 
   here : held (slot_at new.slots.items place) ≡ Some placed
-  here = ap (λ z. held (slot_at z place)) slots ∙ ap held (get_or-set_same old.slots.items place _ empty within) ∙ held_counted e.class e.key number
+  here = ap (λ z. held (slot_at z place)) slots ∙ ap held (get_or-set_same old.slots.items place _ empty within) ∙ held_numbered e.class e.key number
 
   elsewhere : (i : ℕ) → i ≢ place → held (slot_at new.slots.items i) ≡ held (slot_at old.slots.items i)
   elsewhere i h = ap (λ z. held (slot_at z i)) slots ∙ ap held (get_or-set_other old.slots.items place i _ empty h)
@@ -111,7 +111,7 @@ module _ (old new : Index) (e : EntryAt) (number place : ℕ) (within : place < 
       by_class true h = rw (homes_stay t) (number_stays t m apart was_open REACH (home old.slots.items t) h)
       by_class false h = ap (λ z. get target_cmp z t) others ∙ h
 
-  module _ (found : seat old.slots.items (e.class, e.key) ≡ Some place) (rows : List Row) (es : List EntryAt) (h : Indexes rows old es) where
+  module _ (found : seat old.slots.items (e.class, e.key) ≡ Some place) (by_class : List Table) (es : List EntryAt) (h : Indexes by_class old es) where
     own : number_of new (e.class, e.key) ≡ Some number
     unfolding seat
     own =
@@ -136,7 +136,7 @@ module _ (old new : Index) (e : EntryAt) (number place : ℕ) (within : place < 
                 clash (hits e t) (target_same e.class e.key t (ap (λ (z : Placed). (z.class, z.key)) g ∙ same)) apart
             by_place (inr r) = no_some (number_in_force es t) none (subst (λ z. IsSome (number_in_force es z)) same (h.in_slots i p (sym (elsewhere i r) ∙ q)))
 
-    seated_number : (t : ℕ × ℕ) → count_at rows t ≡ None → number_of new t ≡ cond (hits e t) (Some number) (number_in_force es t)
+    seated_number : (t : ℕ × ℕ) → ordinal_at by_class t ≡ None → number_of new t ≡ cond (hits e t) (Some number) (number_in_force es t)
     seated_number t out = by_test (hits e t) refl (number_in_force es t) refl
       where
         by_test : (b : Bool) → hits e t ≡ b → (o : Option ℕ) → number_in_force es t ≡ o → number_of new t ≡ cond b (Some number) o
@@ -144,7 +144,7 @@ module _ (old new : Index) (e : EntryAt) (number place : ℕ) (within : place < 
         by_test false f None g = nowhere t f g
         by_test false f (Some m) g = some_stays t m f (seat_open REACH (home old.slots.items (e.class, e.key)) (seat_found old.slots.items (e.class, e.key) place found).1) (h.leads t out ∙ g)
 
-    pub seated : length es ≡ number → Indexes rows new (es ++ e ∷ [])
+    pub seated : length es ≡ number → Indexes by_class new (es ++ e ∷ [])
     seated n = record {
       leads = λ t out. seated_number t out ∙ ap (λ m. cond (hits e t) (Some m) (number_in_force es t)) (sym n) ∙ sym (force_push es e t);
       in_slots = λ i p q. by_place i p q (cases_eq i place);
@@ -159,8 +159,8 @@ module _ (old new : Index) (e : EntryAt) (number place : ℕ) (within : place < 
         by_place i p q (inr r) = some_push es e (p.class, p.key) (inr (h.in_slots i p (sym (elsewhere i r) ∙ q)))
 
 -- Where no slot is open, the entry is put among the others.
-pub passed : (rows : List Row) (old new : Index) (e : EntryAt) (number : ℕ) (es : List EntryAt) → seat old.slots.items (e.class, e.key) ≡ None → new.slots.items ≡ old.slots.items → Updates target_cmp old.others new.others (e.class, e.key) (Some number) → Indexes rows old es → length es ≡ number → Indexes rows new (es ++ e ∷ [])
-passed rows old new e number es none slots u h n = record {
+pub passed : (by_class : List Table) (old new : Index) (e : EntryAt) (number : ℕ) (es : List EntryAt) → seat old.slots.items (e.class, e.key) ≡ None → new.slots.items ≡ old.slots.items → Updates target_cmp old.others new.others (e.class, e.key) (Some number) → Indexes by_class old es → length es ≡ number → Indexes by_class new (es ++ e ∷ [])
+passed by_class old new e number es none slots u h n = record {
   leads = λ t out. passed_number t (seat old.slots.items t) refl ∙ ap (cond (hits e t) (Some number)) (h.leads t out) ∙ ap (λ m. cond (hits e t) (Some m) (number_in_force es t)) (sym n) ∙ sym (force_push es e t);
   in_slots = λ i p q. some_push es e (p.class, p.key) (inr (h.in_slots i p (ap (λ z. held (slot_at z i)) (sym slots) ∙ q)));
   in_others = λ t q. by_test t (hits e t) refl (subst (λ o. IsSome o) (updated t) q);
@@ -184,14 +184,14 @@ passed rows old new e number es none slots u h n = record {
     by_test t true f s = some_push es e t (inl f)
     by_test t false f s = some_push es e t (inr (h.in_others t s))
 
--- An entry that has a place in the rows is left out.
-pub left_out : (rows : List Row) (index : Index) (e : EntryAt) (es : List EntryAt) → is_some (count_at rows (e.class, e.key)) ≡ true → Indexes rows index es → Indexes rows index (es ++ e ∷ [])
-left_out rows index e es place h = record {
+-- An entry that has a place in the direct tables is left out.
+pub left_out : (by_class : List Table) (index : Index) (e : EntryAt) (es : List EntryAt) → is_some (ordinal_at by_class (e.class, e.key)) ≡ true → Indexes by_class index es → Indexes by_class index (es ++ e ∷ [])
+left_out by_class index e es place h = record {
   leads = λ t out. h.leads t out ∙ ap (λ b. cond b (Some (length es)) (number_in_force es t)) (sym (apart t out (hits e t) refl)) ∙ sym (force_push es e t);
   in_slots = λ i p q. some_push es e (p.class, p.key) (inr (h.in_slots i p q));
   in_others = λ t q. some_push es e t (inr (h.in_others t q));
 }
   where
-    apart : (t : ℕ × ℕ) → count_at rows t ≡ None → (b : Bool) → hits e t ≡ b → hits e t ≡ false
-    apart t out true f = absurd (clash (is_some (count_at rows t)) (ap (λ z. is_some (count_at rows z)) (sym (same_target e.class e.key t f)) ∙ place) (ap is_some out))
+    apart : (t : ℕ × ℕ) → ordinal_at by_class t ≡ None → (b : Bool) → hits e t ≡ b → hits e t ≡ false
+    apart t out true f = absurd (clash (is_some (ordinal_at by_class t)) (ap (λ z. is_some (ordinal_at by_class z)) (sym (same_target e.class e.key t f)) ∙ place) (ap is_some out))
     apart t out false f = f

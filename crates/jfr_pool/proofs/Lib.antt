@@ -1,11 +1,11 @@
 pub mod Among
 pub mod ChainLaws
 mod ChainReading
-mod CountLaws
 mod EntryLaws
 mod IndexLaws
 mod Listings
 pub mod OneLaws
 mod Rows
 mod Seats
+mod TableLaws
 pub mod Targets

@@ -42,9 +42,9 @@ seat_found slots t place h = by_class (nat_lt t.0 (2 ^ 32)) h
     by_class true h = (refl, h)
     by_class false h = cc
 
--- What a slot holds that counts entries.
-pub held_counted : (class key number : ℕ) → held (record { key = key; class = class; count = number + 1 }) ≡ Some (record { class = class; key = key; number = number })
-held_counted class key number =
+-- What a slot holds whose ordinal isn't 0.
+pub held_numbered : (class key number : ℕ) → held (record { key = key; class = class; ordinal = number + 1 }) ≡ Some (record { class = class; key = key; number = number })
+held_numbered class key number =
     let q : (number + 1 == 0) ≡ false = grind arith in
     let r : number + 1 - 1 ≡ number = omega arith in
     rw q (ap (λ n. Some (record { class = class; key = key; number = n })) r)
@@ -59,11 +59,11 @@ seat_past slots t place i e h = sym (seat_on slots t (place + REACH) place (omeg
 
 -- A slot that has a class and key is open to them.
 of_open : (slot : Slot) (t : ℕ × ℕ) → is_of slot t ≡ true → is_open (held slot) t ≡ true
-of_open slot t h = by_count (slot.count == 0)
+of_open slot t h = by_ordinal (slot.ordinal == 0)
   where
-    by_count : (b : Bool) → is_open (if b then None else Some (record { class = slot.class; key = slot.key; number = slot.count - 1 })) t ≡ true
-    by_count true = refl
-    by_count false = h
+    by_ordinal : (b : Bool) → is_open (if b then None else Some (record { class = slot.class; key = slot.key; number = slot.ordinal - 1 })) t ≡ true
+    by_ordinal true = refl
+    by_ordinal false = h
 
 -- The number of those who stand in their home.
 pub number_home : (index : Index) (t : ℕ × ℕ) (place : ℕ) (slot : Slot) → t.0 < 2 ^ 32 → place ≡ home index.slots.items t → slot ≡ slot_at index.slots.items place → is_of slot t ≡ true → number_of index t ≡ number_in slot
@@ -72,9 +72,9 @@ number_home index t place slot fits e s h =
     ap (number_at index t) (seat_home index.slots.items t place fits e open_home) ∙ ap number_in (sym s)
 
 -- Those whose home is empty have no number.
-pub number_none : (index : Index) (t : ℕ × ℕ) (place : ℕ) (slot : Slot) → t.0 < 2 ^ 32 → place ≡ home index.slots.items t → slot ≡ slot_at index.slots.items place → slot.count ≡ 0 → number_of index t ≡ None
+pub number_none : (index : Index) (t : ℕ × ℕ) (place : ℕ) (slot : Slot) → t.0 < 2 ^ 32 → place ≡ home index.slots.items t → slot ≡ slot_at index.slots.items place → slot.ordinal ≡ 0 → number_of index t ≡ None
 number_none index t place slot fits e s q =
-    let b : (slot.count == 0) ≡ true = grind (arith, q) in
+    let b : (slot.ordinal == 0) ≡ true = grind (arith, q) in
     let none : held slot ≡ None = rw b refl in
     let open_home = ap (λ z. is_open (held z) t) (sym s) ∙ ap (λ o. is_open o t) none in
     ap (number_at index t) (seat_home index.slots.items t place fits e open_home) ∙ ap number_in (sym s) ∙ ap (option_map (λ (p : Placed). p.number)) none

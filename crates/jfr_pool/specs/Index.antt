@@ -1,4 +1,4 @@
--- The index of the entries that no row has, by class and key.
+-- The index of the entries that no direct table has, by class and key.
 use Rattle.std.specs.Prelude.{◌≡◌, ℕ, zero, suc, ◌+◌, ◌-◌, ◌*◌, ◌/◌, ◌%◌, ◌^◌, ◌&&◌, ◌==◌, nat_lt, Bool, true, List, length, Option, Some, None, IsSome, bit_xor, slice_index_or, option_map, if◌then◌else◌}
 use Rattle.std.specs.declared.cmp.Ordering.{Ordering}
 use Rattle.std.specs.Ordering.{nat_cmp, ordering_then}
@@ -7,8 +7,8 @@ use Rattle.jfr_pool.specs.declared.entry.EntryAt.{EntryAt}
 use Rattle.jfr_pool.specs.declared.index.Index.{Index}
 use Rattle.jfr_pool.specs.declared.index.Slot.{Slot}
 use Rattle.jfr_pool.specs.declared.index.TheConstants.{REACH, CLASS_AT, MIX}
-use Rattle.jfr_pool.specs.declared.row.Row.{Row}
-use Rattle.jfr_pool.specs.Counts.{count_at}
+use Rattle.jfr_pool.specs.declared.table.Table.{Table}
+use Rattle.jfr_pool.specs.Tables.{ordinal_at}
 use Rattle.jfr_pool.specs.Entries.{number_in_force}
 
 -- The order of pairs: by class, and then by key.
@@ -21,9 +21,9 @@ pub record Placed : Type 0 where
   pub key : ℕ
   pub number : ℕ
 
--- What stands in a slot: nothing where it counts no entry.
+-- What stands in a slot: nothing where its ordinal is 0.
 abbrev pub held : Slot → Option Placed
-held s = if s.count == 0 then None else Some (record { class = s.class; key = s.key; number = s.count - 1 })
+held s = if s.ordinal == 0 then None else Some (record { class = s.class; key = s.key; number = s.ordinal - 1 })
 
 -- The number that stands in a slot.
 abbrev pub number_in : Slot → Option ℕ
@@ -40,7 +40,7 @@ is_open (Some p) t = (p.class == t.0) && (p.key == t.1)
 
 -- The slot of a place.
 abbrev pub slot_at : List Slot → ℕ → Slot
-slot_at slots place = slice_index_or slots place (record { key = 0; class = 0; count = 0 })
+slot_at slots place = slice_index_or slots place (record { key = 0; class = 0; ordinal = 0 })
 
 -- The place of the first open slot, of so many from a place on.
 abbrev pub seat_from : ℕ → ℕ → List Slot → ℕ × ℕ → Option ℕ
@@ -65,9 +65,9 @@ number_at index t None = get target_cmp index.others t
 abbrev pub number_of : Index → ℕ × ℕ → Option ℕ
 number_of index t = number_at index t (seat index.slots.items t)
 
--- For each class and key that no row has, the index has the number of the entry in force, where there is
+-- For each class and key that no table has, the index has the number of the entry in force, where there is
 -- one; and only classes and keys of entries stand in it.
-pub record Indexes (rows : List Row) (index : Index) (es : List EntryAt) : Type 0 where
-  pub leads : (t : ℕ × ℕ) → count_at rows t ≡ None → number_of index t ≡ number_in_force es t
+pub record Indexes (by_class : List Table) (index : Index) (es : List EntryAt) : Type 0 where
+  pub leads : (t : ℕ × ℕ) → ordinal_at by_class t ≡ None → number_of index t ≡ number_in_force es t
   pub in_slots : (place : ℕ) (p : Placed) → held (slot_at index.slots.items place) ≡ Some p → IsSome (number_in_force es (p.class, p.key))
   pub in_others : (t : ℕ × ℕ) → IsSome (get target_cmp index.others t) → IsSome (number_in_force es t)

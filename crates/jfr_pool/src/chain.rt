@@ -127,10 +127,5 @@ fn earlier_place(at: usize, delta: i64) -> Option<u64>
     if delta >= 0 {
         return None;
     }
-    let back = delta.unsigned_abs();
-    if back <= at as u64 {
-        Some(at as u64 - back)
-    } else {
-        None
-    }
+    (at as u64).checked_sub(delta.unsigned_abs())
 }

@@ -1,9 +1,9 @@
-// The numbers of the entries in force that no row of `Counts` has, by class and key: a hash table.
+// The numbers of the entries in force that no direct table has, by class and key: a hash table.
 ghost use Rattle.std.specs.Prelude.{None, ◌≡◌, false, ◌+◌, ◌-◌, ◌<◌, ◌≤◌, ◌^◌, [], ◌∷◌, ◌++◌, length, vec_len, IfOk, IfSome, IsTrue, OnOk};
 ghost use Rattle.jfr_pool.specs.declared.index.TheConstants.{REACH};
 
 use crate::EntryAt;
-use crate::counts::Counts;
+use crate::tables::Tables;
 use jfr_base::NoMemory;
 use std::alloc::Global;
 use std::collections::BTreeMap;
@@ -20,13 +20,13 @@ const CLASS_AT: u32 = 48;
 // The two are mixed by multiplying with this odd number.
 const MIX: u64 = 0x94D0_49BB_1331_11EB;
 
-/// A slot of the hash table: a class and key, and the number of the entry in force plus 1; 0 where the slot
-/// is empty.
+/// A slot of the hash table: a class and key, and the ordinal of the entry in force, which is its number plus
+/// 1; 0 where the slot is empty.
 #[derive(Clone, Copy)]
 pub(crate) struct Slot {
     pub key: u64,
     pub class: u32,
-    pub count: u32,
+    pub ordinal: u32,
 }
 
 impl Slot {
@@ -46,7 +46,7 @@ impl Slot {
     fn is_open(&self, class: u64, key: u64) -> bool
         ensures { result ≡ is_open (held self.now) (class, key) }
     {
-        self.count == 0 || self.is_of(class, key)
+        self.ordinal == 0 || self.is_of(class, key)
     }
 
     /// The number of the entry in force; `None` exactly where the slot is empty.
@@ -54,11 +54,11 @@ impl Slot {
     fn number(&self) -> Option<usize>
         ensures { result ≡ number_in self.now }
     {
-        (self.count as usize).checked_sub(1)
+        (self.ordinal as usize).checked_sub(1)
     }
 }
 
-/// The numbers of the entries in force for the classes and keys that no row has. A class and key stand in
+/// The numbers of the entries in force for the classes and keys that no table has. A class and key stand in
 /// the first slot, from their home on, that was open to them; and in the map of the others where none
 /// within reach was, or the class's id is too large for a slot.
 #[derive(Drop)]
@@ -73,22 +73,22 @@ pub(crate) struct Index {
 impl Index {
     ghost use Rattle.std.specs.Prelude.{List};
     ghost use Rattle.jfr_pool.specs.declared.entry.EntryAt.{EntryAt};
-    ghost use Rattle.jfr_pool.specs.declared.row.Row.{Row};
+    ghost use Rattle.jfr_pool.specs.declared.table.Table.{Table};
     ghost use Rattle.jfr_pool.specs.Index.{Indexes, held, home, is_open, number_at, number_of, seat, seat_from, slot_at};
 
-    /// The index of the entries that the rows don't have.
-    pub fn of(alloc: Global, entries: &[EntryAt], counts: &Counts) -> Result<Index, NoMemory>
+    /// The index of the entries that no direct table has.
+    pub fn of(alloc: Global, entries: &[EntryAt], tables: &Tables) -> Result<Index, NoMemory>
         requires { length entries.now < 2 ^ 32 }
-        ensures { IfOk result (λ index. Indexes counts.now.rows.items index entries.now) }
+        ensures { IfOk result (λ index. Indexes tables.now.by_class.items index entries.now) }
     {
-        let mut index = Index::new(alloc, count_without_place(entries, counts))?;
+        let mut index = Index::new(alloc, count_past(entries, tables))?;
         for (number, entry) in entries.iter().enumerate() {
-            index.take(entry, number, counts)?;
+            index.take(entry, number, tables)?;
         }
         Ok(index)
     }
 
-    /// The number of the entry in force for a class and a key that no row has; `None` exactly where there
+    /// The number of the entry in force for a class and a key that no table has; `None` exactly where there
     /// is none. Mostly they stand in their home, or nothing does.
     #[inline(never)]
     pub fn number(&self, class: u64, key: u64) -> Option<usize>
@@ -99,7 +99,7 @@ impl Index {
         if slot.is_of(class, key) {
             return slot.number();
         }
-        if slot.count == 0 && class < CLASSES {
+        if slot.ordinal == 0 && class < CLASSES {
             return None;
         }
         self.number_past(home, class, key)
@@ -133,12 +133,12 @@ impl Index {
 
     /// The index of no entries, with slots for so many: two for each, and the reach behind the last home.
     fn new(alloc: Global, count: usize) -> Result<Index, NoMemory>
-        ensures { IfOk result (λ index. (rows : List Row) → Indexes rows index []) }
+        ensures { IfOk result (λ index. (by_class : List Table) → Indexes by_class index []) }
     {
         let empty = Slot {
             key: 0,
             class: 0,
-            count: 0,
+            ordinal: 0,
         };
         let homes = count.saturating_mul(2);
         let slots = vec![in alloc; empty; homes.saturating_add(1 + REACH)]?;
@@ -148,12 +148,12 @@ impl Index {
         })
     }
 
-    /// Takes the next entry, which has this number, where the rows don't have it.
-    fn take(&mut self, entry: &EntryAt, number: usize, counts: &Counts) -> Result<(), NoMemory>
+    /// Takes the next entry, which has this number, where no direct table has it.
+    fn take(&mut self, entry: &EntryAt, number: usize, tables: &Tables) -> Result<(), NoMemory>
         requires { number + 1 < 2 ^ 32 }
-        ensures { OnOk result ((es : List EntryAt) → Indexes counts.now.rows.items self.old es → length es ≡ number → Indexes counts.now.rows.items self.new (es ++ entry.now ∷ [])) }
+        ensures { OnOk result ((es : List EntryAt) → Indexes tables.now.by_class.items self.old es → length es ≡ number → Indexes tables.now.by_class.items self.new (es ++ entry.now ∷ [])) }
     {
-        if counts.count(entry.class, entry.key).is_some() {
+        if tables.ordinal(entry.class, entry.key).is_some() {
             return Ok(());
         }
         self.put(entry, number)
@@ -162,7 +162,7 @@ impl Index {
     /// Puts in the next entry, which has this number.
     fn put(&mut self, entry: &EntryAt, number: usize) -> Result<(), NoMemory>
         requires { number + 1 < 2 ^ 32 }
-        ensures { OnOk result ((rows : List Row) (es : List EntryAt) → Indexes rows self.old es → length es ≡ number → Indexes rows self.new (es ++ entry.now ∷ [])) }
+        ensures { OnOk result ((by_class : List Table) (es : List EntryAt) → Indexes by_class self.old es → length es ≡ number → Indexes by_class self.new (es ++ entry.now ∷ [])) }
     {
         let (class, key) = (entry.class, entry.key);
         match self.seat(class, key) {
@@ -170,7 +170,7 @@ impl Index {
                 self.slots[place] = Slot {
                     key,
                     class: class as u32,
-                    count: number as u32 + 1,
+                    ordinal: number as u32 + 1,
                 };
             }
             None => {
@@ -220,15 +220,12 @@ impl Index {
     }
 }
 
-/// How many entries the rows don't have.
-fn count_without_place(entries: &[EntryAt], counts: &Counts) -> usize
+/// How many entries no direct table has.
+fn count_past(entries: &[EntryAt], tables: &Tables) -> usize
     ensures { result ≤ length entries.now }
 {
-    let mut count = 0;
-    for entry in entries {
-        if counts.count(entry.class, entry.key).is_none() {
-            count += 1;
-        }
-    }
-    count
+    entries
+        .iter()
+        .filter(|entry| tables.ordinal(entry.class, entry.key).is_none())
+        .count()
 }

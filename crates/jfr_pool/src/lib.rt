@@ -7,13 +7,13 @@
 
 mod chain;
 mod checkpoint;
-mod counts;
 mod entry;
 mod index;
 pub mod laws;
 mod link;
 mod pools;
-mod row;
+mod table;
+mod tables;
 
 pub use chain::Chain;
 pub use entry::EntryAt;

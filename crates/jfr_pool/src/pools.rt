@@ -5,8 +5,8 @@ ghost use Rattle.jfr_pool.specs.Entries.{AreEntries, IsInForce, IsRefusedEntries
 ghost use Rattle.jfr_pool.specs.Faults.{TellsFlaw};
 
 use crate::checkpoint::read_checkpoint;
-use crate::counts::Counts;
 use crate::index::Index;
+use crate::tables::Tables;
 use crate::{Chain, EntryAt};
 use jfr_base::ReadFault;
 use jfr_layout::Classes;
@@ -19,20 +19,20 @@ use std::marker::Model;
 pub struct Pools {
     entries: Vec<EntryAt>,
     index: Index,
-    counts: Counts,
+    tables: Tables,
 }
 
 impl Model for Pools {
     ghost use Rattle.std.specs.Prelude.{List};
     ghost use Rattle.jfr_pool.specs.declared.entry.EntryAt.{EntryAt};
     ghost use Rattle.jfr_pool.specs.Index.{Indexes};
-    ghost use Rattle.jfr_pool.specs.Counts.{AreCounts};
+    ghost use Rattle.jfr_pool.specs.Tables.{AreTables};
 
     ghost Value = { List EntryAt };
 
     ghost view = { λ pools. pools.entries.items };
 
-    ghost invariant = { λ pools. Indexes pools.counts.rows.items pools.index pools.entries.items × AreCounts pools.counts pools.entries.items };
+    ghost invariant = { λ pools. Indexes pools.tables.by_class.items pools.index pools.entries.items × AreTables pools.tables pools.entries.items };
 }
 
 impl Pools {
@@ -62,12 +62,12 @@ impl Pools {
         if entries.len() > u32::MAX as usize {
             return Err(ReadFault::Memory);
         }
-        let counts = Counts::of(alloc, &entries)?;
-        let index = Index::of(alloc, &entries, &counts)?;
+        let tables = Tables::of(alloc, &entries)?;
+        let index = Index::of(alloc, &entries, &tables)?;
         Ok(Pools {
             entries,
             index,
-            counts,
+            tables,
         })
     }
 
@@ -98,9 +98,9 @@ impl Pools {
     pub fn entry(&self, class: u64, key: u64) -> Option<usize>
         ensures { result ≡ number_in_force self.now (class, key) }
     {
-        match self.counts.count(class, key) {
+        match self.tables.ordinal(class, key) {
             Some(0) => None,
-            Some(count) => Some(count as usize - 1),
+            Some(ordinal) => Some(ordinal as usize - 1),
             None => self.index.number(class, key),
         }
     }

@@ -2,22 +2,22 @@
 ghost use Rattle.std.specs.Prelude.{◌≡◌, ◌+◌, ◌<◌, ◌≤◌, ◌^◌, [], ◌∷◌, ◌++◌, length, IfOk};
 
 use crate::EntryAt;
-use crate::row::Row;
+use crate::table::Table;
 use jfr_base::NoMemory;
 use std::alloc::Global;
 
-// Classes with ids below this may have a row.
-const ROWS: u64 = 4096;
+// Classes with ids below this may have a table.
+const MAY_HAVE: u64 = 4096;
 
-// Classes with ids below this have a row whatever the entries are: one of the key 0 alone, where no other
+// Classes with ids below this have a table whatever the entries are: one of the key 0 alone, where no other
 // fits.
-const FEW: usize = 1024;
+const ALWAYS_HAVE: usize = 1024;
 
-// How many counts all rows of a chunk together may have, whatever the number of entries.
-const PLACES: usize = 65_536;
+// How many ordinals all tables of a chunk together may have, whatever the number of entries.
+const ORDINALS: usize = 65_536;
 
 // How many more for each entry.
-const MORE: usize = 4;
+const ORDINALS_PER_ENTRY: usize = 4;
 
 /// The least and the greatest key above 0 of a class.
 #[derive(Clone, Copy)]
@@ -44,85 +44,89 @@ impl KeyRange {
     }
 }
 
-/// For each class with a small id a row. For a class and key it has the number of the entry in force plus
-/// 1, or 0 where there is no entry; a key that the row doesn't have is in the index.
+/// For each class with a small id a direct table. For a class and key it has the number of the entry in force plus
+/// 1, or 0 where there is no entry; a key that the table doesn't have is in the index.
 #[derive(Drop)]
-pub(crate) struct Counts {
-    /// The rows, by the class's id.
-    pub rows: Vec<Row>,
+pub(crate) struct Tables {
+    /// The tables, by the class's id.
+    pub by_class: Vec<Table>,
 }
 
-impl Counts {
+impl Tables {
     ghost use Rattle.std.specs.Prelude.{List};
     ghost use Rattle.jfr_pool.specs.declared.entry.EntryAt.{EntryAt};
-    ghost use Rattle.jfr_pool.specs.Counts.{AreCounts, count_at};
+    ghost use Rattle.jfr_pool.specs.Tables.{AreTables, ordinal_at};
 
-    /// The rows of entries.
-    pub fn of(alloc: Global, entries: &[EntryAt]) -> Result<Counts, NoMemory>
+    /// The tables of entries.
+    pub fn of(alloc: Global, entries: &[EntryAt]) -> Result<Tables, NoMemory>
         requires { length entries.now < 2 ^ 32 }
-        ensures { IfOk result (λ counts. AreCounts counts entries.now) }
+        ensures { IfOk result (λ tables. AreTables tables entries.now) }
     {
         let ranges = key_ranges(alloc, entries)?;
-        let mut counts = Counts::empty(alloc, &ranges, PLACES + MORE * entries.len())?;
+        let mut tables = Tables::empty(
+            alloc,
+            &ranges,
+            ORDINALS + ORDINALS_PER_ENTRY * entries.len(),
+        )?;
         for (number, entry) in entries.iter().enumerate() {
-            counts.put(entry, number);
+            tables.put(entry, number);
         }
-        Ok(counts)
+        Ok(tables)
     }
 
-    /// The count of a class and key; `None` exactly where no row has them.
+    /// The ordinal of a class and key; `None` exactly where no table has them.
     #[inline(always)]
-    pub fn count(&self, class: u64, key: u64) -> Option<u32>
-        ensures { result ≡ count_at self.now.rows.items (class, key) }
+    pub fn ordinal(&self, class: u64, key: u64) -> Option<u32>
+        ensures { result ≡ ordinal_at self.now.by_class.items (class, key) }
     {
-        let Some(row) = self.rows.get(class as usize) else {
+        let Some(table) = self.by_class.get(class as usize) else {
             return None;
         };
-        row.count(key)
+        table.ordinal(key)
     }
 
-    /// The rows of no entries, for the keys of these ranges, as far as `places` counts in all are enough; a
-    /// class for which they aren't has a row for key 0 alone.
-    fn empty(alloc: Global, ranges: &[KeyRange], places: usize) -> Result<Counts, NoMemory>
-        ensures { IfOk result (λ counts. AreCounts counts []) }
+    /// The tables of no entries, for the keys of these ranges, as far as `places` ordinals in all are enough;
+    /// a class for which they aren't has a table for key 0 alone.
+    fn empty(alloc: Global, ranges: &[KeyRange], places: usize) -> Result<Tables, NoMemory>
+        ensures { IfOk result (λ tables. AreTables tables []) }
     {
-        let mut rows = Vec::new(alloc);
+        let mut by_class = Vec::new(alloc);
         let mut left = places;
         for range in ranges {
             let taken = range.places(left);
             left -= taken;
-            rows.push(Row::of(alloc, range.least, taken)?)?;
+            by_class.push(Table::of(alloc, range.least, taken)?)?;
         }
-        Ok(Counts { rows })
+        Ok(Tables { by_class })
     }
 
-    /// Counts in the next entry, which has this number, where a row has its class and key.
+    /// Takes the next entry, which has this number, where a table has its class and key.
     fn put(&mut self, entry: &EntryAt, number: usize)
         requires { number + 1 < 2 ^ 32 }
-        ensures { (es : List EntryAt) → AreCounts self.old es → length es ≡ number → AreCounts self.new (es ++ entry.now ∷ []) }
+        ensures { (es : List EntryAt) → AreTables self.old es → length es ≡ number → AreTables self.new (es ++ entry.now ∷ []) }
     {
         let class = entry.class as usize;
-        if class >= self.rows.len() {
+        if class >= self.by_class.len() {
             return;
         }
-        self.rows[class].put(entry.key, number as u32 + 1);
+        self.by_class[class].put(entry.key, number as u32 + 1);
     }
 }
 
-/// The range of the keys above 0 of each class, by its id: of all ids below `FEW`, and from there up to the
-/// largest id below `ROWS` that an entry has.
+/// The range of the keys above 0 of each class, by its id: of all ids below `ALWAYS_HAVE`, and from there up to the
+/// largest id below `MAY_HAVE` that an entry has.
 fn key_ranges(alloc: Global, entries: &[EntryAt]) -> Result<Vec<KeyRange>, NoMemory> {
-    let mut ranges = vec![in alloc; NO_KEYS; FEW]?;
+    let mut ranges = vec![in alloc; NO_KEYS; ALWAYS_HAVE]?;
     for entry in entries {
-        if entry.class < ROWS {
-            note(&mut ranges, entry.class as usize, entry.key)?;
+        if entry.class < MAY_HAVE {
+            widen(&mut ranges, entry.class as usize, entry.key)?;
         }
     }
     Ok(ranges)
 }
 
 /// Widens the range of a class by a key.
-fn note(ranges: &mut Vec<KeyRange>, class: usize, key: u64) -> Result<(), NoMemory>
+fn widen(ranges: &mut Vec<KeyRange>, class: usize, key: u64) -> Result<(), NoMemory>
     requires { class < 2 ^ 32 }
 {
     if class >= ranges.len() {

@@ -1,5 +1,5 @@
-use Rattle.jfr_pool.proofs.CountLaws.{AreZero}
-use Rattle.jfr_pool.proofs.counts.Counts.empty.Given as goal
+use Rattle.jfr_pool.proofs.TableLaws.{AreZero}
+use Rattle.jfr_pool.proofs.tables.Tables.empty.Given as goal
 
 abbrev pub invariant-loop-range : goal.invariant-loop-range
-invariant-loop-range l = AreZero l.rows.items
+invariant-loop-range l = AreZero l.by_class.items
