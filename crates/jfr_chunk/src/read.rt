@@ -50,10 +50,7 @@ pub(crate) fn record_named(
 ) -> Result<Framed, Flaw>
     ensures { result ≡ found_or flaw (record_there frames.now at type_id) }
 {
-    match frames.find(at, type_id) {
-        Some(record) => Ok(record),
-        None => Err(flaw),
-    }
+    frames.find(at, type_id).ok_or(flaw)
 }
 
 /// Where the fields of the events stand, and to which entries they refer: an index in the memory of an
