@@ -17,7 +17,7 @@ use Rattle.jfr_value.proofs.WalkLaws.{first_of}
 use Rattle.serde_json.specs.Data.{Data, object, no_members}
 use Rattle.serde_json.specs.Written.{compact_text}
 use Rattle.jfr_show.specs.declared.json.order.Lead.{Lead}
-use Rattle.jfr_show.specs.declared.json.order.Order.{Order}
+use Rattle.jfr_show.specs.declared.json.order.MemberOrder.{MemberOrder}
 use Rattle.jfr_show.specs.Json.{json_of, json_of_all, members_with}
 use Rattle.jfr_show.specs.Orders.{IsOrder, IsOrderAt, laid_out, lead_of, nth, starts}
 
@@ -140,7 +140,7 @@ pub record Ordered (k : Classes) (place : ℕ) (ls : List Lead) : Type 0 where
   pub there : slice_get k place ≡ Some class
   pub order : IsOrder class.fields (map lead_of ls)
 
-pub ordered : (k : Classes) (place : ℕ) (o : Order) (ls : List Lead) → IsOrderAt k place o → place < length k → ls ≡ o.leads.items → Ordered k place ls
+pub ordered : (k : Classes) (place : ℕ) (o : MemberOrder) (ls : List Lead) → IsOrderAt k place o → place < length k → ls ≡ o.leads.items → Ordered k place ls
 ordered k place o ls a l q =
     let c = get_within k place l in
     record { class = c.0; there = c.1; order = subst (λ z. IsOrder c.0.fields (map lead_of z)) (sym q) (a c.0 c.1) }

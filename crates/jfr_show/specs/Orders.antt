@@ -7,7 +7,7 @@ use Rattle.serde_json.specs.Written.{comma_if, compact_text, members_text}
 use Rattle.jfr_layout.specs.Classes.{Class, Classes, Field, Sound}
 use Rattle.jfr_value.specs.Values.{Values, Nil, Cons, bytes_of}
 use Rattle.jfr_show.specs.declared.json.order.Lead.{Lead}
-use Rattle.jfr_show.specs.declared.json.order.Order.{Order}
+use Rattle.jfr_show.specs.declared.json.order.MemberOrder.{MemberOrder}
 use Rattle.jfr_show.specs.declared.json.source.Source.{Source}
 use Rattle.jfr_show.specs.Json.{members_with}
 
@@ -32,18 +32,18 @@ abbrev pub lead_of : Lead → List ℕ × ℕ
 lead_of m = (string_bytes m.text, m.field)
 
 -- What it keeps of a class.
-abbrev pub leads_of : Order → List (List ℕ × ℕ)
+abbrev pub leads_of : MemberOrder → List (List ℕ × ℕ)
 leads_of o = map lead_of o.leads.items
 
 -- An order of the class at a place.
-abbrev pub IsOrderAt : Classes → ℕ → Order → Type 0
+abbrev pub IsOrderAt : Classes → ℕ → MemberOrder → Type 0
 IsOrderAt k place o = (c : Class) → slice_get k place ≡ Some c → IsOrder c.fields (leads_of o)
 
 -- Each class of a sound list has its place, and what is kept there is its order.
-pub record AreOrders (k : Classes) (os : List (Option Order)) : Type 0 where
+pub record AreOrders (k : Classes) (os : List (Option MemberOrder)) : Type 0 where
   pub sound : Sound k
   pub count : length os ≡ length k
-  pub each : (place : ℕ) (o : Order) → slice_get os place ≡ Some (Some o) → IsOrderAt k place o
+  pub each : (place : ℕ) (o : MemberOrder) → slice_get os place ≡ Some (Some o) → IsOrderAt k place o
 
 -- A source has an order for each class of its chunk.
 abbrev pub IsSource : Source → Type 0

@@ -2,7 +2,7 @@
 //
 // A line is the compact text of a value of `serde_json`, and no such value is made for it: the parts of an
 // event are walked as for its text, and what `serde_json` would write for them is added to a string. An
-// object has its members in the order of their keys, and a class its fields in another, so `Order` says
+// object has its members in the order of their keys, and a class its fields in another, so `MemberOrder` says
 // for each class of the chunk in which order its fields are written and what stands before each value. It is
 // worked out by `serde_json`'s own map: once a chunk for a class of which no field has a long name, and for
 // another each time that one of its values is written. `places.rt` says where the fields of a value stand, so
@@ -31,7 +31,7 @@ use crate::reference::class_name;
 use jfr_base::{NoMemory, Text};
 use jfr_chunk::{Chunk, Event};
 use jfr_path::fields_of;
-use order::{Order, orders_of};
+use order::{MemberOrder, orders_of};
 use source::Source;
 use std::alloc::Global;
 use std::marker::Model;
@@ -46,7 +46,7 @@ const LINE: usize = 1024;
 pub struct JsonWriter<'c, 'a> {
     alloc: Global,
     chunk: &'c Chunk<'a>,
-    orders: Vec<Option<Order>>,
+    orders: Vec<Option<MemberOrder>>,
 }
 
 impl<'c, 'a> Model for JsonWriter<'c, 'a> {

@@ -9,11 +9,11 @@
 
 mod beginning;
 mod builder;
+mod cache;
 mod counting;
 mod depth;
 mod event;
 mod json;
-mod kept;
 mod leaders;
 mod leaf;
 mod metadata;

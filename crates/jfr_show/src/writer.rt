@@ -1,4 +1,4 @@
-// The text of events of one chunk, with the texts of their references kept.
+// The text of events of one chunk, with a cache of the texts of their references.
 ghost use Rattle.std.specs.Prelude.{◌≡◌, ℕ, ◌+◌, ◌≤◌, ◌<◌, ◌-◌, ◌++◌, length, false, Some, IfOk, OnOk, slice_get};
 ghost use Rattle.std.specs.List.{AllByRecursion};
 ghost use Rattle.jfr_layout.specs.Classes.{Class};
@@ -9,12 +9,12 @@ ghost use Rattle.jfr_value.specs.Walks.{IsLayoutIfKnown, Room};
 ghost use Rattle.jfr_chunk.specs.Parts.{events_of};
 ghost use Rattle.jfr_chunk.specs.Seen.{event_at};
 ghost use Rattle.jfr_show.specs.Depths.{deepest};
-ghost use Rattle.jfr_show.specs.Kept.{AreKept};
+ghost use Rattle.jfr_show.specs.Cache.{AreCached};
 ghost use Rattle.jfr_show.specs.Shown.{event_shown, fields_shown, node_shown, referred, shown, shown_all};
 
 use crate::TextBuilder;
+use crate::cache::TextCache;
 use crate::depth::Depth;
-use crate::kept::KeptTexts;
 use crate::reading::integer_at;
 use crate::value::{show_node, show_value};
 use jfr_base::NoMemory;
@@ -29,14 +29,14 @@ use std::marker::Model;
 #[derive(Drop)]
 pub struct TextWriter<'c, 'a> {
     chunk: &'c Chunk<'a>,
-    kept: KeptTexts,
+    cache: TextCache,
 }
 
 impl<'c, 'a> Model for TextWriter<'c, 'a> {
     ghost use Rattle.std.specs.Coded.{codes};
     ghost use Rattle.jfr_meta.specs.Trees.{tree_code};
     ghost use Rattle.jfr_chunk.specs.Parts.{Parts};
-    ghost use Rattle.jfr_show.specs.Kept.{AreKept};
+    ghost use Rattle.jfr_show.specs.Cache.{AreCached};
 
     ghost Value = { Parts };
 
@@ -44,7 +44,7 @@ impl<'c, 'a> Model for TextWriter<'c, 'a> {
 
     ghost view = { λ w. w.chunk.now };
 
-    ghost invariant = { λ w. AreKept w.chunk.now w.kept };
+    ghost invariant = { λ w. AreCached w.chunk.now w.cache };
 }
 
 impl<'c, 'a> TextWriter<'c, 'a> {
@@ -52,8 +52,8 @@ impl<'c, 'a> TextWriter<'c, 'a> {
     pub fn new(alloc: Global, chunk: &'c Chunk<'a>) -> Result<TextWriter<'c, 'a>, NoMemory>
         ensures chunk { IfOk result (λ writer. writer ≡ chunk.now) }
     {
-        let kept = KeptTexts::new(alloc)?;
-        Ok(TextWriter { chunk, kept })
+        let cache = TextCache::new(alloc)?;
+        Ok(TextWriter { chunk, cache })
     }
 
     /// Adds the text of an event, in which references are followed so many deep.
@@ -71,7 +71,7 @@ impl<'c, 'a> TextWriter<'c, 'a> {
         let node = fields_of(self.chunk, event);
         show_event_node(
             self.chunk,
-            &mut self.kept,
+            &mut self.cache,
             &node,
             Depth::of_event(depth),
             out,
@@ -83,25 +83,25 @@ impl<'c, 'a> TextWriter<'c, 'a> {
 /// Adds the value of a node of the chunk, as `show_node` does.
 fn show_event_node(
     chunk: &Chunk<'_>,
-    kept: &mut KeptTexts,
+    cache: &mut TextCache,
     node: &Node<'_>,
     depth: Depth,
     out: &mut TextBuilder,
 ) -> Result<(), NoMemory>
-    requires kept { AreKept chunk.now kept.old }
+    requires cached { AreCached chunk.now cache.old }
     requires of_chunk { node.now.bytes.now ≡ chunk.now.bytes }
     requires value { IsValue chunk.now.classes node.now }
     requires composites { depth.reach.composites ≡ 33 }
     requires level { deepest depth node.now.shape.array ≤ 1000 }
     ensures ok { OnOk result (out.new ≡ out.old ++ node_shown chunk.now (referred chunk.now depth.reach.references) depth.level (node_of node.now)) }
-    ensures kept { AreKept chunk.now kept.new }
+    ensures cached { AreCached chunk.now cache.new }
 {
     let layout = layout_of(chunk.classes(), node.shape);
     match layout.form {
         Form::Fields => {
             let _end = show_fields(
                 chunk,
-                kept,
+                cache,
                 layout.class_index,
                 node.at,
                 node.end,
@@ -117,14 +117,14 @@ fn show_event_node(
 /// Adds a value of the class at a place, and says where it ends.
 fn show_fields(
     chunk: &Chunk<'_>,
-    kept: &mut KeptTexts,
+    cache: &mut TextCache,
     place: usize,
     at: usize,
     limit: usize,
     depth: Depth,
     out: &mut TextBuilder,
 ) -> Result<usize, NoMemory>
-    requires kept { AreKept chunk.now kept.old }
+    requires cached { AreCached chunk.now cache.old }
     requires within { limit ≤ length chunk.now.bytes }
     requires placed { place < length chunk.now.classes }
     requires inner { 1 ≤ depth.reach.composites }
@@ -134,7 +134,7 @@ fn show_fields(
     requires level { deepest depth false ≤ 1000 }
     ensures ok { IfOk result (λ end. (to : ℕ) (vs : Values) (class : Class) → IsRow chunk.now.classes chunk.now.bytes at to (field_shapes chunk.now.classes place) vs → to ≤ limit
         → slice_get chunk.now.classes place ≡ Some class → (end ≡ to) × (out.new ≡ out.old ++ fields_shown depth.level class (shown_all chunk.now.classes (referred chunk.now depth.reach.references) (depth.level + 1) vs))) }
-    ensures kept { AreKept chunk.now kept.new }
+    ensures cached { AreCached chunk.now cache.new }
 {
     let classes = chunk.classes();
     let info = classes.class_at(place);
@@ -147,7 +147,7 @@ fn show_fields(
         out.push_indent(inner.level)?;
         out.push_str(info.fields.at(number).name.as_str())?;
         out.push_ascii(" = ")?;
-        to = show_field(chunk, kept, layout, to, limit, inner, out)?;
+        to = show_field(chunk, cache, layout, to, limit, inner, out)?;
         out.push_ascii("\n")?;
         number += 1;
     }
@@ -160,14 +160,14 @@ fn show_fields(
 /// it ends.
 fn show_field(
     chunk: &Chunk<'_>,
-    kept: &mut KeptTexts,
+    cache: &mut TextCache,
     layout: &FieldLayout,
     at: usize,
     limit: usize,
     depth: Depth,
     out: &mut TextBuilder,
 ) -> Result<usize, NoMemory>
-    requires kept { AreKept chunk.now kept.old }
+    requires cached { AreCached chunk.now cache.old }
     requires within { limit ≤ length chunk.now.bytes }
     requires layout { IsLayoutIfKnown chunk.now.classes layout.now }
     requires room { Room chunk.now.classes depth.reach.composites layout.now.shape }
@@ -176,12 +176,12 @@ fn show_field(
     requires level { deepest depth layout.now.shape.array ≤ 1000 }
     ensures ok { IfOk result (λ end. (to : ℕ) (v : Value) → IsNode chunk.now.classes chunk.now.bytes (node_at layout.now.shape at to) v → to ≤ limit
         → (end ≡ to) × (out.new ≡ out.old ++ shown chunk.now.classes (referred chunk.now depth.reach.references) depth.level v)) }
-    ensures kept { AreKept chunk.now kept.new }
+    ensures cached { AreCached chunk.now cache.new }
 {
     match layout.form {
         Form::Key => {
             let key = integer_at(chunk, at, limit);
-            kept.show(chunk, layout.shape.class, key.value, depth, out)?;
+            cache.show(chunk, layout.shape.class, key.value, depth, out)?;
             Ok(key.end)
         }
         _ => show_value(chunk, layout, at, limit, depth, out),

@@ -24,14 +24,17 @@ pub(crate) struct Lead {
 
 /// The members of the objects of a class, in the order of their keys.
 #[derive(Drop)]
-pub(crate) struct Order {
+pub(crate) struct MemberOrder {
     pub(crate) leads: Vec<Lead>,
 }
 
 /// The orders of the classes, each at the place of its class; `None` where a field has a long name. Any number
 /// of classes can share one such name without a copy, so their orders are made as their objects are written:
 /// then what is kept of a field is bounded.
-pub(crate) fn orders_of(alloc: Global, classes: &Classes) -> Result<Vec<Option<Order>>, NoMemory>
+pub(crate) fn orders_of(
+    alloc: Global,
+    classes: &Classes,
+) -> Result<Vec<Option<MemberOrder>>, NoMemory>
     ensures ok { IfOk result (λ orders. AreOrders classes.now orders.items) }
 {
     let mut orders = Vec::new(alloc);
@@ -42,7 +45,7 @@ pub(crate) fn orders_of(alloc: Global, classes: &Classes) -> Result<Vec<Option<O
 }
 
 /// The order of the fields of a class; `None` where one has a long name.
-fn short_order(alloc: Global, fields: &Fields) -> Result<Option<Order>, NoMemory>
+fn short_order(alloc: Global, fields: &Fields) -> Result<Option<MemberOrder>, NoMemory>
     ensures ok { IfOk result (λ order. IfSome order (λ o. IsOrder fields.now (leads_of o))) }
 {
     for number in 0..fields.len() {
@@ -54,7 +57,7 @@ fn short_order(alloc: Global, fields: &Fields) -> Result<Option<Order>, NoMemory
 }
 
 /// The order of the fields of a class: that in which `serde_json`'s map has them.
-pub(crate) fn order_of(alloc: Global, fields: &Fields) -> Result<Order, NoMemory>
+pub(crate) fn order_of(alloc: Global, fields: &Fields) -> Result<MemberOrder, NoMemory>
     ensures ok { IfOk result (λ order. IsOrder fields.now (leads_of order)) }
 {
     let members = numbered(alloc, fields)?;
@@ -67,7 +70,7 @@ pub(crate) fn order_of(alloc: Global, fields: &Fields) -> Result<Order, NoMemory
         })?;
         later = true;
     }
-    Ok(Order { leads })
+    Ok(MemberOrder { leads })
 }
 
 /// A member for each field: its number, under its name.

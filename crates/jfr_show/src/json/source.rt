@@ -1,5 +1,5 @@
 // What the JSON of events is made from.
-use crate::json::order::Order;
+use crate::json::order::MemberOrder;
 use jfr_chunk::Chunk;
 use std::alloc::Global;
 
@@ -8,5 +8,5 @@ use std::alloc::Global;
 pub(crate) struct Source<'c, 'a> {
     pub(crate) alloc: Global,
     pub(crate) chunk: &'c Chunk<'a>,
-    pub(crate) orders: &'c [Option<Order>],
+    pub(crate) orders: &'c [Option<MemberOrder>],
 }

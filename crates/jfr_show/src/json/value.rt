@@ -12,7 +12,7 @@ ghost use Rattle.jfr_show.specs.Json.{json_of, json_of_all, members_with, node_j
 ghost use Rattle.jfr_show.specs.Orders.{IsOrderAt, IsSource};
 
 use super::leaf::{push_integer, push_raw, push_text};
-use super::order::{Order, order_of};
+use super::order::{MemberOrder, order_of};
 use super::places::field_places;
 use super::reference::{push_missing, push_reference};
 use super::source::Source;
@@ -131,7 +131,7 @@ fn push_fields(
 #[cycle(json)]
 fn push_members(
     source: &Source<'_, '_>,
-    order: &Order,
+    order: &MemberOrder,
     place: usize,
     at: usize,
     limit: usize,

@@ -49,7 +49,7 @@ loop-layout-preserved c =
     let f = field_of c.args.chunk.now.classes c.args.place c.loop-layout.layout-index c.layouts-layout-items.result.now c.requires.placed layouts c.loop-layout-test.true in
     let x = field_next c.args.chunk.now.classes c.args.place c.loop-layout.layout-index f.field layout.shape f.there f.shape in
     record {
-      kept = c.in_ok-to.ensures.kept;
+      cached = c.in_ok-to.ensures.cached;
       number = ap (λ z. z + 1) c.loop-layout.invariant.number;
       left = λ to vs class r l q.
           let own : c.class_at-info.result.now ≡ class = (let z : Some c.class_at-info.result.now ≡ Some class = sym there ∙ q in cc) in

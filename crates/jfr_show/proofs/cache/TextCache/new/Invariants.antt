@@ -1,8 +1,8 @@
 use Rattle.std.specs.Prelude.{IfSome}
 use Rattle.std.specs.List.{AllByRecursion}
 use Rattle.jfr_chunk.specs.Parts.{Parts}
-use Rattle.jfr_show.specs.Kept.{IsKept}
-use Rattle.jfr_show.proofs.kept.KeptTexts.new.Given as goal
+use Rattle.jfr_show.specs.Cache.{IsCached}
+use Rattle.jfr_show.proofs.cache.TextCache.new.Given as goal
 
 abbrev pub invariant-loop : goal.invariant-loop
-invariant-loop l = (p : Parts) → AllByRecursion (λ o. IfSome o (IsKept p)) l.places.items
+invariant-loop l = (p : Parts) → AllByRecursion (λ o. IfSome o (IsCached p)) l.places.items

@@ -1,11 +1,11 @@
 use Rattle.std.proofs.Common.{◌≡◌, ℕ, length}
 use Rattle.std.specs.Prelude.{slice_get, Some}
-use Rattle.jfr_show.specs.declared.json.order.Order.{Order}
+use Rattle.jfr_show.specs.declared.json.order.MemberOrder.{MemberOrder}
 use Rattle.jfr_show.specs.Orders.{IsOrderAt}
 use Rattle.jfr_show.proofs.json.order.orders_of.Given as goal
 
 abbrev pub invariant-loop-place : goal.invariant-loop-place
 invariant-loop-place l = record {
   count : length l.orders.items ≡ l.place;
-  each : (place : ℕ) (o : Order) → slice_get l.orders.items place ≡ Some (Some o) → IsOrderAt l.classes place o;
+  each : (place : ℕ) (o : MemberOrder) → slice_get l.orders.items place ≡ Some (Some o) → IsOrderAt l.classes place o;
 }
