@@ -11,16 +11,13 @@ mod stream_sink;
 mod tests;
 
 use file_place::FilePlace;
-use jfr_cli::run;
+use jfr_cli::{NO_MEMORY, run};
 use jfr_outside::Words;
 use std::alloc::{AllocGlobal, Global};
 use std::env::Env;
 use std::process::ExitCode;
 use std::{env, io};
 use stream_sink::StreamSink;
-
-/// The status of want of memory.
-const NO_MEMORY: u8 = 5;
 
 // The words after the program's name.
 fn words_of<R: Env + AllocGlobal>(rt: &R, alloc: Global) -> io::Result<Words> {

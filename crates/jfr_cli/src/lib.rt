@@ -9,4 +9,5 @@ mod say;
 mod top;
 
 pub use jfr_words::{Order, WordsFault, read_words};
+pub use say::NO_MEMORY;
 pub use top::run;

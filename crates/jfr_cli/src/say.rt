@@ -7,6 +7,24 @@ use jfr_header::Ending;
 use jfr_outside::{Fault, Sink};
 use std::alloc::{AllocError, Global};
 
+/// The status of words that are no order.
+const USAGE: u8 = 1;
+
+/// The status of a refused recording.
+const REFUSED: u8 = 2;
+
+/// The status of a read that failed.
+const READ_FAULT: u8 = 3;
+
+/// The status of a write that failed.
+const WRITE_FAULT: u8 = 4;
+
+/// The status where memory is wanting.
+pub const NO_MEMORY: u8 = 5;
+
+/// The status of a recording that `disassemble` would cut into more parts than it may write.
+const TOO_MANY_PARTS: u8 = 6;
+
 /// Writes the line of the usage, and answers its status.
 pub fn say_usage<E: Sink>(err: &mut E) -> u8
     ensures { IsAnswered 1 (Some usage_line) result (E.state err.old) (E.state err.new) }
@@ -14,7 +32,7 @@ pub fn say_usage<E: Sink>(err: &mut E) -> u8
     say_line(
         err,
         "usage: jfr print|summary|metadata|scrub|disassemble|assemble|sample\n",
-        1,
+        USAGE,
     )
 }
 
@@ -25,13 +43,13 @@ pub fn say_ending<E: Sink>(alloc: Global, err: &mut E, ending: Ending) -> u8
     match ending {
         Ending::Done => 0,
         Ending::Refused(refusal) => match refusal_text(alloc, &refusal) {
-            Ok(line) => say_line(err, line.as_str(), 2),
-            Err(_) => say_line(err, "out of memory\n", 5),
+            Ok(line) => say_line(err, line.as_str(), REFUSED),
+            Err(_) => say_line(err, "out of memory\n", NO_MEMORY),
         },
-        Ending::ReadFault => say_line(err, "read fault\n", 3),
-        Ending::WriteFault => say_line(err, "write fault\n", 4),
-        Ending::Memory => say_line(err, "out of memory\n", 5),
-        Ending::TooManyParts => say_line(err, "too many parts\n", 6),
+        Ending::ReadFault => say_line(err, "read fault\n", READ_FAULT),
+        Ending::WriteFault => say_line(err, "write fault\n", WRITE_FAULT),
+        Ending::Memory => say_line(err, "out of memory\n", NO_MEMORY),
+        Ending::TooManyParts => say_line(err, "too many parts\n", TOO_MANY_PARTS),
     }
 }
 
@@ -43,13 +61,13 @@ fn refusal_text(alloc: Global, refusal: &Refusal) -> Result<String, AllocError>
     format!(in alloc; "chunk {chunk} offset {offset}: {name}\n")
 }
 
-// Writes a line. A failed write changes no status; where memory is wanting, the status is 5.
+// Writes a line. A failed write changes no status; where memory is wanting, the status is `NO_MEMORY`.
 fn say_line<E: Sink>(err: &mut E, line: &str, status: u8) -> u8
     ensures { IsAnswered status (Some line.now) result (E.state err.old) (E.state err.new) }
 {
     match err.write(line.as_bytes()) {
         Ok(()) => status,
         Err(Fault::Failed) => status,
-        Err(Fault::Memory) => 5,
+        Err(Fault::Memory) => NO_MEMORY,
     }
 }

@@ -1,5 +1,5 @@
 -- The kept events, one after another.
-use Rattle.std.proofs.Common.{◌≡◌, ℕ, zero, suc, ◌+◌, ◌∙◌, refl, sym, ap, Bool, true, false, List, [], ◌∷◌, drop, Option, None, Some, slice_get, ◌<◌, ◌≤◌, length, arith}
+use Rattle.std.proofs.Common.{◌≡◌, ℕ, zero, suc, ◌+◌, ◌∙◌, refl, sym, ap, Bool, true, false, List, [], ◌∷◌, drop, None, Some, slice_get, ◌<◌, ◌≤◌, length, arith}
 use Rattle.std.proofs.Math.ListN.{drop_of_length-le}
 use Rattle.std.specs.Prelude.{unwrap_or}
 use Rattle.jfr_chunk.specs.Reach.{marked}

@@ -13,10 +13,7 @@ use Rattle.std.proofs.lemmas.Str.{encodes-append, encodes-chars}
 use Rattle.jfr_outside.specs.World.{LeavesPrefix, added}
 use Rattle.jfr_outside.specs.Counts.{Counts}
 use Rattle.jfr_outside.specs.declared.fault.Fault.{Fault}
-use Rattle.jfr_outside.specs.declared.fault.Fault.TheVariants as faults
-use Rattle.jfr_base.specs.declared.memory.NoMemory.{NoMemory}
 use Rattle.jfr_header.specs.declared.ending.Ending.{Ending}
-use Rattle.jfr_header.specs.Endings.{after_write}
 use Rattle.jfr_plan.proofs.Failing.{Passes, passed}
 use Rattle.jfr_value.specs.Nodes.{NodeAt}
 use Rattle.jfr_chunk.specs.Parts.{Parts}
@@ -157,13 +154,22 @@ pub page_torn : (all : List (List ℕ)) (before now next : Option (List ℕ)) (g
 page_torn all before now next g bytes rest e some w i = tears all before now next g rest w.0 some (w.1 ∙ ap (λ z. option_map (added (take w.0 z)) now) e) i
 
 -- The page could not be written.
-pub page_failed : (all : List (List ℕ)) (before now next : Option (List ℕ)) (g bytes : List ℕ) (rest : List (List ℕ)) (fault : Fault) (y : Ending) → y ≡ after_write fault → bytes ≡ g → (g ≡ [] → ⊥) → LeavesPrefix {T = Unit {0}} (Err fault) now next bytes added → IsGathered all before now g rest → TextLeaves all (Err y) before next
-page_failed all before now next g bytes rest faults.Failed y is e some w i = rw is (page_torn all before now next g bytes rest e some w i)
-page_failed all before now next g bytes rest faults.Memory y is e some w i = rw is (rw w (some_written all before now g rest i))
+pub page_failed : (all : List (List ℕ)) (before now next : Option (List ℕ)) (g bytes : List ℕ) (rest : List (List ℕ)) (r : Result (Unit {0}) Fault) (z : Result (Unit {0}) Ending) (y : Ending) → Passes r z → z ≡ Err y → bytes ≡ g → (g ≡ [] → ⊥) → LeavesPrefix r now next bytes added → IsGathered all before now g rest → TextLeaves all (Err y) before next
+page_failed all before now next g bytes rest r z y h q e some w i =
+    passed (λ s. s ≡ Err y → TextLeaves all (Err y) before next) r z h
+    (λ x p k. cc)
+    (λ p k. subst (λ (s : Result (Unit {0}) Ending). TextLeaves all s before next) k (page_torn all before now next g bytes rest e some (rw p at w) i))
+    (λ p k. subst (λ (s : Result (Unit {0}) Ending). TextLeaves all s before next) k (let same : next ≡ now = rw p at w in rw same (some_written all before now g rest i)))
+    q
 
-pub page_counted : (fault : Fault) (y : Ending) (before now : ℕ) → y ≡ after_write fault → Counts {T = Unit {0}} (Err fault) before now → TextCounted (Err y) before now
-page_counted faults.Failed y before now is c = rw is c
-page_counted faults.Memory y before now is c = rw is c
+-- The page was written.
+pub page_passed : (now next : Option (List ℕ)) (bytes : List ℕ) (r : Result (Unit {0}) Fault) (z : Result (Unit {0}) Ending) (y : Unit {0}) → Passes r z → z ≡ Ok y → LeavesPrefix r now next bytes added → next ≡ option_map (added bytes) now
+page_passed now next bytes r z y h q w =
+    passed (λ s. s ≡ Ok y → next ≡ option_map (added bytes) now) r z h
+    (λ x p k. rw p at w)
+    (λ p k. cc)
+    (λ p k. cc)
+    q
 
 -- One text is written, as its write answers.
 pub text_leaves : (text : List ℕ) (before now : Option (List ℕ)) (r : Result (Unit {0}) Fault) (z : Result (Unit {0}) Ending) → Passes r z → LeavesPrefix r before now text added → TextLeaves (text ∷ []) z before now

@@ -1,5 +1,5 @@
 -- Texts on a sink are effects of a plan.
-use Rattle.std.proofs.Common.{◌≡◌, ℕ, ◌∙◌, refl, sym, ap, subst, Bool, List, [], ◌∷◌, ◌++◌, take, map, Option, None, Some, option_map, append_assoc, append-nil, IsTrue, Result, Ok, Err}
+use Rattle.std.proofs.Common.{◌≡◌, ℕ, ◌∙◌, refl, sym, ap, subst, Bool, List, [], ◌∷◌, ◌++◌, take, Option, None, Some, option_map, append-nil, Result, Ok, Err}
 use Rattle.std.specs.List.{concat}
 use Rattle.jfr_outside.specs.World.{World, State, SinkState, Told, added}
 use Rattle.jfr_header.specs.declared.ending.Ending.{Ending}
@@ -10,11 +10,10 @@ use Rattle.jfr_plan.specs.Walks as walks
 use Rattle.jfr_plan.specs.Walks.{Goes, Text}
 use Rattle.jfr_plan.specs.Outcomes.{SomeDone, Breaks, Tallied}
 use Rattle.jfr_plan.specs.Parts.{PartStands, PartTold, PartTallied}
-use Rattle.jfr_plan.proofs.Walking.{done_append}
 use Rattle.jfr_chunk.specs.Parts.{Parts}
 use Rattle.jfr_chunk.specs.Refusal.{read_parts}
 use Rattle.jfr_report.specs.Reports.{writes, asks_texts}
-use Rattle.jfr_report.specs.Gathered.{Grew, TearsText, WritesSome, TextLeaves, TextCounted}
+use Rattle.jfr_report.specs.Gathered.{TearsText, WritesSome, TextLeaves, TextCounted}
 use Rattle.jfr_report.proofs.PageLaws.{grew_on}
 
 -- To write texts is to write all their bytes.

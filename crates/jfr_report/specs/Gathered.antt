@@ -1,5 +1,5 @@
 -- Texts that are gathered, and written several at a time.
-use Rattle.std.specs.Prelude.{◌≡◌, ℕ, List, [], ◌∷◌, ◌++◌, take, Option, option_map, Result, Ok, Err}
+use Rattle.std.specs.Prelude.{◌≡◌, ℕ, List, ◌∷◌, ◌++◌, take, Option, option_map, Result, Ok, Err}
 use Rattle.std.specs.List.{concat}
 use Rattle.jfr_header.specs.declared.ending.Ending.{Ending}
 use Rattle.jfr_header.specs.declared.ending.Ending.TheVariants.{Done, Refused, ReadFault, WriteFault, TooManyParts, Memory}

@@ -13,7 +13,7 @@ use crate::pages::write_text;
 use crate::report::{Report, report_stream};
 use jfr_chunk::Chunk;
 use jfr_header::Ending;
-use jfr_outside::{NoMemory, Place, Sink};
+use jfr_outside::{Place, Sink};
 use jfr_show::{TextBuilder, show_metadata};
 use std::alloc::Global;
 
@@ -41,10 +41,8 @@ impl Report for Describing {
         number: u64,
     ) -> Result<(), Ending> {
         self.text.clear();
-        match show_metadata(chunk, number, &mut self.text) {
-            Ok(()) => write_text(out, self.text.as_bytes()),
-            Err(NoMemory) => Err(Ending::Memory),
-        }
+        show_metadata(chunk, number, &mut self.text)?;
+        write_text(out, self.text.as_bytes())
     }
 
     fn end<O: Sink>(&self, _alloc: Global, _out: &mut O) -> Result<(), Ending> {

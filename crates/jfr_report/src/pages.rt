@@ -34,10 +34,7 @@ pub(crate) fn write_page<O: Sink>(out: &mut O, page: &mut TextBuilder) -> Result
     if page.as_bytes().is_empty() {
         return Ok(());
     }
-    match out.write(page.as_bytes()) {
-        Ok(()) => {}
-        Err(fault) => return Err(Ending::of_write(fault)),
-    }
+    out.write(page.as_bytes()).map_err(Ending::of_write)?;
     page.clear();
     Ok(())
 }

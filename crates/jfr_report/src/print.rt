@@ -80,10 +80,8 @@ impl Report for Printing<'_> {
         chunk: &Chunk<'_>,
         _number: u64,
     ) -> Result<(), Ending> {
-        match choose(alloc, chunk, self.filter) {
-            Ok(kept) => print_kept(alloc, out, &mut self.page, chunk, &kept, self.style),
-            Err(NoMemory) => Err(Ending::Memory),
-        }
+        let kept = choose(alloc, chunk, self.filter)?;
+        print_kept(alloc, out, &mut self.page, chunk, &kept, self.style)
     }
 
     fn end<O: Sink>(&self, _alloc: Global, _out: &mut O) -> Result<(), Ending> {
@@ -103,10 +101,8 @@ fn print_kept<O: Sink>(
     ensures texts { TextLeaves (events_bytes style.json style.depth chunk.now (kept_by chunk.now kept.now)) result (O.state out.old).written (O.state out.new).written }
     ensures faults { TextCounted result (O.state out.old).faults (O.state out.new).faults }
 {
-    match writer_of(alloc, chunk, style.json) {
-        Ok(mut writer) => print_events(out, page, chunk, kept, style, &mut writer),
-        Err(NoMemory) => Err(Ending::Memory),
-    }
+    let mut writer = writer_of(alloc, chunk, style.json)?;
+    print_events(out, page, chunk, kept, style, &mut writer)
 }
 
 /// Shows the kept events of a chunk, with what writes them.
@@ -191,10 +187,8 @@ fn print_event<O: Sink>(
     ensures faults { TextCounted result (O.state out.old).faults (O.state out.new).faults }
     ensures same { writer.new ≡ writer.old }
 {
-    match writer.show(event, style.depth, page) {
-        Ok(()) => write_full_page(out, page),
-        Err(NoMemory) => Err(Ending::Memory),
-    }
+    writer.show(event, style.depth, page)?;
+    write_full_page(out, page)
 }
 
 /// Writes the events of a recording that the filter keeps, with references followed so many deep, as text

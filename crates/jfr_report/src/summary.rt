@@ -13,7 +13,7 @@ use crate::pages::write_text;
 use crate::report::{Report, report_stream};
 use jfr_chunk::Chunk;
 use jfr_header::Ending;
-use jfr_outside::{NoMemory, Place, Sink};
+use jfr_outside::{Place, Sink};
 use jfr_show::{Summary, summary_text};
 use std::alloc::Global;
 
@@ -47,17 +47,13 @@ impl Report for Summing {
         if self.summary.chunks() >= TOO_MANY {
             return Err(Ending::Memory);
         }
-        match self.summary.add(chunk) {
-            Ok(()) => Ok(()),
-            Err(NoMemory) => Err(Ending::Memory),
-        }
+        self.summary.add(chunk)?;
+        Ok(())
     }
 
     fn end<O: Sink>(&self, alloc: Global, out: &mut O) -> Result<(), Ending> {
-        match summary_text(alloc, &self.summary) {
-            Ok(text) => write_text(out, text.as_str().as_bytes()),
-            Err(NoMemory) => Err(Ending::Memory),
-        }
+        let text = summary_text(alloc, &self.summary)?;
+        write_text(out, text.as_str().as_bytes())
     }
 }
 

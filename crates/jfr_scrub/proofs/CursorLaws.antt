@@ -20,7 +20,7 @@ use Rattle.jfr_laws.proofs.Marks.{all_marked}
 use Rattle.jfr_laws.proofs.Order.{Numbered, numbered_at, output_records_in, chained_of}
 use Rattle.jfr_laws.proofs.Premises.{all_links, ready}
 use Rattle.jfr_scrub.specs.declared.output_records.Cursor.{Cursor}
-use Rattle.jfr_scrub.specs.declared.output_records.KeptRecord.{KeptRecord}
+use Rattle.jfr_scrub.specs.declared.output_records.OutputRecord as told
 use Rattle.jfr_scrub.specs.OutputRecords.{output_record_as, events_from, event_there, link_there, IsCursor, still_output_records, is_kept_at, event_behind, linked_at, link_behind}
 use Rattle.jfr_scrub.proofs.OutputRecordLaws.{Rises, rises_given, rises_marked, Stands, at_head, past_head, elsewhere, found_place, any_found, Occurs, AllOccur, in_order}
 
@@ -205,7 +205,7 @@ output_records_at p flags c r e = ap (filter_map (output_record_of p (kept_by p 
 pub output_records_none : (p : Parts) (flags : List Bool) (c : Cursor) → length p.records ≤ c.frame → still_output_records p flags c ≡ []
 output_records_none p flags c h = ap (filter_map (output_record_of p (kept_by p flags))) (drop_all c.frame p.records h)
 
-pub output_record_next : (p : Parts) (flags : List Bool) (c d : Cursor) (frames : List Framed) (at : ℕ) (o : Option KeptRecord) → frames ≡ p.records → option_map (λ r. r.at) (slice_get frames c.frame) ≡ Some at → d.frame ≡ c.frame + 1 →
+pub output_record_next : (p : Parts) (flags : List Bool) (c d : Cursor) (frames : List Framed) (at : ℕ) (o : Option told.OutputRecord) → frames ≡ p.records → option_map (λ r. r.at) (slice_get frames c.frame) ≡ Some at → d.frame ≡ c.frame + 1 →
     IfSome (slice_get p.records c.frame) (λ r. option_map output_record_as o ≡ output_record_of p (kept_by p flags) r) → still_output_records p flags c ≡ cons_option (option_map output_record_as o) (still_output_records p flags d)
 output_record_next p flags c d frames at o e h f g = by_record (slice_get p.records c.frame) refl (ap (λ rs. option_map (λ r. r.at) (slice_get rs c.frame)) (sym e) ∙ h) g
   where
@@ -213,11 +213,11 @@ output_record_next p flags c d frames at o e h f g = by_record (slice_get p.reco
     by_record None e h g = cc
     by_record (Some r) e h g = output_records_at p flags c r e ∙ (λ i. cons_option (sym g i) (filter_map (output_record_of p (kept_by p flags)) (drop (sym f i) p.records)))
 
-pub told_some : (before rest : List OutputRecord) (o : Option KeptRecord) → before ≡ cons_option (option_map output_record_as o) rest → is_some o ≡ true → MatchOption o (before ≡ []) (λ s. before ≡ output_record_as s ∷ rest)
+pub told_some : (before rest : List OutputRecord) (o : Option told.OutputRecord) → before ≡ cons_option (option_map output_record_as o) rest → is_some o ≡ true → MatchOption o (before ≡ []) (λ s. before ≡ output_record_as s ∷ rest)
 told_some before rest None e h = cc
 told_some before rest (Some s) e h = e
 
-pub told_none : (before rest : List OutputRecord) (o : Option KeptRecord) → before ≡ cons_option (option_map output_record_as o) rest → is_some o ≡ false → before ≡ rest
+pub told_none : (before rest : List OutputRecord) (o : Option told.OutputRecord) → before ≡ cons_option (option_map output_record_as o) rest → is_some o ≡ false → before ≡ rest
 told_none before rest None e h = e
 told_none before rest (Some s) e h = cc
 

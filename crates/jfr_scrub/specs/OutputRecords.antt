@@ -7,14 +7,14 @@ use Rattle.jfr_pool.specs.declared.link.Link.{Link}
 use Rattle.jfr_chunk.specs.Parts.{Parts, EventAt, AreParts, event_of, event_records, events_of}
 use Rattle.jfr_chunk.specs.Reach.{marked, kept_by}
 use Rattle.jfr_chunk.specs.Scrub.{OutputRecord, Whole, Chained, output_record_of}
-use Rattle.jfr_scrub.specs.declared.output_records.KeptRecord.{KeptRecord}
-use Rattle.jfr_scrub.specs.declared.output_records.KeptRecord.TheVariants as kept_records
+use Rattle.jfr_scrub.specs.declared.output_records.OutputRecord as told
+use Rattle.jfr_scrub.specs.declared.output_records.OutputRecord.TheVariants as told_records
 use Rattle.jfr_scrub.specs.declared.output_records.Cursor.{Cursor}
 
 -- The output record that a value of the code's own enum stands for.
-abbrev pub output_record_as : KeptRecord → OutputRecord
-output_record_as (kept_records.Whole r) = Whole r
-output_record_as (kept_records.Chained number l) = Chained number l
+abbrev pub output_record_as : told.OutputRecord → OutputRecord
+output_record_as (told_records.Whole r) = Whole r
+output_record_as (told_records.Chained number l) = Chained number l
 
 -- The events of some of the records.
 abbrev pub events_from : Parts → List Framed → List EventAt

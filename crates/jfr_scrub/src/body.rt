@@ -13,7 +13,7 @@ ghost use Rattle.jfr_scrub.specs.OutputRecords.{output_record_as};
 
 use crate::checkpoint::lay_checkpoint;
 use crate::output::Output;
-use crate::output_records::{Cursor, KeptRecord, next_output_record};
+use crate::output_records::{Cursor, OutputRecord, next_output_record};
 use crate::run::{Run, pass_run};
 use jfr_chunk::{Chunk, Kept};
 use jfr_outside::NoMemory;
@@ -86,7 +86,7 @@ fn lay_record(
     body: &mut Body,
     left: &[EntryAt],
     metadata: u64,
-    output_record: KeptRecord,
+    output_record: OutputRecord,
 ) -> Result<(), NoMemory>
     requires fits { OutputRecordFits body.old.output.chunk left.now (output_record_as output_record) body.old.at body.old.older }
     requires order { NotFalling 0 left.now }
@@ -100,12 +100,12 @@ fn lay_record(
 {
     let at = body.at;
     match output_record {
-        KeptRecord::Whole(frame) => {
+        OutputRecord::Whole(frame) => {
             body.metadata = seen(body.metadata, frame.at as u64 == metadata, at);
             body.output.copy(frame.at, frame.end())?;
             body.at = at + frame.size;
         }
-        KeptRecord::Chained(number, link) => {
+        OutputRecord::Chained(number, link) => {
             body.metadata = seen(body.metadata, link.frame.at as u64 == metadata, at);
             let delta = delta_to(body.older, at);
             let size = lay_checkpoint(&mut body.output, &link, delta, entries_of(left, number))?;

@@ -12,7 +12,7 @@ use jfr_pool::{Chain, Link};
 /// What is written of a record: the whole of it, or, of a chained checkpoint, the pools that have an entry
 /// left. Checkpoints are numbered in the order of the file.
 #[derive(Clone, Copy, Debug)]
-pub(crate) enum KeptRecord {
+pub(crate) enum OutputRecord {
     Whole(Framed),
     Chained(usize, Link),
 }
@@ -31,7 +31,7 @@ pub(crate) fn next_output_record(
     chunk: &Chunk,
     kept: &Kept,
     cursor: &mut Cursor,
-) -> Option<KeptRecord>
+) -> Option<OutputRecord>
     requires { IsCursor chunk.now kept.now cursor.old }
     ensures cursor { IsCursor chunk.now kept.now cursor.new }
     ensures exact { MatchOption result (still_output_records chunk.now kept.now cursor.old ≡ []) (λ s. still_output_records chunk.now kept.now cursor.old ≡ output_record_as s ∷ still_output_records chunk.now kept.now cursor.new) }
@@ -61,7 +61,7 @@ fn place_of(frames: &Frames, number: usize) -> usize
 
 // The output record of the cursor's record, which starts at a place. The cursor moves behind it.
 #[inline(always)]
-fn pass_record(chunk: &Chunk, kept: &Kept, cursor: &mut Cursor, at: usize) -> Option<KeptRecord>
+fn pass_record(chunk: &Chunk, kept: &Kept, cursor: &mut Cursor, at: usize) -> Option<OutputRecord>
     requires cursor { IsCursor chunk.now kept.now cursor.old }
     requires there { option_map (λ r. r.at) (slice_get chunk.now.records cursor.old.frame) ≡ Some at }
     requires more { cursor.old.frame < 2 ^ 64 - 1 }
@@ -86,14 +86,14 @@ fn chosen(
     is_metadata: bool,
     frames: &Frames,
     number: usize,
-) -> Option<KeptRecord>
+) -> Option<OutputRecord>
     ensures { IfSome (slice_get frames.now number) (λ r. option_map output_record_as result ≡ output_record_by link (is_kept || is_metadata) r) }
 {
     match link {
-        Some((number, link)) => Some(KeptRecord::Chained(number, link)),
+        Some((number, link)) => Some(OutputRecord::Chained(number, link)),
         None => {
             if is_kept || is_metadata {
-                Some(KeptRecord::Whole(frames.get(number)?))
+                Some(OutputRecord::Whole(frames.get(number)?))
             } else {
                 None
             }

@@ -1,5 +1,5 @@
-use Rattle.std.proofs.Common.{◌≡◌, ◌+◌, ◌∷◌, drop, sym, ap, subst, ◌∙◌, false, true, Some}
-use Rattle.std.specs.Prelude.{encode_utf8_all, unwrap_or, slice_get}
+use Rattle.std.proofs.Common.{◌+◌, drop, sym, ap, subst, ◌∙◌, false}
+use Rattle.std.specs.Prelude.{encode_utf8_all, unwrap_or}
 use Rattle.jfr_chunk.specs.Parts.{events_of}
 use Rattle.jfr_chunk.specs.Seen.{event_at}
 use Rattle.jfr_chunk.specs.Reach.{marked}
