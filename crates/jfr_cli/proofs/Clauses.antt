@@ -19,9 +19,8 @@ use Rattle.jfr_words.specs.declared.order.Order.{Order}
 use Rattle.jfr_words.specs.declared.order.Order.TheVariants as orders
 use Rattle.jfr_words.specs.Words.{order_of, file_name}
 use Rattle.jfr_cli.specs.Works.{Work, Over, Joins, Alone, work_of, plan_of, target_of, text_on, HaltsAs, Stands, Leaves, KeepsSink, KeepsPlace, CanReadAll, CanCreateFor}
-use Rattle.jfr_cli.specs.Answers.{status_of, line_of, usage_line, refusal_line, read_line, write_line, parts_line, IsAnswered, Fully, IsSaid, IsPartlySaid}
+use Rattle.jfr_cli.specs.Answers.{status_of, line_of, usage_line, refusal_line, read_line, write_line, parts_line, IsAnswered, Fully, IsSaid, IsMemorySaid}
 use Rattle.jfr_cli.specs.Answers as answers
-use Rattle.jfr_cli.proofs.Lines.{all_said}
 use Rattle.jfr_cli.proofs.Counting.{none_rose, tallied_once, steady_stays, place_passed, sink_passed, writes_stay}
 use Rattle.jfr_cli.specs.Runs.{Carries, Answers, Usage, Unread, Carried, Under, Ended, Halted, Broken, Partly, StandsPartly, Prefix, Whole, Met, Torn, CountsOnce, IsPlannedStatus, ByEnd, ByMemory, status_of_end, IsRefused}
 use Rattle.jfr_cli.specs.Runs as runs
@@ -124,12 +123,12 @@ complete_by k WriteFault a b r e f (Fully p q) l t no_read no_write = absurd (no
 complete_by k Memory a b r e f (Fully p q) l t no_read no_write = any_end a.place.told k p
 
 -- The line of an ending with status 5 is the one for want of memory.
-no_room_said : (end : Ending) (e f : SinkState) → status_of end ≡ 5 → answers.Said (line_of end) e f → IsPartlySaid e f
+no_room_said : (end : Ending) (e f : SinkState) → status_of end ≡ 5 → answers.Said (line_of end) e f → IsMemorySaid e f
 no_room_said Done e f h q = absurd (omega (arith, h))
 no_room_said (Refused x) e f h q = absurd (omega (arith, h))
 no_room_said ReadFault e f h q = absurd (omega (arith, h))
 no_room_said WriteFault e f h q = absurd (omega (arith, h))
-no_room_said Memory e f h q = all_said _ e f answers.MemoryLine q
+no_room_said Memory e f h q = answers.Line q
 no_room_said TooManyParts e f h q = absurd (omega (arith, h))
 
 order_same : (ws : List (List ℕ)) (o p : Order) → order_of ws ≡ Some o → order_of ws ≡ Some p → o ≡ p
@@ -254,10 +253,10 @@ module _ {ws : List (List ℕ)} {r : ℕ} {a b : Outside} {e f : SinkState} wher
   memory_told (Unread s t) h o is = subst (λ z. StandsPartly (work_of o) a z) (sym s) (unchanged (work_of o) a)
   memory_told (Carried p known end c t) h o is = subst (λ z. StandsPartly (work_of z) a b) (order_same ws p o known is) (partly (work_of p) end a b c.leaves c.counts)
 
-  pub memory_said : Answers ws r a b e f → r ≡ 5 → IsPartlySaid e f
+  pub memory_said : Answers ws r a b e f → r ≡ 5 → IsMemorySaid e f
   memory_said (Usage o s (Fully p q)) h = absurd (omega (arith, p, h))
   memory_said (Usage o s (answers.ForMemory p q)) h = q
-  memory_said (Unread s (Fully p q)) h = all_said _ e f answers.MemoryLine q
+  memory_said (Unread s (Fully p q)) h = answers.Line q
   memory_said (Unread s (answers.ForMemory p q)) h = q
   memory_said (Carried o is end c (answers.ForMemory p q)) h = q
   memory_said (Carried o is end c (Fully p q)) h = no_room_said end e f (sym p ∙ h) q

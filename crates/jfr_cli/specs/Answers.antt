@@ -7,6 +7,7 @@ use Rattle.jfr_outside.specs.World.{SinkState, added}
 use Rattle.jfr_outside.specs.Counts.{Rose}
 use Rattle.jfr_header.specs.declared.ending.Ending.{Ending}
 use Rattle.jfr_header.specs.declared.ending.Ending.TheVariants.{Done, Refused, ReadFault, WriteFault, TooManyParts, Memory}
+use Rattle.jfr_show.specs.Texts.{newline}
 
 -- The status of a command's ending.
 abbrev pub status_of : Ending → ℕ
@@ -16,10 +17,6 @@ status_of ReadFault = 3
 status_of WriteFault = 4
 status_of Memory = 5
 status_of TooManyParts = 6
-
--- The byte that ends each line.
-abbrev pub newline : List ℕ
-newline = 10 ∷ []
 
 -- The line of words that are no order.
 abbrev pub usage_line : List ℕ
@@ -59,28 +56,18 @@ pub data IsSaid (line : List ℕ) (a b : SinkState) : Type 0 where
   Whole : b ≡ record { written = option_map (added line) a.written; faults = a.faults } → IsSaid line a b
   Part : Rose a.faults b.faults → (k : ℕ) → b.written ≡ option_map (added (take k line)) a.written → IsSaid line a b
 
--- One of the lines of the program.
-pub data IsLine : List ℕ → Type 0 where
-  UsageLine : IsLine usage_line
-  RefusalLine : (r : Refusal) → IsLine (refusal_line r)
-  ReadLine : IsLine read_line
-  WriteLine : IsLine write_line
-  MemoryLine : IsLine memory_line
-  PartsLine : IsLine parts_line
-
--- The first bytes of one of the lines stand on the sink.
-pub record IsPartlySaid (a b : SinkState) : Type 0 where
-  pub line : List ℕ
-  pub is_line : IsLine line
-  pub count : ℕ
-  pub written : b.written ≡ option_map (added (take count line)) a.written
+-- The line for want of memory is said; or none is, and the sink stays as it is, since memory may be wanting
+-- as a line is written, too.
+pub data IsMemorySaid (a b : SinkState) : Type 0 where
+  Line : IsSaid memory_line a b → IsMemorySaid a b
+  Silent : b ≡ a → IsMemorySaid a b
 
 -- An ending without a line leaves the sink as it is.
 abbrev pub Said : Option (List ℕ) → SinkState → SinkState → Type 0
 Said None a b = b ≡ a
 Said (Some line) a b = IsSaid line a b
 
--- A status and its line, or 5 with a part of a line, since memory may be wanting while a line is written.
+-- A status and its line, or 5, as for want of memory.
 pub data IsAnswered (status : ℕ) (line : Option (List ℕ)) (answer : ℕ) (a b : SinkState) : Type 0 where
   Fully : answer ≡ status → Said line a b → IsAnswered status line answer a b
-  ForMemory : answer ≡ 5 → IsPartlySaid a b → IsAnswered status line answer a b
+  ForMemory : answer ≡ 5 → IsMemorySaid a b → IsAnswered status line answer a b

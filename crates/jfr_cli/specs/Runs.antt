@@ -64,9 +64,9 @@ Broken k a b = Stands k a b (λ w v s t. Breaks a.place.steady (effects (plan_of
 abbrev pub Partly : Work → Outside → Outside → Type 0
 Partly k a b = Stands k a b (λ w v s t. SomeDone (effects (plan_of k w).steps) s t)
 
--- What stands where memory was wanting: the first effects are done, and none where the words were not read;
--- or all of them; or those that a read fault leaves; or, where the count of write faults rose, the first
--- ones and a prefix of the next one's bytes.
+-- What stands where memory was wanting: the first effects are done; or all of them; or those that a read
+-- fault leaves; or, where the count of write faults rose, the first ones and a prefix of the next one's
+-- bytes.
 pub data StandsPartly (k : Work) (a b : Outside) : Type 0 where
   Prefix : Partly k a b → StandsPartly k a b
   Whole : (e : End) → Ended k e a b → StandsPartly k a b

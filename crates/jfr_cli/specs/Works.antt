@@ -24,7 +24,7 @@ pub data Work : Type 0 where
   Joins : List ℕ → List ℕ → Work
   Alone : Plan → Work
 
--- The sample's text is written; no chunk that is made is refused, and else the refusal would be said.
+-- The sample's text is written. Where the sample had a flaw, it would be refused for it.
 abbrev pub sample_plan : Result (List ℕ) Flaw → Plan
 sample_plan (Ok text) = record { steps = needing Nothing (Write (encode_utf8_all text) ∷ []); end = Some Fine }
 sample_plan (Err flaw) = record { steps = []; end = Some (refused 1 flaw) }

@@ -14,7 +14,7 @@ ghost use Rattle.jfr_words.specs.declared.order.Order.{Order};
 ghost use Rattle.jfr_words.specs.declared.order.Order.TheVariants as orders;
 ghost use Rattle.jfr_words.specs.Words.{order_of, file_name};
 ghost use Rattle.jfr_cli.specs.Works.{work_of, plan_of, target_of, KeepsSink, KeepsPlace, CanReadAll, CanCreateFor};
-ghost use Rattle.jfr_cli.specs.Answers.{usage_line, read_line, write_line, parts_line, IsSaid, IsPartlySaid};
+ghost use Rattle.jfr_cli.specs.Answers.{usage_line, read_line, write_line, parts_line, IsSaid, IsMemorySaid};
 ghost use Rattle.jfr_cli.specs.Runs.{Answers, Under, Ended, Halted, Broken, StandsPartly, CountsOnce, IsPlannedStatus, IsRefused};
 
 use crate::carry::carry_out;
@@ -78,7 +78,7 @@ pub fn run<P: Place, O: Sink, E: Sink>(
     ensures too_many { result ≡ 6 → Under words.now (λ o. Ended (work_of o) TooMany (outside (P.state place.old) (O.state out.old)) (outside (P.state place.new) (O.state out.new))) }
     ensures too_many_said { result ≡ 6 → IsSaid parts_line (E.state err.old) (E.state err.new) }
     ensures memory { result ≡ 5 → (o : Order) → order_of words.now ≡ Some o → StandsPartly (work_of o) (outside (P.state place.old) (O.state out.old)) (outside (P.state place.new) (O.state out.new)) }
-    ensures memory_said { result ≡ 5 → IsPartlySaid (E.state err.old) (E.state err.new) }
+    ensures memory_said { result ≡ 5 → IsMemorySaid (E.state err.old) (E.state err.new) }
     ensures statuses { result ≤ 6 }
 
     // A fault comes only where it was counted, and none is passed over.

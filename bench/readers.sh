@@ -1,0 +1,48 @@
+#!/bin/bash
+# Tries a reader of recordings that isn't the JDK's on what comes out: bench/readers.sh PROGRAM CONVERTER FILE..
+#
+# CONVERTER is async-profiler's converter.jar, which reads recordings by code of its own: Debian's package
+# async-profiler-java has it in /usr/share/async-profiler. It needs a `java` on the PATH.
+#
+# For each file, and for samples, allocations and locks by thread: the stacks with their numbers that CONVERTER finds in
+# the file are those that it finds in a scrub without options, in a scrub by each recipe that keeps all threads, and in
+# the parts of the file joined. Prints a row for each, with how many stacks there are.
+set -u
+program=$(realpath "$1"); converter=$(realpath "$2"); shift 2
+here=$(dirname "$(readlink -f "$0")")
+work=$(mktemp -d); trap 'rm -rf "$work"' EXIT
+cp "$program" "$work/jfr" && cp -r "$here/../recipes" "$work/recipes" || exit 1
+bad=0
+
+# The stacks in a recording, one a line with its number, to the file named second.
+stacks() { java -cp "$converter" jfr2flame --collapsed --threads --total $kind "$1" "$2" >/dev/null 2>"$work/errors"; }
+
+# Compares the stacks of what was made with those of the file.
+compare() {
+    if ! stacks "$work/made.jfr" "$work/made.txt"; then
+        echo "$name $kind: $1: $(head -1 "$work/errors")"; bad=1
+    elif ! cmp -s <(sort "$work/file.txt") <(sort "$work/made.txt"); then
+        echo "$name $kind: $1: other stacks"; bad=1
+    else
+        echo "| $name | ${kind:---cpu} | $1 | $(wc -l <"$work/made.txt") |"
+    fi
+}
+
+echo "| file | stacks of | read from | how many |"
+echo "|---|---|---|---:|"
+for file; do
+    name=$(basename "$file")
+    for how in scrub vendor strict parts; do
+        rm -rf "$work/made.jfr" "$work/parts"
+        case $how in
+            scrub) "$program" scrub "$file" "$work/made.jfr" ;;
+            parts) mkdir "$work/parts" && "$program" disassemble --output "$work/parts" "$file" \
+                && "$program" assemble "$work/parts" "$work/made.jfr" ;;
+            *) "$work/recipes/$how" "$file" "$work/made.jfr" ;;
+        esac || { echo "$name: $how: status $?"; bad=1; continue; }
+        for kind in "" --alloc --lock; do
+            stacks "$file" "$work/file.txt" && compare "$how"
+        done
+    done
+done
+exit $bad
