@@ -5,7 +5,7 @@
 # async-profiler-java has it in /usr/share/async-profiler. It needs a `java` on the PATH.
 #
 # For each file, and for samples, allocations and locks by thread: the stacks with their numbers that CONVERTER finds in
-# the file are those that it finds in a scrub without options, in a scrub by each recipe that keeps all threads, and in
+# the file are those that it finds in a scrub without options, in one by recipes/vendor, which keeps all of these, and in
 # the parts of the file joined. Prints a row for each, with how many stacks there are.
 set -u
 program=$(realpath "$1"); converter=$(realpath "$2"); shift 2
@@ -32,16 +32,17 @@ echo "| file | stacks of | read from | how many |"
 echo "|---|---|---|---:|"
 for file; do
     name=$(basename "$file")
-    for how in scrub vendor strict parts; do
+    for how in scrub vendor parts; do
         rm -rf "$work/made.jfr" "$work/parts"
         case $how in
             scrub) "$program" scrub "$file" "$work/made.jfr" ;;
+            vendor) "$work/recipes/vendor" "$file" "$work/made.jfr" ;;
             parts) mkdir "$work/parts" && "$program" disassemble --output "$work/parts" "$file" \
                 && "$program" assemble "$work/parts" "$work/made.jfr" ;;
-            *) "$work/recipes/$how" "$file" "$work/made.jfr" ;;
         esac || { echo "$name: $how: status $?"; bad=1; continue; }
         for kind in "" --alloc --lock; do
-            stacks "$file" "$work/file.txt" && compare "$how"
+            stacks "$file" "$work/file.txt" || { echo "$name $kind: $(head -1 "$work/errors")"; bad=1; continue; }
+            compare "$how"
         done
     done
 done
