@@ -41,7 +41,7 @@ spell_as zero v = []
 spell_as (suc zero) v = v ∷ []
 spell_as (suc (suc n)) v = (v % 128 + 128) ∷ spell_as (suc n) (v / 128)
 
--- So many bytes have room for the value.
+-- So many bytes have room for a value below 2^64: seven bits a byte, and nine bytes have room for all.
 abbrev pub FitsIn : ℕ → ℕ → Type 0
 FitsIn value count = (value < 2 ^ (7 * count)) ⊎ (count ≡ 9)
 

@@ -3,7 +3,7 @@ use Rattle.std.specs.Prelude.{ℕ, List, codes}
 use Rattle.jfr_base.specs.declared.reason.Reason.{Reason}
 use Rattle.jfr_base.specs.declared.reason.Reason.TheVariants.{NoChunk, ShortHeader, Magic, Version, Unfinished, NotCompact, ChunkSize, ShortChunk, RecordSize, MetadataPosition, PoolPosition, ChainDelta, Short, Trailing, StringKind, StringIndex, TreeDeep, NoClasses, ClassBad, ClassTwice, FieldBad, FieldTwice, UnknownType, EmptyInline, InlineDeep, PoolType, TooLong}
 
--- The reason's number, which the program prints.
+-- The reason's number.
 abbrev pub reason_number : Reason → ℕ
 reason_number NoChunk = 1
 reason_number ShortHeader = 2

@@ -1,7 +1,7 @@
 // The reasons for which a recording is refused.
 ghost use Rattle.std.specs.Prelude.{◌≡◌};
 
-/// Why a recording is refused. Each reason has a number and a name, which the program prints.
+/// Why a recording is refused. Each reason has a number, and a name, by which the program tells it.
 #[derive(Clone, Copy, Debug, PartialEq, Eq)]
 pub enum Reason {
     /// The recording is empty.

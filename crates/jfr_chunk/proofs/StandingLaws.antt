@@ -11,7 +11,7 @@ use Rattle.jfr_frame.specs.declared.framed.Framed.{Framed}
 use Rattle.jfr_frame.specs.Records.{IsRecord, Tiles, record_end}
 use Rattle.jfr_meta.specs.Trees.{Tree, place_of}
 use Rattle.jfr_meta.specs.Body.{Body}
-use Rattle.jfr_meta.specs.Described.{class_elements, classes_of, tree_flaws, class_flaws, list_flaws, placed, first_or, told, described}
+use Rattle.jfr_meta.specs.Described.{class_elements, classes_of, tree_flaws, class_flaws, list_flaws, placed, first_or, classes_told, described}
 use Rattle.std.specs.List.{flat_map}
 use Rattle.jfr_value.specs.Values.{Value}
 use Rattle.jfr_value.specs.Reading.{value_format}
@@ -48,7 +48,7 @@ described_sound b k e = by_elements (class_elements b.strings b.root) e
         subst Sound h (record { none = map_none (placed b.strings ts) (class_faults (classes_of b.strings ts)) f })
     by_flaws ts (f ∷ fs) q e = cc
 
-    by_elements : (o : Option (List Tree)) → told b.strings (place_of b.root) o ≡ Ok k → Sound k
+    by_elements : (o : Option (List Tree)) → classes_told b.strings (place_of b.root) o ≡ Ok k → Sound k
     by_elements None e = cc
     by_elements (Some ts) e = by_flaws ts (tree_flaws b.strings ts) refl e
 

@@ -57,7 +57,7 @@ next_entries p i = those (number_in_force p.entries) (option_map_or (λ e. targe
 abbrev pub is_marked : List Bool → ℕ → Bool
 is_marked marks i = slice_index_or marks i false
 
--- The same, as a fact.
+-- The number is marked, as a fact.
 abbrev pub IsMarked : List Bool → ℕ → Type 0
 IsMarked marks i = is_marked marks i ≡ true
 

@@ -26,7 +26,7 @@ abbrev pub ahead_of : Cutter → List ℕ → fronts.Front
 ahead_of c rest = front rest c.start (not c.given)
 
 -- A chunk was given: it is whole, it starts below byte 2^40, and the cutter stands behind it.
-pub record Given (old new : Cutter) : Type 0 where
+pub record GaveChunk (old new : Cutter) : Type 0 where
   pub whole : Whole new.bytes
   pub early : old.start < 2 ^ 40
   pub start : new.start ≡ old.start + length new.bytes
@@ -43,7 +43,7 @@ pub record Closed (old new : Cutter) : Type 0 where
 
 -- What an answer says of the cutter, whether the place tells its content or not.
 abbrev pub CutOf : Cut → Cutter → Cutter → Type 0
-CutOf Chunk old new = Given old new
+CutOf Chunk old new = GaveChunk old new
 CutOf End old new = (old.given ≡ true) × Closed old new
 CutOf (Refused r) old new = (r.chunk ≡ old.number) × Closed old new
 CutOf Failed old new = Closed old new

@@ -53,9 +53,9 @@ impl Classes {
         Classes::make_numbered(alloc, list, &numbers)
     }
 
-    /// The same, where each name of a field has a number already: within a class, two fields have the same
-    /// number exactly where they have the same name. No names are compared then, so that long ones that
-    /// begin alike, however often they are used, cost nothing.
+    /// [`Classes::make`] where each name of a field has a number already: within a class, two fields have
+    /// the same number exactly where they have the same name. No names are compared then, so that long ones
+    /// that begin alike, however often they are used, cost nothing.
     pub fn make_numbered(
         alloc: Global,
         list: ClassList,

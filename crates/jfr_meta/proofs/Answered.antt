@@ -11,7 +11,7 @@ use Rattle.jfr_frame.specs.Records.{IsRecord, record_end}
 use Rattle.jfr_layout.specs.Classes.{Classes}
 use Rattle.jfr_meta.specs.Answers.{IsFault, IfFlawed}
 use Rattle.jfr_meta.specs.Body.{Body, meta_format}
-use Rattle.jfr_meta.specs.Described.{described, told, class_elements, IsMetadata, IsMetadataFlaw}
+use Rattle.jfr_meta.specs.Described.{described, classes_told, class_elements, IsMetadata, IsMetadataFlaw}
 use Rattle.jfr_meta.specs.Trees.{place_of}
 use Rattle.jfr_meta.proofs.Runs.{ok}
 
@@ -21,7 +21,7 @@ says x r a h e =
     subst P e (run_says meta_format x (record_end r) r.body h.covers h.within)
 
 abbrev told_of : Body → Result Classes Flaw
-told_of b = told b.strings (place_of b.root) (class_elements b.strings b.root)
+told_of b = classes_told b.strings (place_of b.root) (class_elements b.strings b.root)
 
 -- A body that is read, and the classes that it describes.
 pub metadata_ok : (x : List ℕ) (r : Framed) (b : Body) (k : Classes) → IsRecord x r → run meta_format x (record_end r) r.body ≡ ok b (record_end r) → told_of b ≡ Ok k → IsMetadata x r b k

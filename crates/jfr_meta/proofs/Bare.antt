@@ -11,7 +11,7 @@ use Rattle.jfr_base.specs.declared.flaw.Flaw.{Flaw}
 use Rattle.jfr_layout.specs.Classes.{Class, Classes, Field, ClassFlaw, class_faults}
 use Rattle.jfr_meta.specs.Trees.{Tree, Node, Trees, Nil, Cons, list_of, place_of, name_of, children_of}
 use Rattle.jfr_meta.specs.Attributes.{text_at, attribute, named, values_of}
-use Rattle.jfr_meta.specs.Described.{class_elements, field_elements, class_head, shape_of, field_of, flaw_unless, field_flaws, class_flaws, heads, is_category, annotations_of, categories_of, class_of, classes_of, element_place, flaw_place, placed, list_flaws, tree_flaws, first_or, told, described}
+use Rattle.jfr_meta.specs.Described.{class_elements, field_elements, class_head, shape_of, field_of, flaw_unless, field_flaws, class_flaws, heads, is_category, annotations_of, categories_of, class_of, classes_of, element_place, flaw_place, placed, list_flaws, tree_flaws, first_or, classes_told, described}
 use Rattle.jfr_meta.specs.Written.{bare, bares}
 
 -- Parts of a bare tree.
@@ -171,20 +171,20 @@ first_bare : (fs : List Flaw) (k : Classes) → classes_in (first_or (map erased
 first_bare [] k = refl
 first_bare (f ∷ fs) k = refl
 
-told_bare : (texts : List (List ℕ)) (at from : ℕ) (o : Option (List Tree)) → classes_in (told texts at (option_map (map bare) o)) ≡ classes_in (told texts from o)
+told_bare : (texts : List (List ℕ)) (at from : ℕ) (o : Option (List Tree)) → classes_in (classes_told texts at (option_map (map bare) o)) ≡ classes_in (classes_told texts from o)
 told_bare texts at from None = refl
 told_bare texts at from (Some ts) =
     ap (λ z. classes_in (first_or z (classes_of texts (map bare ts)))) (flaws_bare texts ts)
     ∙ (ap (λ z. classes_in (first_or (map erased (tree_flaws texts ts)) z)) (classes_bare texts ts) ∙ first_bare (tree_flaws texts ts) (classes_of texts ts))
 
 abbrev told_of : List (List ℕ) → Tree → Result Classes Flaw
-told_of texts root = told texts (place_of root) (class_elements texts root)
+told_of texts root = classes_told texts (place_of root) (class_elements texts root)
 
 same_told : (texts : List (List ℕ)) (t u : Tree) → bare t ≡ bare u → classes_in (told_of texts t) ≡ classes_in (told_of texts u)
 same_told texts t u e = sym (to_bare t) ∙ (ap (λ z. classes_in (told_of texts z)) e ∙ to_bare u)
   where
     to_bare : (t : Tree) → classes_in (told_of texts (bare t)) ≡ classes_in (told_of texts t)
-    to_bare t = ap (λ z. classes_in (told texts (place_of (bare t)) z)) (elements_bare texts t) ∙ told_bare texts (place_of (bare t)) (place_of t) (class_elements texts t)
+    to_bare t = ap (λ z. classes_in (classes_told texts (place_of (bare t)) z)) (elements_bare texts t) ∙ told_bare texts (place_of (bare t)) (place_of t) (class_elements texts t)
 
 -- Two trees that are the same but for their places describe the same classes.
 pub described_bare : (start duration id : ℕ) (strings : List (List ℕ)) (t u : Tree) (k : Classes) → bare t ≡ bare u

@@ -51,6 +51,7 @@ values_from value i (suc n) = option_map_or (λ v. v ∷ values_from value (i + 
 abbrev pub value_key : ℕ → List ℕ
 value_key i = codes "value-" ++ decimal i
 
+-- Values, or where there are none, others.
 abbrev pub or_else : List (List ℕ) → List (List ℕ) → List (List ℕ)
 or_else [] others = others
 or_else (v ∷ vs) others = v ∷ vs

@@ -119,7 +119,7 @@ abbrev pub element_place : List (List ℕ) → Tree → Option ℕ → ℕ
 element_place texts t None = place_of t
 element_place texts t (Some number) = option_map_or place_of (slice_get (field_elements texts t) number) 0
 
--- The same by the class element's number.
+-- Where the element of a flaw stands, by the number of its class's element.
 abbrev pub flaw_place : List (List ℕ) → List Tree → ℕ → Option ℕ → ℕ
 flaw_place texts ts class field = option_map_or (λ t. element_place texts t field) (slice_get ts class) 0
 
@@ -142,13 +142,13 @@ first_or (f ∷ fs) a = Err f
 
 -- The classes of the class elements, or the first flaw; where the root, which stands at this place, has no
 -- child for them, that is the flaw.
-abbrev pub told : List (List ℕ) → ℕ → Option (List Tree) → Result Classes Flaw
-told texts at None = Err (record { offset = at; reason = NoClasses })
-told texts at (Some ts) = first_or (tree_flaws texts ts) (classes_of texts ts)
+abbrev pub classes_told : List (List ℕ) → ℕ → Option (List Tree) → Result Classes Flaw
+classes_told texts at None = Err (record { offset = at; reason = NoClasses })
+classes_told texts at (Some ts) = first_or (tree_flaws texts ts) (classes_of texts ts)
 
 -- The classes that a body describes, or the flaw that is told.
 unfoldable pub described : Body → Result Classes Flaw
-described b = told b.strings (place_of b.root) (class_elements b.strings b.root)
+described b = classes_told b.strings (place_of b.root) (class_elements b.strings b.root)
 
 -- The record of the chunk x holds this body, which describes these classes.
 pub record IsMetadata (x : List ℕ) (r : Framed) (b : Body) (k : Classes) : Type 0 where

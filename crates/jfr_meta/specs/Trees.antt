@@ -14,12 +14,12 @@ mutual
     Nil : Trees
     Cons : Tree → Trees → Trees
 
--- The same elements as a list.
+-- Elements as a list.
 abbrev pub list_of : Trees → List Tree
 list_of Nil = []
 list_of (Cons t ts) = t ∷ list_of ts
 
--- And a list as elements.
+-- A list as elements.
 abbrev pub trees_of : List Tree → Trees
 trees_of [] = Nil
 trees_of (t ∷ ts) = Cons t (trees_of ts)

@@ -3,7 +3,7 @@ ghost use Rattle.std.specs.Prelude.{◌≡◌, ◌++◌, ℕ, List, Ok, map, IfO
 ghost use Rattle.std.specs.List.{AllZip};
 ghost use Rattle.std.specs.Option.{option_to_list};
 ghost use Rattle.jfr_layout.specs.Classes.{Classes};
-ghost use Rattle.jfr_meta.specs.Described.{AreCategoryIds, IsNamedBy, class_elements, class_of, classes_of, told};
+ghost use Rattle.jfr_meta.specs.Described.{AreCategoryIds, IsNamedBy, class_elements, class_of, classes_of, classes_told};
 ghost use Rattle.jfr_meta.specs.Trees.{place_of};
 
 use crate::Element;
@@ -68,7 +68,7 @@ pub fn class_names(
     strings: &Words,
     root: &Element,
 ) -> Result<Vec<ClassNames>, NoMemory>
-    ensures ok { IfOk result (λ names. (classes : Classes) → told strings.now (place_of root.now) (class_elements strings.now root.now) ≡ Ok classes
+    ensures ok { IfOk result (λ names. (classes : Classes) → classes_told strings.now (place_of root.now) (class_elements strings.now root.now) ≡ Ok classes
         → AllZip (IsNamedBy strings.now) classes names.items) }
 {
     match class_elements(alloc, strings, root)? {

@@ -4,7 +4,7 @@ use Rattle.jfr_base.specs.declared.flaw.Refusal.{Refusal}
 use Rattle.jfr_outside.specs.World.{World, Told, file, opened}
 use Rattle.jfr_header.specs.Cutters.{Cutter}
 use Rattle.jfr_header.specs.Fronts as fronts
-use Rattle.jfr_header.specs.Nexts.{Found, Refuses, Given, flaw_of}
+use Rattle.jfr_header.specs.Nexts.{Found, Refuses, GaveChunk, flaw_of}
 use Rattle.jfr_header.specs.declared.ending.Ending.{Ending}
 use Rattle.jfr_header.proofs.Steps.{chain_told, TookLess, TookMost}
 use Rattle.jfr_plan.specs.Ends.{End, Fine, Refused, TooMany, Way, Ends, NotRead, NotWritten, NoRoom, way_of, refused}
@@ -106,7 +106,7 @@ stage_went st r earlier Seen Next input c x e o p q (Some w) (Some v) (Some u) z
     carry w u z (PartTold st (r.asks (earlier ++ g.going.before) x) (Ok e) p q) (Staged r earlier Next input (c.start + length x) (c.number + 1) true o q) k.0
     (λ t s. record { going = goes_on r earlier input (c.start + length x) c.number x o p q w u t (hold r earlier input c.number o p c x w v u g.going y) s.0 s.1.0 s.1.1; seen = subst Next (append_assoc earlier g.going.before (x ∷ [])) k.1 })
 
-pub stage_goes : (st : Bool) (r : Rule) (earlier : List (List ℕ)) (Seen Next : List (List ℕ) → Type 0) (input : List ℕ) (c n : Cutter) (y : Unit {0}) (o p q : Option (List ℕ)) (b a d z : Option World) → Given c n → Told b a (Staged r earlier Seen input c.start c.number c.given o p) → Told a d (Found c (fronts.Chunk n.bytes) n.bytes) → ((before : List (List ℕ)) → Seen before → c.number ≡ length before + 1 → Told d z (PartTold st (r.asks before n.bytes) (Ok y) p q) × Next (before ++ n.bytes ∷ [])) → Told b z (Staged r earlier Next input n.start n.number n.given o q)
+pub stage_goes : (st : Bool) (r : Rule) (earlier : List (List ℕ)) (Seen Next : List (List ℕ) → Type 0) (input : List ℕ) (c n : Cutter) (y : Unit {0}) (o p q : Option (List ℕ)) (b a d z : Option World) → GaveChunk c n → Told b a (Staged r earlier Seen input c.start c.number c.given o p) → Told a d (Found c (fronts.Chunk n.bytes) n.bytes) → ((before : List (List ℕ)) → Seen before → c.number ≡ length before + 1 → Told d z (PartTold st (r.asks before n.bytes) (Ok y) p q) × Next (before ++ n.bytes ∷ [])) → Told b z (Staged r earlier Next input n.start n.number n.given o q)
 stage_goes st r earlier Seen Next input c n e o p q b a d z h g y f =
     subst (λ (k : Bool). Told b z (Staged r earlier Next input n.start n.number k o q)) (sym h.given)
     (subst (λ (k : ℕ). Told b z (Staged r earlier Next input n.start k true o q)) (sym h.number)

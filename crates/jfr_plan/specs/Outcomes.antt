@@ -68,7 +68,8 @@ pub record NeedsMet (r : Rule) (earlier : List (List ℕ)) (x left : List ℕ) (
   pub short : length taken < length (joined (held earlier x taken)) + reach (drop (length (joined (held earlier x taken))) x)
   pub header : IfSome (cut_after earlier x).flaw (IsBelowHeader (cut_after earlier x) (length taken))
 
--- The same by the file, if it is there, and what is left of the open input: without one nothing is done.
+-- The needs are met by the file, if it is there, and what is left of the open input: without an open input
+-- nothing is done.
 abbrev pub MetIn : Rule → List (List ℕ) → Option (List ℕ) → Option (List ℕ) → Stand → Stand → Type 0
 MetIn r earlier file None s t = t ≡ s
 MetIn r earlier None (Some left) s t = ⊥
@@ -82,7 +83,7 @@ HaltedIn steady r earlier file left s t = MetIn r earlier file left s t × (IsTr
 abbrev pub OutcomeIn : Bool → Rule → List (List ℕ) → Option (List ℕ) → Option (List ℕ) → Way → Stand → Stand → Type 0
 OutcomeIn steady r earlier file left way s t = Outcome steady (plan_after r earlier file) (HaltedIn steady r earlier file left) way s t
 
--- The same between two worlds, for the input of this name.
+-- An outcome between two worlds, for the input of this name.
 abbrev pub OutcomeOf : Bool → Rule → List (List ℕ) → List ℕ → Option (List ℕ) → Option (List ℕ) → Way → World → World → Type 0
 OutcomeOf steady r earlier input text text' way w v = OutcomeIn steady r earlier (file w input) v.input way (stand w text) (stand v text')
 

@@ -5,10 +5,11 @@ use Rattle.std.proofs.Common.{ap, arith, refl, sym, ◌∙◌, subst, get_or, ad
 use Rattle.std.proofs.lemmas.List.{append-nil}
 use Rattle.jfr_base.specs.Integer.{spell, spell_in}
 use Rattle.jfr_base.proofs.Ranges.{range_split, range_length}
+use Rattle.jfr_meta.specs.Written.{capped}
 use Rattle.jfr_pool.specs.declared.link.Link.{Link}
 use Rattle.jfr_pool.specs.declared.entry.EntryAt.{EntryAt}
 use Rattle.jfr_chunk.specs.Written.{Group, add_entry, by_pool, entry_bytes, group_bytes, checkpoint_tail, checkpoint_bytes}
-use Rattle.jfr_scrub.specs.Left.{HasRange, leading, entries_size, pool_size, groups_size, capped}
+use Rattle.jfr_scrub.specs.Left.{HasRange, leading, entries_size, pool_size, groups_size}
 use Rattle.jfr_scrub.specs.declared.piece.MadePart.TheVariants.{EntryCount, PoolClass}
 use Rattle.jfr_scrub.specs.Bodies.{pool_parts}
 use Rattle.jfr_scrub.specs.Fits.{LinkFits}

@@ -4,10 +4,11 @@ use Rattle.std.specs.List.{AllByRecursion}
 use Rattle.std.proofs.Common.{ap, arith, refl, sym, ◌∙◌, subst, get_or, drop-cons, add-one, append_assoc}
 use Rattle.std.proofs.lemmas.List.{drop_all, append-nil, length-drop, take_all}
 use Rattle.std.proofs.lemmas.Bool.Decides.{nat_tests}
+use Rattle.jfr_meta.specs.Written.{capped}
 use Rattle.jfr_pool.specs.declared.entry.EntryAt.{EntryAt}
 use Rattle.jfr_chunk.specs.Reach.{marked, is_marked}
 use Rattle.jfr_chunk.specs.Written.{Group, add_entry, by_pool}
-use Rattle.jfr_scrub.specs.Left.{HasRange, same_pool, leading, entries_size, pool_size, groups_size, capped}
+use Rattle.jfr_scrub.specs.Left.{HasRange, same_pool, leading, entries_size, pool_size, groups_size}
 
 -- Of one pool: the same numbers.
 same_is : (e f : EntryAt) → same_pool e f ≡ true → (e.pool ≡ f.pool) × (e.class ≡ f.class)

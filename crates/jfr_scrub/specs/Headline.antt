@@ -23,9 +23,9 @@ abbrev pub before_refused : (List ℕ → Option Flaw) → List (List ℕ) → L
 before_refused refusal [] = []
 before_refused refusal (c ∷ cs) = unless_refused (refusal c) (c ∷ before_refused refusal cs)
 
--- The chunk c is accepted, and b is what it becomes: a chunk that is accepted again, with exactly the
--- events that the filter keeps and exactly the constants that they reach, and of the same meaning; scrubbed
--- once more it stays the same.
+-- The chunk c, which is whole, is accepted, and b is what it becomes: a chunk that is accepted again, with
+-- exactly the events that the filter keeps and exactly the constants that they reach, and of the same
+-- meaning; scrubbed once more it stays the same.
 pub record IsScrubbed (g : Given) (c b : List ℕ) : Type 0 where
   pub parts : Parts
   pub bytes : parts.bytes ≡ c
@@ -56,7 +56,7 @@ pub record IsScrubOf (g : Given) (x y : List ℕ) : Type 0 where
 abbrev pub recording_scrubbed : Given → List ℕ → List ℕ
 recording_scrubbed g x = joined (map (scrubbed g) (before_refused refusal_of (cut x 0 true).chunks))
 
--- The answer is one that the plan ends with.
+-- The answer is one that the plan of a scrub ends with.
 abbrev pub IsByPlan : Ending → Type 0
 IsByPlan Done = ⊤
 IsByPlan (Refused refusal) = ⊤

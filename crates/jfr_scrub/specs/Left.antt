@@ -1,5 +1,5 @@
 -- The entries that remain, as they stand in pools.
-use Rattle.std.specs.Prelude.{ℕ, suc, ◌+◌, ◌-◌, ◌<◌, ◌≤◌, Bool, ◌&&◌, ◌==◌, List, [], ◌∷◌, length, min, if◌then◌else◌}
+use Rattle.std.specs.Prelude.{ℕ, suc, ◌+◌, ◌-◌, ◌<◌, ◌≤◌, Bool, ◌&&◌, ◌==◌, List, [], ◌∷◌, length, if◌then◌else◌}
 use Rattle.jfr_base.specs.Integer.{spell}
 use Rattle.jfr_pool.specs.declared.entry.EntryAt.{EntryAt}
 use Rattle.jfr_chunk.specs.Written.{Group}
@@ -38,7 +38,3 @@ pool_size class es = length (spell class) + length (spell (length es)) + entries
 abbrev pub groups_size : List Group → ℕ
 groups_size [] = 0
 groups_size (g ∷ gs) = pool_size g.class g.entries + groups_size gs
-
--- A number, and the largest one of 64 bits in place of a larger one.
-abbrev pub capped : ℕ → ℕ
-capped n = min n 18446744073709551615

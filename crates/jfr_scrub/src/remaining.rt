@@ -1,9 +1,10 @@
 // The entries that remain.
 ghost use Rattle.std.specs.Prelude.{◌≡◌, ℕ, ◌<◌, ◌≤◌, ◌++◌, [], ◌∷◌, length, slice_get, Some, IfOk, IsTrue, OnOk, if◌then◌else◌};
 ghost use Rattle.std.specs.List.{AllByRecursion};
+ghost use Rattle.jfr_meta.specs.Written.{capped};
 ghost use Rattle.jfr_chunk.specs.Reach.{marked};
 ghost use Rattle.jfr_chunk.specs.Written.{by_pool};
-ghost use Rattle.jfr_scrub.specs.Left.{HasRange, capped, entries_in, entries_size, groups_size, leading, pool_size, same_pool};
+ghost use Rattle.jfr_scrub.specs.Left.{HasRange, entries_in, entries_size, groups_size, leading, pool_size, same_pool};
 
 use jfr_base::var_len;
 use jfr_outside::NoMemory;

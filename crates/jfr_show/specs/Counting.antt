@@ -48,7 +48,7 @@ pub record AreTallies (k : Classes) (leaders : List ℕ) (rs : List Framed) (ts 
   pub count : length ts ≡ length k
   pub each : (index : ℕ) → index < length k → slice_get ts index ≡ Some (class_tally k leaders rs index)
 
--- The same for some leaders.
+-- The tallies are those of some leaders.
 pub record AreClassTallies (k : Classes) (rs : List Framed) (ts : List Tally) : Type 0 where
   pub leaders : List ℕ
   pub led : AreLeaders k leaders

@@ -1,5 +1,6 @@
 use Rattle.std.proofs.Common.{arith, ap, sym, ◌∙◌, take, drop, subst, ◌+◌}
-use Rattle.jfr_scrub.specs.Left.{pool_size, capped}
+use Rattle.jfr_meta.specs.Written.{capped}
+use Rattle.jfr_scrub.specs.Left.{pool_size}
 use Rattle.jfr_scrub.proofs.RemainingLaws.{Measuring, measuring_next, measuring_count, measuring_all}
 use Rattle.jfr_scrub.proofs.remaining.measured.Goals as goal
 
