@@ -1,19 +1,18 @@
 -- What joining says of each of its answers, from what stands after it and the counts.
-use Rattle.std.proofs.Common.{IsTrue, IsSome, IfSome, ◌≡◌, ℕ, ◌+◌, refl, sym, ◌∙◌, ap, subst, Bool, List, [], ◌∷◌, ◌++◌, length, Option, None, Some, append-nil}
+use Rattle.std.proofs.Common.{IfSome, ◌≡◌, ℕ, refl, sym, subst, List, [], ◌∷◌, ◌++◌, Option, None, Some, append-nil}
 use Rattle.std.specs.FinMap as fin
 use Rattle.jfr_base.specs.declared.flaw.Flaw.{Flaw}
-use Rattle.jfr_outside.specs.World.{World, Files, Told, file}
-use Rattle.jfr_outside.specs.Counts.{Rose}
+use Rattle.jfr_outside.specs.World.{World, Files, file}
 use Rattle.jfr_header.specs.declared.ending.Ending.{Ending}
 use Rattle.jfr_header.specs.declared.ending.Ending.TheVariants.{WriteFault}
 use Rattle.jfr_plan.specs.Ends.{End, Fine, Refused, TooMany, Way, Ends, NotRead, NotWritten, NoRoom, way_of}
-use Rattle.jfr_plan.specs.Effects.{Outside, Effect, Create, Append, Finish, Stand, Step, Plan, stand, apply, effects}
+use Rattle.jfr_plan.specs.Effects.{Outside, Effect, Create, Append, Stand, Step, Plan, stand, apply, effects}
 use Rattle.jfr_plan.specs.Walks.{File, walk, cut_after, plan_after}
 use Rattle.jfr_plan.specs.Outcomes.{AllDone, Breaks, Tallied}
 use Rattle.jfr_plan.specs.Clauses.{CanCreate, IsPlanned, ByPlan, ForMemory}
 use Rattle.jfr_plan.proofs.Clauses.{Cans, none_breaks}
 use Rattle.jfr_plan.proofs.Walking.{effects_append}
-use Rattle.jfr_split.specs.Clauses.{AfterFiles, FilesComplete, FilesOutcome}
+use Rattle.jfr_split.specs.Clauses.{AfterFiles, FilesComplete}
 use Rattle.jfr_split.specs.Joins.{adding, then_by, joining, joining_all, files_in, assembling}
 use Rattle.jfr_split.proofs.Basics.{some_none, none_is, told_before, told_at}
 

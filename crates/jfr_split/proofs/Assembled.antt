@@ -1,5 +1,5 @@
 -- A folder's files, joined to an output that was new.
-use Rattle.std.proofs.Common.{IsTrue, IfSome, ◌≡◌, ℕ, zero, suc, ◌+◌, refl, sym, ◌∙◌, ap, subst, Bool, true, false, not, cond, ◌&&◌, T, List, [], ◌∷◌, ◌++◌, length, map, Option, None, Some, Result, Ok, Err, Ordering, Less, Equal, Greater, String, string_bytes, is_eq, arith}
+use Rattle.std.proofs.Common.{IfSome, ◌≡◌, ℕ, refl, sym, ◌∙◌, ap, subst, Bool, true, false, not, cond, ◌&&◌, T, List, [], ◌∷◌, map, Option, None, Some, Ok, Err, Ordering, Less, Equal, Greater, is_eq}
 use Rattle.std.specs.Prelude.{is_some}
 use Rattle.std.specs.Ordering.{is_lt, ordering_reverse}
 use Rattle.std.specs.FinMap as fin
@@ -7,21 +7,19 @@ use Rattle.std.specs.FinMap.{is_sorted, entries_sorted, get-entries, get-retain_
 use Rattle.std.specs.FinMap.Entries.{find, below_all}
 use Rattle.std.specs.Cmp.Lexicographic.{nat_list_cmp_total}
 use Rattle.std.specs.List.{AllByRecursion}
-use Rattle.std.specs.declared.alloc.Global.{Global}
-use Rattle.jfr_outside.specs.World.{World, Files, Told, file}
+use Rattle.jfr_outside.specs.World.{World, Files, Told}
 use Rattle.jfr_header.specs.declared.ending.Ending.{Ending}
 use Rattle.jfr_header.proofs.Steps.{map_told}
-use Rattle.jfr_plan.specs.Ends.{End, Fine, Way, Ends, way_of}
-use Rattle.jfr_plan.specs.Effects.{Effect, Create, Stand, Plan, stand, apply, done, effects}
+use Rattle.jfr_plan.specs.Ends.{Way, way_of}
+use Rattle.jfr_plan.specs.Effects.{Create, Stand, stand, done, effects}
 use Rattle.jfr_plan.specs.Walks.{Goes}
-use Rattle.jfr_plan.specs.Parts.{PartEnded, PartStands, PartTold}
+use Rattle.jfr_plan.specs.Parts.{PartTold}
 use Rattle.jfr_split.specs.Names.{is_joined}
 use Rattle.jfr_split.specs.Clauses.{FilesOutcome}
 use Rattle.jfr_split.specs.Joins.{joining_all, files_in, assembling, CanJoin}
 use Rattle.jfr_split.proofs.Basics.{first_holds, second_holds, for_each, some_none}
 use Rattle.jfr_split.proofs.Ordered.{order}
 use Rattle.jfr_split.proofs.Over.{Entries, is, is_self, look, same_name}
-use Rattle.jfr_split.proofs.Sorting.{bytes_of}
 use Rattle.jfr_split.proofs.Composing.{outcome_after}
 use Rattle.jfr_split.proofs.Joined.{part_ended}
 

@@ -1,5 +1,5 @@
 -- Small facts that several proofs share.
-use Rattle.std.proofs.Common.{IsSome, IfSome, ◌≡◌, ℕ, refl, sym, ap, subst, Bool, true, false, ◌&&◌, T, List, [], ◌∷◌, Option, None, Some}
+use Rattle.std.proofs.Common.{IsSome, IfSome, ◌≡◌, ℕ, refl, subst, Bool, true, false, ◌&&◌, T, List, [], ◌∷◌, Option, None, Some}
 use Rattle.std.specs.List.{AllByRecursion}
 use Rattle.jfr_outside.specs.World.{World, Told}
 use Rattle.jfr_plan.specs.Ends.{End}

@@ -1,14 +1,14 @@
 -- Each effect of cutting a recording can be done, where the names of its parts are new.
-use Rattle.std.proofs.Common.{IsSome, ◌≡◌, ℕ, suc, ◌+◌, ◌<◌, ◌≤◌, refl, sym, ◌∙◌, ap, subst, Bool, true, false, cond, ◌==◌, ◌||◌, nat_le, List, [], ◌∷◌, ◌++◌, length, Option, None, Some, unwrap_or, Less, Equal, Ordering, is_eq, if◌then◌else◌, append_assoc, arith}
+use Rattle.std.proofs.Common.{◌≡◌, ℕ, ◌+◌, ◌<◌, ◌≤◌, refl, sym, ◌∙◌, ap, subst, Bool, true, false, cond, ◌==◌, ◌||◌, nat_le, List, [], ◌∷◌, ◌++◌, length, Option, None, Some, unwrap_or, Less, Equal, Ordering, if◌then◌else◌, arith}
 use Rattle.std.proofs.lemmas.Grind.{common_steps}
 use Rattle.std.proofs.lemmas.Bool.{leb-false}
 use Rattle.std.specs.FinMap as fin
-use Rattle.std.specs.List.{filter_map, AllByRecursion}
+use Rattle.std.specs.List.{AllByRecursion}
 use Rattle.jfr_base.specs.declared.flaw.Flaw.{Flaw}
-use Rattle.jfr_outside.specs.World.{World, Files, Told, grown, file as file_of}
+use Rattle.jfr_outside.specs.World.{World, Files, grown, file as file_of}
 use Rattle.jfr_header.specs.declared.ending.Ending.{Ending}
 use Rattle.jfr_header.specs.declared.ending.Ending.TheVariants.{WriteFault}
-use Rattle.jfr_plan.specs.Ends.{End, TooMany, NotWritten, way_of}
+use Rattle.jfr_plan.specs.Ends.{TooMany, NotWritten, way_of}
 use Rattle.jfr_plan.specs.Effects.{Effect, Create, Append, Finish, Stand, Outside, AtEnd, Chunks, needing, apply, effects, stand}
 use Rattle.jfr_plan.specs.Walks.{Asked, Stops, Goes, Walk, walk, walk_on, cut_after, plan_after, plan_in}
 use Rattle.jfr_plan.specs.Outcomes.{After, Breaks}

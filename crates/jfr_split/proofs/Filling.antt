@@ -1,5 +1,5 @@
 -- What the parts hold once all chunks are appended.
-use Rattle.std.proofs.Common.{◌≡◌, ℕ, zero, suc, ◌+◌, ◌<◌, ◌≤◌, refl, sym, ◌∙◌, ap, subst, Bool, true, false, cond, ◌&&◌, List, [], ◌∷◌, ◌++◌, length, Option, None, Some, unwrap_or, nat_le, ◌==◌, if◌then◌else◌, append_assoc, append-nil, arith}
+use Rattle.std.proofs.Common.{◌≡◌, ℕ, zero, suc, ◌+◌, ◌<◌, ◌≤◌, refl, sym, ◌∙◌, ap, subst, Bool, true, false, cond, ◌&&◌, List, [], ◌∷◌, ◌++◌, length, Option, Some, unwrap_or, nat_le, ◌==◌, if◌then◌else◌, append_assoc, append-nil, arith}
 use Rattle.std.proofs.lemmas.Grind.{common_steps}
 use Rattle.std.proofs.lemmas.Bool.{leb-false}
 use Rattle.std.specs.Prelude.{is_some}
@@ -7,13 +7,13 @@ use Rattle.std.specs.FinMap as fin
 use Rattle.jfr_outside.specs.World.{Files, grown}
 use Rattle.jfr_header.specs.Cuts.{joined}
 use Rattle.jfr_plan.specs.Effects.{Effect, Create, Append, Finish, Stand, apply, done}
-use Rattle.jfr_plan.specs.Walks.{Asked, Stops, Goes, asked, IsGoing, gone, AllGo}
+use Rattle.jfr_plan.specs.Walks.{Stops, Goes, asked, IsGoing, gone, AllGo}
 use Rattle.jfr_plan.specs.Ends.{TooMany}
 use Rattle.jfr_split.specs.Parts.{SplitRule, Part, no_part, begins, part_by, part_with, part_of}
 use Rattle.jfr_split.specs.Splits.{closing, asks_new, asks_part, splitting_as}
 use Rattle.jfr_split.proofs.Fold.{of_snoc, Groups, grouped, groups_after, groups}
 use Rattle.jfr_split.proofs.Rejoin.{AllFull}
-use Rattle.jfr_split.proofs.Over.{Entries, is, over, numbered, Rises, over_numbered, hides, same_name, is_self, look}
+use Rattle.jfr_split.proofs.Over.{is, over, numbered, Rises, over_numbered, hides, same_name, is_self, look}
 
 -- After these effects the open part, which held b, and the later parts hold their chunks.
 abbrev pub Fills : (ℕ → List ℕ) → ℕ → Groups → List Effect → Type 0

@@ -1,19 +1,18 @@
 -- The groups that the last part is counted by are parts, and are written.
-use Rattle.std.proofs.Common.{◌≡◌, ℕ, zero, suc, ◌+◌, ◌≤◌, refl, sym, ◌∙◌, ap, subst, Bool, true, false, ◌||◌, ◌==◌, nat_le, nat_lt, List, [], ◌∷◌, ◌++◌, length, map, Option, None, Some, append_assoc, append-nil, length-append, if◌then◌else◌, arith}
+use Rattle.std.proofs.Common.{◌≡◌, ℕ, ◌+◌, ◌≤◌, refl, sym, ◌∙◌, ap, subst, Bool, true, false, ◌||◌, ◌==◌, nat_le, nat_lt, List, [], ◌∷◌, ◌++◌, length, None, Some, append_assoc, append-nil, length-append, arith}
 use Rattle.std.proofs.lemmas.Grind.{common_steps}
-use Rattle.jfr_base.specs.declared.flaw.Flaw.{Flaw}
 use Rattle.jfr_header.specs.Cuts.{joined}
-use Rattle.jfr_plan.specs.Ends.{End, Fine}
-use Rattle.jfr_plan.specs.Effects.{Effect, Create, Append, Finish, AtEnd, needing, effects}
-use Rattle.jfr_plan.specs.Walks.{IsGoing, asked, gone, walk, cut_after, plan_after}
+use Rattle.jfr_plan.specs.Ends.{Fine}
+use Rattle.jfr_plan.specs.Effects.{Effect, Create, Append, Finish, AtEnd}
+use Rattle.jfr_plan.specs.Walks.{IsGoing, asked, gone, walk, cut_after}
 use Rattle.jfr_plan.proofs.Walking.{from_here, effects_needing}
 use Rattle.jfr_split.specs.Parts.{SplitRule, Part, folder_of, no_part, is_full, begins, part_by, part_with, part_after, part_of}
 use Rattle.jfr_split.specs.Names.{part_name}
 use Rattle.jfr_split.specs.Splits.{closing, asks_part, splitting_as}
 use Rattle.jfr_split.specs.Laws.{split_plan}
-use Rattle.jfr_split.specs.Groups.{is_full_for, Fit, IsPart, WasFull, AreParts, written, AreWritten}
+use Rattle.jfr_split.specs.Groups.{is_full_for, Fit, WasFull, AreParts, written, AreWritten}
 use Rattle.jfr_split.proofs.Basics.{same_end}
-use Rattle.jfr_split.proofs.Fold.{Groups, grouped, groups_after, groups, flat, groups_flat, of_none, of_all}
+use Rattle.jfr_split.proofs.Fold.{Groups, grouped, groups_after, groups, groups_flat, of_none, of_all}
 use Rattle.jfr_split.proofs.Ending.{good}
 use Rattle.jfr_split.proofs.Filling.{filling, AllFit, gone_filling, all_fit, all_within, new_asks, closed, some_number}
 use Rattle.jfr_split.proofs.Rejoin.{appends, joined_append}

@@ -1,5 +1,5 @@
 -- The files of a folder, joined one after another.
-use Rattle.std.proofs.Common.{IsTrue, IfSome, ◌≡◌, ℕ, zero, suc, ◌+◌, ◌<◌, ◌≤◌, refl, sym, ◌∙◌, ap, subst, Bool, true, false, cond, List, [], ◌∷◌, ◌++◌, length, drop, map, Option, None, Some, unwrap_or, Result, Ok, Err, String, string_bytes, append_assoc, arith}
+use Rattle.std.proofs.Common.{IfSome, ◌≡◌, ℕ, zero, suc, ◌+◌, ◌<◌, ◌≤◌, refl, sym, ◌∙◌, ap, subst, Bool, true, false, cond, List, [], ◌∷◌, ◌++◌, length, drop, map, Option, None, Some, unwrap_or, Result, Ok, Err, String, string_bytes, append_assoc, arith}
 use Rattle.std.specs.FinMap as fin
 use Rattle.std.specs.List.{list_any, AllByRecursion}
 use Rattle.std.specs.declared.alloc.Global.{Global}
@@ -11,9 +11,9 @@ use Rattle.jfr_header.specs.declared.ending.Ending.{Ending}
 use Rattle.jfr_header.specs.declared.ending.Ending.TheVariants as ending
 use Rattle.jfr_header.specs.declared.ending.Ending.TheVariants.{Done, ReadFault, WriteFault, TooManyParts, Memory}
 use Rattle.jfr_header.specs.Cuts.{Cuts}
-use Rattle.jfr_plan.specs.Ends.{End, Fine, Refused, TooMany, Way, Ends, NotRead, NotWritten, NoRoom, way_of}
-use Rattle.jfr_plan.specs.Effects.{Effect, Append, Finish, Stand, Plan, AtEnd, needing, stand, apply, done, effects}
-use Rattle.jfr_plan.specs.Walks.{Stops, Goes, walk, cut_after, plan_by, plan_after}
+use Rattle.jfr_plan.specs.Ends.{Fine, Refused, TooMany, Way, Ends, NotRead, NotWritten, NoRoom, way_of}
+use Rattle.jfr_plan.specs.Effects.{Effect, Append, Finish, Stand, Plan, stand, apply, done, effects}
+use Rattle.jfr_plan.specs.Walks.{Goes, walk, cut_after, plan_by, plan_after}
 use Rattle.jfr_plan.specs.Outcomes.{AllDone, OutcomeIn, OutcomeOf}
 use Rattle.jfr_plan.specs.Goings.{IsAt, IsPast}
 use Rattle.jfr_plan.specs.Parts.{PartEnded, PartStands, PartTold}

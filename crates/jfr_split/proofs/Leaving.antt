@@ -1,13 +1,13 @@
 -- What two parts of a command leave, one after the other.
-use Rattle.std.proofs.Common.{IsTrue, ◌≡◌, ℕ, refl, sym, ◌∙◌, ap, subst, Bool, List, [], ◌∷◌, ◌++◌, Option, None, Some, Result, Ok, Err, append_assoc, ◌<◌, ◌+◌, if◌then◌else◌, arith}
-use Rattle.jfr_outside.specs.World.{World, State, SinkState, Told}
+use Rattle.std.proofs.Common.{◌≡◌, ℕ, refl, sym, ◌∙◌, ap, subst, Bool, List, [], ◌∷◌, ◌++◌, Result, Ok, Err, append_assoc, ◌<◌, ◌+◌, if◌then◌else◌}
+use Rattle.jfr_outside.specs.World.{Told}
 use Rattle.jfr_header.specs.declared.ending.Ending.{Ending}
 use Rattle.jfr_header.specs.declared.ending.Ending.TheVariants.{Memory}
 use Rattle.jfr_header.proofs.Steps.{map_told, chain_told}
-use Rattle.jfr_plan.specs.Ends.{End, Fine, Refused, TooMany, Way, Ends, NotRead, NotWritten, NoRoom, way_of}
-use Rattle.jfr_plan.specs.Effects.{Outside, outside, Effect, Create, Append, Stand, stand, done, broken, Cannot}
-use Rattle.jfr_plan.specs.Walks.{Asked, Stops, Goes, asked, Target, File, Parts, Text}
-use Rattle.jfr_plan.specs.Outcomes.{SomeDone, Breaks, Kept, Counted, CountedWrite, Tallied, Rises, MayEnd}
+use Rattle.jfr_plan.specs.Ends.{Fine, Refused, TooMany, Way, Ends, NotRead, NotWritten, NoRoom, way_of}
+use Rattle.jfr_plan.specs.Effects.{Outside, Effect, Create, Append, Stand, stand, done, broken, Cannot}
+use Rattle.jfr_plan.specs.Walks.{Stops, Goes, Target, File, Parts, Text}
+use Rattle.jfr_plan.specs.Outcomes.{Kept, Counted, Tallied, Rises}
 use Rattle.jfr_plan.specs.Parts.{PartEnded, PartStands, PartTold, PartLeaves, PartTallied}
 use Rattle.jfr_plan.proofs.Walking.{done_append}
 use Rattle.std.proofs.lemmas.Bool.{lt-leb}

@@ -1,5 +1,5 @@
 -- The files that are joined, by their names.
-use Rattle.std.proofs.Common.{◌≡◌, ℕ, ◌+◌, ◌<◌, refl, sym, ◌∙◌, ap, subst, Bool, true, false, cond, ◌&&◌, T, List, [], ◌∷◌, ◌++◌, length, take, drop, map, Option, None, Some, if◌then◌else◌, filter, String, string_bytes, Equal, zero-add, encode_utf8_all, append_assoc, take-append-drop, arith}
+use Rattle.std.proofs.Common.{◌≡◌, ℕ, ◌+◌, ◌<◌, refl, sym, ◌∙◌, ap, Bool, true, false, cond, ◌&&◌, List, [], ◌∷◌, ◌++◌, length, take, drop, map, Option, None, Some, if◌then◌else◌, filter, String, string_bytes, Equal, zero-add, encode_utf8_all, append_assoc, take-append-drop}
 use Rattle.std.specs.FinMap as fin
 use Rattle.std.specs.FinMap.{slice_cmp-IsAntisymmetric, nat_cmp-IsAntisymmetric, same_map, get-entries, get-retain_keys, get-from_sorted, entries-from_sorted, entries_sorted}
 use Rattle.std.specs.FinMap.Entries.{where_key, is_sorted-where_key, find-where_key}
@@ -21,7 +21,7 @@ use Rattle.jfr_outside.specs.World.{Files, in_folder, is_plain, rest_in, names_i
 use Rattle.jfr_split.specs.Names.{is_recording, is_joined}
 use Rattle.jfr_split.specs.Joins.{files_in}
 use Rattle.jfr_split.proofs.Ordered.{order}
-use Rattle.jfr_split.proofs.Sorting.{IsUp, HaveSameSums, bytes_of, same_sorted, up_sorted, up_keys}
+use Rattle.jfr_split.proofs.Sorting.{HaveSameSums, bytes_of, same_sorted, up_sorted, up_keys}
 
 -- The names that end in `.jfr`, with their folder.
 abbrev pub joined_in : List ℕ → List (List ℕ) → List (List ℕ)

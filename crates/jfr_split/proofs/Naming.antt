@@ -1,7 +1,7 @@
 -- Names of parts rise with their numbers, and stand among the names that are joined.
-use Rattle.std.proofs.Common.{◌≡◌, ℕ, zero, suc, ◌+◌, ◌-◌, ◌/◌, ◌%◌, ◌<◌, ◌≤◌, ◌^◌, refl, sym, ◌∙◌, ap, Bool, true, false, not, ◌&&◌, List, [], ◌∷◌, ◌++◌, length, take, drop, Option, None, Some, Less, Ordering, append_assoc, length-append, length-drop, reverse, if◌then◌else◌, nat_lt, ◌==◌, arith}
+use Rattle.std.proofs.Common.{◌≡◌, ℕ, zero, suc, ◌+◌, ◌-◌, ◌/◌, ◌%◌, ◌<◌, ◌≤◌, ◌^◌, refl, sym, ◌∙◌, ap, Bool, true, false, not, ◌&&◌, List, [], ◌∷◌, ◌++◌, length, take, drop, Option, None, Some, Less, append_assoc, length-append, length-drop, reverse, if◌then◌else◌, nat_lt, ◌==◌, arith}
 use Rattle.std.specs.Str.{bytes_eq}
-use Rattle.std.specs.List.{list_all, suffix_len, after_last}
+use Rattle.std.specs.List.{suffix_len}
 use Rattle.std.specs.Option.{option_map_or}
 use Rattle.std.specs.Cmp.Lexicographic.{bytes_decides}
 use Rattle.std.proofs.lemmas.Grind.{common_steps}
@@ -12,7 +12,7 @@ use Rattle.std.proofs.Math.ListN.{get_or}
 use Rattle.std.proofs.lemmas.List.Prefix.{front_rest}
 use Rattle.jfr_header.proofs.Steps.{take_whole}
 use Rattle.jfr_outside.specs.World.{in_folder, is_plain, rest_in}
-use Rattle.jfr_split.specs.Names.{suffix, is_recording, base, without_suffix, stem, digits, within, part_name, is_joined}
+use Rattle.jfr_split.specs.Names.{suffix, is_recording, base, stem, digits, within, part_name, is_joined}
 use Rattle.jfr_split.proofs.Basics.{and_true, first_true, second_true}
 use Rattle.jfr_split.proofs.Ordered.{order, order_after, digits_less}
 use Rattle.jfr_split.proofs.Stems.{ends}

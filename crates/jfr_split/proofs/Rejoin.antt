@@ -1,14 +1,12 @@
 -- Files that hold whole chunks, each cut by itself.
-use Rattle.std.proofs.Common.{◌≡◌, ℕ, ◌+◌, ◌^◌, ◌<◌, ◌≤◌, refl, sym, ◌∙◌, ap, subst, Bool, true, false, List, [], ◌∷◌, ◌++◌, length, map, drop, Option, None, Some, append_assoc, append-nil, length-append, arith}
-use Rattle.std.proofs.lemmas.Grind.{common_steps}
-use Rattle.jfr_base.specs.declared.flaw.Flaw.{Flaw}
-use Rattle.jfr_header.specs.Fronts.{Whole, Chunk, front}
-use Rattle.jfr_header.specs.Cuts.{Cuts, cut, joined, AreCut}
-use Rattle.jfr_header.proofs.Steps.{whole_front, front_end, front_long, front_none}
+use Rattle.std.proofs.Common.{◌≡◌, ℕ, ◌+◌, ◌^◌, ◌<◌, refl, sym, ◌∙◌, ap, subst, true, false, List, [], ◌∷◌, ◌++◌, length, map, drop, None, Some, append_assoc, length-append, arith}
+use Rattle.jfr_header.specs.Fronts.{Whole}
+use Rattle.jfr_header.specs.Cuts.{Cuts, joined, AreCut}
+use Rattle.jfr_header.proofs.Steps.{whole_front, front_end}
 use Rattle.jfr_header.proofs.CutLaws.{cut_is}
 use Rattle.jfr_plan.specs.Ends.{End, Fine}
-use Rattle.jfr_plan.specs.Effects.{Effect, Append, Finish, Plan, Step, effects, Chunks, AtEnd, needing}
-use Rattle.jfr_plan.specs.Walks.{Walk, walk, cut_after, plan_by, plan_after}
+use Rattle.jfr_plan.specs.Effects.{Effect, Append, Finish, Plan, effects}
+use Rattle.jfr_plan.specs.Walks.{walk, cut_after, plan_by, plan_after}
 use Rattle.jfr_split.specs.Joins.{adding, joining}
 use Rattle.jfr_split.proofs.Composing.{Follows, follows}
 use Rattle.jfr_split.proofs.Fold.{flat}

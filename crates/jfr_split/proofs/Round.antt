@@ -1,38 +1,37 @@
 -- A recording comes back from its parts.
-use Rattle.std.proofs.Common.{◌≡◌, ℕ, zero, suc, ◌+◌, ◌^◌, ◌<◌, ◌≤◌, refl, sym, ◌∙◌, ap, subst, Bool, true, false, cond, ◌&&◌, T, nat_le, ◌==◌, List, [], ◌∷◌, ◌++◌, length, map, Option, None, Some, append_assoc, append-nil, leb→le, if◌then◌else◌, arith}
-use Rattle.std.proofs.lemmas.Grind.{common_steps}
+use Rattle.std.proofs.Common.{◌≡◌, ℕ, ◌+◌, ◌^◌, ◌<◌, refl, sym, ◌∙◌, ap, subst, Bool, true, false, cond, ◌&&◌, T, nat_le, ◌==◌, List, [], ◌∷◌, ◌++◌, length, map, Option, None, Some, append_assoc, append-nil, leb→le, if◌then◌else◌, arith}
 use Rattle.std.proofs.lemmas.Bool.{leb-false}
 use Rattle.std.specs.Prelude.{is_some}
 use Rattle.std.specs.FinMap as fin
-use Rattle.std.specs.FinMap.{find, slice_cmp-IsAntisymmetric, nat_cmp-IsAntisymmetric, same_map, get-retain_keys, get-from_sorted, entries-from_sorted, get-empty}
+use Rattle.std.specs.FinMap.{find, slice_cmp-IsAntisymmetric, nat_cmp-IsAntisymmetric, same_map, get-from_sorted, entries-from_sorted, get-empty}
 use Rattle.std.specs.Cmp.Lexicographic.{nat_list_cmp_total}
 use Rattle.jfr_base.specs.declared.flaw.Flaw.{Flaw}
 use Rattle.jfr_outside.specs.World.{Files}
 use Rattle.jfr_header.specs.Fronts.{Front, Bad, Chunk, front, Whole}
 use Rattle.jfr_header.specs.Fronts as fronts
-use Rattle.jfr_header.specs.Cuts.{Cuts, cut, joined, AreCut}
+use Rattle.jfr_header.specs.Cuts.{joined, AreCut}
 use Rattle.jfr_header.proofs.Steps.{front_end, front_long, front_none}
 use Rattle.jfr_header.proofs.CutLaws.{are_cut, all_whole, joined_all}
 use Rattle.std.specs.List.{AllByRecursion}
-use Rattle.jfr_plan.specs.Ends.{End, Fine, TooMany}
-use Rattle.jfr_plan.specs.Effects.{Effect, Create, Append, Finish, Stand, Plan, Step, AtEnd, needing, apply, done, effects}
-use Rattle.jfr_plan.specs.Walks.{Rule, Stops, Goes, Asked, walk, gone, AllGo, cut_after, plan_after}
-use Rattle.jfr_plan.proofs.Walking.{from_here, done_append, effects_needing}
-use Rattle.jfr_split.specs.Parts.{SplitRule, IsUsable, Part, folder_of, no_part, begins, part_of, part_with}
+use Rattle.jfr_plan.specs.Ends.{Fine, TooMany}
+use Rattle.jfr_plan.specs.Effects.{Effect, Create, Append, Finish, Stand, Plan, AtEnd, needing, apply, done, effects}
+use Rattle.jfr_plan.specs.Walks.{Stops, Goes, Asked, walk, gone, cut_after, plan_after}
+use Rattle.jfr_plan.proofs.Walking.{from_here, done_append}
+use Rattle.jfr_split.specs.Parts.{SplitRule, IsUsable, Part, folder_of, no_part, begins, part_of}
 use Rattle.jfr_split.specs.Names.{part_name, is_joined}
 use Rattle.jfr_split.specs.Splits.{closing, asks_part, splitting_as}
-use Rattle.jfr_split.specs.Joins.{files_in, joining, joining_all, assembling}
+use Rattle.jfr_split.specs.Joins.{files_in, joining_all}
 use Rattle.jfr_split.specs.Laws.{split_plan, split, Returns}
 use Rattle.jfr_split.proofs.Basics.{same_end}
-use Rattle.jfr_split.proofs.Fold.{flat, groups_flat, groups, groups_after, of_none}
+use Rattle.jfr_split.proofs.Fold.{groups_flat, groups, of_none}
 use Rattle.jfr_split.proofs.Ordered.{order}
-use Rattle.jfr_split.proofs.Naming.{names_rise, part_joined}
+use Rattle.jfr_split.proofs.Naming.{part_joined}
 use Rattle.jfr_split.proofs.Ending.{NeverFine, good}
-use Rattle.jfr_split.proofs.Over.{Entries, is, over, numbered, Rises, sorted_numbered, same_name, is_self, look}
+use Rattle.jfr_split.proofs.Over.{Entries, is, over, numbered, sorted_numbered, same_name, is_self, look}
 use Rattle.jfr_split.proofs.Filling.{filling, AllFit, gone_filling, all_fit, all_within, filled, all_full, stands, grown_at}
 use Rattle.jfr_split.proofs.Creating.{rises}
 use Rattle.jfr_split.proofs.Assembled.{kept_at}
-use Rattle.jfr_split.proofs.Rejoin.{Early, AllFull, appends, rejoins}
+use Rattle.jfr_split.proofs.Rejoin.{Early, appends, rejoins}
 
 never_new : (b : Bool) (es : List Effect) → ◌≡◌ {A = Asked} (if b then Stops TooMany else Goes es) (Stops Fine) → ⊥
 never_new true es e = cc

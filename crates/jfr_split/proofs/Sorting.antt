@@ -1,9 +1,9 @@
 -- Lists in byte order with the same elements are equal.
-use Rattle.std.proofs.Common.{◌≡◌, ℕ, zero, suc, ◌+◌, ◌<◌, ◌≤◌, refl, sym, ◌∙◌, ap, subst, Bool, true, false, cond, ◌&&◌, T, List, [], ◌∷◌, length, map, Less, Equal, Greater, Ordering, String, string_bytes, arith}
+use Rattle.std.proofs.Common.{◌≡◌, ℕ, suc, ◌+◌, ◌<◌, refl, sym, ◌∙◌, ap, subst, Bool, true, false, cond, T, List, [], ◌∷◌, length, map, Less, Equal, Greater, Ordering, String, string_bytes, arith}
 use Rattle.std.specs.Ordering.{is_lt, ordering_reverse}
 use Rattle.std.specs.Str.{bytes_eq}
 use Rattle.std.specs.List.{AllByRecursion, sum_by}
-use Rattle.std.specs.List.Sorted.{IsSorted, IsSortedBy}
+use Rattle.std.specs.List.Sorted.{IsSorted}
 use Rattle.std.specs.FinMap.{slice_cmp-IsAntisymmetric, nat_cmp-IsAntisymmetric, is_sorted}
 use Rattle.std.specs.FinMap.Entries.{below_all}
 use Rattle.std.specs.Cmp.Lexicographic.{nat_list_cmp_total, bytes_decides}

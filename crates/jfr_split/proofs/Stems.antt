@@ -1,12 +1,12 @@
 -- What std's searches in a text say of the stem of a name.
-use Rattle.std.proofs.Common.{◌≡◌, ℕ, suc, ◌+◌, ◌-◌, ◌<◌, ◌≤◌, refl, sym, ◌∙◌, ap, subst, Bool, true, false, not, cond, ◌&&◌, List, [], ◌∷◌, ◌++◌, length, take, drop, Option, None, Some, ◌==◌, nat_eq, nat_lt, if◌then◌else◌, arith, take-append-drop, length-drop}
-use Rattle.std.specs.List.{suffix_len, after_last, ends_with}
+use Rattle.std.proofs.Common.{◌≡◌, ℕ, ◌+◌, ◌-◌, ◌<◌, ◌≤◌, refl, sym, ◌∙◌, ap, Bool, true, false, not, ◌&&◌, List, ◌++◌, length, take, drop, Some, ◌==◌, nat_eq, nat_lt, if◌then◌else◌, arith, take-append-drop, length-drop}
+use Rattle.std.specs.List.{suffix_len, after_last}
 use Rattle.std.specs.Str.{NoCharPasses}
-use Rattle.std.specs.Str.Pattern.{RFindsChar, HasCharAt}
+use Rattle.std.specs.Str.Pattern.{RFindsChar}
 use Rattle.std.specs.Cmp.Lexicographic.{pointwise, bytes_decides}
-use Rattle.std.proofs.lemmas.Bool.{ne_eqb, eq-eqb, eqb-true}
+use Rattle.std.proofs.lemmas.Bool.{ne_eqb, eq-eqb}
 use Rattle.std.proofs.lemmas.List.{get_or-drop}
-use Rattle.std.proofs.lemmas.List.Sums.{suffix_len_is, suffix_len-le-length}
+use Rattle.std.proofs.lemmas.List.Sums.{suffix_len_is}
 use Rattle.std.proofs.lemmas.List.Prefix.{end_rest}
 use Rattle.std.proofs.lemmas.Str.Pattern.{NoCharPasses-char}
 use Rattle.std.proofs.Math.ListN.{get_or}

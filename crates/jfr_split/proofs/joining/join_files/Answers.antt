@@ -1,8 +1,7 @@
-use Rattle.std.proofs.Common.{◌≡◌, ◌≤◌, ◌<◌, ◌∙◌, refl, ap, subst, Bool, List, ℕ, [], ◌∷◌, length, None, Ok, Err, String, string_bytes, arith}
+use Rattle.std.proofs.Common.{◌≡◌, ◌∙◌, refl, ap, subst, Bool, [], ◌∷◌, None, Ok, Err, String, string_bytes, arith}
 use Rattle.std.specs.declared.alloc.Global.{Global}
 use Rattle.jfr_outside.specs.World.{SinkState, Told}
-use Rattle.jfr_header.specs.declared.ending.Ending.TheVariants.{Done}
-use Rattle.jfr_plan.specs.Ends.{Way, Ends, Fine, way_of}
+use Rattle.jfr_plan.specs.Ends.{Ends, Fine, way_of}
 use Rattle.jfr_plan.specs.Effects.{Finish, alone}
 use Rattle.jfr_plan.specs.Walks.{Goes, File}
 use Rattle.jfr_plan.specs.Outcomes.{OutcomeOf, Kept}

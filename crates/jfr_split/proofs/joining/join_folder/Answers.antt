@@ -1,4 +1,4 @@
-use Rattle.std.proofs.Common.{IfSome, ◌≡◌, ◌∙◌, sym, subst, Bool, List, ℕ, [], ◌∷◌, None, Ok, Err, String}
+use Rattle.std.proofs.Common.{IfSome, ◌≡◌, ◌∙◌, sym, subst, Bool, List, [], ◌∷◌, None, Ok, Err, String}
 use Rattle.std.specs.FinMap as fin
 use Rattle.std.specs.declared.alloc.Global.{Global}
 use Rattle.jfr_outside.specs.World.{SinkState, Told}

@@ -1,4 +1,4 @@
-use Rattle.std.proofs.Common.{◌≡◌, ◌≤◌, length, List, ℕ, map, encode_utf8_all, ◌∙◌, ap, arith}
+use Rattle.std.proofs.Common.{◌≤◌, length, List, ℕ, map, encode_utf8_all, ◌∙◌, ap, arith}
 use Rattle.std.proofs.lemmas.List.{take_all}
 use Rattle.jfr_split.proofs.Listed.{joined_in, listed_more, sorted_files}
 use Rattle.jfr_split.proofs.listing.joined_files.Goals as goal

@@ -1,4 +1,4 @@
-use Rattle.std.proofs.Common.{◌≡◌, ◌∙◌, sym, ap, Bool, List, ℕ, [], ◌∷◌, ◌++◌, false, append-nil, if◌then◌else◌}
+use Rattle.std.proofs.Common.{◌≡◌, ◌∙◌, sym, ap, Bool, [], ◌∷◌, ◌++◌, false, append-nil, if◌then◌else◌}
 use Rattle.std.proofs.lemmas.Str.Pattern.{ends_text}
 use Rattle.jfr_outside.specs.World.{in_folder}
 use Rattle.jfr_split.specs.Names.{suffix, is_recording}

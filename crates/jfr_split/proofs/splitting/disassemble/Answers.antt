@@ -1,4 +1,3 @@
-use Rattle.std.proofs.Common.{[]}
 use Rattle.jfr_plan.specs.Ends.{way_of}
 use Rattle.jfr_plan.specs.Effects.{alone}
 use Rattle.jfr_plan.specs.Walks.{Parts}

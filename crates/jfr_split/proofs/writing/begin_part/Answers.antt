@@ -1,7 +1,7 @@
 use Rattle.std.proofs.Common.{◌+◌, ◌<◌, sym, subst, [], ◌∷◌, ◌++◌, Err, arith}
 use Rattle.jfr_split.specs.Parts.{folder_of}
 use Rattle.jfr_plan.specs.Effects.{outside, Create, Append}
-use Rattle.jfr_plan.specs.Walks.{Asked, Goes, Parts}
+use Rattle.jfr_plan.specs.Walks.{Asked, Parts}
 use Rattle.jfr_plan.specs.Parts.{PartLeaves}
 use Rattle.jfr_split.specs.Names.{part_name}
 use Rattle.jfr_split.specs.Splits.{closing}
