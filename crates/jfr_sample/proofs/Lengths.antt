@@ -1,12 +1,12 @@
 -- How long the parts of a sample are.
-use Rattle.std.proofs.Common.{◌≡◌, ℕ, zero, suc, ◌+◌, ◌-◌, ◌*◌, ◌<◌, ◌≤◌, ◌/◌, ◌%◌, Bool, true, false, List, [], ◌∷◌, ◌++◌, length, decimal, refl, sym, ◌∙◌, ap, subst, arith, nat_lt, ◌==◌, if◌then◌else◌, length-append, mul-suc, add-one}
+use Rattle.std.proofs.Common.{◌≡◌, ℕ, zero, suc, ◌+◌, ◌-◌, ◌*◌, ◌<◌, ◌≤◌, ◌/◌, ◌%◌, Bool, true, false, List, [], ◌∷◌, ◌++◌, length, decimal, refl, sym, ◌∙◌, ap, arith, nat_lt, ◌==◌, if◌then◌else◌, length-append, mul-suc, add-one}
 use Rattle.std.specs.List.{flat_map, range_with_len}
 use Rattle.std.proofs.lemmas.Fmt.{length-decimal-le}
 use Rattle.std.proofs.lemmas.Nat.{mod_below}
 use Rattle.jfr_base.specs.Integer.{spell, spell_in, Spells}
 use Rattle.jfr_base.proofs.Spelling.{spell_short}
 use Rattle.jfr_sample.specs.Metadata.{string_of, metadata}
-use Rattle.jfr_sample.specs.Sample.{draw, key_of, record_of, event_a, event_b, event_by, event, events_to, next_of, entry, entries_to, checkpoint, before_checkpoint}
+use Rattle.jfr_sample.specs.Sample.{draw, key_of, record_of, event_a, event_b, event, events_to, next_of, entry, entries_to, checkpoint}
 use Rattle.jfr_sample.proofs.PartLaws.{parts_more}
 
 three_bytes : Spells (255 ∷ 255 ∷ 127 ∷ []) 2097151

@@ -1,4 +1,4 @@
-use Rattle.std.proofs.Common.{◌++◌, drop, sym, ap, subst, List, ℕ, ◌∙◌}
+use Rattle.std.proofs.Common.{◌++◌, drop, sym, subst, List, ℕ, ◌∙◌}
 use Rattle.std.proofs.lemmas.List.{length-take-le}
 use Rattle.jfr_header.specs.Fronts.{Whole}
 use Rattle.jfr_sample.proofs.WholeLaws.{whole_by}
