@@ -1,7 +1,7 @@
 -- After a failed read within one of the files the first of its chunks are appended.
-use Rattle.std.proofs.Common.{IsTrue, Err, ◌≡◌, ℕ, ◌+◌, ◌-◌, ◌≤◌, refl, sym, ◌∙◌, ap, Bool, true, false, List, [], ◌∷◌, ◌++◌, length, take, drop, Option, None, Some, take-append-drop, length-take-le, nat_le, if◌then◌else◌, arith}
+use Rattle.std.proofs.Common.{IsTrue, Result, Ok, Err, subst, ◌≡◌, ℕ, ◌+◌, ◌-◌, ◌≤◌, refl, sym, ◌∙◌, ap, Bool, true, false, List, [], ◌∷◌, ◌++◌, length, take, drop, Option, None, Some, take-append-drop, length-take-le, nat_le, if◌then◌else◌, arith}
 use Rattle.std.specs.List.{list_any}
-use Rattle.std.specs.Prelude.{IsErrOf}
+use Rattle.std.specs.Prelude.{MatchResult, IsErrAnd, IsErrOf}
 use Rattle.jfr_outside.specs.World.{World, Files, Told, Leaves, unchanged}
 use Rattle.jfr_outside.specs.declared.fault.Fault.{Fault}
 use Rattle.jfr_outside.specs.declared.fault.Fault.TheVariants as faults
@@ -72,3 +72,9 @@ pub not_listed : (T : Type 0) (steady : Bool) (plan : Files → Plan) (fault : F
 not_listed T steady plan fault y o None a is t never = tt
 not_listed T steady plan faults.Failed y o (Some w) a is t never = rw is (rw t (record { first = []; rest = effects (plan w.files).steps; parts = refl; unfinished = refl; stands = refl; cause = λ k. never k refl }))
 not_listed T steady plan faults.Memory y o (Some w) a is t never = rw is (rw t (record { first = []; rest = effects (plan w.files).steps; parts = refl; stands = refl }))
+
+-- A read that gave up is told by how the command ends.
+pub gave_up : {T : Type 0} (r : Result T Fault) (z : Result T Ending) (y : Ending) → MatchResult r (λ x. z ≡ Ok x) (λ e. IsErrAnd z (λ k. k ≡ after_read e)) → z ≡ Err y → (fault : Fault) × (r ≡ Err fault) × (y ≡ after_read fault)
+gave_up (Ok x) z y h is = cc
+gave_up (Err fault) (Ok x) y h is = cc
+gave_up (Err fault) (Err k) y h is = (fault, refl, subst (λ z. IsErrAnd z (λ k. k ≡ after_read fault)) is h)

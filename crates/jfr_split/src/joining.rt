@@ -17,7 +17,7 @@ use crate::effects::{append_chunk, create_output, finish_output};
 use crate::listing::joined_files;
 use jfr_base::{Reason, Refusal};
 use jfr_header::Ending;
-use jfr_outside::{NoMemory, Place, Sink};
+use jfr_outside::{Place, Sink};
 use jfr_plan::{Discard, Position, Stage, run_stage};
 use std::alloc::Global;
 
@@ -117,14 +117,8 @@ fn list_files<P: Place>(alloc: Global, place: &mut P, folder: &str) -> Result<Ve
         (λ _. Counted Kept Kept Kept (alone (P.state place.old)) (alone (P.state place.new)))
         (λ e. Tallied File (way_of e) (alone (P.state place.old)) (alone (P.state place.new))) }
 {
-    let names = match place.list(alloc, folder) {
-        Ok(names) => names,
-        Err(fault) => return Err(Ending::of_read(fault)),
-    };
-    match joined_files(alloc, folder, &names) {
-        Ok(files) => Ok(files),
-        Err(NoMemory) => Err(Ending::Memory),
-    }
+    let names = place.list(alloc, folder).map_err(Ending::of_read)?;
+    Ok(joined_files(alloc, folder, &names)?)
 }
 
 // Lists the folder, creates the output, and joins the files. All clauses of `assemble` follow from these

@@ -49,10 +49,7 @@ impl Stage for Splitting<'_> {
         chunk: &[u8],
         _number: u64,
     ) -> Result<(), Ending> {
-        match write_chunk(self.alloc, place, self.rule, self.file, &self.part, chunk) {
-            Ok(()) => {}
-            Err(ending) => return Err(ending),
-        }
+        write_chunk(self.alloc, place, self.rule, self.file, &self.part, chunk)?;
         self.part = next_part(self.rule, &self.part, chunk);
         Ok(())
     }

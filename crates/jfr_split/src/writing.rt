@@ -44,13 +44,8 @@ fn open_part<P: Place>(
     ensures counts { (sink : SinkState) → PartTallied Parts result
         (outside (P.state place.old) sink) (outside (P.state place.new) sink) }
 {
-    match close_part(place, part) {
-        Ok(()) => {}
-        Err(ending) => return Err(ending),
-    }
-    let Ok(name) = part_string(alloc, folder_name(rule), file, part.number + 1) else {
-        return Err(Ending::Memory);
-    };
+    close_part(place, part)?;
+    let name = part_string(alloc, folder_name(rule), file, part.number + 1)?;
     create_output(place, name.as_str())
 }
 
@@ -74,10 +69,7 @@ fn begin_part<P: Place>(
     if rule.max_parts <= part.number {
         return Err(Ending::TooManyParts);
     }
-    match open_part(alloc, place, rule, file, part) {
-        Ok(()) => {}
-        Err(ending) => return Err(ending),
-    }
+    open_part(alloc, place, rule, file, part)?;
     append_chunk(place, chunk)
 }
 

@@ -1,17 +1,22 @@
 use Rattle.std.proofs.Common.{None, refl}
+use Rattle.std.proofs.lemmas.Result.{err_from_is_err_and}
 use Rattle.jfr_plan.specs.Effects.{alone}
 use Rattle.jfr_plan.specs.Walks.{File}
 use Rattle.jfr_plan.proofs.Failing.{read_tallied}
-use Rattle.jfr_split.proofs.Halting.{not_listed}
+use Rattle.jfr_split.proofs.Halting.{gave_up, not_listed}
 use Rattle.jfr_split.proofs.joining.list_files.Goals as goal
 
-pub returns-in-Err-clause-ended : goal.returns-in-Err-clause-ended
-returns-in-Err-clause-ended g c = λ plan.
-    not_listed _ (g.P.Place.state c.args.place.now).steady plan c.in-Err.fault c.of_read.result None (g.P.Place.state c.args.place.now).told (g.P.Place.state c.list.new.self).told c.of_read.ensures
-    (rw c.in-Err.is at c.list.ensures.told)
-    (rw c.in-Err.is at c.list.ensures.steady)
+pub returns-in_err-names-clause-ended : goal.returns-in_err-names-clause-ended
+returns-in_err-names-clause-ended g c =
+    let p = err_from_is_err_and c.from_residual.result c.from_residual.ensures.1 in
+    let r = gave_up c.list.result c.map_err.result c.in_err-names.field-0.0 c.map_err.ensures.cases c.in_err-names.was in
+    rw (p.1, p.2) (λ plan. not_listed _ (g.P.Place.state c.args.place.now).steady plan r.0 c.in_err-names.field-0.0 None (g.P.Place.state c.args.place.now).told (g.P.Place.state c.list.new.self).told r.2
+    (rw r.1 at c.list.ensures.told)
+    (rw r.1 at c.list.ensures.steady))
 
-pub returns-in-Err-clause-counts : goal.returns-in-Err-clause-counts
-returns-in-Err-clause-counts g c =
-    read_tallied File c.in-Err.fault c.of_read.result (alone (g.P.Place.state c.args.place.now)) (alone (g.P.Place.state c.list.new.self)) c.of_read.ensures
-    (rw c.in-Err.is at c.list.ensures.reads) c.list.ensures.writes refl c.list.ensures.same
+pub returns-in_err-names-clause-counts : goal.returns-in_err-names-clause-counts
+returns-in_err-names-clause-counts g c =
+    let p = err_from_is_err_and c.from_residual.result c.from_residual.ensures.1 in
+    let r = gave_up c.list.result c.map_err.result c.in_err-names.field-0.0 c.map_err.ensures.cases c.in_err-names.was in
+    rw (p.1, p.2) (read_tallied File r.0 c.in_err-names.field-0.0 (alone (g.P.Place.state c.args.place.now)) (alone (g.P.Place.state c.list.new.self)) r.2
+    (rw r.1 at c.list.ensures.reads) c.list.ensures.writes refl c.list.ensures.same)
