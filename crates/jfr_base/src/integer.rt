@@ -35,10 +35,7 @@ pub fn read_var(bytes: &[u8], at: usize) -> Result<Var, Short>
     ensures refused { OnErr result ((q v : ℕ) → IntAt bytes.now at q v → ⊥) }
     ensures exact { MatchResult result (λ v. int_at bytes.now at (length bytes.now) ≡ Some v) (λ _. int_at bytes.now at (length bytes.now) ≡ None) }
 {
-    match read_within(bytes, at, bytes.len()) {
-        Ok(var) => Ok(var),
-        Err(_) => Err(Short),
-    }
+    read_within(bytes, at, bytes.len()).map_err(|_| Short)
 }
 
 /// Reads the compressed integer that begins at the offset `at` and ends by `end`. Where none does, the flaw

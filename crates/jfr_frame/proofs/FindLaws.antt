@@ -1,11 +1,12 @@
 -- The record of a number, and the one that a place and a type find.
-use Rattle.std.specs.Prelude.{◌≡◌, ℕ, zero, suc, ◌+◌, ◌<◌, ◌≤◌, List, [], ◌∷◌, length, slice_get, Option, None, Some, Result, Ok, Err, MatchResult, option_and_then, is_some, ◌==◌, ◌&&◌, Bool, true, false, if◌then◌else◌}
+use Rattle.std.specs.Prelude.{◌≡◌, ℕ, zero, suc, ◌+◌, ◌<◌, ◌≤◌, List, [], ◌∷◌, length, slice_get, Option, None, Some, Result, Ok, Err, MatchResult, IfSome, option_and_then, is_some, ◌==◌, ◌&&◌, Bool, true, false, if◌then◌else◌}
 use Rattle.std.proofs.Common.{ap, arith, refl, sym, ◌∙◌, subst, get_or, inl, inr, ◌⊎◌, Ordering, Less, Equal, Greater}
 use Rattle.std.proofs.lemmas.Bool.{cases_lt}
 use Rattle.std.proofs.lemmas.List.Sorted.{searched}
 use Rattle.std.proofs.lemmas.List.{length-map}
 use Rattle.std.proofs.Math.ListN.{get_or-map}
 use Rattle.std.specs.List.Sorted.{IsBinarySearchResult, IsNonDecreasingBy}
+use Rattle.std.specs.Result.{result_ok}
 use Rattle.std.specs.Ordering.{nat_cmp, ordering_index}
 use Rattle.jfr_frame.specs.declared.framed.Framed.{Framed}
 use Rattle.jfr_frame.specs.declared.start.Start.{Start}
@@ -75,13 +76,17 @@ found_in all at r rising s = searched (places_of all) at r s (λ i j k l. (risin
 pub records_rise : (c : List ℕ) (starts : List Start) (all : List Framed) → AreStarts c starts → records_at c starts ≡ all → Rising 68 all
 records_rise c starts all h v = rising_of c 68 68 (length c) all (omega arith) (subst (AreRecords c) v h.cover)
 
-pub there_found : (all : List Framed) (at t n : ℕ) (o : Option Framed) → Rising 68 all → IsBinarySearchResult (λ place. nat_cmp place at) (places_of all) (Ok n) → o ≡ slice_get all n → record_there all at t ≡ option_and_then (if_type t) o
-there_found all at t n o rising s g =
-    let m = found_in all at (Ok n) rising s in
-    there_at 68 all n at t rising m.0 m.1 ∙ ap (option_and_then (if_type t)) (sym g)
+-- The record at the place that a binary search found.
+pub there_found : (all : List Framed) (at t n : ℕ) (o : Option Framed) (r : Result ℕ ℕ) → Rising 68 all → IsBinarySearchResult (λ place. nat_cmp place at) (places_of all) r → result_ok r ≡ Some n → o ≡ slice_get all n → record_there all at t ≡ option_and_then (if_type t) o
+there_found all at t n o (Err m) rising s is g = cc
+there_found all at t n o (Ok m) rising s is g =
+    let f = found_in all at (Ok n) rising (subst (λ (k : Option ℕ). IfSome k (λ i. IsBinarySearchResult (λ place. nat_cmp place at) (places_of all) (Ok i))) is s) in
+    there_at 68 all n at t rising f.0 f.1 ∙ ap (option_and_then (if_type t)) (sym g)
 
-pub there_not_found : (all : List Framed) (at t n : ℕ) → Rising 68 all → IsBinarySearchResult (λ place. nat_cmp place at) (places_of all) (Err n) → record_there all at t ≡ None
-there_not_found all at t n rising s =
+-- No record is at the place where a binary search found none.
+pub there_not_found : (all : List Framed) (at t : ℕ) (r : Result ℕ ℕ) → Rising 68 all → IsBinarySearchResult (λ place. nat_cmp place at) (places_of all) r → result_ok r ≡ None → record_there all at t ≡ None
+there_not_found all at t (Ok n) rising s is = cc
+there_not_found all at t (Err n) rising s is =
     let m = found_in all at (Err n) rising s in
     there_nowhere all at t (λ k i is. other all k i is (cases_lt k n) m)
   where

@@ -101,14 +101,8 @@ fn unusual_out_of_line(chunk: &[u8], at: usize) -> Option<Framed>
     requires { at < length chunk.now }
     ensures { result ≡ record_at chunk.now at }
 {
-    let size = match read_within(chunk, at, chunk.len()) {
-        Ok(size) => size,
-        Err(_) => return None,
-    };
-    let type_id = match read_within(chunk, size.end, chunk.len()) {
-        Ok(type_id) => type_id,
-        Err(_) => return None,
-    };
+    let size = read_within(chunk, at, chunk.len()).ok()?;
+    let type_id = read_within(chunk, size.end, chunk.len()).ok()?;
     framed_by(chunk, at, Head { size, type_id })
 }
 

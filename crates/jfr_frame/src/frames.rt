@@ -163,10 +163,7 @@ impl<'a> Frames<'a> {
     pub fn find(&self, at: u64, type_id: u64) -> Option<Framed>
         ensures { result ≡ record_there self.now at type_id }
     {
-        let number = match self.number_at(at as usize) {
-            Ok(number) => number,
-            Err(_) => return None,
-        };
+        let number = self.number_at(at as usize).ok()?;
         let record = self.get(number)?;
         if record.type_id == type_id {
             Some(record)

@@ -92,15 +92,9 @@ impl Buffer {
         ensures writes { (P.state place.new).write_faults ≡ (P.state place.old).write_faults }
         ensures steady { (P.state place.new).steady ≡ (P.state place.old).steady }
     {
-        match make_room(&mut self.room, self.count, until) {
-            Ok(()) => {}
-            Err(_) => return Err(Fault::Memory),
-        }
+        make_room(&mut self.room, self.count, until)?;
         let most = self.room.len().min(until);
-        let count = match place.read(&mut self.room[self.count..most]) {
-            Ok(count) => count,
-            Err(fault) => return Err(fault),
-        };
+        let count = place.read(&mut self.room[self.count..most])?;
         self.count += count;
         Ok(count)
     }
@@ -122,10 +116,8 @@ impl Buffer {
         ensures steady { (P.state place.new).steady ≡ (P.state place.old).steady }
     {
         'reads: while self.len() < until {
-            match self.read(place, until) {
-                Ok(0) => return Ok(()),
-                Ok(_) => {}
-                Err(fault) => return Err(fault),
+            if self.read(place, until)? == 0 {
+                return Ok(());
             }
         }
         Ok(())

@@ -92,20 +92,16 @@ impl Classes {
     pub fn find(&self, id: u64) -> Option<&ClassInfo>
         ensures { option_copied result ≡ find_class self.now id }
     {
-        match self.resolved.index_of(id) {
-            Some(index) => Some(self.resolved.class_at(index)),
-            None => None,
-        }
+        let index = self.resolved.index_of(id)?;
+        Some(self.resolved.class_at(index))
     }
 
     /// The kind of the class of an id; `None` exactly where no class has it.
     pub fn kind(&self, id: u64) -> Option<Kind>
         ensures { result ≡ option_map (λ c. kind_of c.name) (find_class self.now id) }
     {
-        match self.resolved.index_of(id) {
-            Some(index) => Some(self.resolved.kind_at(index)),
-            None => None,
-        }
+        let index = self.resolved.index_of(id)?;
+        Some(self.resolved.kind_at(index))
     }
 
     /// The number of the field of a name, in the class of an id; `None` exactly where there is no such
@@ -113,10 +109,7 @@ impl Classes {
     pub fn field_named(&self, id: u64, name: &str) -> Option<usize>
         ensures { result ≡ option_and_then (λ c. field_number c.fields (chars name.now)) (find_class self.now id) }
     {
-        match self.find(id) {
-            Some(class) => class.fields.number(name),
-            None => None,
-        }
+        self.find(id)?.fields.number(name)
     }
 
     /// Whether records of this type are events: the type is the id of an event class.

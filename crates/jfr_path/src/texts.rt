@@ -10,7 +10,7 @@ ghost use Rattle.jfr_path.specs.Threads.{allows_behind};
 
 use crate::names::{behind_keys, behind_references, named_field};
 use crate::steps::string_of;
-use jfr_base::NoMemory;
+use jfr_base::{NoMemory, Text};
 use jfr_chunk::Chunk;
 use jfr_filter::Filter;
 use jfr_text::{StringSpan, text_of};
@@ -112,9 +112,5 @@ fn allows_string(alloc: Global, filter: &Filter, span: &StringSpan<'_>) -> Resul
     ensures { IfOk result (λ allowed. allowed ≡ allows_thread filter.now (strings.text_of (content_of span.now))) }
 {
     let text = text_of(alloc, span)?;
-    let text = match &text {
-        Some(text) => Some(text.as_str()),
-        None => None,
-    };
-    Ok(filter.allows_thread(text))
+    Ok(filter.allows_thread(text.as_ref().map(Text::as_str)))
 }

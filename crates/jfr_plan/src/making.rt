@@ -44,9 +44,7 @@ impl<M: Make> Stage for Making<'_, M> {
             Ok(()) => {}
             Err(fault) => return Err(Ending::of_chunk(number, fault)),
         }
-        let Ok(pieces) = self.make.pieces(self.alloc, chunk) else {
-            return Err(Ending::Memory);
-        };
+        let pieces = self.make.pieces(self.alloc, chunk)?;
         place.append_pieces(&pieces).map_err(Ending::of_write)
     }
 

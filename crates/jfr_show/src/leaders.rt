@@ -48,8 +48,6 @@ pub(crate) fn leader_of(classes: &Classes, leaders: &[usize], id: u64) -> Option
     ensures exact { result ≡ leader_of classes.now leaders.now id }
     ensures within { IfSome result (λ leader. leader < length classes.now) }
 {
-    match classes.event_layout(id) {
-        Some(layout) => Some(leaders[layout.class_index]),
-        None => None,
-    }
+    let layout = classes.event_layout(id)?;
+    Some(leaders[layout.class_index])
 }

@@ -22,7 +22,7 @@ returns-clause-told g c = λ before seen number.
     let refusal = g.M.Make.refusal c.args.self.now.make c.args.chunk.now in
     let becomes = g.M.Make.becomes c.args.self.now.make c.args.chunk.now in
     let bytes = bytes_in c.deref.result.now in
-    let made : becomes ≡ bytes = sym (ap bytes_in c.deref.ensures.value ∙ c.in-Ok-pieces.ensures ∙ c.in-Ok.ensures.made) in
+    let made : becomes ≡ bytes = sym (ap bytes_in c.deref.ensures.value ∙ c.in_ok-pieces.ensures ∙ c.in-Ok.ensures.made) in
     let is : asks_made refusal (length before + 1) becomes ≡ Goes (Append bytes ∷ []) =
     ap (λ (o : Option Flaw). asks_made o (length before + 1) becomes) c.in-Ok.ensures.ok ∙ ap (λ (l : List ℕ). Goes (Append l ∷ [])) made in
     append_leaves (g.P.Place.state c.args.place.now).steady (asks_made refusal (length before + 1) becomes) bytes (g.O.Sink.state c.args._out.now).written (g.P.Place.state c.args.place.now).told (g.P.Place.state c.append_pieces.new.self).told c.append_pieces.result c.map_err.result is c.map_err.ensures.cases c.append_pieces.ensures.told c.append_pieces.ensures.open c.append_pieces.ensures.steady
