@@ -88,10 +88,6 @@ module _ (k : Classes) (leaders : List ℕ) (led : AreLeaders k leaders) where
       let own = zip_back (IsLed k) k leaders s.class_index (get_or leaders s.class_index 0) led (slice_get-get_or leaders s.class_index 0 (layout_within id s e)) in
       name_within k own.0.name (get_or leaders s.class_index 0) own.2
 
--- Records of a type that are no events have no leader.
-pub no_leader : (k : Classes) (leaders : List ℕ) (id : ℕ) → is_event_class k id ≡ false → None ≡ leader_of k leaders id
-no_leader k leaders id e = sym (ap (λ b. option_and_then (slice_get leaders) (cond b (class_index k id) None)) e)
-
 module _ (k : Classes) (texts : List (List ℕ)) where
   -- The class that is kept of a string has the string as its name.
   pub name_kept : (named : BTreeMap ℕ ℕ) (string first : ℕ) → AreNamed k texts named → Some first ≡ tree.get nat_cmp named string → HasName k (text_at texts string) first
