@@ -1,7 +1,7 @@
 -- The children of a node in order: they cover it, and what it refers to and its leaves are theirs.
-use Rattle.std.specs.Prelude.{◌≡◌, ◌↔◌, ℕ, ◌+◌, ◌≤◌, false, true, List, [], ◌∷◌, ◌++◌, flat_map, length, map, slice_get, slice_range, Ok, Option, Some, None, option_to_list, if◌then◌else◌}
+use Rattle.std.specs.Prelude.{◌≡◌, ◌↔◌, ℕ, ◌+◌, ◌≤◌, false, true, List, [], ◌∷◌, ◌++◌, flat_map, length, map, slice_get, slice_range, Some, None, option_to_list, if◌then◌else◌}
 use Rattle.std.proofs.Common.{ap, arith, refl, sym, ◌∙◌, subst}
-use Rattle.jfr_base.specs.Formats.{Answer, Reads, run}
+use Rattle.jfr_base.specs.Formats.{Answer, Reads}
 use Rattle.jfr_base.specs.Integer.{worth_within}
 use Rattle.jfr_base.proofs.Exact.{Says, run_says}
 use Rattle.jfr_base.proofs.Ranges.{range_length}

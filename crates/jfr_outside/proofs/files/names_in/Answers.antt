@@ -3,7 +3,7 @@ use Rattle.std.specs.Str.{encode_utf8_all}
 use Rattle.std.specs.Map.Iter.{deref}
 use Rattle.std.specs.BTreeMap as tree
 use Rattle.std.proofs.lemmas.Map.Iter.{iter_end}
-use Rattle.jfr_outside.specs.World.{rest_in, slice_of}
+use Rattle.jfr_outside.specs.World.{rest_in}
 use Rattle.jfr_outside.proofs.NameLaws.{one_more, passed_over, all_seen}
 use Rattle.jfr_outside.proofs.files.names_in.Goals as goal
 
