@@ -1,5 +1,5 @@
 -- The separate clauses of the top call, from the one that has all cases.
-use Rattle.std.specs.Prelude.{◌≡◌, ◌≢◌, ◌<◌, ◌≤◌, ◌⊎◌, ℕ, List, [], Option, None, Some, IfSome}
+use Rattle.std.specs.Prelude.{◌≡◌, ◌<◌, ◌≤◌, ◌⊎◌, ℕ, List, [], Option, None, Some, IfSome}
 use Rattle.std.proofs.Common.{ap, arith, refl, sym, ◌∙◌, subst, inl, inr}
 use Rattle.jfr_outside.specs.World.{World, State, SinkState, Told}
 use Rattle.jfr_outside.specs.Counts.{Rose}
@@ -7,22 +7,22 @@ use Rattle.jfr_base.specs.declared.flaw.Refusal.{Refusal}
 use Rattle.jfr_header.specs.declared.ending.Ending.{Ending}
 use Rattle.jfr_header.specs.declared.ending.Ending.TheVariants.{Done, Refused, ReadFault, WriteFault, TooManyParts, Memory}
 use Rattle.jfr_filter.specs.Filters.{Given}
-use Rattle.jfr_plan.specs.Ends.{End, Fine, Way, Ends, NotRead, NotWritten, NoRoom, way_of}
+use Rattle.jfr_plan.specs.Ends.{End, Fine, way_of}
 use Rattle.jfr_plan.specs.Ends as ends
 use Rattle.jfr_plan.specs.Effects.{Outside, effects, stand}
 use Rattle.jfr_plan.specs.Walks.{Target, File, Parts, Text}
-use Rattle.jfr_plan.specs.Outcomes.{SomeDone, AllDone, Outcome, Tallied}
-use Rattle.jfr_plan.specs.Clauses.{IsPlanned, ByPlan, ForMemory, write_count}
+use Rattle.jfr_plan.specs.Outcomes.{SomeDone, AllDone, Tallied}
+use Rattle.jfr_plan.specs.Clauses.{ForMemory, write_count}
 use Rattle.jfr_plan.proofs.Clauses as plan
 use Rattle.jfr_scrub.specs.Headline.{IsByPlan, Scrubs}
 use Rattle.jfr_words.specs.declared.order.Order.{Order}
 use Rattle.jfr_words.specs.declared.order.Order.TheVariants as orders
 use Rattle.jfr_words.specs.Words.{order_of, file_name}
-use Rattle.jfr_cli.specs.Works.{Work, Over, Joins, Alone, work_of, plan_of, target_of, text_on, HaltsAs, Stands, Leaves, KeepsSink, KeepsPlace, CanReadAll, CanCreateFor}
-use Rattle.jfr_cli.specs.Answers.{status_of, line_of, usage_line, refusal_line, read_line, write_line, parts_line, IsAnswered, Fully, IsSaid, IsMemorySaid}
+use Rattle.jfr_cli.specs.Works.{Work, Over, Joins, Alone, work_of, plan_of, target_of, text_on, Leaves, KeepsSink, KeepsPlace, CanReadAll, CanCreateFor}
+use Rattle.jfr_cli.specs.Answers.{status_of, line_of, usage_line, read_line, write_line, parts_line, IsAnswered, Fully, IsSaid, IsMemorySaid}
 use Rattle.jfr_cli.specs.Answers as answers
 use Rattle.jfr_cli.proofs.Counting.{none_rose, tallied_once, steady_stays, place_passed, sink_passed, writes_stay}
-use Rattle.jfr_cli.specs.Runs.{Carries, Answers, Usage, Unread, Carried, Under, Ended, Halted, Broken, Partly, StandsPartly, Prefix, Whole, Met, Torn, CountsOnce, IsPlannedStatus, ByEnd, ByMemory, status_of_end, IsRefused}
+use Rattle.jfr_cli.specs.Runs.{Carries, Answers, Usage, Unread, Carried, Under, Ended, Halted, Broken, StandsPartly, Prefix, Whole, Met, Torn, CountsOnce, IsPlannedStatus, ByEnd, ByMemory, status_of_end, IsRefused}
 use Rattle.jfr_cli.specs.Runs as runs
 
 -- What stands after an ending, where memory was wanting for its line.

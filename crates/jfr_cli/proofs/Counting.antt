@@ -1,6 +1,6 @@
 -- Which counts rose, over a place and the output sink.
-use Rattle.std.specs.Prelude.{◌≡◌, ◌≢◌, ◌<◌, ◌⊎◌, ℕ}
-use Rattle.std.proofs.Common.{ap, arith, refl, sym, ◌∙◌, subst, inl, inr}
+use Rattle.std.specs.Prelude.{◌≡◌, ◌≢◌, ◌<◌, ℕ}
+use Rattle.std.proofs.Common.{ap, arith, refl}
 use Rattle.jfr_outside.specs.World.{State, SinkState}
 use Rattle.jfr_header.specs.declared.ending.Ending.{Ending}
 use Rattle.jfr_header.specs.declared.ending.Ending.TheVariants.{Done, Refused, ReadFault, WriteFault, TooManyParts, Memory}
@@ -8,7 +8,6 @@ use Rattle.jfr_plan.specs.Ends.{Way, Ends, NotRead, NotWritten, NoRoom, way_of}
 use Rattle.jfr_plan.specs.Effects.{Outside, outside, alone}
 use Rattle.jfr_plan.specs.Walks.{Target, File, Parts, Text}
 use Rattle.jfr_plan.specs.Outcomes.{Kept, Counted, Tallied}
-use Rattle.jfr_plan.specs.Clauses.{write_count}
 use Rattle.jfr_cli.specs.Runs as runs
 use Rattle.jfr_cli.specs.Runs.{CountsOnce}
 

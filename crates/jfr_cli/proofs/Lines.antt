@@ -1,10 +1,9 @@
 -- Lines on a sink.
-use Rattle.std.specs.Prelude.{◌≡◌, ℕ, ◌≤◌, List, [], length, take, Option, None, Some, option_map}
-use Rattle.std.proofs.Common.{ap, arith, refl, sym, ◌∙◌, subst}
-use Rattle.std.proofs.lemmas.List.{take_all, append-nil}
+use Rattle.std.specs.Prelude.{◌≡◌, ℕ, ◌≤◌, List, take, Some, option_map}
+use Rattle.std.proofs.Common.{ap, refl, ◌∙◌, subst}
 use Rattle.jfr_outside.specs.World.{SinkState, added}
 use Rattle.jfr_outside.specs.Counts.{Rose}
-use Rattle.jfr_cli.specs.Answers.{IsAnswered, Fully, ForMemory, IsSaid, Part, IsMemorySaid, Line, Silent, memory_line}
+use Rattle.jfr_cli.specs.Answers.{IsAnswered, Fully, ForMemory, Part, IsMemorySaid, Line, Silent, memory_line}
 
 -- A write that failed leaves a part of the line.
 pub said_partly : (line bytes : List ℕ) (status : ℕ) (a b : SinkState) → bytes ≡ line → (k : ℕ) × (b.written ≡ option_map (added (take k bytes)) a.written) → (a.faults ≤ b.faults) × Rose a.faults b.faults → IsAnswered status (Some line) status a b

@@ -1,7 +1,7 @@
 -- Names of files, and what calls over one recording leave.
-use Rattle.std.specs.Prelude.{◌≡◌, ℕ, List, [], encode_utf8_all}
+use Rattle.std.specs.Prelude.{◌≡◌, ℕ, List, encode_utf8_all}
 use Rattle.std.specs.Str.{chars, IsUtf8}
-use Rattle.std.proofs.Common.{ap, refl, sym, ◌∙◌, subst}
+use Rattle.std.proofs.Common.{ap, sym, ◌∙◌}
 use Rattle.std.proofs.lemmas.Str.{encodes-chars}
 use Rattle.jfr_words.specs.Words.{file_name}
 

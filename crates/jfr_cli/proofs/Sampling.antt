@@ -1,8 +1,7 @@
 -- The sample's text on the output sink.
-use Rattle.std.specs.Prelude.{◌≡◌, ◌≢◌, ℕ, Bool, List, [], ◌∷◌, take, Option, None, Some, option_map, Result, Ok, Err, encode_utf8_all}
+use Rattle.std.specs.Prelude.{◌≡◌, ◌≢◌, ℕ, Bool, List, [], take, Option, None, Some, option_map, Result, Ok, Err, encode_utf8_all}
 use Rattle.std.proofs.Common.{ap, refl, sym, ◌∙◌, subst}
 use Rattle.jfr_base.specs.declared.flaw.Flaw.{Flaw}
-use Rattle.jfr_base.specs.declared.flaw.ReadFault.{ReadFault as Unread}
 use Rattle.jfr_base.specs.declared.flaw.ReadFault.TheVariants as readings
 use Rattle.jfr_outside.specs.World.{World, State, SinkState, Told, LeavesPrefix, added}
 use Rattle.jfr_outside.specs.Counts.{Counts}
@@ -12,10 +11,11 @@ use Rattle.jfr_header.specs.declared.ending.Ending.{Ending}
 use Rattle.jfr_header.specs.declared.ending.Ending.TheVariants.{ReadFault, Refused, WriteFault, Memory}
 use Rattle.jfr_header.specs.Nexts.{at_chunk}
 use Rattle.jfr_header.specs.Endings.{after_write, after_chunk}
-use Rattle.jfr_plan.specs.Ends.{End, Fine, Way, Ends, NotWritten, NoRoom, refused, way_of}
-use Rattle.jfr_plan.specs.Effects.{Outside, Write, outside, stand, done, effects}
+use Rattle.jfr_base.specs.declared.flaw.ReadFault.{ReadFault as Unread}
+use Rattle.jfr_plan.specs.Ends.{Fine, Way, Ends, NotWritten, NoRoom, refused, way_of}
+use Rattle.jfr_plan.specs.Effects.{Write, outside, stand, effects}
 use Rattle.jfr_plan.specs.Walks.{Text}
-use Rattle.jfr_plan.specs.Outcomes.{Outcome, AllDone, SomeDone, Breaks, Tallied}
+use Rattle.jfr_plan.specs.Outcomes.{Outcome, AllDone, Breaks, Tallied}
 use Rattle.jfr_pool.specs.Faults.{TellsFlaw}
 use Rattle.jfr_demo.specs.Demo.{sampled}
 use Rattle.jfr_words.specs.declared.order.Order.TheVariants.{Sample}

@@ -1,5 +1,5 @@
 -- What the program answers: the status, and the line on the error sink.
-use Rattle.std.specs.Prelude.{◌≡◌, ℕ, List, [], ◌∷◌, ◌++◌, take, Option, None, Some, option_map, codes}
+use Rattle.std.specs.Prelude.{◌≡◌, ℕ, List, ◌++◌, take, Option, None, Some, option_map, codes}
 use Rattle.std.specs.Fmt.{decimal}
 use Rattle.jfr_base.specs.declared.flaw.Refusal.{Refusal}
 use Rattle.jfr_base.specs.Reasons.{reason_name}

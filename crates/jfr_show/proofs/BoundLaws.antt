@@ -1,7 +1,7 @@
 -- What a chunk adds to the totals is no more than its bytes.
-use Rattle.std.specs.Prelude.{◌≡◌, ℕ, ◌+◌, ◌*◌, ◌^◌, ◌<◌, ◌≤◌, Bool, true, false, cond, List, [], ◌∷◌, filter, length, map, Option, reverse}
+use Rattle.std.specs.Prelude.{◌≡◌, ℕ, ◌+◌, ◌*◌, ◌^◌, ◌<◌, ◌≤◌, Bool, true, false, cond, List, [], ◌∷◌, filter, length, Option}
 use Rattle.std.specs.List.{AllByRecursion}
-use Rattle.std.proofs.Common.{ap, arith, subst, sym, ◌∙◌}
+use Rattle.std.proofs.Common.{ap, arith}
 use Rattle.std.proofs.lemmas.List.{length-map}
 use Rattle.jfr_layout.specs.Classes.{is_event_class}
 use Rattle.jfr_frame.specs.declared.framed.Framed.{Framed}
@@ -16,7 +16,7 @@ use Rattle.jfr_chunk.proofs.Members.{contains_in}
 use Rattle.jfr_chunk.proofs.StandingLaws.{described_sound, tiles_each}
 use Rattle.jfr_show.specs.Counting.{AreBelow}
 use Rattle.jfr_show.specs.Summing.{IsBounded}
-use Rattle.jfr_show.specs.Totals.{Tallies, Totals, occurrence, occurrences}
+use Rattle.jfr_show.specs.Totals.{Tallies, Totals, occurrences}
 use Rattle.jfr_show.specs.declared.beginning.Beginning.{Beginning}
 use Rattle.jfr_show.proofs.SizeLaws.{chosen_within, occurrences_are, records_within}
 

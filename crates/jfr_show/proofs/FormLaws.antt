@@ -7,7 +7,7 @@ use Rattle.jfr_base.specs.Integer.{IntAt, Spells, worth_within}
 use Rattle.jfr_base.specs.Formats.{int_at, run}
 use Rattle.jfr_base.proofs.OneAnswer.{int_computed}
 use Rattle.jfr_base.proofs.RunLaws.{Stands, stands_split, exact_run}
-use Rattle.jfr_text.specs.Strings.{Content, Key, IsString, string_format}
+use Rattle.jfr_text.specs.Strings.{Content, IsString, string_format}
 use Rattle.jfr_text.specs.Strings as strings
 use Rattle.jfr_layout.specs.Classes.{Class, Classes, find_class, inline_form, kind_of, item_of}
 use Rattle.jfr_layout.specs.declared.form.Form.TheVariants as forms

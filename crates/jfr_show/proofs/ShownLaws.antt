@@ -5,7 +5,7 @@ use Rattle.std.proofs.Common.{ap, refl, sym, ◌∙◌}
 use Rattle.jfr_base.specs.declared.integer.Var.{Var}
 use Rattle.jfr_base.specs.Integer.{worth_within}
 use Rattle.jfr_base.specs.Formats.{int_at, run}
-use Rattle.jfr_text.specs.Strings.{Content, string_format}
+use Rattle.jfr_text.specs.Strings.{string_format}
 use Rattle.jfr_text.specs.Strings as strings
 use Rattle.jfr_text.specs.Spans.{content_of, content_by}
 use Rattle.jfr_text.specs.declared.span.StringSpan.{StringSpan}

@@ -1,5 +1,5 @@
 -- The events of a chunk are no more than its bytes, and their records have no more bytes.
-use Rattle.std.specs.Prelude.{◌≡◌, ℕ, ◌+◌, ◌^◌, ◌<◌, ◌≤◌, ◌==◌, Bool, true, false, cond, List, [], ◌∷◌, filter, length, map, take, Option, None, Some, Ok, slice_get, sum_by, unwrap_or}
+use Rattle.std.specs.Prelude.{◌≡◌, ℕ, ◌+◌, ◌^◌, ◌<◌, ◌≤◌, ◌==◌, Bool, true, false, cond, List, [], ◌∷◌, filter, length, map, take, Option, None, Some, slice_get, sum_by, unwrap_or}
 use Rattle.std.specs.List.{AllByRecursion, cons_option, filter_map}
 use Rattle.std.specs.Str.{bytes_eq}
 use Rattle.std.specs.FinMap as fin
@@ -19,7 +19,7 @@ use Rattle.jfr_chunk.specs.Parts.{AreParts, HasFields, Parts, event_by, event_of
 use Rattle.jfr_chunk.proofs.AllLaws.{filter_all}
 use Rattle.jfr_chunk.proofs.StandingLaws.{tiles_each}
 use Rattle.jfr_show.specs.declared.tally.Tally.{Tally}
-use Rattle.jfr_show.specs.Counting.{AddsEvents, AreBelow, FitsUnder, added, both, class_tally, is_at, no_tally}
+use Rattle.jfr_show.specs.Counting.{AddsEvents, AreBelow, FitsUnder, added, both, no_tally}
 use Rattle.jfr_show.specs.Totals.{Occurrence, Tallies, occurrence, occurrences, of_name, tally_of}
 
 -- No more than so many records, of no more than so many bytes.

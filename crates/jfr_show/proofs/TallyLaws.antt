@@ -1,5 +1,5 @@
 -- Tallies by name, in a map and as a value.
-use Rattle.std.specs.Prelude.{◌≡◌, ℕ, zero, suc, ◌+◌, ◌==◌, Bool, true, false, cond, ◌&&◌, T, List, [], ◌∷◌, ◌++◌, filter, length, map, Option, None, Some, String, string_bytes, sum_by, unwrap_or}
+use Rattle.std.specs.Prelude.{◌≡◌, ℕ, ◌==◌, Bool, true, false, cond, ◌&&◌, T, List, [], ◌∷◌, map, Option, None, Some, String, string_bytes, unwrap_or}
 use Rattle.std.specs.FinMap as fin
 use Rattle.std.specs.FinMap.{entries-from_sorted, find, get-from_entries, get-from_sorted, is_sorted, same_map, slice_cmp-IsAntisymmetric, nat_cmp-IsAntisymmetric}
 use Rattle.std.specs.Ordering.{is_eq, is_lt, nat_cmp}
@@ -13,15 +13,12 @@ use Rattle.std.specs.Str.{bytes_eq}
 use Rattle.std.specs.String.{string_cmp}
 use Rattle.std.specs.BTreeMap.{BTreeMap, get_by_text, is_at, UpdatesBy}
 use Rattle.std.specs.declared.alloc.Global.{Global}
-use Rattle.std.proofs.Common.{ap, arith, refl, sym, subst, ◌∙◌, append-nil}
-use Rattle.std.proofs.lemmas.List.{length-append}
-use Rattle.std.proofs.lemmas.List.Sums.{sum_by-append, sum_by-cons}
-use Rattle.std.proofs.lemmas.Map.Text.{btree_map_updates_text, is_eq-slice_cmp}
+use Rattle.std.proofs.Common.{ap, arith, refl, sym, subst, ◌∙◌}
+use Rattle.std.proofs.lemmas.Map.Text.{btree_map_updates_text}
 use Rattle.std.proofs.lemmas.Slice.Eq.{bytes_eq-Decides}
 use Rattle.jfr_show.specs.declared.tally.Tally.{Tally}
-use Rattle.jfr_show.specs.Counting.{AddsEvents, AddsTally, added, both, no_tally}
+use Rattle.jfr_show.specs.Counting.{AddsTally, added, both, no_tally}
 use Rattle.jfr_show.specs.Held.{entry_of, tallies_in}
-use Rattle.jfr_show.specs.Totals.{Occurrence, Tallies, of_name, tallies_of, tally_of}
 
 -- Tallies in memory, by name.
 abbrev pub TallyMap : Type 0

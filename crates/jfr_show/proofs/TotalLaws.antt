@@ -3,8 +3,8 @@ use Rattle.std.specs.Prelude.{◌≡◌, ℕ, ◌+◌, List, [], ◌∷◌, ◌+
 use Rattle.std.specs.Option.{option_map, option_or}
 use Rattle.std.specs.List.{flat_map}
 use Rattle.std.specs.FinMap as fin
-use Rattle.std.specs.FinMap.{find, get-empty, get-from_entries, same_map, slice_cmp-IsAntisymmetric, nat_cmp-IsAntisymmetric}
-use Rattle.std.specs.Ordering.{eq_by_cmp, is_eq, nat_cmp}
+use Rattle.std.specs.FinMap.{find, get-from_entries, same_map, slice_cmp-IsAntisymmetric, nat_cmp-IsAntisymmetric}
+use Rattle.std.specs.Ordering.{eq_by_cmp, nat_cmp}
 use Rattle.std.specs.Cmp.{eq_by_cmp_equiv}
 use Rattle.std.specs.Cmp.Lexicographic.{slice_cmp, nat_list_cmp_total}
 use Rattle.std.specs.Str.{bytes_eq}
@@ -19,7 +19,7 @@ use Rattle.jfr_show.specs.declared.beginning.Beginning.{Beginning}
 use Rattle.jfr_show.specs.declared.tally.Tally.{Tally}
 use Rattle.jfr_show.specs.Counting.{AddsEvents, added, both, no_tally}
 use Rattle.jfr_show.specs.Totals.{Occurrence, Tallies, Totals, beginning_of, count_in_force, header_in, occurrences, of_name, tallies_of, tally_of, totals_of}
-use Rattle.jfr_show.proofs.ClassTallies.{added_some, added_twice, both_none}
+use Rattle.jfr_show.proofs.ClassTallies.{added_some, added_twice}
 use Rattle.jfr_show.proofs.TallyLaws.{tally_path}
 
 -- Names tie where they have the same bytes.

@@ -1,5 +1,5 @@
 -- The totals of chunks, and how they are shown.
-use Rattle.std.specs.Prelude.{ℕ, ◌==◌, Bool, false, List, [], ◌∷◌, ◌++◌, length, map, filter, count_by, sum_by, take, slice_get, codes, decimal, Option, option_map}
+use Rattle.std.specs.Prelude.{ℕ, ◌==◌, Bool, false, List, [], ◌++◌, length, map, filter, count_by, sum_by, take, slice_get, codes, decimal, Option, option_map}
 use Rattle.std.specs.List.{enumerate_from, flat_map}
 use Rattle.std.specs.Option.{option_map_or}
 use Rattle.std.specs.Ordering.{nat_cmp}

@@ -1,4 +1,4 @@
-use Rattle.std.proofs.Common.{[], subst, sym, refl}
+use Rattle.std.proofs.Common.{subst, sym, refl}
 use Rattle.jfr_plan.specs.Ends.{way_of}
 use Rattle.jfr_plan.specs.Effects.{alone}
 use Rattle.jfr_plan.specs.Clauses.{CanCreate}

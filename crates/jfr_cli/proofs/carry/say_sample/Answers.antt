@@ -1,4 +1,4 @@
-use Rattle.std.proofs.Common.{◌∙◌, refl, sym}
+use Rattle.std.proofs.Common.{◌∙◌, refl}
 use Rattle.jfr_header.specs.declared.ending.Ending.TheVariants.{Done}
 use Rattle.jfr_cli.proofs.Orders.{named}
 use Rattle.jfr_cli.proofs.Sampling.{written_whole, carries_sample, sample_failed, write_failed}

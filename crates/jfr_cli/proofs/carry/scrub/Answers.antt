@@ -1,8 +1,7 @@
 use Rattle.std.proofs.Common.{[], subst, sym, refl}
 use Rattle.jfr_outside.specs.World.{Told}
-use Rattle.jfr_header.specs.declared.ending.Ending.TheVariants.{WriteFault}
 use Rattle.jfr_plan.specs.Ends.{way_of}
-use Rattle.jfr_plan.specs.Effects.{outside, alone}
+use Rattle.jfr_plan.specs.Effects.{alone}
 use Rattle.jfr_plan.specs.Outcomes.{After}
 use Rattle.jfr_plan.specs.Clauses.{CanCreate}
 use Rattle.jfr_plan.proofs.Clauses as clauses

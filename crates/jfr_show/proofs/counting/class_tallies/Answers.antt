@@ -1,4 +1,4 @@
-use Rattle.std.proofs.Common.{◌≡◌, ◌≤◌, ℕ, ◌∙◌, ◌++◌, ◌∷◌, [], List, ap, arith, length, subst, sym, take, drop}
+use Rattle.std.proofs.Common.{◌≤◌, ◌∙◌, ◌++◌, ◌∷◌, [], List, arith, length, subst, sym, take, drop}
 use Rattle.jfr_frame.specs.declared.framed.Framed.{Framed}
 use Rattle.jfr_show.specs.Counting.{AreSmall, AreTallies}
 use Rattle.jfr_show.proofs.RecordTallies.{counted_small, next_counted}

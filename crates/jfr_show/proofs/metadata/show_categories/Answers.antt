@@ -1,4 +1,4 @@
-use Rattle.std.proofs.Common.{rules, List, ℕ, ◌≡◌, ◌++◌, ◌∙◌, ap, codes, subst, OnOk, append_assoc, Some, ◌≤◌}
+use Rattle.std.proofs.Common.{rules, List, ℕ, ◌≡◌, ◌++◌, ◌∙◌, ap, codes, subst, OnOk, append_assoc}
 use Rattle.std.specs.Str.{chars}
 use Rattle.jfr_show.specs.Texts.{quoted, newline}
 use Rattle.jfr_show.specs.Metadata.{categories_line}

@@ -1,7 +1,6 @@
-use Rattle.std.specs.Prelude.{◌≡◌, ◌++◌, codes, decimal, take}
+use Rattle.std.specs.Prelude.{◌≡◌, ◌++◌, take}
 use Rattle.std.specs.List.{flat_map}
 use Rattle.jfr_show.specs.Metadata.{class_lines}
-use Rattle.jfr_show.specs.Texts.{newline}
 use Rattle.jfr_show.proofs.metadata.show_metadata.Given as goal
 
 abbrev pub invariant-loop-place : goal.invariant-loop-place

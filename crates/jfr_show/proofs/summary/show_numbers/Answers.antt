@@ -1,4 +1,4 @@
-use Rattle.std.proofs.Common.{List, ℕ, ◌∙◌, ◌++◌, ap, codes, refl}
+use Rattle.std.proofs.Common.{List, ℕ, ◌∙◌, ◌++◌, ap, codes}
 use Rattle.std.proofs.lemmas.Result.{on_ok_weaker}
 use Rattle.jfr_show.specs.Totals.{Totals, number_line, version_line}
 use Rattle.jfr_show.proofs.ListingLaws.{line_more}

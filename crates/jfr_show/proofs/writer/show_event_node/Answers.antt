@@ -1,4 +1,4 @@
-use Rattle.std.proofs.Common.{◌≡◌, ℕ, ◌≤◌, ◌++◌, [], length, IsSome, ap, arith, sym, ◌∙◌, subst}
+use Rattle.std.proofs.Common.{◌≤◌, ◌++◌, [], IsSome, ap, arith, sym, ◌∙◌, subst}
 use Rattle.jfr_layout.specs.declared.form.Form.TheVariants as forms
 use Rattle.jfr_layout.specs.declared.shape.Shape.{Shape}
 use Rattle.jfr_layout.specs.Classes.{Sound, find_class}

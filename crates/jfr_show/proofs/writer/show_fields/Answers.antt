@@ -1,8 +1,7 @@
-use Rattle.std.proofs.Common.{◌≡◌, ℕ, ◌+◌, ◌-◌, ◌≤◌, ◌++◌, IfSome, slice_get, ap, arith, sym, ◌∙◌, subst, get_or, Some}
+use Rattle.std.proofs.Common.{◌≡◌, ◌+◌, ◌-◌, ◌++◌, IfSome, slice_get, ap, arith, sym, ◌∙◌, subst, get_or, Some}
 use Rattle.std.specs.Prelude.{drop}
 use Rattle.std.specs.Str.{chars}
 use Rattle.jfr_layout.specs.Classes.{Class, AreFieldLayouts}
-use Rattle.jfr_value.specs.Nodes.{EndsAt}
 use Rattle.jfr_value.specs.Visits.{field_shapes}
 use Rattle.jfr_value.specs.Walks.{Room}
 use Rattle.jfr_value.proofs.VisitLaws.{field_next, fields_past, room_first}

@@ -1,14 +1,13 @@
-use Rattle.std.proofs.Common.{rules, ◌≡◌, ◌+◌, ◌*◌, ◌^◌, ◌<◌, ◌≤◌, ℕ, Some, ap, arith, length, subst, sym, ◌∙◌}
+use Rattle.std.proofs.Common.{rules, ◌≡◌, ◌+◌, ◌^◌, ◌<◌, ◌≤◌, Some, ap, arith, length, subst, sym, ◌∙◌}
 use Rattle.std.specs.Option.{option_or}
 use Rattle.std.proofs.lemmas.List.{length-reverse}
 use Rattle.std.proofs.lemmas.Result.{on_ok_weaker}
 use Rattle.jfr_header.specs.declared.header.Header.{Header}
-use Rattle.jfr_chunk.specs.Parts.{Parts}
 use Rattle.jfr_chunk.proofs.CountLaws.{whole_small}
 use Rattle.jfr_show.specs.Counting.{AreBelow}
 use Rattle.jfr_show.specs.Held.{tallies_in}
 use Rattle.jfr_show.specs.Totals.{Totals, beginning_of, count_in_force}
-use Rattle.jfr_show.specs.Summing.{IsBounded, totals_in}
+use Rattle.jfr_show.specs.Summing.{totals_in}
 use Rattle.jfr_show.proofs.BoundLaws.{below_more, bounded_next, chunk_short, sum_fits}
 use Rattle.jfr_show.proofs.TotalLaws.{totals_added}
 use Rattle.jfr_show.proofs.summary.Summary.add.Goals as goal
