@@ -1,4 +1,4 @@
--- What a place that tells nothing owes to clauses on what is told.
+-- A place of whose files nothing is known meets the clauses about known files.
 use Rattle.std.specs.Prelude.{ℕ, List, None, Ok, Err, Result, OnOk, IfOk, ⊤}
 use Rattle.std.proofs.Common.{refl}
 use Rattle.jfr_outside.specs.declared.fault.Fault.{Fault}

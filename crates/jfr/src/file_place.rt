@@ -1,5 +1,5 @@
-// Real files. A place tells what names hold, and no clause can say that of the system's files; what a call
-// does to the file that is open stands as a clause of its own.
+//! Real files. The contracts of `Place` are about the contents of all names, of which a proof can know nothing
+//! here. So additional clauses say what a call does to the open file.
 ghost use Rattle.std.specs.Prelude.{◌≡◌, ◌≤◌, length, IfOk, IsSome, None, OnOk};
 ghost use Rattle.std.specs.Io.KnownBytes.{Appends};
 ghost use Rattle.jfr_outside.specs.Counts.{Counts};
@@ -13,15 +13,15 @@ use std::fs::{Files, OpenOptions};
 use std::io::{BufWriter, Error, ErrorKind, Read, Write};
 use std::{fs, io};
 
-/// So many bytes of small pieces are gathered for one write.
+/// The size of the buffer in which small pieces are collected for one write.
 const GATHERED: usize = 65536;
 
-/// And so many are written by one call at most: where it was measured, on Linux, calls with twenty times as
-/// many took three times as long for the same bytes.
+/// The most bytes that one call writes. On Linux, much larger writes are slower for the same data.
 const PORTION: usize = 1_048_576;
 
-/// The files of the system, with at most one open input and one open output. Outputs are created new. A
-/// call that fails raises its count, of reads or of writes; one that lacks memory raises none.
+/// The files of the system, with at most one open input and one open output. An existing file is never opened
+/// as the output. A call that fails raises its count, of read faults or of write faults; one that runs out of
+/// memory raises none.
 #[derive(Drop)]
 pub struct FilePlace<'a, R: Files> {
     rt: &'a R,
@@ -48,8 +48,8 @@ impl<'a, R: Files> FilePlace<'a, R> {
     }
 }
 
-/// Writes pieces to a file, one behind another, and hands it back. Small ones are gathered. Without memory
-/// for that nothing is written.
+/// Writes pieces to a file, one after another, and returns the file. Small pieces are collected in a buffer.
+/// If there is no memory for the buffer, nothing is written.
 fn write_pieces<W: Write + Drop>(alloc: Global, file: W, pieces: &[&[u8]]) -> Result<W, Fault>
     ensures grew { IfOk result (λ new. Appends (W.contents file) (W.contents new) (bytes_in pieces.now)) }
 {
@@ -63,7 +63,7 @@ fn write_pieces<W: Write + Drop>(alloc: Global, file: W, pieces: &[&[u8]]) -> Re
     }
 }
 
-/// Writes pieces, one behind another.
+/// Writes pieces, one after another.
 fn write_each<W: Write>(writer: &mut W, pieces: &[&[u8]]) -> Result<(), Fault>
     ensures grew { OnOk result (Appends (W.contents writer.old) (W.contents writer.new) (bytes_in pieces.now)) }
 {
@@ -86,7 +86,7 @@ fn write_portions<W: Write>(writer: &mut W, bytes: &[u8]) -> Result<(), Fault>
     Ok(())
 }
 
-/// The names of the regular files in a folder, as the system gives them, which names each once.
+/// The names of the regular files in a folder, in the system's order, which lists each name once.
 fn names_in<R: Files + Alloc + Clone + Drop>(
     rt: &R,
     alloc: Global,
@@ -102,8 +102,8 @@ fn names_in<R: Files + Alloc + Clone + Drop>(
     Ok(names)
 }
 
-/// Whether a path leads to a regular file. A link that leads nowhere leads to none, and is passed over as a
-/// folder is, since no reader of the folder could open it.
+/// Whether a path leads to a regular file. A broken link doesn't, and is skipped as a folder is, since
+/// nothing could open it.
 fn is_file<R: Files>(rt: &R, path: &str) -> io::Result<bool> {
     match fs::metadata(rt, path) {
         Ok(metadata) => Ok(metadata.is_file()),
@@ -191,7 +191,7 @@ impl<'a, R: Files + Alloc + Clone + Drop> Place for FilePlace<'a, R> {
         }
     }
 
-    /// Where it fails or lacks memory, the file is closed.
+    /// If the call fails or runs out of memory, the file is closed.
     fn append_pieces(&mut self, pieces: &[&[u8]]) -> Result<(), Fault>
         ensures grew { OnOk result (Grew R.File.contents self.old.output self.new.output (bytes_in pieces.now)) }
         ensures reads { self.new.read_faults ≡ self.old.read_faults }
@@ -227,8 +227,8 @@ impl<'a, R: Files + Alloc + Clone + Drop> Place for FilePlace<'a, R> {
         }
     }
 
-    /// The regular files, links followed. A folder that isn't there is a failed read, and so is a name that
-    /// isn't UTF-8.
+    /// The regular files, after following links. If the folder doesn't exist or a name isn't UTF-8, the read
+    /// has failed.
     fn list(&mut self, alloc: Global, folder: &str) -> Result<Words, Fault>
         ensures input { self.new.input ≡ self.old.input }
         ensures output { self.new.output ≡ self.old.output }

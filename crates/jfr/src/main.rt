@@ -1,7 +1,8 @@
-//! The program `jfr`: the real files and streams, the words of the command line, and the exit status.
+//! The program `jfr`: real files and streams, the words of the command line, and the exit status.
 //!
-//! `jfr_cli::run` decides all but two things: a word that isn't UTF-8 counts as no words at all, a usage
-//! fault; and where memory is wanting for the words, the status is 5 and no line is written.
+//! `jfr_cli::run` decides everything except two things. If a word isn't UTF-8, the program behaves as without
+//! any words, which is a usage error. If memory runs out for the words, the status is 5 and no line is
+//! written.
 #![tactic(auto)]
 
 mod counts;
@@ -37,7 +38,7 @@ fn main(rt: HostRuntime) -> ExitCode {
         Err(error) if error.kind() == io::ErrorKind::OutOfMemory => {
             return ExitCode::from(NO_MEMORY);
         }
-        // A word isn't UTF-8: no words are a usage fault, too.
+        // A word isn't UTF-8. An empty list of words is a usage error too.
         Err(_) => Words::new(alloc),
     };
     let mut place = FilePlace::new(&rt, alloc);

@@ -1,4 +1,5 @@
-// A real stream. No clause can say what it holds; what a call hands to it stands as a clause of its own.
+//! A real stream. A proof can know nothing of what it holds, so an additional clause says what a call writes
+//! to it.
 ghost use Rattle.std.specs.Prelude.{◌≡◌, OnOk};
 ghost use Rattle.std.specs.Io.KnownBytes.{Appends};
 ghost use Rattle.jfr_outside.specs.Counts.{Counts};
@@ -8,7 +9,7 @@ use crate::counts::failed;
 use jfr_outside::{Fault, Sink};
 use std::io::Write;
 
-/// A stream that is flushed after each write, and whose count rises at every error.
+/// A stream that is flushed after each write, with a count that rises at every error.
 #[derive(Drop)]
 pub struct StreamSink<W: Write + Drop> {
     stream: W,

@@ -1,4 +1,4 @@
-// Real files: what no clause can say of a name.
+//! Tests of real files, for what no clause can say about them.
 use crate::file_place::FilePlace;
 use jfr_outside::{Fault, Place};
 use std::alloc::Global;
@@ -10,7 +10,7 @@ const NAME: &str = "jfr_file_place_test";
 
 const FOLDER: &str = "jfr_file_place_folder";
 
-// Makes the folder anew, with one file and one folder in it.
+// Creates the folder anew, with one file and one folder in it.
 fn make_folder(rt: &HostRuntime) -> io::Result<()> {
     let _ = fs::remove_dir_all(rt, FOLDER);
     fs::create_dir(rt, FOLDER)?;
@@ -18,7 +18,7 @@ fn make_folder(rt: &HostRuntime) -> io::Result<()> {
     fs::write(rt, "jfr_file_place_folder/a.jfr", b"a")
 }
 
-// The names in a folder: this one alone.
+// Checks that this is the only name in the folder.
 fn one_name<P: Place>(rt: &impl Abort, place: &mut P, alloc: Global, name: &str) {
     match place.list(alloc, FOLDER) {
         Ok(found) => {
@@ -29,7 +29,7 @@ fn one_name<P: Place>(rt: &impl Abort, place: &mut P, alloc: Global, name: &str)
     }
 }
 
-// There is no such folder.
+// Checks that the folder doesn't exist.
 fn no_names<P: Place>(rt: &impl Abort, place: &mut P, alloc: Global) {
     match place.list(alloc, FOLDER) {
         Ok(_) => assert!(rt; false),
@@ -40,9 +40,9 @@ fn no_names<P: Place>(rt: &impl Abort, place: &mut P, alloc: Global) {
 #[test]
 fn what_is_written_is_read_back(rt: HostRuntime) -> Result<(), Fail> {
     let alloc = rt.alloc();
-    // A run that was stopped may have left it.
+    // An interrupted run may have left the file.
     let _ = fs::remove_file(&rt, NAME);
-    // More than the system is handed by one call.
+    // More than one call writes.
     let large = vec![in alloc; 7u8; 1_100_000]?;
     let mut place = FilePlace::new(&rt, alloc);
     assert!(rt; place.open_input(NAME).is_err());

@@ -1,4 +1,4 @@
--- Formats that read the same bytes alike, at whatever places.
+-- Formats that read the same bytes in the same way, at any offsets.
 use Rattle.std.specs.Prelude.{◌≡◌, ℕ, zero, suc, ◌+◌, ◌-◌, ◌≤◌, List, [], ◌∷◌, slice_range, slice_index, None, ⊤}
 use Rattle.std.proofs.Common.{ap, arith, refl, sym, ◌∙◌, subst}
 use Rattle.jfr_base.specs.Integer.{IntAt}
@@ -6,7 +6,7 @@ use Rattle.jfr_base.specs.Formats.{Format, Done, Int, Byte, Run, Here, Refuse, �
 use Rattle.jfr_base.proofs.Copies.{Copy, copy_cut, copy_int, copy_byte}
 use Rattle.jfr_base.proofs.ReadLaws.{reads_order}
 
--- Formats of the same units, whatever places they are told; what they give is related.
+-- Formats with the same units, whatever offsets they get from `Here`; the values that they give are related.
 abbrev pub Alike : {A B : Type 0} → (A → B → Type 0) → Format A → Format B → Type 0
 Alike R (Done a) (Done b) = R a b
 Alike R (Int c f) (Int d g) = (v : ℕ) (s : List ℕ) → (c v ≡ None → d v ≡ None) × Alike R (f v s) (g v s)
@@ -16,7 +16,7 @@ Alike R (Here f) (Here g) = (p q : ℕ) → Alike R (f p) (g q)
 Alike R (Refuse why) (Refuse other) = ⊤
 Alike R _ _ = ⊥
 
--- The bytes that one has read the other reads where they are copied to.
+-- The bytes that one format has read are read by the other in a copy of them.
 pub alike_reads : {A B : Type 0} (R : A → B → Type 0) (f : Format A) (g : Format B) → Alike R f g → (x y : List ℕ) (end to_end p q n : ℕ) (v : A)
     → Reads f x end p v (p + n) → Copy x y p q n → q + n ≤ to_end → (w : B) × R v w × Reads g y to_end q w (q + n)
 alike_reads {B = B} R (Done a) (Done b) e x y end to_end p q n v r c h =

@@ -1,4 +1,4 @@
--- Bytes that stand in two lists.
+-- Bytes that are in two lists.
 use Rattle.std.specs.Prelude.{◌≡◌, ℕ, ◌+◌, ◌-◌, ◌<◌, ◌≤◌, List, [], ◌∷◌, ◌++◌, length, slice_range, slice_index}
 use Rattle.std.proofs.Common.{ap, arith, sym, ◌∙◌, subst}
 use Rattle.jfr_base.specs.Integer.{Spells, IntAt}

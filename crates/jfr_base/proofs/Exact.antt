@@ -1,4 +1,4 @@
--- What computing gives is what stands, and the first fault.
+-- What `run` computes is what is there, or the first fault.
 use Rattle.std.specs.Prelude.{◌≡◌, ℕ, zero, suc, ◌+◌, ◌-◌, ◌<◌, ◌≤◌, List, [], ◌∷◌, ◌++◌, length, take, slice_range, slice_index, Option, Some, None, ◌⊎◌, Ok, Err, option_map, nat_lt, nat_le, true, false, if◌then◌else◌}
 use Rattle.std.proofs.Common.{ap, arith, refl, sym, ◌∙◌, inl, inr, subst}
 use Rattle.std.proofs.lemmas.Bool.{cases_lt}
@@ -72,7 +72,7 @@ front_of_range x at end n h i =
     by_room (inl j) l = range_length x at (at + n) (omega arith) ∙ omega arith
     by_room (inr j) l = let z : at + n - at ≡ 0 = omega arith in let w : n ≡ 0 = omega arith in rw (z, w) refl
 
--- The integer that is computed stands.
+-- The integer that is computed is there.
 pub int_found : (x : List ℕ) (at end : ℕ) (v : Var) → at ≤ end → end ≤ length x → int_at x at end ≡ Some v → IntAt x at v.end v.value × (v.end ≤ end)
 unfolding int_at
 int_found x at end v h i e = by_front (front_within 8 (slice_range x at end)) refl e
@@ -89,7 +89,7 @@ int_found x at end v h i e = by_front (front_within 8 (slice_range x at end)) re
         let y : w ≡ v = cc in
         subst (λ (u : Var). IntAt x at u.end u.value × (u.end ≤ end)) y (r, k)
 
--- Where none is computed, none stands.
+-- If none is computed, there is none.
 pub int_none : (x : List ℕ) (at end : ℕ) → end ≤ length x → int_at x at end ≡ None → (q v : ℕ) → IntAt x at q v → q ≤ end → ⊥
 unfolding int_at
 int_none x at end h e q v p i =

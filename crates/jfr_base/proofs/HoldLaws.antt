@@ -1,4 +1,4 @@
--- Bytes that stand in a list before an end, and what reads them.
+-- Bytes that lie in a list before an end, and what reads them.
 use Rattle.std.specs.Prelude.{◌≡◌, ℕ, ◌+◌, ◌-◌, ◌≤◌, List, [], ◌∷◌, ◌++◌, length, take, drop, slice_range}
 use Rattle.std.specs.List.{flat_map, AllByRecursion}
 use Rattle.std.proofs.Common.{ap, arith, refl, sym, ◌∙◌, subst, length-append}
@@ -11,7 +11,7 @@ use Rattle.jfr_base.proofs.UnitLaws.{one_run}
 use Rattle.jfr_base.proofs.Copies.{Copy}
 use Rattle.jfr_base.proofs.ReadLaws.{reads_then}
 
--- The bytes stand there, before the end.
+-- The bytes lie at this offset, before the end.
 pub record Holds (x : List ℕ) (end at : ℕ) (b : List ℕ) : Type 0 where
   pub bytes : slice_range x at (at + length b) ≡ b
   pub within : at + length b ≤ end
@@ -34,7 +34,7 @@ holds_int x end at b v h s =
     let j : end ≤ length x = h.inside in
     record { order = omega arith; within = omega arith; spelled = subst (λ z. Spells z v) (sym h.bytes) s }
 
--- A range of one list that stands in another.
+-- A range of one list that lies in another.
 pub holds_copy : (x y : List ℕ) (end p q n : ℕ) → p + n ≤ length x → Holds y end q (slice_range x p (p + n)) → Copy x y p q n × (q + n ≤ end)
 holds_copy x y end p q n i h =
     let l : length (slice_range x p (p + n)) ≡ n = range_length x p (p + n) i ∙ omega arith in
@@ -42,7 +42,7 @@ holds_copy x y end p q n i h =
     let w : end ≤ length y = h.inside in
     (record { same = sym h.bytes ∙ ap (λ m. slice_range y q (q + m)) l; from_within = i; to_within = omega arith }, omega arith)
 
--- What stands behind a front.
+-- What comes after the first bytes.
 pub holds_behind : (front b : List ℕ) → Holds (front ++ b) (length (front ++ b)) (length front) b
 holds_behind front b =
     let l : length (front ++ b) ≡ length front + length b = length-append front b in
@@ -53,7 +53,7 @@ holds_behind front b =
 pub holds_at : (x : List ℕ) (end p q : ℕ) (b : List ℕ) → p ≡ q → Holds x end p b → Holds x end q b
 holds_at x end p q b e h = subst (λ m. Holds x end m b) e h
 
--- The end may be drawn in to the end of the bytes.
+-- The end may be moved back to the end of the bytes.
 pub holds_narrow : (x : List ℕ) (end at to : ℕ) (b : List ℕ) → at + length b ≤ to → to ≤ end → Holds x end at b → Holds x to at b
 holds_narrow x end at to b i j h = let k : end ≤ length x = h.inside in record { bytes = h.bytes; within = i; inside = omega arith }
 
@@ -76,7 +76,7 @@ times_read f bytes value Good b end one (x ∷ xs) at g h =
     reads_then f (λ a. times (length xs) f >>= λ rest. Done (a ∷ rest)) b end at (value at x) m (value at x ∷ rest) to (one x at g.0 p.0)
     (reads_then (times (length xs) f) (λ rest. Done (value at x ∷ rest)) b end m rest to (value at x ∷ rest) to (subst (Reads (times (length xs) f) b end m rest) n i) (refl, refl))
 
--- An integer of one list whose bytes stand in another.
+-- An integer of one list whose bytes lie in another.
 pub holds_range_int : (c b : List ℕ) (p q v end at to : ℕ) → IntAt c p q v → Holds b end at (slice_range c p q) → at + (q - p) ≡ to → IntAt b at to v × (to ≤ end)
 holds_range_int c b p q v end at to i h e =
     let l : length (slice_range c p q) ≡ q - p = range_length c p q i.within in

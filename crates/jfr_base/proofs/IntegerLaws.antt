@@ -3,7 +3,7 @@ use Rattle.std.proofs.lemmas.Bool.{cases_lt}
 use Rattle.std.proofs.Common.{ap, arith, refl, inl, inr}
 use Rattle.jfr_base.specs.Integer.{IsSpellingWithin}
 
--- No spelling begins another.
+-- No spelling is a proper prefix of another.
 pub one_front : (k : ℕ) (a b x y : List ℕ) → IsSpellingWithin k a → IsSpellingWithin k b → a ++ x ≡ b ++ y → a ≡ b
 one_front k [] b x y p q e = absurd p
 one_front k (a ∷ ys) [] x y p q e = absurd q
@@ -17,7 +17,7 @@ one_front (suc k) (a ∷ c ∷ ys) (b ∷ d ∷ bs) x y p q e =
     let i : c ∷ ys ≡ d ∷ bs = one_front k (c ∷ ys) (d ∷ bs) x y p.1 q.1 t in
     cc
 
--- A spelling stands at the front, or none does.
+-- Either the list begins with a spelling or it doesn't.
 pub front_or_none : (k : ℕ) (bytes : List ℕ) →
     ((front rest : List ℕ) × (bytes ≡ front ++ rest) × IsSpellingWithin k front)
     ⊎ ((front rest : List ℕ) → bytes ≡ front ++ rest → IsSpellingWithin k front → ⊥)

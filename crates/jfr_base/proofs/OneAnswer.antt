@@ -1,4 +1,4 @@
--- A format reads or fails, one of the two, with one answer: the one that is computed.
+-- A format reads a value or fails, never both, and its one answer is the one that is computed.
 use Rattle.std.specs.Prelude.{◌≡◌, ℕ, ◌+◌, ◌<◌, ◌≤◌, List, length, slice_range, slice_index, Option, Some, None, ◌⊎◌, Ok, Err, nat_lt, nat_le, true, false}
 use Rattle.std.proofs.Common.{ap, arith, refl, sym, ◌∙◌, inl, inr, subst}
 use Rattle.jfr_base.specs.declared.reason.Reason.{Reason}
@@ -18,7 +18,7 @@ got a p = record { value = a; place = p }
 abbrev var : ℕ → ℕ → Var
 var v q = record { value = v; end = q }
 
--- The integer that stands is computed.
+-- The integer that is there is computed.
 pub int_computed : (x : List ℕ) (at end q v : ℕ) → at ≤ end → end ≤ length x → IntAt x at q v → q ≤ end → int_at x at end ≡ Some (var v q)
 int_computed x at end q v h i p j = by_answer (int_at x at end) refl
   where
@@ -28,7 +28,7 @@ int_computed x at end q v h i p j = by_answer (int_at x at end) refl
         let f = int_one x at w.end q w.value v (int_found x at end w h i e).0 p in
         ap (λ m. Some (var m w.end)) f.1 ∙ ap (λ m. Some (var v m)) f.0
 
--- And none where none stands.
+-- If there is none, none is computed.
 pub none_computed : (x : List ℕ) (at end : ℕ) → at ≤ end → end ≤ length x → ((q v : ℕ) → IntAt x at q v → q ≤ end → ⊥) → int_at x at end ≡ None
 none_computed x at end h i n = by_answer (int_at x at end) refl
   where

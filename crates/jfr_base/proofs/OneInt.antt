@@ -4,7 +4,7 @@ use Rattle.jfr_base.specs.Integer.{IntAt}
 use Rattle.jfr_base.proofs.Ranges.{range_split, range_length}
 use Rattle.jfr_base.proofs.UnitLaws.{one_integer}
 
--- At one place stands one integer.
+-- There is at most one integer at an offset.
 pub int_one : (x : List ℕ) (p q r v w : ℕ) → IntAt x p q v → IntAt x p r w → (q ≡ r) × (v ≡ w)
 int_one x p q r v w a b =
     let s : slice_range x p (length x) ≡ slice_range x p q ++ slice_range x q (length x) = range_split x p q (length x) a.order a.within in

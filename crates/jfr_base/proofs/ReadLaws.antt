@@ -3,7 +3,7 @@ use Rattle.std.specs.Prelude.{◌≡◌, ℕ, ◌+◌, ◌<◌, ◌≤◌, List,
 use Rattle.std.proofs.Common.{arith, refl, subst}
 use Rattle.jfr_base.specs.Formats.{Format, Done, Stop, Int, Byte, Run, Here, Refuse, ◌>>=◌, Reads}
 
--- A format ends where it begins or behind that.
+-- A format doesn't end before it begins.
 pub reads_order : {A : Type 0} (f : Format A) (x : List ℕ) (end at : ℕ) (v : A) (to : ℕ) → Reads f x end at v to → at ≤ to
 reads_order (Done a) x end at v to r = let e : to ≡ at = r.1 in omega arith
 reads_order (Stop next) x end at v to r = reads_order next x end at v to r.1
@@ -26,7 +26,7 @@ reads_then (Run n next) g x end at a m b to r s = (r.0, reads_then (next (slice_
 reads_then (Here next) g x end at a m b to r s = reads_then (next at) g x end at a m b to r s
 reads_then (Refuse why) g x end at a m b to r s = absurd r
 
--- And back: where the first has ended.
+-- The converse: the first format ends at some offset, and the second is read from there.
 pub record Parted {A B : Type 0} (f : Format A) (g : A → Format B) (x : List ℕ) (end at : ℕ) (b : B) (to : ℕ) : Type 0 where
   pub value : A
   pub place : ℕ

@@ -1,4 +1,5 @@
--- The definitions, computed on integers: AC 02, AC 82 80 00, nine FF, 9C and eight FF, nine 80, and 80 alone.
+-- The definitions, computed on integers: AC 02, AC 82 80 00, nine FF, 9C and eight FF, nine 80, and a single
+-- 80.
 use Rattle.std.specs.Prelude.{◌≡◌, ℕ, List, [], ◌∷◌, Some, None, negsuc, Ok, replicate}
 use Rattle.std.specs.Int.{cast_signed, w64}
 use Rattle.std.proofs.Common.{refl}

@@ -1,4 +1,4 @@
--- What stands exactly somewhere is what computing gives there.
+-- What lies at an offset, byte for byte, is what `run` computes there.
 use Rattle.std.specs.Prelude.{◌≡◌, ℕ, zero, suc, ◌+◌, ◌-◌, ◌≤◌, List, [], ◌∷◌, ◌++◌, length, take, drop, slice_range, slice_index, Some, Ok, option_map, nat_lt, nat_le, true}
 use Rattle.std.proofs.Common.{ap, arith, sym, ◌∙◌, subst}
 use Rattle.std.proofs.lemmas.List.{length-append, get_or-drop}
@@ -9,7 +9,7 @@ use Rattle.jfr_base.proofs.Exact.{found_within}
 use Rattle.jfr_base.proofs.Ranges.{range_split, range_length}
 use Rattle.jfr_base.proofs.UnitLaws.{one_run}
 
--- Bytes that stand in a list from a place to another.
+-- Bytes that lie in a list from one offset to another.
 pub record Stands (x : List ℕ) (at to : ℕ) (b : List ℕ) : Type 0 where
   pub order : at ≤ to
   pub within : to ≤ length x
@@ -20,7 +20,7 @@ pub record Halves (x : List ℕ) (at to : ℕ) (h r : List ℕ) : Type 0 where
   pub second : Stands x (at + length h) to r
   pub place : to ≡ at + length h + length r
 
--- Both parts of what stands there stand.
+-- Both parts of what lies there lie there.
 pub stands_split : (x : List ℕ) (at to : ℕ) (b h r : List ℕ) → Stands x at to b → b ≡ h ++ r → Halves x at to h r
 stands_split x at to b h r s e =
     let o : at ≤ to = s.order in

@@ -25,7 +25,7 @@ pub then_at_ok : (r : Result ℕ Flaw) → then_at r (λ p. Ok p) ≡ r
 then_at_ok (Ok p) = refl
 then_at_ok (Err e) = refl
 
--- What is made of the value doesn't change where it ends.
+-- What is computed from the value doesn't change where a format ends.
 pub seen-made : {A B : Type 0} (f : Format A) (g : A → B) (x : List ℕ) (end at : ℕ) → seen (run (f >>= λ a. Done (g a)) x end at) ≡ seen (run f x end at)
 unfolding run
 seen-made f g x end at = seen-bind f (λ a. Done (g a)) (λ p. Ok p) x end at (λ a p. refl) ∙ then_at_ok (seen (run f x end at))

@@ -7,7 +7,7 @@ use Rattle.jfr_base.specs.Integer.{worth_within}
 use Rattle.jfr_base.specs.Formats.{front_within, int_at}
 use Rattle.jfr_base.proofs.Groups.{reading_start, going_last, going_next, going_none, going_on}
 
--- What goes on ends behind the next byte, if it ends.
+-- An integer that continues ends after the next byte at the earliest.
 front_one : (k : ℕ) (bs : List ℕ) → IfSome (front_within k bs) (λ n. 1 ≤ n)
 front_one k [] = tt
 front_one zero (b ∷ bs) = omega arith
@@ -27,7 +27,7 @@ going_further k x place end value weight = by_front (front_within k (slice_range
     by_front (Some n) h = omega (arith, h)
 
 module _ (x : List ℕ) (at end : ℕ) where
-  -- Behind a first byte with more to come.
+  -- After a first byte that isn't the last.
   behind_one : at < end → end ≤ length x → 128 ≤ slice_index x at → int_at x at end ≡ going_on 7 x (at + 1) end (0 + 1 * (slice_index x at % 128)) (1 * 128)
   behind_one h i j =
       let r = reading_start x at end in
@@ -49,14 +49,14 @@ module _ (x : List ℕ) (at end : ℕ) where
       ∙ (going_last 7 x (at + 1) end (0 + 1 * (slice_index x at % 128)) (1 * 128) h i k
       ∙ (ap (λ v. Some (record { value = v; end = (at + 1) + 1 })) worth ∙ ap (λ p. Some (record { value = slice_index x at - 128 + 128 * slice_index x (at + 1); end = p })) behind))
 
-  -- None stands where no byte does, or none behind a first byte with more to come.
+  -- There is none if there is no byte, or none after a first byte that isn't the last.
   pub none_there : end ≤ at → int_at x at end ≡ None
   none_there h = let r = reading_start x at end in r.same ∙ going_none r.groups x at end 0 1 h
 
   pub one_alone : at < end → end ≤ at + 1 → end ≤ length x → 128 ≤ slice_index x at → int_at x at end ≡ None
   one_alone h l i j = behind_one h i j ∙ going_none 7 x (at + 1) end (0 + 1 * (slice_index x at % 128)) (1 * 128) l
 
-  -- Behind two bytes with more to come it ends later.
+  -- After two bytes that aren't the last it ends later.
   pub longer : at + 1 < end → end ≤ length x → 128 ≤ slice_index x at → 128 ≤ slice_index x (at + 1) → IfSome (int_at x at end) (λ v. at + 2 < v.end)
   longer h i j k =
       let value = 0 + 1 * (slice_index x at % 128) in

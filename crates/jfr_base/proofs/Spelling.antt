@@ -69,7 +69,7 @@ pub spell_most : (v : ℕ) → length (spell v) ≤ 9
 unfolding spell
 spell_most v = within_most 8 v
 
--- A value can be spelled in as many bytes as a larger one was.
+-- A value can be spelled in the number of bytes that a larger one took.
 spelled_as : (k v : ℕ) (b : List ℕ) → IsSpellingWithin k b → v ≤ worth_within k b → IsOf k v (spell_as (length b) v) × (length (spell_as (length b) v) ≡ length b)
 spelled_as k v [] s h = absurd s
 spelled_as zero v (b ∷ []) s h = ((refl, refl), refl)

@@ -9,12 +9,12 @@ use Rattle.std.proofs.lemmas.Str.Ascii.{IsAscii-cons, IsAscii-nil}
 use Rattle.std.proofs.lemmas.Str.{encodes-chars, encodes_same}
 use Rattle.std.proofs.lemmas.Slice.Eq.{bytes_eq-Decides}
 
--- Two texts are equal exactly where their characters are.
+-- Two texts are equal exactly if their characters are.
 pub bytes_eq-chars : (a b : List ℕ) → IsUtf8 a → IsUtf8 b → bytes_eq a b ≡ bytes_eq (chars a) (chars b)
 bytes_eq-chars a b u v = same_from_decides (bytes_eq a b) (bytes_eq (chars a) (chars b)) (bytes_eq-Decides a b)
     (Decides-like (bytes_eq (chars a) (chars b)) (λ e. sym (encodes-chars a u) ∙ (ap encode_utf8_all e ∙ encodes-chars b v)) (ap chars) (bytes_eq-Decides (chars a) (chars b)))
 
--- The spellings of two lists of characters are equal exactly where the lists are.
+-- The spellings of two lists of characters are equal exactly if the lists are.
 pub bytes_eq-encodes : (a b : List ℕ) → bytes_eq (encode_utf8_all a) (encode_utf8_all b) ≡ bytes_eq a b
 bytes_eq-encodes a b = same_from_decides (bytes_eq (encode_utf8_all a) (encode_utf8_all b)) (bytes_eq a b)
     (Decides-like (bytes_eq (encode_utf8_all a) (encode_utf8_all b)) (encodes_same a b) (ap encode_utf8_all) (bytes_eq-Decides (encode_utf8_all a) (encode_utf8_all b)))

@@ -16,7 +16,7 @@ spell_small (suc k) v h = let t : nat_lt v 128 ≡ true = grind arith in rw t re
 spell_large : (k v : ℕ) → 128 ≤ v → spell_within (suc k) v ≡ (v % 128 + 128) ∷ spell_within k (v / 128)
 spell_large k v h = let t : nat_lt v 128 ≡ false = grind arith in rw t refl
 
--- A byte that is stored behind those before it.
+-- A byte that is stored after those before it.
 stored : (into front rest : List ℕ) (i byte : ℕ) → i < length into → front ≡ take i into ++ byte ∷ rest → front ≡ take (i + 1) (slice_set into i byte) ++ rest
 stored into front rest i byte h e =
     let s : take (i + 1) (slice_set into i byte) ≡ take i into ++ byte ∷ [] = ap (λ n. take n (slice_set into i byte)) (add-one i) ∙ take-suc-set into i byte h in

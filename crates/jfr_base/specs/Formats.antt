@@ -1,5 +1,5 @@
--- A format says which units stand one after another, as an integer, a byte or a run of bytes. The values of
--- the units that were read decide which one comes next.
+-- A format is a sequence of units: integers, bytes and runs of bytes. The values of the units read so far
+-- decide which one comes next.
 use Rattle.std.specs.Prelude.{◌≡◌, ℕ, zero, suc, ◌+◌, ◌<◌, ◌≤◌, List, [], ◌∷◌, ◌++◌, length, Option, Some, None, ◌⊎◌, Result, Ok, Err, nat_lt, nat_le, slice_range, slice_index, if◌then◌else◌}
 use Rattle.std.specs.Option.{option_map}
 use Rattle.jfr_base.specs.declared.reason.Reason.{Reason}
@@ -9,22 +9,22 @@ use Rattle.jfr_base.specs.declared.integer.Var.{Var}
 use Rattle.jfr_base.specs.Integer.{IntAt, Spells, worth_within}
 
 pub data Format (A : Type 0) : Type 0 where
-  -- The value is this, whatever follows.
+  -- The format's value; nothing more is read.
   Done : (value : A) → Format A
   -- The bytes end here.
   Stop : (next : Format A) → Format A
-  -- An integer; a check says for what reason it is faulty, or none.
+  -- An integer. The check gives the reason for which its value is faulty, if it is.
   Int : (check : ℕ → Option Reason) → (next : ℕ → List ℕ → Format A) → Format A
-  -- A byte.
+  -- A byte, with such a check.
   Byte : (check : ℕ → Option Reason) → (next : ℕ → Format A) → Format A
-  -- A run of so many bytes.
+  -- A run of `count` bytes.
   Run : (count : ℕ) → (next : List ℕ → Format A) → Format A
-  -- No bytes: the place where the format has come to is handed on.
+  -- No bytes: what comes next depends on the offset that has been reached.
   Here : (next : ℕ → Format A) → Format A
-  -- What would stand here is refused.
+  -- Whatever is here is refused, for this reason.
   Refuse : (why : Reason) → Format A
 
--- A format, and behind it the one that its value leads to.
+-- A format followed by the one that its value selects.
 infixl 10 ◌>>=◌
 abbrev pub ◌>>=◌ : {A B : Type 0} → Format A → (A → Format B) → Format B
 (Done a) >>= g = g a
@@ -35,7 +35,7 @@ abbrev pub ◌>>=◌ : {A B : Type 0} → Format A → (A → Format B) → Form
 (Here next) >>= g = Here (λ at. next at >>= g)
 (Refuse why) >>= g = Refuse why
 
--- As >>=, where the next format also takes the bytes that the first one read, behind those in b.
+-- As >>=, but the next format also gets the bytes that the first one read, appended to b.
 abbrev pub with_bytes : {A B : Type 0} → List ℕ → Format A → (A → List ℕ → Format B) → Format B
 with_bytes b (Done a) g = g a b
 with_bytes b (Stop next) g = Stop (with_bytes b next g)
@@ -63,8 +63,8 @@ abbrev pub for_each : {X A : Type 0} → List X → (X → Format A) → Format 
 for_each [] f = Done []
 for_each (x ∷ xs) f = f x >>= λ a. for_each xs f >>= λ rest. Done (a ∷ rest)
 
--- The format, read in the bytes of x from the place `at` and not beyond `end`, gives the value and stops at
--- the place `to`.
+-- The format, read in x from the offset `at` and not past `end`, gives the value and stops at the offset
+-- `to`.
 abbrev pub Reads : {A : Type 0} → Format A → List ℕ → ℕ → ℕ → A → ℕ → Type 0
 Reads (Done a) x end at value to = (value ≡ a) × (to ≡ at)
 Reads (Stop next) x end at value to = (end ≤ at) × Reads next x end at value to
@@ -74,8 +74,8 @@ Reads (Run n next) x end at value to = (at + n ≤ end) × Reads (next (slice_ra
 Reads (Here next) x end at value to = Reads (next at) x end at value to
 Reads (Refuse why) x end at value to = ⊥
 
--- The format, read so, fails: all units before the place o are good, and the one at o is faulty for this
--- reason.
+-- The format, read in x from the offset `at` and not past `end`, fails: all units before the offset o are
+-- good, and the one at o is faulty for this reason.
 abbrev pub Fails : {A : Type 0} → Format A → List ℕ → ℕ → ℕ → ℕ → Reason → Type 0
 Fails (Done a) x end at o why = ⊥
 Fails (Stop next) x end at o why = ((at < end) × (o ≡ at) × (why ≡ Trailing)) ⊎ ((end ≤ at) × Fails next x end at o why)
@@ -91,8 +91,8 @@ Fails (Run n next) x end at o why =
 Fails (Here next) x end at o why = Fails (next at) x end at o why
 Fails (Refuse r) x end at o why = (o ≡ at) × (why ≡ r)
 
--- These bytes, and no others, are read as the value, at whatever place. A format that asks for a place or
--- for the end reads no bytes so.
+-- The format reads exactly these bytes, at any offset, as the value. One that depends on the offset or on the
+-- end reads no bytes in this way.
 abbrev pub Exactly : {A : Type 0} → Format A → List ℕ → A → Type 0
 Exactly (Done a) b value = (value ≡ a) × (b ≡ [])
 Exactly (Stop next) b value = ⊥
@@ -102,8 +102,7 @@ Exactly (Run n next) b value = (h r : List ℕ) × (b ≡ h ++ r) × (length h �
 Exactly (Here next) b value = ⊥
 Exactly (Refuse why) b value = ⊥
 
--- A format read by computing, over the bytes of x before an end: the value and the place after it, or the
--- place and the reason.
+-- What a format gives when it is computed: its value, and the offset after it.
 pub record Got (A : Type 0) : Type 0 where
   pub value : A
   pub place : ℕ
@@ -111,36 +110,37 @@ pub record Got (A : Type 0) : Type 0 where
 abbrev pub Answer : Type 0 → Type 0
 Answer A = Result (Got A) Flaw
 
--- The answer where the unit at a place is faulty.
+-- The answer if the unit at an offset is faulty.
 abbrev pub refused : {A : Type 0} → ℕ → Reason → Answer A
 refused at why = Err (record { offset = at; reason = why })
 
--- An answer, unless the check of the unit at a place gives a reason.
+-- The answer r, unless the check of the unit at an offset gives a reason.
 abbrev pub checked : {A : Type 0} → ℕ → Option Reason → Answer A → Answer A
 checked at None r = r
 checked at (Some why) r = refused at why
 
--- How many bytes the integer at the front of the list takes, where it ends in the list.
+-- The length of the integer at the front of the list, if it ends in the list. At most k of its bytes carry
+-- seven bits.
 abbrev pub front_within : ℕ → List ℕ → Option ℕ
 front_within k [] = None
 front_within zero (b ∷ bs) = Some 1
 front_within (suc k) (b ∷ bs) = if nat_lt b 128 then Some 1 else option_map (λ n. suc n) (front_within k bs)
 
--- The integer at a place, where one ends by the end.
+-- The integer at the offset `at`, if one ends by `end`.
 unfoldable pub int_at : List ℕ → ℕ → ℕ → Option Var
 int_at x at end = option_map (λ n. record { value = worth_within 8 (slice_range x at (at + n)); end = at + n }) (front_within 8 (slice_range x at end))
 
--- Goes on from a value and the place after it; a flaw stays as it is.
+-- Continues from a value and the offset after it; a flaw is kept.
 abbrev pub on : {A B : Type 0} → Answer A → (A → ℕ → Answer B) → Answer B
 on (Ok g) f = f g.value g.place
 on (Err e) f = Err e
 
--- Goes on behind the integer that was looked for at a place, if it is there and its check gives no reason.
+-- Continues after the integer at an offset, if there is one and its check gives no reason.
 abbrev pub after_int : {A : Type 0} → List ℕ → ℕ → (ℕ → Option Reason) → (ℕ → List ℕ → ℕ → Answer A) → Option Var → Answer A
 after_int x at check f None = refused at Short
 after_int x at check f (Some v) = checked at (check v.value) (f v.value (slice_range x at v.end) v.end)
 
--- The answer of the format, read by computing in the bytes of x from the place `at` and not beyond `end`.
+-- The computed answer of the format, which is read in x from the offset `at` and not past `end`.
 unfoldable pub run : {A : Type 0} → Format A → List ℕ → ℕ → ℕ → Answer A
 run (Done a) x end at = Ok (record { value = a; place = at })
 run (Stop next) x end at = if nat_lt at end then refused at Trailing else run next x end at
@@ -150,7 +150,7 @@ run (Run n next) x end at = if nat_le (at + n) end then run (next (slice_range x
 run (Here next) x end at = run (next at) x end at
 run (Refuse why) x end at = refused at why
 
--- An answer without its value: the place after it, or the flaw.
+-- An answer without its value: the offset after it, or the flaw.
 abbrev pub seen : {A : Type 0} → Answer A → Result ℕ Flaw
 seen (Ok g) = Ok g.place
 seen (Err e) = Err e

@@ -1,4 +1,4 @@
-// Compressed integers.
+//! Compressed integers.
 ghost use Rattle.std.specs.Prelude.{◌≡◌, ℕ, ◌+◌, ◌<◌, ◌≤◌, IfOk, IfSome, length, MatchResult, None, OnErr, Some, take};
 ghost use Rattle.std.specs.Int.{cast_signed, w64};
 ghost use Rattle.jfr_base.specs.Formats.{int_at};
@@ -10,7 +10,7 @@ use crate::{Flaw, Reason};
 /// A compressed integer that was read.
 #[derive(Clone, Copy, Debug, PartialEq, Eq)]
 pub struct Var {
-    /// What its bytes spell, without a sign; `signed` reads it as a signed number.
+    /// Its value as an unsigned number; `signed` gives it as a signed one.
     pub value: u64,
     /// The offset after its last byte.
     pub end: usize,
@@ -20,15 +20,16 @@ pub struct Var {
 #[derive(Clone, Copy, Debug, PartialEq, Eq)]
 pub struct Short;
 
-/// How many groups of an integer have seven bits. The one behind them, the ninth, has eight.
-const SHORT_GROUPS: usize = 8;
+/// The number of groups with seven bits. One more group, the ninth, has eight. Public for jfr_value,
+/// whose walks skip integers.
+#[doc(hidden)]
+pub const SHORT_GROUPS: usize = 8;
 
-/// Where the ninth byte's eight bits stand in the value.
+/// The position of the ninth byte's eight bits in the value.
 const NINTH_SHIFT: u32 = 56;
 
-/// Reads the compressed integer that begins at the offset `at` (FORMAT.md, Integers). It has one to nine
-/// bytes, and needn't be spelled in as few as it can be. `Short` exactly where the bytes end before it
-/// does.
+/// Reads the compressed integer that starts at the offset `at` (docs/FORMAT.md, Integers). It has one to nine
+/// bytes, and may be padded. Fails with `Short` exactly if the bytes end before the integer does.
 pub fn read_var(bytes: &[u8], at: usize) -> Result<Var, Short>
     requires { at ≤ length bytes.now }
     ensures ok { IfOk result (λ v. IntAt bytes.now at v.end v.value) }
@@ -38,7 +39,7 @@ pub fn read_var(bytes: &[u8], at: usize) -> Result<Var, Short>
     read_within(bytes, at, bytes.len()).map_err(|_| Short)
 }
 
-/// Reads the compressed integer that begins at the offset `at` and ends by `end`. Where none does, the flaw
+/// Reads the compressed integer that starts at the offset `at` and ends by `end`. If there is none, the flaw
 /// is `Short` at `at`.
 #[inline(always)]
 pub fn read_within(bytes: &[u8], at: usize, end: usize) -> Result<Var, Flaw>
@@ -52,8 +53,8 @@ pub fn read_within(bytes: &[u8], at: usize, end: usize) -> Result<Var, Flaw>
     var_within(bytes, at, end)
 }
 
-/// The body of `read_within`. Its clauses name only what `int_at` computes; `read_within` proves those
-/// about spellings from them.
+/// The body of `read_within`. Its clauses are in terms of `int_at` only; `read_within` derives those about
+/// spellings from them.
 #[inline(always)]
 fn var_within(bytes: &[u8], at: usize, end: usize) -> Result<Var, Flaw>
     requires order { at ≤ end }
@@ -65,8 +66,8 @@ fn var_within(bytes: &[u8], at: usize, end: usize) -> Result<Var, Flaw>
         return Ok(var);
     }
     if at >= bytes.len().saturating_sub(SHORT_GROUPS) {
-        // Not `return read_last(..)`: so the compiler keeps the results of the two ways apart, and the
-        // result of the fast one below in registers.
+        // Not `return read_last(..)`: this way the compiler keeps the two results apart, and that of the fast
+        // path below in registers.
         return Ok(read_last(bytes, at, end)?);
     }
     let var = read_groups(bytes, at);
@@ -76,8 +77,8 @@ fn var_within(bytes: &[u8], at: usize, end: usize) -> Result<Var, Flaw>
     Ok(var)
 }
 
-/// The compressed integer that begins at the offset `at` and ends by `end`, where it has one byte or two,
-/// as most have. `None` for a longer one, and where none ends by `end`.
+/// The compressed integer that starts at the offset `at` and ends by `end`, if it has one byte or two, as
+/// most have. `None` if it is longer or there is none.
 #[inline(always)]
 pub fn read_short(bytes: &[u8], at: usize, end: usize) -> Option<Var>
     requires order { at ≤ end }
@@ -110,7 +111,7 @@ pub fn read_short(bytes: &[u8], at: usize, end: usize) -> Option<Var>
     None
 }
 
-/// Reads an integer where nine bytes are there, by a loop of a fixed length.
+/// Reads an integer by a loop of fixed length. At least nine bytes are left at `at`.
 #[inline(always)]
 fn read_groups(bytes: &[u8], at: usize) -> Var
     requires room { at + 8 < length bytes.now }
@@ -135,7 +136,7 @@ fn read_groups(bytes: &[u8], at: usize) -> Var
     }
 }
 
-/// Reads an integer among the last eight bytes, where no ninth group is possible.
+/// Reads an integer that starts among the last eight bytes, so it has no ninth group.
 #[cold]
 fn read_last(bytes: &[u8], at: usize, end: usize) -> Result<Var, Flaw>
     requires order { at ≤ end }
@@ -160,8 +161,8 @@ fn read_last(bytes: &[u8], at: usize, end: usize) -> Result<Var, Flaw>
     Err(Flaw::short(at))
 }
 
-/// Writes the shortest spelling of a value to the front of `into`, and gives its length. Nothing is
-/// promised of the bytes behind it.
+/// Writes the shortest spelling of a value to the front of `into`, and returns its length. The bytes after it
+/// are unspecified.
 pub fn write_var(value: u64, into: &mut [u8; 9]) -> usize
     ensures exact { take result into.new ≡ spell value }
     ensures length { result ≡ length (spell value) }
@@ -183,8 +184,8 @@ pub fn write_var(value: u64, into: &mut [u8; 9]) -> usize
     9
 }
 
-/// Writes the spelling of a value in `count` bytes to the front of `into`. Nothing is promised of
-/// the bytes behind it.
+/// Writes the spelling of a value in `count` bytes to the front of `into`. The bytes after it are
+/// unspecified.
 pub fn write_in(value: u64, count: usize, into: &mut [u8; 9])
     requires count { (1 ≤ count) × (count ≤ 9) }
     requires fits { FitsIn value count }

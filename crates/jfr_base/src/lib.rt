@@ -1,10 +1,11 @@
-//! What every layer of the format speaks of: compressed integers, the language of formats, and the
-//! reasons for which a recording is refused.
+//! What every layer of the format uses: compressed integers, the language of formats, and the reasons for
+//! which a recording is refused.
 //!
 //! Read `specs/Integer.antt` first, and then `specs/Formats.antt`.
 #![tactic(auto)]
 
 mod flaw;
+mod header;
 mod integer;
 pub mod laws;
 mod memory;
@@ -13,8 +14,10 @@ mod text;
 mod words;
 
 pub use flaw::{Flaw, ReadFault, Refusal};
+pub use header::HEADER_LEN;
 pub use integer::{
-    Short, Var, read_short, read_var, read_within, signed, var_len, write_in, write_var,
+    SHORT_GROUPS, Short, Var, read_short, read_var, read_within, signed, var_len, write_in,
+    write_var,
 };
 pub use memory::NoMemory;
 pub use reason::Reason;

@@ -1,7 +1,10 @@
-// The reasons for which a recording is refused.
+//! The reasons for which a recording is refused.
 ghost use Rattle.std.specs.Prelude.{◌≡◌};
 
-/// Why a recording is refused. Each reason has a number, and a name, by which the program tells it.
+use std::error::Error;
+use std::fmt;
+
+/// Why a recording is refused. Each reason has a number, and a name that the program prints.
 #[derive(Clone, Copy, Debug, PartialEq, Eq)]
 pub enum Reason {
     /// The recording is empty.
@@ -16,12 +19,12 @@ pub enum Reason {
     Unfinished,
     /// The chunk's integers aren't compressed.
     NotCompact,
-    /// The chunk's size, as the header says it, is below 68 bytes, or 2^28 or more.
+    /// The chunk's size in the header is below 68 bytes, or is 2^30 or more.
     ChunkSize,
-    /// Fewer bytes are there than the chunk's size says.
+    /// Fewer bytes are left than the chunk's size in the header.
     ShortChunk,
-    /// No record stands there: its size or its type doesn't end within the chunk, or the size is below the
-    /// bytes of these two, or reaches past the chunk's end.
+    /// There is no record: its size or its type doesn't end within the chunk, or the size is less than these
+    /// two take, or reaches past the chunk's end.
     RecordSize,
     /// No metadata record starts where the header says.
     MetadataPosition,
@@ -37,17 +40,17 @@ pub enum Reason {
     StringKind,
     /// An index isn't below the number of strings.
     StringIndex,
-    /// An element of the metadata's tree stands deeper than 16 levels.
+    /// An element of the metadata's tree is deeper than 16 levels.
     TreeDeep,
     /// The root of the metadata's tree has no child named `metadata`, which holds the classes.
     NoClasses,
     /// A class has no name, or no id that is a number below 2^63.
     ClassBad,
-    /// A class has an id that an earlier one has.
+    /// A class has the id of an earlier one.
     ClassTwice,
     /// A field has no name or no class id, or one of its marks is faulty.
     FieldBad,
-    /// A field has a name that an earlier one of its class has.
+    /// A field has the name of an earlier one of its class.
     FieldTwice,
     /// A field's class isn't defined.
     UnknownType,
@@ -134,3 +137,11 @@ impl Reason {
         }
     }
 }
+
+impl fmt::Display for Reason {
+    fn fmt<W: fmt::Write>(&self, f: &mut fmt::Formatter<W>) -> fmt::Result {
+        f.write_str(self.name())
+    }
+}
+
+impl Error for Reason {}

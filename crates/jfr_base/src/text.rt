@@ -1,4 +1,4 @@
-// A text that several owners can share. Contracts see it as the list of its characters.
+//! A text that several owners can share. Contracts see it as the list of its characters.
 ghost use Rattle.std.specs.Prelude.{◌≡◌, ◌≤◌, length, string_bytes, IfOk};
 ghost use Rattle.std.specs.Str.{chars};
 ghost use Rattle.jfr_base.specs.Texts.{bytes_of};
@@ -8,7 +8,7 @@ use std::alloc::Global;
 use std::marker::Model;
 use std::rc::RcStr;
 
-/// How many bytes a text may have that is kept in place, so that it takes 16 bytes and no allocation.
+/// The length in bytes up to which a text is kept in place. Such a text takes 16 bytes and no allocation.
 const IN_PLACE: usize = 14;
 
 /// A text of at most `IN_PLACE` bytes of UTF-8. Contracts see these bytes.
@@ -52,12 +52,12 @@ impl Brief {
         }
     }
 
-    /// The text as it stands.
+    /// The text as a string slice.
     fn as_str(&self) -> &str
         ensures { result.now ≡ self.now }
     {
-        // It is proved to be UTF-8. A test at run time would cost `print` some nanoseconds for each field of
-        // each event, whose name it asks for.
+        // It is proved to be UTF-8. A check at run time would slow `print`, which asks for the name of each
+        // field of each event.
         unsafe { str::from_utf8_unchecked(&self.bytes[..self.len as usize]) }
     }
 }
@@ -69,7 +69,7 @@ enum Bytes {
     Shared(RcStr),
 }
 
-/// A text. `share` gives another owner of it, without a copy.
+/// A text that several owners can share. `share` makes another owner without copying the text.
 #[derive(Drop)]
 pub struct Text {
     bytes: Bytes,
@@ -100,7 +100,7 @@ impl Text {
         })
     }
 
-    /// The text of the string. Where it has more than `IN_PLACE` bytes, it isn't copied.
+    /// The text of the string, which is copied only if it has at most `IN_PLACE` bytes.
     pub fn from_string(string: String) -> Result<Text, NoMemory>
         ensures ok { IfOk result (λ made. made ≡ chars (string_bytes string)) }
     {
@@ -114,7 +114,7 @@ impl Text {
         })
     }
 
-    /// Another owner of the text. It takes no memory.
+    /// Another owner of the text. It allocates nothing.
     pub fn share(&self) -> Result<Text, NoMemory>
         ensures ok { IfOk result (λ shared. shared ≡ self.now) }
     {
@@ -128,7 +128,7 @@ impl Text {
         }
     }
 
-    /// The text as it stands.
+    /// The text as a string slice.
     pub fn as_str(&self) -> &str
         ensures { chars result.now ≡ self.now }
     {

@@ -1,5 +1,5 @@
-// A list of texts.
-ghost use Rattle.std.specs.Prelude.{◌≡◌, [], ◌∷◌, ◌++◌, length, IfOk, OnOk, OnErr, slice_get};
+//! A list of texts.
+ghost use Rattle.std.specs.Prelude.{◌≡◌, [], ◌∷◌, ◌++◌, ◌↔◌, length, IfOk, IsTrue, OnOk, OnErr, slice_get};
 ghost use Rattle.std.specs.Option.{option_copied};
 ghost use Rattle.std.specs.Str.{chars};
 ghost use Rattle.jfr_base.specs.Texts.{text_in};
@@ -24,7 +24,7 @@ impl Model for Words {
 }
 
 impl Words {
-    /// The list without texts. It takes no memory.
+    /// An empty list. It allocates nothing.
     pub fn new(alloc: Global) -> Words
         ensures { result ≡ [] }
     {
@@ -34,7 +34,7 @@ impl Words {
         }
     }
 
-    /// The list without texts, with memory for so many.
+    /// An empty list with memory for `count` texts.
     pub fn with_room(alloc: Global, count: usize) -> Result<Words, NoMemory>
         ensures ok { IfOk result (λ words. words ≡ []) }
     {
@@ -62,14 +62,21 @@ impl Words {
         Ok(())
     }
 
-    /// How many texts the list has.
+    /// The number of texts.
     pub fn len(&self) -> usize
         ensures { result ≡ length self.now }
     {
         self.texts.len()
     }
 
-    /// The text of an index, from 0; `None` exactly past the end.
+    /// Whether there is no text.
+    pub fn is_empty(&self) -> bool
+        ensures { IsTrue result ↔ (self.now ≡ []) }
+    {
+        self.texts.is_empty()
+    }
+
+    /// The text with this index, from 0, if there is one.
     pub fn get(&self, at: usize) -> Option<&str>
         ensures { text_in result ≡ slice_get self.now at }
     {
@@ -80,7 +87,7 @@ impl Words {
         }
     }
 
-    /// The text of an index, from 0, to be shared; `None` exactly past the end.
+    /// The text with this index, from 0, as one that can be shared, if there is one.
     pub fn text(&self, at: usize) -> Option<&Text>
         ensures { option_copied result ≡ slice_get self.now at }
     {

@@ -1,4 +1,4 @@
--- A chunk consists of parts, or it is refused: either is what is computed, where the chain's answers are.
+-- A chunk has parts or is refused, and either is what is computed, if this is so for the chain.
 use Rattle.std.specs.Prelude.{◌≡◌, ◌⊎◌, ℕ, ◌≤◌, List, [], ◌∷◌, length, reverse, All, Option, Some, None, Result, Ok, Err}
 use Rattle.std.specs.List.{AllByRecursion}
 use Rattle.std.proofs.Common.{ap, refl, sym, ◌∙◌, subst, inl, inr}
@@ -20,7 +20,7 @@ use Rattle.jfr_pool.specs.Chains.{IsChain, ChainFlaw, chain_of}
 use Rattle.jfr_pool.specs.Entries.{entries_of}
 use Rattle.jfr_chunk.specs.Parts.{Parts, StartsAt, HasFields, event_records, AreParts, pools_at, metadata_at}
 use Rattle.jfr_chunk.specs.Refusal.{Framing, Chained, Described, Pooled, Refused, framing, metadata_position, pool_position, chain, metadata, checkpoints, events, and_then, found_or, body_by, events_checked, read_parts}
-use Rattle.jfr_chunk.proofs.Members.{contains_in}
+use Rattle.jfr_worklist.proofs.Members.{contains_in}
 use Rattle.jfr_chunk.proofs.AllLaws.{all_in, all_reverse, filter_all}
 use Rattle.jfr_chunk.proofs.PartsLaws.{links_record}
 use Rattle.jfr_chunk.proofs.StandingLaws.{tiles_each, links_each}
@@ -43,7 +43,7 @@ no_metadata = record { offset = 24; reason = MetadataPosition }
 abbrev no_pools : Flaw
 no_pools = record { offset = 16; reason = PoolPosition }
 
--- What is left to do behind each stage.
+-- What is left to do after each stage.
 module _ (c : List ℕ) where
   abbrev behind_entries : List Framed → List Link → Body → Classes → List EntryAt → Result Parts Flaw
   behind_entries rs ls b k es = and_then (events_checked c k (event_records k rs) (event_records k rs)) λ all. Ok (record { bytes = c; records = rs; chain = ls; body = b; classes = k; entries = es })
@@ -83,7 +83,7 @@ module _ (c : List ℕ) (long : 68 ≤ length c) (chains : (rs : List Framed) �
   event_each : (k : Classes) (f : Framing c) → AllByRecursion (IsRecord c) (event_records k f.records)
   event_each k f = filter_all (IsRecord c) (λ r. is_event_class k r.type_id) f.records (each f)
 
-  -- What is computed stands, or is the first flaw.
+  -- What is computed are the parts, or the first flaw.
   abbrev pub Tells : Result Parts Flaw → Type 0
   Tells (Ok p) = (p.bytes ≡ c) × AreParts p
   Tells (Err flaw) = Refused c flaw
@@ -222,7 +222,7 @@ module _ (c : List ℕ) (long : 68 ≤ length c) (chains : (rs : List Framed) �
       (events_ok c p.described.classes (event_records p.described.classes p.described.chained.framing.records) (event_records p.described.classes p.described.chained.framing.records) (event_each p.described.classes p.described.chained.framing)
       (recursion_from_All (HasFields c p.described.classes) (event_records p.described.classes p.described.chained.framing.records) w))
 
--- The newest link's checkpoint is where the chain begins.
+-- The newest link's checkpoint is where the chain starts.
 chain_start : (c : List ℕ) (rs : List Framed) (at : ℕ) (ls : List Link) → IsChain c rs at ls → (r : Framed) × StartsAt rs at 1 r
 chain_start c rs at [] h = absurd h
 chain_start c rs at (l ∷ []) h = (l.frame, record { listed = h.0.framed; place = h.1; type_is = h.0.checkpoint })

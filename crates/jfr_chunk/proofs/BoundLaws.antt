@@ -19,7 +19,7 @@ use Rattle.jfr_pool.specs.declared.entry.EntryAt.{EntryAt}
 use Rattle.jfr_pool.specs.Chains.{IsLink, IsChain}
 use Rattle.jfr_pool.specs.Entries.{inline, Constant, constant_format, PoolAt, pool_format, checkpoint_format, entry_of, entries_from, AreEntries, entry_node}
 use Rattle.jfr_chunk.specs.Parts.{event_records}
-use Rattle.jfr_chunk.proofs.Members.{In, contains_in}
+use Rattle.jfr_worklist.proofs.Members.{In, contains_in}
 use Rattle.jfr_chunk.proofs.AllLaws.{all_reverse}
 use Rattle.jfr_chunk.proofs.PartsLaws.{links_record}
 use Rattle.jfr_chunk.proofs.StandingLaws.{links_each, tiles_each}
@@ -166,7 +166,7 @@ at_least c p q [] x t i = absurd i
 at_least c p q (r ∷ rs) x t (inl e) = let a : r.at ≡ p = t.0 in let b : r.at ≡ x.at = ap (λ (z : Framed). z.at) e in omega arith
 at_least c p q (r ∷ rs) x t (inr i) = let a : r.at ≡ p = t.0 in let b : r.at + r.size ≤ x.at = at_least c (record_end r) q rs x t.2 i in omega arith
 
--- Links behind a record, and checkpoints beside an event, are among the records after it.
+-- Links after a record, and checkpoints other than an event, are among the records after it.
 behind : (r : Framed) (rs : List Framed) (lo : ℕ) (ls : List Link) → r.at < lo → Up lo ls → AllByRecursion (Linked (r ∷ rs)) ls → AllByRecursion (Linked rs) ls
 behind r rs lo [] h u a = tt
 behind r rs lo (l ∷ ls) h u a = ((by_place a.0.0, a.0.1), behind r rs (l.frame.at + 1) ls (let i : lo ≤ l.frame.at = u.0 in omega arith) u.1 a.1)
@@ -187,7 +187,7 @@ event_type : (k : Classes) (id : ℕ) → is_event_class k id ≡ true → 1 < i
 unfolding is_event_class
 event_type k id e = ltb-true 1 id (left_true (nat_lt 1 id) _ e)
 
--- From a place on, events and these checkpoints have together at most as many bytes as there are.
+-- From an offset on, the events and these checkpoints together are no longer than the bytes.
 abbrev Apart : Classes → ℕ → ℕ → List Framed → Type 0
 Apart k p q rs = (lo : ℕ) (ls : List Link) → Up lo ls → AllByRecursion (Linked rs) ls → p + (total record_size (event_records k rs) + total link_size ls) ≤ q
 

@@ -18,12 +18,13 @@ use Rattle.jfr_value.proofs.NodeLaws.{read_node}
 use Rattle.jfr_value.proofs.TargetLaws.{node_leaves_within, refers_parts}
 use Rattle.jfr_pool.specs.declared.entry.EntryAt.{EntryAt}
 use Rattle.jfr_pool.specs.Entries.{inline, number_in_force}
-use Rattle.jfr_chunk.specs.Reach.{add, node_entries, those}
+use Rattle.jfr_worklist.specs.Marks.{add, those}
+use Rattle.jfr_chunk.specs.Reach.{node_entries}
 use Rattle.jfr_chunk.proofs.EventReading.{drop_at, record_of}
 
 -- A whole chunk is below the size that is refused.
-pub whole_small : (c : List ℕ) → Whole c → length c < 2 ^ 28
-whole_small c w = subst (λ n. n < 2 ^ 28) w.size (size_bounds _ w.flawless).1
+pub whole_small : (c : List ℕ) → Whole c → length c < 2 ^ 30
+whole_small c w = subst (λ n. n < 2 ^ 30) w.size (size_bounds _ w.flawless).1
 
 -- Up to a record there are no more records, and no more numbers are noted, than there are bytes.
 pub record Counted (c : List ℕ) (rs : List Framed) (n refs_end : ℕ) : Type 0 where
@@ -59,7 +60,7 @@ module _ (c : List ℕ) (rs : List Framed) where
   pub number_fits : (n refs_end : ℕ) → Whole c → Counted c rs n refs_end → n < 2 ^ 32
   number_fits n refs_end w h = let z = whole_small c w in let o = counted_within n refs_end h in omega (arith, o.records)
 
--- A node refers to at most as many entries as it has leaves.
+-- A node refers to at most one entry for each of its leaves.
 those_length : {A B : Type 0} (f : A → Option B) (xs : List A) → length (those f xs) ≤ length xs
 those_length f [] = omega arith
 those_length {B = B} f (x ∷ xs) = by_value (f x) (those_length f xs)
@@ -77,7 +78,8 @@ filter_length {B = B} f (x ∷ xs) = by_value (f x) (filter_length f xs)
     by_value (Some y) h = omega arith
 
 module _ (k : Classes) (sound : Sound k) (c : List ℕ) where
-  -- What begins at a record's body and ends in the record has at most as many leaves as that has bytes.
+  -- A node that starts at a record's body and ends in the record has at most one leaf for each byte of the
+  -- record.
   pub leaves_few : (r : Framed) (n : NodeAt) (v : Value) → IsRecord c r → n.at ≡ r.body → n.end ≤ record_end r → IsNode k c n v → length (leaves k c n) ≤ r.size
   leaves_few r n v i e w j =
       let b = node_leaves_within k sound c n v j in
@@ -93,7 +95,7 @@ module _ (k : Classes) (sound : Sound k) (c : List ℕ) where
         let b = filter_length leaf_target (leaves k c n) in
         omega arith
 
-    -- The fields of an event end in its record, and refer to at most as many entries as that has bytes.
+    -- The fields of an event end in its record, and refer to at most one entry for each byte of the record.
     record FieldsWithin (r : Framed) (end : ℕ) : Type 0 where
       within : end ≤ record_end r
       few : length (node_entries es k c (node_at (inline r.type_id) r.body end)) ≤ r.size

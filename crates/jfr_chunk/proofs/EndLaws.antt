@@ -12,7 +12,7 @@ use Rattle.jfr_chunk.specs.declared.event_index.EventIndexEntry.{EventIndexEntry
 use Rattle.jfr_chunk.specs.Seen.{end_in, event_kept, event_with}
 use Rattle.jfr_chunk.proofs.AllLaws.{all_append}
 
--- The fields of the event of a record of that number end there, and those of the others where they did.
+-- The fields of the event with record n now end at `end`, and those of all others where they did before.
 pub record EndIs (early later : BTreeMap ℕ ℕ) (n : ℕ) (r : Framed) (end : ℕ) : Type 0 where
   pub here : end_in later n r ≡ end
   pub others : (q : ℕ) → q ≢ n → tree.get nat_cmp later q ≡ tree.get nat_cmp early q

@@ -45,7 +45,7 @@ module _ (c : List ℕ) (k : Classes) (rs : List Framed) where
   abbrev all : List Framed
   all = event_records k rs
 
-  -- The events up to a record are read: the flaw and the events are those of the rest behind these.
+  -- The events up to a record have been read: the flaw and the events are these, then those of the rest.
   pub record Pending (left : List Framed) (early : BTreeMap ℕ ℕ) (fields : List EventIndexEntry) : Type 0 where
     pub checked : events_checked c k all left ≡ events_checked c k all all
     pub listed : map (event_kept rs early) fields ++ map Some (filter_map (event_of c k) left) ≡ map Some (filter_map (event_of c k) all)
@@ -74,7 +74,7 @@ module _ (c : List ℕ) (k : Classes) (rs : List Framed) where
   abbrev answer : Framed → Answer Value
   answer r = run (value_format k (inline r.type_id)) c (record_end r) r.body
 
-  -- An event whose fields stand.
+  -- An event whose record has all its fields.
   pub read_event : (n : ℕ) (early later : BTreeMap ℕ ℕ) (fields : List EventIndexEntry) (r : Framed) (end refs_end : ℕ) → slice_get rs n ≡ Some r → is_event_class k r.type_id ≡ true → Ok end ≡ seen (answer r) → EndIs early later n r end → ReadTo n early fields
       → ReadTo (n + 1) later (fields ++ record { «record» = n; refs_end = refs_end } ∷ [])
   read_event n early later fields r end refs_end e f s i p = record {
@@ -107,7 +107,7 @@ module _ (c : List ℕ) (k : Classes) (rs : List Framed) where
   each : AreRecords c rs → AllByRecursion (IsRecord c) all
   each t = filter_all (IsRecord c) (λ r. is_event_class k r.type_id) rs (tiles_each c 68 (length c) rs t)
 
-  -- An event whose fields don't stand.
+  -- An event whose record doesn't have all its fields.
   pub read_stops : (n : ℕ) (early : BTreeMap ℕ ℕ) (fields : List EventIndexEntry) (r : Framed) (flaw : Flaw) → AreRecords c rs → slice_get rs n ≡ Some r → is_event_class k r.type_id ≡ true → Err flaw ≡ seen (answer r) → ReadTo n early fields → IsRefusedEvents c k rs flaw
   read_stops n early fields r flaw t e f s p = subst (EventsTell c k all all) (by_answer (answer r) refl s (subst (λ left. Pending left early fields) (left_event n r e f) p.pending)) (events_tell c k all all (each t))
     where

@@ -1,4 +1,4 @@
--- The records of a chunk, counted: each event, chained checkpoint and metadata record stands once, and the
+-- The records of a chunk, counted: each event, chained checkpoint and metadata record occurs once, and the
 -- others are inert.
 use Rattle.std.specs.Prelude.{◌≡◌, ℕ, suc, ◌+◌, ◌<◌, ◌≤◌, Bool, true, false, not, ◌||◌, ◌&&◌, ◌==◌, nat_lt, List, [], ◌∷◌, length, filter, map, reverse, Some, cond, ◌⊎◌}
 use Rattle.std.specs.List.{AllByRecursion, filter_map, cons_option, list_any}
@@ -21,7 +21,7 @@ use Rattle.jfr_chunk.specs.Parts.{Parts, HasFields, event_by, event_of, event_re
 use Rattle.jfr_chunk.specs.declared.event_index.EventIndexEntry.{EventIndexEntry}
 use Rattle.jfr_chunk.specs.Seen.{event_kept}
 use Rattle.jfr_chunk.proofs.SeenLaws.{each_length}
-use Rattle.jfr_chunk.proofs.Members.{In, contains_in}
+use Rattle.jfr_worklist.proofs.Members.{In, contains_in}
 use Rattle.jfr_chunk.proofs.AllLaws.{all_in, filter_all}
 use Rattle.jfr_chunk.proofs.StandingLaws.{tiles_each, links_each}
 use Rattle.jfr_chunk.proofs.TestLaws.{is_eq}
@@ -118,7 +118,7 @@ module _ (c : List ℕ) (rs : List Framed) (records : AllByRecursion (IsRecord c
   count_link : (l : Link) → IsLink c rs l → count (λ r. l.frame.at == r.at) rs ≡ 1
   count_link l i = count_place (λ r. l.frame.at == r.at) l.frame.at (λ r e. sym (starts l.frame.at r.at e)) (λ r e. is_eq l.frame.at r.at (sym e)) 0 rs l.frame rising (contains_in rs l.frame i.framed) refl
 
-  -- Each link stands once.
+  -- Each link occurs once.
   count_chain : (at : ℕ) (ls : List Link) → IsChain c rs at ls → count (linked ls) rs ≡ length ls
   count_chain at [] h = absurd h
   count_chain at (l ∷ []) h =

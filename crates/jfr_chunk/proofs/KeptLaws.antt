@@ -1,4 +1,4 @@
--- Where as many events are kept as there are, all are.
+-- If the number of kept events is that of all events, all are kept.
 use Rattle.std.specs.Prelude.{◌≡◌, ℕ, suc, ◌+◌, ◌≤◌, Bool, true, false, ◌==◌, List, [], ◌∷◌, length, cond}
 use Rattle.std.specs.List.{count_by, list_all}
 use Rattle.std.proofs.Common.{ap, arith, refl, ◌∙◌}

@@ -1,4 +1,5 @@
--- Events of equal record bytes, under classes that agree, mean the same where all that they meet is the same.
+-- Events with equal record bytes, under classes that agree, mean the same if all that their paths lead to is
+-- the same.
 use Rattle.std.specs.Prelude.{◌≡◌, ℕ, ◌≤◌, List, [], ◌∷◌, ◌++◌, length, slice_range, Contains}
 use Rattle.std.proofs.Common.{ap, arith, refl, sym, ◌∙◌, subst, inl, inr}
 use Rattle.std.proofs.lemmas.List.Elements.{All-contains}
@@ -21,7 +22,7 @@ use Rattle.jfr_pool.specs.Entries.{inline}
 use Rattle.jfr_chunk.specs.Parts.{Parts, EventAt, events_of, AreParts}
 use Rattle.jfr_chunk.specs.Meaning.{SameMeaning}
 use Rattle.jfr_chunk.specs.Laws.{AreEvents, SameRecord, SameRecords, SameOnPaths}
-use Rattle.jfr_chunk.proofs.Members.{In, contains_in, in_contains}
+use Rattle.jfr_worklist.proofs.Members.{In, contains_in, in_contains}
 use Rattle.jfr_chunk.proofs.AllLaws.{all_in}
 use Rattle.jfr_chunk.proofs.PathLaws.{Pair, MeetsSame, law_of_paths}
 use Rattle.jfr_chunk.proofs.StandingLaws.{IsEvent, standing, event_is, tiles_each}

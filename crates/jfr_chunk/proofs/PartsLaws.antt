@@ -15,7 +15,7 @@ use Rattle.jfr_pool.specs.declared.entry.EntryAt.{EntryAt}
 use Rattle.jfr_pool.specs.Chains.{Delta, head_format, IsLink, IsChain, StepsTo}
 use Rattle.jfr_pool.specs.Entries.{checkpoint_format, entries_from, AreEntries}
 use Rattle.jfr_chunk.specs.Parts.{Parts, StartsAt, AreParts, pools_at, metadata_at}
-use Rattle.jfr_chunk.proofs.Members.{In, contains_in}
+use Rattle.jfr_worklist.proofs.Members.{In, contains_in}
 use Rattle.jfr_chunk.proofs.AllLaws.{all_in, all_reverse}
 use Rattle.jfr_chunk.proofs.StandingLaws.{tiles_each, links_each}
 
@@ -29,7 +29,7 @@ module _ (c : List ℕ) (rs : List Framed) (each : AllByRecursion (IsRecord c) r
   abbrev recorded : (r : Framed) → In rs r → IsRecord c r
   recorded r i = all_in (IsRecord c) rs r each i
 
-  -- At one place stands one link.
+  -- There is only one link at an offset.
   link_one : (l m : Link) → IsLink c rs l → IsLink c rs m → l.frame.at ≡ m.frame.at → l ≡ m
   link_one l m i j e =
       let r = recorded l.frame (contains_in rs l.frame i.framed) in

@@ -1,4 +1,5 @@
--- The law of paths: where the entries in force are the same for all that is met, paths lead to the same.
+-- The law of paths: if the entries in force are the same for all references that are met, paths lead to the
+-- same.
 use Rattle.std.specs.Prelude.{◌≡◌, ℕ, List, [], ◌∷◌, slice_get, Option, Some, None, Bool, true, false, if◌then◌else◌, option_and_then}
 use Rattle.std.specs.Option.{option_map}
 use Rattle.std.proofs.Common.{ap, refl, sym, ◌∙◌, subst}
@@ -18,7 +19,7 @@ use Rattle.jfr_chunk.specs.Parts.{Parts}
 use Rattle.jfr_chunk.specs.Paths.{follow, step, leads}
 use Rattle.jfr_chunk.specs.Meaning.{SamePaths, SameEntry}
 use Rattle.jfr_chunk.proofs.AllLaws.{all_get}
-use Rattle.jfr_chunk.proofs.ForceLaws.{numbered}
+use Rattle.jfr_pool.proofs.ForceLaws.{numbered}
 
 -- The classes are sound, and every entry in force is a node.
 pub record Standing (p : Parts) : Type 0 where
@@ -49,7 +50,7 @@ own_class (Single s kind b (Some key)) t e = let h : (s.class, key) ≡ t = cc i
 own_class (Group s h vs) t e = cc
 
 module _ (p q : Parts) (s : Standing p) (r : Standing q) where
-  -- One value stands at both nodes, and the class lists agree on its class.
+  -- Both nodes have the same value, and the class lists agree on its class.
   pub record Pair (n o : NodeAt) : Type 0 where
     pub value : Value
     pub left : IsNode p.classes p.bytes n value

@@ -9,12 +9,13 @@ use Rattle.jfr_pool.specs.declared.entry.EntryAt.{EntryAt}
 use Rattle.jfr_pool.specs.Entries.{number_in_force, in_force, entry_node}
 use Rattle.jfr_chunk.specs.Parts.{Parts, EventAt}
 use Rattle.jfr_chunk.specs.Paths.{leads}
-use Rattle.jfr_chunk.specs.Reach.{Reached, those, all_targets, nodes_of, roots, next_entries, IsMarked, reached_marks}
-use Rattle.jfr_chunk.proofs.Members.{In, contains_in, in_contains, in_left, in_right, in_cases, those_in, in_those}
-use Rattle.jfr_chunk.proofs.ForceLaws.{forced, numbered}
+use Rattle.jfr_chunk.specs.Reach.{Reached, all_targets, nodes_of, roots, next_entries, reached_marks}
+use Rattle.jfr_worklist.specs.Marks.{those, IsMarked}
+use Rattle.jfr_worklist.proofs.Members.{In, contains_in, in_contains, in_left, in_right, in_cases, those_in, in_those}
+use Rattle.jfr_pool.proofs.ForceLaws.{forced, numbered}
 use Rattle.jfr_chunk.proofs.PathLaws.{Standing}
 use Rattle.jfr_chunk.proofs.ReachLaws.{leads_append, target_path, follow_is, reach_least}
-use Rattle.jfr_chunk.proofs.SweepLaws.{Reach, root, more, AllBelow, marks_reach}
+use Rattle.jfr_worklist.proofs.SweepLaws.{Reach, root, more, AllBelow, marks_reach}
 
 abbrev entry_targets : Parts → ℕ → List (ℕ × ℕ)
 entry_targets p i = option_map_or (λ e. targets p.classes p.bytes (entry_node e)) (slice_get p.entries i) []

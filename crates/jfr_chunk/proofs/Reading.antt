@@ -29,7 +29,7 @@ use Rattle.jfr_chunk.specs.Parts.{Parts, StartsAt, AreParts, events_of, metadata
 use Rattle.jfr_chunk.specs.Refusal.{Framing, Chained, Described, Refused, framing, metadata_position, pool_position, chain, metadata, checkpoints, events, found_or, read_parts}
 use Rattle.jfr_chunk.specs.Seen.{AreRefs, IsIndexed, due, parts_in}
 use Rattle.jfr_chunk.specs.Stages.{AreFields, IsRefusedEvents}
-use Rattle.jfr_chunk.proofs.Members.{contains_in}
+use Rattle.jfr_worklist.proofs.Members.{contains_in}
 use Rattle.jfr_chunk.proofs.AllLaws.{all_in, all_reverse}
 use Rattle.jfr_chunk.proofs.BoundLaws.{entries_few}
 use Rattle.jfr_chunk.proofs.StandingLaws.{tiles_each, links_each, described_sound}
@@ -38,7 +38,7 @@ use Rattle.jfr_chunk.proofs.StageLaws.{there_starts, none_starts, EntriesTell, e
 use Rattle.jfr_chunk.proofs.AnswerLaws.{refused_read}
 use Rattle.jfr_chunk.proofs.ChainAnswers.{chain_answers, is_computed}
 
--- What is refused is what is computed.
+-- The flaw for which a chunk is refused is the computed one.
 pub told : (c : List ℕ) (fault : ReadFault) → 68 ≤ length c → IfFlawed (Refused c) fault → TellsFlaw (read_parts c) fault
 told c (Flawed flaw) long r = refused_read c long (chain_answers c) flaw r
 told c Memory long r = tt

@@ -17,11 +17,12 @@ use Rattle.jfr_chunk.specs.declared.event_index.EventIndexEntry.{EventIndexEntry
 use Rattle.jfr_chunk.specs.declared.refs.ConstantRefs.{ConstantRefs}
 use Rattle.jfr_chunk.specs.Refs.{AddsRefs}
 use Rattle.jfr_chunk.specs.Parts.{EventAt}
-use Rattle.jfr_chunk.specs.Reach.{add, node_entries, those}
+use Rattle.jfr_worklist.specs.Marks.{add, those}
+use Rattle.jfr_chunk.specs.Reach.{node_entries}
 use Rattle.jfr_chunk.specs.Seen.{AreRefs, due}
 use Rattle.jfr_chunk.proofs.EndLaws.{EndIs, same_event, this_event}
 
--- What lists have, one behind another.
+-- The values for two lists, one after another.
 pub those_append : {A B : Type 0} (f : A → Option B) (xs ys : List A) → those f (xs ++ ys) ≡ those f xs ++ those f ys
 those_append f [] ys = refl
 those_append {B = B} f (x ∷ xs) ys = by_value (f x) (those_append f xs ys)
@@ -60,7 +61,7 @@ module _ (due : EventIndexEntry → List ℕ) where
       let h : g.refs_end ≡ from + length (due g) = a.2 in
       (rest ++ due f, p, a.2, refs_more g.refs_end fs rest f a.3 (omega arith))
 
-  -- Those of one event, behind those of the ones before.
+  -- The numbers of one event, after those of the events before.
   record RefsAt (from : ℕ) (numbers : List ℕ) (f : EventIndexEntry) (start : ℕ) : Type 0 where
     before : List ℕ
     after : List ℕ
@@ -91,7 +92,7 @@ module _ (due : EventIndexEntry → List ℕ) where
         ends = omega arith;
       }
 
-  -- They stand between its count and the one of the event before.
+  -- They are between the end of the range before and the end of the event's own.
   pub record RefsRange (numbers : List ℕ) (f : EventIndexEntry) (start : ℕ) : Type 0 where
     pub order : start ≤ f.refs_end
     pub within : f.refs_end ≤ length numbers

@@ -75,7 +75,7 @@ event_cut_short : refusal_of (edited rings 332 131) ≡ Some (record { offset = 
 unfolding refusal_of run int_at string_format meta_format body_format element_format pieces_from described class_flaws classes_of class_of field_of shape_of id_of class_faults kind_of read_parts records_of record_at chain_of checkpoint_format class_format value_format is_event_class
 event_cut_short = refl
 
--- What stands behind an event's last field doesn't matter.
+-- What follows an event's last field doesn't matter.
 bytes_left : refusal_of (header 363 334 68 ++ (metadata ++ 5 ∷ 8 ∷ 172 ∷ 2 ∷ 1 ∷ 4 ∷ 9 ∷ 3 ∷ 255 ∷ 29 ∷ 1 ∷ 0 ∷ 0 ∷ 0 ∷ 0 ∷ 1 ∷ 7 ∷ 4 ∷ 1 ∷ 2 ∷ 3 ∷ 1 ∷ 112 ∷ 2 ∷ 1 ∷ 3 ∷ 1 ∷ 113 ∷ 3 ∷ 4 ∷ 3 ∷ 1 ∷ 114 ∷ 4 ∷ 3 ∷ 3 ∷ 1 ∷ 115 ∷ [])) ≡ None
 unfolding refusal_of run int_at string_format meta_format body_format element_format pieces_from described class_flaws classes_of class_of field_of shape_of id_of class_faults kind_of read_parts records_of record_at chain_of checkpoint_format class_format value_format is_event_class
 bytes_left = refl

@@ -18,8 +18,12 @@ use Rattle.jfr_chunk.specs.Parts.{EventAt, events_of}
 use Rattle.jfr_chunk.specs.Refusal.{read_parts}
 use Rattle.jfr_chunk.specs.Paths.{leads, text_of, named_text}
 use Rattle.jfr_chunk.specs.Reach.{remain, reached_marks}
+use lib.Utf8.{encode}
+use Rattle.jfr_meta.specs.Slimmed.{retabled, slim_body, slim_in, slim_root, table_of}
+use Rattle.jfr_meta.specs.Stays.{stay_marks}
+use Rattle.jfr_chunk.specs.Metas.{rebuilt, stays_in}
 use Rattle.jfr_chunk.specs.Scrub.{scrub_of}
-use Rattle.jfr_chunk.proofs.Chunks.{header, metadata, event_a, event_b, rings, rings_parts, record_a, record_b, entry, entries, classes}
+use Rattle.jfr_chunk.proofs.Chunks.{header, metadata_a, metadata_b, metadata_none, event_a, event_b, rings, rings_parts, record_a, record_b, entry, entries, classes}
 
 parts : read_parts rings ≡ Ok rings_parts
 unfolding run int_at string_format meta_format body_format element_format pieces_from described class_flaws classes_of class_of field_of shape_of id_of class_faults kind_of read_parts records_of record_at chain_of checkpoint_format class_format value_format is_event_class
@@ -63,18 +67,18 @@ remaining : remain rings_parts (first ∷ []) ≡ entry 1 342 343 347 ∷ entry 
 unfolding value_of number_in_force reached_marks remain run int_at string_format class_format value_format kind_of
 remaining = refl
 
-only_a : scrub_of rings_parts (first ∷ []) ≡ header 349 330 68 ++ (metadata ++ (event_a ++ 19 ∷ 1 ∷ 0 ∷ 0 ∷ 0 ∷ 0 ∷ 1 ∷ 7 ∷ 2 ∷ 1 ∷ 2 ∷ 3 ∷ 1 ∷ 112 ∷ 2 ∷ 1 ∷ 3 ∷ 1 ∷ 113 ∷ []))
-unfolding value_of number_in_force reached_marks remain scrub_of spell spell_in run int_at string_format class_format value_format kind_of
+only_a : scrub_of rings_parts (first ∷ []) ≡ header 326 307 68 ++ (metadata_a ++ (event_a ++ 19 ∷ 1 ∷ 0 ∷ 0 ∷ 0 ∷ 0 ∷ 1 ∷ 7 ∷ 2 ∷ 1 ∷ 2 ∷ 3 ∷ 1 ∷ 112 ∷ 2 ∷ 1 ∷ 3 ∷ 1 ∷ 113 ∷ []))
+unfolding value_of number_in_force reached_marks remain scrub_of rebuilt stays_in slim_body slim_root table_of retabled stay_marks slim_in encode class_of class_flaws id_of is_event_class spell spell_in run int_at string_format class_format value_format kind_of
 only_a = refl
 
-only_b : scrub_of rings_parts (second ∷ []) ≡ header 347 328 68 ++ (metadata ++ (event_b ++ 19 ∷ 1 ∷ 0 ∷ 0 ∷ 0 ∷ 0 ∷ 1 ∷ 7 ∷ 2 ∷ 3 ∷ 4 ∷ 3 ∷ 1 ∷ 114 ∷ 4 ∷ 3 ∷ 3 ∷ 1 ∷ 115 ∷ []))
-unfolding value_of number_in_force reached_marks remain scrub_of spell spell_in run int_at string_format class_format value_format kind_of
+only_b : scrub_of rings_parts (second ∷ []) ≡ header 314 295 68 ++ (metadata_b ++ (event_b ++ 19 ∷ 1 ∷ 0 ∷ 0 ∷ 0 ∷ 0 ∷ 1 ∷ 7 ∷ 2 ∷ 3 ∷ 4 ∷ 3 ∷ 1 ∷ 114 ∷ 4 ∷ 3 ∷ 3 ∷ 1 ∷ 115 ∷ []))
+unfolding value_of number_in_force reached_marks remain scrub_of rebuilt stays_in slim_body slim_root table_of retabled stay_marks slim_in encode class_of class_flaws id_of is_event_class spell spell_in run int_at string_format class_format value_format kind_of
 only_b = refl
 
-none_kept : scrub_of rings_parts [] ≡ header 332 325 68 ++ (metadata ++ 7 ∷ 1 ∷ 0 ∷ 0 ∷ 0 ∷ 0 ∷ 0 ∷ [])
-unfolding value_of number_in_force reached_marks remain scrub_of spell spell_in run int_at string_format class_format value_format kind_of
+none_kept : scrub_of rings_parts [] ≡ header 241 234 68 ++ (metadata_none ++ 7 ∷ 1 ∷ 0 ∷ 0 ∷ 0 ∷ 0 ∷ 0 ∷ [])
+unfolding value_of number_in_force reached_marks remain scrub_of rebuilt stays_in slim_body slim_root table_of retabled stay_marks slim_in encode class_of class_flaws id_of is_event_class spell spell_in run int_at string_format class_format value_format kind_of
 none_kept = refl
 
 all_kept : scrub_of rings_parts (first ∷ second ∷ []) ≡ rings
-unfolding value_of number_in_force reached_marks remain scrub_of spell spell_in run int_at string_format class_format value_format kind_of
+unfolding value_of number_in_force reached_marks remain scrub_of rebuilt stays_in slim_body slim_root table_of retabled stay_marks slim_in encode class_of class_flaws id_of is_event_class spell spell_in run int_at string_format class_format value_format kind_of
 all_kept = refl

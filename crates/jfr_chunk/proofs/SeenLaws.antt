@@ -48,7 +48,7 @@ each_some f (z ∷ xs) (y ∷ ys) (suc n) x e g = each_some f xs ys n x (tails (
     tails : {C : Type 0} (c d : C) (cs ds : List C) → (c ∷ cs) ≡ (d ∷ ds) → cs ≡ ds
     tails c d cs ds e = cc
 
--- The event of a number.
+-- The event of an index entry.
 pub event_found : (p : Parts) (early : BTreeMap ℕ ℕ) (fs : List EventIndexEntry) (n : ℕ) (f : EventIndexEntry) (r : Framed) → map (event_kept p.records early) fs ≡ map Some (events_of p) → slice_get fs n ≡ Some f → slice_get p.records f.record ≡ Some r
     → Some (event_with (end_in early f.record r) r) ≡ slice_get (events_of p) n
 event_found p early fs n f r e g h = sym (ap (λ o. option_and_then (event_kept p.records early) o) g ∙ by_record (slice_get p.records f.record) h) ∙ each_get (event_kept p.records early) fs (events_of p) n e
@@ -64,16 +64,16 @@ event_missed p early fs n f e g h = sym (ap (λ o. option_and_then (event_kept p
     by_record : (o : Option Framed) → o ≡ None → option_and_then (λ x. Some (event_with (end_in early f.record x) x)) o ≡ None
     by_record o q = ap (λ z. option_and_then (λ x. Some (event_with (end_in early f.record x) x)) z) q
 
--- The event of a number starts where its record does.
-pub event_placed : (p : Parts) (early : BTreeMap ℕ ℕ) (fs : List EventIndexEntry) (n : ℕ) (f : EventIndexEntry) → map (event_kept p.records early) fs ≡ map Some (events_of p) → slice_get fs n ≡ Some f
-    → option_map (λ (r : Framed). r.at) (slice_get p.records f.record) ≡ option_map (λ (e : EventAt). e.record_of.at) (slice_get (events_of p) n)
-event_placed p early fs n f e g = by_record (slice_get p.records f.record) ∙ ap (option_map (λ (e : EventAt). e.record_of.at)) (sym (ap (option_and_then (event_kept p.records early)) g) ∙ each_get (event_kept p.records early) fs (events_of p) n e)
+-- What holds of the record of an event is found at the record that the index names.
+pub event_framed : {X : Type 0} (h : Framed → X) (p : Parts) (early : BTreeMap ℕ ℕ) (fs : List EventIndexEntry) (n : ℕ) (f : EventIndexEntry) → map (event_kept p.records early) fs ≡ map Some (events_of p) → slice_get fs n ≡ Some f
+    → option_map h (slice_get p.records f.record) ≡ option_map (λ (e : EventAt). h e.record_of) (slice_get (events_of p) n)
+event_framed h p early fs n f e g = by_record (slice_get p.records f.record) ∙ ap (option_map (λ (e : EventAt). h e.record_of)) (sym (ap (option_and_then (event_kept p.records early)) g) ∙ each_get (event_kept p.records early) fs (events_of p) n e)
   where
-    by_record : (o : Option Framed) → option_map (λ (r : Framed). r.at) o ≡ option_map (λ (e : EventAt). e.record_of.at) (option_map (λ r. event_with (end_in early f.record r) r) o)
+    by_record : (o : Option Framed) → option_map h o ≡ option_map (λ (e : EventAt). h e.record_of) (option_map (λ r. event_with (end_in early f.record r) r) o)
     by_record None = refl
     by_record (Some r) = refl
 
--- What is due to the fields of a number is due to the event of that number.
+-- The numbers of an index entry are those of its event.
 pub event_due : (p : Parts) (early : BTreeMap ℕ ℕ) (fs : List EventIndexEntry) (n : ℕ) (f : EventIndexEntry) → map (event_kept p.records early) fs ≡ map Some (events_of p) → slice_get fs n ≡ Some f
     → Some (due p.entries p.classes p.bytes p.records early f) ≡ option_map (λ (e : EventAt). node_entries p.entries p.classes p.bytes e.node) (slice_get (events_of p) n)
 event_due p early fs n f e g =
@@ -92,7 +92,7 @@ all_due p early from (f ∷ fs) (x ∷ es) numbers e a =
     let r : a.0 ≡ roots p es = all_due p early f.refs_end fs es a.0 t a.3 in
     a.1 ∙ (ap (λ z. z ++ a.0) d ∙ (ap (λ z. node_entries p.entries p.classes p.bytes x.node ++ z) r ∙ sym (those_append (number_in_force p.entries) (targets p.classes p.bytes x.node) (all_targets p (nodes_of es)))))
 
--- The record of the fields of a number is that of the event of that number.
+-- The record of an index entry is that of its event.
 pub event_recorded : (p : Parts) (early : BTreeMap ℕ ℕ) (fs : List EventIndexEntry) (n : ℕ) (f : EventIndexEntry) → map (event_kept p.records early) fs ≡ map Some (events_of p) → slice_get fs n ≡ Some f
     → Some (slice_get p.records f.record) ≡ option_map (λ (e : EventAt). Some e.record_of) (slice_get (events_of p) n)
 event_recorded p early fs n f e g =

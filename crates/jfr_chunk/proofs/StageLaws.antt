@@ -1,4 +1,4 @@
--- The later stages of reading a chunk: what is computed stands, or is the first flaw, and back.
+-- The later stages of reading a chunk: what is computed is there, or is the first flaw, and the converse.
 use Rattle.std.specs.Prelude.{◌≡◌, ℕ, ◌+◌, ◌≤◌, Bool, true, false, ◌&&◌, ◌==◌, List, [], ◌∷◌, ◌++◌, find, All, Option, Some, None, Result, Ok, Err, if◌then◌else◌}
 use Rattle.std.specs.List.{AllByRecursion}
 use Rattle.std.proofs.Common.{ap, arith, refl, sym, ◌∙◌, subst, inl, inr}
@@ -21,7 +21,7 @@ use Rattle.jfr_pool.specs.declared.entry.EntryAt.{EntryAt}
 use Rattle.jfr_pool.specs.Entries.{inline, PoolAt, pool_format, checkpoint_format, entries_from, AreEntries, before_entries, entries_by, entries_of}
 use Rattle.jfr_chunk.specs.Parts.{StartsAt, HasFields}
 use Rattle.jfr_chunk.specs.Refusal.{FirstFails, fields_by, events_checked}
-use Rattle.jfr_chunk.proofs.Members.{In, contains_in, in_contains}
+use Rattle.jfr_worklist.proofs.Members.{In, contains_in, in_contains}
 use Rattle.jfr_chunk.proofs.AllLaws.{all_in}
 use Rattle.jfr_chunk.proofs.TestLaws.{left_true, right_true, is_eq}
 

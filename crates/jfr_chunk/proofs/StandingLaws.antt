@@ -1,4 +1,4 @@
--- The parts of a chunk stand: its classes are sound, and its entries and events are nodes.
+-- For the parts of a chunk, its classes are sound, and its entries and events are nodes.
 use Rattle.std.specs.Prelude.{◌≡◌, ℕ, zero, suc, ◌+◌, ◌≤◌, List, [], ◌∷◌, ◌++◌, length, map, reverse, slice_get, Option, Some, None, Ok, Err}
 use Rattle.std.specs.List.{AllByRecursion}
 use Rattle.std.proofs.Common.{refl, sym, subst}
@@ -23,9 +23,9 @@ use Rattle.jfr_pool.specs.declared.entry.EntryAt.{EntryAt}
 use Rattle.jfr_pool.specs.Chains.{IsLink, IsChain}
 use Rattle.jfr_pool.specs.Entries.{inline, Constant, constant_format, PoolAt, pool_format, checkpoint_format, entry_of, entries_from, AreEntries, entry_node}
 use Rattle.jfr_chunk.specs.Parts.{Parts, EventAt, event_by, event_of, event_records, events_of, AreParts, pools_at}
-use Rattle.jfr_chunk.proofs.Members.{In, contains_in, get_in}
+use Rattle.jfr_worklist.proofs.Members.{In, contains_in, get_in}
 use Rattle.jfr_chunk.proofs.AllLaws.{all_get, all_append, all_reverse, all_in, in_filter, in_filter_map}
-use Rattle.jfr_chunk.proofs.ForceLaws.{numbered}
+use Rattle.jfr_pool.proofs.ForceLaws.{numbered}
 use Rattle.jfr_chunk.proofs.PathLaws.{Standing}
 
 append_none : {X : Type 0} (xs ys : List X) → xs ++ ys ≡ [] → ys ≡ []
@@ -63,7 +63,7 @@ links_each c rs at [] h = absurd h
 links_each c rs at (l ∷ []) h = (h.0, tt)
 links_each c rs at (l ∷ m ∷ ls) h = (h.0, links_each c rs m.frame.at (m ∷ ls) h.3)
 
--- Each of so many values that are read one after another.
+-- Each of n values that are read one after another.
 times_each : {A : Type 0} (P : A → Type 0) (f : Format A) (c : List ℕ) (end : ℕ) → ((at : ℕ) (a : A) (to : ℕ) → at ≤ end → Reads f c end at a to → P a)
     → (n at : ℕ) (vs : List A) (to : ℕ) → at ≤ end → Reads (times n f) c end at vs to → AllByRecursion P vs
 times_each P f c end each zero at vs to h r = subst (AllByRecursion P) (sym r.0) tt
@@ -118,7 +118,7 @@ module _ (c : List ℕ) (k : Classes) where
       let p = checkpoint_is (record_end l.frame) a.0 l.frame.body e.0 (record_end l.frame) e.1 in
       subst (AllByRecursion IsEntryNode) (sym e.3) (all_append IsEntryNode (entries_from number 0 e.0) e.2 (pools_are number 0 e.0 p) (entries_each (number + 1) ls e.2 a.1 e.4))
 
--- An event stands in its record.
+-- An event lies in its record.
 pub record IsEvent (p : Parts) (e : EventAt) : Type 0 where
   pub listed : In p.records e.record_of
   pub shape : e.node.shape ≡ inline e.record_of.type_id
@@ -163,7 +163,7 @@ module _ (p : Parts) (parts : AreParts p) where
           let h : record { record_of = r; node = record { shape = inline r.type_id; at = r.body; end = g.place } } ≡ e = cc in
           subst (IsEvent p) h (record { listed = j; shape = refl; at = refl; within = n.1; value = g.value; node = n.0; reads = s })
 
-  -- The event, or the entry, of a number is a value where the code says that it stands.
+  -- The event, or the entry, with a number is a value at the offset that the code has for it.
   pub event_value : (number : ℕ) (e : EventAt) (n : Node) → slice_get (events_of p) number ≡ Some e → node_of n ≡ e.node → n.bytes.now ≡ p.bytes → IsValue p.classes n
   event_value number e n q h b =
       let i = event_is e (get_in (events_of p) number e q) in

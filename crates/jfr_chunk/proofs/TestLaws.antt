@@ -1,4 +1,4 @@
--- What tests tell.
+-- The results of tests.
 use Rattle.std.specs.Prelude.{◌≡◌, ℕ, Bool, true, false, ◌&&◌, ◌==◌}
 use Rattle.std.proofs.Common.{arith, refl}
 

@@ -4,6 +4,7 @@ pub mod Paths
 pub mod Reach
 pub mod Chosen
 pub mod Written
+pub mod Metas
 pub mod Scrub
 pub mod Meaning
 pub mod Seen

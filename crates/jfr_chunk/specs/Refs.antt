@@ -2,8 +2,7 @@
 use Rattle.std.specs.Prelude.{◌≡◌, ℕ, ◌+◌, ◌≤◌, false, List, ◌++◌, length}
 use Rattle.jfr_chunk.specs.declared.refs.ConstantRefs.{ConstantRefs}
 
--- Where memory isn't wanting now it wasn't before, and these numbers stand behind the old ones; in any case
--- no more than these are new.
+-- The numbers are added after the old ones, unless memory has run out; then some of them may be missing.
 pub record AddsRefs (numbers : List ℕ) (old new : ConstantRefs) : Type 0 where
   pub lacked_none : new.lacks ≡ false → old.lacks ≡ false
   pub appended : new.lacks ≡ false → new.numbers.items ≡ old.numbers.items ++ numbers

@@ -1,4 +1,4 @@
--- Why a chunk is refused: the stages in order, each behind the ones before.
+-- Why a chunk is refused. Reading has stages, each of which needs what the ones before found.
 use Rattle.std.specs.Prelude.{◌≡◌, ℕ, List, [], ◌∷◌, ◌++◌, reverse, Option, Some, None, Result, Ok, Err, All}
 use Rattle.jfr_base.specs.declared.reason.Reason.{Reason}
 use Rattle.jfr_base.specs.declared.reason.Reason.TheVariants.{RecordSize, MetadataPosition, PoolPosition}
@@ -17,7 +17,7 @@ use Rattle.jfr_pool.specs.Chains.{IsChain, ChainFlaw, chain_of}
 use Rattle.jfr_pool.specs.Entries.{AreEntries, checkpoint_format, entries_of, inline}
 use Rattle.jfr_chunk.specs.Parts.{Parts, StartsAt, HasFields, event_records, pools_at, metadata_at}
 
--- The records, and where the header's positions lead.
+-- The first stage found the records, and those at the header's positions.
 pub record Framing (c : List ℕ) : Type 0 where
   pub records : List Framed
   pub cover : AreRecords c records
@@ -26,26 +26,26 @@ pub record Framing (c : List ℕ) : Type 0 where
   pub last : Framed
   pub last_there : StartsAt records (pools_at c) 1 last
 
--- The chain, behind the records.
+-- The next stage found the chain.
 pub record Chained (c : List ℕ) : Type 0 where
   pub framing : Framing c
   pub chain : List Link
   pub links : IsChain c framing.records (pools_at c) chain
 
--- The metadata and its classes, behind the chain.
+-- The next stage found the metadata and its classes.
 pub record Described (c : List ℕ) : Type 0 where
   pub chained : Chained c
   pub body : Body
   pub classes : Classes
   pub metadata : IsMetadata c chained.framing.metadata body classes
 
--- The entries of the chained checkpoints, behind the metadata.
+-- The next stage found the entries of the chained checkpoints.
 pub record Pooled (c : List ℕ) : Type 0 where
   pub described : Described c
   pub entries : List EntryAt
   pub stand : AreEntries c described.classes 0 (reverse described.chained.chain) entries
 
--- The first member that fails has this flaw, and those before it are good.
+-- One member fails with this flaw, and those before it are good.
 pub record FirstFails {X : Type 0} (Good : X → Type 0) (Bad : X → ℕ → Reason → Type 0) (xs : List X) (flaw : Flaw) : Type 0 where
   pub before : List X
   pub first : X
@@ -54,13 +54,13 @@ pub record FirstFails {X : Type 0} (Good : X → Type 0) (Bad : X → ℕ → Re
   pub good : All Good before
   pub fails : Bad first flaw.offset flaw.reason
 
--- The chunk is refused for this flaw: the first of the first stage that has one.
+-- The chunk is refused for this flaw, the first one of the first stage that has any.
 pub data Refused (c : List ℕ) (flaw : Flaw) : Type 0 where
-  -- No record stands at a place.
+  -- No record fits at an offset.
   framing : FrameFlaw c flaw.offset → flaw.reason ≡ RecordSize → Refused c flaw
-  -- No metadata record starts where the header says.
+  -- No metadata record starts at the position in the header.
   metadata_position : (rs : List Framed) → AreRecords c rs → ((r : Framed) → StartsAt rs (metadata_at c) 0 r → ⊥) → flaw ≡ record { offset = 24; reason = MetadataPosition } → Refused c flaw
-  -- No checkpoint starts where the header says.
+  -- No checkpoint starts at the position in the header.
   pool_position : (rs : List Framed) → AreRecords c rs → (m : Framed) → StartsAt rs (metadata_at c) 0 m → ((r : Framed) → StartsAt rs (pools_at c) 1 r → ⊥) → flaw ≡ record { offset = 16; reason = PoolPosition } → Refused c flaw
   -- A chained checkpoint's head or delta is faulty.
   chain : (f : Framing c) (before : List Link) → ChainFlaw c f.records (pools_at c) before flaw.offset flaw.reason → Refused c flaw
@@ -71,7 +71,7 @@ pub data Refused (c : List ℕ) (flaw : Flaw) : Type 0 where
   -- An event's fields are faulty, the first in file order.
   events : (p : Pooled c) → FirstFails (HasFields c p.described.classes) (λ r. Fails (value_format p.described.classes (inline r.type_id)) c (record_end r) r.body) (event_records p.described.classes p.described.chained.framing.records) flaw → Refused c flaw
 
--- By computing: a stage behind the ones before, which goes on with what they give.
+-- The computation: a stage that gets what the one before found, or the flaw.
 abbrev pub and_then : {A B : Type 0} → Result A Flaw → (A → Result B Flaw) → Result B Flaw
 and_then (Ok a) next = next a
 and_then (Err flaw) next = Err flaw
@@ -86,12 +86,12 @@ abbrev pub body_by : Answer Body → Result Body Flaw
 body_by (Ok g) = Ok g.value
 body_by (Err flaw) = Err flaw
 
--- The flaw of an event's fields, or else what is found of the events behind it.
+-- The flaw of an event's fields, if there is one, else the result for the events after it.
 abbrev pub fields_by : Answer Value → Result (List Framed) Flaw → Result (List Framed) Flaw
 fields_by (Ok g) later = later
 fields_by (Err flaw) later = Err flaw
 
--- The flaw of the first event whose fields don't stand; these are all events otherwise.
+-- The flaw of the first event whose record doesn't have all its fields, else all events.
 abbrev pub events_checked : List ℕ → Classes → List Framed → List Framed → Result (List Framed) Flaw
 events_checked c k all [] = Ok all
 events_checked c k all (r ∷ rs) = fields_by (run (value_format k (inline r.type_id)) c (record_end r) r.body) (events_checked c k all rs)
@@ -109,11 +109,11 @@ read_parts c =
     and_then (events_checked c classes (event_records classes rs) (event_records classes rs)) λ events.
     Ok (record { bytes = c; records = rs; chain = chain; body = body; classes = classes; entries = entries })
 
--- The flaw of an answer, if it is one.
+-- The flaw in a result, if it is one.
 abbrev pub flaw_in : {A : Type 0} → Result A Flaw → Option Flaw
 flaw_in (Ok a) = None
 flaw_in (Err flaw) = Some flaw
 
--- What refuses a chunk, if anything does.
+-- The flaw for which a chunk is refused, if it is.
 unfoldable pub refusal_of : List ℕ → Option Flaw
 refusal_of c = flaw_in (read_parts c)

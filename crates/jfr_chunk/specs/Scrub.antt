@@ -1,6 +1,6 @@
--- What a chunk becomes: the header, and then, in order, the kept events, the metadata record, and what is
--- written of each chained checkpoint.
-use Rattle.std.specs.Prelude.{ℕ, ◌+◌, Bool, true, false, ◌||◌, ◌==◌, List, [], ◌∷◌, ◌++◌, length, filter, find, reverse, Option, Some, None, take}
+-- The output chunk: the header, followed, in the order of the file, by the kept events, the metadata record,
+-- and what is left of each chained checkpoint.
+use Rattle.std.specs.Prelude.{ℕ, ◌+◌, Bool, true, false, ◌||◌, ◌==◌, List, [], ◌∷◌, ◌++◌, length, filter, find, reverse, Option, Some, None, take, if◌then◌else◌}
 use Rattle.std.specs.List.{list_any, flat_map, filter_map, enumerate_from}
 use Rattle.std.specs.Option.{option_map_or}
 use Rattle.jfr_header.specs.Headers.{header_of, header_bytes}
@@ -10,76 +10,86 @@ use Rattle.jfr_pool.specs.declared.link.Link.{Link}
 use Rattle.jfr_pool.specs.declared.entry.EntryAt.{EntryAt}
 use Rattle.jfr_chunk.specs.Parts.{Parts, EventAt, metadata_at}
 use Rattle.jfr_chunk.specs.Reach.{remain}
+use Rattle.jfr_chunk.specs.Metas.{rebuilt}
 use Rattle.jfr_chunk.specs.Written.{Group, by_pool, distance, checkpoint_bytes}
 
--- What is written of a record: the whole of it, or, of a chained checkpoint, the pools that have an entry
--- left. Checkpoints are numbered in file order.
+-- What is written for a record: all its bytes; or, for a chained checkpoint, the pools that have an entry
+-- left; or other bytes. Checkpoints are numbered in file order.
 pub data OutputRecord : Type 0 where
   Whole : (frame : Framed) → OutputRecord
   Chained : (number : ℕ) (link : Link) → OutputRecord
+  Rebuilt : (frame : Framed) (bytes : List ℕ) → OutputRecord
 
--- What is written of a record, by its number and link, if it is a chained checkpoint, and else by whether
--- it is written whole.
-abbrev pub output_record_by : Option (ℕ × Link) → Bool → Framed → Option OutputRecord
-output_record_by (Some l) other r = Some (Chained l.0 l.1)
-output_record_by None true r = Some (Whole r)
-output_record_by None false r = None
+-- What is written for a record, given its number and link if it is a chained checkpoint, whether it is
+-- written at all, and the bytes to write instead, if any.
+abbrev pub output_record_by : Option (ℕ × Link) → Bool → Option (List ℕ) → Framed → Option OutputRecord
+output_record_by (Some l) other new r = Some (Chained l.0 l.1)
+output_record_by None true None r = Some (Whole r)
+output_record_by None true (Some x) r = Some (Rebuilt r x)
+output_record_by None false new r = None
 
--- A record is written whole where it is that of a kept event, or the header's metadata record.
+-- Whether a record is that of a kept event, or the metadata record at the position in the header.
 abbrev pub output_records_whole : Parts → List EventAt → Framed → Bool
 output_records_whole p kept r = list_any (λ e. e.record_of.at == r.at) kept || (r.at == metadata_at p.bytes)
 
--- What is written of a record, if anything is.
+-- The bytes to write instead of a record: for the metadata record, if it is built anew.
+abbrev pub written_anew : Parts → List EventAt → Framed → Option (List ℕ)
+written_anew p kept r = if r.at == metadata_at p.bytes then rebuilt p kept r.size else None
+
+-- What is written for a record, if anything is.
 abbrev pub output_record_of : Parts → List EventAt → Framed → Option OutputRecord
-output_record_of p kept r = output_record_by (find (λ l. l.1.frame.at == r.at) (enumerate_from 0 (reverse p.chain))) (output_records_whole p kept r) r
+output_record_of p kept r = output_record_by (find (λ l. l.1.frame.at == r.at) (enumerate_from 0 (reverse p.chain))) (output_records_whole p kept r) (written_anew p kept r) r
 
 -- The output records of a chunk, in order.
 abbrev pub output_records : Parts → List EventAt → List OutputRecord
 output_records p kept = filter_map (output_record_of p kept) p.records
 
--- An output record at its place in the output, and where the chained checkpoint before it stands in the
--- output, if there is one.
+-- An output record with its offset in the output, and the offset there of the chained checkpoint before it,
+-- if there is one.
 pub record Written : Type 0 where
   pub output_record : OutputRecord
   pub at : ℕ
   pub older : Option ℕ
 
--- The pools of the checkpoint of a number that have an entry left.
+-- The pools, of the checkpoint with this number, that have an entry left.
 abbrev pub groups_of : List EntryAt → ℕ → List Group
 groups_of left number = by_pool (filter (λ e. e.checkpoint == number) left)
 
--- The bytes of an output record that stands at a place of the output, behind the older checkpoint there, if
--- one is.
+-- The bytes of an output record at this offset in the output, with the older checkpoint at `older`, if there
+-- is one.
 abbrev pub bytes_of : List ℕ → List EntryAt → OutputRecord → ℕ → Option ℕ → List ℕ
 bytes_of c left (Whole r) at older = record_bytes c r
+bytes_of c left (Rebuilt r x) at older = x
 bytes_of c left (Chained number l) at older = checkpoint_bytes c l (distance at older) (groups_of left number)
 
--- The bytes of an output record at its place in the output.
+-- The bytes of an output record at its own offset in the output.
 abbrev pub written_bytes : List ℕ → List EntryAt → Written → List ℕ
 written_bytes c left w = bytes_of c left w.output_record w.at w.older
 
--- Where the last checkpoint of the output stands, up to this output record.
+-- The offset of the last checkpoint in the output, after this output record.
 abbrev pub older_after : OutputRecord → ℕ → Option ℕ → Option ℕ
 older_after (Whole r) at older = older
+older_after (Rebuilt r x) at older = older
 older_after (Chained number l) at older = Some at
 
--- The output records, one behind another.
+-- The output records with their offsets, one after another.
 abbrev pub written : List ℕ → List EntryAt → ℕ → Option ℕ → List OutputRecord → List Written
 written c left at older [] = []
 written c left at older (s ∷ ss) = record { output_record = s; at = at; older = older } ∷ written c left (at + length (bytes_of c left s at older)) (older_after s at older) ss
 
--- Where the last checkpoint stands in the output.
+-- The offset of the last checkpoint in the output; 0 if there is none.
 abbrev pub last_at : Option ℕ → List Written → ℕ
 last_at None [] = 0
 last_at (Some at) [] = at
 last_at older (w ∷ ws) = last_at (older_after w.output_record w.at older) ws
 
--- The record of which an output record is written.
+-- The record for which an output record is written.
 abbrev pub record_of : OutputRecord → Framed
 record_of (Whole r) = r
 record_of (Chained number l) = l.frame
+record_of (Rebuilt r x) = r
 
--- Where the record that stood at a place stands in the output.
+-- The offset in the output of the record that was at this offset in the chunk.
 abbrev pub moved : List Written → ℕ → ℕ
 moved ws at = option_map_or (λ w. w.at) (find (λ w. (record_of w.output_record).at == at) ws) 0
 
@@ -87,13 +97,13 @@ moved ws at = option_map_or (λ w. w.at) (find (λ w. (record_of w.output_record
 abbrev pub header_with : List ℕ → ℕ → ℕ → ℕ → List ℕ
 header_with c size pools metadata = header_bytes (record (header_of (take 68 c)) { size = size; pools = pools; metadata = metadata })
 
--- The chunk of these output records, with these entries left.
+-- The output chunk with these output records and these entries left.
 abbrev pub assembled : Parts → List EntryAt → List OutputRecord → List ℕ
 assembled p left ss =
     let ws = written p.bytes left 68 None ss in
     let body = flat_map (written_bytes p.bytes left) ws in
     header_with p.bytes (68 + length body) (last_at None ws) (moved ws (metadata_at p.bytes)) ++ body
 
--- What the chunk becomes where these events are kept.
+-- The output chunk if these events are kept.
 unfoldable pub scrub_of : Parts → List EventAt → List ℕ
 scrub_of p kept = assembled p (remain p kept) (output_records p kept)

@@ -1,4 +1,4 @@
--- What a chunk keeps beside its bytes, and what its calls hand out.
+-- The index that a chunk keeps beside its bytes, and the events that its calls return.
 use Rattle.std.specs.Prelude.{◌≡◌, ℕ, ◌+◌, List, [], ◌∷◌, ◌++◌, Option, Some, length, map, take, reverse, slice_get, option_map, unwrap_or}
 use Rattle.std.specs.Option.{option_map_or}
 use Rattle.std.specs.BTreeMap as tree
@@ -22,31 +22,31 @@ use Rattle.jfr_chunk.specs.declared.event.Event.{Event}
 use Rattle.jfr_chunk.specs.Parts.{Parts, EventAt, StartsAt, AreParts, events_of, metadata_at}
 use Rattle.jfr_chunk.specs.Reach.{node_entries}
 
--- Where the fields of the event of a record end, by the record's number: where the early ends say, or else
--- where the record does.
+-- Where the fields of the event with this record end: at the early end for the record's number, if there is
+-- one, else where the record ends.
 abbrev pub end_in : BTreeMap ℕ ℕ → ℕ → Framed → ℕ
 end_in early number r = unwrap_or (tree.get nat_cmp early number) (record_end r)
 
--- The event of this record, whose fields end there.
+-- The event with this record, whose fields end at `end`.
 abbrev pub event_with : ℕ → Framed → EventAt
 event_with end r = record { record_of = r; node = node_at (inline r.type_id) r.body end }
 
--- The event of the record of that number, whose fields end early or with the record.
+-- The event of an index entry.
 abbrev pub event_kept : List Framed → BTreeMap ℕ ℕ → EventIndexEntry → Option EventAt
 event_kept rs early f = option_map (λ r. event_with (end_in early f.record r) r) (slice_get rs f.record)
 
--- The numbers of the entries in force to which an event of the index refers.
+-- The numbers of the entries in force to which the event of an index entry refers.
 abbrev pub due : List EntryAt → Classes → List ℕ → List Framed → BTreeMap ℕ ℕ → EventIndexEntry → List ℕ
 due es k c rs early f = option_map_or (λ e. node_entries es k c e.node) (event_kept rs early f) []
 
--- The numbers are those that the events owe, one event after another; and each event's count says how many
--- numbers there are up to its last, counted from a number on.
+-- The numbers are those of all events, one event after another, and each event's `refs_end` is the end of its
+-- range, if the first range starts at `from`.
 abbrev pub AreRefs : (EventIndexEntry → List ℕ) → ℕ → List EventIndexEntry → List ℕ → Type 0
 AreRefs due from [] numbers = numbers ≡ []
 AreRefs due from (f ∷ fs) numbers = (rest : List ℕ) × (numbers ≡ due f ++ rest) × (f.refs_end ≡ from + length (due f)) × AreRefs due f.refs_end fs rest
 
--- The parts stand in a whole chunk; the header, the metadata record, the events and what they refer to are
--- those of the parts.
+-- The parts are those of a whole chunk, and the header, the metadata record, the events and the entries to
+-- which they refer are those of the parts.
 pub record IsIndexed (p : Parts) (header : Header) (metadata : Framed) (index : EventIndex) : Type 0 where
   pub whole : Whole p.bytes
   pub parts : AreParts p
@@ -55,15 +55,11 @@ pub record IsIndexed (p : Parts) (header : Header) (metadata : Framed) (index : 
   pub events : map (event_kept p.records index.early) index.fields.items ≡ map Some (events_of p)
   pub refs_end : AreRefs (due p.entries p.classes p.bytes p.records index.early) 0 index.fields.items index.numbers.items
 
--- What a metadata record's body holds, as it was read.
-abbrev pub body_in : Metadata → Body
-body_in m = record { start = m.start; duration = m.duration; id = m.id; strings = m.strings; root = m.root }
-
 -- The parts, with the chained checkpoints in the order of the file.
 abbrev pub parts_in : List ℕ → List Framed → List Link → Body → Classes → List EntryAt → Parts
 parts_in bytes records chain body classes entries = record { bytes = bytes; records = records; chain = reverse chain; body = body; classes = classes; entries = entries }
 
--- An event as it stands in the chunk.
+-- The event in the chunk that this value is about.
 abbrev pub event_at : Event → EventAt
 event_at e = record { record_of = e.frame; node = node_of e.node }
 

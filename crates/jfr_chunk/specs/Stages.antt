@@ -1,4 +1,4 @@
--- What the stage of the events gives.
+-- The result of the stage that reads the events.
 use Rattle.std.specs.Prelude.{◌≡◌, ℕ, List, map, Some, All}
 use Rattle.std.specs.List.{filter_map}
 use Rattle.std.specs.BTreeMap.{BTreeMap}
@@ -14,12 +14,12 @@ use Rattle.jfr_chunk.specs.Parts.{HasFields, event_records, event_of}
 use Rattle.jfr_chunk.specs.Refusal.{FirstFails}
 use Rattle.jfr_chunk.specs.Seen.{event_kept}
 
--- The fields of each event stand. The index has an entry for each event, in order, with the number of its
--- record; and the early ends say whose fields end before the record does, and where.
+-- Each event's record has all its fields. The index has an entry for each event, in order, with the number of
+-- its record, and the early ends are those of the events whose fields end before the record does.
 pub record AreFields (c : List ℕ) (k : Classes) (rs : List Framed) (fields : List EventIndexEntry) (early : BTreeMap ℕ ℕ) : Type 0 where
   pub stand : All (HasFields c k) (event_records k rs)
   pub listed : map (event_kept rs early) fields ≡ map Some (filter_map (event_of c k) (event_records k rs))
 
--- The fields of an event are faulty, the first in file order.
+-- The flaw is that of the first event, in file order, whose record doesn't have all its fields.
 abbrev pub IsRefusedEvents : List ℕ → Classes → List Framed → Flaw → Type 0
 IsRefusedEvents c k rs flaw = FirstFails (HasFields c k) (λ r. Fails (value_format k (inline r.type_id)) c (record_end r) r.body) (event_records k rs) flaw

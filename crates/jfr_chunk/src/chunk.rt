@@ -1,11 +1,13 @@
-// An accepted chunk.
-ghost use Rattle.std.specs.Prelude.{◌≡◌, ◌+◌, ◌<◌, ◌^◌, true, length, filter, replicate, reverse, slice_get, take, option_map, Ok, IfOk, IfErr, IfSome, MatchResult};
+//! An accepted chunk.
+ghost use Rattle.std.specs.Prelude.{◌≡◌, ◌+◌, ◌<◌, ◌≤◌, ◌^◌, true, length, filter, replicate, reverse, slice_get, take, option_map, Ok, IfOk, IfErr, IfSome, MatchResult};
 ghost use Rattle.std.specs.List.{AllZip};
 ghost use Rattle.jfr_header.specs.Fronts.{Whole};
 ghost use Rattle.jfr_header.specs.Headers.{header_of};
 ghost use Rattle.jfr_layout.specs.Classes.{Sound};
 ghost use Rattle.jfr_meta.specs.Answers.{IfFlawed};
-ghost use Rattle.jfr_meta.specs.Described.{IsNamedBy};
+ghost use Rattle.jfr_meta.specs.Described.{IsNamedBy, described};
+ghost use Rattle.jfr_meta.specs.Held.{body_in};
+ghost use Rattle.jfr_meta.specs.Written.{depth};
 ghost use Rattle.jfr_value.specs.Nodes.{IsValue, node_of};
 ghost use Rattle.jfr_pool.specs.Entries.{entry_node};
 ghost use Rattle.jfr_pool.specs.Faults.{TellsFlaw};
@@ -33,21 +35,21 @@ const METADATA: u64 = 0;
 
 const CHECKPOINT: u64 = 1;
 
-// The flaw where no metadata record starts at the position that the header names; its offset is that of the
-// header's field.
+// The flaw if no metadata record starts at the position in the header. Its offset is that of the header's
+// field.
 const NO_METADATA: Flaw = Flaw {
     offset: 24,
     reason: Reason::MetadataPosition,
 };
 
-// The flaw where no checkpoint starts at the position that the header names.
+// The flaw if no checkpoint starts at the position in the header.
 const NO_CHECKPOINT: Flaw = Flaw {
     offset: 16,
     reason: Reason::PoolPosition,
 };
 
-/// An accepted chunk, with the indexes over it. It borrows the bytes; only the texts of the metadata are
-/// copied. Contracts see its parts.
+/// An accepted chunk, with indexes over it. It borrows the bytes; only the texts of the metadata are copied.
+/// Contracts see its parts.
 #[derive(Drop)]
 pub struct Chunk<'a> {
     bytes: &'a [u8],
@@ -64,7 +66,8 @@ impl<'a> Model for Chunk<'a> {
     ghost use Rattle.std.specs.Coded.{codes};
     ghost use Rattle.jfr_meta.specs.Trees.{tree_code};
     ghost use Rattle.jfr_chunk.specs.Parts.{Parts};
-    ghost use Rattle.jfr_chunk.specs.Seen.{IsIndexed, body_in, parts_in};
+    ghost use Rattle.jfr_meta.specs.Held.{body_in};
+    ghost use Rattle.jfr_chunk.specs.Seen.{IsIndexed, parts_in};
 
     ghost Value = { Parts };
 
@@ -76,22 +79,22 @@ impl<'a> Model for Chunk<'a> {
 }
 
 impl<'a> Chunk<'a> {
-    /// Reads a whole chunk. It is refused at the first flaw of the first of these stages that has one: the
-    /// records, the positions of the metadata record and of the last checkpoint, the chain of checkpoints,
-    /// the metadata record, the bodies of the chained checkpoints, the fields of the events. `Memory` where
-    /// memory is wanting.
+    /// Reads a whole chunk. Reading has stages: the records, the positions of the metadata record and of the
+    /// last checkpoint, the chain of checkpoints, the metadata record, the bodies of the chained checkpoints,
+    /// the fields of the events. The chunk is refused with the first flaw of the first stage that has one.
+    /// `Memory` if memory runs out.
     pub fn read(alloc: Global, bytes: &'a [u8]) -> Result<Chunk<'a>, ReadFault>
         requires { Whole bytes.now }
         ensures ok { IfOk result (λ chunk. chunk.bytes ≡ bytes.now) }
         ensures refused { IfErr result (IfFlawed (Refused bytes.now)) }
 
-        // By computing: what the definition gives.
+        // In terms of the computed parts.
         ensures exact { MatchResult result (λ chunk. read_parts bytes.now ≡ Ok chunk) (TellsFlaw (read_parts bytes.now)) }
     {
         Chunk::read_in(alloc, Room::new(alloc), bytes)
     }
 
-    /// Reads a whole chunk as `read` does, with the indexes in the memory of an earlier chunk's.
+    /// As `read`, but uses the memory of an earlier chunk's indexes again.
     pub fn read_in(alloc: Global, room: Room, bytes: &'a [u8]) -> Result<Chunk<'a>, ReadFault>
         requires { Whole bytes.now }
         ensures ok { IfOk result (λ chunk. chunk.bytes ≡ bytes.now) }
@@ -118,7 +121,7 @@ impl<'a> Chunk<'a> {
         })
     }
 
-    /// The memory of the indexes, to be used again for the next chunk.
+    /// The memory of the indexes, for use with the next chunk.
     pub fn into_room(self) -> Room
         ensures { IsEmpty result }
     {
@@ -134,12 +137,13 @@ impl<'a> Chunk<'a> {
         self.bytes
     }
 
-    /// What holds of every chunk, and what laws of parts and of values require. This call does nothing.
+    /// A call that does nothing, for proofs: its clauses hold for every chunk, and laws of parts and of
+    /// values require them.
     pub fn parts_stand(&self)
         ensures parts { AreParts self.now }
         ensures sound { Sound self.now.classes }
     {
-        // The check takes up the invariant of a value where the body reads one of its fields.
+        // The proof gets the invariant of `self` by reading a field.
         let _ = &self.bytes;
     }
 
@@ -157,11 +161,22 @@ impl<'a> Chunk<'a> {
         &self.frames
     }
 
-    /// The metadata record that the header names.
+    /// The metadata record at the position in the header.
     pub fn metadata_frame(&self) -> Framed
         ensures { StartsAt self.now.records (metadata_at self.now.bytes) 0 result }
     {
         self.metadata_frame
+    }
+
+    /// The contents of the metadata record: its strings, its tree of elements, and the classes that they
+    /// describe.
+    pub fn metadata(&self) -> &Metadata
+        ensures body { body_in result.now ≡ self.now.body }
+        ensures classes { result.now.classes ≡ self.now.classes }
+        ensures read { described (body_in result.now) ≡ Ok result.now.classes }
+        ensures shallow { depth result.now.root ≤ 16 }
+    {
+        &self.metadata
     }
 
     /// The classes that the metadata describes.
@@ -178,7 +193,8 @@ impl<'a> Chunk<'a> {
         &self.metadata.strings
     }
 
-    /// Which strings of the metadata's table name each class, in the order of the classes.
+    /// For each class, in order, the indices in the metadata's table of the strings that are its name and its
+    /// categories.
     pub fn class_names(&self, alloc: Global) -> Result<Vec<ClassNames>, NoMemory>
         ensures ok { IfOk result (λ names. AllZip (IsNamedBy self.now.body.strings) self.now.classes names.items) }
     {
@@ -200,8 +216,8 @@ impl<'a> Chunk<'a> {
         &self.pools
     }
 
-    /// The node of the value of the entry of a number, from 0, in the order of the file; `None` exactly past
-    /// the end.
+    /// The node of the value of entry `number`, from 0 in the order of the file; `None` exactly if there is
+    /// no such entry.
     #[inline]
     pub fn entry_node(&self, number: usize) -> Option<Node<'a>>
         ensures exact { option_map node_of result ≡ option_map entry_node (slice_get self.now.entries number) }
@@ -217,22 +233,22 @@ impl<'a> Chunk<'a> {
         })
     }
 
-    /// How many records are inert: neither events, nor the metadata record that the header names, nor
-    /// chained checkpoints.
+    /// The number of inert records. A record is inert if it is neither an event, nor the metadata record at
+    /// the position in the header, nor a chained checkpoint.
     pub fn inert_count(&self) -> u64
         ensures { result ≡ length (filter (is_inert self.now) self.now.records) }
     {
         (self.frames.len() - self.events.fields.len() - self.chain.len() - 1) as u64
     }
 
-    /// How many events there are.
+    /// The number of events.
     pub fn event_count(&self) -> usize
         ensures { result ≡ length (events_of self.now) }
     {
         self.events.fields.len()
     }
 
-    /// Says of every event that it is kept.
+    /// A `Kept` with every event kept.
     pub fn keep_all(&self, alloc: Global) -> Result<Kept, NoMemory>
         ensures ok { IfOk result (λ kept. kept ≡ replicate (length (events_of self.now)) true) }
         ensures parts { AreParts self.now }
@@ -240,7 +256,7 @@ impl<'a> Chunk<'a> {
         Kept::all(alloc, self.events.fields.len())
     }
 
-    /// The event of a number, from 0, in the order of the file; `None` exactly past the end.
+    /// Event `number`, from 0 in the order of the file; `None` exactly if there is no such event.
     #[inline(always)]
     pub fn event(&self, number: usize) -> Option<Event<'a>>
         ensures exact { option_map event_at result ≡ slice_get (events_of self.now) number }
@@ -262,8 +278,8 @@ impl<'a> Chunk<'a> {
         })
     }
 
-    /// The offset of the record of the event of a number, from 0; `None` exactly past the end. The record
-    /// is not read.
+    /// The offset of the record of event `number`; `None` exactly if there is no such event. The record is
+    /// not read.
     #[inline]
     pub fn event_place(&self, number: usize) -> Option<usize>
         ensures { result ≡ option_map (λ e. e.record_of.at) (slice_get (events_of self.now) number) }
@@ -272,8 +288,19 @@ impl<'a> Chunk<'a> {
         self.frames.place(fields.record as usize)
     }
 
-    /// The number of the record, among all records, of the event of a number, from 0; `None` exactly past
-    /// the end. The record is not read.
+    /// The id of the class of event `number`; `None` exactly if there is no such event. The fields of the
+    /// event are not read.
+    #[inline]
+    pub fn event_class(&self, number: usize) -> Option<u64>
+        ensures { result ≡ option_map (λ e. e.record_of.type_id) (slice_get (events_of self.now) number) }
+    {
+        let fields = self.events.fields_at(number)?;
+        let frame = self.frames.get(fields.record as usize)?;
+        Some(frame.type_id)
+    }
+
+    /// The number, among all records, of the record of event `number`; `None` exactly if there is no such
+    /// event. The record is not read.
     #[inline]
     pub fn event_record(&self, number: usize) -> Option<usize>
         ensures { option_map (slice_get self.now.records) result ≡ option_map (λ e. Some e.record_of) (slice_get (events_of self.now) number) }
@@ -283,15 +310,15 @@ impl<'a> Chunk<'a> {
     }
 
     /// The numbers of the entries in force to which the events refer, one event after another. A number
-    /// stands there as often as a value refers to its entry.
+    /// occurs once for each value that refers to its entry.
     pub fn all_entries(&self) -> &[u32]
         ensures { result.now ≡ roots self.now (events_of self.now) }
     {
         self.events.numbers.as_slice()
     }
 
-    /// The numbers of the entries in force to which the event of a number refers, from left to right;
-    /// `None` exactly past the end.
+    /// The numbers of the entries in force to which event `number` refers, from left to right; `None` exactly
+    /// if there is no such event.
     pub fn event_entries(&self, number: usize) -> Option<&[u32]>
         ensures { option_map (λ s. s.now) result ≡ option_map (λ e. node_entries self.now.entries self.now.classes self.now.bytes e.node) (slice_get (events_of self.now) number) }
     {

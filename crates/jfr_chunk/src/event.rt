@@ -1,4 +1,4 @@
-// Events.
+//! An event of a chunk.
 
 use jfr_frame::Framed;
 use jfr_value::Node;
@@ -10,6 +10,6 @@ pub struct Event<'a> {
     pub number: usize,
     /// Its record, whose type is the id of its class.
     pub frame: Framed,
-    /// The node of its fields, taken as one value, which ends where the last field does.
+    /// The node of its fields as one value, which ends where the last field ends.
     pub node: Node<'a>,
 }

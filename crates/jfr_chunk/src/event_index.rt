@@ -1,4 +1,4 @@
-// Where the fields of the events stand, and to which entries they refer.
+//! The index of a chunk's events: their records, where their fields end, and to which entries they refer.
 ghost use Rattle.std.specs.Prelude.{◌≡◌, ℕ, ◌+◌, ◌<◌, ◌^◌, length, slice_get, option_map, Some};
 ghost use Rattle.jfr_frame.specs.Records.{record_end};
 ghost use Rattle.jfr_chunk.specs.Rooms.{HasNoEvents};
@@ -8,23 +8,25 @@ use jfr_frame::Framed;
 use std::alloc::Global;
 use std::collections::BTreeMap;
 
-/// What is kept of an event, whose fields nearly always end with its record. A chunk has so many events
-/// that this is kept short; no number is larger than the chunk has bytes.
+/// The index entry of an event. A chunk can have millions of events, so an entry is small: 32 bits are enough
+/// for each number, since none is larger than the chunk's size, and the end of the fields is not kept here,
+/// since it is nearly always that of the record.
 #[derive(Clone, Copy, Debug)]
 pub(crate) struct EventIndexEntry {
     /// The number of its record among all records, from 0.
     pub record: u32,
-    /// How many numbers of entries the index has, up to the last one of this event.
+    /// The end of this event's range in the index's numbers of entries. The range starts where that of the
+    /// event before ends.
     pub refs_end: u32,
 }
 
-/// Where the fields of the events stand, in the order of the file, and the numbers of the entries in
-/// force to which they refer.
+/// The records of the events, in the order of the file, where their fields end, and the numbers of the
+/// entries in force to which they refer.
 #[derive(Drop)]
 pub(crate) struct EventIndex {
     /// An entry for each event.
     pub fields: Vec<EventIndexEntry>,
-    /// Where the fields end of the few events whose fields end before their record does, by the record's
+    /// Where the fields end, for the few events whose fields end before their record does, by the record's
     /// number.
     pub early: BTreeMap<u32, u32>,
     /// The numbers of the entries in force to which the events refer, one event after another.
@@ -32,7 +34,7 @@ pub(crate) struct EventIndex {
 }
 
 impl EventIndex {
-    /// The index of no events. It takes no memory.
+    /// An index without events. It allocates nothing.
     pub fn new(alloc: Global) -> EventIndex
         ensures { HasNoEvents result }
     {
@@ -43,7 +45,7 @@ impl EventIndex {
         }
     }
 
-    /// Gives up the events, and keeps their memory.
+    /// Removes all events, and keeps the memory.
     pub fn clear(&mut self)
         ensures { HasNoEvents self.new }
     {
@@ -52,7 +54,7 @@ impl EventIndex {
         self.numbers.clear();
     }
 
-    /// What is kept of the event of a number; `None` exactly past the end.
+    /// The entry of event `number`; `None` exactly if there is no such event.
     #[inline]
     pub fn fields_at(&self, number: usize) -> Option<EventIndexEntry>
         ensures { result ≡ slice_get self.now.fields.items number }
@@ -60,7 +62,7 @@ impl EventIndex {
         self.fields.get(number).copied()
     }
 
-    /// Where the fields of the event of a record end, by the record's number.
+    /// Where the fields of the event with record `number` end.
     #[inline]
     pub fn end_of_fields(&self, number: u32, frame: Framed) -> usize
         requires { record_end frame < 2 ^ 64 }
@@ -72,7 +74,7 @@ impl EventIndex {
         }
     }
 
-    /// How many numbers of entries the index has for the events before the one of a number.
+    /// The start of event `number`'s range in the index's numbers of entries.
     #[inline]
     pub fn refs_before(&self, number: usize) -> usize
         requires { number < length self.now.fields.items }

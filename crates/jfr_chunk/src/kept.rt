@@ -1,4 +1,4 @@
-// Which events are kept.
+//! The choice of the events that are kept.
 ghost use Rattle.std.specs.Prelude.{◌≡◌, ◌<◌, length, replicate, slice_get, slice_set, false, true, IfOk};
 ghost use Rattle.std.specs.List.{count_by, list_all};
 
@@ -6,7 +6,8 @@ use jfr_base::NoMemory;
 use std::alloc::Global;
 use std::marker::Model;
 
-/// Which events of a chunk are kept: a truth value for each, in the order of the file; and how many are.
+/// Which events of a chunk are kept: a flag for each, in the order of the file, and the number of those that
+/// are set.
 #[derive(Drop)]
 pub struct Kept {
     flags: Vec<bool>,
@@ -25,7 +26,7 @@ impl Model for Kept {
 }
 
 impl Kept {
-    /// So many events, of which none is kept.
+    /// The choice of none of `count` events.
     pub fn new(alloc: Global, count: usize) -> Result<Kept, NoMemory>
         ensures { IfOk result (λ kept. kept ≡ replicate count false) }
     {
@@ -34,7 +35,7 @@ impl Kept {
         Ok(Kept { flags, total: 0 })
     }
 
-    /// So many events, all of which are kept.
+    /// The choice of all of `count` events.
     pub fn all(alloc: Global, count: usize) -> Result<Kept, NoMemory>
         ensures { IfOk result (λ kept. kept ≡ replicate count true) }
     {
@@ -46,7 +47,7 @@ impl Kept {
         })
     }
 
-    /// Sets whether the event of a number is kept.
+    /// Sets whether this event is kept.
     pub fn set(&mut self, at: usize, keep: bool)
         requires { at < length self.old }
         ensures { self.new ≡ slice_set self.old at keep }
@@ -56,7 +57,7 @@ impl Kept {
         self.flags[at] = keep;
     }
 
-    /// Whether the event of a number is kept; `None` exactly past the end.
+    /// Whether this event is kept; `None` exactly if there is no such event.
     pub fn get(&self, at: usize) -> Option<bool>
         ensures { result ≡ slice_get self.now at }
     {
@@ -70,14 +71,14 @@ impl Kept {
         self.total == self.flags.len()
     }
 
-    /// How many events are kept.
+    /// The number of events that are kept.
     pub fn kept_count(&self) -> usize
         ensures { result ≡ count_by (λ keep. keep) self.now }
     {
         self.total
     }
 
-    /// How many events there are.
+    /// The number of events, kept or not.
     pub fn len(&self) -> usize
         ensures { result ≡ length self.now }
     {

@@ -1,11 +1,12 @@
-//! A whole chunk: accepted, or refused at its first flaw (FORMAT.md, Refusals); and what its parts mean.
+//! A whole chunk: accepted, or refused with its first flaw (docs/FORMAT.md, Refusals); and what its parts
+//! mean.
 //!
 //! Read `specs/Parts.antt` first, then `specs/Refusal.antt`, `specs/Paths.antt`, `specs/Reach.antt`,
 //! `specs/Scrub.antt`, `specs/Meaning.antt` and `specs/Laws.antt`.
 //!
-//! `Chunk::read` reads a chunk, and `Chunk::event` hands out its events as nodes. From there `child` of
-//! `jfr_value` leads to fields and items, and `target` with `Chunk::pools` and `Chunk::entry_node` to the
-//! value of an entry. `jfr_example` is such a walk.
+//! `Chunk::read` reads a chunk, and `Chunk::event` returns an event with the node of its fields. From there
+//! `child` of `jfr_value` leads to fields and items. `target`, `Chunk::pools` and `Chunk::entry_node` lead to
+//! the value of an entry. `jfr_example` is such a walk.
 #![tactic(auto)]
 
 mod chunk;

@@ -1,4 +1,4 @@
-// The stages of reading a chunk.
+//! Stages of reading a chunk.
 ghost use Rattle.std.specs.Prelude.{◌≡◌, ◌<◌, ◌≤◌, ◌^◌, [], length, take, Some, IfOk, IfErr, OnOk};
 ghost use Rattle.std.specs.BTreeMap as tree;
 ghost use Rattle.std.specs.Ordering.{nat_cmp};
@@ -41,7 +41,7 @@ pub(crate) fn header_in(chunk: &[u8]) -> Header
     }
 }
 
-/// The record of that type that starts there, or the flaw of the position that names it.
+/// The record that starts at this position, if it has this type; else this flaw.
 pub(crate) fn record_named(
     frames: &Frames,
     at: u64,
@@ -53,8 +53,8 @@ pub(crate) fn record_named(
     frames.find(at, type_id).ok_or(flaw)
 }
 
-/// Where the fields of the events stand, and to which entries they refer: an index in the memory of an
-/// earlier one. It is refused at the first event whose fields don't stand in its record.
+/// The index of the events, in the memory of an earlier one. Fails at the first event whose fields aren't all
+/// in its record.
 pub(crate) fn read_events(
     room: EventIndex,
     chunk: &[u8],
@@ -99,7 +99,7 @@ pub(crate) fn read_events(
     })
 }
 
-/// The list without its members, with capacity for so many.
+/// The list without its members, and with this capacity.
 fn emptied(list: Vec<EventIndexEntry>, count: usize) -> Result<Vec<EventIndexEntry>, NoMemory>
     ensures { IfOk result (λ emptied. emptied.items ≡ []) }
 {
@@ -109,8 +109,7 @@ fn emptied(list: Vec<EventIndexEntry>, count: usize) -> Result<Vec<EventIndexEnt
     Ok(emptied)
 }
 
-/// Keeps where the fields of an event end, by the number of its record. This is out of line, since few end
-/// before their record.
+/// Keeps where the fields of an event end, by the number of its record. This is rare, so it isn't inlined.
 #[cold]
 #[inline(never)]
 fn add_early(early: &mut BTreeMap<u32, u32>, number: u32, end: u32) -> Result<(), NoMemory>
@@ -120,7 +119,7 @@ fn add_early(early: &mut BTreeMap<u32, u32>, number: u32, end: u32) -> Result<()
     Ok(())
 }
 
-/// Where the fields of an event end. The numbers of the entries to which they refer are added.
+/// Where the fields of an event end. Adds the numbers of the entries to which they refer.
 #[inline]
 fn fields_end(
     chunk: &[u8],

@@ -1,4 +1,4 @@
-// The numbers of the entries to which values refer, collected while their ends are looked for.
+//! The numbers of the entries to which values refer, collected while the ends of the values are found.
 ghost use Rattle.std.specs.Prelude.{◌≡◌, ◌<◌, ◌^◌, [], ◌∷◌, false};
 ghost use Rattle.jfr_chunk.specs.Refs.{AddsRefs};
 
@@ -9,13 +9,12 @@ use jfr_value::Visit;
 #[derive(Drop)]
 pub(crate) struct ConstantRefs {
     pub numbers: Vec<u32>,
-    /// Whether memory was wanting for a number, so that some are missing. A visit can't fail, so this is
-    /// asked at the end.
+    /// Whether numbers are missing because memory ran out. A visit can't fail, so this is checked at the end.
     pub lacks: bool,
 }
 
 impl ConstantRefs {
-    /// No numbers yet, in the memory of an earlier list.
+    /// An empty list, in the memory of an earlier one.
     pub fn new(room: Vec<u32>) -> ConstantRefs
         ensures numbers { result.numbers.items ≡ [] }
         ensures lacks { result.lacks ≡ false }
@@ -45,13 +44,13 @@ impl Visit<Pools> for ConstantRefs {
     ghost use Rattle.std.specs.Prelude.{◌<◌, ◌^◌, [], ◌∷◌, length};
     ghost use Rattle.jfr_pool.specs.Entries.{number_in_force};
     ghost use Rattle.jfr_chunk.specs.Refs.{AddsRefs};
-    ghost use Rattle.jfr_chunk.specs.Reach.{those};
+    ghost use Rattle.jfr_worklist.specs.Marks.{those};
 
     ghost ready = { λ refs pools. length pools < 2 ^ 32 };
 
     ghost takes = { λ pools target old new. AddsRefs (those (number_in_force pools) (target ∷ [])) old new };
 
-    /// Adds the number of the entry in force of a class and key, where there is one.
+    /// Adds the number of the entry in force for a class and a key, if there is one.
     #[inline(always)]
     fn visit(&mut self, pools: &Pools, class: u64, key: u64) {
         if let Some(number) = pools.entry(class, key) {

@@ -1,4 +1,4 @@
-// Memory for the indexes of a chunk, used again from chunk to chunk.
+//! Memory for the indexes of a chunk, used again for each chunk.
 ghost use Rattle.std.specs.Prelude.{◌≡◌};
 ghost use Rattle.jfr_chunk.specs.Rooms.{IsEmpty};
 
@@ -6,7 +6,7 @@ use crate::event_index::EventIndex;
 use jfr_frame::FrameRoom;
 use std::alloc::Global;
 
-/// The memory that the indexes of a chunk took, to be used again for those of the next one.
+/// The memory of a chunk's indexes, for use with the next chunk.
 #[derive(Drop)]
 pub struct Room {
     pub(crate) frames: FrameRoom,
@@ -14,7 +14,7 @@ pub struct Room {
 }
 
 impl Room {
-    /// No memory yet, as before the first chunk.
+    /// No memory, for use with the first chunk.
     pub fn new(alloc: Global) -> Room
         ensures { IsEmpty result }
     {
@@ -24,7 +24,7 @@ impl Room {
         }
     }
 
-    /// The memory of indexes, which are given up.
+    /// The memory of these indexes.
     pub(crate) fn of(frames: FrameRoom, events: EventIndex) -> Room
         ensures { IsEmpty result }
     {

@@ -19,13 +19,25 @@ use Rattle.jfr_words.specs.declared.order.Order.{Order}
 use Rattle.jfr_words.specs.declared.order.Order.TheVariants as orders
 use Rattle.jfr_words.specs.Words.{order_of, file_name}
 use Rattle.jfr_cli.specs.Works.{Work, Over, Joins, Alone, work_of, plan_of, target_of, text_on, Leaves, KeepsSink, KeepsPlace, CanReadAll, CanCreateFor}
-use Rattle.jfr_cli.specs.Answers.{status_of, line_of, usage_line, read_line, write_line, parts_line, IsAnswered, Fully, IsSaid, IsMemorySaid}
+use Rattle.jfr_cli.specs.Answers.{status_of, line_of, answer_status, answer_line, usage_line, read_line, write_line, memory_line, parts_line, IsAnswered, Fully, IsSaid, IsMemorySaid}
 use Rattle.jfr_cli.specs.Answers as answers
-use Rattle.jfr_cli.proofs.Counting.{none_rose, tallied_once, steady_stays, place_passed, sink_passed, writes_stay}
-use Rattle.jfr_cli.specs.Runs.{Carries, Answers, Usage, Unread, Carried, Under, Ended, Halted, Broken, StandsPartly, Prefix, Whole, Met, Torn, CountsOnce, IsPlannedStatus, ByEnd, ByMemory, status_of_end, IsRefused}
+use Rattle.jfr_cli.proofs.Counting.{none_rose, tallied_once, text_leaves, place_passed, sink_passed, writes_stay}
+use Rattle.jfr_cli.specs.Runs.{Carries, Obeys, NoOrder, NotRead, CarriedOut, Under, Ended, Halted, Broken, StandsPartly, Prefix, Whole, Met, Torn, CountsOnce, IsPlannedStatus, ByEnd, ByMemory, status_of_end, IsRefused}
 use Rattle.jfr_cli.specs.Runs as runs
 
--- What stands after an ending, where memory was wanting for its line.
+-- The words are a usage error and nothing is done; or memory ran out while they were read, and nothing is
+-- done; or they are an order, which is carried out. The status and the line are those of the ending.
+pub data Answers (words : List (List ℕ)) (answer : ℕ) (a b : Outside) (e f : SinkState) : Type 0 where
+  Usage : order_of words ≡ None → b ≡ a → IsAnswered 1 (Some usage_line) answer e f → Answers words answer a b e f
+  Unread : b ≡ a → IsAnswered 5 (Some memory_line) answer e f → Answers words answer a b e f
+  Carried : (o : Order) → order_of words ≡ Some o → (end : Ending) → Carries o end a b → IsAnswered (status_of end) (line_of end) answer e f → Answers words answer a b e f
+
+pub answers_by : (words : List (List ℕ)) (ended : Option Ending) (answer : ℕ) (a b : Outside) (e f : SinkState) → Obeys words ended a b → IsAnswered (answer_status ended) (answer_line ended) answer e f → Answers words answer a b e f
+answers_by words ended answer a b e f (NoOrder o is s) t = Usage o s (subst (λ x. IsAnswered (answer_status x) (answer_line x) answer e f) is t)
+answers_by words ended answer a b e f (NotRead is s) t = Unread s (subst (λ x. IsAnswered (answer_status x) (answer_line x) answer e f) is t)
+answers_by words ended answer a b e f (CarriedOut o known end is c) t = Carried o known end c (subst (λ x. IsAnswered (answer_status x) (answer_line x) answer e f) is t)
+
+-- The state after an ending, if memory ran out for its line.
 partly : (k : Work) (end : Ending) (a b : Outside) → Leaves k (way_of end) a b → Tallied (target_of k) (way_of end) a b → StandsPartly k a b
 partly k Done a b l t = Whole Fine l
 partly k (Refused x) a b l t = Whole (ends.Refused x) l
@@ -42,7 +54,7 @@ unchanged k a = Prefix (none a.place.told)
     none None = tt
     none (Some w) = record { first = []; rest = effects (plan_of k w).steps; parts = refl; stands = refl }
 
--- Where memory was wanting, any end may be planned.
+-- If memory ran out, any end may be planned.
 five : {r : ℕ} {e f : SinkState} {line : Option (List ℕ)} → IsAnswered 5 line r e f → r ≡ 5
 five (Fully p q) = p
 five (answers.ForMemory p q) = p
@@ -92,8 +104,8 @@ refused_status WriteFault h = absurd (omega (arith, h))
 refused_status Memory h = absurd (omega (arith, h))
 refused_status TooManyParts h = absurd (omega (arith, h))
 
--- What was carried out, where the status isn't that of a usage fault or of want of memory.
-record Ran (ws : List (List ℕ)) (status : ℕ) (a b : Outside) (e f : SinkState) : Type 0 where
+-- What was carried out, if the status isn't that of a usage error or of running out of memory.
+record Obeyed (ws : List (List ℕ)) (status : ℕ) (a b : Outside) (e f : SinkState) : Type 0 where
   pub order : Order
   pub is : order_of ws ≡ Some order
   pub end : Ending
@@ -122,7 +134,7 @@ complete_by k ReadFault a b r e f (Fully p q) l t no_read no_write = absurd (no_
 complete_by k WriteFault a b r e f (Fully p q) l t no_read no_write = absurd (no_write (plan.write_rose (target_of k) WriteFault a b t refl))
 complete_by k Memory a b r e f (Fully p q) l t no_read no_write = any_end a.place.told k p
 
--- The line of an ending with status 5 is the one for want of memory.
+-- The line of an ending with status 5 is the one for running out of memory.
 no_room_said : (end : Ending) (e f : SinkState) → status_of end ≡ 5 → answers.Said (line_of end) e f → IsMemorySaid e f
 no_room_said Done e f h q = absurd (omega (arith, h))
 no_room_said (Refused x) e f h q = absurd (omega (arith, h))
@@ -134,8 +146,8 @@ no_room_said TooManyParts e f h q = absurd (omega (arith, h))
 order_same : (ws : List (List ℕ)) (o p : Order) → order_of ws ≡ Some o → order_of ws ≡ Some p → o ≡ p
 order_same ws o p e f = cc
 
-module _ (ws : List (List ℕ)) (n : ℕ) (a b : Outside) (e f : SinkState) (x : Ran ws n a b e f) (end : Ending) (is : x.end ≡ end) where
-  -- What it leaves, counts and says, where its ending is known.
+module _ (ws : List (List ℕ)) (n : ℕ) (a b : Outside) (e f : SinkState) (x : Obeyed ws n a b e f) (end : Ending) (is : x.end ≡ end) where
+  -- The state, the counts and the line after an order, if its ending is known.
   left : Leaves (work_of x.order) (way_of end) a b
   left = subst (λ z. Leaves (work_of x.order) (way_of z) a b) is x.carries.leaves
 
@@ -185,12 +197,12 @@ by_plan Memory (inl h) = absurd (omega (arith, h))
 by_plan Memory (inr h) = absurd (omega (arith, h))
 
 module _ {ws : List (List ℕ)} {r : ℕ} {a b : Outside} {e f : SinkState} where
-  ran : Answers ws r a b e f → (n : ℕ) → r ≡ n → (n ≡ 1 → ⊥) → (n ≡ 5 → ⊥) → Ran ws n a b e f
-  ran (Usage o s (Fully p q)) n h no_usage room = absurd (no_usage (sym h ∙ p))
-  ran (Usage o s (answers.ForMemory p q)) n h no_usage room = absurd (room (sym h ∙ p))
-  ran (Unread s t) n h no_usage room = absurd (room (sym h ∙ five t))
-  ran (Carried o is end c (answers.ForMemory p q)) n h no_usage room = absurd (room (sym h ∙ p))
-  ran (Carried o is end c (Fully p q)) n h no_usage room = record { order = o; is = is; end = end; carries = c; status_is = sym p ∙ h; said = q }
+  obeyed : Answers ws r a b e f → (n : ℕ) → r ≡ n → (n ≡ 1 → ⊥) → (n ≡ 5 → ⊥) → Obeyed ws n a b e f
+  obeyed (Usage o s (Fully p q)) n h no_usage room = absurd (no_usage (sym h ∙ p))
+  obeyed (Usage o s (answers.ForMemory p q)) n h no_usage room = absurd (room (sym h ∙ p))
+  obeyed (Unread s t) n h no_usage room = absurd (room (sym h ∙ five t))
+  obeyed (Carried o is end c (answers.ForMemory p q)) n h no_usage room = absurd (room (sym h ∙ p))
+  obeyed (Carried o is end c (Fully p q)) n h no_usage room = record { order = o; is = is; end = end; carries = c; status_is = sym p ∙ h; said = q }
 
   pub usage_told : Answers ws r a b e f → r ≡ 1 → (order_of ws ≡ None) × IsSaid usage_line e f
   usage_told (Usage o s (Fully p q)) h = (o, q)
@@ -220,33 +232,39 @@ module _ {ws : List (List ℕ)} {r : ℕ} {a b : Outside} {e f : SinkState} wher
 
   pub done_told : Answers ws r a b e f → r ≡ 0 → Under ws (λ o. Ended (work_of o) Fine a b) × (f ≡ e)
   done_told x h =
-      let k = ran x 0 h (λ z. omega (arith, z)) (λ z. omega (arith, z)) in
+      let k = obeyed x 0 h (λ z. omega (arith, z)) (λ z. omega (arith, z)) in
       let d = done_status k.end k.status_is in
       ((k.order, k.is, left ws 0 a b e f k Done d), said_by ws 0 a b e f k Done d)
 
   pub refused_told : Answers ws r a b e f → r ≡ 2 → Under ws (λ o. IsRefused (work_of o) a b e f)
   refused_told x h =
-      let k = ran x 2 h (λ z. omega (arith, z)) (λ z. omega (arith, z)) in
+      let k = obeyed x 2 h (λ z. omega (arith, z)) (λ z. omega (arith, z)) in
       let d = refused_status k.end k.status_is in
       (k.order, k.is, record { refusal = d.0; ended = left ws 2 a b e f k (Refused d.0) d.1; said = said_by ws 2 a b e f k (Refused d.0) d.1 })
 
   pub halted_told : Answers ws r a b e f → r ≡ 3 → Under ws (λ o. Halted (work_of o) a b) × IsSaid read_line e f × Rose a.place.read_faults b.place.read_faults
   halted_told x h =
-      let k = ran x 3 h (λ z. omega (arith, z)) (λ z. omega (arith, z)) in
+      let k = obeyed x 3 h (λ z. omega (arith, z)) (λ z. omega (arith, z)) in
       let d = read_status k.end k.status_is in
       ((k.order, k.is, left ws 3 a b e f k ReadFault d), said_by ws 3 a b e f k ReadFault d, plan.read_rose (target_of (work_of k.order)) ReadFault a b (counted ws 3 a b e f k ReadFault d) refl)
 
   pub broken_told : Answers ws r a b e f → r ≡ 4 → Under ws (λ o. Broken (work_of o) a b) × IsSaid write_line e f × Under ws (λ o. Rose (write_count (target_of (work_of o)) a) (write_count (target_of (work_of o)) b))
   broken_told x h =
-      let k = ran x 4 h (λ z. omega (arith, z)) (λ z. omega (arith, z)) in
+      let k = obeyed x 4 h (λ z. omega (arith, z)) (λ z. omega (arith, z)) in
       let d = write_status k.end k.status_is in
       ((k.order, k.is, left ws 4 a b e f k WriteFault d), said_by ws 4 a b e f k WriteFault d, (k.order, k.is, plan.write_rose (target_of (work_of k.order)) WriteFault a b (counted ws 4 a b e f k WriteFault d) refl))
 
   pub parts_told : Answers ws r a b e f → r ≡ 6 → Under ws (λ o. Ended (work_of o) ends.TooMany a b) × IsSaid parts_line e f
   parts_told x h =
-      let k = ran x 6 h (λ z. omega (arith, z)) (λ z. omega (arith, z)) in
+      let k = obeyed x 6 h (λ z. omega (arith, z)) (λ z. omega (arith, z)) in
       let d = parts_status k.end k.status_is in
       ((k.order, k.is, left ws 6 a b e f k TooManyParts d), said_by ws 6 a b e f k TooManyParts d)
+
+  pub only_parts : Answers ws r a b e f → r ≡ 6 → Under ws (λ o. target_of (work_of o) ≡ Parts)
+  only_parts x h =
+      let k = obeyed x 6 h (λ z. omega (arith, z)) (λ z. omega (arith, z)) in
+      let c = counted ws 6 a b e f k TooManyParts (parts_status k.end k.status_is) in
+      (k.order, k.is, c.0)
 
   pub memory_told : Answers ws r a b e f → r ≡ 5 → (o : Order) → order_of ws ≡ Some o → StandsPartly (work_of o) a b
   memory_told (Usage p s t) h o is = cc
@@ -296,10 +314,17 @@ module _ {ws : List (List ℕ)} {r : ℕ} {a b : Outside} {e f : SinkState} wher
   one_count (Unread s t) = runs.NoneRose (none_rose a b s)
   one_count (Carried o is end c t) = tallied_once (target_of (work_of o)) (way_of end) a b c.counts
 
+  pub text_writes : Answers ws r a b e f → (o : Order) → order_of ws ≡ Some o → target_of (work_of o) ≡ Text → b.place.write_faults ≡ a.place.write_faults
+  text_writes (Usage p s t) o is text = cc
+  text_writes (Unread s t) o is text = ap (λ (z : Outside). z.place.write_faults) s
+  text_writes (Carried p known end c t) o is text =
+      let target = ap (λ z. target_of (work_of z)) (order_same ws p o known is) ∙ text in
+      text_leaves (way_of end) a b (subst (λ z. Tallied z (way_of end) a b) target c.counts)
+
   pub same_told : Answers ws r a b e f → b.place.steady ≡ a.place.steady
   same_told (Usage o s t) = ap (λ (z : Outside). z.place.steady) s
   same_told (Unread s t) = ap (λ (z : Outside). z.place.steady) s
-  same_told (Carried o is end c t) = steady_stays (target_of (work_of o)) (way_of end) a b c.counts
+  same_told (Carried o is end c t) = plan.same_clause (target_of (work_of o)) (way_of end) a b c.counts
 
   pub complete : Answers ws r a b e f → (o : Order) → order_of ws ≡ Some o → (Rose a.place.read_faults b.place.read_faults → ⊥) → (Rose (write_count (target_of (work_of o)) a) (write_count (target_of (work_of o)) b) → ⊥) → IfSome a.place.told (λ w. IsPlannedStatus (plan_of (work_of o) w).end r)
   complete (Usage p s t) o is h i = cc

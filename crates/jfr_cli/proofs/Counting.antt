@@ -40,15 +40,12 @@ tallied_once t NotRead a b h = runs.ReadsRose h
 tallied_once t NotWritten a b h = written_once t a b h
 tallied_once t NoRoom a b h = runs.NoneRose h
 
--- A place stays steady.
-once_same : (a b : Outside) → CountsOnce a b → b.place.steady ≡ a.place.steady
-once_same a b (runs.NoneRose h) = h.3
-once_same a b (runs.ReadsRose h) = h.3
-once_same a b (runs.WritesRose h) = h.3
-once_same a b (runs.TextsRose h) = h.3
-
-pub steady_stays : (t : Target) (way : Way) (a b : Outside) → Tallied t way a b → b.place.steady ≡ a.place.steady
-steady_stays t way a b h = once_same a b (tallied_once t way a b h)
+-- Work that writes text makes no write fault of the place.
+pub text_leaves : (way : Way) (a b : Outside) → Tallied Text way a b → b.place.write_faults ≡ a.place.write_faults
+text_leaves (Ends e) a b h = h.1.1
+text_leaves NotRead a b h = h.1
+text_leaves NotWritten a b h = h.1
+text_leaves NoRoom a b h = h.1
 
 no_less : (n m : ℕ) → m ≡ n → n < m → ⊥
 no_less n m e h = omega (arith, e, h)

@@ -1,5 +1,6 @@
 pub mod Lines
 pub mod Orders
 pub mod Counting
+mod Rows
 pub mod Sampling
 pub mod Clauses

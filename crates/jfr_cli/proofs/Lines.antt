@@ -9,7 +9,7 @@ use Rattle.jfr_cli.specs.Answers.{IsAnswered, Fully, ForMemory, Part, IsMemorySa
 pub said_partly : (line bytes : List ℕ) (status : ℕ) (a b : SinkState) → bytes ≡ line → (k : ℕ) × (b.written ≡ option_map (added (take k bytes)) a.written) → (a.faults ≤ b.faults) × Rose a.faults b.faults → IsAnswered status (Some line) status a b
 said_partly line bytes status a b e t f = Fully refl (Part f.1 t.0 (t.1 ∙ ap (λ z. option_map (added (take t.0 z)) a.written) e))
 
--- The line for want of memory in the place of another.
+-- The line for running out of memory in place of another.
 pub said_instead : (status : ℕ) (line : List ℕ) (answer : ℕ) (a b : SinkState) → IsAnswered 5 (Some memory_line) answer a b → IsAnswered status (Some line) answer a b
 said_instead status line answer a b (Fully e s) = ForMemory e (Line s)
 said_instead status line answer a b (ForMemory e p) = ForMemory e p

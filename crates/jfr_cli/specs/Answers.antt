@@ -1,4 +1,4 @@
--- What the program answers: the status, and the line on the error sink.
+-- The result of the program: the exit status, and the line on the error sink.
 use Rattle.std.specs.Prelude.{◌≡◌, ℕ, List, ◌++◌, take, Option, None, Some, option_map, codes}
 use Rattle.std.specs.Fmt.{decimal}
 use Rattle.jfr_base.specs.declared.flaw.Refusal.{Refusal}
@@ -18,11 +18,11 @@ status_of WriteFault = 4
 status_of Memory = 5
 status_of TooManyParts = 6
 
--- The line of words that are no order.
+-- The line if the words aren't an order.
 abbrev pub usage_line : List ℕ
 usage_line = codes "usage: jfr print|summary|metadata|scrub|disassemble|assemble|sample" ++ newline
 
--- The line of a refused recording: the number of the chunk, the place in it, and the name of the reason.
+-- The line of a refused recording: the number of the chunk, the offset in it, and the name of the reason.
 abbrev pub refusal_line : Refusal → List ℕ
 refusal_line r = codes "chunk " ++ (decimal r.chunk ++ (codes " offset " ++ (decimal r.offset ++ (codes ": " ++ (reason_name r.reason ++ newline)))))
 
@@ -34,11 +34,11 @@ read_line = codes "read fault" ++ newline
 abbrev pub write_line : List ℕ
 write_line = codes "write fault" ++ newline
 
--- The line where memory was wanting.
+-- The line if memory ran out.
 abbrev pub memory_line : List ℕ
 memory_line = codes "out of memory" ++ newline
 
--- The line where there would be too many parts.
+-- The line if there would be too many parts.
 abbrev pub parts_line : List ℕ
 parts_line = codes "too many parts" ++ newline
 
@@ -51,23 +51,32 @@ line_of WriteFault = Some write_line
 line_of Memory = Some memory_line
 line_of TooManyParts = Some parts_line
 
--- The line stands on the sink; only where its count rose may it be a prefix of the line.
+-- The status and the line of words, which may not be an order.
+abbrev pub answer_status : Option Ending → ℕ
+answer_status None = 1
+answer_status (Some e) = status_of e
+
+abbrev pub answer_line : Option Ending → Option (List ℕ)
+answer_line None = Some usage_line
+answer_line (Some e) = line_of e
+
+-- The line was written to the sink. If the sink's count of faults rose, perhaps only a prefix of it was.
 pub data IsSaid (line : List ℕ) (a b : SinkState) : Type 0 where
   Whole : b ≡ record { written = option_map (added line) a.written; faults = a.faults } → IsSaid line a b
   Part : Rose a.faults b.faults → (k : ℕ) → b.written ≡ option_map (added (take k line)) a.written → IsSaid line a b
 
--- The line for want of memory is said; or none is, and the sink stays as it is, since memory may be wanting
--- as a line is written, too.
+-- The line for running out of memory was written, or no line and the sink is unchanged, since memory can also
+-- run out while a line is written.
 pub data IsMemorySaid (a b : SinkState) : Type 0 where
   Line : IsSaid memory_line a b → IsMemorySaid a b
   Silent : b ≡ a → IsMemorySaid a b
 
--- An ending without a line leaves the sink as it is.
+-- The line of an ending was written, if it has one; else the sink is unchanged.
 abbrev pub Said : Option (List ℕ) → SinkState → SinkState → Type 0
 Said None a b = b ≡ a
 Said (Some line) a b = IsSaid line a b
 
--- A status and its line, or 5, as for want of memory.
+-- The status with its line, or status 5, as after running out of memory.
 pub data IsAnswered (status : ℕ) (line : Option (List ℕ)) (answer : ℕ) (a b : SinkState) : Type 0 where
   Fully : answer ≡ status → Said line a b → IsAnswered status line answer a b
   ForMemory : answer ≡ 5 → IsMemorySaid a b → IsAnswered status line answer a b

@@ -1,8 +1,7 @@
 -- What each order asks to be done.
-use Rattle.std.specs.Prelude.{◌≡◌, ℕ, List, [], ◌∷◌, Bool, IsTrue, IsSome, Option, None, Some, Result, Ok, Err, ⊤, encode_utf8_all}
-use Rattle.jfr_base.specs.declared.flaw.Flaw.{Flaw}
+use Rattle.std.specs.Prelude.{◌≡◌, ℕ, List, [], ◌∷◌, Bool, IsTrue, IsSome, Option, None, Some, ⊤, encode_utf8_all}
 use Rattle.jfr_outside.specs.World.{World, State, SinkState, Told, file}
-use Rattle.jfr_plan.specs.Ends.{Fine, Way, refused}
+use Rattle.jfr_plan.specs.Ends.{Fine, Way}
 use Rattle.jfr_plan.specs.Effects.{Outside, Write, Nothing, Plan, Stand, stand, effects, needing}
 use Rattle.jfr_plan.specs.Walks.{Rule, Target, File, Parts, Text, plan_in}
 use Rattle.jfr_plan.specs.Outcomes.{Outcome, HaltedIn}
@@ -17,17 +16,16 @@ use Rattle.jfr_words.specs.declared.order.Order.{Order}
 use Rattle.jfr_words.specs.declared.order.Order.TheVariants as orders
 use Rattle.jfr_words.specs.Words.{file_name}
 
--- One recording is gone through by a rule, the files of a folder are joined to an output, or a plan needs
--- no file.
+-- The work of an order: a rule over one recording, the files of a folder joined to an output, or a plan that
+-- needs no file.
 pub data Work : Type 0 where
   Over : Rule → List ℕ → Work
   Joins : List ℕ → List ℕ → Work
   Alone : Plan → Work
 
--- The sample's text is written. Where the sample had a flaw, it would be refused for it.
-abbrev pub sample_plan : Result (List ℕ) Flaw → Plan
-sample_plan (Ok text) = record { steps = needing Nothing (Write (encode_utf8_all text) ∷ []); end = Some Fine }
-sample_plan (Err flaw) = record { steps = []; end = Some (refused 1 flaw) }
+-- The sample's text is written.
+abbrev pub sample_plan : List ℕ → Plan
+sample_plan text = record { steps = needing Nothing (Write (encode_utf8_all text) ∷ []); end = Some Fine }
 
 -- The work of an order.
 abbrev pub work_of : Order → Work
@@ -39,19 +37,19 @@ work_of (orders.Disassemble file rule) = Over (splitting rule (file_name file)) 
 work_of (orders.Assemble folder output) = Joins (file_name folder) (file_name output)
 work_of (orders.Sample seed events) = Alone (sample_plan (sampled seed events))
 
--- The plan of the work, over what a place holds.
+-- The plan of the work, given the files of a place.
 abbrev pub plan_of : Work → World → Plan
 plan_of (Over r input) w = plan_in r input w
 plan_of (Joins folder output) w = assembling folder output w.files
 plan_of (Alone p) w = p
 
--- What the work writes: a file, parts, or text.
+-- The target of the work: a file, parts, or text.
 abbrev pub target_of : Work → Target
 target_of (Over r input) = r.target
 target_of (Joins folder output) = File
 target_of (Alone p) = Text
 
--- What stands after a read fault; there is none where no file is read.
+-- The state after a read fault, which can't happen if no file is read.
 abbrev pub HaltsAs : Bool → Work → World → World → Stand → Stand → Type 0
 HaltsAs steady (Over r input) w v s t = HaltedIn steady r [] (file w input) v.input s t
 HaltsAs steady (Joins folder output) w v s t = Unfinished steady (effects (assembling folder output w.files).steps) s t
@@ -63,11 +61,11 @@ text_on Text s = s.written
 text_on File s = None
 text_on Parts s = None
 
--- A claim on what stands before and after the work, where the place tells its files.
+-- A claim about the states before and after the work, if the files of the place are known.
 abbrev pub Stands : Work → Outside → Outside → (World → World → Stand → Stand → Type 0) → Type 0
 Stands k a b P = Told a.place.told b.place.told (λ w v. P w v (stand w (text_on (target_of k) a.sink)) (stand v (text_on (target_of k) b.sink)))
 
--- What the work leaves, by the way it ended.
+-- The state after the work, for each end.
 abbrev pub Leaves : Work → Way → Outside → Outside → Type 0
 Leaves k way a b = Stands k a b (λ w v s t. Outcome a.place.steady (plan_of k w) (HaltsAs a.place.steady k w v) way s t)
 
@@ -77,20 +75,19 @@ KeepsSink Text a b = ⊤
 KeepsSink File a b = b ≡ a
 KeepsSink Parts a b = b ≡ a
 
--- Work that reads no file leaves the place as it is.
+-- Work that reads no file leaves the place unchanged.
 abbrev pub KeepsPlace : Work → State → State → Type 0
 KeepsPlace (Over r input) a b = ⊤
 KeepsPlace (Joins folder output) a b = ⊤
 KeepsPlace (Alone p) a b = b ≡ a
 
--- The place is steady, and the file that the work reads is there; of a folder it reads the files that are
--- there.
+-- The place is steady, and the file that the work reads exists. In a folder it reads only files that exist.
 abbrev pub CanReadAll : Work → State → Type 0
 CanReadAll (Over r input) a = CanRead input a
 CanReadAll (Joins folder output) a = IsTrue a.steady × IsSome a.told
 CanReadAll (Alone p) a = ⊤
 
--- The place is steady, no output is open, and the names that the order creates are new; never so of an
+-- The place is steady, no output is open, and the names that the order creates are new. Never true for an
 -- order that writes text, whose write faults are those of the output stream.
 abbrev pub CanCreateFor : Order → State → Type 0
 CanCreateFor (orders.Scrub g input output) a = CanCreate (file_name output) a

@@ -1,5 +1,5 @@
-// Each order as a call. A place or a sink that an order doesn't touch is given for the contract alone, which
-// says that it stays as it is; its name begins with `_`.
+//! Each order as a call. If an order doesn't touch the place or the sink, the parameter is there only for the
+//! contract, which says that it is unchanged; its name begins with `_`.
 ghost use Rattle.jfr_plan.specs.Effects.{outside};
 ghost use Rattle.jfr_words.specs.Words.{IsUsableOrder};
 ghost use Rattle.jfr_words.specs.declared.order.Order.TheVariants as orders;
@@ -10,7 +10,7 @@ ghost use Rattle.jfr_cli.specs.Runs.{Carries};
 use jfr_demo::sample_text;
 use jfr_filter::Filter;
 use jfr_header::Ending;
-use jfr_outside::{Place, Sink, Text};
+use jfr_outside::{NoMemory, Place, Sink, Text};
 use jfr_report::{metadata_stream, print_stream, summary_stream};
 use jfr_scrub::scrub_stream;
 use jfr_split::{SplitRule, assemble, disassemble};
@@ -125,7 +125,7 @@ fn say_sample<P: Place, O: Sink>(
 {
     let text = match sample_text(alloc, seed, events) {
         Ok(text) => text,
-        Err(fault) => return Ending::of_chunk(1, fault),
+        Err(NoMemory) => return Ending::Memory,
     };
     match out.write(text.as_str().as_bytes()) {
         Ok(()) => Ending::Done,

@@ -1,7 +1,7 @@
 //! The program's top call: it carries out the order that the words of the command line give.
 //!
-//! `run` is the entry. Read `specs/Works.antt` first: what each order asks to be done; then
-//! `specs/Answers.antt`: the status and the line; then `specs/Runs.antt`: what stands after each.
+//! `run` is the only call. Read `specs/Works.antt` first for what each order does, then `specs/Answers.antt`
+//! for the status and the line, then `specs/Runs.antt` for the state after each.
 #![tactic(auto)]
 
 mod carry;

@@ -1,32 +1,43 @@
-// The status of an ending, and its line on the error sink.
+//! The exit status of an ending, and its line on the error sink.
 ghost use Rattle.std.specs.Prelude.{◌≡◌, Some, IfOk, string_bytes};
-ghost use Rattle.jfr_cli.specs.Answers.{status_of, line_of, usage_line, refusal_line, IsAnswered};
+ghost use Rattle.jfr_cli.specs.Answers.{status_of, line_of, answer_status, answer_line, usage_line, refusal_line, IsAnswered};
 
 use jfr_base::Refusal;
 use jfr_header::Ending;
 use jfr_outside::{Fault, Sink};
 use std::alloc::{AllocError, Global};
 
-/// The status of words that are no order.
+/// The status if the words aren't an order.
 const USAGE: u8 = 1;
 
-/// The status of a refused recording.
+/// The status if the recording is refused.
 const REFUSED: u8 = 2;
 
-/// The status of a read that failed.
+/// The status if a read failed.
 const READ_FAULT: u8 = 3;
 
-/// The status of a write that failed.
+/// The status if a write failed.
 const WRITE_FAULT: u8 = 4;
 
-/// The status where memory is wanting.
+/// The status if memory ran out.
 pub const NO_MEMORY: u8 = 5;
 
-/// The status of a recording that `disassemble` would cut into more parts than it may write.
+/// The status if `disassemble` would write more parts than it may.
 const TOO_MANY_PARTS: u8 = 6;
 
-/// Writes the line of the usage, and answers its status.
-pub fn say_usage<E: Sink>(err: &mut E) -> u8
+/// Writes the line of an ending, if it has one, or the usage line if the words weren't an order, and returns
+/// the status.
+pub fn say_answer<E: Sink>(alloc: Global, err: &mut E, ended: Option<Ending>) -> u8
+    ensures { IsAnswered (answer_status ended) (answer_line ended) result (E.state err.old) (E.state err.new) }
+{
+    match ended {
+        Some(ending) => say_ending(alloc, err, ending),
+        None => say_usage(err),
+    }
+}
+
+// Writes the usage line, and returns its status.
+fn say_usage<E: Sink>(err: &mut E) -> u8
     ensures { IsAnswered 1 (Some usage_line) result (E.state err.old) (E.state err.new) }
 {
     say_line(
@@ -36,8 +47,8 @@ pub fn say_usage<E: Sink>(err: &mut E) -> u8
     )
 }
 
-/// Writes the line of an ending, if it has one, and answers its status.
-pub fn say_ending<E: Sink>(alloc: Global, err: &mut E, ending: Ending) -> u8
+// Writes the line of an ending, if it has one, and returns its status.
+fn say_ending<E: Sink>(alloc: Global, err: &mut E, ending: Ending) -> u8
     ensures { IsAnswered (status_of ending) (line_of ending) result (E.state err.old) (E.state err.new) }
 {
     match ending {
@@ -61,7 +72,7 @@ fn refusal_text(alloc: Global, refusal: &Refusal) -> Result<String, AllocError>
     format!(in alloc; "chunk {chunk} offset {offset}: {name}\n")
 }
 
-// Writes a line. A failed write changes no status; where memory is wanting, the status is `NO_MEMORY`.
+// Writes a line. A failed write doesn't change the status; if memory runs out, the status is `NO_MEMORY`.
 fn say_line<E: Sink>(err: &mut E, line: &str, status: u8) -> u8
     ensures { IsAnswered status (Some line.now) result (E.state err.old) (E.state err.new) }
 {

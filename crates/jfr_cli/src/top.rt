@@ -1,4 +1,4 @@
-// The top call.
+//! The top call.
 ghost use Rattle.std.specs.Prelude.{◌≡◌, ◌≢◌, ◌<◌, ◌≤◌, ◌⊎◌, ℕ, List, None, Some, IfSome};
 ghost use Rattle.jfr_outside.specs.Counts.{Rose};
 ghost use Rattle.jfr_outside.specs.World.{Told};
@@ -6,6 +6,7 @@ ghost use Rattle.jfr_header.specs.Fronts.{Whole};
 ghost use Rattle.jfr_filter.specs.Filters.{Given};
 ghost use Rattle.jfr_plan.specs.Ends.{Fine, TooMany};
 ghost use Rattle.jfr_plan.specs.Effects.{outside};
+ghost use Rattle.jfr_plan.specs.Walks.{Parts, Text};
 ghost use Rattle.jfr_plan.specs.Clauses.{write_count};
 ghost use Rattle.jfr_chunk.specs.Refusal.{refusal_of};
 ghost use Rattle.jfr_scrub.specs.Headline.{IsScrubbed, Scrubs};
@@ -15,38 +16,34 @@ ghost use Rattle.jfr_words.specs.declared.order.Order.TheVariants as orders;
 ghost use Rattle.jfr_words.specs.Words.{order_of, file_name};
 ghost use Rattle.jfr_cli.specs.Works.{work_of, plan_of, target_of, KeepsSink, KeepsPlace, CanReadAll, CanCreateFor};
 ghost use Rattle.jfr_cli.specs.Answers.{usage_line, read_line, write_line, parts_line, IsSaid, IsMemorySaid};
-ghost use Rattle.jfr_cli.specs.Runs.{Answers, Under, Ended, Halted, Broken, StandsPartly, CountsOnce, IsPlannedStatus, IsRefused};
+ghost use Rattle.jfr_cli.specs.Runs.{Obeys, Under, Ended, Halted, Broken, StandsPartly, CountsOnce, IsPlannedStatus, IsRefused};
 
 use crate::carry::carry_out;
-use crate::say::{say_ending, say_usage};
+use crate::say::say_answer;
 use jfr_header::Ending;
 use jfr_outside::{Place, Sink, Words};
 use jfr_words::{WordsFault, read_words};
 use std::alloc::Global;
 
-// The whole of `run`, as one clause by cases on the words and on the ending.
-fn answer<P: Place, O: Sink, E: Sink>(
+// Carries out the order of the words, and returns how it ended, or `None` if the words aren't an order.
+fn obey<P: Place, O: Sink>(
     alloc: Global,
     words: &Words,
     place: &mut P,
     out: &mut O,
-    err: &mut E,
-) -> u8
-    ensures { Answers words.now result (outside (P.state place.old) (O.state out.old)) (outside (P.state place.new) (O.state out.new)) (E.state err.old) (E.state err.new) }
+) -> Option<Ending>
+    ensures { Obeys words.now result (outside (P.state place.old) (O.state out.old)) (outside (P.state place.new) (O.state out.new)) }
 {
     match read_words(alloc, words) {
-        Ok(order) => {
-            let ending = carry_out(alloc, place, out, &order);
-            say_ending(alloc, err, ending)
-        }
-        Err(WordsFault::Usage) => say_usage(err),
-        Err(WordsFault::Memory) => say_ending(alloc, err, Ending::Memory),
+        Ok(order) => Some(carry_out(alloc, place, out, &order)),
+        Err(WordsFault::Usage) => None,
+        Err(WordsFault::Memory) => Some(Ending::Memory),
     }
 }
 
-/// Carries out the order of the words over a place and the output sink, writes a line on the error sink
-/// where it ends otherwise than well, and answers the status: 0 done, 1 a usage fault, 2 a refused
-/// recording, 3 a read fault, 4 a write fault, 5 want of memory, 6 too many parts.
+/// Carries out the order that the words give, over a place and the output sink. Unless it succeeds, writes a
+/// line to the error sink. Returns the exit status: 0 done, 1 usage error, 2 recording refused, 3 read fault,
+/// 4 write fault, 5 out of memory, 6 too many parts.
 pub fn run<P: Place, O: Sink, E: Sink>(
     alloc: Global,
     words: &Words,
@@ -54,7 +51,7 @@ pub fn run<P: Place, O: Sink, E: Sink>(
     out: &mut O,
     err: &mut E,
 ) -> u8
-    // Words that are no order: nothing is done.
+    // Words that aren't an order: nothing is done.
     ensures usage { result ≡ 1 → (order_of words.now ≡ None) × IsSaid usage_line (E.state err.old) (E.state err.new) }
     ensures usage_only { order_of words.now ≡ None → (result ≡ 1) ⊎ (result ≡ 5) }
     ensures untouched { order_of words.now ≡ None → (P.state place.new ≡ P.state place.old) × (O.state out.new ≡ O.state out.old) }
@@ -67,7 +64,7 @@ pub fn run<P: Place, O: Sink, E: Sink>(
         → Told (P.state place.old).told (P.state place.new).told (Scrubs g (file_name input) (file_name output)) }
     ensures each { (g : Given) (c : List ℕ) → Whole c → refusal_of c ≡ None → IsScrubbed g c (scrubbed g c) }
 
-    // What stands after each status, and the line on the error sink.
+    // The state after each status, and the line on the error sink.
     ensures done { result ≡ 0 → Under words.now (λ o. Ended (work_of o) Fine (outside (P.state place.old) (O.state out.old)) (outside (P.state place.new) (O.state out.new))) }
     ensures done_silent { result ≡ 0 → E.state err.new ≡ E.state err.old }
     ensures refused { result ≡ 2 → Under words.now (λ o. IsRefused (work_of o) (outside (P.state place.old) (O.state out.old)) (outside (P.state place.new) (O.state out.new)) (E.state err.old) (E.state err.new)) }
@@ -77,33 +74,35 @@ pub fn run<P: Place, O: Sink, E: Sink>(
     ensures broken_said { result ≡ 4 → IsSaid write_line (E.state err.old) (E.state err.new) }
     ensures too_many { result ≡ 6 → Under words.now (λ o. Ended (work_of o) TooMany (outside (P.state place.old) (O.state out.old)) (outside (P.state place.new) (O.state out.new))) }
     ensures too_many_said { result ≡ 6 → IsSaid parts_line (E.state err.old) (E.state err.new) }
+    ensures parts { result ≡ 6 → Under words.now (λ o. target_of (work_of o) ≡ Parts) }
     ensures memory { result ≡ 5 → (o : Order) → order_of words.now ≡ Some o → StandsPartly (work_of o) (outside (P.state place.old) (O.state out.old)) (outside (P.state place.new) (O.state out.new)) }
     ensures memory_said { result ≡ 5 → IsMemorySaid (E.state err.old) (E.state err.new) }
     ensures statuses { result ≤ 6 }
 
-    // A fault comes only where it was counted, and none is passed over.
+    // A fault is answered only if it was counted, and none is passed over.
     ensures read_fault { result ≡ 3 → Rose (P.state place.old).read_faults (P.state place.new).read_faults }
     ensures write_fault { result ≡ 4 → Under words.now (λ o. Rose (write_count (target_of (work_of o)) (outside (P.state place.old) (O.state out.old))) (write_count (target_of (work_of o)) (outside (P.state place.new) (O.state out.new)))) }
     ensures no_read_passed { (P.state place.old).read_faults < (P.state place.new).read_faults → (result ≡ 3) ⊎ (result ≡ 5) }
     ensures no_write_passed { (P.state place.old).write_faults < (P.state place.new).write_faults → (result ≡ 4) ⊎ (result ≡ 5) }
     ensures no_text_passed { (O.state out.old).faults < (O.state out.new).faults → (result ≡ 4) ⊎ (result ≡ 5) }
     ensures one_count { CountsOnce (outside (P.state place.old) (O.state out.old)) (outside (P.state place.new) (O.state out.new)) }
+    ensures writes { (o : Order) → order_of words.now ≡ Some o → target_of (work_of o) ≡ Text → (P.state place.new).write_faults ≡ (P.state place.old).write_faults }
 
-    // Without a fault the status is the one that the plan ends with, or memory was wanting.
+    // Without a fault the status is the one with which the plan ends, or memory ran out.
     ensures complete { (o : Order) → order_of words.now ≡ Some o
         → (Rose (P.state place.old).read_faults (P.state place.new).read_faults → ⊥)
         → (Rose (write_count (target_of (work_of o)) (outside (P.state place.old) (O.state out.old))) (write_count (target_of (work_of o)) (outside (P.state place.new) (O.state out.new))) → ⊥)
         → IfSome (P.state place.old).told (λ w. IsPlannedStatus (plan_of (work_of o) w).end result) }
 
-    // The program brings no fault about by itself.
+    // The program itself causes no fault.
     ensures can_read { (o : Order) → order_of words.now ≡ Some o → CanReadAll (work_of o) (P.state place.old) → (result ≢ 3) × ((P.state place.new).read_faults ≡ (P.state place.old).read_faults) }
     ensures can_create { (o : Order) → order_of words.now ≡ Some o → CanCreateFor o (P.state place.old) → (result ≢ 4) × ((P.state place.new).write_faults ≡ (P.state place.old).write_faults) }
 
-    // An order that writes no text writes nothing on the output sink; one that reads no file leaves the
-    // place.
+    // An order that writes files leaves the output sink as it was, and one that reads no file leaves the place.
     ensures out { (o : Order) → order_of words.now ≡ Some o → KeepsSink (target_of (work_of o)) (O.state out.old) (O.state out.new) }
     ensures place { (o : Order) → order_of words.now ≡ Some o → KeepsPlace (work_of o) (P.state place.old) (P.state place.new) }
     ensures same { (P.state place.new).steady ≡ (P.state place.old).steady }
 {
-    answer(alloc, words, place, out, err)
+    let ended = obey(alloc, words, place, out);
+    say_answer(alloc, err, ended)
 }

@@ -1,1 +1,6 @@
-pub mod DemoLaws
+mod Accepted
+mod DemoLaws
+mod Entries
+mod Events
+mod Metadata
+mod Standing

@@ -1,5 +1,5 @@
 -- What the command `sample` says of the sample.
-use Rattle.std.specs.Prelude.{ℕ, List, ◌++◌, length, codes, Result, Ok, Err}
+use Rattle.std.specs.Prelude.{ℕ, List, [], ◌++◌, length, codes, Result, Ok, Err}
 use Rattle.jfr_base.specs.declared.flaw.Flaw.{Flaw}
 use Rattle.jfr_filter.specs.declared.side.Side.TheVariants.{IncludeEvents}
 use Rattle.jfr_filter.specs.Filters.{Given, nothing_given, with_patterns}
@@ -16,7 +16,8 @@ use Rattle.jfr_sample.specs.Sample.{sample_of}
 abbrev pub only_a : Given
 only_a = with_patterns IncludeEvents (patterns_in (codes "t.A")) nothing_given
 
--- Six lines: how much a chunk has, and how much its scrub keeps, of events, of entries and of bytes.
+-- Six lines: the numbers of events, entries and bytes of a chunk, and how many of each are left if these
+-- events are kept.
 abbrev pub lines_of : Parts → List EventAt → List ℕ
 lines_of p kept =
     number_line (codes "events") (length (events_of p))
@@ -26,15 +27,16 @@ lines_of p kept =
     ++ number_line (codes "bytes") (length p.bytes)
     ++ number_line (codes "kept bytes") (length (scrub_of p kept))
 
--- What is said of a chunk, which is scrubbed with this filter.
+-- The six lines of a chunk that is scrubbed with this filter.
 unfoldable pub counted : Parts → List ℕ
 counted p = lines_of p (kept_of only_a p)
 
--- What is said of the sample that was read as a chunk, or its flaw.
-abbrev pub counted_in : Result Parts Flaw → Result (List ℕ) Flaw
-counted_in (Ok p) = Ok (counted p)
-counted_in (Err flaw) = Err flaw
+-- The text for the sample, as it is read. No sample is refused (`sample_is_accepted`), so the second case
+-- never applies.
+abbrev pub counted_in : Result Parts Flaw → List ℕ
+counted_in (Ok p) = counted p
+counted_in (Err flaw) = []
 
--- What is said of the sample of a seed and a number of events: it is read as any recording is.
-unfoldable pub sampled : ℕ → ℕ → Result (List ℕ) Flaw
+-- The text for the sample of a seed and a number of events, which is read like any other recording.
+unfoldable pub sampled : ℕ → ℕ → List ℕ
 sampled seed events = counted_in (read_parts (sample_of seed events))

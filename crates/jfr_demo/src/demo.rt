@@ -1,6 +1,5 @@
-// What is counted of the sample.
-ghost use Rattle.std.specs.Prelude.{◌≡◌, ◌≤◌, ◌++◌, List, length, Ok, IfOk, OnOk, IsTrue, MatchResult};
-ghost use Rattle.jfr_pool.specs.Faults.{TellsFlaw};
+//! The text of the command `sample`.
+ghost use Rattle.std.specs.Prelude.{◌≡◌, ◌≤◌, ◌++◌, List, length, IfOk, OnOk, IsTrue};
 ghost use Rattle.jfr_show.specs.Texts.{is_ascii};
 ghost use Rattle.jfr_show.specs.Totals.{number_line};
 ghost use Rattle.jfr_chunk.specs.Parts.{EventAt};
@@ -18,21 +17,24 @@ use jfr_scrub::Scrubber;
 use jfr_show::TextBuilder;
 use std::alloc::Global;
 
-/// Makes the sample of a seed with so many events, scrubs it with the events of `t.A` alone, and says in
-/// six lines how many events, constants and bytes there are, and how many of each are kept. It answers a
-/// flaw exactly where the sample is no chunk that is accepted.
-pub fn sample_text(alloc: Global, seed: u32, events: u32) -> Result<Text, ReadFault>
+/// Six lines on the sample of a seed with this many events: how many events, constants and bytes it has, and
+/// how many of each are kept when it is scrubbed with only the events of `t.A`.
+pub fn sample_text(alloc: Global, seed: u32, events: u32) -> Result<Text, NoMemory>
     requires some { 1 ≤ events }
     requires most { events ≤ 1000000 }
-    ensures exact { MatchResult result (λ text. sampled seed events ≡ Ok text) (TellsFlaw (sampled seed events)) }
+    ensures exact { IfOk result (λ text. text ≡ sampled seed events) }
 {
     let bytes = sample(alloc, seed, events)?;
-    let chunk = Chunk::read(alloc, &bytes)?;
-    let text = counted(alloc, &chunk)?;
-    Ok(text)
+    let chunk = match Chunk::read(alloc, &bytes) {
+        Ok(chunk) => chunk,
+        Err(ReadFault::Memory) => return Err(NoMemory),
+        // Every sample is accepted: `sample_is_accepted`.
+        Err(ReadFault::Flawed(_)) => unreachable!(),
+    };
+    counted(alloc, &chunk)
 }
 
-/// What a chunk has, and what its scrub keeps.
+/// The six lines of a chunk, which is scrubbed for them.
 fn counted(alloc: Global, chunk: &Chunk<'_>) -> Result<Text, NoMemory>
     ensures ok { IfOk result (λ text. text ≡ counted chunk.now) }
 {
@@ -40,7 +42,7 @@ fn counted(alloc: Global, chunk: &Chunk<'_>) -> Result<Text, NoMemory>
     lines_of(alloc, chunk, &scrubber)
 }
 
-/// The scrub of a chunk that keeps the events of `t.A`, written.
+/// The scrubbed chunk, with only the events of `t.A`, written.
 fn scrubbed<'a>(alloc: Global, chunk: &Chunk<'a>) -> Result<Scrubber<'a>, NoMemory>
     ensures written { IfOk result (λ s. s.written ≡ scrub_of chunk.now (kept_of only_a chunk.now)) }
     ensures events { IfOk result (λ s. s.events ≡ length (kept_of only_a chunk.now)) }
@@ -52,7 +54,7 @@ fn scrubbed<'a>(alloc: Global, chunk: &Chunk<'a>) -> Result<Scrubber<'a>, NoMemo
     Ok(scrubber)
 }
 
-/// The six lines of a chunk and its scrub.
+/// The six lines of a chunk and its scrubber.
 fn lines_of(alloc: Global, chunk: &Chunk<'_>, scrubber: &Scrubber<'_>) -> Result<Text, NoMemory>
     ensures ok { IfOk result (λ text. (kept : List EventAt) → scrubber.now.events ≡ length kept → scrubber.now.entries ≡ length (remain chunk.now kept)
         → scrubber.now.written ≡ scrub_of chunk.now kept → text ≡ lines_of chunk.now kept) }
@@ -78,7 +80,6 @@ fn only_a(alloc: Global) -> Result<Filter, NoMemory>
     }
 }
 
-/// Adds a line of a word and a number.
 fn push_count(text: &mut TextBuilder, word: &str, count: usize) -> Result<(), NoMemory>
     requires ascii { IsTrue (is_ascii word.now) }
     ensures ok { OnOk result (text.new ≡ text.old ++ number_line word.now count) }

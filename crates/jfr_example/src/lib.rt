@@ -1,8 +1,8 @@
-//! An example of walking by public clauses: from an event to a field of a constant.
+//! An example of a walk by public calls only: from an event to a field of a constant.
 //!
-//! `constant_field` makes six calls of `jfr_chunk`, `jfr_value` and `jfr_pool`, one behind another. What each
-//! call gives meets what the next one requires, by the clauses of their contracts alone: no proof of this
-//! crate cites a lemma of another one. Nothing of the program stands on this crate.
+//! `constant_field` makes six calls of `jfr_chunk`, `jfr_value` and `jfr_pool`, one after another. What each
+//! call ensures is what the next one requires, so this crate needs no lemma of another one. The program
+//! doesn't use this crate.
 #![tactic(auto)]
 
 mod walk;

@@ -1,4 +1,4 @@
-// From an event to a field of a constant.
+//! The walk from an event to a field of a constant.
 ghost use Rattle.std.specs.Prelude.{◌≡◌, [], ◌∷◌, IfSome, option_and_then, option_map, slice_get};
 ghost use Rattle.jfr_value.specs.declared.node.Step.TheVariants as steps;
 ghost use Rattle.jfr_value.specs.Nodes.{IsValue, node_of};
@@ -8,9 +8,9 @@ ghost use Rattle.jfr_chunk.specs.Paths.{leads};
 use jfr_chunk::Chunk;
 use jfr_value::{Node, Step, child, target};
 
-/// The field of a number, of the constant to which a field of an event refers: where this path leads from
-/// the event. `None` exactly where it leads nowhere: past the last event or field, from a field that
-/// refers to nothing, or to a constant that isn't in the chunk.
+/// A field of the constant to which a field of an event refers: the value to which this path leads from the
+/// event. `None` exactly if it leads nowhere: there is no such event or field, the field isn't a reference,
+/// or the constant isn't in the chunk.
 pub fn constant_field<'a>(
     chunk: &Chunk<'a>,
     number: usize,

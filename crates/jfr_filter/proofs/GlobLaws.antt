@@ -43,7 +43,7 @@ nested f (c ∷ cs) e = by_case (or_cases (some_suffix f (c ∷ cs)) (some_suffi
     by_case (inl h) i = h
     by_case (inr h) i = some_later f c cs (i h)
 
--- Where a character and the rest match somewhere, the rest matches after it.
+-- If a character and the rest match some suffix, the rest matches after the character.
 after_first : (p : ℕ) (f : List ℕ → Bool) (t : List ℕ) → some_suffix (first_and p f) t ≡ true → some_suffix f t ≡ true
 after_first p f [] e = cc
 after_first p f (c ∷ cs) e = by_case (or_cases ((p == 63 || p == c) && f cs) (some_suffix (first_and p f) cs) e) (after_first p f cs)
@@ -71,8 +71,8 @@ star_is ps text = refl
 
 -- ---- along a pattern and a text, while the characters agree
 
--- The pattern matches the text where what is left of it matches what is left, and where it matches some
--- part at the text's end, what is left of it matches some part at the end of what is left.
+-- The pattern matches the text exactly if what is left of it matches what is left of the text; and if it
+-- matches some suffix of the text, what is left of it matches some suffix of what is left of the text.
 pub record Along (pattern text ps ts : List ℕ) : Type 0 where
   pub same : glob pattern text ≡ glob ps ts
   pub later : some_suffix (glob pattern) text ≡ true → some_suffix (glob ps) ts ≡ true

@@ -12,7 +12,7 @@ use Rattle.jfr_filter.specs.Patterns.{patterns_in, has_empty_part}
 abbrev comma : ℕ → Bool
 comma b = b == 44
 
--- What stands before the first cut.
+-- The part before the first cut.
 abbrev onto_front : List ℕ → List (List ℕ) → List (List ℕ)
 onto_front [] parts = parts
 onto_front (x ∷ xs) parts = onto_first x (onto_front xs parts)
@@ -113,7 +113,7 @@ empties : (parts : List (List ℕ)) → list_any is_empty (map encodes parts) �
 empties [] = refl
 empties (p ∷ ps) = ap (λ b. b || list_any is_empty (map encodes ps)) (same_empty p) ∙ ap (λ b. is_empty p || b) (empties ps)
 
--- A part is empty by its bytes exactly where it is by its characters.
+-- A part is empty by its bytes exactly if it is by its characters.
 pub split_empty : (bs : List ℕ) → IsUtf8 bs → list_any is_empty (slice_split comma bs) ≡ has_empty_part (chars bs)
 split_empty bs u =
     ap (λ z. list_any is_empty (slice_split comma z)) (sym (encodes-chars bs u))

@@ -8,7 +8,7 @@ use Rattle.jfr_filter.specs.Patterns.{glob}
 use Rattle.jfr_filter.specs.Filters.{Given, event_matches, category_matches, allows, allows_class, allows_texts}
 use Rattle.jfr_filter.proofs.AnyLaws.{any_swap}
 
--- Some pattern of an option, where it is given, matches the text.
+-- Some pattern of an option matches the text, if the option is given.
 abbrev given_matches : (List ℕ → List ℕ → Bool) → Option (List (List ℕ)) → List ℕ → Bool
 given_matches matches patterns text = option_map_or (list_any (matches text)) patterns false
 

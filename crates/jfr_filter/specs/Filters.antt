@@ -6,7 +6,7 @@ use Rattle.jfr_filter.specs.declared.side.Side.{Side}
 use Rattle.jfr_filter.specs.declared.side.Side.TheVariants.{IncludeEvents, ExcludeEvents, IncludeCategories, ExcludeCategories, IncludeThreads, ExcludeThreads}
 use Rattle.jfr_filter.specs.Patterns.{glob, simple_name}
 
--- The patterns of each option, where it is given.
+-- The patterns of each option that is given.
 pub record Given : Type 0 where
   pub include_events : Option (List (List ℕ))
   pub exclude_events : Option (List (List ℕ))
@@ -28,7 +28,7 @@ given_at ExcludeCategories g = g.exclude_categories
 given_at IncludeThreads g = g.include_threads
 given_at ExcludeThreads g = g.exclude_threads
 
--- A filter that has this option with these patterns besides.
+-- The filter in which this option has these patterns.
 abbrev pub with_patterns : Side → List (List ℕ) → Given → Given
 with_patterns IncludeEvents patterns g = record g { include_events = Some patterns }
 with_patterns ExcludeEvents patterns g = record g { exclude_events = Some patterns }
@@ -45,33 +45,33 @@ event_matches name pattern = glob pattern name || glob pattern (simple_name name
 abbrev pub category_matches : List (List ℕ) → List ℕ → Bool
 category_matches categories pattern = list_any (glob pattern) categories
 
--- A thread pattern matches the thread text, where there is one.
+-- A thread pattern matches the thread text, if there is one.
 abbrev pub thread_matches : Option (List ℕ) → List ℕ → Bool
 thread_matches thread pattern = option_map_or (glob pattern) thread false
 
--- An include option allows an event where one of its patterns matches, an exclude option where none does.
+-- An include option allows an event if one of its patterns matches, an exclude option if none does.
 abbrev pub allows : (List ℕ → Bool) → Option (List (List ℕ)) → Option (List (List ℕ)) → Bool
 allows matches include exclude = option_map_or (list_any matches) include true && not (option_map_or (list_any matches) exclude false)
 
--- The options over events allow the class name, and those over categories its categories.
+-- The options for events allow the class name, and those for categories the class's categories.
 unfoldable pub allows_class : Given → List ℕ → List (List ℕ) → Bool
 allows_class g name categories =
     allows (event_matches name) g.include_events g.exclude_events
     && allows (category_matches categories) g.include_categories g.exclude_categories
 
--- The options over threads allow the thread text, or that there is none.
+-- The options for threads allow the thread text, or that there is none.
 unfoldable pub allows_thread : Given → Option (List ℕ) → Bool
 allows_thread g thread = allows (thread_matches thread) g.include_threads g.exclude_threads
 
--- An event is kept where every given option allows it.
+-- An event is kept if every given option allows it.
 unfoldable pub keeps : Given → List ℕ → List (List ℕ) → Option (List ℕ) → Bool
 keeps g name categories thread =
     allows (event_matches name) g.include_events g.exclude_events
     && (allows (category_matches categories) g.include_categories g.exclude_categories
     && allows (thread_matches thread) g.include_threads g.exclude_threads)
 
--- A pattern of an option matches a text: a class name for the options over events, a category or a thread
--- text for the others.
+-- A pattern of an option matches a text: a class name for the options for events, a category or a thread text
+-- for the others.
 abbrev pub side_matches : Side → List ℕ → List ℕ → Bool
 side_matches IncludeEvents name pattern = event_matches name pattern
 side_matches ExcludeEvents name pattern = event_matches name pattern
@@ -81,8 +81,8 @@ side_matches _ text pattern = glob pattern text
 abbrev pub some_matches : Given → Side → List ℕ → Bool
 some_matches g side text = option_map_or (list_any (side_matches side text)) (given_at side g) false
 
--- An include and an exclude option allow these texts: the first matches one of them, where it is given, and
--- the second none.
+-- An include and an exclude option allow these texts: the first, if it is given, matches one of them, and the
+-- second none.
 abbrev pub allows_texts : Given → Side → Side → List (List ℕ) → Bool
 allows_texts g include exclude texts =
     (not (is_some (given_at include g)) || list_any (some_matches g include) texts) && not (list_any (some_matches g exclude) texts)

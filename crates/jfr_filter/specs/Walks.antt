@@ -1,13 +1,13 @@
--- How far a pattern goes with a text, up to its first star.
+-- Comparing a pattern with a text up to the pattern's first star.
 use Rattle.std.specs.Prelude.{◌≡◌, ℕ, ◌<◌, ◌≤◌, List, length, true, false, ⊤}
 use Rattle.std.specs.Str.{chars}
 use Rattle.jfr_filter.specs.declared.pattern.Walk.{Walk}
 use Rattle.jfr_filter.specs.declared.pattern.Walk.TheVariants.{Whole, Fails, Star}
 use Rattle.jfr_filter.specs.Patterns.{glob, some_suffix}
 
--- The pattern matches the text whole, or doesn't. Or a star was reached: then the pattern matches exactly
--- where what follows the star matches some end of the rest of the text, and that some end of the text
--- matches the whole pattern says the same.
+-- The pattern matches the whole text, or it doesn't. Or a star was reached: then the pattern matches the text
+-- exactly if the pattern after the star matches some suffix of the rest of the text; and the pattern matches
+-- some suffix of the text exactly if that holds.
 abbrev pub Goes : List ℕ → List ℕ → Walk → Type 0
 Goes pattern text Whole = glob pattern text ≡ true
 Goes pattern text Fails = glob pattern text ≡ false
@@ -15,7 +15,7 @@ Goes pattern text (Star later rest) =
     (glob pattern text ≡ some_suffix (glob (chars later.now)) (chars rest.now))
     × (some_suffix (glob pattern) text ≡ some_suffix (glob (chars later.now)) (chars rest.now))
 
--- At a star less of the pattern is left, and no more of the text.
+-- At a star, less of the pattern is left than before, and no more of the text.
 abbrev pub IsShorter : List ℕ → List ℕ → Walk → Type 0
 IsShorter pattern text Whole = ⊤
 IsShorter pattern text Fails = ⊤

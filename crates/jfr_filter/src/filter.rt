@@ -1,4 +1,4 @@
-// The patterns of the six options, and the rule over them.
+//! A filter: the patterns of six options, and which events they keep.
 ghost use Rattle.std.specs.Prelude.{◌≡◌, ◌↔◌, IsTrue, OnOk, OnErr, IsSome, None, Err};
 ghost use Rattle.std.specs.Str.{chars};
 ghost use Rattle.jfr_base.specs.Texts.{text_in};
@@ -13,8 +13,7 @@ use jfr_base::Words;
 use std::alloc::Global;
 use std::marker::Model;
 
-/// What an event must match to be kept. Contracts see a filter as the patterns of each option, where
-/// it is given.
+/// Which events are kept. Contracts see a filter as the patterns of each option that is given.
 #[derive(Drop)]
 pub struct Filter {
     alloc: Global,
@@ -35,7 +34,7 @@ impl Model for Filter {
 }
 
 impl Filter {
-    /// The filter without patterns, which keeps every event. It takes no memory.
+    /// The filter without patterns, which keeps every event. It allocates nothing.
     pub fn new(alloc: Global) -> Filter
         ensures { result ≡ nothing_given }
     {
@@ -71,9 +70,9 @@ impl Filter {
         }
     }
 
-    /// Gives an option its patterns: the parts of the list between its commas, with nothing trimmed.
-    /// `EmptyPattern` exactly where a part of the list is empty, `Memory` where memory is wanting; the
-    /// filter then stays as it was.
+    /// Sets the patterns of an option: the parts of the list between its commas, with nothing trimmed. Fails
+    /// with `EmptyPattern` exactly if a part of the list is empty, and with `Memory` if memory runs out; the
+    /// filter is then unchanged.
     pub fn add(&mut self, side: Side, list: &str) -> Result<(), FilterFault>
         requires { given_at side self.old ≡ None }
         ensures ok { OnOk result (self.new ≡ with_patterns side (patterns_in (chars list.now)) self.old) }
@@ -95,8 +94,8 @@ impl Filter {
         Ok(())
     }
 
-    /// Whether the event is kept, by the name of its class, the categories of its class, and its thread
-    /// text where it has one: every given option allows it. It takes no memory.
+    /// Whether the event is kept: every given option allows it, by the name and the categories of its class,
+    /// and by its thread text, if it has one. It allocates nothing.
     #[tactic(auto, using(crate::proofs::KeepLaws::keeps_by_parts))]
     pub fn keeps(&self, name: &str, categories: &Words, thread: Option<&str>) -> bool
         ensures { result ≡ keeps self.now (chars name.now) categories.now (text_in thread.entry) }
@@ -107,8 +106,8 @@ impl Filter {
         self.allows_thread(thread)
     }
 
-    /// Whether the options over events and over categories allow the class, by its name and its
-    /// categories. It takes no memory.
+    /// Whether the options for events and for categories allow the class, by its name and its categories. It
+    /// allocates nothing.
     #[tactic(auto, unfolding(crate::specs::Filters::allows_class))]
     pub fn allows_class(&self, name: &str, categories: &Words) -> bool
         ensures { result ≡ allows_class self.now (chars name.now) categories.now }
@@ -119,7 +118,7 @@ impl Filter {
         self.allows_categories(categories)
     }
 
-    /// Whether the options over threads allow this text, or none. It takes no memory.
+    /// Whether the options for threads allow this thread text, or an event without one. It allocates nothing.
     #[tactic(auto, unfolding(crate::specs::Filters::allows_thread))]
     pub fn allows_thread(&self, thread: Option<&str>) -> bool
         ensures { result ≡ allows_thread self.now (text_in thread.entry) }
@@ -137,8 +136,8 @@ impl Filter {
         true
     }
 
-    /// Whether some pattern of the option matches the text: the name of a class for the options over events,
-    /// a category or a thread text for the others. It takes no memory.
+    /// Whether some pattern of the option matches the text: a class name for the options for events, a
+    /// category or a thread text for the others. It allocates nothing.
     pub fn matches(&self, side: Side, text: &str) -> bool
         ensures { result ≡ some_matches self.now side (chars text.now) }
     {
@@ -151,7 +150,7 @@ impl Filter {
         }
     }
 
-    /// Whether the options over events allow the class name.
+    /// Whether the options for events allow the class name.
     fn allows_event(&self, name: &str) -> bool
         ensures { result ≡ allows (event_matches (chars name.now)) self.now.include_events self.now.exclude_events }
     {
@@ -168,7 +167,7 @@ impl Filter {
         true
     }
 
-    /// Whether the options over categories allow these.
+    /// Whether the options for categories allow these categories.
     fn allows_categories(&self, categories: &Words) -> bool
         ensures { result ≡ allows (category_matches categories.now) self.now.include_categories self.now.exclude_categories }
     {

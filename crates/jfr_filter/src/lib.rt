@@ -1,9 +1,9 @@
-//! Patterns, and which events a filter keeps.
+//! Filters: which events are kept, by patterns.
 //!
-//! A `Filter` holds the patterns of six options; `keeps` is its rule over an event's class name, its
-//! categories and its thread text, and `allows_class` and `allows_thread` are the two parts of it. `matches`
-//! asks the patterns of one option about one text. Read `specs/Patterns.antt` first: what a pattern matches;
-//! then `specs/Filters.antt`: which events are kept.
+//! A `Filter` holds the patterns of six options. `keeps` decides by an event's class name, its categories and
+//! its thread text; `allows_class` and `allows_thread` are the two parts of it. `matches` tests one text with
+//! the patterns of one option. Read `specs/Patterns.antt` first, for what a pattern matches, and then
+//! `specs/Filters.antt`, for which events are kept.
 #![tactic(auto)]
 
 mod filter;

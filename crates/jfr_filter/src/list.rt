@@ -1,4 +1,4 @@
-// A list of patterns: a text cut at each comma.
+//! A list of patterns: a text cut at each comma.
 ghost use Rattle.std.specs.Prelude.{◌≡◌, IfOk};
 ghost use Rattle.std.specs.Str.{chars};
 ghost use Rattle.jfr_filter.specs.Patterns.{patterns_in, has_empty_part};

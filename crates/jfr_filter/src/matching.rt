@@ -1,4 +1,4 @@
-// Whether some pattern of a list matches.
+//! Matching a list of patterns.
 ghost use Rattle.std.specs.Prelude.{◌≡◌, ◌<◌, length, slice_get, Some};
 ghost use Rattle.std.specs.List.{list_any};
 ghost use Rattle.std.specs.Str.{chars};
@@ -9,7 +9,7 @@ ghost use Rattle.jfr_filter.specs.Patterns.{glob};
 use crate::pattern::{glob, simple_name};
 use jfr_base::Words;
 
-/// Whether some pattern matches the class name, or the simple name.
+/// Whether some pattern matches the class name, or the part after its last dot.
 pub(crate) fn any_event(patterns: &Words, name: &str) -> bool
     ensures { result ≡ list_any (event_matches (chars name.now)) patterns.now }
 {
@@ -53,7 +53,7 @@ pub(crate) fn any_text(patterns: &Words, text: &str) -> bool
     false
 }
 
-/// The text of an index of the list.
+/// The text with this index.
 fn text_at(words: &Words, at: usize) -> &str
     requires { at < length words.now }
     ensures { slice_get words.now at ≡ Some (chars result.now) }

@@ -1,17 +1,17 @@
-// Whether a pattern matches a text.
+//! Matching a pattern.
 ghost use Rattle.std.specs.Prelude.{◌≡◌, ◌<◌, ◌∷◌, ◌==◌, ◌||◌, [], length, MatchOption};
 ghost use Rattle.std.specs.Str.{chars};
 ghost use Rattle.jfr_filter.specs.Patterns.{glob, some_suffix, simple_name};
 ghost use Rattle.jfr_filter.specs.Walks.{Goes, IsShorter};
 
-/// Whether the pattern matches the whole text: `*` stands for any run of characters, `?` for exactly
-/// one, and every other character for itself. It takes no memory.
+/// Whether the pattern matches the whole text: `*` matches any run of characters, `?` exactly one, and every
+/// other character itself. It allocates nothing.
 ///
-/// Two positions are kept: the pattern behind the last star, and the text where its present try began. What
-/// stands before the next star is tried from the left, and where it matches first, the later stars can do
-/// as well as further on; so no earlier star is tried again. So a character of the pattern is compared with
-/// one of the text at most once: a pattern of m characters takes at most m times n comparisons over a text
-/// of n, also one of many stars.
+/// Two positions are kept: that in the pattern after the last star, and that in the text at which this part
+/// of the pattern is tried. The part up to the next star is tried from the left. Its first match is the best
+/// one, since it leaves the most text for the later stars, so earlier stars are never tried again. Therefore
+/// each character of the pattern is compared with each of the text at most once: for lengths m and n there
+/// are at most m times n comparisons, however many stars there are.
 pub fn glob(pattern: &str, text: &str) -> bool
     ensures { result ≡ glob (chars pattern.now) (chars text.now) }
 {
@@ -22,7 +22,7 @@ pub fn glob(pattern: &str, text: &str) -> bool
     }
 }
 
-/// Whether the pattern matches some part at the text's end, the whole and the empty one included.
+/// Whether the pattern matches some suffix of the text, including the whole text and the empty one.
 fn some_end(pattern: &str, text: &str) -> bool
     ensures { result ≡ some_suffix (glob (chars pattern.now)) (chars text.now) }
 {
@@ -45,17 +45,17 @@ fn some_end(pattern: &str, text: &str) -> bool
     }
 }
 
-/// How far a pattern goes with a text, up to its first star.
+/// The result of comparing a pattern with a text up to the pattern's first star.
 enum Walk<'a> {
-    /// Both ended.
+    /// The pattern has no star, and matches the whole text.
     Whole,
-    /// They part before a star.
+    /// They differ before a star.
     Fails,
-    /// A star was reached: the pattern after it, and the text there.
+    /// A star was reached: the pattern after it, and the rest of the text.
     Star(&'a str, &'a str),
 }
 
-/// Goes along both while the characters agree.
+/// Compares the two, character by character, up to the pattern's first star.
 fn up_to_star<'a>(pattern: &'a str, text: &'a str) -> Walk<'a>
     ensures goes { Goes (chars pattern.now) (chars text.now) result }
     ensures shorter { IsShorter pattern.now text.now result }
@@ -81,14 +81,14 @@ fn up_to_star<'a>(pattern: &'a str, text: &'a str) -> Walk<'a>
     }
 }
 
-/// Whether a character of a pattern, which is no star, stands for one of the text.
+/// Whether a character of a pattern, which isn't a star, matches one of the text.
 fn agrees(wanted: char, found: char) -> bool
     ensures { result ≡ (wanted == 63 || wanted == found) }
 {
     wanted == '?' || wanted == found
 }
 
-/// The first character, and the text after it; none exactly where the text is empty.
+/// The first character, and the text after it; `None` exactly if the text is empty.
 fn first_of(text: &str) -> Option<(char, &str)>
     ensures first { MatchOption result (chars text.now ≡ []) (λ p. chars text.now ≡ p.0 ∷ chars p.1.now) }
     ensures shorter { MatchOption result (text.now ≡ []) (λ p. length p.1.now < length text.now) }
@@ -98,7 +98,7 @@ fn first_of(text: &str) -> Option<(char, &str)>
     Some((first, left.as_str()))
 }
 
-/// What follows the last dot; the whole name where there is none.
+/// The part of a name after its last dot; the whole name if there is none.
 pub(crate) fn simple_name(name: &str) -> &str
     ensures { chars result.now ≡ simple_name (chars name.now) }
 {

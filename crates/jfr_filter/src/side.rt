@@ -1,12 +1,12 @@
-// The options of a filter, and why a list of patterns is refused.
+//! The options of a filter, and why a list of patterns is refused.
 ghost use Rattle.std.specs.Prelude.{◌≡◌};
 ghost use Rattle.jfr_filter.specs.declared.side.FilterFault.TheVariants.{Memory};
 
 use jfr_base::NoMemory;
 use thiserror::Error;
 
-/// An option of a filter: what its patterns are matched with, and whether an event is kept or dropped where
-/// one matches.
+/// An option of a filter: what its patterns are matched with, and whether events that match are kept or
+/// dropped.
 #[derive(Clone, Copy, Debug, PartialEq, Eq)]
 pub enum Side {
     /// Keeps the events whose class name or simple name matches.
@@ -29,7 +29,7 @@ pub enum FilterFault {
     /// A part of the list is empty.
     #[error("EmptyPattern")]
     EmptyPattern,
-    /// Memory was wanting.
+    /// Memory ran out.
     #[error("Memory")]
     Memory,
 }

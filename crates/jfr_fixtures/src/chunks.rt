@@ -1,9 +1,7 @@
-// Whole chunks.
+//! Whole chunks.
 use crate::records::{CLASSES, NO_CLASSES, NO_POOLS, UNKNOWN};
-use jfr_header::{Header, write_header};
+use jfr_header::{HEADER_LEN, Header, write_header};
 use std::alloc::{AllocError, Global};
-
-const HEADER: usize = 68;
 
 /// The plain chunk: a header, a metadata record without classes, and a checkpoint without pools.
 #[rattlefmt::skip]
@@ -18,7 +16,22 @@ pub const PLAIN: [u8; 103] = [
     0x07, 0x01, 0x00, 0x00, 0x00, 0x00, 0x00,
 ];
 
-/// A chunk of these records, by the places of its last checkpoint and of its metadata record. All else
+/// When a chunk starts and how long it takes, in nanoseconds, and its minor version.
+#[derive(Clone, Copy, Debug)]
+pub struct Times {
+    pub start: u64,
+    pub duration: u64,
+    pub minor: u16,
+}
+
+/// The times of the plain chunk.
+pub const USUAL: Times = Times {
+    start: 1000,
+    duration: 5,
+    minor: 1,
+};
+
+/// A chunk of these records, by the places of its last checkpoint and of its metadata record. Everything else
 /// in its header is as in the plain chunk.
 pub fn chunk_of(
     alloc: Global,
@@ -26,34 +39,56 @@ pub fn chunk_of(
     pools: u64,
     metadata: u64,
 ) -> Result<Vec<u8>, AllocError> {
-    let mut bytes = Vec::from_slice(alloc, [0; HEADER].as_slice())?;
+    chunk_at(alloc, USUAL, records, pools, metadata)
+}
+
+/// The same chunk with these times.
+pub fn chunk_at(
+    alloc: Global,
+    times: Times,
+    records: &[&[u8]],
+    pools: u64,
+    metadata: u64,
+) -> Result<Vec<u8>, AllocError> {
+    let mut bytes = Vec::from_slice(alloc, [0; HEADER_LEN].as_slice())?;
     for record in records {
         bytes.extend_from_slice(record)?;
     }
     let header = Header {
         major: 2,
-        minor: 1,
+        minor: times.minor,
         size: bytes.len() as u64,
         pools,
         metadata,
-        start_nanos: 1000,
-        duration_nanos: 5,
+        start_nanos: times.start,
+        duration_nanos: times.duration,
         start_ticks: 0,
         ticks_per_second: 1_000_000_000,
         state: 0,
         padding: 0,
         flags: 1,
     };
-    if let Some(front) = bytes.first_chunk_mut::<HEADER>() {
+    if let Some(front) = bytes.first_chunk_mut::<HEADER_LEN>() {
         write_header(&header, front);
     }
     Ok(bytes)
 }
 
+/// A chunk of a metadata record at 68, and these records after it, of which the one at `last` is the last
+/// checkpoint.
+pub fn with_metadata(
+    alloc: Global,
+    metadata: &[u8],
+    records: &[u8],
+    last: u64,
+) -> Result<Vec<u8>, AllocError> {
+    chunk_of(alloc, &[metadata, records], last, 68)
+}
+
 /// A chunk of the record of the classes at 68, and these records from 325 on, of which the one at `last`
 /// is the last checkpoint.
 pub fn with_classes(alloc: Global, records: &[u8], last: u64) -> Result<Vec<u8>, AllocError> {
-    chunk_of(alloc, &[CLASSES, records], last, 68)
+    with_metadata(alloc, CLASSES, records, last)
 }
 
 /// The plain chunk with another metadata record and another checkpoint.
@@ -62,13 +97,18 @@ pub fn plain_with(
     metadata: &[u8],
     checkpoint: &[u8],
 ) -> Result<Vec<u8>, AllocError> {
-    let last = HEADER.saturating_add(metadata.len()) as u64;
+    let last = HEADER_LEN.saturating_add(metadata.len()) as u64;
     chunk_of(alloc, &[metadata, checkpoint], last, 68)
 }
 
-/// The plain chunk with records that belong to nothing: a metadata record and a checkpoint that the header
-/// doesn't name, and between these and those that it names a record of no class.
+/// The plain chunk with inert records: a metadata record and a checkpoint that aren't at the positions in the
+/// header, and between these and those that are, a record whose type is no class.
 pub fn inert(alloc: Global) -> Result<Vec<u8>, AllocError> {
+    inert_at(alloc, USUAL)
+}
+
+/// The same chunk with these times.
+pub fn inert_at(alloc: Global, times: Times) -> Result<Vec<u8>, AllocError> {
     let records = [NO_CLASSES, NO_POOLS, UNKNOWN, NO_CLASSES, NO_POOLS];
-    chunk_of(alloc, &records, 134, 106)
+    chunk_at(alloc, times, &records, 134, 106)
 }

@@ -1,9 +1,9 @@
-// A chunk whose classes are named as the JDK's.
+//! A chunk whose classes have names of the JDK's.
 
-/// A chunk whose classes are named as the JDK's. Its events are, in order, of `jdk.ThreadPark` on the
-/// thread `main`, of `jdk.JavaMonitorEnter` on the thread of key 2, and of `jdk.CPULoad`, which has no
-/// thread and the categories `Operating System` and `Processor`. The key 2 of threads stands twice: as
-/// `worker-1` in the first of two checkpoints, and as `worker-renamed` in the last.
+/// A chunk whose classes have names of the JDK's. Its events are, in order: `jdk.ThreadPark` on the thread
+/// `main`, `jdk.JavaMonitorEnter` on the thread with key 2, and `jdk.CPULoad`, which has no thread, and the
+/// categories `Operating System` and `Processor`. The key 2 of threads occurs twice: as `worker-1` in the
+/// first of two checkpoints, and as `worker-renamed` in the last.
 #[rattlefmt::skip]
 pub const JDK_LIKE: [u8; 1369] = [
     0x46, 0x4C, 0x52, 0x00, 0x00, 0x02, 0x00, 0x01, 0x00, 0x00, 0x00, 0x00, 0x00, 0x00, 0x05, 0x59,

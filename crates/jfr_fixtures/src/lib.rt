@@ -1,14 +1,25 @@
-//! Small recordings for tests: their records, and chunks that are built of them. Nothing of the program
-//! stands on this crate.
+//! Small recordings for tests: records, and chunks made of them. The program doesn't use this crate.
 #![tactic(auto)]
 
 mod chunks;
 mod jdk_like;
+mod jdk_slim;
+mod null_name;
 mod records;
+mod slim;
 
-pub use chunks::{PLAIN, chunk_of, inert, plain_with, with_classes};
+pub use chunks::{
+    PLAIN, Times, USUAL, chunk_at, chunk_of, inert, inert_at, plain_with, with_classes,
+    with_metadata,
+};
 pub use jdk_like::JDK_LIKE;
+pub use jdk_slim::{
+    ENTER_AND_LOAD_CLASSES, ENTER_CLASSES, LOAD_CLASSES, NO_JDK_EVENT_CLASSES,
+    PARK_AND_ENTER_CLASSES, PARK_CLASSES,
+};
+pub use null_name::jdk_unnamed;
 pub use records::{
     BYTES_LEFT, CLASSES, KEYS, NO_CLASSES, NO_NODES, NO_POOLS, RINGS, STRINGS, STRINGS_SCRUBBED,
     THREE, THREE_SCRUBBED, TWICE, TWICE_SCRUBBED, UNKNOWN, WIDE, WIDE_SCRUBBED,
 };
+pub use slim::{CLASSES_OF_A, CLASSES_OF_B, NO_EVENT_CLASSES};

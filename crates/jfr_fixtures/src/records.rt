@@ -1,4 +1,4 @@
-// Records of chunks. Those of events and nodes stand behind the record of the classes, from 325 on.
+//! Records of chunks. Those of events and nodes follow the record of the classes, from 325 on.
 
 /// A metadata record without classes.
 pub const NO_CLASSES: &[u8] = &[
@@ -6,9 +6,9 @@ pub const NO_CLASSES: &[u8] = &[
     0x74, 0x61, 0, 0, 1, 1, 0, 0,
 ];
 
-/// A metadata record of the classes `long` (5), `java.lang.String` (6), `t.Node` (7) with the fields
-/// `next`, a reference to its own class, and `text`, and the event classes `t.A` (8) with `n`, a `long`,
-/// and `node`, a reference, and `t.B` (9) with `node`.
+/// A metadata record with the classes `long` (5), `java.lang.String` (6), `t.Node` (7) with the fields
+/// `next`, a reference to its own class, and `text`, and the event classes `t.A` (8) with `n`, a `long`, and
+/// `node`, a reference, and `t.B` (9) with `node`.
 pub const CLASSES: &[u8] = &[
     0x81, 0x02, 0x00, 0x00, 0x00, 0x01, 0x18, 0x03, 0x04, 0x72, 0x6F, 0x6F, 0x74, 0x03, 0x08, 0x6D,
     0x65, 0x74, 0x61, 0x64, 0x61, 0x74, 0x61, 0x03, 0x05, 0x63, 0x6C, 0x61, 0x73, 0x73, 0x03, 0x04,
@@ -32,26 +32,26 @@ pub const CLASSES: &[u8] = &[
 /// A checkpoint without pools.
 pub const NO_POOLS: &[u8] = &[7, 1, 0, 0, 0, 0, 0];
 
-/// A record of no class.
+/// A record whose type is no class.
 pub const UNKNOWN: &[u8] = &[3, 0x63, 0xAA];
 
-/// An event of `t.A` with the number 300 and the node 1, one of `t.B` with the node 3, and a checkpoint
-/// with the nodes 1 and 2 in a ring, and 3 and 4 in another.
+/// A `t.A` with the number 300 and the node 1, a `t.B` with the node 3, and a checkpoint with the nodes 1 and
+/// 2 in a ring, and 3 and 4 in another.
 pub const RINGS: &[u8] = &[
     5, 8, 0xAC, 2, 1, 3, 9, 3, 0x1D, 1, 0, 0, 0, 0, 1, 7, 4, 1, 2, 3, 1, 0x70, 2, 1, 3, 1, 0x71, 3,
     4, 3, 1, 0x72, 4, 3, 3, 1, 0x73,
 ];
 
-/// These events, with a byte after the last field of the second event.
+/// As `RINGS`, with a byte after the last field of the second event.
 pub const BYTES_LEFT: &[u8] = &[
     5, 8, 0xAC, 2, 1, 4, 9, 3, 0xFF, 0x1D, 1, 0, 0, 0, 0, 1, 7, 4, 1, 2, 3, 1, 0x70, 2, 1, 3, 1,
     0x71, 3, 4, 3, 1, 0x72, 4, 3, 3, 1, 0x73,
 ];
 
-/// The events alone, and a checkpoint without pools.
+/// As `RINGS`, but with a checkpoint without pools.
 pub const NO_NODES: &[u8] = &[5, 8, 0xAC, 2, 1, 3, 9, 3, 7, 1, 0, 0, 0, 0, 0];
 
-/// The key 1 in two checkpoints. The entry that stands last stays.
+/// The key 1 in two checkpoints. The last entry is in force.
 pub const TWICE: &[u8] = &[
     0x0E, 1, 0, 0, 0, 0, 1, 7, 1, 1, 0, 3, 1, 0x70, 5, 8, 0xAC, 2, 1, 0x16, 1, 0, 0, 0xED, 0xFF,
     0xFF, 0xFF, 0xFF, 0xFF, 0xFF, 0xFF, 0xFF, 0, 1, 7, 1, 1, 0, 3, 1, 0x71,
@@ -77,7 +77,8 @@ pub const THREE_SCRUBBED: &[u8] = &[
     0xFF, 0xFF, 0xFF, 0xFF, 0, 0,
 ];
 
-/// Strings that are keys: 1 is the key 2, and 2 is its own key; nothing leads to 3.
+/// Strings that are keys: string 1 is the key 2, and string 2 is the key 2 itself; nothing refers to string
+/// 3.
 pub const STRINGS: &[u8] = &[
     5, 8, 0xAC, 2, 1, 0x19, 1, 0, 0, 0, 0, 2, 7, 1, 1, 0, 2, 1, 6, 3, 1, 2, 2, 2, 2, 2, 3, 3, 1,
     0x78,
@@ -88,14 +89,14 @@ pub const STRINGS_SCRUBBED: &[u8] = &[
     5, 8, 0xAC, 2, 1, 0x15, 1, 0, 0, 0, 0, 2, 7, 1, 1, 0, 2, 1, 6, 2, 1, 2, 2, 2, 2, 2,
 ];
 
-/// An event and an event of another class, whose nodes have the keys 1 and 3 of strings as texts: 1 is
-/// the key 2, which is its own, and 3 the key 4, which is x.
+/// Two events of different classes, with nodes whose texts are the strings with keys 1 and 3. String 1 is the
+/// key 2, which is its own key; string 3 is the key 4, whose text is x.
 pub const KEYS: &[u8] = &[
     5, 8, 0xAC, 2, 1, 3, 9, 3, 0x20, 1, 0, 0, 0, 0, 2, 7, 2, 1, 0, 2, 1, 3, 0, 2, 3, 6, 4, 1, 2, 2,
     2, 2, 2, 3, 2, 4, 4, 3, 1, 0x78,
 ];
 
-/// The key 1 in two checkpoints, of which the first has a size of nine bytes.
+/// The key 1 in two checkpoints. The size of the first takes nine bytes.
 pub const WIDE: &[u8] = &[
     0x96, 0x80, 0x80, 0x80, 0x80, 0x80, 0x80, 0x80, 0x00, 1, 0, 0, 0, 0, 1, 7, 1, 1, 0, 3, 1, 0x70,
     5, 8, 0xAC, 2, 1, 0x16, 1, 0, 0, 0xE5, 0xFF, 0xFF, 0xFF, 0xFF, 0xFF, 0xFF, 0xFF, 0xFF, 0, 1, 7,

@@ -1,4 +1,4 @@
--- The record of a number, and the one that a place and a type find.
+-- The record with a number, and the one with an offset and a type.
 use Rattle.std.specs.Prelude.{◌≡◌, ℕ, zero, suc, ◌+◌, ◌<◌, ◌≤◌, List, [], ◌∷◌, length, slice_get, Option, None, Some, Result, Ok, Err, MatchResult, IfSome, option_and_then, is_some, ◌==◌, ◌&&◌, Bool, true, false, if◌then◌else◌}
 use Rattle.std.proofs.Common.{ap, arith, refl, sym, ◌∙◌, subst, get_or, inl, inr, ◌⊎◌, Ordering, Less, Equal, Greater}
 use Rattle.std.proofs.lemmas.Bool.{cases_lt}
@@ -83,7 +83,7 @@ there_found all at t n o (Ok m) rising s is g =
     let f = found_in all at (Ok n) rising (subst (λ (k : Option ℕ). IfSome k (λ i. IsBinarySearchResult (λ place. nat_cmp place at) (places_of all) (Ok i))) is s) in
     there_at 68 all n at t rising f.0 f.1 ∙ ap (option_and_then (if_type t)) (sym g)
 
--- No record is at the place where a binary search found none.
+-- No record starts at an offset for which a binary search found none.
 pub there_not_found : (all : List Framed) (at t : ℕ) (r : Result ℕ ℕ) → Rising 68 all → IsBinarySearchResult (λ place. nat_cmp place at) (places_of all) r → result_ok r ≡ None → record_there all at t ≡ None
 there_not_found all at t (Ok n) rising s is = cc
 there_not_found all at t (Err n) rising s is =
@@ -104,7 +104,7 @@ is_no_type t r e = let f : (r.type_id == t) ≡ false = by_test (r.type_id == t)
     by_test true g = absurd (e (grind (arith, g)))
     by_test false g = refl
 
--- A record starts there where one is found.
+-- A record that is found starts at the offset.
 pub starts_there : (rs : List Framed) (at t : ℕ) → is_some (record_there rs at t) ≡ starts_at rs at t
 starts_there [] at t = refl
 starts_there (r ∷ rs) at t = by_test ((r.at == at) && (r.type_id == t)) refl (starts_there rs at t)

@@ -9,7 +9,7 @@ use Rattle.jfr_frame.specs.Laws.{HasOneFraming, IsComputed}
 use Rattle.jfr_frame.specs.Records.{IsRecord, record_end, Tiles, AreRecords, FrameFlaw, NoRecord, record_at, before_records, records_by, records_within, records_of}
 use Rattle.jfr_frame.proofs.RecordLaws.{record_stands, record_none, some_bytes, tiles_one, records_ok, records_err}
 
--- Records cover the bytes from p up to the flaw, and none stands there.
+-- Records cover the bytes from p up to the flaw, where none starts.
 pub record Stops (c : List ℕ) (p : ℕ) (flaw : Flaw) : Type 0 where
   pub before : (rs : List Framed) × Tiles c p rs flaw.offset
   pub more : flaw.offset < length c

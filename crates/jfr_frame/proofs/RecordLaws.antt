@@ -15,14 +15,14 @@ use Rattle.jfr_frame.specs.Records.{IsRecord, record_end, Tiles, AreRecords, NoR
 pub framed_path : (r s : Framed) → r.at ≡ s.at → r.size ≡ s.size → r.type_at ≡ s.type_at → r.type_id ≡ s.type_id → r.body ≡ s.body → r ≡ s
 framed_path r s a b c d e = λ i. record { at = a i; size = b i; type_at = c i; type_id = d i; body = e i }
 
--- At one place stands one record.
+-- At most one record starts at an offset.
 pub record_one : (c : List ℕ) (r s : Framed) → IsRecord c r → IsRecord c s → r.at ≡ s.at → r ≡ s
 record_one c r s p q e =
     let a = int_one c r.at r.type_at s.type_at r.size s.size p.size_spelled (rw e q.size_spelled) in
     let b = int_one c r.type_at r.body s.body r.type_id s.type_id p.type_spelled (rw a.0 q.type_spelled) in
     framed_path r s e a.1 a.0 b.1 b.0
 
--- The record that is computed stands there.
+-- The record that is computed is there.
 covers_within : (c : List ℕ) (at : ℕ) (size id : Var) (r : Framed) → covering c at size id ≡ Some r → (id.end ≤ at + size.value) × (at + size.value ≤ length c) × (record { at = at; size = size.value; type_at = size.end; type_id = id.value; body = id.end } ≡ r)
 covers_within c at size id r e = by_test (nat_le id.end (at + size.value)) refl (nat_le (at + size.value) (length c)) refl e
   where
@@ -46,7 +46,7 @@ record_stands c at r h e = by_size (int_at c at (length c)) refl e
     by_size None f g = cc
     by_size (Some size) f g = by_type size (int_found c at (length c) size h (omega arith) f) (int_at c size.end (length c)) refl g
 
--- Where none is computed, none stands.
+-- If none is computed, there is none.
 pub record_none : (c : List ℕ) (at : ℕ) → at ≤ length c → record_at c at ≡ None → NoRecord c at
 unfolding record_at
 record_none c at h e r a p = by_size (int_at c at (length c)) refl e
@@ -116,7 +116,7 @@ pub tiles_more : (c : List ℕ) (p q : ℕ) (rs : List Framed) (r : Framed) → 
 tiles_more c p q [] r t e s = (e ∙ sym t, s, refl)
 tiles_more c p q (x ∷ rs) r t e s = (t.0, t.1, tiles_more c (record_end x) q rs r t.2 e s)
 
--- A record that stands there is the one computed.
+-- A record that is there is the one computed.
 pub record_found : (c : List ℕ) (p : ℕ) (r : Framed) → r.at ≡ p → IsRecord c r → record_at c p ≡ Some r
 record_found c p r a s = by_found (record_at c p) refl
   where
@@ -167,7 +167,7 @@ records_ok c rs t =
     at_end zero i = absurd (omega arith)
     at_end (suc m) i = let l : nat_le (length c) (length c) ≡ true = grind arith in rw l (onto_ok rs)
 
--- Where records end early, the flaw is computed.
+-- If records end early, the flaw is computed.
 pub records_err : (c : List ℕ) (rs : List Framed) (o : ℕ) → 68 ≤ length c → Tiles c 68 rs o → o < length c → record_at c o ≡ None → records_of c ≡ Err (record { offset = o; reason = RecordSize })
 unfolding records_of
 records_err c rs o h t i e =

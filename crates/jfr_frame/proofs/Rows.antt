@@ -72,7 +72,7 @@ inert_framed : records_of inert ≡ Ok inert_records
 unfolding records_of record_at int_at
 inert_framed = refl
 
--- Without its last byte, no record stands where the checkpoint was.
+-- Without its last byte, the checkpoint is no longer a record.
 plain_cut : records_of (take 102 plain) ≡ Err (record { offset = 96; reason = RecordSize })
 unfolding records_of record_at int_at
 plain_cut = refl

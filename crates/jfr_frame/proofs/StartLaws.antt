@@ -65,7 +65,7 @@ kept_parts c all n s r k =
     let h = head_short c r k.stands in
     subst (λ (z : Start). (z.at ≡ r.at) × (z.at + z.type_at ≡ r.type_at) × (z.at + z.body ≡ r.body) × (z.type_id ≡ min r.type_id (2 ^ 16 - 1))) (sym k.start) (refl, omega (arith, h.0), omega (arith, h.0, h.1), refl)
 
--- So its type and its body stand in the chunk.
+-- So its type and its body start within the chunk.
 pub parts_fit : (c : List ℕ) (all : List Framed) (n : ℕ) (s : Start) (r : Framed) → Keeps c all n s r → (s.at + s.type_at ≤ length c) × (s.at + s.body ≤ length c)
 parts_fit c all n s r k =
     let p = kept_parts c all n s r k in
@@ -82,7 +82,7 @@ narrow_type c all n s r k narrow = by_size (kept_parts c all n s r k).3 (cases_l
     by_size e (inl i) = let m : min r.type_id (2 ^ 16 - 1) ≡ r.type_id = grind arith in e ∙ m
     by_size e (inr i) = let m : min r.type_id (2 ^ 16 - 1) ≡ 2 ^ 16 - 1 = grind arith in absurd (narrow (e ∙ m))
 
--- Its type is spelled where its place is kept.
+-- Its type is spelled at the offset that is kept.
 pub type_there : (c : List ℕ) (all : List Framed) (n : ℕ) (s : Start) (r : Framed) → Keeps c all n s r → IntAt c (s.at + s.type_at) r.body r.type_id
 type_there c all n s r k = subst (λ p. IntAt c p r.body r.type_id) (sym (kept_parts c all n s r k).1) k.stands.type_spelled
 

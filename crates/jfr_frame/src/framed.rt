@@ -1,4 +1,4 @@
-// One record of a chunk.
+//! One record of a chunk.
 ghost use Rattle.std.specs.Prelude.{ℕ, ◌≡◌, ◌≢◌, ◌+◌, ◌^◌, ◌<◌, ◌≤◌, ◌↔◌, length, None, Some, Ok, IfOk, IfErr, IfSome, MatchResult};
 ghost use Rattle.jfr_base.specs.Formats.{int_at};
 ghost use Rattle.jfr_base.specs.Integer.{IntAt};
@@ -6,18 +6,24 @@ ghost use Rattle.jfr_base.specs.declared.reason.Reason.TheVariants as reasons;
 
 use jfr_base::{Flaw, Reason, Var, read_var, read_within};
 
-/// A record as it was found (FORMAT.md, Records). Offsets count from the chunk's first byte.
+/// The type of metadata records.
+pub const METADATA_TYPE: u64 = 0;
+
+/// The type of checkpoints.
+pub const CHECKPOINT_TYPE: u64 = 1;
+
+/// A record as it was found (docs/FORMAT.md, Records). Offsets count from the chunk's first byte.
 #[derive(Clone, Copy, Debug, PartialEq, Eq)]
 pub struct Framed {
     /// The offset of its first byte.
     pub at: usize,
-    /// How many bytes the whole record has, those of the size included.
+    /// The length of the whole record in bytes, including its size and its type.
     pub size: usize,
-    /// The offset of its type, which stands behind the size.
+    /// The offset of its type, which follows the size.
     pub type_at: usize,
-    /// 0 for metadata, 1 for a checkpoint, else the id of an event class, if there is one with that id.
+    /// `METADATA_TYPE`, `CHECKPOINT_TYPE`, or the id of an event class, if there is one with this id.
     pub type_id: u64,
-    /// The offset of its body, which stands behind the type.
+    /// The offset of its body, which follows the type.
     pub body: usize,
 }
 
@@ -34,13 +40,13 @@ impl Framed {
 
 ghost use Rattle.jfr_frame.specs.Records.{covering, IsRecord, NoRecord, record_at, record_end};
 
-/// How many bytes the size and the type of a usual record take at most. The JDK writes a size in one byte
-/// or pads it to four, and nearly all types take one or two.
+/// The most bytes that the size and the type of a usual record take. The JDK writes a size in one byte or
+/// pads it to four, and nearly all types take one byte or two.
 const USUAL_HEAD: usize = 6;
 
 /// The record that starts at the offset `at`; `None` exactly at the chunk's end. It is refused as
-/// `RecordSize`, at `at`, exactly where its size or its type doesn't end within the chunk, or the size is
-/// below its own two integers or past the chunk's end.
+/// `RecordSize`, at `at`, exactly if its size or its type doesn't end within the chunk, or the size is less
+/// than these two take, or reaches past the chunk's end.
 #[inline(always)]
 pub fn next_record(chunk: &[u8], at: usize) -> Result<Option<Framed>, Flaw>
     requires { at ≤ length chunk.now }
@@ -48,7 +54,7 @@ pub fn next_record(chunk: &[u8], at: usize) -> Result<Option<Framed>, Flaw>
     ensures ok { IfOk result (λ found. IfSome found (λ r. (r.at ≡ at) × IsRecord chunk.now r)) }
     ensures refused { IfErr result (λ flaw. (flaw ≡ record { offset = at; reason = reasons.RecordSize }) × (at < length chunk.now) × NoRecord chunk.now at) }
 
-    // By computing: what the definition gives.
+    // The answer that `record_at` computes.
     ensures exact { at < length chunk.now → MatchResult result (λ found. (found ≡ record_at chunk.now at) × (found ≢ None)) (λ flaw. record_at chunk.now at ≡ None) }
 {
     if at == chunk.len() {
@@ -63,14 +69,14 @@ pub fn next_record(chunk: &[u8], at: usize) -> Result<Option<Framed>, Flaw>
     }
 }
 
-/// The size and the type at the front of a record.
+/// The size and the type with which a record starts.
 #[derive(Clone, Copy)]
 struct Head {
     size: Var,
     type_id: Var,
 }
 
-/// The record that starts there, if one does.
+/// The record that starts at the offset `at`, if one does.
 #[inline(always)]
 #[tactic(auto, unfolding(crate::specs::Records::record_at))]
 fn framed_at(chunk: &[u8], at: usize) -> Option<Framed>
@@ -83,8 +89,8 @@ fn framed_at(chunk: &[u8], at: usize) -> Option<Framed>
     }
 }
 
-/// A record whose size and type are spelled in any number of bytes. What the call out of line gives is
-/// taken apart in a function of its own, so that the fast path's result stays in registers.
+/// A record whose size and type are spelled in any number of bytes. The result of the call out of line is
+/// unpacked in a function of its own, so that the fast path's result stays in registers.
 #[inline(always)]
 fn unusual_at(chunk: &[u8], at: usize) -> Option<Framed>
     requires { at < length chunk.now }
@@ -93,7 +99,7 @@ fn unusual_at(chunk: &[u8], at: usize) -> Option<Framed>
     Some(unusual_out_of_line(chunk, at)?)
 }
 
-/// A record, out of line, with integers of any length.
+/// As `unusual_at`, out of line.
 #[cold]
 #[inline(never)]
 #[tactic(auto, unfolding(crate::specs::Records::record_at))]
@@ -106,8 +112,8 @@ fn unusual_out_of_line(chunk: &[u8], at: usize) -> Option<Framed>
     framed_by(chunk, at, Head { size, type_id })
 }
 
-/// The size and the type that are spelled there, where both are usual and enough bytes are left for any
-/// usual ones. So the chunk's end is asked for once, and not at each byte.
+/// The size and the type at the offset `at`, if both are usual and `USUAL_HEAD` bytes are left. So the
+/// chunk's end is checked once, and not for each byte.
 #[inline(always)]
 fn usual_head(chunk: &[u8], at: usize) -> Option<Head>
     requires { at < length chunk.now }
@@ -122,7 +128,7 @@ fn usual_head(chunk: &[u8], at: usize) -> Option<Head>
     Some(Head { size, type_id })
 }
 
-/// The size that is spelled there, where it has one byte or four.
+/// The size at the offset `at`, if it has one byte or four.
 #[inline(always)]
 fn usual_size(chunk: &[u8], at: usize) -> Option<Var>
     requires room { at + 4 ≤ length chunk.now }
@@ -148,7 +154,7 @@ fn usual_size(chunk: &[u8], at: usize) -> Option<Var>
     })
 }
 
-/// The type that is spelled there, where it has one byte or two.
+/// The type at the offset `at`, if it has one byte or two.
 #[inline(always)]
 fn usual_type(chunk: &[u8], at: usize) -> Option<Var>
     requires room { at + 2 ≤ length chunk.now }
@@ -196,7 +202,8 @@ fn framed_by(chunk: &[u8], at: usize, head: Head) -> Option<Framed>
     })
 }
 
-/// The type that is spelled there, out of line, for the rare one that is too large to be kept.
+/// The type at the offset `type_at`, read again because it is too large to be kept. Such types are rare, so
+/// this is out of line.
 #[cold]
 #[inline(never)]
 pub(crate) fn wide_type(chunk: &[u8], type_at: usize) -> u64

@@ -1,5 +1,5 @@
-// All records of a chunk.
-ghost use Rattle.std.specs.Prelude.{◌≡◌, ◌<◌, ◌≤◌, length, option_map, slice_get, Ok, Some, IfOk, IfErr};
+//! All records of a chunk.
+ghost use Rattle.std.specs.Prelude.{◌≡◌, ◌<◌, ◌≤◌, ◌↔◌, [], length, option_map, slice_get, Ok, Some, IfOk, IfErr, IsTrue};
 ghost use Rattle.std.specs.List.Sorted.{IsBinarySearchResult};
 ghost use Rattle.std.specs.Ordering.{nat_cmp};
 ghost use Rattle.jfr_frame.specs.Records.{AreRecords, Rising, places_of, record_end, starts_at, record_there, records_of};
@@ -9,11 +9,11 @@ ghost use Rattle.jfr_frame.specs.Starts.{start_of};
 use crate::framed::wide_type;
 use crate::start::{Start, WIDE};
 use crate::{FrameRoom, Framed, next_record};
-use jfr_base::ReadFault;
+use jfr_base::{HEADER_LEN, ReadFault};
 use std::alloc::Global;
 use std::marker::Model;
 
-/// The records of a chunk, in order. Of each only its start is kept, which says all of it but the size:
+/// The records of a chunk, in order. Only the start of each is kept, which gives everything except the size:
 /// a record ends where the next one starts, or at the chunk's end.
 #[derive(Drop)]
 pub struct Frames<'a> {
@@ -34,22 +34,22 @@ impl<'a> Model for Frames<'a> {
 }
 
 impl<'a> Frames<'a> {
-    /// Reads the records of a chunk. They are refused as `RecordSize` at the first offset where none
-    /// stands. `Memory` where memory is wanting, and for 2^32 bytes or more, whose offsets a start can't
-    /// hold; a chunk is far below that size.
+    /// Reads the records of a chunk. They are refused as `RecordSize` at the first offset where no record
+    /// starts. `Memory` if memory runs out, and for 2^32 bytes or more, whose offsets a start can't hold;
+    /// chunks are far smaller.
     pub fn read(alloc: Global, chunk: &'a [u8]) -> Result<Frames<'a>, ReadFault>
         requires { 68 ≤ length chunk.now }
         ensures ok { IfOk result (λ rs. AreRecords chunk.now rs) }
         ensures refused { IfErr result (λ fault. RefusedAt chunk.now fault) }
 
-        // By computing: what the definition gives.
+        // The answer that `records_of` computes.
         ensures exact { IfOk result (λ rs. records_of chunk.now ≡ Ok rs) }
     {
         Frames::read_in(FrameRoom::new(alloc), chunk)
     }
 
     /// Reads the records of a chunk as `read` does, and keeps their starts in the memory of an earlier
-    /// chunk's, which are given up.
+    /// chunk's starts, which are dropped.
     pub fn read_in(room: FrameRoom, chunk: &'a [u8]) -> Result<Frames<'a>, ReadFault>
         requires { 68 ≤ length chunk.now }
         ensures ok { IfOk result (λ rs. AreRecords chunk.now rs) }
@@ -61,7 +61,7 @@ impl<'a> Frames<'a> {
         }
         let mut starts = room.starts;
         starts.clear();
-        let mut at = 68;
+        let mut at = HEADER_LEN;
         'records: while let Some(record) = next_record(chunk, at)? {
             starts.push(Start::of(record))?;
             at = record.end();
@@ -69,7 +69,7 @@ impl<'a> Frames<'a> {
         Ok(Frames { chunk, starts })
     }
 
-    /// The memory of the starts, to be used again for the next chunk.
+    /// The memory of the starts, for use with the next chunk.
     pub fn into_room(self) -> FrameRoom
         ensures { result ≡ places_of self.entry }
     {
@@ -78,14 +78,21 @@ impl<'a> Frames<'a> {
         }
     }
 
-    /// How many records there are.
+    /// The number of records.
     pub fn len(&self) -> usize
         ensures { result ≡ length self.now }
     {
         self.starts.len()
     }
 
-    /// The record of a number, from 0; `None` exactly past the end.
+    /// Whether there is no record.
+    pub fn is_empty(&self) -> bool
+        ensures { IsTrue result ↔ (self.now ≡ []) }
+    {
+        self.starts.is_empty()
+    }
+
+    /// The record with this number, from 0, if there is one.
     #[inline(always)]
     pub fn get(&self, number: usize) -> Option<Framed>
         ensures { result ≡ slice_get self.now number }
@@ -97,7 +104,7 @@ impl<'a> Frames<'a> {
         }
     }
 
-    /// The record of a number, from 0.
+    /// The record with this number, from 0.
     #[inline(always)]
     pub fn at(&self, number: usize) -> Framed
         requires { number < length self.now }
@@ -121,7 +128,7 @@ impl<'a> Frames<'a> {
         }
     }
 
-    /// What is kept of the record of a number; `None` exactly past the end.
+    /// What is kept of the record with this number, if there is one.
     #[inline(always)]
     fn start(&self, number: usize) -> Option<Start>
         ensures { result ≡ option_map start_of (slice_get self.now number) }
@@ -129,7 +136,7 @@ impl<'a> Frames<'a> {
         self.starts.get(number).copied()
     }
 
-    /// The offset after the record of a number.
+    /// The offset after the record with this number.
     #[inline(always)]
     fn end(&self, number: usize) -> usize
         requires { number < length self.now }
@@ -142,7 +149,7 @@ impl<'a> Frames<'a> {
         }
     }
 
-    /// The offset of the record of a number, from 0; `None` exactly past the end. The record is not read.
+    /// The offset of the record with this number, from 0, if there is one. The record is not read.
     #[inline]
     pub fn place(&self, number: usize) -> Option<usize>
         ensures { result ≡ option_map (λ r. r.at) (slice_get self.now number) }
@@ -150,7 +157,8 @@ impl<'a> Frames<'a> {
         Some(self.start(number)?.at as usize)
     }
 
-    /// The number of the record that starts at the offset `at`, or else of the first one past it.
+    /// `Ok` with the number of the record that starts at the offset `at`; if there is none, `Err` with that
+    /// of the first record after it.
     fn number_at(&self, at: usize) -> Result<usize, usize>
         ensures position { IsBinarySearchResult (λ place. nat_cmp place at) (places_of self.now) result }
         ensures order { Rising 68 self.now }
@@ -159,7 +167,7 @@ impl<'a> Frames<'a> {
             .binary_search_by_key(&at, |start| start.at as usize)
     }
 
-    /// The record of that type that starts at the offset `at`; `None` exactly where none does.
+    /// The record of this type that starts at the offset `at`, if there is one.
     pub fn find(&self, at: u64, type_id: u64) -> Option<Framed>
         ensures { result ≡ record_there self.now at type_id }
     {
@@ -172,7 +180,7 @@ impl<'a> Frames<'a> {
         }
     }
 
-    /// Whether a record of that type starts at the offset `at`.
+    /// Whether a record of this type starts at the offset `at`.
     pub fn starts_at(&self, at: u64, type_id: u64) -> bool
         ensures { result ≡ starts_at self.now at type_id }
     {

@@ -9,6 +9,6 @@ pub mod laws;
 mod room;
 mod start;
 
-pub use framed::{Framed, next_record};
+pub use framed::{CHECKPOINT_TYPE, Framed, METADATA_TYPE, next_record};
 pub use frames::Frames;
 pub use room::FrameRoom;

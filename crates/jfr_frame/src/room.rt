@@ -1,12 +1,12 @@
-// Memory for the records of a chunk, used again from chunk to chunk.
+//! Memory for the records of a chunk, which is used again for the next chunk.
 ghost use Rattle.std.specs.Prelude.{◌≡◌, []};
 
 use crate::start::Start;
 use std::alloc::Global;
 use std::marker::Model;
 
-/// The memory that the records of a chunk took, to be used again for those of the next one. Contracts see
-/// the offsets at which they started.
+/// The memory of a chunk's records, for use with those of the next chunk. Contracts see the offsets at which
+/// they started.
 #[derive(Drop)]
 pub struct FrameRoom {
     pub(crate) starts: Vec<Start>,
@@ -22,7 +22,7 @@ impl Model for FrameRoom {
 }
 
 impl FrameRoom {
-    /// No memory yet, as before the first chunk.
+    /// No memory, as before the first chunk. It allocates nothing.
     pub fn new(alloc: Global) -> FrameRoom
         ensures { result ≡ [] }
     {
@@ -31,7 +31,7 @@ impl FrameRoom {
         }
     }
 
-    /// Gives up the records, and keeps their memory.
+    /// Drops the records, and keeps their memory.
     pub fn clear(&mut self)
         ensures { self.new ≡ [] }
     {

@@ -1,24 +1,24 @@
-// What is kept of a record.
+//! What is kept of a record.
 ghost use Rattle.std.specs.Prelude.{◌≡◌, ◌+◌, ◌^◌, ◌<◌, ◌≤◌};
 ghost use Rattle.jfr_frame.specs.Starts.{start_of};
 
 use crate::Framed;
 
-/// What is kept of a record: where it starts, its type, and how far behind its start its type and its
-/// body stand. A chunk has so many records that this is kept short: in eight bytes.
+/// What is kept of a record: its offset, its type, and how far after its start its type and its body start.
+/// It takes only eight bytes, because a chunk has many records.
 #[derive(Clone, Copy, Debug)]
 pub(crate) struct Start {
-    /// `WIDE` where the type is that large or larger.
+    /// The type, or `WIDE` if the type is that large or larger.
     pub type_id: u16,
     pub type_at: u8,
     /// At most 18, as the size and the type have at most nine bytes each.
     pub body: u8,
-    /// Every offset fits, as a chunk of 2^32 bytes or more isn't read.
+    /// Every offset fits, since a chunk of 2^32 bytes or more isn't read.
     pub at: u32,
 }
 
-/// Stands for a type that is this number or larger; such a type is read from the bytes when it is asked
-/// for.
+/// Kept in place of a type of this number or a larger one. Such a type is read from the chunk when it is
+/// needed.
 pub(crate) const WIDE: u16 = u16::MAX;
 
 impl Start {

@@ -45,7 +45,7 @@ pub front_begins : (rest : List ℕ) (s : ℕ) (f : Bool) → Begins rest (front
 unfolding front
 front_begins rest s f = let h = begins_headed rest (header_flaw (take 68 rest)) refl in let z = empty rest in grind (arith, common_steps, h, z)
 
--- What is cut stands there one by one.
+-- The chunks of a recording can be taken from the front one at a time.
 are_cut_by : (n : ℕ) (rest : List ℕ) (s : ℕ) (f : Bool) (x : Front) → front rest s f ≡ x → Fits rest x → length rest < suc n
     → ((r : List ℕ) (t : ℕ) → length r < n → AreCut (cut_within n r t false).chunks (cut_within n r t false).flaw r t false)
     → AreCut (cut_by x (λ c. cut_within n (drop (length c) rest) (s + length c) false)).chunks (cut_by x (λ c. cut_within n (drop (length c) rest) (s + length c) false)).flaw rest s f
@@ -67,7 +67,7 @@ are_cut rest s f = are_cut_within (suc (length rest)) rest s f (omega arith)
 parts : (rest c : List ℕ) → take (length c) rest ≡ c → rest ≡ c ++ drop (length c) rest
 parts rest c e = sym (take-append-drop (length c) rest) ∙ ap (λ (l : List ℕ). l ++ drop (length c) rest) e
 
--- And what stands there one by one is cut.
+-- Chunks that can be taken from the front one at a time are those of the recording.
 pub cut_is : (cs : List (List ℕ)) (flaw : Option Flaw) (rest : List ℕ) (s : ℕ) (f : Bool) → AreCut cs flaw rest s f → cut rest s f ≡ record { chunks = cs; flaw = flaw }
 cut_is [] None rest s f a = cut_end rest s f a
 cut_is [] (Some b) rest s f a = cut_bad rest s f b a

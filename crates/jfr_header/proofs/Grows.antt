@@ -25,7 +25,7 @@ in_hand count n k room into h i =
     ap (λ (l : List ℕ). take (count + n) (put_mid count k room l)) (sym (take-append-drop n into))
     ∙ put_front count n k room (take n into) (drop n into) h (length-take-le n into i)
 
--- Bytes that were read into the room behind others are in hand.
+-- Bytes that were read into the room after others are added to the buffer.
 pub moved_read : (a d : Option World) (bytes room into : List ℕ) (count n k : ℕ) → take count room ≡ bytes → count ≤ length room → n ≤ length into → d ≡ option_map (taken n) a → IfSome a (Reads n into)
     → Told a d (Moved bytes (take (count + n) (put_mid count k room into)))
 moved_read a d bytes room into count n k is h i e reads =

@@ -61,7 +61,7 @@ too_small : header_flaw (edited 15 67) ≡ Some (flaw_at 8 ChunkSize)
 unfolding header_flaw
 too_small = refl
 
-too_large : header_flaw (edited 12 16) ≡ Some (flaw_at 8 ChunkSize)
+too_large : header_flaw (edited 12 64) ≡ Some (flaw_at 8 ChunkSize)
 unfolding header_flaw
 too_large = refl
 

@@ -92,7 +92,7 @@ pub sized_whole : (x : List ℕ) (n : ℕ) → n ≤ length x → sized x n ≡ 
 sized_whole x n h = grind (arith, common_steps)
 
 -- A header without flaws names a size within the bounds.
-pub size_bounds : (h : List ℕ) → header_flaw h ≡ None → (68 ≤ size_of h) × (size_of h < 2 ^ 28)
+pub size_bounds : (h : List ℕ) → header_flaw h ≡ None → (68 ≤ size_of h) × (size_of h < 2 ^ 30)
 unfolding header_flaw
 size_bounds h e = grind (arith, common_steps)
 
@@ -142,7 +142,7 @@ failed_first bytes w v m h = (bytes, took_of bytes w v m, all_some w.input (λ r
 pub memory_first : (w v : World) → MovedWithin [] 68 w v → TookMost w v
 memory_first w v m = (m.0, took_of m.0 w v m.1, all_some w.input (λ rest. length m.0 ≤ reach rest) (λ rest. let r = reach_least rest in omega (arith, r, m.2)))
 
--- A whole header without flaws stands in hand.
+-- The buffer holds a whole header without flaws.
 pub record Headed (h : List ℕ) (w v : World) : Type 0 where
   pub moved : Moved [] h w v
   pub opened : IsSome v.input
@@ -198,7 +198,7 @@ refuses_all c r bytes w v k e h n = record {
 pub judged_at : (d c : Cutter) (l bytes : List ℕ) (v : Verdict) → d ≡ c → l ≡ bytes → IsJudged l d.start d.given v → IsJudged bytes c.start c.given v
 judged_at d c l bytes v e f j = subst (λ (x : List ℕ). IsJudged x c.start c.given v) f (subst (λ (x : Cutter). IsJudged l x.start x.given v) e j)
 
--- Where nothing was in hand after the last chunk, the recording ended.
+-- If nothing was read after the last chunk, the recording has ended.
 pub judged_end : (c : Cutter) (bytes : List ℕ) (w v : World) → IsJudged bytes c.start c.given verdicts.End → Moved [] bytes w v → (length bytes < 68 → v.input ≡ Some []) → Found c End [] w v
 judged_end c bytes w v judged m ended =
     let less : length bytes < 68 = let z : length bytes ≡ 0 = ap length judged.1 in omega (arith, z) in

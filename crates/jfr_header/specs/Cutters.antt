@@ -1,8 +1,8 @@
--- What a cutter is for its callers.
+-- What contracts see of a cutter.
 use Rattle.std.specs.Prelude.{◌≡◌, ℕ, ◌+◌, ◌<◌, ◌≤◌, ◌^◌, Bool, true, List}
 
--- The bytes of the last chunk; the start and the number of the chunk that comes next; whether a chunk was
--- given; whether every answer so far was a chunk.
+-- The bytes of the last chunk; the start and the number of the next chunk; whether a chunk was given; whether
+-- every answer so far was a chunk.
 pub record Cutter : Type 0 where
   pub bytes : List ℕ
   pub start : ℕ

@@ -3,7 +3,7 @@ use Rattle.std.specs.Prelude.{ℕ, List, [], ◌∷◌, ◌++◌, drop, slice_in
 use Rattle.byteorder.specs.Endian.{big_number, big_bytes}
 use Rattle.jfr_header.specs.declared.header.Header.{Header}
 
--- The number in so many bytes from an offset on.
+-- The number in `count` bytes from an offset on.
 abbrev pub number_at : ℕ → ℕ → List ℕ → ℕ
 number_at at count h = big_number count (drop at h)
 

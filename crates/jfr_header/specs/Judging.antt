@@ -1,4 +1,4 @@
--- What the first bytes of what is left say.
+-- What the first bytes that are left of a recording determine.
 use Rattle.std.specs.Prelude.{◌≡◌, ℕ, ◌<◌, ◌^◌, Bool, true, not, List, [], ◌++◌, length, None}
 use Rattle.jfr_header.specs.Fronts as fronts
 use Rattle.jfr_header.specs.Fronts.{front, header_flaw, size_of}
@@ -6,11 +6,11 @@ use Rattle.jfr_header.specs.Nexts.{is_header}
 use Rattle.jfr_header.specs.declared.judge.Verdict.{Verdict}
 use Rattle.jfr_header.specs.declared.judge.Verdict.TheVariants.{End, Bad, Sized}
 
--- These bytes are left behind the first ones: none, where the first ones are fewer than 68.
+-- The bytes that are left after the first ones: none if the first ones are fewer than 68.
 abbrev pub Follows : List ℕ → List ℕ → Type 0
 Follows bytes left = length bytes < 68 → left ≡ []
 
--- What a verdict says of the first bytes of what is left, which begin at this start of the recording.
+-- What a verdict on the first bytes that are left says, if they start at this byte of the recording.
 abbrev pub IsJudged : List ℕ → ℕ → Bool → Verdict → Type 0
 IsJudged bytes start given End = (given ≡ true) × (bytes ≡ [])
 IsJudged bytes start given (Bad f) =

@@ -1,41 +1,41 @@
--- How bytes are taken from the open input.
+-- How bytes are read from the open input.
 use Rattle.std.specs.Prelude.{◌≡◌, ℕ, ◌≤◌, List, ◌++◌, length, Option, option_map, IfSome}
 use Rattle.jfr_outside.specs.World.{World, State, Told}
 use Rattle.jfr_header.specs.Fronts.{reach}
 
--- Bytes in hand, and then those left of the open input.
+-- The bytes in a buffer, followed by those left of the open input.
 abbrev pub ahead : List ℕ → World → Option (List ℕ)
 ahead bytes w = option_map (λ left. bytes ++ left) w.input
 
--- Bytes in hand became others by taking from the input alone.
+-- Reading from the input, and nothing else, changed the bytes in a buffer from old to new.
 pub record Moved (old new : List ℕ) (w v : World) : Type 0 where
   pub files : v.files ≡ w.files
   pub output : v.output ≡ w.output
   pub kept : ahead new v ≡ ahead old w
 
--- The bytes in hand grew to at most so many, or more were taken and lost.
+-- Bytes were read after those in the buffer, up to `until` in all; the buffer may have lost them since.
 abbrev pub MovedWithin : List ℕ → ℕ → World → World → Type 0
 MovedWithin old until w v = (new : List ℕ) × Moved old new w v × (length new ≤ until)
 
--- These bytes were taken from the open input, and nothing else changed.
+-- These bytes were read from the open input, and nothing else changed.
 pub record Took (bytes : List ℕ) (w v : World) : Type 0 where
   pub files : v.files ≡ w.files
   pub output : v.output ≡ w.output
   pub input : ahead bytes v ≡ w.input
 
--- Bytes were taken from the input, and their number fits how many the header at the front and its chunk
--- have.
+-- Bytes were read from the input, and their number is related by Fits to the length of the header at the
+-- front and its chunk.
 abbrev pub Takes : (ℕ → ℕ → Type 0) → World → World → Type 0
 Takes Fits w v = (bytes : List ℕ) × Took bytes w v × IfSome w.input (λ rest. Fits (length bytes) (reach rest))
 
--- A claim on what a place tells before and after.
+-- A claim about the world of a place before and after, if contracts see it.
 abbrev pub Tells : State → State → (World → World → Type 0) → Type 0
 Tells old new Claim = Told old.told new.told Claim
 
--- A claim on what is left of the open input, where the place tells it.
+-- A claim about what is left of the open input, if contracts see it.
 abbrev pub IfLeft : State → (List ℕ → Type 0) → Type 0
 IfLeft place Claim = IfSome place.told (λ w. IfSome w.input Claim)
 
--- The files and the output stayed.
+-- The files and the output are unchanged.
 abbrev pub IsKept : World → World → Type 0
 IsKept w v = (v.files ≡ w.files) × (v.output ≡ w.output)

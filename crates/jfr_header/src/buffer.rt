@@ -1,4 +1,4 @@
-// Bytes in hand, taken from the open input.
+//! A buffer for bytes that are read from the open input.
 ghost use Rattle.std.specs.Prelude.{take, ◌≡◌, ◌≤◌, ◌<◌, ◌+◌, [], length, vec_len, Some, None, IfOk, OnOk, OnErr, IsErrOf, IsTrue, IfSome, IsSome};
 ghost use Rattle.jfr_outside.specs.Counts.{Counts};
 ghost use Rattle.jfr_header.specs.Taking.{Moved, MovedWithin, Tells};
@@ -7,10 +7,10 @@ use jfr_outside::{Fault, Place};
 use std::alloc::{AllocError, Global};
 use std::marker::Model;
 
-/// By how many bytes a buffer grows at least, where as many are wanted.
+/// The least number of bytes by which a buffer grows, unless fewer are needed.
 const PIECE: usize = 65536;
 
-/// Bytes in hand. Their memory only grows, and what comes next is read straight into it.
+/// Bytes that were read. Their memory only grows, and the next bytes are read straight into it.
 #[derive(Drop)]
 pub struct Buffer {
     room: Vec<u8>,
@@ -27,8 +27,8 @@ impl Model for Buffer {
     ghost invariant = { λ b. b.count ≤ vec_len b.room };
 }
 
-// Makes place behind `count` bytes for at least one more, where none is left. The list grows to at most
-// twice their number, or by `PIECE`, and no further than `until`.
+// Makes room after `count` bytes for at least one more, if there is none. The list grows to at most twice
+// `count`, or by `PIECE`, and no further than `until`.
 fn make_room(room: &mut Vec<u8>, count: usize, until: usize) -> Result<(), AllocError>
     requires count { count ≤ vec_len room.old }
     requires wanted { count < until }
@@ -45,7 +45,7 @@ fn make_room(room: &mut Vec<u8>, count: usize, until: usize) -> Result<(), Alloc
 }
 
 impl Buffer {
-    /// No bytes. It takes no memory.
+    /// An empty buffer. It allocates nothing.
     pub fn new(alloc: Global) -> Buffer
         ensures { result ≡ [] }
     {
@@ -55,29 +55,29 @@ impl Buffer {
         }
     }
 
-    /// How many bytes are in hand.
+    /// The number of bytes.
     pub fn len(&self) -> usize
         ensures { result ≡ length self.now }
     {
         self.count
     }
 
-    /// The bytes in hand.
+    /// The bytes.
     pub fn as_slice(&self) -> &[u8]
         ensures { result.now ≡ self.now }
     {
         &self.room[..self.count]
     }
 
-    /// Lets the bytes go, and keeps their memory.
+    /// Drops the bytes, and keeps their memory.
     pub fn clear(&mut self)
         ensures { self.new ≡ [] }
     {
         self.count = 0;
     }
 
-    // Reads once from the open input, behind the bytes in hand and up to `until`, and says how many bytes
-    // came: none at the input's end.
+    // Reads once from the open input, up to a length of `until`, and returns the number of bytes read: 0 at
+    // the input's end.
     fn read<P: Place>(&mut self, place: &mut P, until: usize) -> Result<usize, Fault>
         requires { length self.old < until }
         ensures moved { Tells (P.state place.old) (P.state place.new) (Moved self.old self.new) }
@@ -99,8 +99,8 @@ impl Buffer {
         Ok(count)
     }
 
-    /// Reads until `until` bytes are in hand, or the input ends. It fails where a read fails and where
-    /// memory is wanting; what was read before stays in hand after a failed read.
+    /// Reads until the buffer has `until` bytes, or the input ends. Fails if a read fails or memory runs out;
+    /// after a failed read the buffer keeps what was read before.
     pub fn fill<P: Place>(&mut self, place: &mut P, until: usize) -> Result<(), Fault>
         requires { length self.old ≤ until }
         ensures ok { OnOk result (Tells (P.state place.old) (P.state place.new) (Moved self.old self.new)) }

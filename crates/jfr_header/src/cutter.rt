@@ -1,4 +1,4 @@
-// Cuts a recording into chunks, one at a time.
+//! Reading a recording chunk by chunk.
 ghost use Rattle.std.specs.Prelude.{◌≡◌, ◌<◌, ◌≤◌, ◌+◌, ◌^◌, [], true, false, None, IsTrue, IfSome};
 ghost use Rattle.jfr_header.specs.Taking.{Took, Takes, Tells, IfLeft, IsKept};
 ghost use Rattle.jfr_header.specs.Nexts.{NextOf, CutOf, Counted, IsDue, IfRefused, answer_to, ahead_of, is_header};
@@ -6,23 +6,24 @@ ghost use Rattle.jfr_header.specs.Nexts.{NextOf, CutOf, Counted, IsDue, IfRefuse
 use crate::buffer::Buffer;
 use crate::ending::with_number;
 use crate::judge::{Verdict, judge};
-use jfr_base::{Reason, Refusal};
+use jfr_base::{HEADER_LEN, Reason, Refusal};
 use jfr_outside::{Fault, Place};
 use std::alloc::Global;
 use std::marker::Model;
 
-/// An answer of the cutter.
+/// What `ChunkCutter::next` found.
 #[derive(Clone, Copy, Debug, PartialEq, Eq)]
 pub enum Cut {
-    /// The next chunk was read whole.
+    /// The next chunk, read whole.
     Chunk,
-    /// The recording ended at a chunk's end, after at least one chunk.
+    /// The end of the recording, after at least one chunk.
     End,
-    /// What is left of the recording is refused. Its chunk is the one that would have come next.
+    /// The rest of the recording is refused. The refusal has the number of the chunk that would have come
+    /// next.
     Refused(Refusal),
     /// A read failed.
     Failed,
-    /// Memory was wanting.
+    /// Memory ran out.
     Memory,
 }
 
@@ -47,9 +48,9 @@ impl Model for ChunkCutter {
 }
 
 impl ChunkCutter {
-    /// A cutter for the input that will be open when a chunk is asked for. The first chunk has the number
-    /// `number` and starts at the byte `start` of the recording; for a whole recording these are 1 and 0.
-    /// It takes no memory.
+    /// A cutter that reads from the input that is open at each call of `next`. The first chunk has the number
+    /// `number` and starts at the byte `start` of the recording; for a whole recording these are 1 and 0. It
+    /// allocates nothing.
     pub fn new(alloc: Global, start: u64, number: u64) -> ChunkCutter
         requires start { start < 2 ^ 62 }
         requires number { number < 2 ^ 62 }
@@ -68,8 +69,8 @@ impl ChunkCutter {
         }
     }
 
-    /// Begins with the input that is open next. Its first chunk comes after the last one that was cut, by
-    /// its number and by where it starts. The room for a chunk's bytes is used again.
+    /// Continues with a new input. The number and the start of its first chunk follow those of the last chunk
+    /// of the input before. The memory for a chunk's bytes is used again.
     pub fn begin_input(&mut self)
         ensures start { self.new.start ≡ self.old.start }
         ensures number { self.new.number ≡ self.old.number }
@@ -82,15 +83,15 @@ impl ChunkCutter {
         self.live = true;
     }
 
-    /// Whether every answer was a chunk since this input was begun.
+    /// Whether every answer for this input so far was a chunk.
     pub fn is_open(&self) -> bool
         ensures { result ≡ self.now.live }
     {
         self.live
     }
 
-    /// The bytes of the last chunk while the cutter is open, and none before the first. After any other
-    /// answer nothing is promised of them.
+    /// The bytes of the last chunk while the cutter is open; empty before the first chunk. After any other
+    /// answer they are unspecified.
     pub fn bytes(&self) -> &[u8]
         ensures { result.now ≡ self.now.bytes }
     {
@@ -105,7 +106,7 @@ impl ChunkCutter {
         self.number - 1
     }
 
-    // Takes the next chunk. `next` calls it, and its further clauses follow from these.
+    // The body of `next`, which derives its further clauses from these.
     fn advance<P: Place>(&mut self, place: &mut P) -> Cut
         ensures cut { CutOf result self.old self.new }
         ensures told { Tells (P.state place.old) (P.state place.new) (NextOf result self.old self.new) }
@@ -116,7 +117,7 @@ impl ChunkCutter {
     {
         self.live = false;
         self.bytes.clear();
-        match self.bytes.fill(place, 68) {
+        match self.bytes.fill(place, HEADER_LEN) {
             Ok(()) => {}
             Err(Fault::Failed) => return Cut::Failed,
             Err(Fault::Memory) => return Cut::Memory,
@@ -146,31 +147,31 @@ impl ChunkCutter {
         Cut::Chunk
     }
 
-    /// Reads the next chunk from the open input: its header, and then as many bytes as that says.
+    /// Reads the next chunk from the open input: its header, and then the rest, by the size in the header.
     pub fn next<P: Place>(&mut self, place: &mut P) -> Cut
         requires { self.old.live ≡ true }
 
-        // What an answer says, in one: of the cutter, and of a place that tells its content.
+        // What each answer says about the cutter, and about a place whose content contracts see.
         ensures cut { CutOf result self.old self.new }
         ensures told { Tells (P.state place.old) (P.state place.new) (NextOf result self.old self.new) }
 
-        // The front of what is left decides, but for faults and want of memory.
+        // The first bytes of what is left decide the answer, except for faults and running out of memory.
         ensures decides { IfLeft (P.state place.old) (λ rest. IsDue result (answer_to self.old.number (ahead_of self.old rest))) }
 
-        // What was taken of it. After a flaw of the header it is the header, and after any other
-        // answer no byte past the header and the chunk that it names.
+        // The bytes that were read: after a flaw of the header only the header, and after any other answer no
+        // byte past the header and its chunk.
         ensures chunk_taken { result ≡ Cut.Chunk → Tells (P.state place.old) (P.state place.new) (Took self.new.bytes) }
         ensures header_taken { IfRefused result (λ r. is_header r.reason ≡ true → Tells (P.state place.old) (P.state place.new) (Takes (λ taken most. taken ≡ 68))) }
         ensures at_most { Tells (P.state place.old) (P.state place.new) (Takes (λ taken most. taken ≤ most)) }
         ensures not_whole { result ≡ Cut.Failed → Tells (P.state place.old) (P.state place.new) (Takes (λ taken most. taken < most)) }
 
-        // Nothing of the place changes but its input, and the count of failed reads after Failed.
+        // Only the input of the place changes, and after Failed the count of failed reads.
         ensures unchanged { Tells (P.state place.old) (P.state place.new) IsKept }
         ensures counts { Counted result (P.state place.old).read_faults (P.state place.new).read_faults }
         ensures writes { (P.state place.new).write_faults ≡ (P.state place.old).write_faults }
         ensures steady { (P.state place.new).steady ≡ (P.state place.old).steady }
 
-        // Over a steady place with an open input no read fails.
+        // On a steady place with an open input no read fails.
         ensures fails { IsTrue ((P.state place.old).steady) → result ≡ Cut.Failed → IfSome (P.state place.old).told (λ w. w.input ≡ None) }
     {
         self.advance(place)

@@ -1,4 +1,4 @@
-// How a command ends.
+//! How a command ends.
 ghost use Rattle.std.specs.Prelude.{◌≡◌};
 ghost use Rattle.jfr_header.specs.Nexts.{at_chunk};
 ghost use Rattle.jfr_header.specs.Endings.{after_read, after_write, after_chunk};
@@ -6,7 +6,7 @@ ghost use Rattle.jfr_header.specs.Endings.{after_read, after_write, after_chunk}
 use jfr_base::{Flaw, ReadFault, Refusal};
 use jfr_outside::{Fault, NoMemory};
 
-/// How a command over recordings ended. The program's exit status says it, too.
+/// How a command over recordings ended. The program's exit status follows from it.
 #[derive(Clone, Copy, Debug, PartialEq, Eq)]
 pub enum Ending {
     /// Everything was done.
@@ -19,7 +19,7 @@ pub enum Ending {
     WriteFault,
     /// A recording needs more parts than `disassemble` may write, 999,999.
     TooManyParts,
-    /// Memory was wanting.
+    /// Memory ran out.
     Memory,
 }
 
@@ -34,7 +34,7 @@ impl From<NoMemory> for Ending {
 }
 
 impl Ending {
-    /// How a command ends at a read that gave up.
+    /// The ending after a read that failed.
     pub fn of_read(fault: Fault) -> Ending
         ensures { result ≡ after_read fault }
     {
@@ -44,7 +44,7 @@ impl Ending {
         }
     }
 
-    /// How a command ends at a write that gave up.
+    /// The ending after a write that failed.
     pub fn of_write(fault: Fault) -> Ending
         ensures { result ≡ after_write fault }
     {
@@ -54,7 +54,7 @@ impl Ending {
         }
     }
 
-    /// How a command ends at a chunk that could not be taken in, by the chunk's number.
+    /// The ending after a chunk that could not be read, by the chunk's number.
     pub fn of_chunk(number: u64, fault: ReadFault) -> Ending
         ensures { result ≡ after_chunk number fault }
     {
@@ -65,7 +65,7 @@ impl Ending {
     }
 }
 
-/// The flaw as that of the chunk of a number.
+/// The refusal with this flaw and this chunk number.
 pub(crate) fn with_number(flaw: Flaw, number: u64) -> Refusal
     ensures { result ≡ at_chunk number flaw }
 {

@@ -1,26 +1,26 @@
-// The 68 bytes of a chunk's header.
+//! The 68 bytes of a chunk's header.
 ghost use Rattle.std.specs.Prelude.{◌≡◌, ◌<◌, ◌≤◌, ◌+◌, ◌^◌, [], ◌∷◌, ◌++◌, ◌↔◌, take, length, None, Some, IfOk, IfErr, IsTrue};
 ghost use Rattle.byteorder.specs.Endian.{big_bytes};
 ghost use Rattle.jfr_header.specs.Headers.{header_of, header_bytes, number_at};
 ghost use Rattle.jfr_header.specs.Fronts.{header_flaw, field_flaw, Whole};
 
 use byteorder::{BigEndian, ByteOrder};
-use jfr_base::{Flaw, Reason};
+use jfr_base::{Flaw, HEADER_LEN, Reason};
 
-/// The bytes with which a chunk begins, `FLR` and a zero, as a big-endian number.
+/// The first four bytes of a chunk, `FLR` and a zero, as a big-endian number.
 const MAGIC: u32 = 0x464C_5200;
 
-/// What the size of a chunk is below, in bytes.
-const SIZE_LIMIT: u64 = 1 << 28;
+/// A chunk has fewer bytes than this.
+const SIZE_LIMIT: u64 = 1 << 30;
 
-/// The header of a chunk (FORMAT.md, Chunk header). Positions are bytes from the chunk's first byte.
+/// The header of a chunk (docs/FORMAT.md, Chunk header). Positions are offsets from the chunk's first byte.
 #[derive(Clone, Copy, Debug, PartialEq, Eq)]
 pub struct Header {
     /// The major version of the format; 2 in every chunk that is accepted.
     pub major: u16,
     /// The minor version; any is accepted.
     pub minor: u16,
-    /// The chunk's size in bytes, the header included.
+    /// The chunk's size in bytes, including the header.
     pub size: u64,
     /// The position of the last checkpoint.
     pub pools: u64,
@@ -32,14 +32,13 @@ pub struct Header {
     pub duration_nanos: u64,
     /// When the chunk starts, in ticks.
     pub start_ticks: u64,
-    /// How many ticks there are in a second.
+    /// The number of ticks in a second.
     pub ticks_per_second: u64,
-    /// 0 where the chunk is finished.
+    /// 0 if the chunk is finished.
     pub state: u8,
-    /// A byte without a meaning, which is kept.
+    /// A byte without meaning, which is preserved.
     pub padding: u8,
-    /// Bit 0: the integers are compressed. Bit 1: it is the last chunk of the recording, which isn't
-    /// checked.
+    /// Bit 0: the integers are compressed. Bit 1: this is the last chunk of the recording; it isn't checked.
     pub flags: u16,
 }
 
@@ -60,7 +59,7 @@ fn u64_at(bytes: &[u8], at: usize) -> u64
 }
 
 // The fields, each at its offset.
-fn fields(bytes: &[u8; 68]) -> Header
+fn fields(bytes: &[u8; HEADER_LEN]) -> Header
     ensures { result ≡ header_of bytes.now }
 {
     Header {
@@ -79,7 +78,7 @@ fn fields(bytes: &[u8; 68]) -> Header
     }
 }
 
-// The first cause in the fields for which a chunk is refused.
+// The first flaw in the fields, if there is one.
 fn flaw_in(header: &Header) -> Option<Flaw>
     ensures { result ≡ field_flaw header.now }
 {
@@ -89,7 +88,7 @@ fn flaw_in(header: &Header) -> Option<Flaw>
         (64, Reason::Unfinished)
     } else if header.flags % 2 == 0 {
         (67, Reason::NotCompact)
-    } else if header.size < 68 || header.size >= SIZE_LIMIT {
+    } else if header.size < HEADER_LEN as u64 || header.size >= SIZE_LIMIT {
         (8, Reason::ChunkSize)
     } else {
         return None;
@@ -97,11 +96,11 @@ fn flaw_in(header: &Header) -> Option<Flaw>
     Some(Flaw { offset, reason })
 }
 
-/// Reads a header. It is refused for the first of these causes: `Magic` for other first bytes, `Version`
-/// for a major version other than 2, `Unfinished` for a state other than 0, `NotCompact` for integers that
-/// aren't compressed, `ChunkSize` for a size below 68 or of 2^28 or more.
+/// Reads a header. It is refused for the first of these reasons that applies: `Magic` if the magic bytes are
+/// wrong, `Version` if the major version isn't 2, `Unfinished` if the state isn't 0, `NotCompact` if the
+/// integers aren't compressed, `ChunkSize` if the size is below 68, or is 2^30 or more.
 #[tactic(auto, unfolding(crate::specs::Fronts::header_flaw))]
-pub fn read_header(bytes: &[u8; 68]) -> Result<Header, Flaw>
+pub fn read_header(bytes: &[u8; HEADER_LEN]) -> Result<Header, Flaw>
     ensures ok { IfOk result (λ header. (header_flaw bytes.now ≡ None) × (header ≡ header_of bytes.now)) }
     ensures refused { IfErr result (λ flaw. header_flaw bytes.now ≡ Some flaw) }
 {
@@ -145,7 +144,7 @@ fn put_u64(into: &mut [u8], at: usize, value: u64)
 }
 
 /// Writes a header, each field at its offset.
-pub fn write_header(header: &Header, into: &mut [u8; 68])
+pub fn write_header(header: &Header, into: &mut [u8; HEADER_LEN])
     ensures layout { into.new ≡ header_bytes header.now }
     ensures read_back { field_flaw header.now ≡ None → (header_flaw into.new ≡ None) × (header_of into.new ≡ header.now) }
 {
@@ -164,11 +163,11 @@ pub fn write_header(header: &Header, into: &mut [u8; 68])
     put_u16(into, 66, header.flags);
 }
 
-/// Whether the bytes are one whole chunk: their header isn't refused, and says as many bytes as there are.
+/// Whether the bytes are one whole chunk: their header isn't refused, and its size is their length.
 pub fn is_cut(bytes: &[u8]) -> bool
     ensures { IsTrue result ↔ Whole bytes.now }
 {
-    let Some(header) = bytes.first_chunk::<68>() else {
+    let Some(header) = bytes.first_chunk::<HEADER_LEN>() else {
         return false;
     };
     match read_header(header) {

@@ -1,27 +1,27 @@
-// What stands at the front of what is left of a recording.
+//! What comes next in a recording, judged by the first bytes that are left.
 ghost use Rattle.std.specs.Prelude.{◌≡◌, ◌≤◌, length};
 ghost use Rattle.jfr_header.specs.Fronts.{flaw_at};
 ghost use Rattle.jfr_header.specs.Judging.{IsJudged};
 
 use crate::read_header;
-use jfr_base::{Flaw, Reason};
+use jfr_base::{Flaw, HEADER_LEN, Reason};
 
 /// A chunk starts below this byte of the recording.
 const START_LIMIT: u64 = 1 << 40;
 
-/// What the first 68 bytes of what is left say, or all of them where fewer are left.
+/// What comes next in a recording, by the first 68 bytes that are left, or by all of them if fewer are left.
 #[derive(Clone, Copy)]
 pub enum Verdict {
     /// The recording ends here.
     End,
     /// No chunk begins here.
     Bad(Flaw),
-    /// A chunk of so many bytes begins here, if so many are left.
+    /// A chunk of this many bytes begins here, if this many are left.
     Sized(usize),
 }
 
-/// Judges what is left of a recording by its first bytes, which begin at the byte `start` of the recording.
-/// `given` says whether a chunk came before.
+/// What comes next in a recording, by the first bytes that are left. They start at the byte `start` of the
+/// recording, and `given` says whether there was a chunk before them.
 pub fn judge(front: &[u8], start: u64, given: bool) -> Verdict
     requires { length front.now ≤ 68 }
     ensures { IsJudged front.now start given result }
@@ -35,7 +35,7 @@ pub fn judge(front: &[u8], start: u64, given: bool) -> Verdict
     if start >= START_LIMIT {
         return bad(0, Reason::TooLong);
     }
-    let Some(header) = front.first_chunk::<68>() else {
+    let Some(header) = front.first_chunk::<HEADER_LEN>() else {
         return bad(front.len() as u64, Reason::ShortHeader);
     };
     match read_header(header) {

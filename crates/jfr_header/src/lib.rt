@@ -15,3 +15,4 @@ pub mod laws;
 pub use cutter::{ChunkCutter, Cut};
 pub use ending::Ending;
 pub use header::{Header, is_cut, read_header, write_header};
+pub use jfr_base::HEADER_LEN;

@@ -10,7 +10,7 @@ all_from_get : {X : Type 0} (P : X → Type 0) (xs : List X) → ((i : ℕ) (x :
 all_from_get P [] f = tt
 all_from_get P (x ∷ xs) f = (f 0 x refl, all_from_get P xs (λ i y e. f (suc i) y e))
 
--- What is found stands in the list.
+-- A member that is found is in the list.
 found_get : {X : Type 0} (t : X → Bool) (xs : List X) (x : X) → find t xs ≡ Some x → (i : ℕ) × (slice_get xs i ≡ Some x)
 found_get t [] x e = cc
 found_get {X = X} t (y ∷ ys) x e = by_test (t y) e (found_get t ys x)

@@ -10,7 +10,7 @@ use Rattle.jfr_pool.specs.declared.link.Link.{Link}
 use Rattle.jfr_pool.specs.Chains.{IsLink, IsChain, StepsTo}
 use Rattle.jfr_chunk.specs.Written.{distance}
 
--- The delta leads to the older checkpoint, or is 0 where there is none.
+-- The delta leads to the older checkpoint, or is 0 if there is none.
 abbrev pub LeadsTo : Option ℕ → Link → Type 0
 LeadsTo None l = l.delta ≡ pos 0
 LeadsTo (Some older) l = StepsTo l.frame.at l.delta older

@@ -62,7 +62,7 @@ link_stands c k rs l pools r i s =
       f,
     )
 
--- The entries of pools that stand.
+-- The entries of pools that are spelled by bytes.
 constants_entries : (c : List ℕ) (k : Classes) (checkpoint number class at : ℕ) (xs : List Constant) (to : ℕ) → pool_check k class ≡ None → Constants c k class at xs to → AllByRecursion (EntryStands c k) (map (entry_of checkpoint number class) xs)
 constants_entries c k checkpoint number class at [] to n s = tt
 constants_entries c k checkpoint number class at (x ∷ xs) to n s =
@@ -144,7 +144,7 @@ later_numbers c k before number (l ∷ ls) es h a =
     subst (NotOf before) (sym a.3)
     (all_append (λ e. (e.checkpoint == before) ≡ false) block a.2 (others number before block (λ q. omega arith) (of_number number 0 a.0)) (later_numbers c k before (number + 1) ls a.2 (omega arith) a.4))
 
--- The entries of one checkpoint, before and behind those of others.
+-- The entries of one checkpoint, between those of others.
 pub block_only : (n : ℕ) (before block later : List EntryAt) → NotOf n before → Of n block → NotOf n later → those_of n (before ++ (block ++ later)) ≡ block
 block_only n before block later a b d =
     let t : EntryAt → Bool = λ e. e.checkpoint == n in
@@ -164,7 +164,7 @@ block_marked n marks before block later a b d =
     ∙ block_only n x (marked more block) (marked last later) (all_marked (λ e. (e.checkpoint == n) ≡ false) marks before a) (all_marked (λ e. e.checkpoint ≡ n) more block b)
     (all_marked (λ e. (e.checkpoint == n) ≡ false) last later d)
 
--- The entries behind those of the checkpoints before.
+-- The entries after those of the checkpoints before.
 record Behind (c : List ℕ) (k : Classes) (whole : List EntryAt) (number : ℕ) (ls : List Link) (before es : List EntryAt) : Type 0 where
   entries : AreEntries c k number ls es
   split : whole ≡ before ++ es

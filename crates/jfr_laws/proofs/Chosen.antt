@@ -17,7 +17,7 @@ use Rattle.jfr_chunk.proofs.TestLaws.{is_eq}
 abbrev pub records_of : List EventAt → List Framed
 records_of es = map (λ e. e.record_of) es
 
--- One of the events starts where a record does.
+-- Whether one of the events starts at the offset of a record.
 abbrev pub is_kept : List EventAt → Framed → Bool
 is_kept kept r = list_any (λ e. e.record_of.at == r.at) kept
 
@@ -48,7 +48,7 @@ none_pass : (rs : List Framed) → filter (λ (r : Framed). false) rs ≡ []
 none_pass [] = refl
 none_pass (r ∷ rs) = none_pass rs
 
--- Of records that rise, those that start where a chosen one does are the chosen ones.
+-- Among rising records, those at the offset of a chosen one are the chosen ones.
 chosen : (flags : List Bool) (p : ℕ) (rs : List Framed) → Rising p rs → filter (λ r. list_any (λ e. e.at == r.at) (marked flags rs)) rs ≡ marked flags rs
 chosen [] p rs r = none_pass rs
 chosen (f ∷ flags) p [] r = refl
@@ -57,7 +57,7 @@ chosen (true ∷ flags) p (x ∷ rs) r =
     rw e (ap (λ z. x ∷ z) (skip_before x.at (x.at + 1) (λ r. list_any (λ e. e.at == r.at) (marked flags rs)) rs (omega arith) r.1 ∙ chosen flags (x.at + 1) rs r.1))
 chosen (false ∷ flags) p (x ∷ rs) r = rw (none_before flags rs (x.at + 1) x.at r.1 (omega arith)) (chosen flags (x.at + 1) rs r.1)
 
--- Records that rise still do from an earlier place on, and where some are left out.
+-- Rising records still rise from an earlier offset on, and if some are left out.
 pub rising_more : (p q : ℕ) (rs : List Framed) → p ≤ q → Rising q rs → Rising p rs
 rising_more p q [] h r = tt
 rising_more p q (x ∷ rs) h r = let i : q ≤ x.at = r.0 in (omega arith, r.1)
@@ -81,14 +81,14 @@ any_map : {X Y : Type 0} (f : X → Y) (test : Y → Bool) (xs : List X) → lis
 any_map f test [] = refl
 any_map f test (x ∷ xs) = ap (λ t. test (f x) || t) (any_map f test xs)
 
--- The events of records whose fields stand are those of these records.
+-- The events of records that have all their fields have these records.
 pub records_of_events : (c : List ℕ) (k : Classes) (rs : List Framed) → AllByRecursion (IsRecord c) rs → AllByRecursion (HasFields c k) rs → records_of (filter_map (event_of c k) rs) ≡ rs
 records_of_events c k [] a h = refl
 records_of_events c k (r ∷ rs) a h =
     ap (λ o. records_of (cons_option (event_by r o) (filter_map (event_of c k) rs))) (reads_computed c (record_end r) a.0.within (value_format k (inline r.type_id)) r.body h.0.0 h.0.1 a.0.covers h.0.2)
     ∙ ap (λ z. r ∷ z) (records_of_events c k rs a.1 h.1)
 
--- Of the records of events, those where a chosen event starts are those of the chosen events.
+-- Among the records of events, those at the offset of a chosen event are the records of the chosen events.
 pub chosen_records : (flags : List Bool) (es : List EventAt) (rs : List Framed) (p : ℕ) → records_of es ≡ rs → Rising p rs → filter (is_kept (marked flags es)) rs ≡ records_of (marked flags es)
 chosen_records flags es rs p e r =
     let m : records_of (marked flags es) ≡ marked flags rs = marked_map (λ (e : EventAt). e.record_of) flags es ∙ ap (marked flags) e in

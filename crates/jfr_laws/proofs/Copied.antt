@@ -1,4 +1,4 @@
--- A record whose bytes are copied: it stands where they do, and its body is read there.
+-- A record whose bytes are copied is a record at their new offset, and its body is read there.
 use Rattle.std.specs.Prelude.{◌≡◌, ℕ, ◌+◌, ◌-◌, ◌≤◌, List, ◌++◌, length, slice_range}
 use Rattle.std.proofs.Common.{ap, arith, refl, sym, ◌∙◌, subst}
 use Rattle.jfr_base.specs.Integer.{IntAt}
@@ -22,7 +22,7 @@ use Rattle.jfr_laws.proofs.ReadBack.{moved_frame}
 pub record_length : (c : List ℕ) (r : Framed) → IsRecord c r → length (record_bytes c r) ≡ r.size
 record_length c r s = range_length c r.at (record_end r) s.within ∙ omega arith
 
--- Where a record stands whose bytes stand at a place.
+-- The record at an offset, if the bytes of a record are copied there.
 abbrev pub copied_to : List ℕ → ℕ → Framed → Framed
 copied_to c at r = moved_frame at r (length (record_bytes c r))
 
@@ -74,7 +74,7 @@ body_copied R f g a c b r at v to s h read =
     let t : at + before + n ≡ at + (to - r.at) = omega arith in
     record { value = i.0; related = i.1; reads = subst (Reads g b (at + length (record_bytes c r)) (at + before) i.0) t i.2; order = o; within = w }
 
--- The fields of an event that is copied stand.
+-- The record of an event that is copied has all its fields.
 pub fields_copied : (c b : List ℕ) (k : Classes) (r : Framed) (at : ℕ) → IsRecord c r → Holds b (length b) at (record_bytes c r) → HasFields c k r → HasFields b k (copied_to c at r)
 fields_copied c b k r at s h f =
     let format = value_format k (inline r.type_id) in

@@ -16,7 +16,8 @@ use Rattle.jfr_pool.proofs.OneLaws.{last_is}
 use Rattle.jfr_pool.proofs.Targets.{hits}
 use Rattle.jfr_chunk.specs.Parts.{Parts}
 use Rattle.jfr_chunk.specs.Meaning.{SameEntry}
-use Rattle.jfr_chunk.specs.Reach.{IsMarked, marked}
+use Rattle.jfr_worklist.specs.Marks.{IsMarked}
+use Rattle.jfr_chunk.specs.Reach.{marked}
 use Rattle.jfr_chunk.specs.Written.{Group, entry_bytes, group_bytes}
 use Rattle.jfr_laws.specs.Laws.{IsCopied, AreCopied}
 use Rattle.jfr_laws.proofs.Marks.{rank, rank_get, rank_order, Ranked, ranked}
@@ -30,7 +31,7 @@ pub record IsCopy (c b : List ℕ) (e f : EntryAt) : Type 0 where
   pub checkpoint : e.checkpoint ≡ f.checkpoint
   pub value : node_bytes c (entry_node e) ≡ node_bytes b (entry_node f)
 
--- Lists that are related one by one, one behind the other.
+-- Lists that are related member by member, one after the other.
 pub each_append : {A B : Type 0} (R : A → B → Type 0) (xs : List A) (ys : List B) (us : List A) (vs : List B) → Each R xs ys → Each R us vs → Each R (xs ++ us) (ys ++ vs)
 each_append R [] [] us vs a b = b
 each_append R [] (y ∷ ys) us vs a b = absurd a
@@ -93,7 +94,7 @@ copied_last p q n (e ∷ es) (f ∷ fs) target a =
     let same : hits e target ≡ hits f target = ap (λ z. (z == target.0) && (e.key == target.1)) a.0.class ∙ ap (λ z. (f.class == target.0) && (z == target.1)) a.0.key in
     ap (λ z. or_later n z (last_from (n + 1) es target)) same ∙ ap (or_later n (hits f target)) (copied_last p q (n + 1) es fs target a.1)
 
--- Copies are in force where the originals are.
+-- Copies are in force if the originals are.
 pub copied_force : (p q : Parts) (es fs : List EntryAt) (target : ℕ × ℕ) → AreCopied p q es fs → number_in_force es target ≡ number_in_force fs target
 unfolding number_in_force
 copied_force p q es fs target a = copied_last p q 0 es fs target a
@@ -120,7 +121,7 @@ marked_force marks es target n e m =
         by_order r h (inl o) = i.last r.place other o h a
         by_order r h (inr o) = let j : rank marks r.place ≤ rank marks n = rank_order marks r.place n o in let u : rank marks r.place ≡ later = r.number_is in omega arith
 
--- Nothing is in force among those that are marked where nothing is.
+-- If no entry is in force, none is among the marked ones.
 marked_none : (n m : ℕ) (marks : List Bool) (es : List EntryAt) (target : ℕ × ℕ) → last_from n es target ≡ None → last_from m (marked marks es) target ≡ None
 marked_none n m [] es target e = refl
 marked_none n m (b ∷ ms) [] target e = refl

@@ -1,4 +1,4 @@
--- A record that stays whole is found again where it is written.
+-- A record that is written whole is found again at the offset where it is written.
 use Rattle.std.specs.Prelude.{◌≡◌, ℕ, ◌+◌, ◌≤◌, Bool, true, false, ◌==◌, List, [], ◌∷◌, length, map, Option, Some, None, is_some}
 use Rattle.std.specs.List.{AllByRecursion, cons_option}
 use Rattle.std.proofs.Common.{ap, arith, refl, sym, ◌∙◌, subst, inl, inr}
@@ -9,59 +9,84 @@ use Rattle.jfr_frame.specs.declared.framed.Framed.{Framed}
 use Rattle.jfr_frame.specs.Records.{IsRecord, record_bytes}
 use Rattle.jfr_frame.proofs.RecordLaws.{record_one}
 use Rattle.jfr_pool.specs.declared.entry.EntryAt.{EntryAt}
-use Rattle.jfr_chunk.specs.Scrub.{OutputRecord, Whole, Chained, Written, output_record_by, written, record_of, moved}
-use Rattle.jfr_chunk.proofs.Members.{In}
+use Rattle.jfr_chunk.specs.Scrub.{OutputRecord, Whole, Chained, Rebuilt, Written, output_record_by, written, record_of, moved}
+use Rattle.jfr_worklist.proofs.Members.{In}
 use Rattle.jfr_chunk.proofs.TestLaws.{is_eq}
 use Rattle.jfr_laws.proofs.Order.{Numbered, numbered_at, output_record_in, output_records_in, found_numbered}
 use Rattle.jfr_laws.proofs.Copied.{copied_to}
-use Rattle.jfr_laws.proofs.OutputRecords.{Deltas, chained_bytes, bytes_from, new_frame, OutputRecordStands}
+use Rattle.jfr_laws.proofs.ReadBack.{moved_frame}
+use Rattle.jfr_laws.proofs.OutputRecords.{Deltas, own_frame, chained_bytes, bytes_from, new_frame, OutputRecordStands}
 
--- What stays of a record stood at its place.
-pub output_record_place : (all : List Numbered) (whole : Framed → Bool) (r : Framed) (s : OutputRecord) → output_record_in all whole r ≡ Some s → (record_of s).at ≡ r.at
-output_record_place all whole r s e = by_case (numbered_at all r.at) refl (whole r) e
+-- What is written for a record was at the record's offset.
+pub output_record_place : (all : List Numbered) (whole : Framed → Bool) (new : Framed → Option (List ℕ)) (r : Framed) (s : OutputRecord) → output_record_in all whole new r ≡ Some s → (record_of s).at ≡ r.at
+output_record_place all whole new r s e = by_case (numbered_at all r.at) refl (whole r) (new r) e
   where
     every : (ts : List Numbered) → AllByRecursion (λ (m : Numbered). Unit {0}) ts
     every [] = tt
     every (t ∷ ts) = (tt, every ts)
 
-    by_case : (o : Option Numbered) → numbered_at all r.at ≡ o → (t : Bool) → output_record_by o t r ≡ Some s → (record_of s).at ≡ r.at
-    by_case (Some l) g t e = let h : Chained l.0 l.1 ≡ s = cc in ap (λ z. (record_of z).at) (sym h) ∙ (found_numbered (λ m. Unit {0}) all r.at l (every all) g).1
-    by_case None g true e = let h : Whole r ≡ s = cc in ap (λ z. (record_of z).at) (sym h)
-    by_case None g false e = cc
+    by_case : (o : Option Numbered) → numbered_at all r.at ≡ o → (t : Bool) (w : Option (List ℕ)) → output_record_by o t w r ≡ Some s → (record_of s).at ≡ r.at
+    by_case (Some l) g t w e = let h : Chained l.0 l.1 ≡ s = cc in ap (λ z. (record_of z).at) (sym h) ∙ (found_numbered (λ m. Unit {0}) all r.at l (every all) g).1
+    by_case None g true None e = let h : Whole r ≡ s = cc in ap (λ z. (record_of z).at) (sym h)
+    by_case None g true (Some x) e = let h : Rebuilt r x ≡ s = cc in ap (λ z. (record_of z).at) (sym h)
+    by_case None g false w e = cc
+
+-- What is written for a record that stays, unchanged or built anew; its bytes, and the record in the output.
+abbrev pub shown : Option (List ℕ) → Framed → OutputRecord
+shown None f = Whole f
+shown (Some x) f = Rebuilt f x
+
+abbrev pub shown_bytes : List ℕ → Option (List ℕ) → Framed → List ℕ
+shown_bytes c None f = record_bytes c f
+shown_bytes c (Some x) f = x
+
+abbrev pub shown_frame : List ℕ → Option (List ℕ) → Framed → ℕ → Framed
+shown_frame c None f at = copied_to c at f
+shown_frame c (Some x) f at = moved_frame at (own_frame x) (length x)
 
 module _ (c : List ℕ) (left : List EntryAt) (k : Classes) (b : List ℕ) where
-  -- The record stands at a place of the output, to which its old place leads.
-  pub record Found (f : Framed) (at : ℕ) (ws : List Written) : Type 0 where
+  -- The record is at an offset in the output, to which its old offset leads.
+  pub record Found (f : Framed) (w : Option (List ℕ)) (at : ℕ) (ws : List Written) : Type 0 where
     pub place : ℕ
     pub from : at ≤ place
-    pub held : Holds b (length b) place (record_bytes c f)
+    pub held : Holds b (length b) place (shown_bytes c w f)
     pub leads : moved ws f.at ≡ place
-    pub listed : In (map (new_frame c left) ws) (copied_to c place f)
+    pub listed : In (map (new_frame c left) ws) (shown_frame c w f place)
 
-  module _ (all : List Numbered) (whole : Framed → Bool) (f : Framed) (f_is : IsRecord c f) (no_link : numbered_at all f.at ≡ None) (output_records : whole f ≡ true) where
+  module _ (all : List Numbered) (whole : Framed → Bool) (new : Framed → Option (List ℕ)) (f : Framed) (f_is : IsRecord c f) (no_link : numbered_at all f.at ≡ None) (output_records : whole f ≡ true) where
     abbrev Left : List Framed → List OutputRecord
-    Left rs = output_records_in all whole rs
+    Left rs = output_records_in all whole new rs
 
     -- It is the first that is written.
-    found_here : (rest : List OutputRecord) (at : ℕ) (older : Option ℕ) → Holds b (length b) at (bytes_from c left at older (Whole f ∷ rest)) → Found f at (written c left at older (Whole f ∷ rest))
-    found_here rest at older h =
+    found_here : (w : Option (List ℕ)) (rest : List OutputRecord) (at : ℕ) (older : Option ℕ) → Holds b (length b) at (bytes_from c left at older (shown w f ∷ rest)) → Found f w at (written c left at older (shown w f ∷ rest))
+    found_here None rest at older h =
         let n : ℕ = length (record_bytes c f) in
         let p = holds_parts b (length b) at (record_bytes c f) (bytes_from c left (at + n) older rest) h in
         record { place = at; from = omega arith; held = p.0; leads = rw (is_eq f.at f.at refl) refl; listed = inl refl }
+    found_here (Some x) rest at older h =
+        let n : ℕ = length x in
+        let p = holds_parts b (length b) at x (bytes_from c left (at + n) older rest) h in
+        record { place = at; from = omega arith; held = p.0; leads = rw (is_eq f.at f.at refl) refl; listed = inl refl }
 
-    -- It is written behind another.
-    found_later : (x : OutputRecord) (ws : List Written) (at n : ℕ) (older : Option ℕ) → ((record_of x).at == f.at) ≡ false → Found f (at + n) ws → Found f at (record { output_record = x; at = at; older = older } ∷ ws)
-    found_later x ws at n older t i =
+    -- It is written after another.
+    found_later : (w : Option (List ℕ)) (x : OutputRecord) (ws : List Written) (at n : ℕ) (older : Option ℕ) → ((record_of x).at == f.at) ≡ false → Found f w (at + n) ws → Found f w at (record { output_record = x; at = at; older = older } ∷ ws)
+    found_later w x ws at n older t i =
         let z : at + n ≤ i.place = i.from in
         record { place = i.place; from = omega arith; held = i.held; leads = rw t i.leads; listed = inr i.listed }
 
+    shown_is : (o : Option Numbered) (t : Bool) (w : Option (List ℕ)) → o ≡ None → t ≡ true → output_record_by o t w f ≡ Some (shown w f)
+    shown_is None true None e g = refl
+    shown_is None true (Some x) e g = refl
+    shown_is None false w e g = cc
+    shown_is (Some l) t w e g = cc
+
     pub found_back : (rs : List Framed) (at : ℕ) (older : Option ℕ) → AllByRecursion (IsRecord c) rs → In rs f → AllByRecursion (OutputRecordStands c left k) (Left rs) → Deltas (is_some older) (Left rs)
-        → Holds b (length b) at (bytes_from c left at older (Left rs)) → Found f at (written c left at older (Left rs))
+        → Holds b (length b) at (bytes_from c left at older (Left rs)) → Found f (new f) at (written c left at older (Left rs))
     found_back [] at older a i s d h = absurd i
-    found_back (r ∷ rs) at older a i s d h = by_place (r.at == f.at) refl i (λ at older i s d h. found_back rs at older a.1 i s d h) (output_record_in all whole r) refl s d h
+    found_back (r ∷ rs) at older a i s d h = by_place (r.at == f.at) refl i (λ at older i s d h. found_back rs at older a.1 i s d h) (output_record_in all whole new r) refl s d h
       where
         Later : Type 0
-        Later = (at : ℕ) (older : Option ℕ) → In rs f → AllByRecursion (OutputRecordStands c left k) (Left rs) → Deltas (is_some older) (Left rs) → Holds b (length b) at (bytes_from c left at older (Left rs)) → Found f at (written c left at older (Left rs))
+        Later = (at : ℕ) (older : Option ℕ) → In rs f → AllByRecursion (OutputRecordStands c left k) (Left rs) → Deltas (is_some older) (Left rs) → Holds b (length b) at (bytes_from c left at older (Left rs)) → Found f (new f) at (written c left at older (Left rs))
 
         same_test : (x y z : ℕ) → (x == y) ≡ false → z ≡ x → (z == y) ≡ false
         same_test x y z h g = rw g h
@@ -70,21 +95,25 @@ module _ (c : List ℕ) (left : List EntryAt) (k : Classes) (b : List ℕ) where
         behind t (inr j) = j
         behind t (inl e) = let u : (r.at == f.at) ≡ true = is_eq r.at f.at (ap (λ (z : Framed). z.at) e) in cc
 
-        by_place : (t : Bool) → (r.at == f.at) ≡ t → In (r ∷ rs) f → Later → (o : Option OutputRecord) → output_record_in all whole r ≡ o
+        by_place : (t : Bool) → (r.at == f.at) ≡ t → In (r ∷ rs) f → Later → (o : Option OutputRecord) → output_record_in all whole new r ≡ o
             → AllByRecursion (OutputRecordStands c left k) (cons_option o (Left rs)) → Deltas (is_some older) (cons_option o (Left rs)) → Holds b (length b) at (bytes_from c left at older (cons_option o (Left rs)))
-            → Found f at (written c left at older (cons_option o (Left rs)))
+            → Found f (new f) at (written c left at older (cons_option o (Left rs)))
         by_place true t i later o q s d h =
             let p : r.at ≡ f.at = grind (arith, nat_tests) in
             let rf : r ≡ f = record_one c r f a.0 f_is p in
-            let w : output_record_in all whole f ≡ Some (Whole f) = ap (λ z. output_record_by z (whole f) f) no_link ∙ ap (λ u. output_record_by None u f) output_records in
-            let e : o ≡ Some (Whole f) = sym q ∙ (ap (output_record_in all whole) rf ∙ w) in
-            subst (λ z. Found f at (written c left at older (cons_option z (Left rs)))) (sym e) (found_here (Left rs) at older (subst (λ z. Holds b (length b) at (bytes_from c left at older (cons_option z (Left rs)))) e h))
+            let w : output_record_in all whole new f ≡ Some (shown (new f) f) = shown_is (numbered_at all f.at) (whole f) (new f) no_link output_records in
+            let e : o ≡ Some (shown (new f) f) = sym q ∙ (ap (output_record_in all whole new) rf ∙ w) in
+            subst (λ z. Found f (new f) at (written c left at older (cons_option z (Left rs)))) (sym e) (found_here (new f) (Left rs) at older (subst (λ z. Holds b (length b) at (bytes_from c left at older (cons_option z (Left rs)))) e h))
         by_place false t i later None q s d h = later at older (behind t i) s d h
         by_place false t i later (Some (Whole x)) q s d h =
             let n : ℕ = length (record_bytes c x) in
             let p = holds_parts b (length b) at (record_bytes c x) (bytes_from c left (at + n) older (Left rs)) h in
-            found_later (Whole x) (written c left (at + n) older (Left rs)) at n older (same_test r.at f.at x.at t (output_record_place all whole r (Whole x) q)) (later (at + n) older (behind t i) s.1 d p.1)
+            found_later (new f) (Whole x) (written c left (at + n) older (Left rs)) at n older (same_test r.at f.at x.at t (output_record_place all whole new r (Whole x) q)) (later (at + n) older (behind t i) s.1 d p.1)
+        by_place false t i later (Some (Rebuilt x y)) q s d h =
+            let n : ℕ = length y in
+            let p = holds_parts b (length b) at y (bytes_from c left (at + n) older (Left rs)) h in
+            found_later (new f) (Rebuilt x y) (written c left (at + n) older (Left rs)) at n older (same_test r.at f.at x.at t (output_record_place all whole new r (Rebuilt x y) q)) (later (at + n) older (behind t i) s.1 d p.1)
         by_place false t i later (Some (Chained j l)) q s d h =
             let n : ℕ = length (chained_bytes c left at older j l) in
             let p = holds_parts b (length b) at (chained_bytes c left at older j l) (bytes_from c left (at + n) (Some at) (Left rs)) h in
-            found_later (Chained j l) (written c left (at + n) (Some at) (Left rs)) at n older (same_test r.at f.at l.frame.at t (output_record_place all whole r (Chained j l) q)) (later (at + n) (Some at) (behind t i) s.1 d.1 p.1)
+            found_later (new f) (Chained j l) (written c left (at + n) (Some at) (Left rs)) at n older (same_test r.at f.at l.frame.at t (output_record_place all whole new r (Chained j l) q)) (later (at + n) (Some at) (behind t i) s.1 d.1 p.1)

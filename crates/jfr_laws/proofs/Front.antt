@@ -49,6 +49,6 @@ module _ (h : Header) where
   pub header_again : header_bytes (record read { size = h.size; pools = h.pools; metadata = h.metadata }) ≡ header_bytes h
   header_again = λ i. spelled (major_again i) (minor_again i) (start_again i) (duration_again i) (ticks_again i) (rate_again i) (flags_again i)
 
--- The header of what stands behind a header, with the same size and positions, is that header.
+-- The header that is written for a chunk with this header, the same size and positions, is this header.
 pub front_again : (c body : List ℕ) (size pools metadata : ℕ) → header_with (header_with c size pools metadata ++ body) size pools metadata ≡ header_with c size pools metadata
 front_again c body size pools metadata = header_again (record (header_of (take 68 c)) { size = size; pools = pools; metadata = metadata })

@@ -1,4 +1,5 @@
--- The groups of entries that are written: they stand, and hold just these entries, in order.
+-- The groups of entries that are written are spelled by the chunk's bytes, and have exactly these entries, in
+-- order.
 use Rattle.std.specs.Prelude.{◌≡◌, ℕ, ◌<◌, Bool, true, false, ◌&&◌, ◌==◌, List, [], ◌∷◌, ◌++◌, if◌then◌else◌, ⊤}
 use Rattle.std.specs.List.{flat_map, AllByRecursion}
 use Rattle.std.proofs.Common.{ap, arith, refl, ◌∙◌}
@@ -19,7 +20,7 @@ alone e = record { class = e.class; pool = e.pool; entries = e ∷ [] }
 abbrev joined : EntryAt → Group → Group
 joined e g = record { class = g.class; pool = g.pool; entries = e ∷ g.entries }
 
--- Each group has one class, and its entries stand where all do.
+-- Each group has one class, and its entries are in the chunk if all are.
 pub groups_stand : (c : List ℕ) (k : Classes) (es : List EntryAt) → AllByRecursion (EntryStands c k) es → AllByRecursion (GroupStands c k) (by_pool es)
 groups_stand c k [] a = tt
 groups_stand c k (e ∷ es) a = added (by_pool es) (groups_stand c k es a.1)

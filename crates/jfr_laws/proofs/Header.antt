@@ -16,7 +16,7 @@ record Fine (h : Header) : Type 0 where
   major : h.major ≡ 2
   state : h.state ≡ 0
   compact : (h.flags % 2 == 0) ≡ false
-  small : h.size < 2 ^ 28
+  small : h.size < 2 ^ 30
 
 -- A cause that isn't there, and those after it.
 no_cause : (t : Bool) (flaw : Flaw) (rest : Option Flaw) → (if t then Some flaw else rest) ≡ None → (t ≡ false) × (rest ≡ None)
@@ -29,7 +29,7 @@ is_two n e = grind (arith, nat_tests)
 is_zero : (n : ℕ) → not (n == 0) ≡ false → n ≡ 0
 is_zero n e = grind (arith, nat_tests)
 
-is_small : (n : ℕ) → nat_le (2 ^ 28) n ≡ false → n < 2 ^ 28
+is_small : (n : ℕ) → nat_le (2 ^ 30) n ≡ false → n < 2 ^ 30
 is_small n e = grind (arith, nat_tests)
 
 fine_of : (h : Header) → field_flaw h ≡ None → Fine h
@@ -38,7 +38,7 @@ fine_of h e =
     let state = no_cause (not (h.state == 0)) (flaw_at 64 Unfinished) _ version.1 in
     let compact = no_cause (h.flags % 2 == 0) (flaw_at 67 NotCompact) _ state.1 in
     let least = no_cause (nat_lt h.size 68) (flaw_at 8 ChunkSize) _ compact.1 in
-    let most = no_cause (nat_le (2 ^ 28) h.size) (flaw_at 8 ChunkSize) _ least.1 in
+    let most = no_cause (nat_le (2 ^ 30) h.size) (flaw_at 8 ChunkSize) _ least.1 in
     record { major = is_two h.major version.0; state = is_zero h.state state.0; compact = compact.0; small = is_small h.size most.0 }
 
 flawless_of : (h : Header) → Fine h → 68 ≤ h.size → field_flaw h ≡ None
@@ -46,7 +46,7 @@ flawless_of h f i =
     let a : (h.major == 2) ≡ true = let m : h.major ≡ 2 = f.major in grind (arith, nat_tests) in
     let b : (h.state == 0) ≡ true = let m : h.state ≡ 0 = f.state in grind (arith, nat_tests) in
     let d : nat_lt h.size 68 ≡ false = grind (arith, nat_tests) in
-    let e : nat_le (2 ^ 28) h.size ≡ false = let m : h.size < 2 ^ 28 = f.small in grind (arith, nat_tests) in
+    let e : nat_le (2 ^ 30) h.size ≡ false = let m : h.size < 2 ^ 30 = f.small in grind (arith, nat_tests) in
     rw (a, b, f.compact, d, e) refl
 
 -- The header of a whole chunk has no flaw.
@@ -55,10 +55,10 @@ unfolding header_flaw
 header_fine c w = fine_of (header_of (take 68 c)) (no_cause (not (number_at 0 4 (take 68 c) == magic)) (flaw_at 0 Magic) (field_flaw (header_of (take 68 c))) w.flawless).1
 
 -- A whole chunk has fewer than 2^28 bytes.
-pub whole_small : (c : List ℕ) → Whole c → length c < 2 ^ 28
-whole_small c w = let f = header_fine c w in let i : size_of (take 68 c) < 2 ^ 28 = f.small in let e : size_of (take 68 c) ≡ length c = w.size in omega arith
+pub whole_small : (c : List ℕ) → Whole c → length c < 2 ^ 30
+whole_small c w = let f = header_fine c w in let i : size_of (take 68 c) < 2 ^ 30 = f.small in let e : size_of (take 68 c) ≡ length c = w.size in omega arith
 
--- It has 68 bytes, which stand in front.
+-- A header has 68 bytes, which come first.
 header_long : (h : Header) → length (header_bytes h) ≡ 68
 header_long h = refl
 
@@ -68,7 +68,7 @@ header_length c size pools metadata = header_long (record (header_of (take 68 c)
 front_bytes : (h : Header) (body : List ℕ) → take 68 (header_bytes h ++ body) ≡ header_bytes h
 front_bytes h body = refl
 
--- A number in range is read back, whatever stands around it.
+-- A number in range is read back, whatever comes before and after it.
 abbrev alone : ℕ → ℕ → ℕ → ℕ → Header
 alone major size pools metadata = record {
   major = major;
@@ -130,7 +130,7 @@ module _ (c body : List ℕ) (size pools metadata : ℕ) where
   pub made_metadata : metadata < 2 ^ 64 → metadata_at made ≡ metadata
   made_metadata i = ap (λ z. (header_of z).metadata) (front_bytes written body) ∙ metadata_back written i
 
-  made_fine : Whole c → size < 2 ^ 28 → Fine (header_of (header_bytes written))
+  made_fine : Whole c → size < 2 ^ 30 → Fine (header_of (header_bytes written))
   made_fine w i =
       let f = header_fine c w in
       let a : written.major ≡ 2 = f.major in
@@ -138,7 +138,7 @@ module _ (c body : List ℕ) (size pools metadata : ℕ) where
       let d : (header_of (header_bytes written)).size ≡ size = size_back written (omega arith) in
       record { major = omega arith; state = f.state; compact = ap (λ z. z == 0) (flags_back written) ∙ f.compact; small = omega arith }
 
-  pub made_whole : Whole c → size ≡ length made → size < 2 ^ 28 → Whole made
+  pub made_whole : Whole c → size ≡ length made → size < 2 ^ 30 → Whole made
   unfolding header_flaw
   made_whole w e i =
       let l : length made ≡ length (header_with c size pools metadata) + length body = length-append (header_with c size pools metadata) body in

@@ -14,6 +14,7 @@ pub mod Header
 pub mod Front
 pub mod Order
 pub mod OutputRecords
+pub mod Anew
 pub mod Output
 pub mod Lengths
 pub mod Found
@@ -23,6 +24,10 @@ pub mod Chosen
 pub mod Premises
 pub mod Quiet
 pub mod Kept
+pub mod Five
+pub mod AnewLaws
+pub mod Suits
+pub mod Anews
 pub mod Whole
 pub mod Rebuilt
 pub mod Targets
@@ -32,6 +37,9 @@ pub mod Regrouped
 pub mod Rewritten
 pub mod AllOutput
 pub mod Again
+pub mod Reslim
+pub mod SlimAgain
+pub mod Settles
 pub mod Scrubbed
 pub mod SameTexts
 pub mod Settled

@@ -1,5 +1,5 @@
--- A metadata record is read where its bytes are copied to: the same, but for the places in its tree, on
--- which no class depends.
+-- A metadata record whose bytes are copied is read the same, except for the offsets in its tree, on which no
+-- class depends.
 use Rattle.std.specs.Prelude.{◌≡◌, ℕ, zero, suc, ◌+◌, ◌-◌, false, List, [], ◌∷◌, length, Ok}
 use Rattle.std.proofs.Common.{ap, arith, refl, sym, ◌∙◌, subst}
 use Rattle.jfr_base.specs.Formats.{Format, Done, Stop, ◌>>=◌, times, integer, Reads}
@@ -25,12 +25,12 @@ abbrev SameTree : Tree → Tree → Type 0
 SameTree t u = bare t ≡ bare u
 
 -- Two bodies that are.
-record SameBody (b d : Body) : Type 0 where
-  start : b.start ≡ d.start
-  duration : b.duration ≡ d.duration
-  id : b.id ≡ d.id
-  strings : b.strings ≡ d.strings
-  root : bare b.root ≡ bare d.root
+pub record SameBody (b d : Body) : Type 0 where
+  pub start : b.start ≡ d.start
+  pub duration : b.duration ≡ d.duration
+  pub id : b.id ≡ d.id
+  pub strings : b.strings ≡ d.strings
+  pub root : bare b.root ≡ bare d.root
 
 same_trees : (ts us : List Tree) → Each SameTree ts us → bares (trees_of ts) ≡ bares (trees_of us)
 same_trees [] [] e = refl
@@ -95,7 +95,7 @@ described_same b d k s e =
     (sym (λ i. described (record { start = s.start i; duration = s.duration i; id = s.id i; strings = s.strings i; root = b.root })) ∙ e)
 
 -- A metadata record that is copied describes the same classes.
-pub metadata_copied : (c b : List ℕ) (r : Framed) (at : ℕ) (d : Body) (k : Classes) → IsRecord c r → Holds b (length b) at (record_bytes c r) → IsMetadata c r d k → (m : Body) × IsMetadata b (copied_to c at r) m k
+pub metadata_copied : (c b : List ℕ) (r : Framed) (at : ℕ) (d : Body) (k : Classes) → IsRecord c r → Holds b (length b) at (record_bytes c r) → IsMetadata c r d k → (m : Body) × IsMetadata b (copied_to c at r) m k × SameBody d m
 unfolding meta_format
 metadata_copied c b r at d k s h m =
     let p = reads_parted body_format (λ m. Stop (Done m)) c (record_end r) r.body d (record_end r) m.body in
@@ -106,4 +106,4 @@ metadata_copied c b r at d k s h m =
     let end : ℕ = at + length (record_bytes c r) in
     let t : at + (p.place - r.at) ≡ end = omega arith in
     let read = reads_then body_format (λ m. Stop (Done m)) b end (at + (r.body - r.at)) i.value end i.value end (subst (Reads body_format b end (at + (r.body - r.at)) i.value) t i.reads) (omega arith, (refl, refl)) in
-    (i.value, record { body = read; classes = described_same p.value i.value k i.related (ap described (sym e) ∙ m.classes) })
+    (i.value, record { body = read; classes = described_same p.value i.value k i.related (ap described (sym e) ∙ m.classes) }, subst (λ z. SameBody z i.value) (sym e) i.related)

@@ -8,7 +8,7 @@ use Rattle.jfr_frame.specs.declared.framed.Framed.{Framed}
 use Rattle.jfr_frame.specs.Records.{Tiles, record_end}
 use Rattle.jfr_frame.proofs.RecordLaws.{some_bytes}
 use Rattle.jfr_pool.specs.declared.link.Link.{Link}
-use Rattle.jfr_chunk.specs.Scrub.{OutputRecord, Whole, Chained, output_record_by}
+use Rattle.jfr_chunk.specs.Scrub.{OutputRecord, Whole, Chained, Rebuilt, output_record_by}
 
 -- A chained checkpoint with its number.
 abbrev pub Numbered : Type 0
@@ -18,20 +18,21 @@ Numbered = ℕ × Link
 abbrev pub numbered_at : List Numbered → ℕ → Option Numbered
 numbered_at all at = find (λ l. l.1.frame.at == at) all
 
--- What stays of a record, where a test chooses those that stay whole.
-abbrev pub output_record_in : List Numbered → (Framed → Bool) → Framed → Option OutputRecord
-output_record_in all whole r = output_record_by (numbered_at all r.at) (whole r) r
+-- What is written for a record, given a test for those that are written whole.
+abbrev pub output_record_in : List Numbered → (Framed → Bool) → (Framed → Option (List ℕ)) → Framed → Option OutputRecord
+output_record_in all whole new r = output_record_by (numbered_at all r.at) (whole r) (new r) r
 
-abbrev pub output_records_in : List Numbered → (Framed → Bool) → List Framed → List OutputRecord
-output_records_in all whole rs = filter_map (output_record_in all whole) rs
+abbrev pub output_records_in : List Numbered → (Framed → Bool) → (Framed → Option (List ℕ)) → List Framed → List OutputRecord
+output_records_in all whole new rs = filter_map (output_record_in all whole new) rs
 
 -- The checkpoints among what stays.
 abbrev pub chained_of : List OutputRecord → List Numbered
 chained_of [] = []
 chained_of (Whole r ∷ ss) = chained_of ss
 chained_of (Chained i l ∷ ss) = (i, l) ∷ chained_of ss
+chained_of (Rebuilt r x ∷ ss) = chained_of ss
 
--- One behind another, from a place on.
+-- The numbered links start one after another, from an offset on.
 abbrev pub Rising : ℕ → List Numbered → Type 0
 Rising at [] = ⊤
 Rising at (t ∷ ts) = (at ≤ t.1.frame.at) × Rising (t.1.frame.at + 1) ts
@@ -72,7 +73,7 @@ behind_low at p (d ∷ ds) ts h a =
     let e : (d.1.frame.at == at) ≡ false = grind (arith, nat_tests) in
     rw e (behind_low at p ds ts h a.1)
 
--- Those behind a record occur behind it.
+-- Links that start after a record occur after it.
 occur_behind : (r : Framed) (rs : List Framed) (p : ℕ) (ts : List Numbered) → r.at < p → Rising p ts → AllOccur (r ∷ rs) ts → AllOccur rs ts
 occur_behind r rs p [] h a o = tt
 occur_behind r rs p (t ∷ ts) h a o = (one o.0, occur_behind r rs (t.1.frame.at + 1) ts (omega (arith, a.0)) a.1 o.1)
@@ -81,25 +82,26 @@ occur_behind r rs p (t ∷ ts) h a o = (one o.0, occur_behind r rs (t.1.frame.at
     one (inl e) = let i : p ≤ t.1.frame.at = a.0 in absurd (omega arith)
     one (inr o) = o
 
--- A record starts where the records begin, or behind that.
+-- A record starts at the offset of the first record, or later.
 pub occurs_low : (c : List ℕ) (p q : ℕ) (rs : List Framed) (at : ℕ) → Tiles c p rs q → Occurs at rs → p ≤ at
 occurs_low c p q [] at t o = absurd o
 occurs_low c p q (r ∷ rs) at t (inl e) = let f : r.at ≡ p = t.0 in omega arith
 occurs_low c p q (r ∷ rs) at t (inr o) = let i : record_end r ≤ at = occurs_low c (record_end r) q rs at t.2 o in let f : r.at ≡ p = t.0 in omega arith
 
-module _ (c : List ℕ) (all : List Numbered) (whole : Framed → Bool) where
-  output_record_none : (r : Framed) (rs : List Framed) → numbered_at all r.at ≡ None → chained_of (output_records_in all whole (r ∷ rs)) ≡ chained_of (output_records_in all whole rs)
-  output_record_none r rs e = ap (λ o. chained_of (cons_option (output_record_by o (whole r) r) (output_records_in all whole rs))) e ∙ by_test (whole r)
+module _ (c : List ℕ) (all : List Numbered) (whole : Framed → Bool) (new : Framed → Option (List ℕ)) where
+  output_record_none : (r : Framed) (rs : List Framed) → numbered_at all r.at ≡ None → chained_of (output_records_in all whole new (r ∷ rs)) ≡ chained_of (output_records_in all whole new rs)
+  output_record_none r rs e = ap (λ o. chained_of (cons_option (output_record_by o (whole r) (new r) r) (output_records_in all whole new rs))) e ∙ by_test (whole r) (new r)
     where
-      by_test : (t : Bool) → chained_of (cons_option (output_record_by None t r) (output_records_in all whole rs)) ≡ chained_of (output_records_in all whole rs)
-      by_test true = refl
-      by_test false = refl
+      by_test : (t : Bool) (o : Option (List ℕ)) → chained_of (cons_option (output_record_by None t o r) (output_records_in all whole new rs)) ≡ chained_of (output_records_in all whole new rs)
+      by_test true None = refl
+      by_test true (Some x) = refl
+      by_test false o = refl
 
-  output_record_some : (r : Framed) (rs : List Framed) (x : Numbered) → numbered_at all r.at ≡ Some x → chained_of (output_records_in all whole (r ∷ rs)) ≡ x ∷ chained_of (output_records_in all whole rs)
-  output_record_some r rs x e = ap (λ o. chained_of (cons_option (output_record_by o (whole r) r) (output_records_in all whole rs))) e
+  output_record_some : (r : Framed) (rs : List Framed) (x : Numbered) → numbered_at all r.at ≡ Some x → chained_of (output_records_in all whole new (r ∷ rs)) ≡ x ∷ chained_of (output_records_in all whole new rs)
+  output_record_some r rs x e = ap (λ o. chained_of (cons_option (output_record_by o (whole r) (new r) r) (output_records_in all whole new rs))) e
 
-  -- Those done stand before the records that are left, and those to do among them.
-  pub in_order : (rs : List Framed) (p q : ℕ) (done todo : List Numbered) → Tiles c p rs q → all ≡ done ++ todo → Low p done → Rising p todo → AllOccur rs todo → chained_of (output_records_in all whole rs) ≡ todo
+  -- The links that are done are before the records that are left, and those to do are among them.
+  pub in_order : (rs : List Framed) (p q : ℕ) (done todo : List Numbered) → Tiles c p rs q → all ≡ done ++ todo → Low p done → Rising p todo → AllOccur rs todo → chained_of (output_records_in all whole new rs) ≡ todo
   in_order [] p q done [] t e a b o = refl
   in_order [] p q done (x ∷ todo) t e a b o = absurd o.0
   in_order (r ∷ rs) p q done [] t e a b o =
@@ -123,9 +125,9 @@ module _ (c : List ℕ) (all : List Numbered) (whole : Framed → Bool) where
       all_behind (z ∷ ts) o m a = (occurs_low c (record_end r) q rs z.1.frame.at t.2 o.0, a.1)
 
       by_place : ((r.at < x.1.frame.at) ⊎ (x.1.frame.at ≤ r.at))
-          → (Low (record_end r) done → Rising (record_end r) (x ∷ todo) → AllOccur rs (x ∷ todo) → chained_of (output_records_in all whole rs) ≡ x ∷ todo)
-          → (Low (record_end r) (done ++ (x ∷ [])) → Rising (record_end r) todo → AllOccur rs todo → chained_of (output_records_in all whole rs) ≡ todo)
-          → chained_of (output_records_in all whole (r ∷ rs)) ≡ x ∷ todo
+          → (Low (record_end r) done → Rising (record_end r) (x ∷ todo) → AllOccur rs (x ∷ todo) → chained_of (output_records_in all whole new rs) ≡ x ∷ todo)
+          → (Low (record_end r) (done ++ (x ∷ [])) → Rising (record_end r) todo → AllOccur rs todo → chained_of (output_records_in all whole new rs) ≡ todo)
+          → chained_of (output_records_in all whole new (r ∷ rs)) ≡ x ∷ todo
       by_place (inl h) f g =
           let u : Rising (r.at + 1) (x ∷ todo) = (omega arith, b.1) in
           let v = occur_behind r rs (r.at + 1) (x ∷ todo) (omega arith) u o in

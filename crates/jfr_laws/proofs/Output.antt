@@ -1,4 +1,4 @@
--- What is written from left to right stands: its records, its chain, its entries.
+-- What is written from left to right has its records, its chain and its entries.
 use Rattle.std.specs.Prelude.{◌≡◌, ℕ, ◌+◌, ◌^◌, ◌<◌, ◌≤◌, ◌==◌, List, [], ◌∷◌, ◌++◌, length, map, filter, Option, Some, None, is_some, Contains, ⊤}
 use Rattle.std.specs.List.{flat_map, AllByRecursion, enumerate_from}
 use Rattle.std.proofs.Common.{ap, arith, refl, sym, ◌∙◌, subst, inl, append_assoc}
@@ -12,8 +12,9 @@ use Rattle.jfr_pool.specs.declared.link.Link.{Link}
 use Rattle.jfr_pool.specs.declared.entry.EntryAt.{EntryAt}
 use Rattle.jfr_pool.specs.Entries.{AreEntries, entries_from}
 use Rattle.jfr_chunk.specs.Written.{Group}
-use Rattle.jfr_chunk.specs.Scrub.{OutputRecord, Whole, Chained, written, groups_of}
-use Rattle.jfr_chunk.proofs.Members.{in_contains, in_right}
+use Rattle.jfr_laws.proofs.Anew.{anew_stands}
+use Rattle.jfr_chunk.specs.Scrub.{OutputRecord, Whole, Chained, Rebuilt, written, groups_of}
+use Rattle.jfr_worklist.proofs.Members.{in_contains, in_right}
 use Rattle.jfr_laws.proofs.ReadBack.{moved_frame}
 use Rattle.jfr_laws.proofs.Groups.{groups_hold}
 use Rattle.jfr_laws.proofs.Checkpoints.{have_number}
@@ -21,9 +22,9 @@ use Rattle.jfr_laws.proofs.Chains.{LeadsTo, Linked, step_delta}
 use Rattle.jfr_laws.proofs.Entries.{IsCopy, each_append, groups_same}
 use Rattle.jfr_laws.proofs.Order.{Numbered, chained_of}
 use Rattle.jfr_laws.proofs.Copied.{copied_to, record_copied}
-use Rattle.jfr_laws.proofs.OutputRecords.{Deltas, chained_bytes, bytes_from, new_frame, new_link, new_links, new_place, new_pools, new_entries, OutputRecordStands, chained_stands, whole_length, chained_length}
+use Rattle.jfr_laws.proofs.OutputRecords.{Deltas, own_frame, rebuilt_length, chained_bytes, bytes_from, new_frame, new_link, new_links, new_place, new_pools, new_entries, OutputRecordStands, chained_stands, whole_length, chained_length}
 
--- The older checkpoint stands before a place.
+-- The older checkpoint starts before an offset.
 abbrev pub Before : Option ℕ → ℕ → Type 0
 Before None at = ⊤
 Before (Some older) at = older < at
@@ -55,6 +56,11 @@ module _ (c : List ℕ) (left : List EntryAt) (k : Classes) (b : List ℕ) where
       let p = holds_parts b (length b) at (record_bytes c r) (bytes_from c left (at + n) older ss) h in
       let i = tiles_back ss (at + n) older s.1 d p.1 in
       (refl, record_copied c b r at s.0 p.0, subst (Tiles b (at + n) (map (new_frame c left) (written c left (at + n) older ss))) (whole_length c left r ss at older) i)
+  tiles_back (Rebuilt r x ∷ ss) at older s d h =
+      let n : ℕ = length x in
+      let p = holds_parts b (length b) at x (bytes_from c left (at + n) older ss) h in
+      let i = tiles_back ss (at + n) older s.1 d p.1 in
+      (refl, anew_stands x b at s.0.1 p.0, subst (Tiles b (at + n) (map (new_frame c left) (written c left (at + n) older ss))) (rebuilt_length c left r x ss at older) i)
   tiles_back (Chained j l ∷ ss) at older s d h =
       let n : ℕ = length (chained_bytes c left at older j l) in
       let p = holds_parts b (length b) at (chained_bytes c left at older j l) (bytes_from c left (at + n) (Some at) ss) h in
@@ -70,6 +76,12 @@ module _ (c : List ℕ) (left : List EntryAt) (k : Classes) (b : List ℕ) where
       let n : ℕ = length (record_bytes c r) in
       let p = holds_parts b (length b) at (record_bytes c r) (bytes_from c left (at + n) older ss) h in
       let f : Framed = copied_to c at r in
+      let rest : List Framed = map (new_frame c left) (written c left (at + n) older ss) in
+      linked_back rs small ss (done ++ (f ∷ [])) (at + n) older s.1 d (before_more older at n o) p.1 (e ∙ sym (append_assoc done (f ∷ []) rest))
+  linked_back rs small (Rebuilt r x ∷ ss) done at older s d o h e =
+      let n : ℕ = length x in
+      let p = holds_parts b (length b) at x (bytes_from c left (at + n) older ss) h in
+      let f : Framed = moved_frame at (own_frame x) n in
       let rest : List Framed = map (new_frame c left) (written c left (at + n) older ss) in
       linked_back rs small ss (done ++ (f ∷ [])) (at + n) older s.1 d (before_more older at n o) p.1 (e ∙ sym (append_assoc done (f ∷ []) rest))
   linked_back rs small (Chained j l ∷ ss) done at older s d o h e =
@@ -95,6 +107,10 @@ module _ (c : List ℕ) (left : List EntryAt) (k : Classes) (b : List ℕ) where
       let n : ℕ = length (record_bytes c r) in
       let p = holds_parts b (length b) at (record_bytes c r) (bytes_from c left (at + n) older ss) h in
       entries_back ss j (at + n) older s.1 d p.1
+  entries_back (Rebuilt r x ∷ ss) j at older s d h =
+      let n : ℕ = length x in
+      let p = holds_parts b (length b) at x (bytes_from c left (at + n) older ss) h in
+      entries_back ss j (at + n) older s.1 d p.1
   entries_back (Chained i l ∷ ss) j at older s d h =
       let n : ℕ = length (chained_bytes c left at older i l) in
       let p = holds_parts b (length b) at (chained_bytes c left at older i l) (bytes_from c left (at + n) (Some at) ss) h in
@@ -108,6 +124,10 @@ module _ (c : List ℕ) (left : List EntryAt) (k : Classes) (b : List ℕ) where
   entries_same_back (Whole r ∷ ss) ls j at older s d h o =
       let n : ℕ = length (record_bytes c r) in
       let p = holds_parts b (length b) at (record_bytes c r) (bytes_from c left (at + n) older ss) h in
+      entries_same_back ss ls j (at + n) older s.1 d p.1 o
+  entries_same_back (Rebuilt r x ∷ ss) ls j at older s d h o =
+      let n : ℕ = length x in
+      let p = holds_parts b (length b) at x (bytes_from c left (at + n) older ss) h in
       entries_same_back ss ls j (at + n) older s.1 d p.1 o
   entries_same_back (Chained i l ∷ ss) [] j at older s d h o = absurd (none_left i l (chained_of ss) o)
     where

@@ -13,7 +13,7 @@ use Rattle.jfr_pool.specs.declared.link.Link.{Link}
 use Rattle.jfr_pool.specs.declared.entry.EntryAt.{EntryAt}
 use Rattle.jfr_pool.specs.Entries.{PoolAt, entries_from}
 use Rattle.jfr_chunk.specs.Written.{group_bytes, checkpoint_tail, checkpoint_bytes, distance}
-use Rattle.jfr_chunk.specs.Scrub.{OutputRecord, Whole, Chained, Written, groups_of, written_bytes, written, record_of}
+use Rattle.jfr_chunk.specs.Scrub.{OutputRecord, Whole, Chained, Rebuilt, Written, groups_of, written_bytes, written, record_of}
 use Rattle.jfr_laws.proofs.Standing.{GroupStands, LinkStands}
 use Rattle.jfr_laws.proofs.ReadBack.{CheckpointStands, checkpoint_stands, placed_group, moved_frame, moved_link, pools_place, tail_small, checkpoint_small}
 
@@ -21,7 +21,18 @@ use Rattle.jfr_laws.proofs.ReadBack.{CheckpointStands, checkpoint_stands, placed
 abbrev pub Deltas : Bool → List OutputRecord → Type 0
 Deltas seen [] = ⊤
 Deltas seen (Whole r ∷ ss) = Deltas seen ss
+Deltas seen (Rebuilt r x ∷ ss) = Deltas seen ss
 Deltas seen (Chained i l ∷ ss) = (seen ≡ true → l.delta_end ≡ l.delta_at + 9) × Deltas true ss
+
+-- A record that is built anew, by itself: its size in five bytes, and its type.
+abbrev pub own_frame : List ℕ → Framed
+own_frame x = record { at = 0; size = length x; type_at = 5; type_id = 0; body = 6 }
+
+-- The record in the output for an output record at an offset.
+abbrev pub frame_by : OutputRecord → ℕ → ℕ → Framed
+frame_by (Whole r) at n = moved_frame at r n
+frame_by (Chained i l) at n = moved_frame at l.frame n
+frame_by (Rebuilt r x) at n = moved_frame at (own_frame x) n
 
 module _ (c : List ℕ) (left : List EntryAt) where
   -- What is written of a checkpoint.
@@ -34,7 +45,7 @@ module _ (c : List ℕ) (left : List EntryAt) where
 
   -- Its records.
   abbrev pub new_frame : Written → Framed
-  new_frame w = moved_frame w.at (record_of w.output_record) (length (written_bytes c left w))
+  new_frame w = frame_by w.output_record w.at (length (written_bytes c left w))
 
   -- Its links, oldest first.
   abbrev pub new_link : ℕ → Option ℕ → ℕ → Link → Link
@@ -43,6 +54,7 @@ module _ (c : List ℕ) (left : List EntryAt) where
   abbrev pub new_links : ℕ → Option ℕ → List OutputRecord → List Link
   new_links at older [] = []
   new_links at older (Whole r ∷ ss) = new_links (at + length (record_bytes c r)) older ss
+  new_links at older (Rebuilt r x ∷ ss) = new_links (at + length x) older ss
   new_links at older (Chained i l ∷ ss) = new_link at older i l ∷ new_links (at + length (chained_bytes at older i l)) (Some at) ss
 
   -- Where the pools of a checkpoint begin.
@@ -57,11 +69,13 @@ module _ (c : List ℕ) (left : List EntryAt) where
     abbrev pub new_entries : ℕ → ℕ → Option ℕ → List OutputRecord → List EntryAt
     new_entries j at older [] = []
     new_entries j at older (Whole r ∷ ss) = new_entries j (at + length (record_bytes c r)) older ss
+    new_entries j at older (Rebuilt r x ∷ ss) = new_entries j (at + length x) older ss
     new_entries j at older (Chained i l ∷ ss) = entries_from j 0 (new_pools at older i l) ++ new_entries (j + 1) (at + length (chained_bytes at older i l)) (Some at) ss
 
-    -- It stood in the chunk, and can be written.
+    -- The output record was in the chunk, and can be written.
     abbrev pub OutputRecordStands : OutputRecord → Type 0
     OutputRecordStands (Whole r) = IsRecord c r
+    OutputRecordStands (Rebuilt r x) = IsRecord c r × IsRecord x (own_frame x) × (length x ≤ r.size)
     OutputRecordStands (Chained i l) = LinkStands c l × AllByRecursion (GroupStands c k) (groups_of left i)
         × (l.delta_end + 1 + length (spell (length (groups_of left i))) + length (flat_map (group_bytes c) (groups_of left i)) ≤ record_end l.frame)
 
@@ -70,7 +84,7 @@ module _ (c : List ℕ) (left : List EntryAt) where
     room l s at None d = let i : l.delta_at < l.delta_end = int_some c l.delta_at l.delta_end s.word s.delta_spelled in omega arith
     room l s at (Some o) d = let e : l.delta_end ≡ l.delta_at + 9 = d refl in let i = spell_most (distance at (Some o)) in omega arith
 
-    -- What is written of a checkpoint is no longer than it was, and stands.
+    -- What is written for a checkpoint is no longer than it was, and is a checkpoint.
     pub chained_fits : (i : ℕ) (l : Link) (at : ℕ) (older : Option ℕ) → OutputRecordStands (Chained i l) → (is_some older ≡ true → l.delta_end ≡ l.delta_at + 9)
         → length (checkpoint_tail c l (distance at older) (groups_of left i)) + (l.frame.type_at - l.frame.at) ≤ l.frame.size
     chained_fits i l at older s d = tail_small c l (distance at older) (groups_of left i) s.0 (room l s.0 at older d) s.2
@@ -82,9 +96,12 @@ module _ (c : List ℕ) (left : List EntryAt) where
         → CheckpointStands k b (new_link at older i l) (new_pools at older i l) (new_place at older i l) (flat_map (group_bytes c) (groups_of left i))
     chained_stands b i l at older s d h = checkpoint_stands c k b l (distance at older) at (groups_of left i) s.0 s.1 (chained_fits i l at older s d) h
 
-  -- What is written of the first, and the rest behind it.
+  -- What is written for the first, and the rest after it.
   pub whole_length : (r : Framed) (ss : List OutputRecord) (at : ℕ) (older : Option ℕ) → at + length (record_bytes c r) + length (bytes_from (at + length (record_bytes c r)) older ss) ≡ at + length (bytes_from at older (Whole r ∷ ss))
   whole_length r ss at older = omega (arith, length-append (record_bytes c r) (bytes_from (at + length (record_bytes c r)) older ss))
+
+  pub rebuilt_length : (r : Framed) (x : List ℕ) (ss : List OutputRecord) (at : ℕ) (older : Option ℕ) → at + length x + length (bytes_from (at + length x) older ss) ≡ at + length (bytes_from at older (Rebuilt r x ∷ ss))
+  rebuilt_length r x ss at older = omega (arith, length-append x (bytes_from (at + length x) older ss))
 
   pub chained_length : (i : ℕ) (l : Link) (ss : List OutputRecord) (at : ℕ) (older : Option ℕ)
       → at + length (chained_bytes at older i l) + length (bytes_from (at + length (chained_bytes at older i l)) (Some at) ss) ≡ at + length (bytes_from at older (Chained i l ∷ ss))

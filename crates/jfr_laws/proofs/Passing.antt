@@ -7,7 +7,7 @@ use Rattle.std.proofs.Common.{ap, refl}
 pub clash : (t : Bool) → t ≡ true → t ≡ false → ⊥
 clash t h e = cc
 
--- It holds, where the member passes.
+-- The property holds if the member passes the test.
 abbrev pub IfPasses : {X : Type 0} → (X → Bool) → (X → Type 0) → X → Type 0
 IfPasses test P x = test x ≡ true → P x
 

@@ -1,5 +1,5 @@
 -- What the parts of a chunk say of what stays of it: it can be written.
-use Rattle.std.specs.Prelude.{◌≡◌, ℕ, ◌+◌, Bool, true, false, List, [], ◌∷◌, reverse, length, Option, Some, None, ⊤}
+use Rattle.std.specs.Prelude.{◌≡◌, ℕ, ◌+◌, ◌≤◌, Bool, true, false, List, [], ◌∷◌, reverse, length, Option, Some, None, ⊤}
 use Rattle.std.specs.List.{AllByRecursion, cons_option, enumerate_from}
 use Rattle.std.proofs.Common.{ap, arith, refl, sym, subst, inl, inr}
 use Rattle.jfr_layout.specs.Classes.{Classes}
@@ -10,14 +10,14 @@ use Rattle.jfr_pool.specs.declared.entry.EntryAt.{EntryAt}
 use Rattle.jfr_pool.specs.Chains.{IsLink}
 use Rattle.jfr_chunk.specs.Parts.{Parts, AreParts, pools_at}
 use Rattle.jfr_chunk.specs.Reach.{marked}
-use Rattle.jfr_chunk.specs.Scrub.{OutputRecord, Whole, Chained, output_record_by, groups_of}
-use Rattle.jfr_chunk.proofs.Members.{In, contains_in}
+use Rattle.jfr_chunk.specs.Scrub.{OutputRecord, Whole, Chained, Rebuilt, output_record_by, groups_of}
+use Rattle.jfr_worklist.proofs.Members.{In, contains_in}
 use Rattle.jfr_chunk.proofs.AllLaws.{all_in}
 use Rattle.jfr_chunk.proofs.StandingLaws.{tiles_each}
 use Rattle.jfr_laws.proofs.Chains.{Linked, chain_linked}
 use Rattle.jfr_laws.proofs.Checkpoints.{CanWrite, checkpoints_can, nine_of}
 use Rattle.jfr_laws.proofs.Order.{Numbered, numbered_at, output_records_in, chained_of, Rising, Occurs, AllOccur, occurs_low, in_order}
-use Rattle.jfr_laws.proofs.OutputRecords.{Deltas, OutputRecordStands}
+use Rattle.jfr_laws.proofs.OutputRecords.{Deltas, OutputRecordStands, own_frame}
 
 -- The chained checkpoints with their numbers, oldest first.
 abbrev pub all_links : Parts → List Numbered
@@ -78,6 +78,7 @@ module _ (c : List ℕ) (k : Classes) (left : List EntryAt) where
 deltas_of : (seen : Bool) (ss : List OutputRecord) → Nines seen (chained_of ss) → Deltas seen ss
 deltas_of seen [] n = tt
 deltas_of seen (Whole r ∷ ss) n = deltas_of seen ss n
+deltas_of seen (Rebuilt r x ∷ ss) n = deltas_of seen ss n
 deltas_of true (Chained i l ∷ ss) n = ((λ e. n.0), deltas_of true ss n.1)
 deltas_of false (Chained i l ∷ ss) n = ((λ e. cc), deltas_of true ss n)
 
@@ -85,20 +86,43 @@ deltas_of false (Chained i l ∷ ss) n = ((λ e. cc), deltas_of true ss n)
 abbrev pub OnWhole : (Framed → Type 0) → OutputRecord → Type 0
 OnWhole P (Whole r) = P r
 OnWhole P (Chained i l) = ⊤
+OnWhole P (Rebuilt r x) = ⊤
 
-pub on_whole : (P : Framed → Type 0) (all : List Numbered) (whole : Framed → Bool) (rs : List Framed) → AllByRecursion P rs → AllByRecursion (OnWhole P) (output_records_in all whole rs)
-on_whole P all whole [] a = tt
-on_whole P all whole (r ∷ rs) a = one (numbered_at all r.at) (whole r) (on_whole P all whole rs a.1)
+pub on_whole : (P : Framed → Type 0) (all : List Numbered) (whole : Framed → Bool) (new : Framed → Option (List ℕ)) (rs : List Framed) → AllByRecursion P rs → AllByRecursion (OnWhole P) (output_records_in all whole new rs)
+on_whole P all whole new [] a = tt
+on_whole P all whole new (r ∷ rs) a = one (numbered_at all r.at) (whole r) (new r) (on_whole P all whole new rs a.1)
   where
-    one : (o : Option Numbered) (t : Bool) → AllByRecursion (OnWhole P) (output_records_in all whole rs) → AllByRecursion (OnWhole P) (cons_option (output_record_by o t r) (output_records_in all whole rs))
-    one (Some l) t i = (tt, i)
-    one None true i = (a.0, i)
-    one None false i = i
+    one : (o : Option Numbered) (t : Bool) (w : Option (List ℕ)) → AllByRecursion (OnWhole P) (output_records_in all whole new rs) → AllByRecursion (OnWhole P) (cons_option (output_record_by o t w r) (output_records_in all whole new rs))
+    one (Some l) t w i = (tt, i)
+    one None true None i = (a.0, i)
+    one None true (Some x) i = (tt, i)
+    one None false w i = i
 
-output_records_stand : (c : List ℕ) (left : List EntryAt) (k : Classes) (ss : List OutputRecord) → AllByRecursion (OnWhole (IsRecord c)) ss → AllByRecursion (CanOutputRecord c k left) (chained_of ss) → AllByRecursion (OutputRecordStands c left k) ss
-output_records_stand c left k [] a d = tt
-output_records_stand c left k (Whole r ∷ ss) a d = (a.0, output_records_stand c left k ss a.1 d)
-output_records_stand c left k (Chained i l ∷ ss) a d = ((d.0.link, d.0.groups, d.0.room), output_records_stand c left k ss a.1 d.1)
+-- What is built anew is a record by itself, and no longer than what it was.
+abbrev pub OnAnew : List ℕ → OutputRecord → Type 0
+OnAnew c (Whole r) = ⊤
+OnAnew c (Chained i l) = ⊤
+OnAnew c (Rebuilt r x) = IsRecord c r × IsRecord x (own_frame x) × (length x ≤ r.size)
+
+-- So is each record that is built anew.
+abbrev pub GoodAnew : List ℕ → (Framed → Option (List ℕ)) → Type 0
+GoodAnew c new = (r : Framed) (x : List ℕ) → IsRecord c r → new r ≡ Some x → IsRecord x (own_frame x) × (length x ≤ r.size)
+
+on_anew : (c : List ℕ) (all : List Numbered) (whole : Framed → Bool) (new : Framed → Option (List ℕ)) → GoodAnew c new → (rs : List Framed) → AllByRecursion (IsRecord c) rs → AllByRecursion (OnAnew c) (output_records_in all whole new rs)
+on_anew c all whole new g [] a = tt
+on_anew c all whole new g (r ∷ rs) a = one (numbered_at all r.at) (whole r) (new r) refl (on_anew c all whole new g rs a.1)
+  where
+    one : (o : Option Numbered) (t : Bool) (w : Option (List ℕ)) → new r ≡ w → AllByRecursion (OnAnew c) (output_records_in all whole new rs) → AllByRecursion (OnAnew c) (cons_option (output_record_by o t w r) (output_records_in all whole new rs))
+    one (Some l) t w q i = (tt, i)
+    one None true None q i = (tt, i)
+    one None true (Some x) q i = (let h = g r x a.0 q in ((a.0, h.0, h.1), i))
+    one None false w q i = i
+
+output_records_stand : (c : List ℕ) (left : List EntryAt) (k : Classes) (ss : List OutputRecord) → AllByRecursion (OnWhole (IsRecord c)) ss → AllByRecursion (OnAnew c) ss → AllByRecursion (CanOutputRecord c k left) (chained_of ss) → AllByRecursion (OutputRecordStands c left k) ss
+output_records_stand c left k [] a w d = tt
+output_records_stand c left k (Whole r ∷ ss) a w d = (a.0, output_records_stand c left k ss a.1 w.1 d)
+output_records_stand c left k (Rebuilt r x ∷ ss) a w d = (w.0, output_records_stand c left k ss a.1 w.1 d)
+output_records_stand c left k (Chained i l ∷ ss) a w d = ((d.0.link, d.0.groups, d.0.room), output_records_stand c left k ss a.1 w.1 d.1)
 
 -- What stays can be written, with these entries left.
 pub record Ready (p : Parts) (left : List EntryAt) (ss : List OutputRecord) : Type 0 where
@@ -122,18 +146,18 @@ module _ (p : Parts) (a : AreParts p) where
   pub chained_checkpoints : AllByRecursion (IsCheckpoint p.bytes) (all_links p)
   chained_checkpoints = checkpoints_stand p.bytes p.records 0 (reverse p.chain) standing_links
 
-  pub ready : (whole : Framed → Bool) (marks : List Bool) → Ready p (marked marks p.entries) (output_records_in (all_links p) whole p.records)
-  ready whole marks =
+  pub ready : (whole : Framed → Bool) (new : Framed → Option (List ℕ)) → GoodAnew p.bytes new → (marks : List Bool) → Ready p (marked marks p.entries) (output_records_in (all_links p) whole new p.records)
+  ready whole new g marks =
       let c : List ℕ = p.bytes in
       let ls : List Link = reverse p.chain in
       let left : List EntryAt = marked marks p.entries in
-      let ss : List OutputRecord = output_records_in (all_links p) whole p.records in
+      let ss : List OutputRecord = output_records_in (all_links p) whole new p.records in
       let order : chained_of ss ≡ all_links p =
-      in_order c (all_links p) whole p.records 68 (length c) [] (all_links p) a.records refl tt
+      in_order c (all_links p) whole new p.records 68 (length c) [] (all_links p) a.records refl tt
       (chain_rises c p.records 68 (length c) ls a.records linked) (links_occur c p.records None 0 ls linked) in
       let can = checkpoints_can c p.classes p.records marks ls p.entries standing_links a.entries in
       record {
         order = order;
-        stand = output_records_stand c left p.classes ss (on_whole (IsRecord c) (all_links p) whole p.records recorded) (subst (AllByRecursion (CanOutputRecord c p.classes left)) (sym order) can);
+        stand = output_records_stand c left p.classes ss (on_whole (IsRecord c) (all_links p) whole new p.records recorded) (on_anew c (all_links p) whole new g p.records recorded) (subst (AllByRecursion (CanOutputRecord c p.classes left)) (sym order) can);
         deltas = deltas_of false ss (subst (Nines false) (sym order) (nines c p.classes left p.records ls can linked));
       }

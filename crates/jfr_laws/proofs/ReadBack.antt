@@ -27,25 +27,25 @@ use Rattle.jfr_laws.proofs.Standing.{EntryStands, GroupStands, LinkStands}
 abbrev pub size_of : EntryAt → ℕ
 size_of e = e.end - e.key_at
 
--- The entry as it is read where its bytes stand at another place.
+-- The entry that is read if its bytes are at another offset.
 abbrev pub placed : List ℕ → Classes → ℕ → EntryAt → Constant
 placed c k at e = record { key = e.key; key_at = at; value_at = at + (e.value_at - e.key_at); end = at + size_of e; value = value_in c k e }
 
--- The pool that is read where a group is written.
+-- The pool that is read at the offset where a group is written.
 abbrev pub placed_group : List ℕ → Classes → ℕ → Group → PoolAt
 placed_group c k at g = record { class = g.class; constants = placed_each (entry_bytes c) (placed c k) (at + length (spell g.class) + length (spell (length g.entries))) g.entries }
 
--- Its bytes are so many.
+-- The length of an entry's bytes.
 pub entry_length : (c : List ℕ) (k : Classes) (e : EntryAt) → EntryStands c k e → length (entry_bytes c e) ≡ size_of e
 entry_length c k e s = range_length c e.key_at e.end s.within
 
--- The bytes of an entry that stand in b before an end: those of its key and of its value.
+-- The bytes of an entry are in b before an end: those of its key and of its value.
 pub record EntryHeld (c b : List ℕ) (end at : ℕ) (e : EntryAt) : Type 0 where
   pub key : Copy c b e.key_at at (e.value_at - e.key_at)
   pub value : slice_range c e.value_at e.end ≡ slice_range b (at + (e.value_at - e.key_at)) (at + size_of e)
   pub before : at + size_of e ≤ end
 
--- Where the bytes of an entry stand, those of its parts do.
+-- If the bytes of an entry are there, those of its parts are.
 pub entry_held : (c : List ℕ) (k : Classes) (b : List ℕ) (end at : ℕ) (e : EntryAt) → EntryStands c k e → Holds b end at (entry_bytes c e) → EntryHeld c b end at e
 entry_held c k b end at e s h =
     let i : e.key_at ≤ e.value_at = s.key.order in
@@ -66,7 +66,7 @@ entry_held c k b end at e s h =
     }
 
 module _ (c : List ℕ) (k : Classes) (b : List ℕ) (end : ℕ) where
-  -- An entry is read where its bytes stand.
+  -- An entry is read at the offset of its bytes.
   entry_reads : (e : EntryAt) (class at : ℕ) → EntryStands c k e → e.class ≡ class → Holds b end at (entry_bytes c e) → Reads (constant_format k class) b end at (placed c k at e) (at + size_of e)
   entry_reads e class at s w h =
       let i : e.key_at ≤ e.value_at = s.key.order in
@@ -91,7 +91,7 @@ module _ (c : List ℕ) (k : Classes) (b : List ℕ) (end : ℕ) where
             read (same, refl),
       )
 
-  -- Entries, one behind another.
+  -- Entries, one after another.
   entries_read : (es : List EntryAt) (class at : ℕ) → AllByRecursion (λ e. EntryStands c k e × (e.class ≡ class)) es → Holds b end at (flat_map (entry_bytes c) es)
       → Reads (times (length es) (constant_format k class)) b end at (placed_each (entry_bytes c) (placed c k) at es) (at + length (flat_map (entry_bytes c) es))
   entries_read es class at s h = times_read (constant_format k class) (entry_bytes c) (placed c k) (λ e. EntryStands c k e × (e.class ≡ class)) b end one es at s h
@@ -128,7 +128,7 @@ module _ (c : List ℕ) (k : Classes) (b : List ℕ) (end : ℕ) where
         ),
       )
 
-  -- Pools, one behind another.
+  -- Pools, one after another.
   groups_read : (gs : List Group) (at : ℕ) → AllByRecursion (GroupStands c k) gs → Holds b end at (flat_map (group_bytes c) gs)
       → Reads (times (length gs) (pool_format k)) b end at (placed_each (group_bytes c) (placed_group c k) at gs) (at + length (flat_map (group_bytes c) gs))
   groups_read gs at s h = times_read (pool_format k) (group_bytes c) (placed_group c k) (GroupStands c k) b end (λ g at s h. group_reads g at s h) gs at s h
@@ -137,7 +137,7 @@ module _ (c : List ℕ) (k : Classes) (b : List ℕ) (end : ℕ) where
 abbrev pub moved_frame : ℕ → Framed → ℕ → Framed
 moved_frame at f n = record { at = at; size = n; type_at = at + (f.type_at - f.at); type_id = f.type_id; body = at + (f.body - f.at) }
 
--- The link that is read of a written checkpoint, which has so many bytes.
+-- The link that is read from a written checkpoint of n bytes.
 abbrev pub moved_link : ℕ → Link → ℕ → ℕ → Link
 moved_link at l delta n = record {
   frame = moved_frame at l.frame n;
@@ -146,11 +146,11 @@ moved_link at l delta n = record {
   delta = cast_signed w64 delta;
 }
 
--- Where the pools of a written checkpoint begin, behind their number.
+-- The offset at which the pools of a written checkpoint start, after their number.
 abbrev pub pools_place : ℕ → Link → ℕ → ℕ → ℕ
 pools_place at l delta count = at + (l.delta_at - l.frame.at) + length (spell delta) + 1 + length (spell count)
 
--- A checkpoint stands as a record, a link and its pools; the bytes of the pools stand at a place.
+-- The bytes are a checkpoint's record, with its link and its pools; those of the pools start at an offset.
 pub record CheckpointStands (k : Classes) (b : List ℕ) (m : Link) (pools : List PoolAt) (place : ℕ) (bytes : List ℕ) : Type 0 where
   pub held : Holds b (record_end m.frame) place bytes
   pub record_stands : IsRecord b m.frame
@@ -158,7 +158,7 @@ pub record CheckpointStands (k : Classes) (b : List ℕ) (m : Link) (pools : Lis
   pub pools_stand : Reads (checkpoint_format k) b (record_end m.frame) m.frame.body pools (record_end m.frame)
 
 module _ (c : List ℕ) (l : Link) (delta : ℕ) (gs : List Group) where
-  -- How long the parts behind the size are.
+  -- The lengths of the parts after the size.
   pub record TailLengths : Type 0 where
     pub type : length (slice_range c l.frame.type_at l.frame.body) ≡ l.frame.body - l.frame.type_at
     pub head : length (slice_range c l.frame.body l.delta_at) ≡ l.delta_at - l.frame.body
@@ -202,7 +202,7 @@ module _ (c : List ℕ) (l : Link) (delta : ℕ) (gs : List Group) where
   abbrev new_size : ℕ
   new_size = width + length (checkpoint_tail c l delta gs)
 
-  -- The size that is written is true, in as many bytes as the old one.
+  -- The size that is written is right, in the same number of bytes as the old one.
   record SizeWritten : Type 0 where
     spelled : Spells (spell_in width new_size) new_size
     size : length (spell_in width new_size) ≡ width
@@ -224,7 +224,7 @@ module _ (c : List ℕ) (l : Link) (delta : ℕ) (gs : List Group) where
   pub checkpoint_small : IsRecord c l.frame → length (checkpoint_tail c l delta gs) + (l.frame.type_at - l.frame.at) ≤ l.frame.size → length (checkpoint_bytes c l delta gs) ≤ l.frame.size
   checkpoint_small s small = let w = size_written s small in omega (arith, w.whole)
 
--- The parts of what is written of a checkpoint, one behind another, up to an end.
+-- The parts of what is written for a checkpoint, one after another, up to an end.
 pub record CheckpointHeld (c b : List ℕ) (l : Link) (delta at end : ℕ) (gs : List Group) : Type 0 where
   pub size : Holds b end at (spell_in (l.frame.type_at - l.frame.at) (l.frame.type_at - l.frame.at + length (checkpoint_tail c l delta gs)))
   pub type : Holds b end (at + (l.frame.type_at - l.frame.at)) (slice_range c l.frame.type_at l.frame.body)
@@ -267,7 +267,7 @@ checkpoint_held c b l delta at gs s small h =
     let p5 = holds_parts b end count_at count_bytes pool_bytes (holds_at b end (kind_at + length kind_bytes) count_at (count_bytes ++ pool_bytes) (omega (arith, t.kind)) p4.1) in
     record { size = p0.0; type = p1.0; head = p2.0; word = p3.0; kind = p4.0; count = p5.0; pools = p5.1 }
 
--- What is written of a checkpoint, and is no longer than it was, stands.
+-- What is written for a checkpoint, if it is no longer than it was, is a checkpoint.
 pub checkpoint_stands : (c : List ℕ) (k : Classes) (b : List ℕ) (l : Link) (delta at : ℕ) (gs : List Group) → LinkStands c l → AllByRecursion (GroupStands c k) gs
     → length (checkpoint_tail c l delta gs) + (l.frame.type_at - l.frame.at) ≤ l.frame.size
     → Holds b (length b) at (checkpoint_bytes c l delta gs)
@@ -310,7 +310,7 @@ checkpoint_stands c k b l delta at gs s gss small h =
     let duration_int = holds_range_int c b s.middle l.delta_at s.duration end middle delta_at s.duration_spelled (holds_at b end (body + length start_bytes) middle duration_bytes (omega arith) q.1) (omega arith) in
     let delta_int : IntAt b delta_at kind_at delta = holds_int b end delta_at delta_bytes delta p.word (spell_spells delta) in
     let count_int : IntAt b count_at place count = holds_int b end count_at count_bytes count p.count (spell_spells count) in
-    -- The pools, and the end behind them.
+    -- The pools, and the end after them.
     let pools : List PoolAt = placed_each (group_bytes c) (placed_group c k) place gs in
     let read = groups_read c k b end gs place gss p.pools in
     let e0 : kind_at ≤ end = p.word.within in

@@ -11,21 +11,21 @@ use Rattle.jfr_pool.specs.declared.link.Link.{Link}
 use Rattle.jfr_pool.specs.declared.entry.EntryAt.{EntryAt}
 use Rattle.jfr_pool.specs.Entries.{entries_from}
 use Rattle.jfr_chunk.specs.Written.{Group, by_pool, group_bytes, distance, checkpoint_tail, sized, checkpoint_bytes}
-use Rattle.jfr_chunk.specs.Scrub.{OutputRecord, Whole, Chained, Written, groups_of, written, record_of, last_at}
+use Rattle.jfr_chunk.specs.Scrub.{OutputRecord, Whole, Chained, Rebuilt, Written, groups_of, written, record_of, last_at}
 use Rattle.jfr_chunk.proofs.AllLaws.{all_append}
 use Rattle.jfr_laws.proofs.Standing.{LinkStands}
-use Rattle.jfr_laws.proofs.ReadBack.{moved_link, tail_lengths, checkpoint_held}
+use Rattle.jfr_laws.proofs.ReadBack.{moved_frame, moved_link, tail_lengths, checkpoint_held}
 use Rattle.jfr_laws.proofs.Checkpoints.{NotOf, others, of_number, later_numbers, block_only}
 use Rattle.jfr_laws.proofs.Copied.{copied_to}
-use Rattle.jfr_laws.proofs.OutputRecords.{Deltas, chained_bytes, bytes_from, new_link, new_links, new_pools, new_place, new_entries, OutputRecordStands, chained_fits, chained_stands}
+use Rattle.jfr_laws.proofs.OutputRecords.{Deltas, own_frame, chained_bytes, bytes_from, new_link, new_links, new_pools, new_place, new_entries, OutputRecordStands, chained_fits, chained_stands}
 use Rattle.jfr_laws.proofs.Output.{entries_back}
 use Rattle.jfr_laws.proofs.Regrouped.{some_each, groups_at, pools_grouped, some_placed, groups_many, groups_again}
 
--- A range of bytes that stand there.
+-- The range of bytes that are there.
 held_range : (b x : List ℕ) (end p q : ℕ) → Holds b end p x → p + length x ≡ q → slice_range b p q ≡ x
 held_range b x end p q h e = ap (slice_range b p) (sym e) ∙ h.bytes
 
--- A checkpoint that was written is written as it stands, with as many pools of the same bytes.
+-- A checkpoint that was written is written unchanged, with the same number of pools and the same bytes.
 checkpoint_again : (c b : List ℕ) (l : Link) (delta at : ℕ) (gs hs : List Group) → LinkStands c l → length (checkpoint_tail c l delta gs) + (l.frame.type_at - l.frame.at) ≤ l.frame.size
     → Holds b (length b) at (checkpoint_bytes c l delta gs) → length hs ≡ length gs → flat_map (group_bytes b) hs ≡ flat_map (group_bytes c) gs
     → checkpoint_bytes b (moved_link at l delta (length (checkpoint_bytes c l delta gs))) delta hs ≡ checkpoint_bytes c l delta gs
@@ -50,9 +50,10 @@ module _ (c : List ℕ) (left : List EntryAt) where
   abbrev pub new_output_records : ℕ → ℕ → Option ℕ → List OutputRecord → List OutputRecord
   new_output_records j at older [] = []
   new_output_records j at older (Whole r ∷ ss) = Whole (copied_to c at r) ∷ new_output_records j (at + length (record_bytes c r)) older ss
+  new_output_records j at older (Rebuilt r x ∷ ss) = Rebuilt (moved_frame at (own_frame x) (length x)) x ∷ new_output_records j (at + length x) older ss
   new_output_records j at older (Chained i l ∷ ss) = Chained j (new_link c left at older i l) ∷ new_output_records (j + 1) (at + length (chained_bytes c left at older i l)) (Some at) ss
 
--- The record stands where it is written.
+-- The record is written at its own offset.
 abbrev pub IsPlaced : Written → Type 0
 IsPlaced w = (record_of w.output_record).at ≡ w.at
 
@@ -62,7 +63,7 @@ pub record Rewritten (at : ℕ) (older : Option ℕ) (bytes : List ℕ) (last : 
   pub last_same : last_at older (written b left at older ss) ≡ last
   pub placed : AllByRecursion IsPlaced (written b left at older ss)
 
--- The first, and those behind it.
+-- The first record, and those after it.
 whole_then : (at : ℕ) (older : Option ℕ) (x bytes : List ℕ) (last : ℕ) (b : List ℕ) (left : List EntryAt) (r : Framed) (ss : List OutputRecord) → r.at ≡ at → record_bytes b r ≡ x → Rewritten (at + length x) older bytes last b left ss
     → Rewritten at older (x ++ bytes) last b left (Whole r ∷ ss)
 whole_then at older x bytes last b left r ss p e i =
@@ -70,6 +71,14 @@ whole_then at older x bytes last b left r ss p e i =
     record { same = (λ k. e k ++ j.same k); last_same = last_of older j.last_same; placed = (p, j.placed) }
   where
     last_of : (older : Option ℕ) → last_at older (written b left (at + length (record_bytes b r)) older ss) ≡ last → last_at older (written b left at older (Whole r ∷ ss)) ≡ last
+    last_of None e = e
+    last_of (Some o) e = e
+
+rebuilt_then : (at : ℕ) (older : Option ℕ) (x bytes : List ℕ) (last : ℕ) (b : List ℕ) (left : List EntryAt) (r : Framed) (ss : List OutputRecord) → r.at ≡ at → Rewritten (at + length x) older bytes last b left ss
+    → Rewritten at older (x ++ bytes) last b left (Rebuilt r x ∷ ss)
+rebuilt_then at older x bytes last b left r ss p j = record { same = ap (λ z. x ++ z) j.same; last_same = last_of older j.last_same; placed = (p, j.placed) }
+  where
+    last_of : (older : Option ℕ) → last_at older (written b left (at + length x) older ss) ≡ last → last_at older (written b left at older (Rebuilt r x ∷ ss)) ≡ last
     last_of None e = e
     last_of (Some o) e = e
 
@@ -85,7 +94,7 @@ chained_then at older x bytes last b left i l ss p e h =
     last_of (Some o) n e = e
 
 module _ (c : List ℕ) (left : List EntryAt) (k : Classes) (b : List ℕ) (all : List EntryAt) where
-  -- The groups of a checkpoint's entries, before and behind those of others.
+  -- The groups of a checkpoint's entries, between those of others.
   groups_block : (j : ℕ) (before later : List EntryAt) (i : ℕ) (l : Link) (at : ℕ) (older : Option ℕ) → all ≡ before ++ (entries_from j 0 (new_pools c left k at older i l) ++ later) → NotOf j before → NotOf j later
       → groups_of all j ≡ groups_at j 0 (new_pools c left k at older i l)
   groups_block j before later i l at older e a d =
@@ -95,7 +104,7 @@ module _ (c : List ℕ) (left : List EntryAt) (k : Classes) (b : List ℕ) (all 
       ∙ (ap by_pool (block_only j before block later a (of_number j 0 (new_pools c left k at older i l)) d)
       ∙ pools_grouped j 0 (new_pools c left k at older i l) (some_placed j c k gs (new_place c left at older i l) (some_each (filter (λ e. e.checkpoint == i) left))))
 
-  -- What stays is written again as it stands, with all entries.
+  -- What is left is written again unchanged, with all entries.
   pub rewritten : (ss : List OutputRecord) (j at : ℕ) (older : Option ℕ) (before : List EntryAt) → AllByRecursion (OutputRecordStands c left k) ss → Deltas (is_some older) ss → Holds b (length b) at (bytes_from c left at older ss)
       → all ≡ before ++ new_entries c left k j at older ss → ((n : ℕ) → j ≤ n → NotOf n before)
       → Rewritten at older (bytes_from c left at older ss) (last_at older (written c left at older ss)) b all (new_output_records c left j at older ss)
@@ -109,6 +118,16 @@ module _ (c : List ℕ) (left : List EntryAt) (k : Classes) (b : List ℕ) (all 
       (whole_then at older (record_bytes c r) (bytes_from c left (at + n) older ss) (last_at older (written c left (at + n) older ss)) b all (copied_to c at r) (new_output_records c left j (at + n) older ss) refl p.0.bytes i)
     where
       last_of : (older : Option ℕ) → last_at older (written c left (at + length (record_bytes c r)) older ss) ≡ last_at older (written c left at older (Whole r ∷ ss))
+      last_of None = refl
+      last_of (Some o) = refl
+  rewritten (Rebuilt r x ∷ ss) j at older before s d h e a =
+      let n : ℕ = length x in
+      let p = holds_parts b (length b) at x (bytes_from c left (at + n) older ss) h in
+      let i = rewritten ss j (at + n) older before s.1 d p.1 e a in
+      subst (λ z. Rewritten at older (bytes_from c left at older (Rebuilt r x ∷ ss)) z b all (new_output_records c left j at older (Rebuilt r x ∷ ss))) (last_of older)
+      (rebuilt_then at older x (bytes_from c left (at + n) older ss) (last_at older (written c left (at + n) older ss)) b all (moved_frame at (own_frame x) n) (new_output_records c left j (at + n) older ss) refl i)
+    where
+      last_of : (older : Option ℕ) → last_at older (written c left (at + length x) older ss) ≡ last_at older (written c left at older (Rebuilt r x ∷ ss))
       last_of None = refl
       last_of (Some o) = refl
   rewritten (Chained i l ∷ ss) j at older before s d h e a =

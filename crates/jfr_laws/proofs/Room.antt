@@ -16,7 +16,7 @@ use Rattle.jfr_laws.proofs.Marks.{all_marked, fewer, marked_append}
 use Rattle.jfr_laws.proofs.Standing.{ConstantStands, Constants, PoolStands, Pools}
 use Rattle.jfr_laws.proofs.Groups.{apart, in_front, by_front}
 
--- The shortest spelling of a number that is not larger fits.
+-- The shortest spelling of a number fits in the bytes of one that isn't smaller.
 pub int_room : (c : List ℕ) (p q v w : ℕ) → IntAt c p q w → v ≤ w → length (spell v) + p ≤ q
 int_room c p q v w i h =
     let a : p ≤ q = i.order in
@@ -91,7 +91,7 @@ module _ (c : List ℕ) (k : Classes) where
       ∙ ap (λ n. n + length later) (length-append (spell p.class) (spell (length fs) ++ items) ∙ ap (λ n. length (spell p.class) + n) (length-append (spell (length fs)) items)) in
       record { count = omega (arith, i.count); bytes = omega (arith, i.bytes) }
 
-  -- The groups of the marked entries of pools have room where the pools were.
+  -- The groups of the marked entries of pools fit in the bytes of the pools.
   pub have_room : (checkpoint number at : ℕ) (pools : List PoolAt) (to : ℕ) (marks : List Bool) → Pools c k at pools to → HaveRoom at pools to (by_pool (marked marks (entries_from checkpoint number pools)))
   have_room checkpoint number at [] to marks s = none marks
     where

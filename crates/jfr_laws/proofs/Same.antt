@@ -1,6 +1,6 @@
 -- A chunk that has copies of another's chosen events, and of the entries that they reach, means the same,
 -- and reaches each of its entries.
-use Rattle.std.specs.Prelude.{◌≡◌, ℕ, ◌<◌, Bool, List, [], ◌∷◌, length, filter, Some, Contains}
+use Rattle.std.specs.Prelude.{◌≡◌, ℕ, ◌<◌, Bool, List, [], ◌∷◌, length, filter, Some, Contains, true}
 use Rattle.std.proofs.Common.{ap, arith, sym, ◌∙◌, subst}
 use Rattle.std.proofs.lemmas.List.Elements.{All-from_recursion, recursion_from_All, All-contains_itself, All-contains}
 use Rattle.jfr_base.proofs.AlikeLaws.{Each}
@@ -10,10 +10,11 @@ use Rattle.jfr_frame.specs.Records.{IsRecord, Rising}
 use Rattle.jfr_frame.proofs.RecordLaws.{rising_of}
 use Rattle.jfr_pool.specs.Entries.{number_in_force}
 use Rattle.jfr_chunk.specs.Parts.{Parts, EventAt, HasFields, event_records, events_of, AreParts}
-use Rattle.jfr_chunk.specs.Reach.{Reached, IsMarked, reached_marks, marked, kept_by, remain}
+use Rattle.jfr_chunk.specs.Reach.{Reached, reached_marks, marked, kept_by, remain}
+use Rattle.jfr_worklist.specs.Marks.{IsMarked}
 use Rattle.jfr_chunk.specs.Meaning.{SameMeaning}
 use Rattle.jfr_chunk.specs.Laws.{AreEvents, SameRecords, SameOnPaths, AreReached}
-use Rattle.jfr_chunk.proofs.Members.{In, contains_in, in_contains}
+use Rattle.jfr_worklist.proofs.Members.{In, contains_in, in_contains}
 use Rattle.jfr_chunk.proofs.AllLaws.{filter_all}
 use Rattle.jfr_chunk.proofs.PathLaws.{Standing}
 use Rattle.jfr_chunk.proofs.StandingLaws.{IsEvent, standing, event_is, tiles_each}
@@ -22,7 +23,7 @@ use Rattle.jfr_chunk.proofs.ReachedLaws.{reached_marked}
 use Rattle.jfr_laws.specs.Laws.{AreCopied}
 use Rattle.jfr_laws.proofs.Marks.{all_marked, all_output_record, rank, ranked}
 use Rattle.jfr_laws.proofs.Entries.{copied_force, marked_force, in_force_same}
-use Rattle.jfr_laws.proofs.Agrees.{agree_on_event}
+use Rattle.jfr_laws.proofs.Suits.{Suits, event_agreed}
 use Rattle.jfr_laws.proofs.Chosen.{records_of, is_kept, records_of_events, chosen_records, rising_filter}
 use Rattle.jfr_laws.proofs.Kept.{CopiedRecord}
 use Rattle.jfr_laws.proofs.Targets.{refers_too, event_beside}
@@ -43,43 +44,46 @@ chosen_events p flags =
 pub event_of_chunk : (p : Parts) (a : AreParts p) (kept : List EventAt) → AreEvents p kept → (e : EventAt) → In kept e → IsEvent p e
 event_of_chunk p a kept k e i = event_is p a e (contains_in (events_of p) e (All-contains (Contains (events_of p)) kept e k (in_contains kept e i)))
 
--- What paths from events reach is what is marked.
+-- The entries that paths from events reach are exactly the marked ones.
 are_reached : (p : Parts) (kept : List EventAt) → AreParts p → AreEvents p kept → AreReached p kept
 are_reached p kept a k number = reached_marked p (standing p a) kept (λ e i. (let v = event_of_chunk p a kept k e i in (v.value, v.node))) number
 
--- All entries remain where each is reached.
+-- All entries remain if each is reached.
 pub all_remain : (p : Parts) → AreParts p → ((number : ℕ) → number < length p.entries → Reached p (events_of p) number) → remain p (events_of p) ≡ p.entries
 unfolding remain
 all_remain p a reached = all_output_record (reached_marks p (events_of p)) p.entries (λ n h. (are_reached p (events_of p) a (All-contains_itself (events_of p)) n).0 (reached n h))
 
 -- Copied records are those of the same events.
-same_records : (p q : Parts) (es fs : List EventAt) → Standing p → p.classes ≡ q.classes → Each (CopiedRecord p.bytes q.bytes p.classes) (records_of es) (records_of fs) → SameRecords p q es fs
-same_records p q [] [] s k c = tt
-same_records p q [] (f ∷ fs) s k c = absurd c
-same_records p q (e ∷ es) [] s k c = absurd c
-same_records p q (e ∷ es) (f ∷ fs) s k c =
-    (record { class = c.0.class; bytes = c.0.bytes; agree = subst (λ m. Agree p.classes m e.record_of.type_id) k (agree_on_event p.classes e.record_of.type_id s.sound c.0.event) }, same_records p q es fs s k c.1)
+same_records : (p q : Parts) (es fs : List EventAt) → ((id : ℕ) → is_event_class q.classes id ≡ true → Agree p.classes q.classes id) → Each (CopiedRecord p.bytes q.bytes q.classes) (records_of es) (records_of fs) → SameRecords p q es fs
+same_records p q [] [] g c = tt
+same_records p q [] (f ∷ fs) g c = absurd c
+same_records p q (e ∷ es) [] g c = absurd c
+same_records p q (e ∷ es) (f ∷ fs) g c =
+    (record { class = c.0.class; bytes = c.0.bytes; agree = g e.record_of.type_id c.0.event }, same_records p q es fs g c.1)
 
--- Two chunks of the same classes, of which the second has copies of the chosen events and of the entries
--- that they reach.
-module _ (p q : Parts) (a : AreParts p) (b : AreParts q) (flags : List Bool) (same_classes : p.classes ≡ q.classes) where
+-- What is marked is reached.
+pub marks_reached : (p : Parts) (a : AreParts p) (flags : List Bool) (n : ℕ) → IsMarked (reached_marks p (kept_by p flags)) n → Reached p (kept_by p flags) n
+marks_reached p a flags n = (are_reached p (kept_by p flags) a (chosen_events p flags) n).1
+
+-- Two chunks, of which the second has copies of the chosen events and of the entries that they reach, under
+-- classes that suit these.
+module _ (p q : Parts) (a : AreParts p) (b : AreParts q) (flags : List Bool) (suits : Suits p (kept_by p flags) q.classes) where
   abbrev kept : List EventAt
   kept = kept_by p flags
 
   abbrev marks : List Bool
   marks = reached_marks p kept
 
-  module _ (records : Each (CopiedRecord p.bytes q.bytes p.classes) (filter (is_kept kept) (event_records p.classes p.records)) (event_records p.classes q.records))
+  module _ (records : Each (CopiedRecord p.bytes q.bytes q.classes) (filter (is_kept kept) (event_records p.classes p.records)) (event_records q.classes q.records))
       (entries : AreCopied p q (marked marks p.entries) q.entries) where
     -- The events are the same ones.
     pub same_events : SameRecords p q kept (events_of q)
     same_events =
         let rising : Rising 68 (event_records p.classes p.records) = rising_filter (λ r. is_event_class p.classes r.type_id) 68 p.records (rising_of p.bytes 68 68 (length p.bytes) p.records (omega arith) a.records) in
         let chosen = chosen_records flags (events_of p) (event_records p.classes p.records) 68 (event_records_of p a) rising in
-        let news : event_records p.classes q.records ≡ records_of (events_of q) = ap (λ k. event_records k q.records) same_classes ∙ sym (event_records_of q b) in
-        same_records p q kept (events_of q) (standing p a) same_classes
-        (subst (λ z. Each (CopiedRecord p.bytes q.bytes p.classes) z (records_of (events_of q))) chosen
-        (subst (λ z. Each (CopiedRecord p.bytes q.bytes p.classes) (filter (is_kept kept) (event_records p.classes p.records)) z) news records))
+        same_records p q kept (events_of q) suits.agree
+        (subst (λ z. Each (CopiedRecord p.bytes q.bytes q.classes) z (records_of (events_of q))) chosen
+        (subst (λ z. Each (CopiedRecord p.bytes q.bytes q.classes) (filter (is_kept kept) (event_records p.classes p.records)) z) (sym (event_records_of q b)) records))
 
     -- What a path meets is reached, so it is the same in both.
     same_on_paths : SameOnPaths p q kept
@@ -91,15 +95,15 @@ module _ (p q : Parts) (a : AreParts p) (b : AreParts q) (flags : List Bool) (sa
     pub mean_the_same : SameMeaning p q kept (events_of q)
     mean_the_same = same_meaning p q a b kept (events_of q) (chosen_events p flags) (All-contains_itself (events_of q)) same_events same_on_paths
 
-    -- An entry that the first chunk reaches is reached in the second, where it has the number of those that
-    -- are marked.
+    -- An entry that is reached in the first chunk is reached in the second, where its number is its rank
+    -- among the marked ones.
     reached_there : (place number : ℕ) → IsMarked marks place → rank marks place ≡ number → Reached p kept place → Reached q (events_of q) number
     reached_there place number m n r =
         let i : In kept r.event = contains_in kept r.event r.is_kept in
         let x = event_beside p q kept (events_of q) r.event mean_the_same i in
-        let v = event_of_chunk p a kept (chosen_events p flags) r.event i in
         let w = event_of_chunk q b (events_of q) (All-contains_itself (events_of q)) x.0 x.1 in
-        let t = refers_too p q (standing p a) (standing q b) r.event x.0 v.value w.value r.path r.node r.key same_classes v.node w.node x.2.paths r.leads_there r.refers in
+        let g = event_agreed p q.classes (standing p a) kept suits (event_of_chunk p a kept (chosen_events p flags)) r.event i in
+        let t = refers_too p q (standing p a) (standing q b) r.event x.0 w.value r.path r.node r.key g w.node x.2.paths r.leads_there r.refers in
         let f : number_in_force q.entries r.key ≡ Some number =
         sym (copied_force p q (marked marks p.entries) q.entries r.key entries) ∙ (marked_force marks p.entries r.key place r.in_force m ∙ ap (λ z. Some z) n) in
         record { event = x.0; is_kept = in_contains (events_of q) x.0 x.1; path = r.path; node = t.node; leads_there = t.leads_there; key = r.key; refers = t.refers; in_force = f }

@@ -1,18 +1,32 @@
 -- What an accepted chunk becomes, with the events that flags choose, is kept.
-use Rattle.std.specs.Prelude.{◌≡◌, ℕ, ◌^◌, ◌<◌, ◌≤◌, Bool, List, [], ◌∷◌, length}
-use Rattle.std.proofs.Common.{arith, refl, sym, ◌∙◌, subst}
+use Rattle.std.specs.Prelude.{◌≡◌, ℕ, ◌^◌, ◌<◌, ◌≤◌, Bool, List, [], ◌∷◌, length, Option, Some, None}
+use Rattle.std.specs.List.{AllByRecursion}
+use Rattle.jfr_layout.specs.Classes.{Classes}
+use Rattle.jfr_chunk.specs.Laws.{AreEvents}
+use Rattle.jfr_chunk.proofs.StandingLaws.{standing}
+use Rattle.std.proofs.Common.{ap, arith, refl, sym, ◌∙◌, subst}
 use Rattle.jfr_header.specs.Fronts as fronts
 use Rattle.jfr_pool.specs.declared.entry.EntryAt.{EntryAt}
-use Rattle.jfr_chunk.specs.Parts.{Parts, EventAt, AreParts}
+use Rattle.jfr_chunk.specs.Parts.{Parts, EventAt, AreParts, events_of}
 use Rattle.jfr_chunk.specs.Reach.{reached_marks, marked, kept_by, remain}
-use Rattle.jfr_chunk.specs.Scrub.{scrub_of}
+use Rattle.jfr_chunk.specs.Scrub.{scrub_of, output_records, written_anew}
+use Rattle.jfr_meta.specs.Written.{IsText}
+use Rattle.jfr_laws.proofs.Premises.{GoodAnew, metadata_stands}
+use Rattle.jfr_laws.proofs.AnewLaws.{good_anew}
 use Rattle.jfr_laws.specs.Laws.{AreCopied, IsKept}
 use Rattle.jfr_laws.proofs.Entries.{are_copied}
 use Rattle.jfr_laws.proofs.Header.{whole_small}
-use Rattle.jfr_laws.proofs.Whole.{Leading, out, out_leading, out_whole, out_shorter}
-use Rattle.jfr_laws.proofs.Rebuilt.{new_parts, parts_stand, entries_copied, records_copied}
+use Rattle.jfr_laws.proofs.Whole.{metadata_new, Leading, left_of, is_ready, out, out_leading, out_whole, out_shorter}
+use Rattle.jfr_laws.proofs.Rebuilt.{found, metadata_is, same_body, new_parts, parts_stand, entries_copied, records_copied}
 use Rattle.jfr_laws.proofs.Again.{nothing_changes}
-use Rattle.jfr_laws.proofs.Same.{chosen_events, same_events, mean_the_same, all_reached}
+use Rattle.jfr_laws.proofs.OutputRecords.{OutputRecordStands}
+use Rattle.jfr_laws.proofs.Suits.{left_agree, records_too}
+use Rattle.jfr_laws.proofs.Anews.{Anew, anew}
+use Rattle.jfr_laws.proofs.Settles.{settles_again, new_size}
+use Rattle.jfr_frame.specs.declared.framed.Framed.{Framed}
+use Rattle.jfr_laws.proofs.Copied.{record_length}
+use Rattle.jfr_laws.proofs.Found.{shown_frame}
+use Rattle.jfr_laws.proofs.Same.{chosen_events, event_of_chunk, marks_reached, same_events, mean_the_same, all_reached}
 
 copied_length : (p q : Parts) (es fs : List EntryAt) → AreCopied p q es fs → length es ≡ length fs
 copied_length p q [] [] a = refl
@@ -24,6 +38,9 @@ module _ (p : Parts) (a : AreParts p) (flags : List Bool) where
   abbrev kept : List EventAt
   kept = kept_by p flags
 
+  abbrev are : AreEvents p kept
+  are = chosen_events p flags
+
   abbrev marks : List Bool
   marks = reached_marks p kept
 
@@ -31,39 +48,58 @@ module _ (p : Parts) (a : AreParts p) (flags : List Bool) where
   unfolding scrub_of remain
   out_is = refl
 
-  -- Where what is written stands behind a header that leads to it.
+  good : GoodAnew p.bytes (written_anew p kept)
+  good = good_anew p a kept
+
+  -- The classes that are left, and that they suit.
+  n : Anew p a kept
+  n = anew p a kept are
+
+  abbrev m : Classes
+  m = n.classes
+
+  stands : AllByRecursion (OutputRecordStands p.bytes (left_of p marks) m) (output_records p kept)
+  stands =
+      records_too p.bytes p.classes m (left_of p marks) (left_agree p m (standing p a) kept n.suits (event_of_chunk p a kept are) marks (marks_reached p a flags)) (output_records p kept) (is_ready p kept marks a good).stand
+
+  -- The output after a header that leads to it.
   module _ (b : List ℕ) (s : Leading p kept marks b) (small : length b < 2 ^ 63) where
     abbrev parts : Parts
-    parts = new_parts p a kept marks b s
+    parts = new_parts p a kept are good marks b s m n.suits stands n.reads
 
     abbrev stand : AreParts parts
-    stand = parts_stand p a kept marks b s small
+    stand = parts_stand p a kept are good marks b s m n.suits stands n.reads small
+
+    shown_size : (w : Option (List ℕ)) → (shown_frame p.bytes w a.metadata_record (found p a kept are good marks b s).place).size ≡ new_size p a w
+    shown_size None = record_length p.bytes a.metadata_record (metadata_stands p a)
+    shown_size (Some x) = refl
 
     copied : AreCopied p parts (marked marks p.entries) parts.entries
-    copied = are_copied p parts (marked marks p.entries) parts.entries (entries_copied p a kept marks b s)
+    copied = are_copied p parts (marked marks p.entries) parts.entries (entries_copied p a kept are good marks b s m n.suits stands n.reads)
 
     parts_kept : b ≡ scrub_of p kept → fronts.Whole b → length b ≤ length p.bytes → IsKept p kept
     unfolding remain
     parts_kept e w l =
-        let records = records_copied p a kept marks b s in
-        let reached = all_reached p parts a stand flags refl records copied (copied_length p parts (marked marks p.entries) parts.entries copied) in
+        let records = records_copied p a kept are good marks b s m n.suits stands n.reads in
+        let reached = all_reached p parts a stand flags n.suits records copied (copied_length p parts (marked marks p.entries) parts.entries copied) in
+        let events = same_events p parts a stand flags n.suits records copied in
         record {
           parts = parts;
-          classes = refl;
+          classes = n.left;
           bytes = e;
           whole = subst fronts.Whole e w;
           stand = stand;
           size = subst (λ z. length z ≤ length p.bytes) e l;
-          events = same_events p parts a stand flags refl records copied;
+          events = events;
           entries = copied;
-          meaning = mean_the_same p parts a stand flags refl records copied;
+          meaning = mean_the_same p parts a stand flags n.suits records copied;
           reached = reached;
-          again = nothing_changes p a kept (chosen_events p flags) marks b s small reached (e ∙ sym out_is);
+          again = nothing_changes p a kept are good marks b s m n.suits stands n.reads small reached (settles_again p a kept are n parts stand refl events (same_body p a kept are good marks b s m n.suits stands n.reads) (ap (λ (z : Framed). z.size) (metadata_is p a kept are good marks b s m n.suits stands n.reads small) ∙ shown_size (metadata_new p kept a))) (e ∙ sym out_is);
         }
 
   pub scrubbed_kept : fronts.Whole p.bytes → IsKept p kept
   scrubbed_kept whole =
       let b : List ℕ = out p kept marks in
-      let shorter : length b ≤ length p.bytes = out_shorter p kept marks a in
+      let shorter : length b ≤ length p.bytes = out_shorter p kept marks a good in
       let small = whole_small p.bytes whole in
-      parts_kept b (out_leading p kept marks a whole) (omega arith) out_is (out_whole p kept marks a whole) shorter
+      parts_kept b (out_leading p kept marks a good whole) (omega arith) out_is (out_whole p kept marks a good whole) shorter

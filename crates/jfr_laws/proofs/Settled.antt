@@ -2,46 +2,53 @@
 use Rattle.std.specs.Prelude.{◌≡◌, true, false, List, [], ◌∷◌, length, map, replicate}
 use Rattle.std.specs.List.{AllByRecursion}
 use Rattle.std.specs.Option.{option_map_or}
-use Rattle.std.proofs.Common.{ap, refl, sym, ◌∙◌, inl, inr}
+use Rattle.std.proofs.Common.{ap, refl, sym, ◌∙◌, subst, inl, inr}
 use Rattle.jfr_header.specs.Fronts.{Whole}
 use Rattle.jfr_filter.specs.Filters.{Given, keeps}
-use Rattle.jfr_layout.specs.Classes.{find_class}
+use Rattle.jfr_layout.specs.Classes.{Agree, find_class}
+use Rattle.jfr_layout.specs.declared.shape.Shape.{Shape}
+use Rattle.jfr_value.specs.Values.{shape_of}
+use Rattle.jfr_meta.specs.Written.{IsText}
+use Rattle.jfr_chunk.specs.Laws.{SameRecord, SameRecords}
+use Rattle.jfr_laws.proofs.Anews.{left_found}
 use Rattle.jfr_chunk.specs.Parts.{Parts, EventAt, events_of, AreParts}
 use Rattle.jfr_chunk.specs.Reach.{marked}
-use Rattle.jfr_chunk.specs.Chosen.{thread_names, thread_text, is_chosen, chosen, kept_of}
+use Rattle.jfr_chunk.specs.Chosen.{java_names, system_names, or_else, thread_text, is_chosen, chosen, kept_of}
 use Rattle.jfr_chunk.specs.Scrub.{scrub_of}
 use Rattle.jfr_chunk.specs.Meaning.{SameEvent, SameMeaning}
-use Rattle.jfr_chunk.proofs.Members.{In}
+use Rattle.jfr_worklist.proofs.Members.{In}
 use Rattle.jfr_chunk.proofs.StandingLaws.{IsEvent, standing, event_is}
 use Rattle.jfr_laws.specs.Laws.{IsKept, IsSettled}
 use Rattle.jfr_laws.proofs.Marks.{all_of_them, marked_pass}
 use Rattle.jfr_laws.proofs.Same.{chosen_events, event_of_chunk}
-use Rattle.jfr_laws.proofs.SameTexts.{texts_same}
+use Rattle.jfr_laws.proofs.SameTexts.{Twins, texts_same}
 use Rattle.jfr_laws.proofs.Scrubbed.{scrubbed_kept}
 
-module _ (g : Given) (p q : Parts) (a : AreParts p) (b : AreParts q) (same_classes : p.classes ≡ q.classes) where
+module _ (g : Given) (p q : Parts) (a : AreParts p) (b : AreParts q) (kept : List EventAt) (found : (e : EventAt) → In kept e → find_class q.classes e.record_of.type_id ≡ find_class p.classes e.record_of.type_id) where
   -- Events that mean the same have the same answer.
-  same_answer : (e f : EventAt) → IsEvent p e → IsEvent q f → SameEvent p q e f → is_chosen g p e ≡ is_chosen g q f
-  same_answer e f i j h =
+  same_answer : (e f : EventAt) → In kept e → IsEvent p e → IsEvent q f → SameRecord p q e f → SameEvent p q e f → is_chosen g p e ≡ is_chosen g q f
+  same_answer e f k i j r h =
+      let agree : Agree p.classes q.classes (shape_of i.value).class = subst (Agree p.classes q.classes) (ap (λ (y : Shape). y.class) (sym i.shape ∙ i.node.shape)) r.agree in
+      let twins : Twins p q (standing p a) (standing q b) e.node f.node = record { value = i.value; left = i.node; other = j.value; right = j.node; paths = h.paths; agree = agree } in
       let text : thread_text p e ≡ thread_text q f =
-      texts_same p q (standing p a) (standing q b) same_classes thread_names e.node f.node (record { value = i.value; left = i.node; other = j.value; right = j.node; paths = h.paths }) in
+      λ z. or_else (texts_same p q (standing p a) (standing q b) java_names e.node f.node twins z) (texts_same p q (standing p a) (standing q b) system_names e.node f.node twins z) in
       ap (λ t. option_map_or (λ c. keeps g c.name c.categories t) (find_class p.classes e.record_of.type_id) false) text
-      ∙ (ap (λ k. option_map_or (λ c. keeps g c.name c.categories (thread_text q f)) (find_class k e.record_of.type_id) false) same_classes
+      ∙ (ap (λ o. option_map_or (λ c. keeps g c.name c.categories (thread_text q f)) o false) (sym (found e k))
       ∙ ap (λ t. option_map_or (λ c. keeps g c.name c.categories (thread_text q f)) (find_class q.classes t) false) h.class)
 
   -- Where the first ones are kept, so are the others.
-  all_kept : (es fs : List EventAt) → ((e : EventAt) → In es e → IsEvent p e) → ((f : EventAt) → In fs f → IsEvent q f) → SameMeaning p q es fs → AllByRecursion (λ e. is_chosen g p e ≡ true) es
+  all_kept : (es fs : List EventAt) → ((e : EventAt) → In es e → In kept e) → ((e : EventAt) → In es e → IsEvent p e) → ((f : EventAt) → In fs f → IsEvent q f) → SameRecords p q es fs → SameMeaning p q es fs → AllByRecursion (λ e. is_chosen g p e ≡ true) es
       → map (is_chosen g q) fs ≡ replicate (length fs) true
-  all_kept [] [] i j m c = refl
-  all_kept [] (f ∷ fs) i j m c = absurd m
-  all_kept (e ∷ es) [] i j m c = absurd m
-  all_kept (e ∷ es) (f ∷ fs) i j m c =
-      let here : is_chosen g q f ≡ true = sym (same_answer e f (i e (inl refl)) (j f (inl refl)) m.0) ∙ c.0 in
-      ap (λ t. t ∷ map (is_chosen g q) fs) here ∙ ap (λ z. true ∷ z) (all_kept es fs (λ e k. i e (inr k)) (λ f k. j f (inr k)) m.1 c.1)
+  all_kept [] [] k i j r m c = refl
+  all_kept [] (f ∷ fs) k i j r m c = absurd m
+  all_kept (e ∷ es) [] k i j r m c = absurd m
+  all_kept (e ∷ es) (f ∷ fs) k i j r m c =
+      let here : is_chosen g q f ≡ true = sym (same_answer e f (k e (inl refl)) (i e (inl refl)) (j f (inl refl)) r.0 m.0) ∙ c.0 in
+      ap (λ t. t ∷ map (is_chosen g q) fs) here ∙ ap (λ z. true ∷ z) (all_kept es fs (λ e l. k e (inr l)) (λ e l. i e (inr l)) (λ f l. j f (inr l)) r.1 m.1 c.1)
 
-  all_chosen : SameMeaning p q (kept_of g p) (events_of q) → chosen g q ≡ replicate (length (events_of q)) true
-  all_chosen m =
-      all_kept (kept_of g p) (events_of q) (event_of_chunk p a (kept_of g p) (chosen_events p (chosen g p))) (event_is q b) m (marked_pass (is_chosen g p) (events_of p))
+  all_chosen : kept ≡ kept_of g p → SameRecords p q (kept_of g p) (events_of q) → SameMeaning p q (kept_of g p) (events_of q) → chosen g q ≡ replicate (length (events_of q)) true
+  all_chosen e r m =
+      all_kept (kept_of g p) (events_of q) (λ x i. subst (λ z. In z x) (sym e) i) (event_of_chunk p a (kept_of g p) (chosen_events p (chosen g p))) (event_is q b) r m (marked_pass (is_chosen g p) (events_of p))
 
 -- Where a filter keeps all events, these are what it keeps.
 pub keeps_all : (g : Given) (p : Parts) → chosen g p ≡ replicate (length (events_of p)) true → kept_of g p ≡ events_of p
@@ -54,5 +61,6 @@ again_same g p all e = ap (scrub_of p) (keeps_all g p all) ∙ e
 pub settled : (g : Given) (p : Parts) → Whole p.bytes → AreParts p → IsSettled g p
 settled g p whole a =
     let k : IsKept p (kept_of g p) = scrubbed_kept p a (chosen g p) whole in
-    let all : chosen g k.parts ≡ replicate (length (events_of k.parts)) true = all_chosen g p k.parts a k.stand (sym k.classes) k.meaning in
+    let found = λ (e : EventAt) (i : In (kept_of g p) e). ap (λ m. find_class m e.record_of.type_id) k.classes ∙ left_found p a (kept_of g p) (chosen_events p (chosen g p)) e i in
+    let all : chosen g k.parts ≡ replicate (length (events_of k.parts)) true = all_chosen g p k.parts a k.stand (kept_of g p) found refl k.events k.meaning in
     record { kept = k; all = all; again = again_same g k.parts all k.again }

@@ -17,7 +17,7 @@ use Rattle.jfr_pool.specs.declared.entry.EntryAt.{EntryAt}
 use Rattle.jfr_pool.specs.Entries.{inline, pool_check, Constant, constant_format, PoolAt, pool_format, checkpoint_format}
 use Rattle.jfr_chunk.specs.Written.{Group}
 
--- The entry stands in the chunk: its class is known, and its key and its value stand where it says.
+-- The entry is in the chunk: its class is known, and its key and its value are at its offsets.
 pub record EntryStands (c : List ℕ) (k : Classes) (e : EntryAt) : Type 0 where
   pub value : Value
   pub known : pool_check k e.class ≡ None
@@ -26,11 +26,11 @@ pub record EntryStands (c : List ℕ) (k : Classes) (e : EntryAt) : Type 0 where
   pub within : e.end ≤ length c
   pub exact : Exactly (value_format k (inline e.class)) (slice_range c e.value_at e.end) value
 
--- The entries of a group stand, and have its class.
+-- The entries of a group are in the chunk, and have its class.
 abbrev pub GroupStands : List ℕ → Classes → Group → Type 0
 GroupStands c k g = (pool_check k g.class ≡ None) × AllByRecursion (λ e. EntryStands c k e × (e.class ≡ g.class)) g.entries
 
--- The link stands in the chunk: its record, and the integers of its head.
+-- The link is in the chunk: its record, and the integers of its head.
 pub record LinkStands (c : List ℕ) (l : Link) : Type 0 where
   pub record_stands : IsRecord c l.frame
   pub is_checkpoint : l.frame.type_id ≡ 1
@@ -44,7 +44,7 @@ pub record LinkStands (c : List ℕ) (l : Link) : Type 0 where
   pub delta_is : l.delta ≡ cast_signed w64 word
   pub kind_within : l.delta_end + 1 ≤ length c
 
--- A constant of the class stands from a place up to another.
+-- The bytes from an offset up to another spell a constant of the class.
 pub record ConstantStands (c : List ℕ) (k : Classes) (class at : ℕ) (x : Constant) : Type 0 where
   pub begins : x.key_at ≡ at
   pub key : IntAt c x.key_at x.value_at x.key
@@ -52,12 +52,12 @@ pub record ConstantStands (c : List ℕ) (k : Classes) (class at : ℕ) (x : Con
   pub within : x.end ≤ length c
   pub exact : Exactly (value_format k (inline class)) (slice_range c x.value_at x.end) x.value
 
--- Constants stand one after another.
+-- The bytes spell constants, one after another.
 abbrev pub Constants : List ℕ → Classes → ℕ → ℕ → List Constant → ℕ → Type 0
 Constants c k class at [] to = to ≡ at
 Constants c k class at (x ∷ xs) to = ConstantStands c k class at x × Constants c k class x.end xs to
 
--- A pool stands from a place up to another: its class and its count, and then its constants.
+-- The bytes from an offset up to another spell a pool: its class and its count, then its constants.
 pub record PoolStands (c : List ℕ) (k : Classes) (at : ℕ) (p : PoolAt) (to : ℕ) : Type 0 where
   pub count_at : ℕ
   pub first : ℕ
@@ -66,12 +66,12 @@ pub record PoolStands (c : List ℕ) (k : Classes) (at : ℕ) (p : PoolAt) (to :
   pub count : IntAt c count_at first (length p.constants)
   pub constants : Constants c k p.class first p.constants to
 
--- Pools stand one after another.
+-- The bytes spell pools, one after another.
 abbrev pub Pools : List ℕ → Classes → ℕ → List PoolAt → ℕ → Type 0
 Pools c k at [] to = to ≡ at
 Pools c k at (p ∷ ps) to = (m : ℕ) × PoolStands c k at p m × Pools c k m ps to
 
--- A checkpoint's body stands from a place up to an end.
+-- The bytes from an offset up to an end spell a checkpoint's body.
 pub record BodyStands (c : List ℕ) (k : Classes) (end at : ℕ) (pools : List PoolAt) : Type 0 where
   pub middle : ℕ
   pub delta_at : ℕ
@@ -88,7 +88,7 @@ pub record BodyStands (c : List ℕ) (k : Classes) (end at : ℕ) (pools : List 
   pub rest : Pools c k first pools end
 
 module _ (c : List ℕ) (k : Classes) (end : ℕ) (inside : end ≤ length c) where
-  -- What is read stands: a constant, constants, a pool, pools.
+  -- The bytes spell what is read: a constant, constants, a pool, pools.
   constant_stands : (class at : ℕ) (x : Constant) (to : ℕ) → Reads (constant_format k class) c end at x to → ConstantStands c k class at x × (to ≡ x.end)
   constant_stands class at x to r =
       let q : ℕ = r.0 in

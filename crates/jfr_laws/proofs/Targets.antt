@@ -1,10 +1,12 @@
--- Nodes of equal shape and bytes refer to the same, in whichever chunk they stand.
+-- Nodes with equal shape and bytes refer to the same, in any chunk.
 use Rattle.std.specs.Prelude.{◌≡◌, ℕ, List, [], ◌∷◌, Option, Some, None, option_and_then}
 use Rattle.std.specs.Option.{option_map}
 use Rattle.std.proofs.Common.{ap, refl, sym, ◌∙◌, subst, inl, inr}
 use Rattle.jfr_base.specs.Formats.{Exactly}
 use Rattle.jfr_base.proofs.OnceLaws.{exact_once}
-use Rattle.jfr_layout.specs.Classes.{Classes, Sound}
+use Rattle.jfr_layout.specs.Classes.{Classes, Sound, Agree}
+use Rattle.jfr_value.proofs.ByteLaws.{node_agree}
+use Rattle.jfr_laws.proofs.Suits.{Agreed, agreed_class, path_agreed}
 use Rattle.jfr_value.specs.declared.node.Step.{Step}
 use Rattle.jfr_value.specs.declared.node.Step.TheVariants as steps
 use Rattle.jfr_value.specs.Values.{Value, shape_of, bytes_of, own_target}
@@ -18,27 +20,19 @@ use Rattle.jfr_pool.specs.Entries.{in_force, entry_node}
 use Rattle.jfr_chunk.specs.Parts.{Parts, EventAt}
 use Rattle.jfr_chunk.specs.Paths.{step, leads}
 use Rattle.jfr_chunk.specs.Meaning.{SamePaths, SameEvent, SameMeaning}
-use Rattle.jfr_chunk.proofs.Members.{In}
+use Rattle.jfr_worklist.proofs.Members.{In}
 use Rattle.jfr_chunk.proofs.PathLaws.{Standing}
 
--- What stands beside something.
+-- The counterpart of a value.
 beside : {A B : Type 0} (R : A → B → Type 0) (x : Option A) (y : Option B) (a : A) → Both R x y → x ≡ Some a → (b : B) × (y ≡ Some b) × R a b
 beside R None None a r e = cc
 beside R (Some c) (Some b) a r e = let h : c ≡ a = cc in (b, refl, subst (λ z. R z b) h r)
 beside R None (Some c) a r e = absurd r
 beside R (Some c) None a r e = absurd r
 
--- One value stands at nodes of equal shape and bytes.
-same_value : (k : Classes) (c d : List ℕ) (n o : NodeAt) (v w : Value) → Sound k → IsNode k c n v → IsNode k d o w → SameNode c d n o → v ≡ w
-same_value k c d n o v w s i j h =
-    let shape : shape_of w ≡ shape_of v = sym j.shape ∙ (sym h.shape ∙ i.shape) in
-    let bytes : bytes_of w ≡ bytes_of v = sym j.bytes ∙ (sym h.bytes ∙ i.bytes) in
-    let e : Exactly (value_format k (shape_of v)) (bytes_of v) v = fits_good k v s i.fits in
-    let f : Exactly (value_format k (shape_of w)) (bytes_of w) w = fits_good k w s j.fits in
-    (exact_once (value_format k (shape_of v)) (bytes_of v) (bytes_of v) [] [] v w e (subst (λ z. Exactly (value_format k z) (bytes_of v) w) shape (subst (λ z. Exactly (value_format k (shape_of w)) z w) bytes f)) refl).value
-
-same_target : (k : Classes) (c d : List ℕ) (n o : NodeAt) (v w : Value) → Sound k → IsNode k c n v → IsNode k d o w → SameNode c d n o → target k c n ≡ target k d o
-same_target k c d n o v w s i j h = target_is k c n v s i ∙ (ap own_target (same_value k c d n o v w s i j h) ∙ sym (target_is k d o w s j))
+-- Nodes that are the same refer to the same, under classes that agree.
+agreed_target : (k m : Classes) (c d : List ℕ) (n o : NodeAt) (v w : Value) → Sound k → Sound m → Agree k m n.shape.class → IsNode k c n v → IsNode m d o w → SameNode c d n o → target k c n ≡ target m d o
+agreed_target k m c d n o v w s t g i j h = target_is k c n v s i ∙ sym (target_is m d o v t (node_agree k m c d n o v i h.shape h.bytes j.order j.within g))
 
 module _ (p : Parts) (s : Standing p) where
   -- What a path leads to is a node.
@@ -78,16 +72,15 @@ pub record RefersToo (q : Parts) (f : EventAt) (path : List Step) (key : ℕ × 
   pub leads_there : leads q f.node path ≡ Some node
   pub refers : target q.classes q.bytes node ≡ Some key
 
-pub refers_too : (p q : Parts) (s : Standing p) (r : Standing q) (e f : EventAt) (v w : Value) (path : List Step) (n : NodeAt) (key : ℕ × ℕ) → p.classes ≡ q.classes → IsNode p.classes p.bytes e.node v → IsNode q.classes q.bytes f.node w
+pub refers_too : (p q : Parts) (s : Standing p) (r : Standing q) (e f : EventAt) (w : Value) (path : List Step) (n : NodeAt) (key : ℕ × ℕ) → Agreed p q.classes s e.node → IsNode q.classes q.bytes f.node w
     → SamePaths p q e.node f.node → leads p e.node path ≡ Some n → target p.classes p.bytes n ≡ Some key → RefersToo q f path key
-refers_too p q s r e f v w path n key k i j same l t =
+refers_too p q s r e f w path n key a j same l t =
     let m = beside (SameNode p.bytes q.bytes) (leads p e.node path) (leads q f.node path) n (same path) l in
-    let x = path_node p s path e.node n v i l in
+    let x = path_agreed p q.classes s path e.node n a l in
     let y = path_node q r path f.node m.0 w j m.1 in
-    let z : IsNode p.classes q.bytes m.0 y.0 = subst (λ u. IsNode u q.bytes m.0 y.0) (sym k) y.1 in
-    record { node = m.0; leads_there = m.1; refers = ap (λ u. target u q.bytes m.0) (sym k) ∙ (sym (same_target p.classes p.bytes q.bytes n m.0 x.0 y.0 s.sound x.1 z m.2) ∙ t) }
+    record { node = m.0; leads_there = m.1; refers = sym (agreed_target p.classes q.classes p.bytes q.bytes n m.0 x.value y.0 s.sound r.sound (agreed_class p q.classes s n x) x.node y.1 m.2) ∙ t }
 
--- The event that stands beside one.
+-- The counterpart of an event.
 pub event_beside : (p q : Parts) (es fs : List EventAt) (e : EventAt) → SameMeaning p q es fs → In es e → (f : EventAt) × In fs f × SameEvent p q e f
 event_beside p q [] fs e m i = absurd i
 event_beside p q (x ∷ es) [] e m i = absurd m

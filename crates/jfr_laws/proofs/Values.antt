@@ -1,4 +1,4 @@
--- What is read from bytes is read, the same, wherever they stand.
+-- The same value is read from the same bytes at any offset.
 use Rattle.std.specs.Prelude.{◌≡◌, ℕ, ◌≤◌, List, [], length, Some, Ok, Err, unwrap_or, slice_range}
 use Rattle.std.proofs.Common.{ap, arith, refl, subst}
 use Rattle.jfr_base.specs.Formats.{Format, Exactly, Reads, Answer, Got, run}
@@ -11,7 +11,7 @@ use Rattle.jfr_value.specs.Nodes.{got_value, value_of}
 use Rattle.jfr_pool.specs.declared.entry.EntryAt.{EntryAt}
 use Rattle.jfr_pool.specs.Entries.{inline, entry_node}
 
--- What stands exactly is read there.
+-- A value whose exact bytes are there is read there.
 pub exact_reads : {A : Type 0} (f : Format A) (x : List ℕ) (end at to : ℕ) (b : List ℕ) (a : A) → Exactly f b a → Stands x at to b → to ≤ end → end ≤ length x → Reads f x end at a to
 exact_reads {A = A} f x end at to b a e s i h = by_answer (run f x end at) (exact_run x end h f at to b a e s i) (run_says f x end at (omega (arith, s.order)) h)
   where

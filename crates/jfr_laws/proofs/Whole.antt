@@ -1,24 +1,29 @@
--- What is written of a chunk, behind a header: it is whole, and no longer than the chunk.
+-- The output with its header: it is whole, and no longer than the chunk.
 use Rattle.std.specs.Prelude.{◌≡◌, ℕ, ◌+◌, ◌^◌, ◌<◌, ◌≤◌, Bool, true, false, ◌==◌, ◌||◌, List, [], ◌∷◌, ◌++◌, length, Option, Some, None}
 use Rattle.std.specs.List.{AllByRecursion}
 use Rattle.std.proofs.Common.{ap, arith, refl, sym, ◌∙◌, length-append}
 use Rattle.jfr_base.proofs.HoldLaws.{Holds, holds_at, holds_behind}
 use Rattle.jfr_header.specs.Fronts as fronts
+use Rattle.jfr_layout.specs.Classes.{Classes}
+use Rattle.jfr_meta.specs.Body.{Body}
+use Rattle.jfr_meta.specs.Described.{IsMetadata}
 use Rattle.jfr_frame.specs.declared.framed.Framed.{Framed}
 use Rattle.jfr_frame.specs.Records.{IsRecord, record_bytes}
 use Rattle.jfr_frame.proofs.RecordLaws.{record_one}
 use Rattle.jfr_pool.specs.declared.entry.EntryAt.{EntryAt}
 use Rattle.jfr_chunk.specs.Parts.{Parts, EventAt, AreParts, pools_at, metadata_at}
 use Rattle.jfr_chunk.specs.Reach.{marked}
-use Rattle.jfr_chunk.specs.Scrub.{Written, output_records_whole, output_records, written, last_at, moved, header_with, assembled}
-use Rattle.jfr_chunk.proofs.Members.{contains_in}
+use Rattle.jfr_chunk.specs.Scrub.{Written, output_records_whole, written_anew, output_records, written, last_at, moved, header_with, assembled}
+use Rattle.jfr_worklist.proofs.Members.{contains_in}
 use Rattle.jfr_chunk.proofs.TestLaws.{is_eq}
 use Rattle.jfr_laws.proofs.Order.{Numbered, numbered_at, found_numbered}
 use Rattle.jfr_laws.proofs.Header.{whole_small, header_length, made_pools, made_metadata, made_whole}
 use Rattle.jfr_laws.proofs.OutputRecords.{bytes_from}
 use Rattle.jfr_laws.proofs.Lengths.{length_back, last_bound, sizes_within}
-use Rattle.jfr_laws.proofs.Found.{Found, found_back}
-use Rattle.jfr_laws.proofs.Premises.{all_links, IsCheckpoint, Ready, recorded, metadata_stands, chained_checkpoints, ready}
+use Rattle.jfr_chunk.specs.Metas.{slim_of}
+use Rattle.jfr_laws.proofs.Metadata.{SameBody}
+use Rattle.jfr_laws.proofs.Found.{Found, found_back, shown_bytes, shown_frame}
+use Rattle.jfr_laws.proofs.Premises.{all_links, IsCheckpoint, GoodAnew, Ready, recorded, metadata_stands, chained_checkpoints, ready}
 use Rattle.jfr_laws.proofs.Chosen.{is_kept}
 
 only_records : (c : List ℕ) (ts : List Numbered) → AllByRecursion (IsCheckpoint c) ts → AllByRecursion (λ m. IsRecord c m.1.frame) ts
@@ -29,7 +34,7 @@ pub or_right : (x y : Bool) → y ≡ true → (x || y) ≡ true
 or_right true y h = refl
 or_right false y h = h
 
--- No chained checkpoint stands where a record of type 0 does.
+-- No chained checkpoint is at the offset of a record of type 0.
 no_link_at : (c : List ℕ) (all : List Numbered) (f : Framed) → AllByRecursion (IsCheckpoint c) all → IsRecord c f → f.type_id ≡ 0 → numbered_at all f.at ≡ None
 no_link_at c all f a s t = by_find (numbered_at all f.at) refl
   where
@@ -46,6 +51,19 @@ no_link_at c all f a s t = by_find (numbered_at all f.at) refl
 abbrev pub left_of : Parts → List Bool → List EntryAt
 left_of p marks = marked marks p.entries
 
+-- What is built anew of the metadata record, if anything is.
+abbrev pub metadata_new : (p : Parts) → List EventAt → AreParts p → Option (List ℕ)
+metadata_new p kept a = written_anew p kept a.metadata_record
+
+-- What the metadata record that is written holds, but for the places in its tree.
+abbrev pub shown_body : (p : Parts) → List EventAt → Option (List ℕ) → Body
+shown_body p kept None = p.body
+shown_body p kept (Some x) = slim_of p kept
+
+-- At whichever offset the metadata record of the output is, it is read with these classes.
+abbrev pub MetadataReads : (p : Parts) → List EventAt → AreParts p → Classes → Type 0
+MetadataReads p kept a m = (b : List ℕ) (place : ℕ) → Holds b (length b) place (shown_bytes p.bytes (metadata_new p kept a) a.metadata_record) → (body : Body) × IsMetadata b (shown_frame p.bytes (metadata_new p kept a) a.metadata_record place) body m × SameBody (shown_body p kept (metadata_new p kept a)) body
+
 module _ (p : Parts) (kept : List EventAt) (marks : List Bool) where
   -- What is written, and its bytes.
   abbrev pub written_of : List Written
@@ -54,14 +72,14 @@ module _ (p : Parts) (kept : List EventAt) (marks : List Bool) where
   abbrev pub body_of : List ℕ
   body_of = bytes_from p.bytes (left_of p marks) 68 None (output_records p kept)
 
-  -- Where its last checkpoint and its metadata record stand.
+  -- The offsets of the output's last checkpoint and of its metadata record.
   abbrev pub last_of : ℕ
   last_of = last_at None written_of
 
   abbrev pub metadata_of : ℕ
   metadata_of = moved written_of (metadata_at p.bytes)
 
-  -- It stands in bytes behind a header that leads there.
+  -- The output is in bytes after a header that leads to it.
   pub record Leading (b : List ℕ) : Type 0 where
     pub held : Holds b (length b) 68 body_of
     pub size : length b ≡ 68 + length body_of
@@ -84,37 +102,37 @@ module _ (p : Parts) (kept : List EventAt) (marks : List Bool) where
   out_held : Holds out (length out) 68 body_of
   out_held = holds_at out (length out) (length header) 68 body_of header_is_long (holds_behind header body_of)
 
-  module _ (a : AreParts p) where
+  module _ (a : AreParts p) (good : GoodAnew p.bytes (written_anew p kept)) where
     pub is_ready : Ready p (left_of p marks) (output_records p kept)
-    is_ready = ready p a (output_records_whole p kept) marks
+    is_ready = ready p a (output_records_whole p kept) (written_anew p kept) good marks
 
     body_fits : 68 + length body_of ≤ length p.bytes
     body_fits =
         let l = length_back p.bytes (left_of p marks) p.classes (output_records p kept) 68 None is_ready.stand is_ready.deltas in
-        let s = sizes_within p.bytes (all_links p) (output_records_whole p kept) (only_records p.bytes (all_links p) (chained_checkpoints p a)) p.records 68 (length p.bytes) a.records in
+        let s = sizes_within p.bytes (all_links p) (output_records_whole p kept) (written_anew p kept) (only_records p.bytes (all_links p) (chained_checkpoints p a)) p.records 68 (length p.bytes) a.records in
         omega (arith, l, s)
 
     pub out_shorter : length out ≤ length p.bytes
     out_shorter = omega (arith, body_fits, out_size)
 
-    -- The metadata record is found where the body stands.
-    pub metadata_found : (b : List ℕ) → Holds b (length b) 68 body_of → Found p.bytes (left_of p marks) p.classes b a.metadata_record 68 written_of
+    -- The metadata record is found if the body is there.
+    pub metadata_found : (b : List ℕ) → Holds b (length b) 68 body_of → Found p.bytes (left_of p marks) p.classes b a.metadata_record (metadata_new p kept a) 68 written_of
     metadata_found b h =
         let f : Framed = a.metadata_record in
-        found_back p.bytes (left_of p marks) p.classes b (all_links p) (output_records_whole p kept) f (metadata_stands p a)
+        found_back p.bytes (left_of p marks) p.classes b (all_links p) (output_records_whole p kept) (written_anew p kept) f (metadata_stands p a)
         (no_link_at p.bytes (all_links p) f (chained_checkpoints p a) (metadata_stands p a) a.metadata_there.type_is)
         (or_right (is_kept kept f) (f.at == metadata_at p.bytes) (is_eq f.at (metadata_at p.bytes) a.metadata_there.place))
         p.records 68 None (recorded p a) (contains_in p.records f a.metadata_there.listed) is_ready.stand is_ready.deltas h
 
     module _ (whole : fronts.Whole p.bytes) where
-      small : length p.bytes < 2 ^ 28
+      small : length p.bytes < 2 ^ 30
       small = whole_small p.bytes whole
 
       pub out_leading : Leading out
       out_leading =
           let f = metadata_found out out_held in
           let m : metadata_of ≡ f.place = ap (moved written_of) (sym a.metadata_there.place) ∙ f.leads in
-          let w : f.place + length (record_bytes p.bytes a.metadata_record) ≤ length out = f.held.within in
+          let w : f.place + length (shown_bytes p.bytes (metadata_new p kept a) a.metadata_record) ≤ length out = f.held.within in
           let l = last_bound p.bytes (left_of p marks) (output_records p kept) 68 None tt in
           record {
             held = out_held;

@@ -9,29 +9,31 @@ use Rattle.jfr_chunk.specs.Parts.{Parts, EventAt, AreParts, events_of}
 use Rattle.jfr_chunk.specs.Reach.{Reached, remain}
 use Rattle.jfr_chunk.specs.Chosen.{chosen, kept_of}
 use Rattle.jfr_chunk.specs.Scrub.{scrub_of}
+use Rattle.jfr_chunk.specs.Metas.{classes_left}
 use Rattle.jfr_chunk.specs.Meaning.{SameMeaning}
 use Rattle.jfr_chunk.specs.Laws.{SameRecords}
 
--- Two entries of one class, key and checkpoint, with equal value bytes.
+-- Two entries have the same class, key and checkpoint, and equal bytes of the value.
 pub record IsCopied (p q : Parts) (e f : EntryAt) : Type 0 where
   pub class : e.class ≡ f.class
   pub key : e.key ≡ f.key
   pub checkpoint : e.checkpoint ≡ f.checkpoint
   pub value : node_bytes p.bytes (entry_node e) ≡ node_bytes q.bytes (entry_node f)
 
--- Such entries stand one to one, in order.
+-- The entries correspond one to one, in order, and each pair has the same class, key, checkpoint and value.
 abbrev pub AreCopied : Parts → Parts → List EntryAt → List EntryAt → Type 0
 AreCopied p q [] [] = ⊤
 AreCopied p q (e ∷ es) (f ∷ fs) = IsCopied p q e f × AreCopied p q es fs
 AreCopied p q [] (f ∷ fs) = ⊥
 AreCopied p q (e ∷ es) [] = ⊥
 
--- What a chunk becomes where these events are kept is a whole chunk, no longer than it, and consists of
--- parts: its classes are the same, its events the kept ones, its entries those that remain, and it means
--- the same; each of its entries is reached in it, and with all its events kept it becomes itself.
+-- The output of a chunk if these events are kept: it is whole, not longer, accepted, and means the same. Its
+-- classes are those that it needs, or all if its metadata record is copied; its events are the kept ones, and
+-- its entries those that remain. Each of its entries is reached in it, and scrubbed with all its events kept
+-- it doesn't change.
 pub record IsKept (p : Parts) (kept : List EventAt) : Type 0 where
   pub parts : Parts
-  pub classes : parts.classes ≡ p.classes
+  pub classes : parts.classes ≡ classes_left p kept
   pub bytes : parts.bytes ≡ scrub_of p kept
   pub whole : Whole (scrub_of p kept)
   pub stand : AreParts parts
@@ -42,8 +44,8 @@ pub record IsKept (p : Parts) (kept : List EventAt) : Type 0 where
   pub reached : (number : ℕ) → number < length parts.entries → Reached parts (events_of parts) number
   pub again : scrub_of parts (events_of parts) ≡ parts.bytes
 
--- What a filter leaves of a chunk is kept, the filter keeps all events of that, and scrubbed with it once
--- more it stays the same.
+-- The output of a chunk with a filter: `IsKept` holds of it, the filter keeps all its events, and scrubbed
+-- with the filter once more it doesn't change.
 pub record IsSettled (g : Given) (p : Parts) : Type 0 where
   pub kept : IsKept p (kept_of g p)
   pub all : chosen g kept.parts ≡ replicate (length (events_of kept.parts)) true

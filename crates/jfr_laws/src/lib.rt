@@ -1,6 +1,6 @@
-//! Laws of whole chunks: what scrubbing keeps, and that a filter keeps all of what it leaves.
+//! Laws of whole chunks: what scrubbing keeps, and that a filter keeps all events of its own output.
 //!
-//! Read `specs/Laws.antt`.
+//! Read `specs/Laws.antt` first.
 #![tactic(auto)]
 
 mod laws;

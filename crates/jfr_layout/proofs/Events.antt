@@ -32,7 +32,7 @@ event_at k id p t l e w h =
     let r : t ≡ extends_event c.0 = rw c.1 at h in
     r ∙ (ap (λ o. option_map_or extends_event o false) (sym c.1 ∙ e) ∙ sym (ap (λ b. b && option_map_or extends_event (find_class k id) false) (lt-ltb 1 id l)))
 
--- No index where records of the type are no events, and the class's where they are.
+-- The index of the class if records of the type are events, otherwise none.
 pub no_event_index : (k : Classes) (id : ℕ) → false ≡ is_event_class k id → None ≡ event_index k id
 no_event_index k id e = ap (λ t. cond t (class_index k id) None) e
 
@@ -82,7 +82,7 @@ event_layout k id p s o q =
       layout = record { class_index = e.1; kind = composite_event k id e.0; form = refl };
     })
 
--- It is found where there is one.
+-- It is found if there is one.
 pub event_found : (k : Classes) (id : ℕ) (o : Option FieldLayout) → MatchOption o (is_event_class k id ≡ false) (IsEventLayout k id) → is_some o ≡ is_event_class k id
 event_found k id None h = sym h
 event_found k id (Some s) h = sym h.event

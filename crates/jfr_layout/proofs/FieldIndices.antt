@@ -14,7 +14,7 @@ is_known : (t : Bool) → not t ≡ false → t ≡ true
 is_known true e = refl
 is_known false e = cc
 
--- Where no field's class is unknown, each has an index.
+-- If no field's class is unknown, each has an index.
 pub known_index : (k : Classes) (i j : ℕ) (f : Field) → unknown k ≡ [] → field_at k i j ≡ Some f → (p : ℕ) × (class_index k f.shape.class ≡ Some p)
 known_index k i j f u e =
     let c = chained (λ (c : Class). slice_get c.fields j) (slice_get k i) f e in
@@ -22,7 +22,7 @@ known_index k i j f u e =
     let s = is_known (is_some (find_class k f.shape.class)) (no_flaw (is_unknown k f) i (Some j) UnknownType n) in
     value_in (class_index k f.shape.class) (sym (is_some-find (λ (d : Class). d.id == f.shape.class) k) ∙ s)
 
--- What stands at the index of an id is the class of the id.
+-- The class at the index of an id is the class with the id.
 pub indexed_class : (k : Classes) (id : ℕ) (o : Option ℕ) → o ≡ class_index k id → option_and_then (slice_get k) o ≡ find_class k id
 indexed_class k id None e = sym (absent (find_class k id) (is_some-find (λ (c : Class). c.id == id) k ∙ ap is_some (sym e)))
 indexed_class k id (Some p) e = sym (find-position (λ (c : Class). c.id == id) k p (sym e))

@@ -14,7 +14,7 @@ use Rattle.jfr_layout.specs.Resolved.{AreClassLayouts, IsClassLayout}
 use Rattle.jfr_layout.proofs.Lists.{all_at, all_push, chained, mapped_at, present, value_in, zip_at}
 use Rattle.jfr_layout.proofs.Indices.{index_within, stands}
 
--- The layout of a shape whose class stands at an index.
+-- The layout of a shape whose class has an index.
 pub layout_at : (k : Classes) (kinds : List Kind) (s : Shape) (p : ℕ) (d : Kind) → kinds ≡ map (λ c. kind_of c.name) k → class_index k s.class ≡ Some p → IsFieldLayout k (layout_with s p (get_or kinds p d))
 layout_at k kinds s p d ks e =
     let c = present k p (index_within k s.class p e) in
@@ -31,7 +31,7 @@ layouts_push k fs f layouts s a e i = record {
   each = all_push (IsFieldLayout k) layouts s a.each i;
 }
 
--- What the layouts of a class have for the field of a number.
+-- The layout of the field with a number.
 pub record HasLayout (k : Classes) (index number : ℕ) (s : FieldLayout) : Type 0 where
   pub field : Field
   pub there : field_at k index number ≡ Some field

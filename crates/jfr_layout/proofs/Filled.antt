@@ -21,7 +21,7 @@ pub record FieldsFilled (k : Classes) (i n : ℕ) : Type 0 where
 pub filled_none : (k : Classes) (i : ℕ) (c : Class) → slice_get k i ≡ Some c → FieldsFilled k i 0
 filled_none k i c e = record { left = rw e refl }
 
--- What was computed for the field is what holds of it.
+-- The test of a field gives what the definition says.
 tested : (k : Classes) (i n : ℕ) (c : Class) (f : Field) (t : Bool) → slice_get k i ≡ Some c → slice_get c.fields n ≡ Some f → IfSome (field_at k i n) (λ g. t ≡ is_empty_inline k g) → t ≡ is_empty_inline k f
 tested k i n c f t e s h = rw (field_of k i n c f e s) at h
 

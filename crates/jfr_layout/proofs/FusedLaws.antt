@@ -14,7 +14,7 @@ use Rattle.jfr_layout.specs.declared.field_layout.FieldLayout.{FieldLayout}
 use Rattle.jfr_layout.specs.Fused.{AreFused, AreRaw, BeginsAt, IsFused, Passes, passed_by}
 use Rattle.jfr_layout.proofs.Lists.{all_push, present}
 
--- A range of one, and one that ends behind the next.
+-- A range of one member, and one that ends after the next member.
 pub range_alone : {X : Type 0} (xs : List X) (i : ℕ) (x : X) → slice_get xs i ≡ Some x → slice_range xs i (i + 1) ≡ x ∷ []
 range_alone xs i x e =
     let d : drop i xs ≡ x ∷ drop (i + 1) xs = drop_more xs i x (slice_get_within xs i x e) ∙ ap (λ y. y ∷ drop (i + 1) xs) (get_or_from_slice_get xs i x x e) in

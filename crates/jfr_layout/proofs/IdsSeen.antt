@@ -27,7 +27,7 @@ pub record IdsSeen (k : Classes) (n : ℕ) (index : Index) : Type 0 where
 index_next : (k : Classes) (n : ℕ) (c : Class) (id : ℕ) → slice_get k n ≡ Some c → n ≤ length k → class_index (take (n + 1) k) id ≡ option_or (class_index (take n k) id) (cond (eqb c.id id) (Some n) None)
 index_next k n c id e l = ap (λ (m : Classes). class_index m id) (take_next k n c e) ∙ (position_push (λ (d : Class). eqb d.id id) (take n k) c ∙ ap (λ m. option_or (class_index (take n k) id) (cond (eqb c.id id) (Some m) None)) (length-take-le n k l))
 
--- An id that was not seen leads to its class, and every other where it led.
+-- An id that was not seen leads to its class, and every other id to what it led to before.
 led : (old : Option ℕ) (t : Bool) (n : ℕ) → (t ≡ true → old ≡ None) → cond t (Some n) old ≡ option_or old (cond t (Some n) None)
 led None true n h = refl
 led None false n h = refl
@@ -37,7 +37,7 @@ led (Some m) false n h = refl
 is_used : (k : Classes) (n : ℕ) (index : Index) (id : ℕ) → IdsSeen k n index → has_id (take n k) id ≡ is_some (index_in index id)
 is_used k n index id s = sym (is_some-position (λ (d : Class). eqb d.id id) (take n k)) ∙ ap is_some (sym (s.seen id))
 
--- The class at an index has a new id, and its names stand once.
+-- The class at an index has a new id, and no field's name repeats in it.
 pub ids_next : (k : Classes) (n : ℕ) (index later : Index) (c : Class) → IdsSeen k n index → slice_get k n ≡ Some c → n < length k
     → is_some (index_in index c.id) ≡ false
     → ((id : ℕ) → index_in later id ≡ cond (eqb c.id id) (Some n) (index_in index id))

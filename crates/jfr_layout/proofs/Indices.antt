@@ -1,4 +1,4 @@
--- The index of the class of an id, and what stands there.
+-- The index of the class with an id, and the class at this index.
 use Rattle.std.proofs.Common.{◌≡◌, ℕ, suc, ◌+◌, ◌<◌, List, [], ◌∷◌, ◌++◌, length, Some, None, Bool, true, false, cond, ◌||◌, sym, ◌∙◌, ap, refl, arith}
 use Rattle.std.specs.Prelude.{is_some, position, find, nat_lt, ◌==◌}
 use Rattle.std.specs.Option.{option_or}
@@ -36,11 +36,11 @@ some_found : {X : Type 0} (p : X → Bool) (xs : List X) → is_some (find p xs)
 some_found p [] = refl
 some_found p (x ∷ xs) = by_test (λ t. is_some (cond t (Some x) (find p xs))) (λ t. t || list_any p xs) refl (some_found p xs) (p x)
 
--- There is a class of the id exactly where it has an index.
+-- There is a class with the id exactly if it has an index.
 pub is_some-find : {X : Type 0} (p : X → Bool) (xs : List X) → is_some (find p xs) ≡ is_some (position p xs)
 is_some-find p xs = some_found p xs ∙ sym (is_some-position p xs)
 
--- The class of an id stands at its index.
+-- The class with an id is at its index.
 pub find-position : {X : Type 0} (p : X → Bool) (xs : List X) (i : ℕ) → position p xs ≡ Some i → find p xs ≡ slice_get xs i
 find-position p xs i e = find_at p xs ∙ ap (slice_get xs) (cond_some (nat_lt (position_or_len p xs) (length xs)) (position_or_len p xs) i e).1
 

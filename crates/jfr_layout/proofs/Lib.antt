@@ -15,3 +15,4 @@ mod Soundness
 mod Events
 pub mod SoundLaws
 mod Rows
+pub mod StayingLaws

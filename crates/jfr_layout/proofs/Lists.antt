@@ -37,7 +37,7 @@ none_from found n (y ∷ xs) zero j x e s q =
 none_from found n (y ∷ xs) (suc i) j x e s q =
     none_from found (n + 1) xs i j x (nil_parts (found n y) (flat_map (λ z. found z.0 z.1) (enumerate_from (n + 1) xs)) e).1 s (omega arith)
 
--- Where nothing is found at all, nothing is found at a member.
+-- If nothing is found at all, nothing is found at a member.
 pub none_at : {X Y : Type 0} (found : ℕ → X → List Y) (xs : List X) (i : ℕ) (x : X) → flat_map (λ y. found y.0 y.1) (enumerate_from 0 xs) ≡ [] → slice_get xs i ≡ Some x → found i x ≡ []
 none_at found xs i x e s = none_from found 0 xs i i x e s (omega arith)
 

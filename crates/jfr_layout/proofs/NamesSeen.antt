@@ -34,7 +34,7 @@ pub record NamesSeen (i : ℕ) (fs : List Field) (numbers : List ℕ) (n : ℕ) 
   pub left : name_repeats i fs ≡ rest (found_name i fs) fs n
   pub has : (m : ℕ) → contains nat_cmp seen m ≡ has_number (take n numbers) m
 
--- Two names are the same exactly where their numbers are.
+-- Two names are the same exactly if their numbers are.
 same_name : (number : List ℕ → Option ℕ) → ((p q : List ℕ) (n : ℕ) → number p ≡ Some n → number q ≡ Some n → p ≡ q)
     → (p q : List ℕ) (m n : ℕ) → number p ≡ Some m → number q ≡ Some n → bytes_eq p q ≡ (m == n)
 same_name number one p q m n e f = by_tests (bytes_eq p q) (m == n) refl refl
@@ -51,7 +51,7 @@ same_name number one p q m n e f = by_tests (bytes_eq p q) (m == n) refl refl
         let clash : false ≡ true = sym g ∙ (bytes_eq-Decides p q).1 same in
         cc
 
--- A name stands among the first fields exactly where its number stands among theirs.
+-- A name is among those of the first fields exactly if its number is among theirs.
 same_names : (number : List ℕ → Option ℕ) → ((p q : List ℕ) (n : ℕ) → number p ≡ Some n → number q ≡ Some n → p ≡ q)
     → (name : List ℕ) (n : ℕ) → number name ≡ Some n → (fs : List Field) (ns : List ℕ) (i : ℕ) → AllZip (λ f n. number f.name ≡ Some n) fs ns → has_name (take i fs) name ≡ has_number (take i ns) n
 same_names number one name n e fs ns zero a = refl

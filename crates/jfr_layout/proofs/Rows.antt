@@ -87,7 +87,7 @@ base_names : class_faults (class 2 (codes "int") (field (codes "x") (inline 2) �
 unfolding inline field class class_faults kind_of
 base_names = refl
 
--- A later repeat is told before an earlier field whose class isn't defined.
+-- A later repeat is reported before an earlier field whose class isn't defined.
 first_told : map (λ f. f.reason) (class_faults (class 2 (codes "a") (field (codes "x") (inline 9) ∷ []) ∷ class 2 (codes "b") [] ∷ [])) ≡ ClassTwice ∷ UnknownType ∷ []
 unfolding inline field class class_faults kind_of
 first_told = refl

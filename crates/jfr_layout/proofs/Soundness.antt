@@ -4,7 +4,7 @@ use Rattle.jfr_layout.specs.declared.fault.ClassFault.{ClassFault}
 use Rattle.jfr_layout.specs.Classes.{Classes, ClassFlaw, TellsFirst, class_faults, Sound, repeats, unknown, empty_inline, deep}
 use Rattle.jfr_layout.proofs.Stages.{tells_append}
 
--- The first flaw of a later stage, where the stages before have none.
+-- The first flaw of a later stage, if the stages before have none.
 later : (a b : List ClassFlaw) (e : ClassFault) → a ≡ [] → TellsFirst b e → TellsFirst (a ++ b) e
 later a b e n t = rw n t
 

@@ -16,12 +16,12 @@ use Rattle.jfr_layout.proofs.Indices.{index_within, stands}
 pub field_of : (k : Classes) (i j : ℕ) (c : Class) (f : Field) → slice_get k i ≡ Some c → slice_get c.fields j ≡ Some f → field_at k i j ≡ Some f
 field_of k i j c f e s = ap (option_and_then (λ (d : Class). slice_get d.fields j)) e ∙ s
 
--- The class of a step, where its kind is known.
+-- The class of a step, if its kind is known.
 by_kind : (o : Option Class) (kind : Kind) → option_map (λ (d : Class). kind_of d.name) o ≡ Some kind → option_and_then (λ (d : Class). if is_composite (kind_of d.name) then Some d else None) o ≡ (if is_composite kind then o else None)
 by_kind None kind e = cc
 by_kind (Some c) kind e = ap (λ z. if is_composite z then Some c else None) (same_Some (kind_of c.name) kind e)
 
--- An inline step goes to the index of a layout, where its kind is composite.
+-- An inline step goes to the index of a layout, if its kind is composite.
 layout_step : (k : Classes) (f : Field) (s : FieldLayout) → s.shape ≡ f.shape → IsFieldLayout k s → step_class k f ≡ (if s.shape.constant then None else if is_composite s.kind then slice_get k s.class_index else None)
 layout_step k f s e i =
     ap (λ (z : Shape). if z.constant then None else option_and_then (λ (d : Class). if is_composite (kind_of d.name) then Some d else None) (find_class k z.class)) (sym e)
@@ -55,7 +55,7 @@ pub step_nowhere : (k : Classes) (index number : ℕ) (s : FieldLayout) → HasL
 step_nowhere k index number s f t n =
     rw f.there (sym (layout_step k f.field s f.shape f.of_class ∙ (ap (λ b. if b then None else if is_composite s.kind then slice_get k s.class_index else None) t ∙ ap (λ b. if b then slice_get k s.class_index else None) (not_composite s.kind n))))
 
--- A composite class with a super type is an event's where that is the super type of events.
+-- A composite class with a super type is an event's if that is the super type of events.
 pub extends_is : (c : Class) (kind : Kind) (name : List ℕ) (t : Bool) → kind ≡ kind_of c.name → kind ≡ Composite → c.super_name ≡ Some name → t ≡ bytes_eq name (codes "jdk.jfr.Event") → t ≡ extends_event c
 extends_is c kind name t h q s u = u ∙ (ap (λ o. option_map_or (λ n. bytes_eq n (codes "jdk.jfr.Event")) o false) (sym s)
     ∙ ap (λ z. is_composite z && option_map_or (λ n. bytes_eq n (codes "jdk.jfr.Event")) c.super_name false) (sym q ∙ h))

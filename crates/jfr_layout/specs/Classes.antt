@@ -26,19 +26,19 @@ Field = FieldInfo
 abbrev pub Classes : Type 0
 Classes = List Class
 
--- The class of an id.
+-- The class with this id, if there is one.
 abbrev pub find_class : Classes → ℕ → Option Class
 find_class k id = find (λ c. c.id == id) k
 
--- The index in the list of the class of an id.
+-- The index in the list of the class with this id, if there is one.
 abbrev pub class_index : Classes → ℕ → Option ℕ
 class_index k id = position (λ c. c.id == id) k
 
--- The field by its number, of the class of an index.
+-- The field with this number of the class with this index, if there is one.
 abbrev pub field_at : Classes → ℕ → ℕ → Option Field
 field_at k index number = option_and_then (λ c. slice_get c.fields number) (slice_get k index)
 
--- The number of the field of a name.
+-- The number of the field with this name, if there is one.
 abbrev pub field_number : List Field → List ℕ → Option ℕ
 field_number fs name = position (λ f. bytes_eq f.name name) fs
 
@@ -69,12 +69,12 @@ inline_form Double = forms.Raw 8
 inline_form Text = forms.Text
 inline_form Composite = forms.Fields
 
--- How a value of a shape is spelled whose class is of this kind: the array mark counts first, and then the
+-- How a value of this shape is spelled, if its class is of this kind: by the array mark first, then by the
 -- constant mark.
 abbrev pub form_of : Shape → Kind → Form
 form_of s kind = if s.array then forms.Array else if s.constant then forms.Key else inline_form kind
 
--- The layout of a shape whose class has this index and this kind.
+-- The layout of this shape, if its class has this index and this kind.
 abbrev pub layout_with : Shape → ℕ → Kind → FieldLayout
 layout_with s index kind = record { shape = s; class_index = index; kind = kind; form = form_of s kind }
 
@@ -87,7 +87,7 @@ is_composite _ = false
 abbrev pub extends_event : Class → Bool
 extends_event c = is_composite (kind_of c.name) && option_map_or (λ n. bytes_eq n (codes "jdk.jfr.Event")) c.super_name false
 
--- An event class is such a class with an id that is neither 0 nor 1.
+-- An event class is composite, has the super type of events, and has an id that is neither 0 nor 1.
 unfoldable pub is_event_class : Classes → ℕ → Bool
 is_event_class k id = nat_lt 1 id && option_map_or extends_event (find_class k id) false
 
@@ -97,7 +97,7 @@ pub record IsFieldLayout (k : Classes) (s : FieldLayout) : Type 0 where
   pub kind : option_map (λ c. kind_of c.name) (find_class k s.shape.class) ≡ Some s.kind
   pub form : s.form ≡ form_of s.shape s.kind
 
--- The layout of the fields of an event whose class has this id.
+-- The layout of the fields of an event, if its class has this id.
 pub record IsEventLayout (k : Classes) (id : ℕ) (s : FieldLayout) : Type 0 where
   pub event : is_event_class k id ≡ true
   pub shape : s.shape ≡ record { class = id; constant = false; array = false }
@@ -112,7 +112,7 @@ pub record AreFieldLayouts (k : Classes) (fs : List Field) (layouts : List Field
 abbrev pub item_of : Shape → Shape
 item_of s = record { class = s.class; constant = s.constant; array = false }
 
--- The fields of an inline value: those of a composite class, and none for a base name.
+-- The fields of an inline value: those of a composite class, none for a base name.
 abbrev pub inline_fields : Class → List Field
 inline_fields c = if is_composite (kind_of c.name) then c.fields else []
 
@@ -121,16 +121,16 @@ abbrev pub step_class : Classes → Field → Option Class
 step_class k f = if f.shape.constant then None
     else option_and_then (λ d. if is_composite (kind_of d.name) then Some d else None) (find_class k f.shape.class)
 
--- The class begins a chain of so many inline steps.
+-- The class begins a chain of n inline steps.
 abbrev pub goes_inline : ℕ → Classes → Class → Bool
 goes_inline zero k c = true
 goes_inline (suc n) k c = list_any (λ f. option_map_or (λ d. goes_inline n k d) (step_class k f) false) (inline_fields c)
 
--- So many inline steps follow the one by this field.
+-- The inline step by this field is followed by n more.
 abbrev pub step_goes : ℕ → Classes → Field → Bool
 step_goes n k f = option_map_or (λ d. goes_inline n k d) (step_class k f) false
 
--- A flaw of a list of classes: the index of the class, the number of the field that it is about, and the
+-- A flaw of a list of classes: the index of the class, the number of the field if the flaw is in one, and the
 -- reason.
 pub record ClassFlaw : Type 0 where
   pub class : ℕ
@@ -141,7 +141,7 @@ pub record ClassFlaw : Type 0 where
 abbrev pub flaw_if : Bool → ℕ → Option ℕ → Reason → List ClassFlaw
 flaw_if bad i j why = if bad then record { class = i; field = j; reason = why } ∷ [] else []
 
--- What is found at each member with its index, in order.
+-- The flaws found for each member and its index, in order.
 abbrev pub each_at : {X : Type 0} → (ℕ → X → List ClassFlaw) → List X → List ClassFlaw
 each_at found xs = flat_map (λ x. found x.0 x.1) (enumerate_from 0 xs)
 
@@ -153,11 +153,12 @@ has_id k id = list_any (λ c. c.id == id) k
 abbrev pub has_name : List Field → List ℕ → Bool
 has_name fs name = list_any (λ f. bytes_eq f.name name) fs
 
--- The fields whose names an earlier field of the class has.
+-- The fields with the name of an earlier field of the class.
 abbrev pub name_repeats : ℕ → List Field → List ClassFlaw
 name_repeats i fs = each_at (λ j f. flaw_if (has_name (take j fs) f.name) i (Some j) FieldTwice) fs
 
--- The classes whose ids an earlier class has, each before its own fields.
+-- The classes with the id of an earlier class, and the fields with the name of an earlier field; a class
+-- comes before its fields.
 abbrev pub repeats : Classes → List ClassFlaw
 repeats k = each_at (λ i c. flaw_if (has_id (take i k) c.id) i None ClassTwice ++ name_repeats i c.fields) k
 
@@ -177,11 +178,11 @@ is_unknown k f = not (is_some (find_class k f.shape.class))
 abbrev pub unknown : Classes → List ClassFlaw
 unknown k = field_flaws UnknownType (is_unknown k) k
 
--- The field is an inline one of a composite class without fields.
+-- The field has inline values of a composite class without fields.
 abbrev pub is_empty_inline : Classes → Field → Bool
 is_empty_inline k f = option_map_or (λ d. length d.fields == 0) (step_class k f) false
 
--- The inline fields of composite classes without fields.
+-- The fields with inline values of a composite class without fields.
 abbrev pub empty_inline : Classes → List ClassFlaw
 empty_inline k = field_flaws EmptyInline (is_empty_inline k) k
 
@@ -189,29 +190,29 @@ empty_inline k = field_flaws EmptyInline (is_empty_inline k) k
 abbrev pub deep : Classes → List ClassFlaw
 deep k = each_at (λ i c. flaw_if (goes_inline 33 k c) i None InlineDeep) k
 
--- The flaws stage by stage, each stage in tree order. The first of them is the one that is told.
+-- The flaws, stage by stage, each stage in the order of the list. The first of them is reported.
 unfoldable pub class_faults : Classes → List ClassFlaw
 class_faults k = repeats k ++ (unknown k ++ (empty_inline k ++ deep k))
 
--- The fault tells the first flaw, where memory isn't wanting.
+-- The fault is the first flaw, unless memory ran out.
 abbrev pub TellsFirst : List ClassFlaw → ClassFault → Type 0
 TellsFirst flaws (Flawed i j why) = slice_get flaws 0 ≡ Some (record { class = i; field = j; reason = why })
 TellsFirst flaws Memory = ⊤
 
--- There are no flaws, or the first is told.
+-- Either there are no flaws, or the first is reported.
 abbrev pub Judges : {T : Type 0} → List ClassFlaw → Result T ClassFault → Type 0
 Judges flaws (Ok x) = flaws ≡ []
 Judges flaws (Err e) = TellsFirst flaws e
 
--- A list is sound where it has no flaws.
+-- A list is sound if it has no flaws.
 pub record Sound (k : Classes) : Type 0 where
   pub none : class_faults k ≡ []
 
--- Two lists agree on the class of an id, and on each class that its fields name, so many steps deep.
+-- Two lists agree on the class with this id, and on each class that its fields name, n levels deep.
 abbrev pub AgreeWithin : ℕ → Classes → Classes → ℕ → Type 0
 AgreeWithin zero k m id = ⊤
 AgreeWithin (suc n) k m id = (c d : Class) × (find_class k id ≡ Some c) × (find_class m id ≡ Some d) × (c.name ≡ d.name) × (c.super_name ≡ d.super_name) × (c.fields ≡ d.fields) × AllByRecursion (λ f. AgreeWithin n k m f.shape.class) c.fields
 
--- Two lists agree on the class of an id, and on all classes that its fields name, at any depth.
+-- Two lists agree on the class with this id, and on all classes that its fields name, at any depth.
 abbrev pub Agree : Classes → Classes → ℕ → Type 0
 Agree k m id = (n : ℕ) → AgreeWithin n k m id

@@ -1,4 +1,4 @@
--- Fields of a class that a walk passes at once.
+-- Fused fields: fields of a class that a walk passes at once.
 use Rattle.std.specs.Prelude.{◌≡◌, ℕ, ◌+◌, ◌<◌, ◌≤◌, List, [], ◌∷◌, length, slice_range, ⊤}
 use Rattle.std.specs.List.{AllByRecursion, flat_map}
 use Rattle.jfr_layout.specs.declared.form.Form.{Form}
@@ -8,11 +8,11 @@ use Rattle.jfr_layout.specs.declared.fused.FusedKind.{FusedKind}
 use Rattle.jfr_layout.specs.declared.fused.FusedKind.TheVariants as fused_kinds
 use Rattle.jfr_layout.specs.declared.field_layout.FieldLayout.{FieldLayout}
 
--- The layouts of the fields that are passed at once.
+-- The layouts of the fused fields.
 abbrev pub passed_by : List FieldLayout → FusedFields → List FieldLayout
 passed_by layouts l = slice_range layouts l.first (l.first + l.fields)
 
--- A reference, or a string, of this class.
+-- The layout has this form and this class.
 abbrev pub IsOf : Form → ℕ → FieldLayout → Type 0
 IsOf form class s = (s.form ≡ form) × (s.shape.class ≡ class)
 
@@ -28,12 +28,12 @@ pub record IsEventPrelude (thread trace : ℕ) (layouts : List FieldLayout) : Ty
   pub thread_is : IsOf forms.Key thread threads
   pub trace_is : IsOf forms.Key trace traces
 
--- Raw bytes, so many in all.
+-- Raw bytes, `count` in all.
 abbrev pub AreRaw : ℕ → List FieldLayout → Type 0
 AreRaw count [] = count ≡ 0
 AreRaw count (s ∷ ss) = (bytes rest : ℕ) × (s.form ≡ forms.Raw bytes) × (count ≡ bytes + rest) × AreRaw rest ss
 
--- So many integers.
+-- Integers, `count` of them.
 abbrev pub AreIntegers : ℕ → List FieldLayout → Type 0
 AreIntegers count layouts = (length layouts ≡ count) × AllByRecursion (λ s. s.form ≡ forms.Integer) layouts
 
@@ -49,18 +49,18 @@ Passes (fused_kinds.Key class) layouts = (s : FieldLayout) × (layouts ≡ s ∷
 Passes (fused_kinds.Text class) layouts = (s : FieldLayout) × (layouts ≡ s ∷ []) × IsOf forms.Text class s
 Passes fused_kinds.Any layouts = ⊤
 
--- The fused fields are fields of the class, of the forms that their kind says.
+-- The fused fields are fields of the class, and have the forms that their kind says.
 pub record IsFused (layouts : List FieldLayout) (l : FusedFields) : Type 0 where
   pub within : l.first + l.fields ≤ length layouts
   pub passes : Passes l.kind (passed_by layouts l)
 
--- Fields that are passed at once from the field of this number on.
+-- Fused fields, at least one, that start with the field with this number.
 pub record BeginsAt (layouts : List FieldLayout) (first : ℕ) (l : FusedFields) : Type 0 where
   pub first_is : l.first ≡ first
   pub some : 0 < l.fields
   pub fused : IsFused layouts l
 
--- Groups of fields of a class, which together pass each of its fields once, in order.
+-- Groups of fused fields that together have each field of the class once, in order.
 pub record AreFused (layouts : List FieldLayout) (fused_fields : List FusedFields) : Type 0 where
   pub each : AllByRecursion (IsFused layouts) fused_fields
   pub all : flat_map (passed_by layouts) fused_fields ≡ layouts

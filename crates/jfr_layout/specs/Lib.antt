@@ -4,3 +4,4 @@ pub mod Events
 pub mod Fused
 pub mod Resolved
 pub mod Laws
+pub mod Staying

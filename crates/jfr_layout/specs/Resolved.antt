@@ -1,4 +1,4 @@
--- What stands beside a list of classes, so that no later look-up searches it.
+-- Tables beside a list of classes, so that no look-up has to search the list.
 use Rattle.std.specs.Prelude.{◌≡◌, ℕ, List, [], Option, map, slice_get, unwrap_or}
 use Rattle.std.specs.List.{AllZip}
 use Rattle.std.specs.BTreeMap as tree
@@ -9,15 +9,16 @@ use Rattle.jfr_layout.specs.declared.class_layout.ClassLayout.{ClassLayout}
 use Rattle.jfr_layout.specs.Fused.{AreFused}
 use Rattle.jfr_layout.specs.Classes.{Class, Classes, AreFieldLayouts, class_index, extends_event, kind_of, repeats, unknown}
 
--- What the look-up of an id gives: the direct table's answer, and past the end of the table the map's.
+-- The answer to the look-up of an id: the direct table's, or the map's past the end of the table.
 abbrev pub index_in : Index → ℕ → Option ℕ
 index_in by_id id = unwrap_or (slice_get by_id.near.items id) (tree.get nat_cmp by_id.far id)
 
--- Each id leads to the index of its class.
+-- The look-up of each id gives the index of its class.
 pub record IsIndex (k : Classes) (by_id : Index) : Type 0 where
   pub at : (id : ℕ) → index_in by_id id ≡ class_index k id
 
--- The layout of a class has those of its fields, and groups of fields that are passed at once.
+-- The layout of a class has those of its fields, its groups of fused fields, and whether it extends the class
+-- of events.
 pub record IsClassLayout (k : Classes) (c : Class) (class_layout : ClassLayout) : Type 0 where
   pub layouts : AreFieldLayouts k c.fields class_layout.layouts.items
   pub fused_fields : AreFused class_layout.layouts.items class_layout.fused_fields.items
@@ -27,7 +28,8 @@ pub record IsClassLayout (k : Classes) (c : Class) (class_layout : ClassLayout) 
 abbrev pub AreClassLayouts : Classes → List Class → List ClassLayout → Type 0
 AreClassLayouts k cs class_layouts = AllZip (IsClassLayout k) cs class_layouts
 
--- Ids and names are used once, fields' classes are known, and what stands beside the list is the list's.
+-- No ids and no field names within a class repeat, fields' classes are known, and the tables are those of the
+-- list.
 pub record IsResolved (k : Classes) (index : Index) (kinds : List Kind) (class_layouts : List ClassLayout) : Type 0 where
   pub once : repeats k ≡ []
   pub known : unknown k ≡ []

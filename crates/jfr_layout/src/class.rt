@@ -1,5 +1,5 @@
-// Classes and their fields, as a chunk's metadata lists them.
-ghost use Rattle.std.specs.Prelude.{◌≡◌, [], ◌∷◌, ◌++◌, ◌<◌, length, OnOk, OnErr, slice_get};
+//! Classes and their fields, as a chunk's metadata lists them.
+ghost use Rattle.std.specs.Prelude.{◌≡◌, [], ◌∷◌, ◌++◌, ◌<◌, ◌↔◌, length, IsTrue, OnOk, OnErr, slice_get};
 ghost use Rattle.std.specs.Option.{option_copied};
 ghost use Rattle.std.specs.Str.{chars};
 
@@ -8,12 +8,12 @@ use jfr_base::{NoMemory, Text, Words};
 use std::alloc::Global;
 use std::marker::Model;
 
-/// A field of a class (FORMAT.md, Classes and shapes).
+/// A field of a class (docs/FORMAT.md, Classes and shapes).
 #[derive(Drop)]
 pub struct FieldInfo {
-    /// Its name, which no other field of the class has in sound classes.
+    /// Its name. In sound classes no other field of the class has it.
     pub name: Text,
-    /// Its class, and whether keys or arrays stand there.
+    /// Its class, with the constant and the array mark.
     pub shape: Shape,
 }
 
@@ -35,7 +35,7 @@ impl Model for Fields {
 impl Fields {
     ghost use Rattle.jfr_layout.specs.Classes.{field_number};
 
-    /// The list without fields. It takes no memory.
+    /// An empty list. It allocates nothing.
     pub fn new(alloc: Global) -> Fields
         ensures { result ≡ [] }
     {
@@ -53,14 +53,21 @@ impl Fields {
         Ok(())
     }
 
-    /// How many fields the list has.
+    /// The number of fields.
     pub fn len(&self) -> usize
         ensures { result ≡ length self.now }
     {
         self.items.len()
     }
 
-    /// The field by its number, from 0.
+    /// Whether there is no field.
+    pub fn is_empty(&self) -> bool
+        ensures { IsTrue result ↔ (self.now ≡ []) }
+    {
+        self.items.is_empty()
+    }
+
+    /// The field with this number, from 0.
     pub fn at(&self, at: usize) -> &FieldInfo
         requires { at < length self.now }
         ensures { slice_get self.now at ≡ Some result.now }
@@ -68,14 +75,14 @@ impl Fields {
         &self.items[at]
     }
 
-    /// The field by its number, from 0; `None` exactly past the end.
+    /// The field with this number, from 0, if there is one.
     pub fn get(&self, at: usize) -> Option<&FieldInfo>
         ensures { option_copied result ≡ slice_get self.now at }
     {
         self.items.get(at)
     }
 
-    /// The number of the field of a name; `None` exactly where no field has it.
+    /// The number of the field with this name, if there is one.
     pub fn number(&self, name: &str) -> Option<usize>
         ensures { result ≡ field_number self.now (chars name.now) }
     {
@@ -88,15 +95,15 @@ impl Fields {
 /// A class, as the metadata describes it.
 #[derive(Drop)]
 pub struct ClassInfo {
-    /// The number by which records, pools and fields name the class.
+    /// The number by which records, pools and fields refer to the class.
     pub id: u64,
-    /// Its name. Nine names are base names, which say how values are spelled.
+    /// Its name. Nine names are base names, whose values have an encoding of their own.
     pub name: Text,
-    /// The name of its super type, where it has one.
+    /// The name of its super type, if it has one.
     pub super_name: Option<Text>,
     /// Its fields, in order.
     pub fields: Fields,
-    /// The categories of its events, from the outermost on; none where it has no annotation for them.
+    /// The categories of its events, the outermost first; empty if it has no category annotation.
     pub categories: Words,
 }
 
@@ -116,7 +123,7 @@ impl Model for ClassList {
 }
 
 impl ClassList {
-    /// The list without classes. It takes no memory.
+    /// An empty list. It allocates nothing.
     pub fn new(alloc: Global) -> ClassList
         ensures { result ≡ [] }
     {
@@ -134,14 +141,21 @@ impl ClassList {
         Ok(())
     }
 
-    /// How many classes the list has.
+    /// The number of classes.
     pub fn len(&self) -> usize
         ensures { result ≡ length self.now }
     {
         self.items.len()
     }
 
-    /// The class of an index, from 0.
+    /// Whether there is no class.
+    pub fn is_empty(&self) -> bool
+        ensures { IsTrue result ↔ (self.now ≡ []) }
+    {
+        self.items.is_empty()
+    }
+
+    /// The class with this index, from 0.
     pub fn at(&self, at: usize) -> &ClassInfo
         requires { at < length self.now }
         ensures { slice_get self.now at ≡ Some result.now }
@@ -149,7 +163,7 @@ impl ClassList {
         &self.items[at]
     }
 
-    /// The class of an index, from 0; `None` exactly past the end.
+    /// The class with this index, from 0, if there is one.
     pub fn get(&self, at: usize) -> Option<&ClassInfo>
         ensures { option_copied result ≡ slice_get self.now at }
     {

@@ -1,5 +1,5 @@
-// Sound classes.
-ghost use Rattle.std.specs.Prelude.{◌≡◌, ◌<◌, length, false, OnOk, IfOk, IfErr, IfSome, MatchOption, slice_get, option_map, option_and_then};
+//! Sound classes.
+ghost use Rattle.std.specs.Prelude.{◌≡◌, ◌<◌, ◌↔◌, [], length, false, IsTrue, OnOk, IfOk, IfErr, IfSome, MatchOption, slice_get, option_map, option_and_then};
 ghost use Rattle.std.specs.Option.{option_copied};
 ghost use Rattle.std.specs.Str.{chars};
 ghost use Rattle.jfr_layout.specs.Classes.{class_faults, Sound, TellsFirst, find_class, class_index, kind_of, field_number, is_event_class, AreFieldLayouts, IsEventLayout};
@@ -15,13 +15,13 @@ use crate::{ClassFault, ClassInfo, ClassLayout, ClassList, FieldLayout, Kind, Sh
 use std::alloc::Global;
 use std::marker::Model;
 
-/// Classes that are sound: ids, and names of fields within a class, are used once; each field's class is
-/// known, and has fields where values of it stand inline and it is composite; and no class begins a chain
-/// of more than 32 inline steps.
+/// Classes that are sound: no two classes have the same id, and no two fields of a class the same name; each
+/// field's class is known, and has fields if it is composite and its values are inline; and no class begins a
+/// chain of more than 32 inline steps.
 #[derive(Drop)]
 pub struct Classes {
     resolved: Resolved,
-    // The indices of the event classes, by id, as far as the direct table goes.
+    // The indices of the event classes, by id, for the ids of the direct table.
     events: Vec<Option<usize>>,
 }
 
@@ -39,11 +39,11 @@ impl Model for Classes {
 }
 
 impl Classes {
-    /// The classes of a list, where they are sound.
+    /// The classes of a list, if they are sound.
     ///
-    /// `Flawed` exactly where they aren't, with the first flaw of the first stage that has one: `ClassTwice`
-    /// and `FieldTwice` together, `UnknownType`, `EmptyInline`, `InlineDeep`, each over the whole list in its
-    /// order. `Memory` where memory is wanting.
+    /// `Flawed` exactly if they aren't, with the first flaw of the first stage that has one. The stages are
+    /// `ClassTwice` and `FieldTwice` together, `UnknownType`, `EmptyInline`, `InlineDeep`, each over the
+    /// whole list in its order. `Memory` if memory runs out.
     pub fn make(alloc: Global, list: ClassList) -> Result<Classes, ClassFault>
         ensures ok { OnOk result (Sound list) }
         ensures exact { IfOk result (λ classes. classes ≡ list) }
@@ -53,9 +53,9 @@ impl Classes {
         Classes::make_numbered(alloc, list, &numbers)
     }
 
-    /// [`Classes::make`] where each name of a field has a number already: within a class, two fields have
-    /// the same number exactly where they have the same name. No names are compared then, so that long ones
-    /// that begin alike, however often they are used, cost nothing.
+    /// As [`Classes::make`], with a number for each field's name: within a class, two fields have the same
+    /// number exactly if they have the same name. So no names are compared, which would be slow for many long
+    /// names with a common prefix.
     pub fn make_numbered(
         alloc: Global,
         list: ClassList,
@@ -73,7 +73,7 @@ impl Classes {
         Ok(Classes { resolved, events })
     }
 
-    /// How many classes there are.
+    /// The number of classes.
     pub fn len(&self) -> usize
         ensures exact { result ≡ length self.now }
         ensures sound { Sound self.now }
@@ -81,14 +81,21 @@ impl Classes {
         self.resolved.len()
     }
 
-    /// The class of an index, from 0; `None` exactly past the end.
+    /// Whether there is no class.
+    pub fn is_empty(&self) -> bool
+        ensures { IsTrue result ↔ (self.now ≡ []) }
+    {
+        self.resolved.is_empty()
+    }
+
+    /// The class with this index, from 0, if there is one.
     pub fn get(&self, at: usize) -> Option<&ClassInfo>
         ensures { option_copied result ≡ slice_get self.now at }
     {
         self.resolved.get(at)
     }
 
-    /// The class of an id; `None` exactly where no class has it.
+    /// The class with this id, if there is one.
     pub fn find(&self, id: u64) -> Option<&ClassInfo>
         ensures { option_copied result ≡ find_class self.now id }
     {
@@ -96,7 +103,7 @@ impl Classes {
         Some(self.resolved.class_at(index))
     }
 
-    /// The kind of the class of an id; `None` exactly where no class has it.
+    /// The kind of the class with this id, if there is one.
     pub fn kind(&self, id: u64) -> Option<Kind>
         ensures { result ≡ option_map (λ c. kind_of c.name) (find_class self.now id) }
     {
@@ -104,23 +111,22 @@ impl Classes {
         Some(self.resolved.kind_at(index))
     }
 
-    /// The number of the field of a name, in the class of an id; `None` exactly where there is no such
-    /// class or field.
+    /// The number of the field with this name in the class with this id, if there are such a class and field.
     pub fn field_named(&self, id: u64, name: &str) -> Option<usize>
         ensures { result ≡ option_and_then (λ c. field_number c.fields (chars name.now)) (find_class self.now id) }
     {
         self.find(id)?.fields.number(name)
     }
 
-    /// Whether records of this type are events: the type is the id of an event class.
+    /// Whether records of this type are events: whether the type is the id of an event class.
     pub fn is_event(&self, id: u64) -> bool
         ensures { result ≡ is_event_class self.now id }
     {
         self.event_layout(id).is_some()
     }
 
-    /// The layout of the fields of an event of this type, taken as one value; `None` exactly where records
-    /// of the type are no events.
+    /// The layout of an event's fields, taken as one inline value of its class; `None` exactly if records of
+    /// this type aren't events.
     #[inline]
     pub fn event_layout(&self, id: u64) -> Option<FieldLayout>
         ensures { MatchOption result (is_event_class self.now id ≡ false) (IsEventLayout self.now id) }
@@ -129,7 +135,7 @@ impl Classes {
         Some(FieldLayout::new(Shape::inline(id), index, Kind::Composite))
     }
 
-    // The index of the class of an id, where records of this type are events.
+    // The index of the class with this id, if records of this type are events.
     #[inline]
     fn event_index(&self, id: u64) -> Option<usize>
         ensures { result ≡ event_index self.now id }
@@ -140,7 +146,7 @@ impl Classes {
         }
     }
 
-    // The index of the class of an event id that is past the end of the direct table.
+    // As `event_index`, for an id past the end of the direct table.
     #[cold]
     #[inline(never)]
     fn far_event_index(&self, id: u64) -> Option<usize>
@@ -149,8 +155,7 @@ impl Classes {
         event_index(&self.resolved, id)
     }
 
-    /// The index of the class of an id, for the calls that take it as `index`; `None` exactly where no
-    /// class has the id.
+    /// The index of the class with this id, if there is one.
     pub fn index_of(&self, id: u64) -> Option<usize>
         ensures exact { result ≡ class_index self.now id }
         ensures class { option_and_then (slice_get self.now) result ≡ find_class self.now id }
@@ -160,7 +165,7 @@ impl Classes {
         self.resolved.index_of(id)
     }
 
-    /// The class of an index.
+    /// The class with this index.
     pub fn class_at(&self, index: usize) -> &ClassInfo
         requires { index < length self.now }
         ensures { slice_get self.now index ≡ Some result.now }
@@ -168,7 +173,7 @@ impl Classes {
         self.resolved.class_at(index)
     }
 
-    /// The kind of the class of an index.
+    /// The kind of the class with this index.
     pub fn kind_at(&self, index: usize) -> Kind
         requires { index < length self.now }
         ensures { IfSome (slice_get self.now index) (λ c. result ≡ kind_of c.name) }
@@ -176,8 +181,8 @@ impl Classes {
         self.resolved.kind_at(index)
     }
 
-    /// The layout of the class of an index: how the values of its fields are spelled, and which of them are
-    /// passed at once.
+    /// The layout of the class with this index: how the values of its fields are spelled, and which of them
+    /// are passed at once.
     pub fn class_layout(&self, index: usize) -> &ClassLayout
         requires { index < length self.now }
         ensures { IfSome (slice_get self.now index) (λ c. IsClassLayout self.now c result.now) }
@@ -185,7 +190,7 @@ impl Classes {
         self.resolved.class_layout(index)
     }
 
-    /// How the values of each field of the class of an index are spelled, in order.
+    /// The layouts of the fields of the class with this index, in order.
     pub fn layouts(&self, index: usize) -> &[FieldLayout]
         requires { index < length self.now }
         ensures exact { IfSome (slice_get self.now index) (λ c. AreFieldLayouts self.now c.fields result.now) }

@@ -1,4 +1,4 @@
-// The indices of the event classes.
+//! The indices of the event classes.
 ghost use Rattle.std.specs.Prelude.{◌≡◌, length, IfOk};
 ghost use Rattle.jfr_layout.specs.Events.{AreEventIndices, event_index};
 
@@ -6,10 +6,10 @@ use crate::resolved::Resolved;
 use jfr_base::NoMemory;
 use std::alloc::Global;
 
-// Records of the types up to this one are metadata and checkpoints.
+// Records of types up to this one are metadata and checkpoints, not events.
 const LAST_OWN_TYPE: u64 = 1;
 
-/// The index of the class of an id, where records of this type are events.
+/// The index of the class with this id, if records of this type are events.
 pub(crate) fn event_index(resolved: &Resolved, id: u64) -> Option<usize>
     ensures { result ≡ event_index resolved.now id }
 {
@@ -24,8 +24,7 @@ pub(crate) fn event_index(resolved: &Resolved, id: u64) -> Option<usize>
     }
 }
 
-/// The indices of the event classes, for so many ids from 0 on: `None` where records of the type are no
-/// events.
+/// For each id below `ids`, the index of its event class; `None` if records of this type aren't events.
 pub(crate) fn event_indices(
     alloc: Global,
     resolved: &Resolved,

@@ -1,20 +1,20 @@
-// Why a list of classes is refused.
+//! Why a list of classes is refused.
 ghost use Rattle.std.specs.Prelude.{◌≡◌};
 ghost use Rattle.jfr_layout.specs.declared.fault.ClassFault.TheVariants.{Memory};
 
 use jfr_base::{NoMemory, Reason};
 use std::alloc::{AllocError, AllocFailed};
 
-/// Why classes could not be made of a list: a class or a field is refused, or memory was wanting.
+/// Why a list of classes isn't accepted: a class or a field is refused, or memory ran out.
 #[derive(Clone, Copy, Debug, PartialEq, Eq)]
 pub enum ClassFault {
-    /// The class of this index in the list is refused, or its field of this number, where there is one.
+    /// The class with this index in the list is refused, or its field with this number, if there is a number.
     Flawed {
         class: usize,
         field: Option<usize>,
         reason: Reason,
     },
-    /// Memory was wanting.
+    /// Memory ran out.
     Memory,
 }
 

@@ -1,18 +1,18 @@
-// What stands where a value begins.
+//! The forms of values.
 ghost use Rattle.std.specs.Prelude.{◌≡◌};
 
 use crate::{Kind, Shape};
 
-/// How the values of a shape are spelled: what stands where one begins.
+/// How the values of a shape are spelled.
 #[derive(Clone, Copy, Debug, PartialEq, Eq)]
 pub enum Form {
-    /// An array: a count, and so many items.
+    /// An array: a count, and this many items.
     Array,
     /// A key into the constant pool of the class.
     Key,
     /// A compressed integer.
     Integer,
-    /// So many raw bytes.
+    /// This many raw bytes.
     Raw(u8),
     /// A string.
     Text,
@@ -23,7 +23,7 @@ pub enum Form {
 impl Form {
     ghost use Rattle.jfr_layout.specs.Classes.{form_of};
 
-    /// The form of a shape whose class is of this kind.
+    /// The form of a shape with a class of this kind.
     pub fn of(shape: Shape, kind: Kind) -> Form
         ensures { result ≡ form_of shape kind }
     {

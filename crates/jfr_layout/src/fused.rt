@@ -1,4 +1,4 @@
-// Fields that a walk passes at once.
+//! Fused fields, which a walk passes at once.
 ghost use Rattle.std.specs.Prelude.{◌≡◌, ℕ, ◌+◌, ◌<◌, ◌≤◌, List, length, slice_get, IfOk, IfSome};
 ghost use Rattle.jfr_layout.specs.declared.form.Form.TheVariants as forms;
 ghost use Rattle.jfr_layout.specs.declared.field_layout.FieldLayout.{FieldLayout};
@@ -8,21 +8,21 @@ use crate::{FieldLayout, Form};
 use jfr_base::NoMemory;
 use std::alloc::Global;
 
-/// How many fields are fused at most.
+/// The largest number of fields that are fused.
 const MOST: usize = 4;
 
-/// Fields of a class, one behind another, that a walk over many values passes at once.
+/// Consecutive fields of a class that a walk over many values passes at once.
 #[derive(Clone, Copy, Debug, PartialEq, Eq)]
 pub struct FusedFields {
-    /// The number of the first of them.
+    /// The number of the first field.
     pub first: usize,
-    /// How many fields they are.
+    /// The number of fields.
     pub fields: usize,
-    /// What stands in them.
+    /// How their values are spelled.
     pub kind: FusedKind,
 }
 
-/// What stands in fused fields.
+/// How the values of fused fields are spelled.
 #[derive(Clone, Copy, Debug, PartialEq, Eq)]
 pub enum FusedKind {
     /// The event prelude: two integers and two references, of these classes. In most of the JDK's events
@@ -32,11 +32,11 @@ pub enum FusedKind {
     OneInteger,
     /// Two fields, each of one compressed integer.
     TwoIntegers,
-    /// Three such fields.
+    /// Three fields, each of one compressed integer.
     ThreeIntegers,
-    /// Four such fields.
+    /// Four fields, each of one compressed integer.
     FourIntegers,
-    /// So many raw bytes in all, of one field or more.
+    /// One field or more with this many raw bytes in all.
     Raw(u8),
     /// A key into the constant pool of a class.
     Key(u64),
@@ -46,7 +46,7 @@ pub enum FusedKind {
     Any,
 }
 
-/// The fields of a class in groups that are passed at once, from the first field to the last.
+/// All fields of a class, in groups of fused fields.
 pub(crate) fn fused_of(alloc: Global, layouts: &[FieldLayout]) -> Result<Vec<FusedFields>, NoMemory>
     ensures { IfOk result (λ fused_fields. AreFused layouts.now fused_fields.items) }
 {
@@ -60,7 +60,7 @@ pub(crate) fn fused_of(alloc: Global, layouts: &[FieldLayout]) -> Result<Vec<Fus
     Ok(fused_fields)
 }
 
-/// The fields that are passed at once from the field of a number on.
+/// The fused fields that start with the field with this number.
 fn fused_from(layouts: &[FieldLayout], first: usize) -> FusedFields
     requires { first < length layouts.now }
     ensures { BeginsAt layouts.now first result }
@@ -89,8 +89,8 @@ fn fused_one(first: usize, kind: FusedKind) -> FusedFields
     }
 }
 
-/// The event prelude, if it begins at the field of a number. It holds ids of classes up to 32 bits, so
-/// that a `FusedFields` stays small.
+/// The event prelude, if one starts with the field with this number. Its class ids have to fit in 32 bits,
+/// which keeps `FusedFields` small.
 fn prelude_from(layouts: &[FieldLayout], first: usize) -> Option<FusedFields>
     requires { first < length layouts.now }
     ensures { IfSome result (BeginsAt layouts.now first) }
@@ -119,7 +119,7 @@ fn prelude_from(layouts: &[FieldLayout], first: usize) -> Option<FusedFields>
     })
 }
 
-/// The fields of integers from the field of a number on, at most four.
+/// The fields of integers from the field with this number on, at most four.
 fn integers_from(layouts: &[FieldLayout], first: usize) -> FusedFields
     requires within { first < length layouts.now }
     requires integer { IfSome (slice_get layouts.now first) (λ s. s.form ≡ forms.Integer) }
@@ -140,7 +140,7 @@ fn integers_from(layouts: &[FieldLayout], first: usize) -> FusedFields
     }
 }
 
-/// The kind of so many integers.
+/// The kind of `count` integers.
 fn fused_integers(count: usize) -> FusedKind
     requires { (1 ≤ count) × (count ≤ 4) }
     ensures { (layouts : List FieldLayout) → AreIntegers count layouts → Passes result layouts }
@@ -153,7 +153,7 @@ fn fused_integers(count: usize) -> FusedKind
     }
 }
 
-/// The fields of raw bytes from the field of a number on, at most four; the first has `bytes` of them.
+/// The fields of raw bytes from the field with this number on, at most four; the first has `bytes` of them.
 fn raw_from(layouts: &[FieldLayout], first: usize, bytes: u8) -> FusedFields
     requires within { first < length layouts.now }
     requires raw { IfSome (slice_get layouts.now first) (λ s. s.form ≡ forms.Raw bytes) }
@@ -176,7 +176,7 @@ fn raw_from(layouts: &[FieldLayout], first: usize, bytes: u8) -> FusedFields
     }
 }
 
-/// The sum of so many raw bytes and those of one field more, if it has raw bytes and the sum is below 256.
+/// The sum of `bytes` and the raw bytes of one more field, if it has raw bytes and the sum is below 256.
 fn with_raw(bytes: u8, form: Form) -> Option<u8>
     ensures { IfSome result (λ sum. (more : ℕ) × (form ≡ forms.Raw more) × (sum ≡ bytes + more)) }
 {

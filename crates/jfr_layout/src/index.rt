@@ -1,4 +1,4 @@
-// Which class has an id; and that no id, and no name of a field of one class, stands twice.
+//! The index of classes by id, which refuses repeated ids and field names.
 ghost use Rattle.std.specs.Prelude.{◌≡◌, ℕ, ◌+◌, ◌*◌, ◌≤◌, length, None, Some, IfOk, is_some, if◌then◌else◌, ◌==◌};
 ghost use Rattle.std.specs.BTreeMap as tree;
 ghost use Rattle.std.specs.Ordering.{nat_cmp};
@@ -11,13 +11,13 @@ use jfr_base::{NoMemory, Reason};
 use std::alloc::Global;
 use std::collections::{BTreeMap, BTreeSet};
 
-/// How large the direct table may be whatever the number of classes.
+/// The direct table may have this many ids, whatever the number of classes.
 const FEW_IDS: u64 = 16384;
 
-/// How much larger it may be for each class.
+/// And this many more for each class.
 const IDS_A_CLASS: u64 = 4;
 
-/// The indices of classes by their ids: those of small ids in a direct table, and the others in a map.
+/// The indices of classes by id: those of small ids in a direct table, the others in a map.
 #[derive(Drop)]
 pub struct Index {
     near: Vec<Option<usize>>,
@@ -25,7 +25,7 @@ pub struct Index {
 }
 
 impl Index {
-    // The index of no classes, with a table for so many ids.
+    // An index without classes, with a direct table for `ids` ids.
     fn new(alloc: Global, ids: usize) -> Result<Index, NoMemory>
         ensures { IfOk result (λ index. (id : ℕ) → index_in index id ≡ None) }
     {
@@ -36,7 +36,7 @@ impl Index {
         })
     }
 
-    // Sets the index of the class of an id, and tells whether the id had one before.
+    // Sets the index of the class with this id, and returns whether the id had one before.
     fn insert(&mut self, id: u64, index: usize) -> Result<bool, NoMemory>
         ensures used { IfOk result (λ used. used ≡ is_some (index_in self.old id)) }
         ensures indices { IfOk result (λ _. (other : ℕ) → index_in self.new other ≡ (if id == other then Some index else index_in self.old other)) }
@@ -50,14 +50,14 @@ impl Index {
         Ok(old.is_some())
     }
 
-    /// The size of the direct table, which has all ids below it.
+    /// The length of the direct table, which has all ids below it.
     pub fn near_len(&self) -> usize
         ensures { result ≡ length self.now.near.items }
     {
         self.near.len()
     }
 
-    /// The index of the class of an id; `None` exactly where no class has it.
+    /// The index of the class with this id, if there is one.
     #[inline]
     pub fn index_of(&self, id: u64) -> Option<usize>
         ensures { result ≡ index_in self.now id }
@@ -68,7 +68,7 @@ impl Index {
         self.far_index_of(id)
     }
 
-    // The index of the class of an id past the end of the direct table.
+    // As `index_of`, for an id past the end of the direct table.
     #[cold]
     fn far_index_of(&self, id: u64) -> Option<usize>
         ensures { result ≡ tree.get nat_cmp self.now.far id }
@@ -77,7 +77,7 @@ impl Index {
     }
 }
 
-// How many ids the direct table has: those up to the greatest, as far as the bound allows.
+// The length of the direct table: up to the greatest id, as far as the bound allows.
 fn near_ids(list: &ClassList) -> usize
     ensures small { result ≤ IDS_A_CLASS * length list.now + FEW_IDS }
 {
@@ -91,7 +91,7 @@ fn near_ids(list: &ClassList) -> usize
     ids.min(most) as usize
 }
 
-// No field has the name of an earlier one, by the numbers of their names.
+// Refuses a field with the name of an earlier one, by the numbers of the names.
 fn check_names(
     alloc: Global,
     class: usize,
@@ -115,8 +115,8 @@ fn check_names(
     Ok(())
 }
 
-/// The index of each id. It is refused where a class has the id of an earlier one, or a field the name of
-/// an earlier one of its class. `numbers` are those of the names of each class's fields.
+/// The index of these classes. A class with the id of an earlier one is refused, and a field with the name of
+/// an earlier one of its class. `numbers` has those of the names of each class's fields.
 pub fn index_classes(
     alloc: Global,
     list: &ClassList,

@@ -1,4 +1,4 @@
-// Values within one another: no inline field holds nothing, and no chain of inline steps is too long.
+//! The checks of inline fields: each has bytes, and no chain of inline steps is too long.
 ghost use Rattle.std.specs.Prelude.{◌≡◌, ℕ, suc, ◌<◌, length, map, IfOk, IfSome, IsSome, slice_get};
 ghost use Rattle.jfr_base.specs.declared.reason.Reason.TheVariants.{EmptyInline};
 ghost use Rattle.jfr_layout.specs.Classes.{Judges, flaws_in, empty_inline, is_empty_inline, deep, field_at, goes_inline, step_goes};
@@ -8,10 +8,10 @@ use crate::{ClassFault, Kind};
 use jfr_base::{NoMemory, Reason};
 use std::alloc::Global;
 
-/// A chain of so many inline steps is too long.
+/// A chain of this many inline steps is too long.
 const TOO_MANY_STEPS: usize = 33;
 
-// Whether the field holds a value of a composite class without fields.
+// Whether the field has inline values of a composite class without fields.
 fn is_empty(classes: &Resolved, class: usize, number: usize) -> bool
     requires { IsSome (field_at classes.now class number) }
     ensures { IfSome (field_at classes.now class number) (λ f. result ≡ is_empty_inline classes.now f) }
@@ -22,7 +22,7 @@ fn is_empty(classes: &Resolved, class: usize, number: usize) -> bool
     }
 }
 
-// No field of the class holds a value of a composite class without fields.
+// Refuses a field of the class with inline values of a composite class without fields.
 fn check_filled_class(classes: &Resolved, class: usize) -> Result<(), ClassFault>
     requires { class < length classes.now }
     ensures { IfSome (slice_get classes.now class) (λ c. Judges (flaws_in EmptyInline (is_empty_inline classes.now) class c.fields) result) }
@@ -40,7 +40,7 @@ fn check_filled_class(classes: &Resolved, class: usize) -> Result<(), ClassFault
     Ok(())
 }
 
-/// No field holds a value of a composite class without fields.
+/// Refuses a field with inline values of a composite class without fields.
 pub fn check_filled(classes: &Resolved) -> Result<(), ClassFault>
     ensures { Judges (empty_inline classes.now) result }
 {
@@ -50,7 +50,7 @@ pub fn check_filled(classes: &Resolved) -> Result<(), ClassFault>
     Ok(())
 }
 
-// Whether the field's inline step goes to a class with a flag. The flags tell which classes begin a chain.
+// Whether the field's inline step goes to a class that begins a chain of n steps, given which classes do.
 fn goes_by(classes: &Resolved, class: usize, number: usize, goes: &[bool]) -> bool
     requires field { IsSome (field_at classes.now class number) }
     requires each { length goes.now ≡ length classes.now }
@@ -62,7 +62,7 @@ fn goes_by(classes: &Resolved, class: usize, number: usize, goes: &[bool]) -> bo
     }
 }
 
-// Whether the class begins a chain of one step more than those of the flags.
+// Whether the class begins a chain of n + 1 steps, given which classes begin one of n steps.
 fn goes_on(classes: &Resolved, class: usize, goes: &[bool]) -> bool
     requires within { class < length classes.now }
     requires each { length goes.now ≡ length classes.now }
@@ -81,7 +81,7 @@ fn goes_on(classes: &Resolved, class: usize, goes: &[bool]) -> bool
     false
 }
 
-// For each class, whether it begins a chain of one step more than those of the flags.
+// From "begins a chain of n steps" computes "begins a chain of n + 1 steps", for each class.
 fn round(alloc: Global, classes: &Resolved, goes: &[bool]) -> Result<Vec<bool>, NoMemory>
     requires { length goes.now ≡ length classes.now }
     ensures exact { IfOk result (λ next. (n : ℕ) → goes.now ≡ map (goes_inline n classes.now) classes.now → next.items ≡ map (goes_inline (suc n) classes.now) classes.now) }
@@ -93,8 +93,8 @@ fn round(alloc: Global, classes: &Resolved, goes: &[bool]) -> Result<Vec<bool>, 
     Ok(next)
 }
 
-// Which classes begin a chain that is too long. Each round walks over all fields once, so that no chain is
-// followed.
+// For each class, whether it begins a chain that is too long. Each round looks at every field once, so that
+// no chain has to be followed, of which there can be exponentially many.
 fn too_deep(alloc: Global, classes: &Resolved) -> Result<Vec<bool>, NoMemory>
     ensures exact { IfOk result (λ goes. goes.items ≡ map (goes_inline 33 classes.now) classes.now) }
 {
@@ -105,7 +105,7 @@ fn too_deep(alloc: Global, classes: &Resolved) -> Result<Vec<bool>, NoMemory>
     Ok(goes)
 }
 
-/// No class begins a chain of more than 32 inline steps.
+/// Refuses a class that begins a chain of more than 32 inline steps.
 pub fn check_depth(alloc: Global, classes: &Resolved) -> Result<(), ClassFault>
     ensures { Judges (deep classes.now) result }
 {

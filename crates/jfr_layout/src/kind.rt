@@ -1,11 +1,11 @@
-// The kinds of classes.
+//! The kinds of classes.
 ghost use Rattle.std.specs.Prelude.{◌≡◌};
 
 use crate::is_text;
 use jfr_base::Text;
 
-/// How the values of a class are spelled: one of nine base kinds, by the class's name, or composite
-/// (FORMAT.md, Values).
+/// How the inline values of a class are spelled: by one of nine base kinds, which the class's name
+/// determines, or as a composite (docs/FORMAT.md, Values).
 #[derive(Clone, Copy, Debug, PartialEq, Eq)]
 pub enum Kind {
     /// One raw byte.
@@ -20,9 +20,9 @@ pub enum Kind {
     Int,
     /// A compressed integer, signed.
     Long,
-    /// Four raw bytes, big-endian: a number of IEEE 754.
+    /// Four raw bytes, big-endian: an IEEE 754 number.
     Float,
-    /// Eight raw bytes, big-endian: a number of IEEE 754.
+    /// Eight raw bytes, big-endian: an IEEE 754 number.
     Double,
     /// A string.
     Text,
@@ -33,7 +33,7 @@ pub enum Kind {
 impl Kind {
     ghost use Rattle.jfr_layout.specs.Classes.{kind_of};
 
-    /// The kind of a class of this name.
+    /// The kind of a class with this name.
     pub fn of(name: &Text) -> Kind
         ensures { result ≡ kind_of name.now }
     {

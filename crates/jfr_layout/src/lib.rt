@@ -1,9 +1,8 @@
 //! Classes and their layout: kinds, shapes, fields, and what makes a list of classes sound.
 //!
-//! `Classes::make` takes the classes that a chunk's metadata lists, and gives the sound classes or the
-//! first flaw; so does `Classes::make_numbered`, where the names of fields have numbers already. A
-//! `Classes` value is always sound. Look-ups go by a class's id or, for walks over many values, by its
-//! index in the list.
+//! `Classes::make` takes the classes of a chunk's metadata, and returns the sound classes or the first flaw;
+//! so does `Classes::make_numbered`, if the names of fields have numbers already. A `Classes` value is always
+//! sound. Classes are looked up by id or, in walks over many values, by their index in the list.
 //!
 //! Read `specs/Classes.antt` first, then `specs/Names.antt` and `specs/Laws.antt`.
 #![tactic(auto)]

@@ -1,4 +1,4 @@
-// Numbers for the names of fields.
+//! Numbers for the names of fields.
 ghost use Rattle.std.specs.Prelude.{IfOk};
 ghost use Rattle.jfr_layout.specs.Names.{AreAllNumbered, AreNumbered};
 
@@ -7,7 +7,7 @@ use jfr_base::NoMemory;
 use std::alloc::Global;
 use std::collections::BTreeMap;
 
-// For each field, the number of the first field of its name.
+// For each field, the number of the first field with its name.
 fn number_names(alloc: Global, fields: &Fields) -> Result<Vec<u64>, NoMemory>
     ensures ok { IfOk result (λ numbers. AreNumbered fields.now numbers.items) }
 {
@@ -25,7 +25,7 @@ fn number_names(alloc: Global, fields: &Fields) -> Result<Vec<u64>, NoMemory>
     Ok(numbers)
 }
 
-/// Numbers for the names of the fields of each class: within a class equal exactly for equal names.
+/// For each class, numbers for the names of its fields: equal exactly for equal names.
 pub(crate) fn number_fields(alloc: Global, list: &ClassList) -> Result<Vec<Vec<u64>>, NoMemory>
     ensures ok { IfOk result (λ numbers. AreAllNumbered list.now numbers.items) }
 {

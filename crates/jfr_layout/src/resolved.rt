@@ -1,6 +1,5 @@
-// A list of classes in which ids and names stand once and each field's class is known, with what makes
-// look-ups fast.
-ghost use Rattle.std.specs.Prelude.{◌≡◌, ◌<◌, ◌++◌, length, map, IfOk, IfSome, IsSome, slice_get, option_and_then};
+//! Classes whose fields' classes are known, with what makes look-ups fast.
+ghost use Rattle.std.specs.Prelude.{◌≡◌, ◌<◌, ◌++◌, ◌↔◌, [], length, map, IfOk, IfSome, IsSome, IsTrue, slice_get, option_and_then};
 ghost use Rattle.std.specs.Option.{option_copied};
 ghost use Rattle.jfr_base.specs.declared.reason.Reason.TheVariants.{UnknownType};
 ghost use Rattle.jfr_layout.specs.Classes.{Judges, repeats, unknown, flaws_in, is_unknown, field_at, find_class, class_index, kind_of, step_class, extends_event, AreFieldLayouts};
@@ -14,7 +13,7 @@ use jfr_base::{NoMemory, Reason};
 use std::alloc::Global;
 use std::marker::Model;
 
-/// Classes in which ids and names stand once and each field's class is known.
+/// Classes in which no id repeats, no field's name repeats within its class, and each field's class is known.
 #[derive(Drop)]
 pub struct Resolved {
     list: ClassList,
@@ -60,7 +59,7 @@ fn extends_event(class: &ClassInfo, kind: Kind) -> bool
     }
 }
 
-// The layouts of the fields of one class. A field's class that isn't defined is a fault.
+// The layouts of the fields of one class. A field whose class isn't defined is refused.
 fn layouts_of(
     alloc: Global,
     list: &ClassList,
@@ -96,7 +95,7 @@ fn layouts_of(
     Ok(layouts)
 }
 
-// The layout of one class. A field's class that isn't defined is a fault.
+// The layout of one class. A field whose class isn't defined is refused.
 fn class_layout_of(
     alloc: Global,
     list: &ClassList,
@@ -139,8 +138,8 @@ fn class_layouts_of(
 }
 
 impl Resolved {
-    /// Resolves the classes of all fields. A repeated id or name, and a class that isn't defined, are faults.
-    /// `numbers` are those of the names of each class's fields.
+    /// Resolves the classes of all fields. A repeated id or name is refused, and so is a class that isn't
+    /// defined. `numbers` has those of the names of each class's fields.
     pub fn make(
         alloc: Global,
         list: ClassList,
@@ -161,21 +160,28 @@ impl Resolved {
         })
     }
 
-    /// How many classes there are.
+    /// The number of classes.
     pub fn len(&self) -> usize
         ensures { result ≡ length self.now }
     {
         self.list.len()
     }
 
-    /// The class of an index; `None` exactly past the end.
+    /// Whether there is no class.
+    pub fn is_empty(&self) -> bool
+        ensures { IsTrue result ↔ (self.now ≡ []) }
+    {
+        self.list.is_empty()
+    }
+
+    /// The class with this index, if there is one.
     pub fn get(&self, at: usize) -> Option<&ClassInfo>
         ensures { option_copied result ≡ slice_get self.now at }
     {
         self.list.get(at)
     }
 
-    /// The class of an index.
+    /// The class with this index.
     pub fn class_at(&self, index: usize) -> &ClassInfo
         requires { index < length self.now }
         ensures { slice_get self.now index ≡ Some result.now }
@@ -183,7 +189,7 @@ impl Resolved {
         self.list.at(index)
     }
 
-    /// The index of the class of an id; `None` exactly where no class has it.
+    /// The index of the class with this id, if there is one.
     pub fn index_of(&self, id: u64) -> Option<usize>
         ensures exact { result ≡ class_index self.now id }
         ensures class { option_and_then (slice_get self.now) result ≡ find_class self.now id }
@@ -192,13 +198,12 @@ impl Resolved {
         self.index.index_of(id)
     }
 
-    /// The size of the index's direct table, which is a good size for other tables by id. Nothing else is
-    /// promised of it.
+    /// The length of the index's direct table, which is a good length for other tables by id.
     pub(crate) fn near_len(&self) -> usize {
         self.index.near_len()
     }
 
-    /// The kind of the class of an index.
+    /// The kind of the class with this index.
     pub fn kind_at(&self, index: usize) -> Kind
         requires { index < length self.now }
         ensures { IfSome (slice_get self.now index) (λ c. result ≡ kind_of c.name) }
@@ -206,7 +211,7 @@ impl Resolved {
         self.kinds[index]
     }
 
-    /// The layout of the class of an index.
+    /// The layout of the class with this index.
     pub fn class_layout(&self, index: usize) -> &ClassLayout
         requires { index < length self.now }
         ensures { IfSome (slice_get self.now index) (λ c. IsClassLayout self.now c result.now) }
@@ -214,7 +219,7 @@ impl Resolved {
         &self.class_layouts[index]
     }
 
-    /// Whether the class of an index is composite and has the super type of events.
+    /// Whether the class with this index is composite and has the super type of events.
     pub fn extends_event(&self, index: usize) -> bool
         requires { index < length self.now }
         ensures { IfSome (slice_get self.now index) (λ c. result ≡ extends_event c) }
@@ -222,7 +227,7 @@ impl Resolved {
         self.class_layout(index).is_event
     }
 
-    /// The layouts of the fields of the class of an index, in order.
+    /// The layouts of the fields of the class with this index, in order.
     pub fn layouts(&self, index: usize) -> &[FieldLayout]
         requires { index < length self.now }
         ensures { IfSome (slice_get self.now index) (λ c. AreFieldLayouts self.now c.fields result.now) }
@@ -230,7 +235,7 @@ impl Resolved {
         &self.class_layout(index).layouts
     }
 
-    /// The index of the class to which the inline step by a field goes; `None` exactly where that is no
+    /// The index of the class to which the inline step by this field goes; `None` exactly if the field has no
     /// inline step.
     pub fn step(&self, index: usize, number: usize) -> Option<usize>
         requires { IsSome (field_at self.now index number) }

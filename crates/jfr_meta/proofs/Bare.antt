@@ -162,7 +162,7 @@ flaws_bare texts ts =
     ∙ (ap (λ z. map erased (flat_map (class_flaws texts) ts) ++ z) (ap (λ k. map (placed texts (map bare ts)) (class_faults k)) (classes_bare texts ts) ∙ placed_bare texts ts (class_faults (classes_of texts ts)))
     ∙ sym (erased_append (flat_map (class_flaws texts) ts) (list_flaws texts ts)))
 
--- The classes, where none is faulty.
+-- The classes, if they have no flaw.
 abbrev classes_in : Result Classes Flaw → Option Classes
 classes_in (Ok k) = Some k
 classes_in (Err f) = None

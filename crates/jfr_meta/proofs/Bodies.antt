@@ -9,7 +9,7 @@ use Rattle.jfr_meta.specs.Heads.{head_format}
 use Rattle.jfr_meta.specs.Trees.{Tree}
 use Rattle.jfr_meta.proofs.Runs.{ok, bind_ok, bind_err}
 
--- The head: each integer behind the others.
+-- The head: four integers, one after another.
 abbrev pub Four : Type 0
 Four = ℕ × ℕ × ℕ × ℕ
 
@@ -48,7 +48,7 @@ pub whole_head : (x : List ℕ) (end at : ℕ) (start p duration q id r count s 
 unfolding run
 whole_head x end at start p duration q id r count s e f g h = numbered x end at start p duration q id r e f g ∙ bind_ok integer (λ count. Done (start, duration, id, count)) x end r count s h
 
--- The body: the strings behind the head, and the element behind them.
+-- The body: the head, followed by the strings and the element.
 abbrev pub body_of : Four → List (List ℕ) → Tree → Body
 body_of h strings root = record { start = h.0; duration = h.1; id = h.2; strings = strings; root = root }
 
@@ -62,7 +62,7 @@ in_parts : (x : List ℕ) (end at : ℕ) → run body_format x end at ≡ run (h
 unfolding body_format
 in_parts x end at = refl
 
--- The whole record: the end behind the body.
+-- The whole record: the body, followed by the end.
 stopped_ok : (x : List ℕ) (end at : ℕ) (b : Body) (p : ℕ) → run body_format x end at ≡ ok b p → run meta_format x end at ≡ run (Stop (Done b)) x end p
 unfolding meta_format
 stopped_ok x end at b p e = bind_ok body_format (λ b. Stop (Done b)) x end at b p e

@@ -1,4 +1,4 @@
--- What the format of an element reads stands there, by cases on the tree.
+-- The bytes spell the element that its format reads; by cases on the tree.
 use Rattle.std.specs.Prelude.{◌≡◌, ℕ, zero, suc, ◌-◌, ◌<◌, List, ◌∷◌, length, Some, None, Bool, true, false, nat_lt, if◌then◌else◌}
 use Rattle.std.proofs.Common.{ap, arith, refl, sym, ◌∙◌, subst}
 use Rattle.std.proofs.lemmas.Bool.{ltb-true}

@@ -71,11 +71,11 @@ first_found texts ps m key v h asked e = ap (option_map (text_at texts)) (e ∙ 
     by_pair None = refl
     by_pair (Some p) = refl
 
--- The key of a number is ASCII.
+-- The key of a numbered value is ASCII.
 key_ascii : (n : ℕ) → n < 2 ^ 64 → encode_utf8_all (value_key n) ≡ value_key n
 key_ascii n h = encodes-IsAscii (value_key n) (IsAscii-append (codes "value-") (decimal n) (word_ascii (codes "value-") refl) (IsAscii-decimal n h))
 
--- The key of a number can be asked for.
+-- The key of a numbered value can be looked up.
 pub key_asked : (n : ℕ) → n < 2 ^ 64 → CanBeAsked (value_key n)
 key_asked n h =
     let digits : length (decimal n) ≤ 20 = length-decimal-le 20 n (omega arith) (omega arith) h in

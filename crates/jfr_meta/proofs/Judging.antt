@@ -12,7 +12,7 @@ use Rattle.jfr_base.specs.declared.flaw.ReadFault.{ReadFault}
 use Rattle.jfr_base.specs.declared.flaw.ReadFault.TheVariants.{Flawed, Memory}
 use Rattle.jfr_meta.specs.Answers.{TellsFirst}
 
--- What stands before a place, there, and behind it.
+-- A list as the members before an index, the one there, and those after it.
 at_place : {X : Type 0} (xs : List X) (i : ℕ) (x : X) → slice_get xs i ≡ Some x → xs ≡ take i xs ++ x ∷ drop (suc i) xs
 at_place [] i x e = cc
 at_place (y ∷ xs) zero x e = let f : y ≡ x = cc in ap (λ z. z ∷ xs) f
@@ -25,7 +25,7 @@ first_stays : (xs ys : List Flaw) (f : Flaw) → slice_get xs 0 ≡ Some f → s
 first_stays [] ys f e = cc
 first_stays (x ∷ xs) ys f e = e
 
--- A reference at a place leads to what stands there.
+-- The reference at an index leads to the member at this index.
 pub behind_ref : {A : Type 0} (refs : List (Bor A)) (xs : List A) (i : ℕ) (r : Bor A) → map (λ e. e.now) refs ≡ xs → i < length refs → r ≡ get_or refs i r → slice_get xs i ≡ Some r.now
 behind_ref refs xs i r m l e =
     sym (ap (λ z. slice_get z i) m) ∙ (slice_get-map (λ e. e.now) refs i ∙ (ap (option_map (λ e. e.now)) (slice_get-get_or refs i r l) ∙ ap (λ z. Some z.now) (sym e)))

@@ -4,7 +4,7 @@ pub mod Bodies
 pub mod Categories
 pub mod ElementsStand
 pub mod FirstValues
-pub mod Ids
+pub mod IdLaws
 pub mod Judging
 pub mod NamedLaws
 pub mod NameLaws
@@ -17,3 +17,14 @@ pub mod Told
 pub mod WrittenLaws
 pub mod ReadBack
 mod Rows
+pub mod Lists
+pub mod Alike
+pub mod SlimClasses
+pub mod Tables
+pub mod SlimLaws
+pub mod StayLaws
+pub mod PutsLaws
+pub mod HeldLaws
+pub mod NewTableLaws
+pub mod Depths
+pub mod WithinLaws

@@ -33,7 +33,7 @@ pub too_deep : (levels limit : ℕ) (x : List ℕ) (end at : ℕ) → levels ≡
 unfolding run element_format
 too_deep levels limit x end at e = ap (λ z. run (element_format z limit) x end at) e
 
--- An element whose first parts were read: the number of its children stands at a place.
+-- An element whose first parts have been read: the number of its children starts at an offset.
 pub record Begun (levels limit : ℕ) (x : List ℕ) (end at name : ℕ) (p : ℕ) : Type 0 where
   pub same : run (element_format (suc levels) limit) x end at ≡ run (behind_name levels limit at name) x end p
 

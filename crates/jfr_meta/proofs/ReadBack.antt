@@ -63,7 +63,7 @@ exact_text (c ∷ cs) t =
     bind_exact (string_format false) (λ s. Done (table_text s)) b [] b (Utf8 e) (c ∷ cs) (sym (append-nil b))
     (format_of_string false b (Utf8 e) (refl, (spell (length e), e, refl, spell_spells (length e), refl)) tt) (sym (lossy_chars-encode (c ∷ cs) (text_scalars (c ∷ cs) t)), refl)
 
--- A tree with the places that it has where it is written.
+-- A tree with the offsets that its elements have when it is written.
 abbrev mutual
   pub moved : ℕ → Tree → Tree
   moved at (Node place name pairs children) =
@@ -86,7 +86,7 @@ trees_of-list_of : (ts : Trees) → trees_of (list_of ts) ≡ ts
 trees_of-list_of Nil = refl
 trees_of-list_of (Cons t ts) = ap (λ z. Cons t z) (trees_of-list_of ts)
 
--- An integer where it stands.
+-- Reading an integer at its offset.
 int_run : (x : List ℕ) (end at to v : ℕ) → end ≤ length x → Stands x at to (spell v) → to ≤ end → run integer x end at ≡ ok v to
 int_run x end at to v w s i = exact_run x end w integer at to (spell v) v (exact_int v) s i
 
@@ -96,7 +96,7 @@ nothing x at to s =
     let l : to - at ≡ 0 = sym (range_length x at to s.within) ∙ ap length s.bytes in
     omega arith
 
--- A tree where it stands.
+-- Reading a tree at its offset.
 mutual
   pub tree_run : (t : Tree) (limit levels : ℕ) (x : List ℕ) (end at to : ℕ) → end ≤ length x → HasIndices limit t → depth t ≤ levels → Stands x at to (tree_bytes t) → to ≤ end → run (element_format levels limit) x end at ≡ ok (moved at t) to
   tree_run (Node place name pairs children) limit zero x end at to w g d s i = absurd (omega arith)
@@ -139,18 +139,18 @@ mutual
       ∙ (bind_ok (times k f) (λ rest. Done (moved at t ∷ rest)) x end q rest to (trees_run ts limit levels x end q to w g.1 (omega arith) a.second i)
       ∙ done_ok (moved at t ∷ rest) x end to)
 
--- The parts of the body where they stand.
+-- Reading the parts of the body at their offsets.
 module _ (start duration id : ℕ) (strings : List (List ℕ)) (root : Tree) (x : List ℕ) (good : HasIndices (length strings) root) (shallow : depth root ≤ 16) (texts : AllByRecursion IsText strings) where
-  body_run : Stands x 5 (length x) (body_bytes start duration id strings root)
-      → (t : Tree) × (bare t ≡ bare root) × (run meta_format x (length x) 5 ≡ ok (record { start = start; duration = duration; id = id; strings = strings; root = t }) (length x))
+  body_run : Stands x 6 (length x) (body_bytes start duration id strings root)
+      → (t : Tree) × (bare t ≡ bare root) × (run meta_format x (length x) 6 ≡ ok (record { start = start; duration = duration; id = id; strings = strings; root = t }) (length x))
   body_run s =
       let n : ℕ = length x in
       let w : n ≤ n = omega arith in
       let count : ℕ = length strings in
       let flat : List ℕ = flat_map text_bytes strings in
       let tree : List ℕ = tree_bytes root in
-      let a : Halves x 5 n (spell start) (spell duration ++ (spell id ++ (spell count ++ (flat ++ tree)))) = stands_split x 5 n (body_bytes start duration id strings root) (spell start) (spell duration ++ (spell id ++ (spell count ++ (flat ++ tree)))) s refl in
-      let p : ℕ = 5 + length (spell start) in
+      let a : Halves x 6 n (spell start) (spell duration ++ (spell id ++ (spell count ++ (flat ++ tree)))) = stands_split x 6 n (body_bytes start duration id strings root) (spell start) (spell duration ++ (spell id ++ (spell count ++ (flat ++ tree)))) s refl in
+      let p : ℕ = 6 + length (spell start) in
       let b : Halves x p n (spell duration) (spell id ++ (spell count ++ (flat ++ tree))) = stands_split x p n (spell duration ++ (spell id ++ (spell count ++ (flat ++ tree)))) (spell duration) (spell id ++ (spell count ++ (flat ++ tree))) a.second refl in
       let q : ℕ = p + length (spell duration) in
       let c : Halves x q n (spell id) (spell count ++ (flat ++ tree)) = stands_split x q n (spell id ++ (spell count ++ (flat ++ tree))) (spell id) (spell count ++ (flat ++ tree)) b.second refl in
@@ -164,17 +164,17 @@ module _ (start duration id : ℕ) (strings : List (List ℕ)) (root : Tree) (x 
       let o3 : r ≤ n = c.second.order in
       let o2 : q ≤ n = b.second.order in
       let o1 : p ≤ n = a.second.order in
-      let head = whole_head x n 5 start p duration q id r count u (int_run x n 5 p start w a.first o1) (int_run x n p q duration w b.first o2) (int_run x n q r id w c.first o3) (int_run x n r u count w d.first o4) in
+      let head = whole_head x n 6 start p duration q id r count u (int_run x n 6 p start w a.first o1) (int_run x n p q duration w b.first o2) (int_run x n q r id w c.first o3) (int_run x n r u count w d.first o4) in
       let table = exact_run x n w (times count table_string) u v flat strings (exact_times table_string text_bytes IsText exact_text strings texts) e.first o5 in
       let element = tree_run root count 16 x n v n w good shallow e.second w in
-      (moved v root, moved_bare v root, whole_body x n 5 (start, duration, id, count) u strings v (moved v root) n head table element refl)
+      (moved v root, moved_bare v root, whole_body x n 6 (start, duration, id, count) u strings v (moved v root) n head table element refl)
 
 stands_whole : (x : List ℕ) → Stands x 0 (length x) x
 stands_whole x = record { order = omega arith; within = omega arith; bytes = take_all (length x - 0) x (omega arith) }
 
-four_bytes : (v : ℕ) → length (spell_in 4 v) ≡ 4
+five_bytes : (v : ℕ) → length (spell_in 5 v) ≡ 5
 unfolding spell_in
-four_bytes v = refl
+five_bytes v = refl
 
 abbrev zero_byte : List ℕ
 zero_byte = 0 ∷ []
@@ -184,40 +184,40 @@ unfolding spell
 zero_spelled = spell_spells 0
 
 module _ (start duration id : ℕ) (strings : List (List ℕ)) (root : Tree) (x : List ℕ) where
-  pub read_back : HasIndices (length strings) root → depth root ≤ 16 → length (table_bytes strings root) < 134217728 → AllByRecursion IsText strings → x ≡ record_bytes start duration id strings root → ReadsBack x start duration id strings root
+  pub read_back : HasIndices (length strings) root → depth root ≤ 16 → length (table_bytes strings root) < 536870912 → AllByRecursion IsText strings → x ≡ record_bytes start duration id strings root → ReadsBack x start duration id strings root
   read_back good shallow small texts e =
       let body : List ℕ = body_bytes start duration id strings root in
       let n : ℕ = length x in
-      let size : ℕ = 5 + length body in
-      let front : List ℕ = spell_in 4 size in
+      let size : ℕ = 6 + length body in
+      let front : List ℕ = spell_in 5 size in
       let h : Halves x 0 n front (0 ∷ body) = stands_split x 0 n x front (0 ∷ body) (stands_whole x) e in
-      let four : length front ≡ 4 = four_bytes size in
-      let at4 : 0 + length front ≡ 4 = omega arith in
-      let s1 : Stands x 0 4 front = subst (λ z. Stands x 0 z front) at4 h.first in
-      let s2 : Stands x 4 n (0 ∷ body) = subst (λ z. Stands x z n (0 ∷ body)) at4 h.second in
-      let k : Halves x 4 n (0 ∷ []) body = stands_split x 4 n (0 ∷ body) (0 ∷ []) body s2 refl in
-      let at5 : 4 + length zero_byte ≡ 5 = omega arith in
-      let s3 : Stands x 4 5 (0 ∷ []) = subst (λ z. Stands x 4 z (0 ∷ [])) at5 k.first in
-      let s4 : Stands x 5 n body = subst (λ z. Stands x z n body) at5 k.second in
-      let whole : n ≡ 5 + length body = (let p : n ≡ 4 + length zero_byte + length body = k.place in omega arith) in
-      let fits : FitsIn size 4 = inl (omega (arith, body_measured start duration id strings root, spell_most start, spell_most duration, spell_most id, spell_most (length strings))) in
+      let five : length front ≡ 5 = five_bytes size in
+      let at5 : 0 + length front ≡ 5 = omega arith in
+      let s1 : Stands x 0 5 front = subst (λ z. Stands x 0 z front) at5 h.first in
+      let s2 : Stands x 5 n (0 ∷ body) = subst (λ z. Stands x z n (0 ∷ body)) at5 h.second in
+      let k : Halves x 5 n (0 ∷ []) body = stands_split x 5 n (0 ∷ body) (0 ∷ []) body s2 refl in
+      let at6 : 5 + length zero_byte ≡ 6 = omega arith in
+      let s3 : Stands x 5 6 (0 ∷ []) = subst (λ z. Stands x 5 z (0 ∷ [])) at6 k.first in
+      let s4 : Stands x 6 n body = subst (λ z. Stands x z n body) at6 k.second in
+      let whole : n ≡ 6 + length body = (let p : n ≡ 5 + length zero_byte + length body = k.place in omega arith) in
+      let fits : FitsIn size 5 = inl (omega (arith, body_measured start duration id strings root, spell_most start, spell_most duration, spell_most id, spell_most (length strings))) in
       let r = body_run start duration id strings root x good shallow texts s4 in
       let b : Body = record { start = start; duration = duration; id = id; strings = strings; root = r.0 } in
-      let P : Answer Body → Type 0 = λ a. Says meta_format x n 5 a in
-      let size_at : IntAt x 0 4 n = record { order = omega arith; within = s1.within; spelled = subst (λ z. Spells z n) (sym s1.bytes) (subst (Spells front) (sym whole) (fits_spells size 4 (omega arith) (omega arith) fits)) } in
-      let type_at : IntAt x 4 5 0 = record { order = omega arith; within = s3.within; spelled = subst (λ z. Spells z 0) (sym s3.bytes) zero_spelled } in
-      let covers : 5 ≤ 0 + n = omega arith in
+      let P : Answer Body → Type 0 = λ a. Says meta_format x n 6 a in
+      let size_at : IntAt x 0 5 n = record { order = omega arith; within = s1.within; spelled = subst (λ z. Spells z n) (sym s1.bytes) (subst (Spells front) (sym whole) (fits_spells size 5 (omega arith) (omega arith) fits)) } in
+      let type_at : IntAt x 5 6 0 = record { order = omega arith; within = s3.within; spelled = subst (λ z. Spells z 0) (sym s3.bytes) zero_spelled } in
+      let covers : 6 ≤ 0 + n = omega arith in
       let within : 0 + n ≤ n = omega arith in
-      let order : 5 ≤ n = omega arith in
+      let order : 6 ≤ n = omega arith in
       let inside : n ≤ n = omega arith in
       record {
-        frame = record { at = 0; size = n; type_at = 4; type_id = 0; body = 5 };
+        frame = record { at = 0; size = n; type_at = 5; type_id = 0; body = 6 };
         first = refl;
         whole = refl;
         type_zero = refl;
         is_record = record { size_spelled = size_at; type_spelled = type_at; covers = covers; within = within };
         tree = r.0;
         same = r.1;
-        body = subst P r.2 (run_says meta_format x n 5 order inside);
+        body = subst P r.2 (run_says meta_format x n 6 order inside);
         classes = λ k d. described_bare start duration id strings root r.0 k (sym r.1) d;
       }

@@ -11,7 +11,7 @@ use Rattle.jfr_meta.specs.Body.{index, index_check, pair}
 abbrev pub ok : {A : Type 0} → A → ℕ → Answer A
 ok a p = Ok (record { value = a; place = p })
 
--- Where the first format gives a value, what follows goes on from there; where it fails, the whole does.
+-- If the first format gives a value, the next one continues from there; if it fails, the whole fails.
 pub bind_ok : {A B : Type 0} (f : Format A) (g : A → Format B) (x : List ℕ) (end at : ℕ) (a : A) (p : ℕ) → run f x end at ≡ ok a p → run (f >>= g) x end at ≡ run (g a) x end p
 bind_ok f g x end at a p e = run-bind f g x end at ∙ ap (λ r. on r (λ a p. run (g a) x end p)) e
 

@@ -37,7 +37,7 @@ not_empty-some t u e = by_chars (chars t) (encodes-chars t u)
 pub word_eq : (t ws : List ℕ) → IsUtf8 t → IsUtf8 ws → list_all is_ascii ws ≡ true → bytes_eq t ws ≡ bytes_eq (chars t) ws
 word_eq t ws u v e = bytes_eq-chars t ws u v ∙ ap (bytes_eq (chars t)) (chars-IsAscii ws (word_ascii ws e))
 
--- The text of an index, where the table has it, and where it doesn't.
+-- The text of an index, if the table has it, and if it doesn't.
 pub text_there : (texts : List (List ℕ)) (i : ℕ) (t : List ℕ) → slice_get texts i ≡ Some t → get_or texts i [] ≡ t
 text_there texts i t e = sym (unwrap_or-slice_get texts i []) ∙ ap (λ z. unwrap_or z []) e
 

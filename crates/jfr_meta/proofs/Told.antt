@@ -1,4 +1,4 @@
--- What is told of flaws.
+-- The first of some flaws.
 use Rattle.std.specs.Prelude.{◌≡◌, ℕ, List, [], ◌∷◌, ◌++◌, map}
 use Rattle.std.proofs.Common.{ap, sym, ◌∙◌}
 use Rattle.std.specs.List.{flat_map}
@@ -10,7 +10,7 @@ use Rattle.jfr_meta.specs.Trees.{Tree}
 use Rattle.jfr_meta.specs.Answers.{TellsFirst}
 use Rattle.jfr_meta.specs.Described.{class_flaws, list_flaws, tree_flaws, placed, classes_of}
 
--- What is told of one stage is told before the next.
+-- The first flaw of one stage comes before those of the next.
 pub append_tells : (fs gs : List Flaw) (e : ReadFault) → TellsFirst fs e → TellsFirst (fs ++ gs) e
 append_tells [] gs (Flawed f) h = cc
 append_tells (g ∷ fs) gs (Flawed f) h = h

@@ -35,7 +35,7 @@ how_many-list_of (Cons t ts) = ap (λ n. suc n) (how_many-list_of ts)
 four_appends : (o a b c d e : List ℕ) → ((((o ++ a) ++ b) ++ c) ++ d) ++ e ≡ o ++ (a ++ (b ++ (c ++ (d ++ e))))
 four_appends o a b c d e = simp append_assoc
 
--- An element's parts behind what was written before.
+-- An element's parts, after what was written before.
 pub element_written : (t : Tree) (o : List ℕ)
     → ((((o ++ spell (name_of t)) ++ spell (length (pairs_of t))) ++ flat_map pair_bytes (pairs_of t)) ++ spell (length (children_of t))) ++ flat_map tree_bytes (children_of t) ≡ o ++ tree_bytes t
 element_written (Node place name pairs children) o =
@@ -108,9 +108,9 @@ pub body_written : (o : List ℕ) (start duration id : ℕ) (strings : List (Lis
     → (((((o ++ spell start) ++ spell duration) ++ spell id) ++ spell (length strings)) ++ flat_map text_bytes strings) ++ tree_bytes root ≡ o ++ body_bytes start duration id strings root
 body_written o start duration id strings root = simp append_assoc
 
-pub record_written : (size start duration id : ℕ) (strings : List (List ℕ)) (root : Tree) (p q r : List ℕ) → p ≡ [] ++ spell_in 4 size → q ≡ p ++ 0 ∷ [] → r ≡ q ++ body_bytes start duration id strings root
-    → size ≡ 5 + length (body_bytes start duration id strings root) → r ≡ record_bytes start duration id strings root
+pub record_written : (size start duration id : ℕ) (strings : List (List ℕ)) (root : Tree) (p q r : List ℕ) → p ≡ [] ++ spell_in 5 size → q ≡ p ++ 0 ∷ [] → r ≡ q ++ body_bytes start duration id strings root
+    → size ≡ 6 + length (body_bytes start duration id strings root) → r ≡ record_bytes start duration id strings root
 record_written size start duration id strings root p q r e f g h =
     let b = body_bytes start duration id strings root in
-    let k : r ≡ (spell_in 4 size ++ 0 ∷ []) ++ b = cc in
-    k ∙ (append_assoc (spell_in 4 size) (0 ∷ []) b ∙ ap (λ z. spell_in 4 z ++ (0 ∷ b)) h)
+    let k : r ≡ (spell_in 5 size ++ 0 ∷ []) ++ b = cc in
+    k ∙ (append_assoc (spell_in 5 size) (0 ∷ []) b ∙ ap (λ z. spell_in 5 z ++ (0 ∷ b)) h)

@@ -1,4 +1,4 @@
--- What a reader answers, against what a format gives.
+-- The results of reading functions, compared with those of formats.
 use Rattle.std.specs.Prelude.{◌≡◌, ℕ, List, [], Some, Result, Ok, Err, ⊤, slice_get}
 use Rattle.jfr_base.specs.declared.flaw.Flaw.{Flaw}
 use Rattle.jfr_base.specs.declared.flaw.ReadFault.{ReadFault}
@@ -6,32 +6,32 @@ use Rattle.jfr_base.specs.declared.flaw.ReadFault.TheVariants.{Flawed, Memory}
 use Rattle.jfr_base.specs.declared.integer.Var.{Var}
 use Rattle.jfr_base.specs.Formats.{Answer}
 
--- An integer that was read, or the flaw.
+-- The answer of a format for an integer that was read, or its flaw.
 abbrev pub var_answer : Result Var Flaw → Answer ℕ
 var_answer (Ok v) = Ok (record { value = v.value; place = v.end })
 var_answer (Err f) = Err f
 
--- The flaw is this one, where it isn't memory that is wanting.
+-- The fault is this flaw, or memory ran out.
 abbrev pub IsFault : {A : Type 0} → Result A Flaw → ReadFault → Type 0
 IsFault a (Flawed f) = a ≡ Err f
 IsFault a Memory = ⊤
 
--- The reader gives the value and the place after it, or the flaw, unless memory is wanting.
+-- The function returns the format's value and the offset after it, or the format's flaw, or memory ran out.
 abbrev pub Tells : {A : Type 0} → Answer A → Result (A × ℕ) ReadFault → Type 0
 Tells a (Ok r) = a ≡ Ok (record { value = r.0; place = r.1 })
 Tells a (Err e) = IsFault a e
 
--- The fault tells the first flaw, where memory isn't wanting.
+-- The fault is the first of these flaws, or memory ran out.
 abbrev pub TellsFirst : List Flaw → ReadFault → Type 0
 TellsFirst flaws (Flawed f) = slice_get flaws 0 ≡ Some f
 TellsFirst flaws Memory = ⊤
 
--- A fact about the flaw, where it isn't memory that is wanting.
+-- The fault is a flaw of which this holds, or memory ran out.
 abbrev pub IfFlawed : (Flaw → Type 0) → ReadFault → Type 0
 IfFlawed P (Flawed f) = P f
 IfFlawed P Memory = ⊤
 
--- There are no flaws, or the first is told.
+-- On success there are no flaws; a fault is the first flaw, or memory ran out.
 abbrev pub Judges : {T : Type 0} → List Flaw → Result T ReadFault → Type 0
 Judges flaws (Ok x) = flaws ≡ []
 Judges flaws (Err e) = TellsFirst flaws e

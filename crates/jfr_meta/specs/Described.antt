@@ -1,4 +1,4 @@
--- The classes that the tree of elements describes, and what is faulty about them.
+-- The classes that the tree of elements describes, and their flaws.
 use Rattle.std.specs.Prelude.{◌≡◌, ℕ, Bool, false, ◌&&◌, ◌==◌, List, [], ◌∷◌, ◌++◌, map, find, Option, Some, None, is_some, Result, Ok, Err, option_map, option_and_then, if◌then◌else◌, codes, slice_get, ◌⊎◌}
 use Rattle.std.specs.List.{flat_map, list_any, filter_map}
 use Rattle.std.specs.Option.{option_map_or}
@@ -27,15 +27,15 @@ class_elements texts root =
 abbrev pub field_elements : List (List ℕ) → Tree → List Tree
 field_elements texts t = named texts (codes "field") (children_of t)
 
--- An attribute that is an id.
+-- The id that is the attribute with this key, if it is one.
 abbrev pub id_attribute : List (List ℕ) → Tree → List ℕ → Option ℕ
 id_attribute texts t key = option_and_then id_of (attribute texts t key)
 
--- The id and the name of a class element, where it has both.
+-- The id and the name of a class element, if it has both.
 abbrev pub class_head : List (List ℕ) → Tree → Option (ℕ × List ℕ)
 class_head texts t = option_and_then (λ name. option_map (λ id. (id, name)) (id_attribute texts t (codes "id"))) (attribute texts t (codes "name"))
 
--- The shape of a field element, where its class is an id and its marks are good.
+-- The shape of a field element, if its class is an id and its marks are good.
 unfoldable pub shape_of : List (List ℕ) → Tree → Option Shape
 shape_of texts t =
     option_and_then (λ id. option_and_then (λ constant. option_map (λ array. record { class = id; constant = constant; array = array })
@@ -43,11 +43,11 @@ shape_of texts t =
     (flag_of (first_value texts (codes "constantPool") (pairs_of t)) (codes "true") (codes "false")))
     (id_attribute texts t (codes "class"))
 
--- The field of a field element that has a name and a shape.
+-- The field of a field element, if it has a name and a shape.
 unfoldable pub field_of : List (List ℕ) → Tree → Option Field
 field_of texts t = option_and_then (λ name. option_map (λ shape. record { name = name; shape = shape }) (shape_of texts t)) (attribute texts t (codes "name"))
 
--- A flaw at an element, unless it is good.
+-- The flaw of an element with this reason, unless the element is good.
 abbrev pub flaw_unless : Bool → Tree → Reason → List Flaw
 flaw_unless good t why = if good then [] else record { offset = place_of t; reason = why } ∷ []
 
@@ -63,11 +63,11 @@ class_flaws texts t = flaw_unless (is_some (class_head texts t)) t ClassBad ++ f
 abbrev pub heads : List (List ℕ) → List Tree → List (ℕ × List ℕ)
 heads texts ts = filter_map (class_head texts) ts
 
--- The head is that of a class of this id that is named jdk.jfr.Category.
+-- Whether the head has this id and the name jdk.jfr.Category.
 abbrev pub is_category_head : ℕ → ℕ × List ℕ → Bool
 is_category_head id h = (h.0 == id) && bytes_eq h.1 (codes "jdk.jfr.Category")
 
--- A class of this id is named jdk.jfr.Category.
+-- Whether a class with this id is named jdk.jfr.Category.
 abbrev pub is_category_id : List (ℕ × List ℕ) → ℕ → Bool
 is_category_id hs id = list_any (is_category_head id) hs
 
@@ -75,7 +75,7 @@ is_category_id hs id = list_any (is_category_head id) hs
 abbrev pub AreCategoryIds : List (ℕ × List ℕ) → BTreeSet ℕ → Type 0
 AreCategoryIds hs ids = (id : ℕ) → contains nat_cmp ids id ≡ is_category_id hs id
 
--- An annotation whose class is named jdk.jfr.Category.
+-- Whether the class of an annotation is named jdk.jfr.Category.
 abbrev pub is_category : List (List ℕ) → List (ℕ × List ℕ) → Tree → Bool
 is_category texts hs t = option_map_or (is_category_id hs) (id_attribute texts t (codes "class")) false
 
@@ -83,11 +83,11 @@ is_category texts hs t = option_map_or (is_category_id hs) (id_attribute texts t
 abbrev pub annotations_of : List (List ℕ) → Tree → List Tree
 annotations_of texts t = named texts (codes "annotation") (children_of t)
 
--- The first such annotation of a class element.
+-- The first annotation of a class element whose class is named jdk.jfr.Category.
 abbrev pub category_annotation : List (List ℕ) → List (ℕ × List ℕ) → Tree → Option Tree
 category_annotation texts hs t = find (is_category texts hs) (annotations_of texts t)
 
--- The categories of a class element: the values of that annotation.
+-- The categories of a class element: the values of its category annotation.
 abbrev pub categories_of : List (List ℕ) → List (ℕ × List ℕ) → Tree → List (List ℕ)
 categories_of texts hs t = option_map_or (values_of texts) (category_annotation texts hs t) []
 
@@ -101,7 +101,7 @@ class_with texts hs t h = record {
   categories = categories_of texts hs t;
 }
 
--- The class of a class element that has an id and a name.
+-- The class of a class element, if it has an id and a name.
 unfoldable pub class_of : List (List ℕ) → List (ℕ × List ℕ) → Tree → Option Class
 class_of texts hs t = option_map (class_with texts hs t) (class_head texts t)
 
@@ -109,53 +109,53 @@ class_of texts hs t = option_map (class_with texts hs t) (class_head texts t)
 unfoldable pub classes_of : List (List ℕ) → List Tree → Classes
 classes_of texts ts = filter_map (class_of texts (heads texts ts)) ts
 
--- These strings of the table name the class: its name, and its categories in order.
+-- The strings with these indices are the name of the class, and its categories in order.
 pub record IsNamedBy (texts : List (List ℕ)) (class : Class) (names : ClassNames) : Type 0 where
   pub name : text_at texts names.name ≡ class.name
   pub categories : map (text_at texts) names.categories.items ≡ class.categories
 
--- Where a flaw of the list of classes lies: at the class element, or at its field element.
+-- The offset of a class element, or of its field element with this number.
 abbrev pub element_place : List (List ℕ) → Tree → Option ℕ → ℕ
 element_place texts t None = place_of t
 element_place texts t (Some number) = option_map_or place_of (slice_get (field_elements texts t) number) 0
 
--- Where the element of a flaw stands, by the number of its class's element.
+-- The offset of the class element with this index, or of its field element with this number.
 abbrev pub flaw_place : List (List ℕ) → List Tree → ℕ → Option ℕ → ℕ
 flaw_place texts ts class field = option_map_or (λ t. element_place texts t field) (slice_get ts class) 0
 
--- The flaw of a list of classes, at its element.
+-- A flaw of the list of classes as one at the element that it is about.
 abbrev pub placed : List (List ℕ) → List Tree → ClassFlaw → Flaw
 placed texts ts e = record { offset = flaw_place texts ts e.class e.field; reason = e.reason }
 
--- The flaws of the class elements' classes as a list, each at its element.
+-- The flaws of the list of the class elements' classes, each at its element.
 abbrev pub list_flaws : List (List ℕ) → List Tree → List Flaw
 list_flaws texts ts = map (placed texts ts) (class_faults (classes_of texts ts))
 
--- All flaws of the class elements: those of their attributes, and then those of the classes as a list.
+-- All flaws of the class elements: first those of their attributes, then those of the list of classes.
 abbrev pub tree_flaws : List (List ℕ) → List Tree → List Flaw
 tree_flaws texts ts = flat_map (class_flaws texts) ts ++ list_flaws texts ts
 
--- The first flaw, or else the value.
+-- The first flaw, or the value if there is none.
 abbrev pub first_or : {A : Type 0} → List Flaw → A → Result A Flaw
 first_or [] a = Ok a
 first_or (f ∷ fs) a = Err f
 
--- The classes of the class elements, or the first flaw; where the root, which stands at this place, has no
+-- The classes of the class elements, or the first flaw. If the root, which starts at this offset, has no
 -- child for them, that is the flaw.
 abbrev pub classes_told : List (List ℕ) → ℕ → Option (List Tree) → Result Classes Flaw
 classes_told texts at None = Err (record { offset = at; reason = NoClasses })
 classes_told texts at (Some ts) = first_or (tree_flaws texts ts) (classes_of texts ts)
 
--- The classes that a body describes, or the flaw that is told.
+-- The classes that a body describes, or the first flaw.
 unfoldable pub described : Body → Result Classes Flaw
 described b = classes_told b.strings (place_of b.root) (class_elements b.strings b.root)
 
--- The record of the chunk x holds this body, which describes these classes.
+-- The record in the chunk x spells this body, which describes these classes.
 pub record IsMetadata (x : List ℕ) (r : Framed) (b : Body) (k : Classes) : Type 0 where
   pub body : Reads meta_format x (record_end r) r.body b (record_end r)
   pub classes : described b ≡ Ok k
 
--- The record is refused: its body fails there, or describes no classes.
+-- The record is refused with this flaw: it spells no body, or one that describes no classes.
 abbrev pub IsMetadataFlaw : List ℕ → Framed → Flaw → Type 0
 IsMetadataFlaw x r f =
     Fails meta_format x (record_end r) r.body f.offset f.reason ⊎ ((b : Body) × Reads meta_format x (record_end r) r.body b (record_end r) × (described b ≡ Err f))

@@ -1,4 +1,4 @@
--- The integers at the front of a body, and a body as it was read.
+-- The integers at the start of a body, and a body that was read.
 use Rattle.std.specs.Prelude.{ℕ, Result, Ok, Err}
 use Rattle.jfr_base.specs.declared.flaw.Flaw.{Flaw}
 use Rattle.jfr_base.specs.Formats.{Format, Done, ◌>>=◌, Answer, integer}
@@ -6,15 +6,15 @@ use Rattle.jfr_meta.specs.declared.body.Head.{Head}
 use Rattle.jfr_meta.specs.declared.body.Body as read
 use Rattle.jfr_meta.specs.Body.{Body}
 
--- Start, duration, id and the number of strings.
+-- The format of the start, the duration, the id and the number of strings.
 abbrev pub head_format : Format (ℕ × ℕ × ℕ × ℕ)
 head_format = integer >>= λ start. integer >>= λ duration. integer >>= λ id. integer >>= λ count. Done (start, duration, id, count)
 
--- What the reader of these integers gives, as the format's answer.
+-- The result of reading these integers, as the format's answer.
 abbrev pub head_answer : Result Head Flaw → Answer (ℕ × ℕ × ℕ × ℕ)
 head_answer (Ok h) = Ok (record { value = (h.start, h.duration, h.id, h.count); place = h.end })
 head_answer (Err e) = Err e
 
--- A body that was read, as contracts see it.
+-- The body that was read, as a value in contracts.
 abbrev pub seen_body : read.Body → Body
 seen_body b = record { start = b.start; duration = b.duration; id = b.id; strings = b.strings; root = b.root }

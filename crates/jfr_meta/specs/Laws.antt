@@ -1,4 +1,4 @@
--- What holds of every metadata record.
+-- Laws of metadata records.
 use Rattle.std.specs.Prelude.{◌≡◌, ◌⊎◌, ℕ, List, length}
 use Rattle.jfr_base.specs.declared.flaw.Flaw.{Flaw}
 use Rattle.jfr_frame.specs.declared.framed.Framed.{Framed}
@@ -9,15 +9,15 @@ use Rattle.jfr_base.specs.Formats.{Reads, times}
 use Rattle.jfr_meta.specs.Body.{Body, IsElement, table_string}
 use Rattle.jfr_meta.specs.Described.{IsMetadata, IsMetadataFlaw}
 
--- The record is read or refused: one of the two, with one answer.
+-- The record either has exactly one reading, or is refused for exactly one flaw.
 pub record HasOneDescription (x : List ℕ) (r : Framed) : Type 0 where
   pub some : ((b : Body) × (k : Classes) × IsMetadata x r b k) ⊎ ((f : Flaw) × IsMetadataFlaw x r f)
   pub not_both : (b : Body) (k : Classes) (f : Flaw) → IsMetadata x r b k → IsMetadataFlaw x r f → ⊥
   pub one_reading : (b c : Body) (k m : Classes) → IsMetadata x r b k → IsMetadata x r c m → (b ≡ c) × (k ≡ m)
   pub one_flaw : (f g : Flaw) → IsMetadataFlaw x r f → IsMetadataFlaw x r g → f ≡ g
 
--- The body's first four integers stand one after another from p to q: its start, its duration, its id, and
--- how many strings there are.
+-- The bytes from p to q spell the body's start, its duration, its id, and the number of its strings, one
+-- after another.
 pub record HeadStands (x : List ℕ) (p q : ℕ) (b : Body) : Type 0 where
   pub behind_start : ℕ
   pub behind_duration : ℕ
@@ -27,8 +27,8 @@ pub record HeadStands (x : List ℕ) (p q : ℕ) (b : Body) : Type 0 where
   pub id : IntAt x behind_duration behind_id b.id
   pub count : IntAt x behind_id q (length b.strings)
 
--- The body of the record stands part by part: the head, the strings behind it, and behind these, up to the
--- record's end, the tree, with sixteen levels at most and with indices of strings.
+-- The bytes of the record spell the body: the head, the strings, and up to the record's end the tree, which
+-- has at most sixteen levels and whose indices are below the number of strings.
 pub record RootStands (x : List ℕ) (r : Framed) (b : Body) : Type 0 where
   pub behind_head : ℕ
   pub behind_strings : ℕ

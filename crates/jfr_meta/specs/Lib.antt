@@ -8,3 +8,7 @@ pub mod Values
 pub mod Described
 pub mod Written
 pub mod Laws
+pub mod Stays
+pub mod Held
+pub mod Slimmed
+pub mod NewTables

@@ -14,37 +14,37 @@ mutual
     Nil : Trees
     Cons : Tree → Trees → Trees
 
--- Elements as a list.
+-- The list of these elements.
 abbrev pub list_of : Trees → List Tree
 list_of Nil = []
 list_of (Cons t ts) = t ∷ list_of ts
 
--- A list as elements.
+-- The elements in a list.
 abbrev pub trees_of : List Tree → Trees
 trees_of [] = Nil
 trees_of (t ∷ ts) = Cons t (trees_of ts)
 
--- Where the element begins in the chunk.
+-- The offset in the chunk at which the element starts.
 abbrev pub place_of : Tree → ℕ
 place_of (Node place name pairs children) = place
 
--- The index of its name in the table of strings.
+-- The index of the element's name in the table of strings.
 abbrev pub name_of : Tree → ℕ
 name_of (Node place name pairs children) = name
 
--- Its attributes: the index of each key, and of its value.
+-- The element's attributes: the index of each key and of its value.
 abbrev pub pairs_of : Tree → List (ℕ × ℕ)
 pairs_of (Node place name pairs children) = pairs
 
--- Its children, in order.
+-- The element's children, in order.
 abbrev pub children_of : Tree → List Tree
 children_of (Node place name pairs children) = list_of children
 
--- The element of these parts.
+-- The element with these parts.
 abbrev pub tree : ℕ → ℕ → List (ℕ × ℕ) → List Tree → Tree
 tree place name pairs children = Node place name pairs (trees_of children)
 
--- How many elements are in a tree, with itself.
+-- The number of elements in a tree, with its root.
 abbrev mutual
   pub count : Tree → ℕ
   count (Node place name pairs children) = suc (counts children)
@@ -53,12 +53,12 @@ abbrev mutual
   counts Nil = 0
   counts (Cons t ts) = count t + counts ts
 
--- How many elements are in all trees of a list.
+-- The number of elements in all trees of a list.
 abbrev pub counts_of : List Tree → ℕ
 counts_of [] = 0
 counts_of (t ∷ ts) = count t + counts_of ts
 
--- The code by which a proof tells two trees apart.
+-- A code by which a proof distinguishes trees.
 abbrev num : Gv → ℕ
 num gnil = 0
 num (gnum n) = n
@@ -110,8 +110,8 @@ tree_code = record { code = code; inj = code_inj }
 abbrev pub forest_code : Coded (List Tree)
 forest_code = coded_list tree_code
 
--- What the models of `Element` and `Elements` need: a child is smaller than its parent, and a list that was
--- made into elements comes back.
+-- What the models of `Element` and `Elements` need: a child is smaller than its parent, and turning a list
+-- into elements and back gives the same list.
 pub counts-trees_of : (ts : List Tree) → counts (trees_of ts) ≡ counts_of ts
 counts-trees_of [] = refl
 counts-trees_of (t ∷ ts) = ap (λ n. count t + n) (counts-trees_of ts)

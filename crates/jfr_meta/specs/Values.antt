@@ -6,10 +6,10 @@ use Rattle.std.specs.Str.{bytes_eq, encode_utf8_all}
 use Rattle.jfr_layout.specs.Names.{value_under}
 use Rattle.jfr_meta.specs.Attributes.{text_at}
 
--- A key that can be asked for: `value-` and a number below 2 ^ 64 take 26 bytes at most.
+-- The key is short enough to be looked up: `value-` and a number below 2 ^ 64 take at most 26 bytes.
 abbrev pub CanBeAsked : List ℕ → Type 0
 CanBeAsked key = length (encode_utf8_all key) ≤ 26
 
--- Each key that can be asked for leads to the value of the first attribute that has it.
+-- The map has, for each key that is short enough, the value of the first attribute with this key.
 abbrev pub HasFirst : List (List ℕ) → List (ℕ × ℕ) → BTreeMap (Bor (List ℕ)) ℕ → Type 0
 HasFirst texts ps values = (key : List ℕ) → CanBeAsked key → value_under values key ≡ option_map (λ p. p.1) (find (λ p. bytes_eq (text_at texts p.0) key) ps)

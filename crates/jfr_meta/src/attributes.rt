@@ -1,4 +1,4 @@
-// The attributes of elements, as texts.
+//! The attributes of elements, as texts.
 ghost use Rattle.std.specs.Prelude.{◌≡◌, option_map};
 ghost use Rattle.std.specs.Char.{is_ascii_digit};
 ghost use Rattle.std.specs.List.{list_all};
@@ -11,7 +11,7 @@ ghost use Rattle.jfr_meta.specs.Trees.{pairs_of};
 use crate::Element;
 use jfr_base::{Text, Words};
 
-/// Whether the text is this word.
+/// Whether the text equals this word.
 pub(crate) fn is_word(text: &str, word: &str) -> bool
     requires { IsWord word.now }
     ensures { result ≡ bytes_eq (chars text.now) word.now }
@@ -19,14 +19,14 @@ pub(crate) fn is_word(text: &str, word: &str) -> bool
     text == word
 }
 
-/// The text of an index into the table; the empty one where the table has no such string.
+/// The text of the string with this index; empty if the table has no such string.
 pub(crate) fn text_at<'a>(strings: &'a Words, index: u64) -> &'a str
     ensures { chars result.now ≡ text_at strings.now index }
 {
     strings.get(index as usize).unwrap_or("")
 }
 
-/// The text of an index into the table, to be shared; `None` where it is empty, or the table has no such
+/// The text of the string with this index, for sharing; `None` if it is empty or the table has no such
 /// string.
 pub(crate) fn full_text(strings: &Words, index: u64) -> Option<&Text>
     ensures { option_copied result ≡ not_empty (text_at strings.now index) }
@@ -39,7 +39,7 @@ pub(crate) fn full_text(strings: &Words, index: u64) -> Option<&Text>
     }
 }
 
-/// The index, where its text isn't empty.
+/// The index, if its text isn't empty.
 pub(crate) fn full_index(strings: &Words, index: u64) -> Option<u64>
     ensures { option_map (text_at strings.now) result ≡ not_empty (text_at strings.now index) }
 {
@@ -87,20 +87,20 @@ pub(crate) fn attribute_index(strings: &Words, element: &Element, key: &str) -> 
     full_index(strings, first_index(strings, element, key)?)
 }
 
-/// How many digits an id has at most.
+/// The most digits that an id may have.
 const ID_DIGITS: usize = 19;
 
-/// The number below which every id is.
+/// Every id is below this.
 const ID_LIMIT: u64 = 1 << 63;
 
-/// Whether the text is of ASCII digits alone, as the empty one is.
+/// Whether all characters of the text are ASCII digits. True of the empty text.
 fn is_digits(text: &str) -> bool
     ensures { result ≡ list_all is_ascii_digit text.now }
 {
     text.as_bytes().iter().all(|byte| byte.is_ascii_digit())
 }
 
-/// The id that a text spells: one to nineteen digits with a value below 2^63.
+/// The id that a text spells with one to nineteen digits, if its value is below 2^63.
 pub(crate) fn id_of(text: &str) -> Option<u64>
     ensures { result ≡ id_of (chars text.now) }
 {
@@ -116,7 +116,8 @@ pub(crate) fn id_of(text: &str) -> Option<u64>
     }
 }
 
-/// A mark: set or clear by its text, and clear where it is absent; `None` for every other text.
+/// The value of a mark: set or clear according to its text, and clear if it is absent; `None` for any other
+/// text.
 pub(crate) fn flag_of(value: Option<&str>, set: &str, clear: &str) -> Option<bool>
     requires set { IsWord set.now }
     requires clear { IsWord clear.now }

@@ -1,4 +1,4 @@
-// The body of a metadata record, from left to right.
+//! Reading the body of a metadata record, from left to right.
 ghost use Rattle.std.specs.Prelude.{◌≡◌, ◌<◌, ◌≤◌, length, Ok, IfOk, MatchResult};
 ghost use Rattle.jfr_base.specs.Formats.{run, times};
 ghost use Rattle.jfr_meta.specs.Answers.{var_answer, Tells, IsFault};
@@ -10,7 +10,7 @@ use crate::{Element, Elements, Pairs};
 use jfr_base::{Flaw, ReadFault, Reason, Var, Words, read_within};
 use std::alloc::Global;
 
-/// What a body holds: three integers, the strings behind their number, and the tree of elements.
+/// The contents of a body: three integers, the table of strings, and the tree of elements.
 #[derive(Drop)]
 pub(crate) struct Body {
     pub start: u64,
@@ -20,13 +20,13 @@ pub(crate) struct Body {
     pub root: Element,
 }
 
-/// How many levels of elements a tree has at most.
+/// The most levels of elements that a tree may have.
 const LEVELS: u32 = 16;
 
-/// How many bytes an attribute has at least.
+/// The fewest bytes that an attribute can have.
 const PAIR_LEN: usize = 2;
 
-/// How many bytes an element has at least.
+/// The fewest bytes that an element can have.
 const ELEMENT_LEN: usize = 3;
 
 /// The integers before the strings, and the offset after them.
@@ -39,7 +39,7 @@ struct Head {
     end: usize,
 }
 
-/// The integers before the strings.
+/// Reads the integers before the strings.
 fn read_head(bytes: &[u8], at: usize, end: usize) -> Result<Head, Flaw>
     requires order { at ≤ end }
     requires within { end ≤ length bytes.now }
@@ -59,7 +59,7 @@ fn read_head(bytes: &[u8], at: usize, end: usize) -> Result<Head, Flaw>
     })
 }
 
-/// The whole body, which ends where the record ends.
+/// Reads the whole body, which ends where the record ends.
 pub(crate) fn read_body(
     alloc: Global,
     bytes: &[u8],
@@ -88,7 +88,7 @@ pub(crate) fn read_body(
     })
 }
 
-/// An index into the table of strings, which has `limit` strings.
+/// Reads an index into a table of `limit` strings.
 fn read_index(bytes: &[u8], at: usize, end: usize, limit: u64) -> Result<Var, Flaw>
     requires order { at ≤ end }
     requires within { end ≤ length bytes.now }
@@ -106,8 +106,8 @@ fn read_index(bytes: &[u8], at: usize, end: usize, limit: u64) -> Result<Var, Fl
     }
 }
 
-/// So many attributes. Memory for as many as can still follow is taken at once, so that the list never
-/// grows.
+/// Reads `count` attributes. Allocates at once for the most attributes that the bytes left can hold, so that
+/// the list never grows.
 fn read_pairs(
     alloc: Global,
     bytes: &[u8],
@@ -133,7 +133,7 @@ fn read_pairs(
     Ok((pairs, place))
 }
 
-/// The element that begins at the offset `at`, with so many levels left.
+/// Reads the element that starts at `at` and has at most `levels` levels.
 #[cycle(elements)]
 fn read_element(
     alloc: Global,
@@ -170,8 +170,8 @@ fn read_element(
     Ok((Element::new(at, name.value, pairs, children), place))
 }
 
-/// So many elements, each with so many levels left. Memory for as many as can still follow is taken at
-/// once, so that the list never grows.
+/// Reads `count` elements, each with at most `levels` levels. Allocates at once for the most elements that
+/// the bytes left can hold, so that the list never grows.
 #[cycle(elements)]
 fn read_elements(
     alloc: Global,

@@ -1,4 +1,4 @@
-// The classes that class elements describe.
+//! Reading the classes that class elements describe.
 ghost use Rattle.std.specs.Prelude.{◌≡◌, ◌∷◌, [], ℕ, List, Some, map, option_map, IfOk, OnOk, ◌||◌};
 ghost use Rattle.std.specs.BTreeSet.{contains};
 ghost use Rattle.std.specs.List.{filter_map, flat_map};
@@ -25,7 +25,7 @@ use std::collections::BTreeSet;
 /// The name of the annotation class whose values are categories.
 const CATEGORY: &str = "jdk.jfr.Category";
 
-/// The element is refused for this reason.
+/// The flaw at this element, for this reason.
 pub(crate) fn refused(element: &Element, reason: Reason) -> ReadFault
     ensures { result ≡ Flawed (record { offset = place_of element.now; reason = reason }) }
 {
@@ -35,7 +35,7 @@ pub(crate) fn refused(element: &Element, reason: Reason) -> ReadFault
     })
 }
 
-/// The id and the name of a class element, where it has both.
+/// The id and the name of a class element, if it has both.
 pub(crate) fn class_head<'a>(strings: &'a Words, element: &Element) -> Option<(u64, &'a Text)>
     ensures { option_map (λ h. (h.0, h.1.now)) result ≡ class_head strings.now element.now }
 {
@@ -44,7 +44,7 @@ pub(crate) fn class_head<'a>(strings: &'a Words, element: &Element) -> Option<(u
     Some((id, name))
 }
 
-/// Another owner of the text, where there is one.
+/// A second handle to the same text, if there is one. The text isn't copied.
 fn shared(text: Option<&Text>) -> Result<Option<Text>, NoMemory>
     ensures { IfOk result (λ shared. shared ≡ option_copied text.entry) }
 {
@@ -103,7 +103,7 @@ fn read_fields<'a>(
     Ok((fields, numbers))
 }
 
-/// Adds the id of a class element whose name is `CATEGORY`.
+/// Adds the id of a class element to the set, if its name is `CATEGORY`.
 fn add_category(
     strings: &Words,
     element: &Element,
@@ -145,8 +145,8 @@ fn is_category(strings: &Words, ids: &BTreeSet<u64>, annotation: &Element) -> bo
     }
 }
 
-/// The class of a class element, where its attributes and those of its fields are good, and the numbers of
-/// its fields' names. `ids` are those that `category_ids` gives.
+/// The class of a class element, if its attributes and those of its fields are good, and the numbers of its
+/// fields' names. `ids` is the result of `category_ids`.
 #[tactic(auto, unfolding(crate::specs::Described::class_of, crate::specs::Described::class_flaws))]
 fn read_class<'a>(
     alloc: Global,
@@ -178,7 +178,7 @@ fn read_class<'a>(
     Ok((class, numbers))
 }
 
-/// The first annotation of a class element that is one of categories.
+/// The first annotation of a class element whose class is named `CATEGORY`.
 fn category_annotation<'a>(
     alloc: Global,
     strings: &Words,
@@ -197,7 +197,7 @@ fn category_annotation<'a>(
     Ok(None)
 }
 
-/// The indices of the categories of a class element in the table of strings.
+/// The indices, in the table of strings, of the categories of a class element.
 pub(crate) fn category_indices(
     alloc: Global,
     strings: &Words,

@@ -1,4 +1,4 @@
-// The classes that a tree of elements describes.
+//! The classes that a tree of elements describes.
 ghost use Rattle.std.specs.Prelude.{◌≡◌, Ok, map, find, option_map, IfOk, MatchResult};
 ghost use Rattle.std.specs.Option.{option_copied};
 ghost use Rattle.std.specs.Str.{bytes_eq};
@@ -24,7 +24,7 @@ fn child_named<'a>(strings: &Words, element: &'a Element, name: &str) -> Option<
     children.iter().find(|child| has_name(strings, child, name))
 }
 
-/// The offset of a class element, or of the field element of this number in it.
+/// The offset of a class element, or of its field element with this number.
 fn element_place(
     alloc: Global,
     strings: &Words,
@@ -40,11 +40,12 @@ fn element_place(
     if number < fields.len() {
         Ok(fields[number].at())
     } else {
+        // No flaw has such a number. The definition gives 0 then.
         Ok(0)
     }
 }
 
-/// The offset of the class element of an index, or of the field element of this number in it.
+/// The offset of the class element with this index, or of its field element with this number.
 fn flaw_place(
     alloc: Global,
     strings: &Words,
@@ -57,11 +58,12 @@ fn flaw_place(
     if class < elements.len() {
         element_place(alloc, strings, elements[class], field)
     } else {
+        // No flaw has such a class. The definition gives 0 then.
         Ok(0)
     }
 }
 
-/// The fault of the list of classes, at the element that it is about.
+/// A fault of the list of classes as a flaw at the element that it is about.
 fn placed(alloc: Global, strings: &Words, elements: &[&Element], fault: ClassFault) -> ReadFault
     requires { classes.TellsFirst (classes.class_faults (classes_of strings.now (map (λ e. e.now) elements.now))) fault }
     ensures { TellsFirst (list_flaws strings.now (map (λ e. e.now) elements.now)) result }
@@ -84,7 +86,7 @@ fn placed(alloc: Global, strings: &Words, elements: &[&Element], fault: ClassFau
     }
 }
 
-/// The classes of the class elements, where nothing about them is faulty.
+/// The classes of the class elements, if they have no flaw.
 fn sound_classes(
     alloc: Global,
     strings: &Words,
@@ -103,7 +105,7 @@ fn sound_classes(
     }
 }
 
-/// The class elements, where the root has a child for them.
+/// The class elements, if the root has a child for them.
 pub(crate) fn class_elements<'a>(
     alloc: Global,
     strings: &Words,
@@ -117,8 +119,8 @@ pub(crate) fn class_elements<'a>(
     }
 }
 
-/// The classes that the tree describes, or the first flaw. Names and attributes are indices into the table
-/// of strings.
+/// The classes that the tree describes, or the first flaw. Names and attributes in the tree are indices into
+/// the table of strings.
 pub(crate) fn describe(alloc: Global, strings: &Words, root: &Element) -> Result<Classes, ReadFault>
     ensures { MatchResult result (λ classes. classes_told strings.now (place_of root.now) (class_elements strings.now root.now) ≡ Ok classes) (IsFault (classes_told strings.now (place_of root.now) (class_elements strings.now root.now))) }
 {

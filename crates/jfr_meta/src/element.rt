@@ -1,4 +1,4 @@
-// The tree of elements.
+//! The tree of elements.
 ghost use Rattle.std.specs.Prelude.{◌≡◌, [], ◌∷◌, ◌++◌, length, IfOk, OnOk, OnErr, slice_get};
 ghost use Rattle.std.specs.Option.{option_copied};
 ghost use Rattle.jfr_meta.specs.Trees.{tree, place_of, name_of, pairs_of, children_of};
@@ -59,7 +59,7 @@ impl Model for Elements {
 }
 
 impl Element {
-    /// The element of these four parts. It takes no memory.
+    /// An element with these four parts. It allocates nothing.
     pub fn new(at: usize, name: u64, attributes: Pairs, children: Elements) -> Element
         ensures { result ≡ tree at name attributes children }
     {
@@ -101,7 +101,7 @@ impl Element {
 }
 
 impl Elements {
-    /// The list without elements. It takes no memory.
+    /// An empty list. It allocates nothing.
     pub fn new(alloc: Global) -> Elements
         ensures { result ≡ [] }
     {
@@ -110,7 +110,7 @@ impl Elements {
         }
     }
 
-    /// The list without elements, with memory for so many.
+    /// An empty list with capacity for `count` elements.
     pub fn with_room(alloc: Global, count: usize) -> Result<Elements, NoMemory>
         ensures ok { IfOk result (λ elements. elements ≡ []) }
     {
@@ -128,14 +128,14 @@ impl Elements {
         Ok(())
     }
 
-    /// How many elements there are.
+    /// The number of elements.
     pub fn len(&self) -> usize
         ensures { result ≡ length self.now }
     {
         self.items.len()
     }
 
-    /// The element of an index, from 0; `None` exactly past the end.
+    /// The element with this index, from 0, if there is one.
     pub fn get(&self, at: usize) -> Option<&Element>
         ensures { option_copied result ≡ slice_get self.now at }
     {

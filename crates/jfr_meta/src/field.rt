@@ -1,4 +1,4 @@
-// Elements by their names, ids among attributes, and the shapes that field elements describe.
+//! Finding elements by name, reading ids from attributes, and the shapes that field elements describe.
 ghost use Rattle.std.specs.Prelude.{◌≡◌, Some, map, IfOk};
 ghost use Rattle.std.specs.Str.{bytes_eq};
 ghost use Rattle.jfr_meta.specs.Attributes.{IsWord, named, text_at};
@@ -19,7 +19,7 @@ pub(crate) fn has_name(strings: &Words, element: &Element, name: &str) -> bool
     is_word(text_at(strings, element.name()), name)
 }
 
-/// The children of the element that have this name, in order.
+/// The children of the element with this name, in order.
 pub(crate) fn named<'a>(
     alloc: Global,
     strings: &Words,
@@ -36,7 +36,7 @@ pub(crate) fn named<'a>(
         .collect(alloc)
 }
 
-/// The attribute with this key, where it is an id.
+/// The id that is the attribute with this key, if it is one.
 pub(crate) fn id_attribute(strings: &Words, element: &Element, key: &str) -> Option<u64>
     requires { IsWord key.now }
     ensures { result ≡ id_attribute strings.now element.now key.now }
@@ -44,7 +44,7 @@ pub(crate) fn id_attribute(strings: &Words, element: &Element, key: &str) -> Opt
     id_of(attribute(strings, element, key)?.as_str())
 }
 
-/// The shape of a field element, where its class is an id and its marks are good.
+/// The shape of a field element, if its class is an id and its marks are good.
 #[tactic(auto, unfolding(crate::specs::Described::shape_of))]
 pub(crate) fn shape_of(strings: &Words, element: &Element) -> Option<Shape>
     ensures { result ≡ shape_of strings.now element.now }

@@ -1,10 +1,11 @@
 //! The metadata of a chunk: a table of strings, a tree of elements, and the classes that the tree describes
-//! (FORMAT.md, Metadata).
+//! (docs/FORMAT.md, Metadata).
 //!
-//! `read_metadata` reads the metadata record of a chunk, and `write_metadata` writes one. Read
-//! `specs/Trees.antt` first, then `specs/Body.antt` for what a record's body holds, and
-//! `specs/Attributes.antt` and `specs/Described.antt` for the classes that it describes and what is
-//! refused; `specs/Written.antt` has the bytes that are written.
+//! `read_metadata` reads the metadata record of a chunk, and `write_metadata` writes one. `staying` finds the
+//! classes that a scrubbed chunk needs, and `slim` writes a record with only these. Read `specs/Trees.antt`
+//! first, then `specs/Body.antt` for the body of a record, `specs/Attributes.antt` and
+//! `specs/Described.antt` for the classes that it describes and the flaws, `specs/Written.antt` for the bytes
+//! that are written, and `specs/Stays.antt` and `specs/Slimmed.antt` for the smaller record.
 #![tactic(auto)]
 
 mod attributes;
@@ -13,18 +14,25 @@ mod class;
 mod described;
 mod element;
 mod field;
+mod ids;
 mod laws;
 mod metadata;
 mod named;
 mod names;
 mod pairs;
+mod slimming;
+mod stay;
 mod strings;
+mod tabling;
 mod values;
 mod write;
 
 pub use element::{Element, Elements};
+pub use ids::Ids;
 pub use laws::{elements_stand, one_description};
 pub use metadata::{Metadata, read_metadata};
 pub use named::{ClassNames, class_names};
 pub use pairs::Pairs;
+pub use slimming::slim;
+pub use stay::staying;
 pub use write::{metadata_len, write_metadata};

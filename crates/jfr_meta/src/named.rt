@@ -1,4 +1,4 @@
-// The strings that name the classes.
+//! The strings that name the classes of a chunk.
 ghost use Rattle.std.specs.Prelude.{◌≡◌, ◌++◌, ℕ, List, Ok, map, IfOk, OnOk};
 ghost use Rattle.std.specs.List.{AllZip};
 ghost use Rattle.std.specs.Option.{option_to_list};
@@ -14,8 +14,8 @@ use jfr_base::{NoMemory, Words};
 use std::alloc::Global;
 use std::collections::BTreeSet;
 
-/// Which strings of the table name a class, by their indices. Many classes may share a string, however long,
-/// so what is asked of its text need be asked only once for each index.
+/// The indices, in the table of strings, of a class's name and categories. Many classes may share a long
+/// string. With its index, a result for its text can be found once and used for all of them.
 #[derive(Drop)]
 pub struct ClassNames {
     /// Its name.
@@ -24,7 +24,7 @@ pub struct ClassNames {
     pub categories: Vec<u64>,
 }
 
-/// Adds the strings that name the class of a class element, where it has an id and a name.
+/// Adds the strings that name the class of a class element, if it has an id and a name.
 fn add_names(
     alloc: Global,
     strings: &Words,
@@ -62,7 +62,7 @@ fn names_of(
     Ok(names)
 }
 
-/// Which strings of the table name each class that the tree describes, in the order of the classes.
+/// The strings that name each class that the tree describes, in the order of the classes.
 pub fn class_names(
     alloc: Global,
     strings: &Words,

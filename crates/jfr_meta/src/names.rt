@@ -1,4 +1,4 @@
-// Numbers for the names of fields, so that long ones are not compared again and again.
+//! Numbers for the names of fields, so that long names are not compared again and again.
 ghost use Rattle.std.specs.Prelude.{◌≡◌, ℕ, List, Some, IfOk, OnOk};
 ghost use Rattle.jfr_meta.specs.Attributes.{text_at};
 ghost use Rattle.jfr_meta.specs.Names.{AreNumbers, Grow, number_of};
@@ -8,9 +8,9 @@ use jfr_base::{NoMemory, Words};
 use std::alloc::Global;
 use std::collections::BTreeMap;
 
-/// Numbers for strings of the table: equal exactly for equal texts. The number of a text is the index of the
-/// first string that was asked for and has it. Many classes may name their fields by the same strings, however
-/// long, so a string is compared with others only once.
+/// Numbers for strings of the table. Two strings have the same number exactly if their texts are equal: the
+/// number is the index of the first string with this text that was looked up. Many classes may use the same
+/// long strings as names of fields; each string is compared with others only once.
 #[derive(Drop)]
 pub(crate) struct NameNumbers<'a> {
     by_index: BTreeMap<u64, u64>,
@@ -18,7 +18,7 @@ pub(crate) struct NameNumbers<'a> {
 }
 
 impl<'a> NameNumbers<'a> {
-    /// No string was asked for yet. It takes no memory.
+    /// No string has been looked up yet. It allocates nothing.
     pub(crate) fn new(alloc: Global) -> NameNumbers<'a>
         ensures { (texts : List (List ℕ)) → AreNumbers texts result }
     {
@@ -28,7 +28,7 @@ impl<'a> NameNumbers<'a> {
         }
     }
 
-    /// The number of the string of this index.
+    /// The number of the string with this index.
     pub(crate) fn number(&mut self, strings: &'a Words, index: u64) -> Result<u64, NoMemory>
         requires { AreNumbers strings.now self.old }
         ensures number { IfOk result (λ number. number_of self.new (text_at strings.now index) ≡ Some number) }
@@ -42,7 +42,7 @@ impl<'a> NameNumbers<'a> {
         Ok(number)
     }
 
-    /// The number that the text of this index has, or else the index, which it has from now on.
+    /// The number of the text with this index. A new text gets the index as its number.
     fn number_by_text(&mut self, strings: &'a Words, index: u64) -> Result<u64, NoMemory>
         requires { AreNumbers strings.now self.old }
         ensures number { IfOk result (λ number. number_of self.new (text_at strings.now index) ≡ Some number) }

@@ -1,11 +1,11 @@
-// The attributes of an element.
+//! The attributes of an element.
 ghost use Rattle.std.specs.Prelude.{◌≡◌, [], ◌∷◌, ◌++◌, length, IfOk, OnOk, OnErr, slice_get};
 
 use jfr_base::NoMemory;
 use std::alloc::Global;
 use std::marker::Model;
 
-/// A list of attributes, each the index of its key and the index of its value in the table of strings.
+/// A list of attributes. Each is two indices into the table of strings, of its key and of its value.
 #[derive(Drop)]
 pub struct Pairs {
     items: Vec<(u64, u64)>,
@@ -20,7 +20,7 @@ impl Model for Pairs {
 }
 
 impl Pairs {
-    /// The list without attributes. It takes no memory.
+    /// An empty list. It allocates nothing.
     pub fn new(alloc: Global) -> Pairs
         ensures { result ≡ [] }
     {
@@ -29,7 +29,7 @@ impl Pairs {
         }
     }
 
-    /// The list without attributes, with memory for so many.
+    /// An empty list with capacity for `count` attributes.
     pub fn with_room(alloc: Global, count: usize) -> Result<Pairs, NoMemory>
         ensures ok { IfOk result (λ pairs. pairs ≡ []) }
     {
@@ -47,15 +47,14 @@ impl Pairs {
         Ok(())
     }
 
-    /// How many attributes there are.
+    /// The number of attributes.
     pub fn len(&self) -> usize
         ensures { result ≡ length self.now }
     {
         self.items.len()
     }
 
-    /// The attribute of an index, from 0: the indices of its key and of its value; `None` exactly past the
-    /// end.
+    /// The attribute with this index, from 0, if there is one: the indices of its key and of its value.
     pub fn get(&self, at: usize) -> Option<(u64, u64)>
         ensures { result ≡ slice_get self.now at }
     {

@@ -1,4 +1,4 @@
-// The table of strings.
+//! Reading the table of strings.
 ghost use Rattle.std.specs.Prelude.{◌≡◌, ◌<◌, ◌≤◌, length, false, IfOk};
 ghost use Rattle.jfr_base.specs.Formats.{run, times};
 ghost use Rattle.jfr_text.specs.Spans.{answer_of, content_of};
@@ -13,7 +13,7 @@ use std::alloc::Global;
 /// The kind byte of a key.
 const KEY: u8 = 2;
 
-/// The string that begins at the offset `at`, where a key isn't allowed.
+/// Reads the string that starts at `at`, which can't be a key.
 fn read_plain<'a>(bytes: &'a [u8], at: usize, end: usize) -> Result<StringSpan<'a>, Flaw>
     requires order { at ≤ end }
     requires within { end ≤ length bytes.now }
@@ -32,7 +32,7 @@ fn read_plain<'a>(bytes: &'a [u8], at: usize, end: usize) -> Result<StringSpan<'
     read_string(bytes, at, end)
 }
 
-/// The text of a string of the table: a null string has the empty one.
+/// The text of a string of the table: that of a null string is empty.
 fn table_text(alloc: Global, string: &StringSpan<'_>) -> Result<Text, NoMemory>
     ensures ok { IfOk result (λ text. text ≡ table_text (content_of string.now)) }
 {
@@ -42,7 +42,7 @@ fn table_text(alloc: Global, string: &StringSpan<'_>) -> Result<Text, NoMemory>
     }
 }
 
-/// The string of the table that begins at the offset `at`, as its text, and the offset after it.
+/// Reads the string of the table that starts at `at`: its text, and the offset after it.
 fn read_text(alloc: Global, bytes: &[u8], at: usize, end: usize) -> Result<(Text, usize), ReadFault>
     requires order { at ≤ end }
     requires within { end ≤ length bytes.now }
@@ -54,8 +54,9 @@ fn read_text(alloc: Global, bytes: &[u8], at: usize, end: usize) -> Result<(Text
     Ok((text, string.end))
 }
 
-/// So many strings of the table, as their texts, and the offset after them. A string takes a byte at least,
-/// so memory for as many as can still follow is taken at once, and the list never grows.
+/// Reads `count` strings of the table: their texts, and the offset after them. A string takes at least one
+/// byte. So memory is allocated at once for the most strings that the bytes left can hold, and the list never
+/// grows.
 pub(crate) fn read_strings(
     alloc: Global,
     bytes: &[u8],

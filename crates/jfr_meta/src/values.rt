@@ -1,4 +1,4 @@
-// The values of annotations.
+//! The values of annotations.
 ghost use Rattle.std.specs.Prelude.{◌≡◌, ℕ, List, length, map, option_and_then, option_map, IfOk};
 ghost use Rattle.std.specs.Option.{option_to_list};
 ghost use Rattle.jfr_meta.specs.Attributes.{attribute, first_value, not_empty, text_at, value_key, values_from, values_of};
@@ -11,11 +11,11 @@ use jfr_base::{NoMemory, Text, Words};
 use std::alloc::Global;
 use std::collections::BTreeMap;
 
-/// How many bytes the longest key has that is asked for: `value-` and the digits of the largest number.
+/// The length of the longest key that is looked up: `value-` and the digits of the largest number.
 const KEY_LEN: usize = 26;
 
-/// The values of the attributes by their keys; the first attribute of a key counts. Longer keys are
-/// left out, so that a recording with many long ones costs no comparisons of them.
+/// A map from the keys of the attributes to their values, in which the first attribute with a key counts.
+/// Keys longer than `KEY_LEN` are skipped, so that many long keys in a recording are never compared.
 fn first_values<'a>(
     alloc: Global,
     strings: &'a Words,
@@ -35,7 +35,7 @@ fn first_values<'a>(
     Ok(values)
 }
 
-/// The index of the value with a number, where there is one that isn't empty.
+/// The index of the value with this number, if there is one and it isn't empty.
 fn value_at(
     alloc: Global,
     strings: &Words,
@@ -51,7 +51,7 @@ fn value_at(
     }
 }
 
-/// The indices of the values with numbers from 0 on, up to the first absent one.
+/// The indices of the values numbered from 0, up to the first that is absent.
 fn numbered(alloc: Global, strings: &Words, annotation: &Element) -> Result<Vec<u64>, NoMemory>
     ensures ok { IfOk result (λ indices. map (text_at strings.now) indices.items ≡ values_from (λ i. attribute strings.now annotation.now (value_key i)) 0 (length (pairs_of annotation.now))) }
 {
@@ -67,7 +67,7 @@ fn numbered(alloc: Global, strings: &Words, annotation: &Element) -> Result<Vec<
     Ok(indices)
 }
 
-/// The list of the index alone, where there is one; else the empty list.
+/// A list with the index, if there is one, else an empty list.
 fn single(alloc: Global, index: Option<u64>) -> Result<Vec<u64>, NoMemory>
     ensures ok { IfOk result (λ indices. indices.items ≡ option_to_list index) }
 {
@@ -79,7 +79,7 @@ fn single(alloc: Global, index: Option<u64>) -> Result<Vec<u64>, NoMemory>
 }
 
 /// The indices of the values of an annotation, in order: those of `value-0`, `value-1` and so on up to the
-/// first absent one, or else that of `value` alone.
+/// first that is absent. If there are none, the index of `value`.
 pub(crate) fn value_indices(
     alloc: Global,
     strings: &Words,
@@ -94,7 +94,7 @@ pub(crate) fn value_indices(
     single(alloc, attribute_index(strings, annotation, "value"))
 }
 
-/// The text of an index into the table, shared; the empty one where the table has no such string.
+/// The text of the string with this index, shared; empty if the table has no such string.
 pub(crate) fn shared_text(alloc: Global, strings: &Words, index: u64) -> Result<Text, NoMemory>
     ensures ok { IfOk result (λ text. text ≡ text_at strings.now index) }
 {
@@ -104,7 +104,7 @@ pub(crate) fn shared_text(alloc: Global, strings: &Words, index: u64) -> Result<
     }
 }
 
-/// The texts of these indices into the table, in order. They are shared, and not copied.
+/// The texts of the strings with these indices, in order. They are shared, not copied.
 pub(crate) fn texts_at(alloc: Global, strings: &Words, indices: &[u64]) -> Result<Words, NoMemory>
     ensures ok { IfOk result (λ words. words ≡ map (text_at strings.now) indices.now) }
 {

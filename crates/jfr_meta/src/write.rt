@@ -1,4 +1,4 @@
-// Writing a metadata record.
+//! Writing a metadata record.
 ghost use Rattle.std.specs.Prelude.{◌≡◌, ◌+◌, ◌-◌, ◌^◌, ◌<◌, ◌≤◌, ◌++◌, length, IfOk, OnOk};
 ghost use Rattle.std.specs.List.{flat_map, AllByRecursion};
 ghost use Rattle.std.specs.Str.{chars};
@@ -8,19 +8,12 @@ ghost use Rattle.jfr_meta.specs.Written.{IsText, text_bytes, pair_bytes, tree_by
 use crate::attributes::text_at;
 use crate::{Element, Elements, Pairs};
 use jfr_base::{NoMemory, Words, var_len, write_in, write_var};
+use jfr_frame::METADATA_TYPE;
+use jfr_text::{EMPTY_BYTE, UTF8_BYTE};
 use std::alloc::{AllocError, Global};
 
-/// The kind byte of the empty string.
-const EMPTY: u8 = 1;
-
-/// The kind byte of a string that is written as UTF-8.
-const UTF8: u8 = 3;
-
-/// The type of a metadata record, which is its own spelling.
-const METADATA: u8 = 0;
-
-/// How many bytes the size of a record takes.
-const SIZE_LEN: usize = 4;
+/// The number of bytes that the size of a record takes.
+const SIZE_LEN: usize = 5;
 
 fn push_integer(out: &mut Vec<u8>, value: u64) -> Result<(), AllocError>
     ensures ok { OnOk result (out.new.items ≡ out.old.items ++ spell value) }
@@ -32,8 +25,8 @@ fn push_integer(out: &mut Vec<u8>, value: u64) -> Result<(), AllocError>
 }
 
 fn push_size(out: &mut Vec<u8>, size: u64) -> Result<(), AllocError>
-    requires { FitsIn size 4 }
-    ensures ok { OnOk result (out.new.items ≡ out.old.items ++ spell_in 4 size) }
+    requires { FitsIn size 5 }
+    ensures ok { OnOk result (out.new.items ≡ out.old.items ++ spell_in 5 size) }
 {
     let mut spelled = [0; 9];
     write_in(size, SIZE_LEN, &mut spelled);
@@ -45,10 +38,10 @@ fn push_text(out: &mut Vec<u8>, text: &str) -> Result<(), AllocError>
     ensures ok { OnOk result (out.new.items ≡ out.old.items ++ text_bytes (chars text.now)) }
 {
     if text.is_empty() {
-        out.push(EMPTY)?;
+        out.push(EMPTY_BYTE)?;
         return Ok(());
     }
-    out.push(UTF8)?;
+    out.push(UTF8_BYTE)?;
     push_integer(out, text.len() as u64)?;
     out.extend_from_slice(text.as_bytes())?;
     Ok(())
@@ -150,8 +143,8 @@ fn elements_len(elements: &Elements) -> u64
     len
 }
 
-/// How many bytes the strings and the tree take as `write_metadata` writes them, without the number of
-/// strings before them; the largest number of 64 bits where they take more.
+/// The length of the strings and the tree as `write_metadata` writes them, without the number of strings
+/// before them. `u64::MAX` if it is greater than that.
 pub fn metadata_len(strings: &Words, root: &Element) -> u64
     requires { depth root.now ≤ 16 }
     ensures { result ≡ capped (length (table_bytes strings.now root.now)) }
@@ -178,9 +171,9 @@ fn push_body(
     push_element(out, root)
 }
 
-/// The metadata record of these strings and this tree: its size in four bytes, every other integer as short
-/// as it can be, each string as UTF-8, and an empty one by its kind byte alone. What is written is read
-/// again with the same strings and tree, but for the offsets of the elements.
+/// The metadata record with these strings and this tree. Its size takes five bytes; every other integer has
+/// its shortest encoding; each string is UTF-8, and an empty one only a kind byte. Reading the record gives
+/// the same strings and tree, except for the offsets of the elements.
 pub fn write_metadata(
     alloc: Global,
     start: u64,
@@ -189,18 +182,20 @@ pub fn write_metadata(
     strings: &Words,
     root: &Element,
 ) -> Result<Vec<u8>, NoMemory>
-    requires size { length (table_bytes strings.now root.now) < 2 ^ 27 }
+    requires size { length (table_bytes strings.now root.now) < 2 ^ 29 }
     requires depth { depth root.now ≤ 16 }
     requires indices { HasIndices (length strings.now) root.now }
+    ensures texts { IfOk result (λ bytes. AllByRecursion IsText strings.now) }
     ensures exact { IfOk result (λ bytes. bytes.items ≡ record_bytes start duration id strings.now root.now) }
     ensures read_back { IfOk result (λ bytes. ReadsBack bytes.items start duration id strings.now root.now) }
 {
     let count = strings.len() as u64;
     let head = var_len(start) + var_len(duration) + var_len(id) + var_len(count);
-    let size = metadata_len(strings, root) + head as u64 + 5;
+    let size = metadata_len(strings, root) + head as u64 + 6;
     let mut out = Vec::new(alloc);
     push_size(&mut out, size)?;
-    out.push(METADATA)?;
+    // The type is its own spelling.
+    out.push(METADATA_TYPE as u8)?;
     push_body(&mut out, start, duration, id, strings, root)?;
     Ok(out)
 }

@@ -32,7 +32,7 @@ found q (e ∷ es) = elim (is_eq (slice_cmp nat_cmp q (string_bytes e.0))) as (�
 pub get-files_of : (m : FileMap) (q : List ℕ) → fin.get (files_of m) q ≡ items_of (get_by_text m q)
 get-files_of m q = get-from_entries nat_list_cmp_total (map entry_of m.entries) q ∙ found q m.entries
 
--- Two names tie exactly where they have the same bytes.
+-- Two names tie exactly if they have the same bytes.
 pub turned : (a b : List ℕ) → eq_by_cmp (slice_cmp nat_cmp) a b ≡ bytes_eq b a
 turned a b = (eq_by_cmp_equiv nat_list_cmp_total).symm a b ∙ is_eq-slice_cmp b a
 

@@ -23,7 +23,7 @@ passed-script_for Append n keep = ap (λ (k : ℕ). script_for Append k keep) (d
 passed-script_for Finish n keep = ap (λ (k : ℕ). script_for Finish k keep) (down n)
 passed-script_for Listing n keep = ap (λ (k : ℕ). script_for Listing k keep) (down n)
 
--- At its last call the script is due.
+-- The next call of its kind fails once the script counts 1.
 kept_with-script_for : (call : Call) (keep : ℕ) (so_far : Option ℕ) → kept_with call so_far (script_for call 1 keep) ≡ Some (lesser keep so_far)
 kept_with-script_for Open keep so_far = refl
 kept_with-script_for Read keep so_far = refl
@@ -32,7 +32,7 @@ kept_with-script_for Append keep so_far = refl
 kept_with-script_for Finish keep so_far = refl
 kept_with-script_for Listing keep so_far = refl
 
--- After n calls of a kind the script that was set for the call n + 1 is due.
+-- After n calls of a kind, a script that was set for call n + 1 makes the next one fail.
 pub is_due_in_turn : (call : Call) (n keep : ℕ) (scripts : List Script) → IsDue call (after_calls call n (scripts ++ script_for call (suc n) keep ∷ []))
 is_due_in_turn call zero keep scripts = subst IsSome (sym (fold-append (kept_with call) None scripts (script_for call 1 keep ∷ []) ∙ kept_with-script_for call keep (kept call scripts))) refl
 is_due_in_turn call (suc n) keep scripts =

@@ -5,7 +5,7 @@ use Rattle.std.specs.declared.alloc.Global.{Global}
 use Rattle.std.specs.BTreeMap.{BTreeMap}
 use Rattle.jfr_outside.specs.World.{Files}
 
--- The bytes of a name, and the bytes under it.
+-- A file's name and its bytes.
 abbrev pub entry_of : (String Global × Vec ℕ Global) → (List ℕ × List ℕ)
 entry_of e = (string_bytes e.0, e.1.items)
 
@@ -13,6 +13,6 @@ entry_of e = (string_bytes e.0, e.1.items)
 abbrev pub files_of : BTreeMap (String Global) (Vec ℕ Global) → Files
 files_of m = fin.from_entries (map entry_of m.entries)
 
--- A file of this name is there.
+-- A file of this name exists.
 pub record IsHeld (files : Files) (name : List ℕ) : Type 0 where
   pub there : is_some (fin.get files name) ≡ true

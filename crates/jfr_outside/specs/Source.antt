@@ -2,6 +2,6 @@
 use Rattle.std.specs.Prelude.{ℕ, List, drop}
 use Rattle.jfr_outside.specs.declared.source.Source.{Source}
 
--- The bytes that were not taken.
+-- The bytes that have not been read.
 abbrev pub left_of : Source → List ℕ
 left_of s = drop s.at s.bytes.items

@@ -1,4 +1,4 @@
--- What a steady place in memory tells.
+-- What contracts see of a steady place in memory.
 use Rattle.std.specs.Prelude.{ℕ, Some, true, option_map, string_bytes}
 use Rattle.jfr_outside.specs.World.{World, State}
 use Rattle.jfr_outside.specs.Held.{files_of}
@@ -9,10 +9,10 @@ use Rattle.jfr_outside.specs.declared.steady_place.SteadyPlace.{SteadyPlace}
 abbrev pub world_of : SteadyPlace → World
 world_of p = record { files = files_of p.files; input = option_map left_of p.input; output = option_map string_bytes p.output }
 
--- It tells all of these, and is steady.
+-- All of these, its counts of faults, and that it is steady.
 abbrev pub state_of : SteadyPlace → State
 state_of p = record { told = Some (world_of p); read_faults = p.read_faults; write_faults = p.write_faults; steady = true }
 
--- How many bytes a read gives at most.
+-- The most bytes that a read gives.
 abbrev pub most_of : SteadyPlace → ℕ
 most_of p = p.most

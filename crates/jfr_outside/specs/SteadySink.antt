@@ -1,8 +1,8 @@
--- What a steady sink tells.
+-- What contracts see of a steady sink.
 use Rattle.std.specs.Prelude.{Some}
 use Rattle.jfr_outside.specs.World.{SinkState}
 use Rattle.jfr_outside.specs.declared.steady_sink.SteadySink.{SteadySink}
 
--- It tells its bytes, and no write of it ever failed.
+-- Its bytes; no write ever failed.
 abbrev pub state_of : SteadySink → SinkState
 state_of s = record { written = Some s.bytes.items; faults = 0 }

@@ -1,4 +1,4 @@
--- What stands outside, and how each call changes it.
+-- The world outside the program, and how each call changes it.
 use Rattle.std.specs.Prelude.{◌≡◌, ℕ, ◌+◌, ◌==◌, ◌&&◌, Bool, not, List, [], ◌∷◌, ◌++◌, length, take, drop, map, Option, None, Some, unwrap_or, option_map, Result, Ok, Err, IsPermutation, encode_utf8_all, if◌then◌else◌}
 use Rattle.std.specs.List.{flat_map, filter_map, list_all}
 use Rattle.std.specs.Str.{bytes_eq}
@@ -19,24 +19,24 @@ pub record World : Type 0 where
   pub input : Option (List ℕ)
   pub output : Option (List ℕ)
 
--- What a place tells, if it tells it; how often reads and writes failed; and whether it fails for stated
--- causes alone.
+-- The world of a place, if it lets contracts see it; how often reads and writes failed; and whether it fails
+-- only for stated causes.
 pub record State : Type 0 where
   pub told : Option World
   pub read_faults : ℕ
   pub write_faults : ℕ
   pub steady : Bool
 
--- The bytes that a sink was given, if it tells them, and how often a write failed.
+-- The bytes that a sink was given, if it lets contracts see them, and how often a write failed.
 pub record SinkState : Type 0 where
   pub written : Option (List ℕ)
   pub faults : ℕ
 
--- The bytes of a file, if it is there.
+-- The bytes of a file, if it exists.
 abbrev pub file : World → List ℕ → Option (List ℕ)
 file w name = fin.get w.files name
 
--- The file is the input, if it is there; else no input is open.
+-- The file is the input, if it exists; otherwise no input is open.
 abbrev pub opened : List ℕ → World → World
 opened name w = record w { input = file w name }
 
@@ -44,20 +44,20 @@ opened name w = record w { input = file w name }
 abbrev pub shut : World → World
 shut w = record w { input = None }
 
--- So many bytes were taken from the input.
+-- The next n bytes of the input have been read.
 abbrev pub taken : ℕ → World → World
 taken n w = record w { input = option_map (drop n) w.input }
 
--- The file is there, empty, and is the output.
+-- The file exists, is empty, and is the output.
 abbrev pub created : List ℕ → World → World
 created name w = record w { files = fin.insert w.files name []; output = Some name }
 
--- The file of this name, if one is named, has these bytes more.
+-- The bytes are added at the end of the file, if one is named.
 abbrev pub grown : Option (List ℕ) → List ℕ → Files → Files
 grown None bytes files = files
 grown (Some name) bytes files = fin.insert files name (unwrap_or (fin.get files name) [] ++ bytes)
 
--- The output has these bytes more.
+-- The bytes are added at the end of the output.
 abbrev pub appended : List ℕ → World → World
 appended bytes w = record w { files = grown w.output bytes w.files }
 
@@ -65,7 +65,7 @@ appended bytes w = record w { files = grown w.output bytes w.files }
 abbrev pub finished : World → World
 finished w = record w { output = None }
 
--- The file is there with these bytes.
+-- The file exists and has these bytes.
 abbrev pub put : List ℕ → List ℕ → World → World
 put name bytes w = record w { files = fin.insert w.files name bytes }
 
@@ -73,11 +73,11 @@ put name bytes w = record w { files = fin.insert w.files name bytes }
 abbrev pub empty_world : World
 empty_world = record { files = fin.empty; input = None; output = None }
 
--- Bytes after others.
+-- The bytes follow those written before.
 abbrev pub added : List ℕ → List ℕ → List ℕ
 added bytes before = before ++ bytes
 
--- The bytes of pieces, one behind another.
+-- The bytes of the pieces, one after another.
 abbrev pub bytes_in : List (Bor (List ℕ)) → List ℕ
 bytes_in pieces = flat_map (λ p. p.now) pieces
 
@@ -97,14 +97,14 @@ in_folder folder rest = folder ++ 47 ∷ rest
 abbrev pub is_plain : List ℕ → Bool
 is_plain name = list_all (λ b. not (b == 47)) name
 
--- The rest of a name, where the file stands in the folder itself and not deeper.
+-- The part of a name after the folder and a slash, if the file is directly in the folder.
 abbrev pub rest_in : List ℕ → List ℕ → Option (List ℕ)
 rest_in folder name =
     if bytes_eq (take (length folder + 1) name) (in_folder folder []) && is_plain (drop (length folder + 1) name)
     then Some (drop (length folder + 1) name)
     else None
 
--- The rests of the names of a folder's files, in byte order.
+-- The names of the files directly in a folder, without the folder, in byte order.
 abbrev pub names_in : List ℕ → Files → List (List ℕ)
 names_in folder files = filter_map (rest_in folder) (fin.keys files)
 
@@ -112,19 +112,20 @@ names_in folder files = filter_map (rest_in folder) (fin.keys files)
 abbrev pub IsListing : List ℕ → Files → List (List ℕ) → Type 0
 IsListing folder files names = IsPermutation (names_in folder files) (map encode_utf8_all names)
 
--- What is told after a call, by its answer; want of memory changes nothing.
+-- The world after a call, by the call's answer; running out of memory changes nothing.
 abbrev pub Leaves : {T : Type 0} → Result T Fault → Option World → Option World → (T → World → World) → (World → World) → Type 0
 Leaves (Ok x) before after ok failed = after ≡ option_map (ok x) before
 Leaves (Err Failed) before after ok failed = after ≡ option_map failed before
 Leaves (Err Memory) before after ok failed = after ≡ before
 
--- What is told after a call that adds bytes, by its answer; after a failure the first k of them were added.
+-- The world after a call that adds bytes, by the call's answer; after a failure the first k of them were
+-- added.
 abbrev pub LeavesPrefix : {T W : Type 0} → Result T Fault → Option W → Option W → List ℕ → (List ℕ → W → W) → Type 0
 LeavesPrefix (Ok x) before after bytes add = after ≡ option_map (add bytes) before
 LeavesPrefix (Err Failed) before after bytes add = (k : ℕ) × (after ≡ option_map (add (take k bytes)) before)
 LeavesPrefix (Err Memory) before after bytes add = after ≡ before
 
--- A claim on what is told before and after, where it is told.
+-- A claim about the world before and after, if contracts see it before; then they see it after, too.
 abbrev pub Told : Option World → Option World → (World → World → Type 0) → Type 0
 Told None after P = Unit {0}
 Told (Some w) None P = ⊥

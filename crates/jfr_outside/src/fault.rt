@@ -1,15 +1,15 @@
-// How a call gives up.
+//! How a call on the outside fails.
 ghost use Rattle.std.specs.Prelude.{◌≡◌};
 ghost use Rattle.jfr_outside.specs.declared.fault.Fault.TheVariants.{Memory};
 
 use std::alloc::{AllocError, AllocFailed};
 
-/// Why a call on the outside gave up.
+/// Why a call on the outside failed.
 #[derive(Clone, Copy, Debug, PartialEq, Eq)]
 pub enum Fault {
-    /// The outside failed, and its count of faults rose.
+    /// The outside failed, and counted the fault.
     Failed,
-    /// Memory was wanting, and nothing changed.
+    /// Memory ran out, and nothing changed.
     Memory,
 }
 

@@ -1,4 +1,4 @@
-// Files in memory.
+//! Files in memory.
 ghost use Rattle.std.specs.Prelude.{◌≡◌, ◌++◌, ℕ, List, [], map, encode_utf8_all, IfOk, IfSome, OnOk, OnErr, unwrap_or};
 ghost use Rattle.std.specs.FinMap as fin;
 ghost use Rattle.std.specs.Str.{IsUtf8};
@@ -12,7 +12,7 @@ use std::collections::BTreeMap;
 /// The bytes of each file, by its name.
 pub type FileMap = BTreeMap<String, Vec<u8>>;
 
-/// The bytes of a file, if it is there.
+/// The bytes of a file, if it exists.
 pub fn file_in<'a>(files: &'a FileMap, name: &str) -> Option<&'a [u8]>
     ensures { slice_of result ≡ fin.get (files_of files.now) name.now }
 {
@@ -22,7 +22,7 @@ pub fn file_in<'a>(files: &'a FileMap, name: &str) -> Option<&'a [u8]>
     }
 }
 
-/// Adds bytes at the end of a file that is there. Where memory is wanting, nothing changes.
+/// Adds bytes at the end of a file that exists. If memory runs out, nothing changes.
 pub fn grow_file(files: &mut FileMap, name: &str, bytes: &[u8]) -> Result<(), AllocError>
     requires { IsHeld (files_of files.old) name.now }
     ensures ok { OnOk result (files_of files.new ≡ fin.insert (files_of files.old) name.now (unwrap_or (fin.get (files_of files.old) name.now) [] ++ bytes.now)) }
@@ -35,8 +35,7 @@ pub fn grow_file(files: &mut FileMap, name: &str, bytes: &[u8]) -> Result<(), Al
     Ok(())
 }
 
-/// Sets a file: it is there with these bytes, whatever was there before. Where memory is wanting, nothing
-/// changes.
+/// Sets a file to these bytes, whether it existed before or not. If memory runs out, nothing changes.
 pub fn set_file(
     alloc: Global,
     files: &mut FileMap,
@@ -54,7 +53,7 @@ pub fn set_file(
     Ok(())
 }
 
-/// The bytes of pieces, one behind another.
+/// The bytes of the pieces, one after another.
 pub fn join(alloc: Global, pieces: &[&[u8]]) -> Result<Vec<u8>, AllocError>
     ensures { IfOk result (λ joined. joined.items ≡ bytes_in pieces.now) }
 {
@@ -65,7 +64,7 @@ pub fn join(alloc: Global, pieces: &[&[u8]]) -> Result<Vec<u8>, AllocError>
     Ok(joined)
 }
 
-/// The names of the files that stand in a folder itself, without the folder, in byte order.
+/// The names of the files directly in a folder, without the folder, in byte order.
 pub fn names_in(alloc: Global, files: &FileMap, folder: &str) -> Result<Words, NoMemory>
     ensures { IfOk result (λ names. map encode_utf8_all names ≡ names_in folder.now (files_of files.now)) }
 {
@@ -78,7 +77,7 @@ pub fn names_in(alloc: Global, files: &FileMap, folder: &str) -> Result<Words, N
     Ok(names)
 }
 
-/// The rest of a name, where the file stands in the folder itself and not deeper.
+/// The part of a name after the folder, if the file is directly in the folder.
 fn rest_in<'a>(folder: &str, name: &'a str) -> Option<&'a str>
     ensures exact { slice_of result ≡ rest_in folder.now name.now }
     ensures text { IfSome result (λ rest. IsUtf8 rest.now) }

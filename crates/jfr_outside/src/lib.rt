@@ -1,8 +1,8 @@
-//! What stands outside of the program: places with files, and sinks for bytes.
+//! The world outside the program: places, which hold files, and sinks, which take bytes.
 //!
-//! `Place` and `Sink` say what files and streams do. `MemoryPlace` and `MemorySink` are for tests, and fail
-//! where they are told to; `SteadyPlace` and `SteadySink` never fail without a stated cause. Read
-//! `specs/World.antt` first.
+//! `Place` and `Sink` state what files and streams do. `MemoryPlace` and `MemorySink` are for tests, and can
+//! be made to fail; `SteadyPlace` and `SteadySink` fail only for stated causes. Read `specs/World.antt`
+//! first.
 #![tactic(auto)]
 
 mod fault;

@@ -1,4 +1,4 @@
-// A place in memory, of which calls can be told to fail.
+//! A place in memory whose calls can be made to fail.
 ghost use Rattle.std.specs.Prelude.{◌≡◌, ◌≤◌, ◌<◌, ◌↔◌, ◌⊎◌, [], ◌∷◌, ◌++◌, length, take, Some, None, true, false, IsTrue, IsSome, IfSome, IfOk, OnOk, OnErr, IsErrOf, option_map};
 ghost use Rattle.jfr_outside.specs.MemoryPlace.{state_of, scripts_of, most_of};
 ghost use Rattle.jfr_outside.specs.World.{file, put, empty_world, bytes_in, slice_of, opened, taken, shut, created, appended, finished, unchanged, IsListing, Leaves, LeavesPrefix};
@@ -12,8 +12,8 @@ use crate::{Call, Fault, Place, SteadyPlace};
 use jfr_base::{NoMemory, Words};
 use std::alloc::Global;
 
-/// A place in memory. It tells all of its state. It fails by its scripts, and else for the causes of a
-/// steady place alone; it is steady exactly where it has no scripts.
+/// A place in memory. Contracts see its whole state. It fails if a script says so, and otherwise only for the
+/// causes of a steady place; it is steady exactly if it has no scripts.
 #[derive(Drop)]
 pub struct MemoryPlace {
     place: SteadyPlace,
@@ -21,7 +21,7 @@ pub struct MemoryPlace {
 }
 
 impl MemoryPlace {
-    /// A place without files, with nothing open and no fault so far.
+    /// A place without files, with nothing open and no faults.
     pub fn new(alloc: Global) -> MemoryPlace
         ensures told { (state_of result).told ≡ Some empty_world }
         ensures reads { (state_of result).read_faults ≡ 0 }
@@ -37,7 +37,7 @@ impl MemoryPlace {
         }
     }
 
-    /// Sets a file: it is there with these bytes, whatever was there before.
+    /// Sets a file to these bytes, whether it existed before or not.
     pub fn put(&mut self, name: &str, bytes: &[u8]) -> Result<(), NoMemory>
         ensures ok { OnOk result (state_of self.new ≡ record (state_of self.old) { told = option_map (put name.now bytes.now) (state_of self.old).told }) }
         ensures unchanged { OnErr result (state_of self.new ≡ state_of self.old) }
@@ -47,14 +47,14 @@ impl MemoryPlace {
         self.place.put(name, bytes)
     }
 
-    /// The bytes of a file, if it is there.
+    /// The bytes of a file, if it exists.
     pub fn file(&self, name: &str) -> Option<&[u8]>
         ensures { IfSome (state_of self.now).told (λ w. slice_of result ≡ file w name.now) }
     {
         self.place.file(name)
     }
 
-    /// From now on a read gives at most so many bytes.
+    /// Limits each read from now on to `size` bytes.
     pub fn cut(&mut self, size: usize)
         requires { 1 ≤ size }
         ensures most { most_of self.new ≡ size }
@@ -64,8 +64,8 @@ impl MemoryPlace {
         self.place.cut(size);
     }
 
-    /// The nth call of this kind from now on fails, from 1; where it is an append, the output keeps at
-    /// most `keep` of its bytes. With 0 no call fails, but the place isn't steady any more.
+    /// Makes the nth call of this kind from now on fail, counted from 1. If it is an append, the output keeps
+    /// at most `keep` of its bytes. With 0 no call fails, but the place is no longer steady.
     pub fn fail(&mut self, call: Call, nth: u64, keep: usize) -> Result<(), NoMemory>
         ensures ok { OnOk result (state_of self.new ≡ record (state_of self.old) { steady = false }) }
         ensures scripts { OnOk result (scripts_of self.new ≡ scripts_of self.old ++ record { call = call; left = nth; keep = keep } ∷ []) }
@@ -76,8 +76,8 @@ impl MemoryPlace {
     }
 }
 
-// In each contract the first clauses are the trait's; those behind the blank line say when the call fails:
-// where a script is due, and else for no other cause than on a steady place.
+// In each contract the first clauses are the trait's. Those after the blank line state when the call fails:
+// if a script is due, and otherwise only for the causes of a steady place.
 impl Place for MemoryPlace {
     ghost state = { λ p. state_of p };
 

@@ -1,4 +1,4 @@
-// A sink in memory.
+//! A sink in memory whose writes can be made to fail.
 ghost use Rattle.std.specs.Prelude.{◌≡◌, [], ◌∷◌, ◌++◌, Some, IfSome, OnOk, OnErr, IsErrOf, IsOkUnless};
 ghost use Rattle.jfr_outside.specs.Counts.{Counts};
 ghost use Rattle.jfr_outside.specs.MemorySink.{state_of, scripts_of};
@@ -13,7 +13,7 @@ use crate::{Call, Fault, Sink, SteadySink};
 use jfr_base::NoMemory;
 use std::alloc::Global;
 
-/// A sink in memory. It tells its bytes, and fails by its scripts alone.
+/// A sink in memory. Contracts see its bytes. It fails only if a script says so.
 #[derive(Drop)]
 pub struct MemorySink {
     sink: SteadySink,
@@ -22,7 +22,7 @@ pub struct MemorySink {
 }
 
 impl MemorySink {
-    /// A sink without bytes and without scripts, with no fault so far.
+    /// A sink without bytes and scripts, with no faults.
     pub fn new(alloc: Global) -> MemorySink
         ensures told { (state_of result).written ≡ Some [] }
         ensures faults { (state_of result).faults ≡ 0 }
@@ -42,8 +42,8 @@ impl MemorySink {
         self.sink.bytes()
     }
 
-    /// The nth write from now on fails, from 1, and keeps at most `keep` of its bytes. With 0 no write
-    /// fails.
+    /// Makes the nth write from now on fail, counted from 1, with at most `keep` of its bytes kept. With 0 no
+    /// write fails.
     pub fn fail(&mut self, nth: u64, keep: usize) -> Result<(), NoMemory>
         ensures told { state_of self.new ≡ state_of self.old }
         ensures ok { OnOk result (scripts_of self.new ≡ scripts_of self.old ++ record { call = Append; left = nth; keep = keep } ∷ []) }
@@ -60,7 +60,7 @@ impl Sink for MemorySink {
         ensures told { LeavesPrefix result (state_of self.old).written (state_of self.new).written bytes.now added }
         ensures faults { Counts result (state_of self.old).faults (state_of self.new).faults }
 
-        // A write fails exactly where a script is due, and keeps no more than that one allows.
+        // A write fails exactly if a script is due, and keeps no more than that script allows.
         ensures due { IsDue Append (scripts_of self.old) → IsErrOf result Failed }
         ensures cause { IsErrOf result Failed → IsDue Append (scripts_of self.old) }
         ensures keeps { IfSome (kept Append (scripts_of self.old)) (λ keep. KeepsPrefix keep (state_of self.old).written (state_of self.new).written bytes.now added) }

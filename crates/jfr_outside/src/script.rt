@@ -1,4 +1,4 @@
-// Calls that are to fail.
+//! Scripts: calls that have to fail.
 ghost use Rattle.std.specs.Prelude.{◌≡◌, [], ◌∷◌, ◌++◌, OnOk, OnErr};
 ghost use Rattle.jfr_outside.specs.Scripts.{kind_of, is_due, passed, kept, kept_with, after_call};
 
@@ -9,22 +9,22 @@ use std::marker::Model;
 /// A kind of call on a place.
 #[derive(Clone, Copy, Debug, PartialEq, Eq)]
 pub enum Call {
-    /// An input is opened.
+    /// Opens an input.
     Open,
-    /// Bytes of the input are taken.
+    /// Reads bytes of the input.
     Read,
-    /// An output is created.
+    /// Creates an output.
     Create,
-    /// Bytes are added to the output.
+    /// Adds bytes to the output.
     Append,
-    /// The output is ended.
+    /// Finishes the output.
     Finish,
-    /// The files of a folder are listed.
+    /// Lists the files of a folder.
     List,
 }
 
 impl Call {
-    // A number that tells the kinds apart.
+    // A number for each kind, by which kinds are compared.
     fn kind(self) -> u8
         ensures { result ≡ kind_of self }
     {
@@ -39,19 +39,20 @@ impl Call {
     }
 }
 
-/// A call that is to fail. Where it is an append or a write, at most `keep` of its bytes are kept.
+/// A call that has to fail. If it is an append or a write, at most `keep` of its bytes are kept.
 #[derive(Clone, Copy)]
 pub struct Script {
     /// The kind of the call.
     pub call: Call,
-    /// Which call of its kind fails, counted from now on: 1 is the next. At 0 it has failed, or none will.
+    /// Which call of its kind fails, counted from now on: 1 is the next one. At 0 it has failed, or none
+    /// will.
     pub left: u64,
-    /// How many bytes of it are kept at most.
+    /// The most bytes of it that are kept.
     pub keep: usize,
 }
 
 impl Script {
-    // Whether the next call of this kind is the one to fail.
+    // Whether the next call of this kind has to fail.
     fn is_due(&self, call: Call) -> bool
         ensures { result ≡ is_due call self.now }
     {
@@ -61,8 +62,8 @@ impl Script {
         self.left == 1
     }
 
-    // How many bytes the next call of this kind keeps at most, if it is to fail, by this script and those
-    // before it.
+    // The most bytes that the next call of this kind keeps, if it has to fail, by this script and by those
+    // before it, whose answer is `so_far`.
     fn keep_with(&self, call: Call, so_far: Option<usize>) -> Option<usize>
         ensures { result ≡ kept_with call so_far self.now }
     {
@@ -75,7 +76,7 @@ impl Script {
         }
     }
 
-    // A call of this kind is made.
+    // Counts a call of this kind.
     fn pass(&mut self, call: Call)
         ensures { self.new ≡ passed call self.old }
     {
@@ -85,7 +86,7 @@ impl Script {
     }
 }
 
-/// Calls that are to fail, in the order in which they were named.
+/// Calls that have to fail, in the order in which they were added.
 #[derive(Drop)]
 pub struct Scripts {
     scripts: Vec<Script>,
@@ -101,7 +102,7 @@ impl Model for Scripts {
 }
 
 impl Scripts {
-    /// No call is to fail.
+    /// An empty list: no call has to fail.
     pub fn new(alloc: Global) -> Scripts
         ensures { result ≡ [] }
     {
@@ -110,7 +111,7 @@ impl Scripts {
         }
     }
 
-    /// The nth call of this kind from now on is to fail, from 1, and to keep at most so many bytes.
+    /// Makes the nth call of this kind from now on fail, counted from 1, with at most `keep` bytes kept.
     pub fn add(&mut self, call: Call, nth: u64, keep: usize) -> Result<(), NoMemory>
         ensures ok { OnOk result (self.new ≡ self.old ++ record { call = call; left = nth; keep = keep } ∷ []) }
         ensures unchanged { OnErr result (self.new ≡ self.old) }
@@ -123,8 +124,7 @@ impl Scripts {
         Ok(())
     }
 
-    /// A call of this kind is made: `Some` where it is to fail, with the number of bytes that it keeps at
-    /// most.
+    /// Counts a call of this kind. `Some` if it has to fail, with the most bytes that it keeps.
     pub fn pass(&mut self, call: Call) -> Option<usize>
         ensures due { result ≡ kept call self.old }
         ensures passed { self.new ≡ after_call call self.old }

@@ -1,4 +1,4 @@
-// Where bytes are written to.
+//! Sinks, to which bytes are written.
 ghost use Rattle.jfr_outside.specs.World.{SinkState, LeavesPrefix, added};
 ghost use Rattle.jfr_outside.specs.Counts.{Counts};
 
@@ -6,12 +6,12 @@ use crate::Fault;
 
 /// A stream of bytes.
 ///
-/// Contracts see a sink as its `state`: the bytes written, where it tells them, and how often a write
-/// failed.
+/// Contracts see a sink as its `state`: the bytes written, if it lets contracts see them, and how often a
+/// write failed.
 pub trait Sink {
     ghost state: { Self → SinkState };
 
-    /// Adds bytes at the end of the stream; where it fails, a prefix of them.
+    /// Adds bytes at the end of the stream; on failure, a prefix of them.
     fn write(&mut self, bytes: &[u8]) -> Result<(), Fault>
         ensures told { LeavesPrefix result (state self.old).written (state self.new).written bytes.now added }
         ensures faults { Counts result (state self.old).faults (state self.new).faults };

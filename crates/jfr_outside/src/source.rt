@@ -1,7 +1,7 @@
-// An open input in memory.
+//! An open input in memory.
 ghost use Rattle.std.specs.Prelude.{◌≡◌, ◌<◌, ◌≤◌, ◌↔◌, [], length, take, drop, vec_len};
 
-/// Bytes of which the first ones may have been taken.
+/// The bytes of an input, some of which may have been read.
 #[derive(Drop)]
 pub struct Source {
     bytes: Vec<u8>,
@@ -12,14 +12,14 @@ pub struct Source {
 impl Source {
     ghost use Rattle.jfr_outside.specs.Source.{left_of};
 
-    /// All of the bytes are left.
+    /// An input of which all bytes are left.
     pub fn new(bytes: Vec<u8>) -> Source
         ensures { left_of result ≡ bytes.items }
     {
         Source { bytes, at: 0 }
     }
 
-    /// Takes the next bytes, at most `most`, and says how many: 0 exactly at the end.
+    /// Reads the next bytes, at most `most`, and returns how many: 0 exactly at the end.
     pub fn take_into(&mut self, most: usize, into: &mut [u8]) -> usize
         requires room { 0 < length into.old }
         requires most { 0 < most }

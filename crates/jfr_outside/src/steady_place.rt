@@ -1,4 +1,4 @@
-// A place in memory that fails for stated causes alone.
+//! A place in memory that fails only for stated causes.
 ghost use Rattle.std.specs.Prelude.{◌≡◌, ◌≤◌, ◌<◌, ◌↔◌, [], length, take, Some, None, true, IsSome, IfSome, IfOk, OnOk, OnErr, IsErrOf, option_map, string_bytes};
 ghost use Rattle.std.specs.Option.{ForSome};
 ghost use Rattle.jfr_outside.specs.Held.{files_of, IsHeld};
@@ -14,7 +14,7 @@ use jfr_base::{NoMemory, Words};
 use std::alloc::Global;
 use std::collections::BTreeMap;
 
-/// A place in memory that is always steady. It tells all of its state.
+/// A place in memory that is always steady. Contracts see its whole state.
 #[derive(Drop)]
 pub struct SteadyPlace {
     alloc: Global,
@@ -31,7 +31,7 @@ pub struct SteadyPlace {
 impl SteadyPlace {
     ghost use Rattle.jfr_outside.specs.SteadyPlace.{state_of, most_of};
 
-    /// A place without files, with nothing open and no fault so far.
+    /// A place without files, with nothing open and no faults.
     pub fn new(alloc: Global) -> SteadyPlace
         ensures told { (state_of result).told ≡ Some empty_world }
         ensures reads { (state_of result).read_faults ≡ 0 }
@@ -50,7 +50,7 @@ impl SteadyPlace {
         }
     }
 
-    /// Sets a file: it is there with these bytes, whatever was there before.
+    /// Sets a file to these bytes, whether it existed before or not.
     pub fn put(&mut self, name: &str, bytes: &[u8]) -> Result<(), NoMemory>
         ensures ok { OnOk result (state_of self.new ≡ record (state_of self.old) { told = option_map (put name.now bytes.now) (state_of self.old).told }) }
         ensures unchanged { OnErr result (state_of self.new ≡ state_of self.old) }
@@ -60,14 +60,14 @@ impl SteadyPlace {
         Ok(())
     }
 
-    /// The bytes of a file, if it is there.
+    /// The bytes of a file, if it exists.
     pub fn file(&self, name: &str) -> Option<&[u8]>
         ensures { IfSome (state_of self.now).told (λ w. slice_of result ≡ file w name.now) }
     {
         file_in(&self.files, name)
     }
 
-    /// From now on a read gives at most so many bytes.
+    /// Limits each read from now on to `size` bytes.
     pub fn cut(&mut self, size: usize)
         requires { 1 ≤ size }
         ensures most { most_of self.new ≡ size }
@@ -76,7 +76,7 @@ impl SteadyPlace {
         self.most = size;
     }
 
-    // A call that opens an input fails: no input is open.
+    // Fails a call that opens an input: then no input is open.
     pub(crate) fn refuse_input(&mut self) -> Fault
         ensures failed { result ≡ Failed }
         ensures told { (state_of self.new).told ≡ option_map shut (state_of self.old).told }
@@ -89,7 +89,7 @@ impl SteadyPlace {
         self.refuse_read()
     }
 
-    // A read fails: the input is unchanged.
+    // Fails a read: the input is unchanged.
     pub(crate) fn refuse_read(&mut self) -> Fault
         ensures failed { result ≡ Failed }
         ensures told { (state_of self.new).told ≡ (state_of self.old).told }
@@ -102,7 +102,7 @@ impl SteadyPlace {
         Fault::Failed
     }
 
-    // A call that creates or ends an output fails: no output is open.
+    // Fails a call that creates or finishes an output: then no output is open.
     pub(crate) fn refuse_output(&mut self) -> Fault
         ensures failed { result ≡ Failed }
         ensures told { (state_of self.new).told ≡ option_map finished (state_of self.old).told }
@@ -116,7 +116,7 @@ impl SteadyPlace {
         Fault::Failed
     }
 
-    // An append fails: the output keeps at most so many of the bytes, and none where memory is wanting.
+    // Fails an append: the output keeps at most `keep` of the bytes, and none of them if memory runs out.
     pub(crate) fn refuse_append(&mut self, bytes: &[u8], keep: usize) -> Fault
         ensures failed { result ≡ Failed }
         ensures told { KeepsPrefix keep (state_of self.old).told (state_of self.new).told bytes.now appended }
@@ -133,8 +133,8 @@ impl SteadyPlace {
         Fault::Failed
     }
 
-    // An append of pieces fails: the output keeps at most so many of their bytes, and none where memory is
-    // wanting.
+    // Fails an append of pieces: the output keeps at most `keep` of their bytes, and none of them if memory
+    // runs out.
     pub(crate) fn refuse_pieces(&mut self, pieces: &[&[u8]], keep: usize) -> Fault
         ensures failed { result ≡ Failed }
         ensures told { KeepsPrefix keep (state_of self.old).told (state_of self.new).told (bytes_in pieces.now) appended }

@@ -1,4 +1,4 @@
-// A sink in memory that never fails.
+//! A sink in memory that never fails.
 ghost use Rattle.std.specs.Prelude.{◌≡◌, [], Some, IsOkUnless};
 ghost use Rattle.jfr_outside.specs.Counts.{Counts};
 ghost use Rattle.jfr_outside.specs.SteadySink.{state_of};
@@ -8,7 +8,7 @@ ghost use Rattle.jfr_outside.specs.declared.fault.Fault.TheVariants.{Memory};
 use crate::{Fault, Sink};
 use std::alloc::Global;
 
-/// A sink in memory that never fails. It tells its bytes, and its count is always 0.
+/// A sink in memory that never fails. Contracts see its bytes, and its count of faults is always 0.
 #[derive(Drop)]
 pub struct SteadySink {
     bytes: Vec<u8>,

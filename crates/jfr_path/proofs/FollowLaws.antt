@@ -1,4 +1,4 @@
--- Following, so many times.
+-- Following references, a number of times.
 use Rattle.std.specs.Prelude.{◌≡◌, ℕ, zero, suc, ◌+◌, ◌-◌, ◌<◌, Bool, true, false, Some, None, if◌then◌else◌}
 use Rattle.std.specs.Option.{option_map_or}
 use Rattle.std.proofs.Common.{ap, arith, refl, sym, ◌∙◌}
@@ -10,7 +10,7 @@ module _ (test : NodeAt → Bool) (p : Parts) where
   pub followed : (k : ℕ) (n m : NodeAt) → test n ≡ true → follow p n ≡ Some m → follow_while (suc k) test p n ≡ follow_while k test p m
   followed k n m t e = ap (λ z. if z then option_map_or (follow_while k test p) (follow p n) n else n) t ∙ ap (λ z. option_map_or (follow_while k test p) z n) e
 
-  -- One of so many times more.
+  -- Following once more.
   pub follows_on : (most count : ℕ) (start n m : NodeAt) → count < most → follow_while most test p start ≡ follow_while (most - count) test p n → test n ≡ true → Some m ≡ follow p n → follow_while most test p start ≡ follow_while (most - (count + 1)) test p m
   follows_on most count start n m l h t e =
       let q : most - count ≡ suc (most - (count + 1)) = omega arith in

@@ -1,4 +1,4 @@
--- What stands in a chunk: its classes are sound, and its events are values.
+-- In every chunk the classes are sound, and the fields of events are values.
 use Rattle.std.specs.Prelude.{◌≡◌, ◌≢◌, Some, slice_get}
 use Rattle.std.proofs.Common.{refl, subst}
 use Rattle.jfr_layout.specs.Classes.{Sound}
@@ -12,7 +12,7 @@ use Rattle.jfr_chunk.specs.Parts.{Parts, AreParts, events_of}
 use Rattle.jfr_chunk.specs.Paths.{step}
 use Rattle.jfr_chunk.specs.Seen.{event_at}
 use Rattle.jfr_chunk.proofs.PathLaws.{Standing}
-use Rattle.jfr_chunk.proofs.Members.{get_in}
+use Rattle.jfr_worklist.proofs.Members.{get_in}
 use Rattle.jfr_chunk.proofs.StandingLaws.{standing, event_is}
 
 -- A value of the chunk.

@@ -1,4 +1,4 @@
--- The text behind keys.
+-- The text that keys lead to.
 use Rattle.std.specs.Prelude.{◌≡◌, Some, None, option_and_then}
 use Rattle.std.proofs.Common.{ap, ◌∙◌}
 use Rattle.jfr_text.specs.Strings.{Content}

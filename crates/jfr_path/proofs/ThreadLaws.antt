@@ -1,4 +1,5 @@
--- The text behind a reference depends on its class and its key alone, and so does what a filter says of it.
+-- The text that a reference leads to depends only on its class and its key, and so does a filter's verdict on
+-- it.
 use Rattle.std.specs.Prelude.{◌≡◌, ℕ, Bool, true, false, List, [], ◌∷◌, Option, Some, None, IfSome, cond, codes, option_map, option_and_then, if◌then◌else◌}
 use Rattle.std.specs.BTreeMap as tree
 use Rattle.std.specs.BTreeMap.{BTreeMap, is_at}
@@ -15,6 +16,7 @@ use Rattle.jfr_value.proofs.ChildLaws.{no_field_of_constant}
 use Rattle.jfr_pool.specs.Entries.{in_force, entry_node}
 use Rattle.jfr_chunk.specs.Parts.{Parts, AreParts}
 use Rattle.jfr_chunk.specs.Paths.{follow, follow_while, is_reference, named_field, named_text}
+use Rattle.jfr_chunk.specs.Chosen.{or_else}
 use Rattle.jfr_path.specs.Threads.{AreVerdicts, IsReferenceTo, allows_behind, pair_cmp}
 use Rattle.jfr_path.proofs.FollowLaws.{followed, ends}
 use Rattle.jfr_path.proofs.NameLaws.{named_next}
@@ -57,7 +59,7 @@ module _ (p : Parts) (parts : AreParts p) (t : ℕ × ℕ) where
     same_text name names = named_next p name names n ∙ (ap (option_and_then (λ z. named_text p z names)) (same_field name) ∙ sym (named_next p name names m))
 
     same_allowed : (g : Given) → allows_behind g p n ≡ allows_behind g p m
-    same_allowed g = ap (allows_thread g) (same_text (codes "javaName") [])
+    same_allowed g = ap (allows_thread g) (λ i. or_else (same_text (codes "javaName") [] i) (same_text (codes "osName") [] i))
 
 -- What a reference that the code hands around refers to.
 pub referred_to : (p : Parts) (n : Node) (o : Option (ℕ × ℕ)) → IsValue p.classes n → n.bytes.now ≡ p.bytes → is_reference (node_of n) ≡ true → o ≡ target p.classes p.bytes (node_of n) → IfSome o (λ t. IsReferenceTo p t (node_of n))

@@ -9,9 +9,9 @@ use Rattle.jfr_layout.specs.declared.shape.Shape.{Shape}
 use Rattle.jfr_value.specs.declared.node.Step.TheVariants as steps
 use Rattle.jfr_value.specs.Nodes.{NodeAt, child}
 use Rattle.jfr_chunk.specs.Parts.{Parts, EventAt, events_of}
-use Rattle.jfr_chunk.specs.Paths.{is_reference, named_field}
-use Rattle.jfr_chunk.specs.Chosen.{is_chosen, thread_text}
-use Rattle.jfr_chunk.proofs.Members.{In, contains_in}
+use Rattle.jfr_chunk.specs.Paths.{follow_while, is_reference, named_field, named_text}
+use Rattle.jfr_chunk.specs.Chosen.{is_chosen, or_else, thread_text}
+use Rattle.jfr_worklist.proofs.Members.{In, contains_in}
 use Rattle.jfr_path.specs.declared.verdict.ClassVerdict.TheVariants.{Kept, Dropped, ByThread}
 use Rattle.jfr_path.specs.Threads.{text_behind}
 use Rattle.jfr_path.specs.Verdicts.{IsOfClass, IsVerdict}
@@ -29,6 +29,11 @@ unasked g text e = by_options g.include_threads g.exclude_threads e
     by_options None (Some x) e = cc
     by_options (Some i) x e = cc
 
+-- One of two that both are asked of a value.
+either_then : {A : Type 0} (f g : A → Option (List ℕ)) (o : Option A) → or_else (option_and_then f o) (option_and_then g o) ≡ option_and_then (λ m. or_else (f m) (g m)) o
+either_then f g None = refl
+either_then f g (Some m) = refl
+
 abbrev thread_number : Class → Option ℕ
 thread_number c = field_number c.fields (codes "eventThread")
 
@@ -39,13 +44,14 @@ module _ (p : Parts) (c : Class) (e : EventAt) (o : IsOfClass p c e) where
   alone : is_reference e.node ≡ false
   alone = ap (λ (z : Shape). if z.array then false else z.constant) (event_shape p o.parts e listed)
 
-  -- The thread text is the one behind the field of the thread.
+  -- The name of an event's thread is the one that the thread's field leads to.
   there : thread_text p e ≡ option_and_then (text_behind p) (option_and_then (λ i. child p.classes p.bytes e.node (steps.Field i)) (thread_number c))
   there =
       let found : find_class p.classes e.node.shape.class ≡ Some c = ap (λ (z : Shape). find_class p.classes z.class) (event_shape p o.parts e listed) ∙ o.class in
-      named_next p (codes "eventThread") (codes "javaName" ∷ []) e.node
+      (λ i. or_else (named_next p (codes "eventThread") (codes "javaName" ∷ []) e.node i) (named_next p (codes "eventThread") (codes "osName" ∷ []) e.node i))
+      ∙ (either_then (λ m. named_text p m (codes "javaName" ∷ [])) (λ m. named_text p m (codes "osName" ∷ [])) (named_field p (codes "eventThread") (follow_while 16 is_reference p e.node))
       ∙ (ap (λ z. option_and_then (text_behind p) (named_field p (codes "eventThread") z)) (stays is_reference p 16 e.node alone)
-      ∙ ap (λ z. option_and_then (text_behind p) (option_and_then (λ (d : Class). option_and_then (λ i. child p.classes p.bytes e.node (steps.Field i)) (thread_number d)) z)) found)
+      ∙ ap (λ z. option_and_then (text_behind p) (option_and_then (λ (d : Class). option_and_then (λ i. child p.classes p.bytes e.node (steps.Field i)) (thread_number d)) z)) found))
 
   none_there : thread_number c ≡ None → thread_text p e ≡ None
   none_there f = there ∙ ap (λ z. option_and_then (text_behind p) (option_and_then (λ i. child p.classes p.bytes e.node (steps.Field i)) z)) f

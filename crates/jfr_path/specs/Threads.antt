@@ -1,5 +1,5 @@
--- What a filter says of the threads of a chunk.
-use Rattle.std.specs.Prelude.{◌≡◌, ℕ, Bool, true, List, [], ◌∷◌, Option, Some, IfSome, codes}
+-- A filter's verdicts on the threads of a chunk.
+use Rattle.std.specs.Prelude.{◌≡◌, ℕ, Bool, true, List, [], ◌∷◌, Option, Some, IfSome, codes, option_map}
 use Rattle.std.specs.BTreeMap as tree
 use Rattle.std.specs.BTreeMap.{BTreeMap}
 use Rattle.std.specs.Ordering.{nat_cmp, ordering_then}
@@ -11,12 +11,18 @@ use Rattle.jfr_value.specs.Values.{Value}
 use Rattle.jfr_value.specs.Nodes.{NodeAt, IsNode, target}
 use Rattle.jfr_chunk.specs.Parts.{Parts}
 use Rattle.jfr_chunk.specs.Paths.{is_reference, named_text, string_of}
+use Rattle.jfr_chunk.specs.Chosen.{or_else}
 
--- The thread text behind a value: the text that the field of a thread's name leads to.
+-- The name of the thread that a value leads to: its Java name if that has a text, else its name in the
+-- operating system.
 abbrev pub text_behind : Parts → NodeAt → Option (List ℕ)
-text_behind p n = named_text p n (codes "javaName" ∷ [])
+text_behind p n = or_else (named_text p n (codes "javaName" ∷ [])) (named_text p n (codes "osName" ∷ []))
 
--- The filter allows the thread behind a value.
+-- Whether the filter allows a thread with this name, if there is a name.
+abbrev pub said_of : Given → Option (List ℕ) → Option Bool
+said_of g text = option_map (λ t. allows_thread g (Some t)) text
+
+-- Whether the filter allows the thread that a value leads to.
 abbrev pub allows_behind : Given → Parts → NodeAt → Bool
 allows_behind g p n = allows_thread g (text_behind p n)
 
@@ -27,19 +33,20 @@ pub record IsReferenceTo (p : Parts) (t : ℕ × ℕ) (n : NodeAt) : Type 0 wher
   pub reference : is_reference n ≡ true
   pub target : target p.classes p.bytes n ≡ Some t
 
--- Pairs of numbers, in their order.
+-- The order of pairs of numbers.
 abbrev pub pair_cmp : ℕ × ℕ → ℕ × ℕ → Ordering
 pair_cmp a b = ordering_then (nat_cmp a.0 b.0) (nat_cmp a.1 b.1)
 
--- Each verdict is what the filter says of the thread behind every reference to that class and key.
+-- Each verdict in the map is right for every reference with its class and key.
 pub record AreVerdicts (g : Given) (p : Parts) (verdicts : BTreeMap (ℕ × ℕ) Bool) : Type 0 where
   pub each : (t : ℕ × ℕ) (n : NodeAt) → IsReferenceTo p t n → IfSome (tree.get pair_cmp verdicts t) (λ allowed. allowed ≡ allows_behind g p n)
 
--- Each verdict is what the filter says of a thread whose name is the string between two places.
-pub record AreTextVerdicts (g : Given) (p : Parts) (verdicts : BTreeMap (ℕ × ℕ) Bool) : Type 0 where
-  pub each : (n : NodeAt) (s : Content) → string_of p n ≡ Some s → IfSome (tree.get pair_cmp verdicts (n.at, n.end)) (λ allowed. allowed ≡ allows_thread g (strings.text_of s))
+-- Each verdict in the map is right for a thread whose name is the string between its two offsets; it is
+-- `None` if the string has no text.
+pub record AreTextVerdicts (g : Given) (p : Parts) (verdicts : BTreeMap (ℕ × ℕ) (Option Bool)) : Type 0 where
+  pub each : (n : NodeAt) (s : Content) → string_of p n ≡ Some s → IfSome (tree.get pair_cmp verdicts (n.at, n.end)) (λ said. said ≡ said_of g (strings.text_of s))
 
--- A filter that is asked of the threads of a chunk.
+-- A filter, and the chunk whose threads are looked up.
 pub record Asked : Type 0 where
   pub filter : Given
   pub chunk : Parts

@@ -1,4 +1,4 @@
--- What a filter says of the events of a class.
+-- A filter's verdict on all events of a class.
 use Rattle.std.specs.Prelude.{◌≡◌, Bool, true, false, Some, Contains}
 use Rattle.jfr_filter.specs.Filters.{Given}
 use Rattle.jfr_layout.specs.Classes.{Class, find_class}
@@ -10,24 +10,24 @@ use Rattle.jfr_path.specs.declared.verdict.ClassVerdict.{ClassVerdict}
 use Rattle.jfr_path.specs.declared.verdict.ClassVerdict.TheVariants.{Kept, Dropped, ByThread}
 use Rattle.jfr_path.specs.Threads.{allows_behind}
 
--- An event of a chunk, of this class.
+-- The event is one of the chunk's, and its class is this one.
 pub record IsOfClass (p : Parts) (c : Class) (e : EventAt) : Type 0 where
   pub parts : AreParts p
   pub listed : Contains (events_of p) e
   pub class : find_class p.classes e.record_of.type_id ≡ Some c
 
--- The event is kept, or dropped, or has a field of this number and is kept where the filter allows the
--- thread behind that.
+-- The verdict is right for the event: it is kept, or dropped, or kept exactly if the filter allows the thread
+-- that its field with this number leads to.
 abbrev pub Says : Given → Parts → EventAt → ClassVerdict → Type 0
 Says g p e Kept = is_chosen g p e ≡ true
 Says g p e Dropped = is_chosen g p e ≡ false
 Says g p e (ByThread number) = (n : NodeAt) × (child p.classes p.bytes e.node (steps.Field number) ≡ Some n) × (is_chosen g p e ≡ allows_behind g p n)
 
--- Each event of the class is kept.
+-- Whether the verdict is that all events of the class are kept.
 abbrev pub is_kept : ClassVerdict → Bool
 is_kept Kept = true
 is_kept _ = false
 
--- The verdict holds of every event of the class, in every chunk.
+-- The verdict is right for every event of the class, in every chunk.
 pub record IsVerdict (g : Given) (c : Class) (verdict : ClassVerdict) : Type 0 where
   pub each : (p : Parts) (e : EventAt) → IsOfClass p c e → Says g p e verdict

@@ -1,4 +1,4 @@
-// Which classes a filter allows, before its options over threads are asked.
+//! The classes that a filter's options on events and categories allow.
 ghost use Rattle.std.specs.Prelude.{◌≡◌, ◌||◌, List, ℕ, IfOk, is_some, map};
 ghost use Rattle.jfr_filter.specs.Filters.{Given};
 ghost use Rattle.jfr_path.specs.Strings.{is_allowed, is_named_allowed, over_categories, over_events};
@@ -11,7 +11,7 @@ use jfr_layout::Classes;
 use jfr_meta::ClassNames;
 use std::alloc::Global;
 
-/// Whether the options over events and over categories allow each class, in the order of the classes.
+/// Whether the options on events and on categories allow each class, in the order of the classes.
 pub(crate) fn allowed_classes(
     alloc: Global,
     chunk: &Chunk<'_>,
@@ -26,7 +26,7 @@ pub(crate) fn allowed_classes(
     }
 }
 
-/// Whether an option over events or over categories is given.
+/// Whether an option on events or on categories is given.
 fn asks_for_classes(filter: &Filter) -> bool
     ensures { result ≡ (is_some filter.now.include_events || is_some filter.now.exclude_events || (is_some filter.now.include_categories || is_some filter.now.exclude_categories)) }
 {
@@ -35,7 +35,7 @@ fn asks_for_classes(filter: &Filter) -> bool
     events || categories
 }
 
-/// Whether the options allow each class, asked class by class: where none is given, that costs nothing.
+/// Whether the options allow each class, found class by class. This is cheap if none of them is given.
 fn allowed_directly(
     alloc: Global,
     classes: &Classes,
@@ -51,7 +51,8 @@ fn allowed_directly(
     Ok(allowed)
 }
 
-/// Whether the options allow each class, asked once about each string that names one.
+/// Whether the options allow each class, found with one query of the filter for each string that names a
+/// class.
 fn allowed_by_strings(
     alloc: Global,
     chunk: &Chunk<'_>,
@@ -83,7 +84,7 @@ fn allowed_by_strings(
     Ok(allowed)
 }
 
-/// Whether the options over events allow the name of a class, and those over categories its categories.
+/// Whether the options on events allow the name of a class, and those on categories its categories.
 fn is_allowed(
     names: &mut StringVerdicts<'_>,
     categories: &mut StringVerdicts<'_>,

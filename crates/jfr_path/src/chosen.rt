@@ -1,4 +1,4 @@
-// The events that a filter keeps.
+//! The events that a filter keeps.
 ghost use Rattle.std.specs.Prelude.{◌≡◌, IfOk, Some, length, slice_get};
 ghost use Rattle.std.specs.List.{AllZip};
 ghost use Rattle.jfr_filter.specs.Filters.{Given};
@@ -16,9 +16,9 @@ use jfr_filter::Filter;
 use jfr_value::{Step, child};
 use std::alloc::Global;
 
-/// Which events of the chunk the filter keeps. It is asked once about each string that names a class. Where
-/// an option on threads is given, the thread is looked up once for each class and key by which events refer
-/// to it, and the filter is asked once about each text.
+/// Which events of the chunk the filter keeps. Each string that names a class is matched once. If an option
+/// on threads is given, the thread is looked up once for each class and key by which events refer to it, and
+/// each text is matched once.
 pub fn choose(alloc: Global, chunk: &Chunk<'_>, filter: &Filter) -> Result<Kept, NoMemory>
     ensures ok { IfOk result (λ kept. kept ≡ chosen filter.now chunk.now) }
 {

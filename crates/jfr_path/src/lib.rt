@@ -1,9 +1,9 @@
-//! Paths through a chunk: where they lead, through fields, items and constants, the texts that names
-//! lead to, and the events that a filter keeps.
+//! Paths through a chunk's fields, items and constants: the values and texts that they lead to, and the
+//! events that a filter keeps.
 //!
-//! `leads` takes the steps of a `Path`, and `named` the fields of some names; `choose` asks a filter about
-//! each string that names a class of a chunk, and about the texts of its threads. What they mean is in
-//! `specs/Paths.antt` and `specs/Chosen.antt` of `jfr_chunk`.
+//! `leads` follows the steps of a `Path`, and `named` follows the names of fields to a text; `node_at` and
+//! `text_at` are its two parts. `choose` finds the events that a filter keeps, by the names of their classes and
+//! the texts of their threads. Read `specs/Paths.antt` and `specs/Chosen.antt` of `jfr_chunk` first.
 #![tactic(auto)]
 
 mod allowed;
@@ -17,6 +17,6 @@ mod threads;
 mod verdict;
 
 pub use chosen::choose;
-pub use names::named;
+pub use names::{named, node_at, text_at};
 pub use path::Path;
 pub use steps::{fields_of, leads};

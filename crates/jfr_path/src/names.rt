@@ -1,4 +1,4 @@
-// Texts by the names of fields.
+//! Texts found by the names of fields.
 ghost use Rattle.std.specs.Prelude.{◌≡◌, Some, IfOk, IfSome, option_map, slice_get};
 ghost use Rattle.std.specs.Str.{chars};
 ghost use Rattle.jfr_chunk.specs.Parts.{AreParts, events_of};
@@ -7,20 +7,19 @@ ghost use Rattle.jfr_chunk.specs.Seen.{event_at};
 ghost use Rattle.jfr_value.specs.Nodes.{IsValue, node_of};
 
 use crate::fields_of;
-use crate::steps::{follow, string_of};
+use crate::steps::{follow, in_chunk, string_of};
 use jfr_base::{NoMemory, Text, Words};
 use jfr_chunk::{Chunk, Event};
 use jfr_text::text_of;
 use jfr_value::{Node, Step, child};
 use std::alloc::Global;
 
-// How often references or keys are followed at most, one after another, before a field or a text is asked
-// for.
+// The most references or keys that are followed in a row, before a field is taken or a text is read.
 const MOST_FOLLOWED: u32 = 16;
 
-/// The text that names lead to from an event's fields: for each name the references are followed, and then
-/// the field of that name is taken; at the end references and keys of strings are followed, up to a string.
-/// `None` exactly where they lead to no text. At most 16 are followed one after another.
+/// The text that names lead to from an event's fields. For each name, references are followed, then the field
+/// with this name is taken. At the end, references and keys of strings are followed up to a string. At most
+/// 16 are followed in a row. `None` exactly if the names lead to no text.
 pub fn named(
     alloc: Global,
     chunk: &Chunk<'_>,
@@ -32,22 +31,22 @@ pub fn named(
     ensures ok { IfOk result (λ text. text ≡ named_text chunk.now (node_of event.now.node) names.now) }
 {
     let fields = fields_of(chunk, event);
-    match named_node(chunk, &fields, names) {
+    match node_at(chunk, &fields, names) {
         Some(node) => text_at(alloc, chunk, &node),
         None => Ok(None),
     }
 }
 
-/// The value that names lead to: for each, behind references, the field of that name.
-fn named_node<'a>(chunk: &Chunk<'a>, node: &Node<'a>, names: &Words) -> Option<Node<'a>>
-    requires parts { AreParts chunk.now }
+/// The value to which names lead from a value of the chunk: for each name, references are followed, at most 16
+/// one after another, and then the field of that name is taken. `None` exactly if a field is absent.
+pub fn node_at<'a>(chunk: &Chunk<'a>, node: &Node<'a>, names: &Words) -> Option<Node<'a>>
     requires value { IsValue chunk.now.classes node.now }
     requires of_chunk { node.now.bytes.now ≡ chunk.now.bytes }
     ensures exact { option_map node_of result ≡ named_node chunk.now (node_of node.now) names.now }
     ensures bytes { IfSome result (λ to. to.bytes.now ≡ chunk.now.bytes) }
     ensures value { IfSome result (IsValue chunk.now.classes) }
 {
-    let mut place = *node;
+    let mut place = in_chunk(chunk, node);
     for number in 0..names.len() {
         let name = names.get(number)?;
         let holder = behind_references(chunk, &place);
@@ -56,7 +55,7 @@ fn named_node<'a>(chunk: &Chunk<'a>, node: &Node<'a>, names: &Words) -> Option<N
     Some(place)
 }
 
-/// The field of a name; `None` exactly where the value has none.
+/// The field with this name; `None` exactly if the value has no such field.
 pub(crate) fn named_field<'a>(chunk: &Chunk<'a>, node: &Node<'a>, name: &str) -> Option<Node<'a>>
     requires parts { AreParts chunk.now }
     requires value { IsValue chunk.now.classes node.now }
@@ -70,7 +69,7 @@ pub(crate) fn named_field<'a>(chunk: &Chunk<'a>, node: &Node<'a>, name: &str) ->
     child(classes, node, &Step::Field(number))
 }
 
-/// Where references lead that follow one another, at most 16 of them.
+/// The value after following references, at most 16 in a row.
 pub(crate) fn behind_references<'a>(chunk: &Chunk<'a>, node: &Node<'a>) -> Node<'a>
     requires parts { AreParts chunk.now }
     requires value { IsValue chunk.now.classes node.now }
@@ -99,7 +98,7 @@ pub(crate) fn is_reference(node: &Node<'_>) -> bool
     !node.shape.array && node.shape.constant
 }
 
-/// Where references and keys of strings lead that follow one another, at most 16 of them.
+/// The value after following references and keys of strings, at most 16 in a row.
 pub(crate) fn behind_keys<'a>(chunk: &Chunk<'a>, node: &Node<'a>) -> Node<'a>
     requires parts { AreParts chunk.now }
     requires value { IsValue chunk.now.classes node.now }
@@ -118,14 +117,15 @@ pub(crate) fn behind_keys<'a>(chunk: &Chunk<'a>, node: &Node<'a>) -> Node<'a>
     place
 }
 
-/// The text of a value, where it has one.
-fn text_at<'a>(alloc: Global, chunk: &Chunk<'a>, node: &Node<'a>) -> Result<Option<Text>, NoMemory>
-    requires parts { AreParts chunk.now }
+/// The text of a value of the chunk: references and keys of strings are followed, at most 16 one after another;
+/// if they lead to a string, it is the text of that string. `None` exactly if there is no string, or the string
+/// is null.
+pub fn text_at(alloc: Global, chunk: &Chunk<'_>, node: &Node<'_>) -> Result<Option<Text>, NoMemory>
     requires value { IsValue chunk.now.classes node.now }
     requires of_chunk { node.now.bytes.now ≡ chunk.now.bytes }
     ensures ok { IfOk result (λ text. text ≡ text_of chunk.now (node_of node.now)) }
 {
-    let last = behind_keys(chunk, node);
+    let last = behind_keys(chunk, &in_chunk(chunk, node));
     match string_of(chunk, &last) {
         Some(span) => text_of(alloc, &span),
         None => Ok(None),

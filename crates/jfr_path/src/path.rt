@@ -1,4 +1,4 @@
-// Paths.
+//! Paths.
 ghost use Rattle.std.specs.Prelude.{◌≡◌, [], ◌∷◌, ◌++◌, length, OnOk, OnErr, slice_get};
 ghost use Rattle.std.specs.Option.{option_copied};
 
@@ -7,7 +7,7 @@ use jfr_value::Step;
 use std::alloc::Global;
 use std::marker::Model;
 
-/// A path: steps, one after another, as `leads` takes them.
+/// A list of steps, which `leads` follows in order.
 #[derive(Drop)]
 pub struct Path {
     steps: Vec<Step>,
@@ -23,7 +23,7 @@ impl Model for Path {
 }
 
 impl Path {
-    /// The path without steps. It takes no memory.
+    /// An empty path. It allocates nothing.
     pub fn new(alloc: Global) -> Path
         ensures { result ≡ [] }
     {
@@ -32,7 +32,7 @@ impl Path {
         }
     }
 
-    /// Adds the step at the end.
+    /// Adds a step at the end.
     pub fn push(&mut self, step: Step) -> Result<(), NoMemory>
         ensures ok { OnOk result (self.new ≡ self.old ++ step ∷ []) }
         ensures unchanged { OnErr result (self.new ≡ self.old) }
@@ -41,14 +41,14 @@ impl Path {
         Ok(())
     }
 
-    /// How many steps the path has.
+    /// The number of steps.
     pub fn len(&self) -> usize
         ensures { result ≡ length self.now }
     {
         self.steps.len()
     }
 
-    /// The step of a number, from 0; `None` exactly past the end.
+    /// The step with this index, from 0, if there is one.
     pub fn get(&self, at: usize) -> Option<&Step>
         ensures { option_copied result ≡ slice_get self.now at }
     {

@@ -1,4 +1,4 @@
-// Steps from value to value.
+//! Steps from value to value.
 ghost use Rattle.std.specs.Prelude.{◌≡◌, Some, IfSome, option_map, slice_get};
 ghost use Rattle.jfr_chunk.specs.Parts.{AreParts, events_of};
 ghost use Rattle.jfr_chunk.specs.Paths.{follow, leads, step, string_of};
@@ -12,8 +12,8 @@ use jfr_layout::Kind;
 use jfr_text::{StringSpan, read_string};
 use jfr_value::{Node, Step, child, target};
 
-/// The node of an event's fields, where paths begin. It lies in the bytes of this chunk, also where another
-/// chunk of the same parts handed out the event.
+/// The node of an event's fields, where paths start. The node refers to this chunk, even if the event came
+/// from another chunk with the same parts.
 pub fn fields_of<'a>(chunk: &Chunk<'a>, event: &Event<'_>) -> Node<'a>
     requires { slice_get (events_of chunk.now) event.now.number ≡ Some (event_at event.now) }
     ensures exact { node_of result ≡ node_of event.now.node }
@@ -29,7 +29,7 @@ pub fn fields_of<'a>(chunk: &Chunk<'a>, event: &Event<'_>) -> Node<'a>
     }
 }
 
-/// Where a path leads from a value of the chunk; `None` exactly where it leads nowhere.
+/// The value to which a path leads from a value of the chunk; `None` exactly if it leads nowhere.
 pub fn leads<'a>(chunk: &Chunk<'a>, node: &Node<'a>, path: &Path) -> Option<Node<'a>>
     requires value { IsValue chunk.now.classes node.now }
     requires of_chunk { node.now.bytes.now ≡ chunk.now.bytes }
@@ -37,19 +37,31 @@ pub fn leads<'a>(chunk: &Chunk<'a>, node: &Node<'a>, path: &Path) -> Option<Node
     ensures bytes { IfSome result (λ to. to.bytes.now ≡ chunk.now.bytes) }
     ensures value { IfSome result (IsValue chunk.now.classes) }
 {
-    let mut place = Node {
-        shape: node.shape,
-        bytes: chunk.bytes(),
-        at: node.at,
-        end: node.end,
-    };
+    let mut place = in_chunk(chunk, node);
     for next in path.steps() {
         place = step(chunk, &place, next)?;
     }
     Some(place)
 }
 
-/// One step: to a field or an item, or to the constant that is referred to.
+/// The same value, over the bytes that the chunk itself holds.
+pub(crate) fn in_chunk<'a>(chunk: &Chunk<'a>, node: &Node<'_>) -> Node<'a>
+    requires value { IsValue chunk.now.classes node.now }
+    requires of_chunk { node.now.bytes.now ≡ chunk.now.bytes }
+    ensures exact { node_of result ≡ node_of node.now }
+    ensures bytes { result.bytes.now ≡ chunk.now.bytes }
+    ensures value { IsValue chunk.now.classes result }
+    ensures parts { AreParts chunk.now }
+{
+    Node {
+        shape: node.shape,
+        bytes: chunk.bytes(),
+        at: node.at,
+        end: node.end,
+    }
+}
+
+/// The value after one step: a field, an item, or the constant that the value refers to.
 fn step<'a>(chunk: &Chunk<'a>, node: &Node<'a>, by: &Step) -> Option<Node<'a>>
     requires parts { AreParts chunk.now }
     requires value { IsValue chunk.now.classes node.now }
@@ -65,7 +77,7 @@ fn step<'a>(chunk: &Chunk<'a>, node: &Node<'a>, by: &Step) -> Option<Node<'a>>
 }
 
 /// The constant to which a reference, or a string that is a key, leads: the value of the entry in force.
-/// `None` exactly where the value is neither, or the constant is missing.
+/// `None` exactly if the value is neither, or no such entry is in force.
 pub(crate) fn follow<'a>(chunk: &Chunk<'a>, node: &Node<'a>) -> Option<Node<'a>>
     requires parts { AreParts chunk.now }
     requires value { IsValue chunk.now.classes node.now }
@@ -79,7 +91,7 @@ pub(crate) fn follow<'a>(chunk: &Chunk<'a>, node: &Node<'a>) -> Option<Node<'a>>
     chunk.entry_node(number)
 }
 
-/// The string of a node; `None` exactly where its value is no string.
+/// The string of a node; `None` exactly if its value isn't a string.
 pub(crate) fn string_of<'a>(chunk: &Chunk<'_>, node: &Node<'a>) -> Option<StringSpan<'a>>
     requires value { IsValue chunk.now.classes node.now }
     requires of_chunk { node.now.bytes.now ≡ chunk.now.bytes }

@@ -1,4 +1,4 @@
-// What a filter says of the strings that name classes.
+//! Matching the strings that name classes, each only once.
 ghost use Rattle.std.specs.Prelude.{◌≡◌, IfOk, map};
 ghost use Rattle.jfr_filter.specs.Filters.{allows_texts};
 ghost use Rattle.jfr_meta.specs.Attributes.{text_at};
@@ -10,9 +10,9 @@ use std::alloc::Global;
 use std::collections::BTreeMap;
 use std::marker::Model;
 
-/// What an include and an exclude option say of the strings of the metadata's table. Which of the two match
-/// is kept by the index of the string: many classes may share one, and even a long one is matched only once.
-/// Contracts see the filter, the options and the strings.
+/// An include and an exclude option of a filter, with the results of matching strings of the metadata's
+/// table. The results are kept by the index of the string. Many classes may share a long string, which is
+/// then matched only once. Contracts see the filter, the options and the strings.
 #[derive(Drop)]
 pub(crate) struct StringVerdicts<'c> {
     filter: &'c Filter,
@@ -34,7 +34,7 @@ impl<'c> Model for StringVerdicts<'c> {
 }
 
 impl<'c> StringVerdicts<'c> {
-    /// Nothing was asked yet. It takes no memory.
+    /// No string has been matched yet. It allocates nothing.
     pub(crate) fn new(
         alloc: Global,
         filter: &'c Filter,
@@ -53,8 +53,8 @@ impl<'c> StringVerdicts<'c> {
         }
     }
 
-    /// Whether some pattern of the include option, and whether some of the exclude option, matches the string
-    /// of this index.
+    /// Whether a pattern of the include option, and whether one of the exclude option, matches the string
+    /// with this index.
     fn matches(&mut self, index: u64) -> Result<(bool, bool), NoMemory>
         ensures ok { IfOk result (λ found. found ≡ matches_of self.old index) }
         ensures same { self.new ≡ self.old }
@@ -71,7 +71,7 @@ impl<'c> StringVerdicts<'c> {
         Ok(found)
     }
 
-    /// Whether the options allow the strings of these indices.
+    /// Whether the options allow the strings with these indices.
     pub(crate) fn allow(&mut self, indices: &[u64]) -> Result<bool, NoMemory>
         ensures ok { IfOk result (λ allowed. allowed ≡ allows_texts self.old.filter self.old.include self.old.exclude (map (text_at self.old.strings) indices.now)) }
         ensures same { self.new ≡ self.old }

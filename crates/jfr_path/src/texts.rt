@@ -1,16 +1,16 @@
-// What a filter says of the texts of threads.
-ghost use Rattle.std.specs.Prelude.{◌≡◌, IfOk};
+//! Matching the names of threads, each only once.
+ghost use Rattle.std.specs.Prelude.{◌≡◌, IfOk, option_and_then};
+ghost use Rattle.std.specs.Str.{chars};
 ghost use Rattle.jfr_chunk.specs.Parts.{AreParts};
-ghost use Rattle.jfr_chunk.specs.Paths.{text_of};
-ghost use Rattle.jfr_filter.specs.Filters.{allows_thread};
+ghost use Rattle.jfr_chunk.specs.Paths.{named_field, text_of};
 ghost use Rattle.jfr_text.specs.Spans.{content_of};
 ghost use Rattle.jfr_text.specs.Strings as strings;
 ghost use Rattle.jfr_value.specs.Nodes.{IsValue, node_of};
-ghost use Rattle.jfr_path.specs.Threads.{allows_behind};
+ghost use Rattle.jfr_path.specs.Threads.{allows_behind, said_of};
 
 use crate::names::{behind_keys, behind_references, named_field};
 use crate::steps::string_of;
-use jfr_base::{NoMemory, Text};
+use jfr_base::NoMemory;
 use jfr_chunk::Chunk;
 use jfr_filter::Filter;
 use jfr_text::{StringSpan, text_of};
@@ -19,15 +19,15 @@ use std::alloc::Global;
 use std::collections::BTreeMap;
 use std::marker::Model;
 
-/// What a filter says of the texts of threads. What it said of a text is kept by the offsets between which
-/// the string stands: many threads may share a string, and even a long one is read and matched only once.
-/// Contracts see the filter and the chunk.
+/// A filter's verdicts on the names of threads. A verdict is kept by the offsets at which the string starts
+/// and ends. Many threads may share a long string, which is then read and matched only once. Contracts see
+/// the filter and the chunk.
 #[derive(Drop)]
 pub(crate) struct TextVerdicts<'c, 'a> {
     alloc: Global,
     filter: &'c Filter,
     chunk: &'c Chunk<'a>,
-    verdicts: BTreeMap<(usize, usize), bool>,
+    verdicts: BTreeMap<(usize, usize), Option<bool>>,
 }
 
 impl<'c, 'a> Model for TextVerdicts<'c, 'a> {
@@ -45,7 +45,7 @@ impl<'c, 'a> Model for TextVerdicts<'c, 'a> {
 }
 
 impl<'c, 'a> TextVerdicts<'c, 'a> {
-    /// Nothing was asked yet. It takes no memory.
+    /// No name has been matched yet. It allocates nothing.
     pub(crate) fn new(
         alloc: Global,
         chunk: &'c Chunk<'a>,
@@ -62,14 +62,15 @@ impl<'c, 'a> TextVerdicts<'c, 'a> {
         }
     }
 
-    /// The chunk whose texts they are.
+    /// The chunk of the names.
     pub(crate) fn chunk(&self) -> &'c Chunk<'a>
         ensures { result.now ≡ self.now.chunk }
     {
         self.chunk
     }
 
-    /// Whether the filter allows the thread behind a value.
+    /// Whether the filter allows the thread that a value leads to: by its Java name if that has a text, else
+    /// by its name in the operating system.
     pub(crate) fn allows_behind(&mut self, thread: &Node<'a>) -> Result<bool, NoMemory>
         requires parts { AreParts self.old.chunk }
         requires value { IsValue self.old.chunk.classes thread.now }
@@ -78,39 +79,63 @@ impl<'c, 'a> TextVerdicts<'c, 'a> {
         ensures same { self.new ≡ self.old }
     {
         let holder = behind_references(self.chunk, thread);
-        match named_field(self.chunk, &holder, "javaName") {
-            Some(name) => self.allows(&name),
-            None => Ok(self.filter.allows_thread(None)),
+        if let Some(allowed) = self.says_by(&holder, "javaName")? {
+            return Ok(allowed);
+        }
+        if let Some(allowed) = self.says_by(&holder, "osName")? {
+            return Ok(allowed);
+        }
+        Ok(self.filter.allows_thread(None))
+    }
+
+    /// Whether the filter allows a thread by its field with this name; `None` exactly if this leads to no
+    /// text.
+    fn says_by(&mut self, holder: &Node<'a>, field: &str) -> Result<Option<bool>, NoMemory>
+        requires parts { AreParts self.old.chunk }
+        requires value { IsValue self.old.chunk.classes holder.now }
+        requires of_chunk { holder.now.bytes.now ≡ self.old.chunk.bytes }
+        ensures ok { IfOk result (λ said. said ≡ said_of self.old.filter (option_and_then (text_of self.old.chunk) (named_field self.old.chunk (chars field.now) (node_of holder.now)))) }
+        ensures same { self.new ≡ self.old }
+    {
+        match named_field(self.chunk, holder, field) {
+            Some(name) => self.says(&name),
+            None => Ok(None),
         }
     }
 
-    /// Whether the filter allows a thread whose name is this value. For all names that lead to one string
-    /// the text is made once, and the filter asked once.
-    fn allows(&mut self, name: &Node<'a>) -> Result<bool, NoMemory>
+    /// Whether the filter allows a thread whose name is this value; `None` exactly if this leads to no text.
+    /// For all values that lead to the same string, its text is made once and matched once.
+    fn says(&mut self, name: &Node<'a>) -> Result<Option<bool>, NoMemory>
         requires parts { AreParts self.old.chunk }
         requires value { IsValue self.old.chunk.classes name.now }
         requires of_chunk { name.now.bytes.now ≡ self.old.chunk.bytes }
-        ensures ok { IfOk result (λ allowed. allowed ≡ allows_thread self.old.filter (text_of self.old.chunk (node_of name.now))) }
+        ensures ok { IfOk result (λ said. said ≡ said_of self.old.filter (text_of self.old.chunk (node_of name.now))) }
         ensures same { self.new ≡ self.old }
     {
         let last = behind_keys(self.chunk, name);
         let Some(span) = string_of(self.chunk, &last) else {
-            return Ok(self.filter.allows_thread(None));
+            return Ok(None);
         };
         let place = (last.at, last.end);
-        if let Some(allowed) = self.verdicts.get(&place) {
-            return Ok(*allowed);
+        if let Some(said) = self.verdicts.get(&place) {
+            return Ok(*said);
         }
-        let allowed = allows_string(self.alloc, self.filter, &span)?;
-        self.verdicts.insert(place, allowed)?;
-        Ok(allowed)
+        let said = said_of_string(self.alloc, self.filter, &span)?;
+        self.verdicts.insert(place, said)?;
+        Ok(said)
     }
 }
 
-/// Whether the filter allows a thread whose name is this string.
-fn allows_string(alloc: Global, filter: &Filter, span: &StringSpan<'_>) -> Result<bool, NoMemory>
-    ensures { IfOk result (λ allowed. allowed ≡ allows_thread filter.now (strings.text_of (content_of span.now))) }
+/// Whether the filter allows a thread whose name is this string; `None` exactly if this has no text.
+fn said_of_string(
+    alloc: Global,
+    filter: &Filter,
+    span: &StringSpan<'_>,
+) -> Result<Option<bool>, NoMemory>
+    ensures { IfOk result (λ said. said ≡ said_of filter.now (strings.text_of (content_of span.now))) }
 {
-    let text = text_of(alloc, span)?;
-    Ok(filter.allows_thread(text.as_ref().map(Text::as_str)))
+    match text_of(alloc, span)? {
+        Some(text) => Ok(Some(filter.allows_thread(Some(text.as_str())))),
+        None => Ok(None),
+    }
 }

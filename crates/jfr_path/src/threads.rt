@@ -1,4 +1,4 @@
-// What a filter says of the threads of a chunk.
+//! A filter's verdicts on the threads of a chunk.
 ghost use Rattle.std.specs.Prelude.{◌≡◌, IfOk, IfSome};
 ghost use Rattle.jfr_chunk.specs.Parts.{AreParts};
 ghost use Rattle.jfr_value.specs.Nodes.{IsValue, node_of};
@@ -14,8 +14,8 @@ use std::alloc::Global;
 use std::collections::BTreeMap;
 use std::marker::Model;
 
-/// What a filter says of the threads of a chunk. What it said of the thread behind a reference is kept by
-/// the reference's class and key. Contracts see the filter and the chunk.
+/// A filter's verdicts on the threads of a chunk. A verdict is kept by the class and the key of the reference
+/// to the thread. Contracts see the filter and the chunk.
 #[derive(Drop)]
 pub(crate) struct ThreadVerdicts<'c, 'a> {
     texts: TextVerdicts<'c, 'a>,
@@ -37,7 +37,7 @@ impl<'c, 'a> Model for ThreadVerdicts<'c, 'a> {
 }
 
 impl<'c, 'a> ThreadVerdicts<'c, 'a> {
-    /// Nothing was asked yet. It takes no memory.
+    /// No thread has been looked up yet. It allocates nothing.
     pub(crate) fn new(
         alloc: Global,
         chunk: &'c Chunk<'a>,
@@ -52,8 +52,8 @@ impl<'c, 'a> ThreadVerdicts<'c, 'a> {
         }
     }
 
-    /// Whether the filter allows the thread behind a value. For all references to one class and key the
-    /// answer is found once.
+    /// Whether the filter allows the thread that a value leads to. For all references with the same class and
+    /// key this is found once.
     pub(crate) fn allows(&mut self, thread: &Node<'a>) -> Result<bool, NoMemory>
         requires parts { AreParts self.old.chunk }
         requires value { IsValue self.old.chunk.classes thread.now }
@@ -73,7 +73,7 @@ impl<'c, 'a> ThreadVerdicts<'c, 'a> {
     }
 }
 
-/// The class and the key of a reference; `None` where the value is none.
+/// The class and the key of a reference; `None` if the value isn't a reference.
 fn referred(chunk: &Chunk<'_>, node: &Node<'_>) -> Option<(u64, u64)>
     requires value { IsValue chunk.now.classes node.now }
     requires of_chunk { node.now.bytes.now ≡ chunk.now.bytes }

@@ -1,4 +1,4 @@
-// What a filter says of the events of a class, before any of them is looked at.
+//! A filter's verdict on all events of a class.
 ghost use Rattle.std.specs.Prelude.{◌≡◌, ◌||◌, IfOk, codes, is_some};
 ghost use Rattle.std.specs.List.{AllZip, list_all};
 ghost use Rattle.jfr_layout.specs.Classes.{field_number};
@@ -12,18 +12,18 @@ use jfr_filter::{Filter, Side};
 use jfr_layout::ClassInfo;
 use std::alloc::Global;
 
-/// What a filter says of the events of a class.
+/// A filter's verdict on the events of a class.
 #[derive(Clone, Copy, Debug)]
 pub(crate) enum ClassVerdict {
-    /// Each is kept.
+    /// All of them are kept.
     Kept,
-    /// None is kept.
+    /// None of them is kept.
     Dropped,
-    /// Those are kept whose thread the filter allows: the one behind the field of this number.
+    /// Those are kept whose thread the filter allows. The field with this number leads to the thread.
     ByThread(usize),
 }
 
-/// The verdict on each class, in their order.
+/// The verdict on each class, in the order of the classes.
 pub(crate) fn verdicts_on(
     alloc: Global,
     chunk: &Chunk<'_>,
@@ -49,7 +49,7 @@ pub(crate) fn are_all_kept(verdicts: &[ClassVerdict]) -> bool
         .all(|verdict| matches!(verdict, ClassVerdict::Kept))
 }
 
-/// The verdict on a class, which the options over events and over categories allow or not.
+/// The verdict on a class. `allowed` is whether the options on events and on categories allow it.
 #[tactic(auto, using(crate::proofs::VerdictLaws::dropped, crate::proofs::VerdictLaws::unasked_kept, crate::proofs::VerdictLaws::threadless_kept, crate::proofs::VerdictLaws::threadless_dropped, crate::proofs::VerdictLaws::asked_by_thread))]
 fn verdict_on(class: &ClassInfo, allowed: bool, filter: &Filter) -> ClassVerdict
     requires { allowed ≡ is_allowed filter.now class.now }
@@ -68,7 +68,7 @@ fn verdict_on(class: &ClassInfo, allowed: bool, filter: &Filter) -> ClassVerdict
     }
 }
 
-/// The number of the field of the thread, where the class has one.
+/// The number of the field that leads to the thread, if the class has it.
 fn thread_field(class: &ClassInfo) -> Option<usize>
     ensures { result ≡ field_number class.now.fields (codes "eventThread") }
 {

@@ -1,24 +1,17 @@
--- What a call over one input says of each of its answers, from what stands after it and the counts.
-use Rattle.std.proofs.Common.{IsSome, IfSome, ◌≡◌, ℕ, ◌<◌, refl, sym, subst, List, [], ◌∷◌, ◌++◌, length, ◌+◌, Option, None, Some, arith}
+-- What a call promises of each of its answers follows from what it leaves and from the counts.
+use Rattle.std.proofs.Common.{IsSome, IfSome, ◌≡◌, ◌≢◌, ℕ, ◌<◌, refl, sym, subst, List, [], ◌∷◌, ◌++◌, length, ◌+◌, Option, None, Some, arith}
 use Rattle.jfr_base.specs.declared.flaw.Flaw.{Flaw}
 use Rattle.jfr_outside.specs.World.{World, Told, file}
 use Rattle.jfr_outside.specs.Counts.{Rose}
 use Rattle.jfr_header.specs.declared.ending.Ending.{Ending}
 use Rattle.jfr_header.specs.declared.ending.Ending.TheVariants.{Done, Refused, ReadFault, WriteFault, TooManyParts, Memory}
-use Rattle.jfr_header.proofs.Steps.{map_told}
 use Rattle.jfr_plan.specs.Ends as ends
 use Rattle.jfr_plan.specs.Ends.{End, Way, Ends, NotRead, NotWritten, NoRoom, way_of}
 use Rattle.jfr_plan.specs.Effects.{Outside, Effect, Create, Append, Stand, stand, done, apply, effects, Cannot}
 use Rattle.jfr_plan.specs.Walks.{Rule, Walk, Target, File, Parts, Text, walk, walk_on, cut_after, plan_after, plan_in}
-use Rattle.jfr_plan.specs.Outcomes.{After, OutcomeIn, HaltedIn, MetIn, Breaks, Kept, CountedWrite, Tallied}
+use Rattle.jfr_plan.specs.Outcomes.{After, HaltedIn, AllDone, Breaks, Kept, CountedWrite, Tallied}
 use Rattle.jfr_plan.specs.Makes.{making, asks_made}
-use Rattle.jfr_plan.specs.Clauses.{Halted, IsPlanned, ByPlan, ForMemory, IsComplete, write_count, CanRead, CanCreate}
-
--- Exactly the effects whose need is met are done.
-pub halted_clause : (r : Rule) (input : List ℕ) (a b : Outside) → After r [] input NotRead a b → Halted r input a b
-halted_clause r input a b t =
-    map_told a.place.told b.place.told (λ w v. HaltedIn a.place.steady r [] (file w input) v.input (stand w a.sink.written) (stand v b.sink.written))
-    (λ w v. MetIn r [] (file w input) v.input (stand w a.sink.written) (stand v b.sink.written)) t (λ w v h. h.0)
+use Rattle.jfr_plan.specs.Clauses.{Task, over, Leaves, Halted, IsPlanned, ByPlan, ForMemory, IsComplete, write_count, Ran, CanCreate}
 
 written_reads : (target : Target) (a b : Outside) → CountedWrite target a b → b.place.read_faults ≡ a.place.read_faults
 written_reads File a b t = t.0
@@ -35,7 +28,7 @@ kept_writes File a b p q = p
 kept_writes Parts a b p q = p
 kept_writes Text a b p q = q
 
--- No answer but a read fault where the count of reads is larger.
+-- If the count of read faults is larger, the ending is a read fault.
 pub reads_clause : (target : Target) (e : Ending) (a b : Outside) → Tallied target (way_of e) a b → (e ≡ ReadFault → ⊥) → b.place.read_faults ≡ a.place.read_faults
 reads_clause target Done a b t n = t.1.0
 reads_clause target (Refused r) a b t n = t.1.0
@@ -52,7 +45,7 @@ no_read_passed target WriteFault a b t h = absurd (let k = written_reads target 
 no_read_passed target TooManyParts a b t h = absurd (omega (arith, t.1.0, h))
 no_read_passed target Memory a b t h = absurd (omega (arith, t.0, h))
 
--- No answer but a write fault where the count of writes is larger.
+-- If the count of write faults is larger, the ending is a write fault.
 pub writes_clause : (target : Target) (e : Ending) (a b : Outside) → Tallied target (way_of e) a b → (e ≡ WriteFault → ⊥) → write_count target b ≡ write_count target a
 writes_clause target Done a b t n = kept_writes target a b t.1.1 t.1.2
 writes_clause target (Refused r) a b t n = kept_writes target a b t.1.1 t.1.2
@@ -79,12 +72,21 @@ read_rose target e a b t is = let k : Tallied target NotRead a b = subst (λ (y 
 pub write_rose : (target : Target) (e : Ending) (a b : Outside) → Tallied target (way_of e) a b → e ≡ WriteFault → Rose (write_count target a) (write_count target b)
 write_rose target e a b t is = written_rose target a b (subst (λ (y : Ending). Tallied target (way_of y) a b) is t)
 
-file_parts : File ≡ Parts → ⊥
-file_parts e = cc
+-- Only parts are too many.
+parts_clause : (target : Target) (e : Ending) (a b : Outside) → Tallied target (way_of e) a b → e ≡ TooManyParts → target ≡ Parts
+parts_clause target e a b t is = let k : Tallied target (Ends ends.TooMany) a b = subst (λ (y : Ending). Tallied target (way_of y) a b) is t in k.0
 
--- One file is never too many parts.
-pub no_parts : (e : Ending) (a b : Outside) → Tallied File (way_of e) a b → e ≡ TooManyParts → ⊥
-no_parts e a b t is = let k : Tallied File (Ends ends.TooMany) a b = subst (λ (y : Ending). Tallied File (way_of y) a b) is t in file_parts k.0
+written_steady : (target : Target) (a b : Outside) → CountedWrite target a b → b.place.steady ≡ a.place.steady
+written_steady File a b t = t.3
+written_steady Parts a b t = t.3
+written_steady Text a b t = t.3
+
+-- A steady place stays steady.
+pub same_clause : (target : Target) (way : Way) (a b : Outside) → Tallied target way a b → b.place.steady ≡ a.place.steady
+same_clause target (Ends e) a b t = t.1.3
+same_clause target NotRead a b t = t.3
+same_clause target NotWritten a b t = written_steady target a b t
+same_clause target NoRoom a b t = t.3
 
 before_of : (b a : Option World) (P : World → World → Type 0) (F : World → Type 0) → Told b a P → ((w v : World) → P w v → F w) → IfSome b F
 before_of None a P F t f = tt
@@ -96,11 +98,11 @@ if_all None F f = tt
 if_all (Some w) F f = f w
 
 -- The plan's end, or want of memory.
-pub complete_clause : (r : Rule) (input : List ℕ) (way : Way) (a b : Outside) → After r [] input way a b → Tallied r.target way a b → IsComplete r input way a b
-complete_clause r input (Ends e) a b t c = λ p q. before_of a.place.told b.place.told (λ w v. OutcomeIn a.place.steady r [] (file w input) v.input (Ends e) (stand w a.sink.written) (stand v b.sink.written)) (λ w. IsPlanned (Ends e) (plan_in r input w).end) t (λ w v h. ByPlan e refl h.end)
-complete_clause r input NotRead a b t c = λ p q. absurd (p c.0.1)
-complete_clause r input NotWritten a b t c = λ p q. absurd (q (written_rose r.target a b c))
-complete_clause r input NoRoom a b t c = λ p q. if_all a.place.told (λ w. IsPlanned NoRoom (plan_in r input w).end) (λ w. ForMemory refl)
+complete_clause : (k : Task) (way : Way) (a b : Outside) → Leaves k way a b → Tallied k.target way a b → IsComplete k way a b
+complete_clause k (Ends e) a b t c = λ p q. before_of a.place.told b.place.told (λ w v. AllDone (k.plan w) e (stand w a.sink.written) (stand v b.sink.written)) (λ w. IsPlanned (Ends e) (k.plan w).end) t (λ w v h. ByPlan e refl h.end)
+complete_clause k NotRead a b t c = λ p q. absurd (p c.0.1)
+complete_clause k NotWritten a b t c = λ p q. absurd (q (written_rose k.target a b c))
+complete_clause k NoRoom a b t c = λ p q. if_all a.place.told (λ w. IsPlanned NoRoom (k.plan w).end) (λ w. ForMemory refl)
 
 some_none : (o : Option (List ℕ)) → o ≡ None → IsSome o → ⊥
 some_none None e h = cc
@@ -109,12 +111,42 @@ some_none (Some x) e h = cc
 told_at : (b : Option World) (w : World) (F : World → Type 0) → b ≡ Some w → IfSome b F → F w
 told_at b w F e h = let k : IfSome (Some w) F = subst (λ (o : Option World). IfSome o F) e h in k
 
+-- Where all can be read, no read fault leaves anything.
+abbrev pub NeverHalts : Task → Type 0
+NeverHalts k = (a b : Outside) → k.Readable a.place → Halted k a b → ⊥
+
+-- All that a call promises follows from what it leaves and from the counts.
+pub ran : (k : Task) (e : Ending) (a b : Outside) → NeverHalts k → Leaves k (way_of e) a b → Tallied k.target (way_of e) a b → Ran k e a b
+ran k e a b never t c =
+    let by : (x : Ending) → e ≡ x → Leaves k (way_of x) a b = λ x is. subst (λ (y : Ending). Leaves k (way_of y) a b) is t in
+    let no : k.Readable a.place → e ≡ ReadFault → ⊥ = λ can is. never a b can (by ReadFault is) in
+    record {
+      told = t;
+      counts = c;
+      done = by Done;
+      refused = λ r. by (Refused r);
+      halted = by ReadFault;
+      broken = by WriteFault;
+      memory = by Memory;
+      read_fault = read_rose k.target e a b c;
+      write_fault = write_rose k.target e a b c;
+      no_read_passed = no_read_passed k.target e a b c;
+      no_write_passed = no_write_passed k.target e a b c;
+      complete = complete_clause k (way_of e) a b t c;
+      parts = parts_clause k.target e a b c;
+      can_read = λ can. (no can, reads_clause k.target e a b c (no can));
+      same = same_clause k.target (way_of e) a b c;
+    }
+
 -- A steady place that has the file gives no read fault.
-pub can_read : (r : Rule) (input : List ℕ) (e : Ending) (a b : Outside) → CanRead input a.place → After r [] input (way_of e) a b → e ≡ ReadFault → ⊥
-can_read r input e a b c t is =
-    let k : After r [] input NotRead a b = subst (λ (y : Ending). After r [] input (way_of y) a b) is t in
-    let none = told_at a.place.told c.world (λ w. file w input ≡ None) c.told (before_of a.place.told b.place.told (λ w v. HaltedIn a.place.steady r [] (file w input) v.input (stand w a.sink.written) (stand v b.sink.written)) (λ w. file w input ≡ None) k (λ w v h. h.1 c.steady)) in
+never_halts : (r : Rule) (input : List ℕ) → NeverHalts (over r input)
+never_halts r input a b c h =
+    let none = told_at a.place.told c.world (λ w. file w input ≡ None) c.told (before_of a.place.told b.place.told (λ w v. HaltedIn a.place.steady r [] (file w input) v.input (stand w a.sink.written) (stand v b.sink.written)) (λ w. file w input ≡ None) h (λ w v z. z.1 c.steady)) in
     some_none (file c.world input) none c.there
+
+-- A rule over one input.
+pub ran_over : (r : Rule) (input : List ℕ) (e : Ending) (a b : Outside) → After r [] input (way_of e) a b → Tallied r.target (way_of e) a b → Ran (over r input) e a b
+ran_over r input e a b t c = ran (over r input) e a b (never_halts r input) t c
 
 -- The effects can be done one after another.
 abbrev pub Cans : List Effect → Stand → Type 0
@@ -151,12 +183,17 @@ cans_plan : (k : List ℕ → Option Flaw) (m : List ℕ → List ℕ) (output :
 cans_plan k m output None s h = tt
 cans_plan k m output (Some x) s h = (h, cans_walk k m output output [] (cut_after [] x).chunks (cut_after [] x).flaw (apply (Create output) s) refl)
 
--- A steady place without an open output gives no write fault for a new name.
-pub can_create : (k : List ℕ → Option Flaw) (m : List ℕ → List ℕ) (input output : List ℕ) (e : Ending) (a b : Outside) → CanCreate output a.place → After (making output k m) [] input (way_of e) a b → e ≡ WriteFault → ⊥
-can_create k m input output e a b c t is =
+no_write_fault : (k : List ℕ → Option Flaw) (m : List ℕ → List ℕ) (input output : List ℕ) (e : Ending) (a b : Outside) → CanCreate output a.place → After (making output k m) [] input (way_of e) a b → e ≡ WriteFault → ⊥
+no_write_fault k m input output e a b c t is =
     let r = making output k m in
     let h : After r [] input NotWritten a b = subst (λ (y : Ending). After r [] input (way_of y) a b) is t in
     told_at a.place.told c.world (λ w. (file w output ≡ None) → (w.output ≡ None) → ⊥) c.told
     (before_of a.place.told b.place.told (λ w v. Breaks a.place.steady (effects (plan_in r input w).steps) (stand w a.sink.written) (stand v b.sink.written)) (λ w. (file w output ≡ None) → (w.output ≡ None) → ⊥) h
     (λ w v z new none. none_breaks (effects (plan_in r input w).steps) z.first z.rest z.failed (stand w a.sink.written) (cans_plan k m output (file w input) (stand w a.sink.written) (λ y. some_none w.output none (y new))) z.parts (z.cause c.steady)))
     c.new c.closed
+
+-- A steady place without an open output gives no write fault for a new name.
+pub can_create : (k : List ℕ → Option Flaw) (m : List ℕ → List ℕ) (input output : List ℕ) (e : Ending) (a b : Outside) → After (making output k m) [] input (way_of e) a b → Tallied File (way_of e) a b → CanCreate output a.place → (e ≢ WriteFault) × (b.place.write_faults ≡ a.place.write_faults)
+can_create k m input output e a b t c can =
+    let no = no_write_fault k m input output e a b can t in
+    (no, writes_clause File e a b c no)

@@ -1,4 +1,4 @@
--- What a command leaves where a call on the outside is all that a part does, by what the call answered.
+-- The state after a part that only makes one call outside, by the result of this call.
 use Rattle.std.proofs.Common.{IsTrue, ◌≡◌, ℕ, ◌∙◌, refl, subst, ap, Bool, true, not, ◌&&◌, List, [], ◌∷◌, take, Option, None, Some, option_map, IfSome, IsSome, OnOk, Result, Ok, Err, sym}
 use Rattle.std.specs.Prelude.{is_some, MatchResult, IsErrAnd, IsErrOf}
 use Rattle.jfr_base.specs.declared.flaw.Flaw.{Flaw}
@@ -36,7 +36,7 @@ one_done st a e x p w v is i s = (i, subst (λ (y : Asked). IsGoing y × (stand 
 one_failed : (st : Bool) (a : Asked) (e : Effect) (p : Option (List ℕ)) (w v : World) (k : ℕ) → a ≡ Goes (e ∷ []) → v.input ≡ w.input → stand v p ≡ broken k e (stand w p) → (IsTrue st → Cannot e (stand w p)) → PartTold st a (Err WriteFault) p p w v
 one_failed st a e p w v k is i s c = (i, record { first = []; failed = e; rest = []; bytes = k; parts = ap asked is; stands = s; cause = c })
 
--- For want of memory nothing is done.
+-- If memory runs out, nothing is done.
 none_done : (st : Bool) (a : Asked) (p : Option (List ℕ)) (w : World) → PartTold st a (Err Memory) p p w w
 none_done st a p w = (refl, record { first = []; rest = asked a; parts = refl; stands = refl })
 
@@ -70,7 +70,7 @@ finish_leaves st p (Some w) a r z h t o c =
     (λ e. rw (rw e at t) (one_failed st asks Finish p w (finished w) 0 refl refl refl (λ y. c y e)))
     (λ e. rw (rw e at t) (none_done st asks p w))
 
--- The count of writes to the place rises where the write failed, and the other counts stay.
+-- The count of write faults of the place rises if the write failed, and the other counts don't change.
 pub write_tallied : (r : Result (Unit {0}) Fault) (z : Result (Unit {0}) Ending) (a b : Outside) → Passes r z → Kept a.place.read_faults b.place.read_faults → Counts r a.place.write_faults b.place.write_faults → Kept a.sink.faults b.sink.faults → b.place.steady ≡ a.place.steady → PartTallied File z a b × PartTallied Parts z a b
 write_tallied r z a b h reads writes texts steady =
     passed (λ y. PartTallied File y a b × PartTallied Parts y a b) r z h

@@ -1,4 +1,4 @@
--- How a command stands between two chunks, and what each exit of the loop makes of it.
+-- The state of a command between two chunks, and after each exit of the loop.
 use Rattle.std.proofs.Common.{IsTrue, ◌≡◌, ℕ, ◌+◌, ◌<◌, refl, sym, ◌∙◌, ap, subst, Bool, true, false, not, List, [], ◌∷◌, ◌++◌, length, Option, None, Some, option_map, IfSome, arith, append_assoc, append-nil, length-append}
 use Rattle.jfr_base.specs.declared.flaw.Flaw.{Flaw}
 use Rattle.jfr_base.specs.declared.flaw.Refusal.{Refusal}
@@ -38,7 +38,7 @@ begin r earlier input x start number o p w v a n f i s = record {
   stands = s ∙ ap (λ (l : List Effect). done l (stand w o)) (sym (append-nil r.opens));
 }
 
--- The plan, from where the command stands.
+-- The plan, from the command's current state on.
 pub rest_of : (r : Rule) (earlier : List (List ℕ)) (input : List ℕ) (start number : ℕ) (given : Bool) (o p : Option (List ℕ)) (w v : World) (g : Going r earlier input start number given o p w v) → FromHere r earlier (file w input) g.before (walk r (earlier ++ g.before) g.cuts.chunks g.cuts.flaw)
 rest_of r earlier input start number given o p w v g =
     subst (λ (y : Option (List ℕ)). FromHere r earlier y g.before (walk r (earlier ++ g.before) g.cuts.chunks g.cuts.flaw)) (sym g.file_is) (from_here r earlier g.x g.before g.cuts.chunks g.cuts.flaw g.chunks g.flaw g.go)
@@ -52,7 +52,7 @@ partly st r earlier input start number given o p q w v u g s =
     let h = rest_of r earlier input start number given o p w v g in
     record { first = r.opens ++ gone r earlier g.before; rest = effects (walk r (earlier ++ g.before) g.cuts.chunks g.cuts.flaw).steps; parts = h.steps; stands = s ∙ g.stands }
 
--- The front of what is left is what the cutter found.
+-- The cutter found the chunk at the start of what is left.
 pub front_is : (r : Rule) (earlier : List (List ℕ)) (input : List ℕ) (number : ℕ) (o p : Option (List ℕ)) (c : Cutter) (f : Front) (bytes : List ℕ) (w v u : World) (g : Going r earlier input c.start number c.given o p w v) → Found c f bytes v u → front g.left c.start (not c.given) ≡ f
 front_is r earlier input number o p c f bytes w v u g k =
     ap (λ (l : List ℕ). front l c.start (not c.given)) (same_some g.left k.rest (sym g.input_is ∙ k.input)) ∙ k.is

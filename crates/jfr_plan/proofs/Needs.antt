@@ -11,7 +11,7 @@ use Rattle.jfr_plan.specs.Outcomes.{NeedsMet, IsBelowHeader, held, held_count}
 use Rattle.jfr_header.proofs.Cutting.{cut_open}
 use Rattle.jfr_plan.proofs.Walking.{effects_needing, effects_append}
 
--- Where a chunk stands in front, the reach is its length, and it is 68 for a flaw of the header.
+-- If a chunk is first, the reach is its length; for a flaw of the header it is 68.
 abbrev pub Reaches : ℕ → Front → Type 0
 Reaches n (Bad f) = is_header f.reason ≡ true → n ≡ 68
 Reaches n End = Unit {0}
@@ -37,7 +37,7 @@ none_whole_by n m (Chunk c) next h k = grind (arith, common_steps)
 pub none_whole : (n : ℕ) (x : List ℕ) (s : ℕ) (f : Bool) → n < reach x → whole_in n (cut x s f).chunks ≡ 0
 none_whole n x s f k = ap (λ (y : Cuts). whole_in n y.chunks) (cut_open x s f) ∙ none_whole_by n (reach x) (front x s f) (λ c. cut_within (length x) (drop (length c) x) (s + length c) false) (reaches x s f) k
 
--- The same, where what is refused for its header has a flaw.
+-- The same, if what is refused for its header has a flaw.
 abbrev pub BelowHeader : ℕ → Cuts → Type 0
 BelowHeader n y = IfSome y.flaw (IsBelowHeader y n)
 
@@ -115,7 +115,7 @@ on_none : (a : Asked) (n k : ℕ) (later : Walk) → n < k → keep_met (Some n)
 on_none (Stops e) n k later h e' = refl
 on_none (Goes es) n k later h e' = keep_append (Some n) (needing (Chunks k) es) later.steps ∙ ap (λ (l : List Step). l ++ keep_met (Some n) later.steps) (keep_none (Some n) (Chunks k) es (unmet k n h)) ∙ e'
 
--- The steps from some chunks on aren't met by as many chunks.
+-- The needs of the steps from chunk n on aren't met by n chunks.
 pub kept_none : (r : Rule) (n : ℕ) (p q : List (List ℕ)) (flaw : Option Flaw) → n ≤ length p → keep_met (Some n) (walk r p q flaw).steps ≡ []
 kept_none r n p [] flaw h = end_none r n p flaw
 kept_none r n p (c ∷ q) flaw h =
@@ -149,7 +149,7 @@ below_after : (n : ℕ) (p : List ℕ) (cs : List ℕ) (o : Option Flaw) → IfS
 below_after n p cs None h = tt
 below_after n p cs (Some f) h = λ y. let k : n < length cs + 68 = h y in let l : length (p ++ cs) ≡ length p + length cs = length-append p cs in omega (arith, l, k)
 
--- What is known where a read failed after these chunks.
+-- What is known if a read failed after these chunks.
 pub record Stuck (r : Rule) (earlier : List (List ℕ)) (x left : List ℕ) (before : List (List ℕ)) (bytes : List ℕ) : Type 0 where
   pub rest : List ℕ
   pub start : ℕ
@@ -179,7 +179,7 @@ stuck_chunks r earlier x left before bytes h =
     ap (λ (n : ℕ). take n (cut_after earlier x).chunks) (stuck_count r earlier x left before bytes h)
     ∙ ap (take (length before)) h.chunks ∙ take_first before (cut h.rest h.start h.first).chunks
 
--- The effects whose need is met by as many chunks as go on are theirs.
+-- The effects whose needs are met by the chunks at which the command doesn't end are those for these chunks.
 kept_is : (r : Rule) (earlier : List (List ℕ)) (x : List ℕ) (before later : List (List ℕ)) → (cut_after earlier x).chunks ≡ before ++ later → AllGo r earlier before → effects (keep_met (Some (length earlier + length before)) (plan_after r earlier (Some x)).steps) ≡ r.opens ++ gone r earlier before
 kept_is r earlier x before later cs go =
     let n = length earlier + length before in

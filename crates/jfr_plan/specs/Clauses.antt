@@ -1,45 +1,22 @@
--- What a call over one input says of each of its answers.
-use Rattle.std.specs.Prelude.{◌≡◌, ℕ, List, [], Option, None, Some, IsTrue, IsSome, IfSome}
+-- What a call promises of each of its answers.
+use Rattle.std.specs.Prelude.{◌≡◌, ◌≢◌, ◌<◌, ℕ, Bool, List, [], Option, None, Some, IsTrue, IsSome, IfSome}
+use Rattle.jfr_base.specs.declared.flaw.Refusal.{Refusal}
 use Rattle.jfr_outside.specs.World.{World, State, Told, file}
 use Rattle.jfr_outside.specs.Counts.{Rose}
-use Rattle.jfr_plan.specs.Ends.{End, Way, Ends, NoRoom}
-use Rattle.jfr_plan.specs.Effects.{Outside, stand, effects}
+use Rattle.jfr_header.specs.declared.ending.Ending.{Ending}
+use Rattle.jfr_header.specs.declared.ending.Ending.TheVariants as ending
+use Rattle.jfr_plan.specs.Ends.{End, Fine, Refused, Way, Ends, NoRoom, way_of}
+use Rattle.jfr_plan.specs.Effects.{Outside, Plan, Stand, stand, effects}
 use Rattle.jfr_plan.specs.Walks.{Rule, Target, File, Parts, Text, plan_in}
-use Rattle.jfr_plan.specs.Outcomes.{AllDone, SomeDone, Breaks, MetIn}
+use Rattle.jfr_plan.specs.Outcomes.{Outcome, AllDone, SomeDone, Breaks, HaltedIn, Tallied}
 
--- The plan ends so, and all its effects are done.
-abbrev pub Ended : Rule → List ℕ → End → Outside → Outside → Type 0
-Ended r input e a b = Told a.place.told b.place.told (λ w v. AllDone (plan_in r input w) e (stand w a.sink.written) (stand v b.sink.written))
-
--- Exactly the effects whose need is met are done.
-abbrev pub Halted : Rule → List ℕ → Outside → Outside → Type 0
-Halted r input a b = Told a.place.told b.place.told (λ w v. MetIn r [] (file w input) v.input (stand w a.sink.written) (stand v b.sink.written))
-
--- The first effects are done, and of the next one, which failed, a prefix of its bytes.
-abbrev pub Broken : Rule → List ℕ → Outside → Outside → Type 0
-Broken r input a b = Told a.place.told b.place.told (λ w v. Breaks a.place.steady (effects (plan_in r input w).steps) (stand w a.sink.written) (stand v b.sink.written))
-
--- The first effects are done.
-abbrev pub Partly : Rule → List ℕ → Outside → Outside → Type 0
-Partly r input a b = Told a.place.told b.place.told (λ w v. SomeDone (effects (plan_in r input w).steps) (stand w a.sink.written) (stand v b.sink.written))
-
--- The way is the plan's end, or memory was wanting.
-pub data IsPlanned (way : Way) (o : Option End) : Type 0 where
-  ByPlan : (e : End) → way ≡ Ends e → o ≡ Some e → IsPlanned way o
-  ForMemory : way ≡ NoRoom → IsPlanned way o
-
--- The count that a write fault of a command is by.
-abbrev pub write_count : Target → Outside → ℕ
-write_count File a = a.place.write_faults
-write_count Parts a = a.place.write_faults
-write_count Text a = a.sink.faults
-
--- Where the place tells its files and neither count rose, the way is the plan's end, or memory was wanting.
-abbrev pub IsComplete : Rule → List ℕ → Way → Outside → Outside → Type 0
-IsComplete r input way a b =
-    (Rose a.place.read_faults b.place.read_faults → ⊥)
-    → (Rose (write_count r.target a) (write_count r.target b) → ⊥)
-    → IfSome a.place.told (λ w. IsPlanned way (plan_in r input w).end)
+-- What a call has to do: its plan, by what the place holds; what a read fault leaves, on a steady place or
+-- another; where it can read all that it reads; and what it writes.
+pub record Task : Type 1 where
+  pub plan : World → Plan
+  pub Halts : Bool → World → World → Stand → Stand → Type 0
+  pub Readable : State → Type 0
+  pub target : Target
 
 -- The place is steady, and the file is there.
 pub record CanRead (input : List ℕ) (s : State) : Type 0 where
@@ -47,6 +24,80 @@ pub record CanRead (input : List ℕ) (s : State) : Type 0 where
   pub world : World
   pub told : s.told ≡ Some world
   pub there : IsSome (file world input)
+
+-- A rule over the one input of this name.
+abbrev pub over : Rule → List ℕ → Task
+over r input = record {
+  plan = plan_in r input;
+  Halts = λ steady w v. HaltedIn steady r [] (file w input) v.input;
+  Readable = CanRead input;
+  target = r.target;
+}
+
+-- A claim on what is there before and after a call, if the place tells its files.
+abbrev pub Stands : Outside → Outside → (World → World → Stand → Stand → Type 0) → Type 0
+Stands a b P = Told a.place.told b.place.told (λ w v. P w v (stand w a.sink.written) (stand v b.sink.written))
+
+-- What a task leaves, by the way that it ended.
+abbrev pub Leaves : Task → Way → Outside → Outside → Type 0
+Leaves k way a b = Stands a b (λ w v. Outcome a.place.steady (k.plan w) (k.Halts a.place.steady w v) way)
+
+-- The plan ends so, and all its effects are done.
+abbrev pub Ended : Task → End → Outside → Outside → Type 0
+Ended k e a b = Stands a b (λ w v. AllDone (k.plan w) e)
+
+-- A read failed: over one input exactly the effects are done whose need is met.
+abbrev pub Halted : Task → Outside → Outside → Type 0
+Halted k a b = Stands a b (k.Halts a.place.steady)
+
+-- The first effects are done, and of the next one, which failed, a prefix of its bytes.
+abbrev pub Broken : Task → Outside → Outside → Type 0
+Broken k a b = Stands a b (λ w v. Breaks a.place.steady (effects (k.plan w).steps))
+
+-- The first effects are done.
+abbrev pub Partly : Task → Outside → Outside → Type 0
+Partly k a b = Stands a b (λ w v. SomeDone (effects (k.plan w).steps))
+
+-- The way is the plan's end, or memory ran out.
+pub data IsPlanned (way : Way) (o : Option End) : Type 0 where
+  ByPlan : (e : End) → way ≡ Ends e → o ≡ Some e → IsPlanned way o
+  ForMemory : way ≡ NoRoom → IsPlanned way o
+
+-- The count of write faults for a command with this target.
+abbrev pub write_count : Target → Outside → ℕ
+write_count File a = a.place.write_faults
+write_count Parts a = a.place.write_faults
+write_count Text a = a.sink.faults
+
+-- If the place tells its files and neither count rose, the way is the plan's end, or memory ran out.
+abbrev pub IsComplete : Task → Way → Outside → Outside → Type 0
+IsComplete k way a b =
+    (Rose a.place.read_faults b.place.read_faults → ⊥)
+    → (Rose (write_count k.target a) (write_count k.target b) → ⊥)
+    → IfSome a.place.told (λ w. IsPlanned way (k.plan w).end)
+
+-- What a call that carries out a task promises, by its answer.
+pub record Ran (task : Task) (result : Ending) (before after : Outside) : Type 0 where
+  -- What is there after the call, and which counts rose, by the answer.
+  pub told : Leaves task (way_of result) before after
+  pub counts : Tallied task.target (way_of result) before after
+  -- What is there after each answer, if the place tells its files.
+  pub done : result ≡ ending.Done → Ended task Fine before after
+  pub refused : (r : Refusal) → result ≡ ending.Refused r → Ended task (Refused r) before after
+  pub halted : result ≡ ending.ReadFault → Halted task before after
+  pub broken : result ≡ ending.WriteFault → Broken task before after
+  pub memory : result ≡ ending.Memory → Partly task before after
+  -- A fault is answered only if it was counted, and none is passed over.
+  pub read_fault : result ≡ ending.ReadFault → Rose before.place.read_faults after.place.read_faults
+  pub write_fault : result ≡ ending.WriteFault → Rose (write_count task.target before) (write_count task.target after)
+  pub no_read_passed : before.place.read_faults < after.place.read_faults → result ≡ ending.ReadFault
+  pub no_write_passed : write_count task.target before < write_count task.target after → result ≡ ending.WriteFault
+  -- Without a fault the answer is the plan's end, or memory ran out. Only parts can be too many.
+  pub complete : IsComplete task (way_of result) before after
+  pub parts : result ≡ ending.TooManyParts → task.target ≡ Parts
+  -- The call brings no read fault about by itself, and leaves a steady place steady.
+  pub can_read : task.Readable before.place → (result ≢ ending.ReadFault) × (after.place.read_faults ≡ before.place.read_faults)
+  pub same : after.place.steady ≡ before.place.steady
 
 -- The place is steady, no file has the name, and no output is open.
 pub record CanCreate (output : List ℕ) (s : State) : Type 0 where

@@ -4,78 +4,79 @@ use Rattle.jfr_outside.specs.World.{World, State, SinkState, Files, added, grown
 use Rattle.jfr_plan.specs.Ends.{End}
 use Rattle.std.specs.FinMap as fin
 
--- What is seen of a place and of the output sink.
+-- The state of a place and of the output sink.
 pub record Outside : Type 0 where
   pub place : State
   pub sink : SinkState
 
--- These two as one.
+-- The two states as one.
 abbrev pub outside : State → SinkState → Outside
 outside place sink = record { place = place; sink = sink }
 
--- A place alone, beside a sink that tells nothing.
+-- The state of a place, with a sink of which nothing is known.
 abbrev pub alone : State → Outside
 alone place = outside place (record { written = None; faults = 0 })
 
--- The files, the name of the open output, the text on the output sink, where it tells it, and whether each
--- effect so far could be done.
+-- The state that effects change: the files, the name of the open output, the text on the output sink if it is
+-- known, and whether each effect so far could be done.
 pub record Stand : Type 0 where
   pub files : Files
   pub output : Option (List ℕ)
   pub text : Option (List ℕ)
   pub sound : Bool
 
--- What stands at the beginning, by what a place and a sink tell.
+-- The state before any effect, given those of a place and a sink.
 abbrev pub stand : World → Option (List ℕ) → Stand
 stand w text = record { files = w.files; output = w.output; text = text; sound = true }
 
--- One thing done outside: a file is created as the output, the output grows, it is finished, or text is
--- written.
+-- An effect: a file is created as the output, bytes are appended to the output, the output is finished, or
+-- text is written.
 pub data Effect : Type 0 where
   Create : List ℕ → Effect
   Append : List ℕ → Effect
   Finish : Effect
   Write : List ℕ → Effect
 
--- What stands after an effect.
+-- The state after an effect.
 abbrev pub apply : Effect → Stand → Stand
 apply (Create name) s = record s { files = fin.insert s.files name []; output = Some name; sound = s.sound && not (is_some (fin.get s.files name)) && not (is_some s.output) }
 apply (Append bytes) s = record s { files = grown s.output bytes s.files; sound = s.sound && is_some s.output }
 apply Finish s = record s { output = None; sound = s.sound && is_some s.output }
 apply (Write bytes) s = record s { text = option_map (added bytes) s.text }
 
--- What stands after effects, one after another.
+-- The state after these effects, one after another.
 abbrev pub done : List Effect → Stand → Stand
 done [] s = s
 done (e ∷ es) s = done es (apply e s)
 
--- What stands after an effect that failed: no open output, or the first k of its bytes.
+-- The state after an effect that failed: no output is open, or only the first k of the bytes were written.
 abbrev pub broken : ℕ → Effect → Stand → Stand
 broken k (Create name) s = record s { output = None }
 broken k (Append bytes) s = record s { files = grown s.output (take k bytes) s.files }
 broken k Finish s = record s { output = None }
 broken k (Write bytes) s = apply (Write (take k bytes)) s
 
--- When a steady place may refuse an effect; a sink may refuse any text.
+-- When a steady place may fail at an effect. A sink may fail at any text.
 abbrev pub Cannot : Effect → Stand → Type 0
 Cannot (Create name) s = (fin.get s.files name ≡ None) → IsSome s.output
 Cannot (Append bytes) s = s.output ≡ None
 Cannot Finish s = s.output ≡ None
 Cannot (Write bytes) s = Unit {0}
 
--- What must have come before an effect: nothing, the opening of the input, its first n chunks, or its end.
+-- What must have happened before an effect: nothing, the opening of the input, the reading of its first n
+-- chunks, or its end.
 pub data Need : Type 0 where
   Nothing : Need
   Opened : Need
   Chunks : ℕ → Need
   AtEnd : Need
 
--- An effect, and what must have come before it.
+-- An effect, and what must have happened before it.
 pub record Step : Type 0 where
   pub need : Need
   pub effect : Effect
 
--- These effects as steps, each with this need.
+-- These effects as steps with this need.
 abbrev pub needing : Need → List Effect → List Step
 needing n es = map (λ e. record { need = n; effect = e }) es
 
@@ -83,7 +84,7 @@ needing n es = map (λ e. record { need = n; effect = e }) es
 abbrev pub effects : List Step → List Effect
 effects ss = map (λ s. s.effect) ss
 
--- Whether a need is met where so many chunks were taken whole; `None` where no input is open.
+-- Whether a need is met after this number of whole chunks was read; `None` means that no input is open.
 abbrev pub is_met : Option ℕ → Need → Bool
 is_met o Nothing = true
 is_met (Some n) (Chunks k) = nat_le k n
@@ -99,7 +100,7 @@ keep_met o (s ∷ ss) = keep_one (is_met o s.need) s (keep_met o ss)
     keep_one true s ss = s ∷ ss
     keep_one false s ss = ss
 
--- Steps and an end; no end where a file that is to be opened isn't there.
+-- The steps of a command, and its end; no end if the file to open doesn't exist.
 pub record Plan : Type 0 where
   pub steps : List Step
   pub end : Option End

@@ -1,4 +1,4 @@
--- How a plan ends, and how a command ends.
+-- The ends of plans and of commands.
 use Rattle.std.specs.Prelude.{ℕ}
 use Rattle.jfr_base.specs.declared.flaw.Flaw.{Flaw}
 use Rattle.jfr_base.specs.declared.flaw.Refusal.{Refusal}
@@ -6,21 +6,21 @@ use Rattle.jfr_header.specs.Nexts.{at_chunk}
 use Rattle.jfr_header.specs.declared.ending.Ending.{Ending}
 use Rattle.jfr_header.specs.declared.ending.Ending.TheVariants as ending
 
--- The end of a plan: its input was read to the end, a chunk is refused, or there would be too many parts.
+-- The end of a plan: the input is read to its end, a chunk is refused, or there would be too many parts.
 pub data End : Type 0 where
   Fine : End
   Refused : Refusal → End
   TooMany : End
 
--- How a command ends: as its plan does, or earlier, since a read failed, a write failed, or memory was
--- wanting.
+-- The end of a command: that of its plan, or an earlier one because a read failed, a write failed, or memory
+-- ran out.
 pub data Way : Type 0 where
   Ends : End → Way
   NotRead : Way
   NotWritten : Way
   NoRoom : Way
 
--- The way that an answer tells.
+-- The end that the code's value stands for.
 abbrev pub way_of : Ending → Way
 way_of ending.Done = Ends Fine
 way_of (ending.Refused r) = Ends (Refused r)

@@ -1,15 +1,16 @@
--- How a command stands between two chunks of its input.
+-- The state of a command between two chunks of its input.
 use Rattle.std.specs.Prelude.{◌≡◌, ℕ, ◌+◌, Bool, not, List, ◌++◌, length, Option, Some, IfSome}
 use Rattle.jfr_outside.specs.World.{World, file}
 use Rattle.jfr_header.specs.Cuts.{Cuts, cut, joined}
 use Rattle.jfr_plan.specs.Effects.{stand, done}
 use Rattle.jfr_plan.specs.Walks.{Rule, cut_after, gone, AllGo}
 
--- A chunk that comes after these starts at this byte of the recording and has this number.
+-- The chunk after these starts at this byte of the recording and has this number.
 abbrev pub IsAt : List (List ℕ) → ℕ → ℕ → Type 0
 IsAt earlier start number = (start ≡ length (joined earlier)) × (number ≡ length earlier + 1)
 
--- The chunks before went on, and `left` is left, which begins at byte `start` of the recording.
+-- The command did not end at the chunks before. `left` is left of the input, and starts at byte `start` of
+-- the recording.
 pub record Going (r : Rule) (earlier : List (List ℕ)) (input : List ℕ) (start number : ℕ) (given : Bool) (o p : Option (List ℕ)) (w v : World) : Type 0 where
   pub x : List ℕ
   pub file_is : file w input ≡ Some x
@@ -26,11 +27,12 @@ pub record Going (r : Rule) (earlier : List (List ℕ)) (input : List ℕ) (star
   pub start_is : start ≡ length (joined (earlier ++ before))
   pub stands : stand v p ≡ done (r.opens ++ gone r earlier before) (stand w o)
 
--- A stage has seen the chunks so far.
+-- As `Going`, for a stage whose state is that after the chunks so far.
 pub record Staged (r : Rule) (earlier : List (List ℕ)) (Seen : List (List ℕ) → Type 0) (input : List ℕ) (start number : ℕ) (given : Bool) (o p : Option (List ℕ)) (w v : World) : Type 0 where
   pub going : Going r earlier input start number given o p w v
   pub seen : Seen (earlier ++ going.before)
 
--- The input was gone through to its end: its chunks were seen, and the next one comes after them.
+-- The input has been read to its end: the stage's state is that after its chunks, and the position is after
+-- them.
 abbrev pub IsPast : (List (List ℕ) → Type 0) → List (List ℕ) → List ℕ → ℕ → ℕ → World → Type 0
 IsPast Seen earlier input start number w = IfSome (file w input) (λ x. Seen (earlier ++ (cut_after earlier x).chunks) × IsAt (earlier ++ (cut_after earlier x).chunks) start number)

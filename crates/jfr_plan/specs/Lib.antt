@@ -5,4 +5,5 @@ pub mod Outcomes
 pub mod Parts
 pub mod Goings
 pub mod Makes
+pub mod Accepted
 pub mod Clauses

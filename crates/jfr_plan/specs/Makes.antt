@@ -7,17 +7,18 @@ use Rattle.jfr_plan.specs.Ends.{refused}
 use Rattle.jfr_plan.specs.Effects.{Create, Append, Finish}
 use Rattle.jfr_plan.specs.Walks.{Rule, Asked, Stops, Goes, File}
 
--- A flaw is the one that is said; want of memory says nothing.
+-- The fault is this flaw, or memory ran out.
 abbrev pub IsFlawOf : Option Flaw → ReadFault → Type 0
 IsFlawOf o (Flawed f) = o ≡ Some f
 IsFlawOf o Memory = Unit {0}
 
--- Chunk number n is refused, or its output chunk is appended.
+-- Chunk number n is refused with its flaw, or its output chunk is appended.
 abbrev pub asks_made : Option Flaw → ℕ → List ℕ → Asked
 asks_made None n out = Goes (Append out ∷ [])
 asks_made (Some f) n out = Stops (refused n f)
 
--- The output is created, each chunk's output chunk is appended, and the output is finished.
+-- The rule of the command: the output is created, each chunk's output chunk is appended, and the output is
+-- finished.
 abbrev pub making : List ℕ → (List ℕ → Option Flaw) → (List ℕ → List ℕ) → Rule
 making output refusal becomes = record {
   opens = Create output ∷ [];

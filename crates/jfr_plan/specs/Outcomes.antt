@@ -1,4 +1,4 @@
--- What stands after each answer, and which counts rose.
+-- The state after each ending, and the counts of faults that rose.
 use Rattle.std.specs.Prelude.{◌≡◌, ℕ, ◌+◌, ◌<◌, ◌≤◌, Bool, true, IsTrue, IfSome, List, ◌∷◌, ◌++◌, length, take, drop, Option, None, Some}
 use Rattle.jfr_outside.specs.World.{World, Told, file}
 use Rattle.jfr_outside.specs.Counts.{Rose}
@@ -10,7 +10,7 @@ use Rattle.jfr_plan.specs.Ends.{End, Fine, Refused, TooMany, Way, Ends, NotRead,
 use Rattle.jfr_plan.specs.Effects.{Outside, Effect, Plan, Stand, stand, done, broken, effects, keep_met, Cannot}
 use Rattle.jfr_plan.specs.Walks.{Rule, Target, File, Parts, Text, AllGo, cut_after, plan_after}
 
--- The plan ends so, and all its effects are done.
+-- The plan has this end, and all its effects are done.
 pub record AllDone (plan : Plan) (e : End) (s t : Stand) : Type 0 where
   pub end : plan.end ≡ Some e
   pub stands : t ≡ done (effects plan.steps) s
@@ -22,8 +22,8 @@ pub record SomeDone (all : List Effect) (s t : Stand) : Type 0 where
   pub parts : all ≡ first ++ rest
   pub stands : t ≡ done first s
 
--- The first of these effects are done, and the next one failed after k of its bytes; a steady place had a
--- cause.
+-- The first of these effects are done, and the next one failed after a number of its bytes. On a steady place
+-- there was a cause.
 pub record Breaks (steady : Bool) (all : List Effect) (s t : Stand) : Type 0 where
   pub first : List Effect
   pub failed : Effect
@@ -33,33 +33,33 @@ pub record Breaks (steady : Bool) (all : List Effect) (s t : Stand) : Type 0 whe
   pub stands : t ≡ broken bytes failed (done first s)
   pub cause : IsTrue steady → Cannot failed (done first s)
 
--- What stands after a command with this plan, by its way. `halted` says it for a read fault.
+-- The state after a command with this plan, for each end. `halted` describes that after a read fault.
 abbrev pub Outcome : Bool → Plan → (Stand → Stand → Type 0) → Way → Stand → Stand → Type 0
 Outcome steady plan halted (Ends e) s t = AllDone plan e s t
 Outcome steady plan halted NotRead s t = halted s t
 Outcome steady plan halted NotWritten s t = Breaks steady (effects plan.steps) s t
 Outcome steady plan halted NoRoom s t = SomeDone (effects plan.steps) s t
 
--- How many chunks of a file these bytes of it hold whole.
+-- The number of whole chunks in these first bytes of a file.
 abbrev pub held_count : List (List ℕ) → List ℕ → List ℕ → ℕ
 held_count earlier x taken = whole_in (length taken) (cut_after earlier x).chunks
 
--- The chunks of a file that these bytes of it hold whole.
+-- The whole chunks in these first bytes of a file.
 abbrev pub held : List (List ℕ) → List ℕ → List ℕ → List (List ℕ)
 held earlier x taken = take (held_count earlier x taken) (cut_after earlier x).chunks
 
--- The effects whose need is met by the chunks that these bytes hold whole.
+-- The effects whose needs are met by the whole chunks in these first bytes of a file.
 abbrev pub met_effects : Rule → List (List ℕ) → List ℕ → List ℕ → List Effect
 met_effects r earlier x taken = effects (keep_met (Some (length earlier + held_count earlier x taken)) (plan_after r earlier (Some x)).steps)
 
--- Fewer bytes than the chunks before the refused one and a header have.
+-- If a chunk is refused for its header, n is less than the length of the chunks before it and a header.
 abbrev pub IsBelowHeader : Cuts → ℕ → Flaw → Type 0
 IsBelowHeader cuts n flaw = is_header flaw.reason ≡ true → n < length (joined cuts.chunks) + 68
 
--- After a read fault with the input open: the bytes taken of it are those that aren't left. Exactly
--- the effects whose need they meet are done, and no chunk that they hold whole is the end. After these
--- chunks fewer bytes were taken than the next header and its chunk have, and fewer than 68 bytes of a
--- chunk that is refused for its header.
+-- The state after a read fault with the input open. The bytes `taken` are those that aren't left. Exactly the
+-- effects whose needs the whole chunks in them meet are done, and the command did not end at any of these
+-- chunks. After them fewer bytes were taken than the next chunk has, and fewer than 68 bytes of a chunk that
+-- is refused for its header.
 pub record NeedsMet (r : Rule) (earlier : List (List ℕ)) (x left : List ℕ) (s t : Stand) : Type 0 where
   pub taken : List ℕ
   pub parts : x ≡ taken ++ left
@@ -68,54 +68,55 @@ pub record NeedsMet (r : Rule) (earlier : List (List ℕ)) (x left : List ℕ) (
   pub short : length taken < length (joined (held earlier x taken)) + reach (drop (length (joined (held earlier x taken))) x)
   pub header : IfSome (cut_after earlier x).flaw (IsBelowHeader (cut_after earlier x) (length taken))
 
--- The needs are met by the file, if it is there, and what is left of the open input: without an open input
--- nothing is done.
+-- The effects done are those whose needs are met, given the file, if it exists, and what is left of the open
+-- input. Without an open input nothing is done.
 abbrev pub MetIn : Rule → List (List ℕ) → Option (List ℕ) → Option (List ℕ) → Stand → Stand → Type 0
 MetIn r earlier file None s t = t ≡ s
 MetIn r earlier None (Some left) s t = ⊥
 MetIn r earlier (Some x) (Some left) s t = NeedsMet r earlier x left s t
 
--- A read failed; on a steady place the file wasn't there.
+-- The state after a read fault. On a steady place it means that the file doesn't exist.
 abbrev pub HaltedIn : Bool → Rule → List (List ℕ) → Option (List ℕ) → Option (List ℕ) → Stand → Stand → Type 0
 HaltedIn steady r earlier file left s t = MetIn r earlier file left s t × (IsTrue steady → file ≡ None)
 
--- What stands after a command over one input, by the file that the input is and what is left of it.
+-- The state after a command over one input, given the file that is the input and what is left of it.
 abbrev pub OutcomeIn : Bool → Rule → List (List ℕ) → Option (List ℕ) → Option (List ℕ) → Way → Stand → Stand → Type 0
 OutcomeIn steady r earlier file left way s t = Outcome steady (plan_after r earlier file) (HaltedIn steady r earlier file left) way s t
 
--- An outcome between two worlds, for the input of this name.
+-- The state of the world after a command over the input with this name, given the one before.
 abbrev pub OutcomeOf : Bool → Rule → List (List ℕ) → List ℕ → Option (List ℕ) → Option (List ℕ) → Way → World → World → Type 0
 OutcomeOf steady r earlier input text text' way w v = OutcomeIn steady r earlier (file w input) v.input way (stand w text) (stand v text')
 
--- What stands after a command over the input of this name, whose chunks come after those of earlier files.
+-- The state after a command over the input with this name, whose chunks come after those of earlier files.
 abbrev pub After : Rule → List (List ℕ) → List ℕ → Way → Outside → Outside → Type 0
 After r earlier input way a b = Told a.place.told b.place.told (OutcomeOf a.place.steady r earlier input a.sink.written b.sink.written way)
 
--- A count is as before.
+-- The count is unchanged.
 abbrev pub Kept : ℕ → ℕ → Type 0
 Kept before now = now ≡ before
 
--- A count rose, and isn't smaller.
+-- The count rose, and isn't smaller.
 abbrev pub Rises : ℕ → ℕ → Type 0
 Rises before now = (before ≤ now) × Rose before now
 
--- What became of the counts of reads, of writes to the place and of writes to the sink; steadiness stays.
+-- The relations between old and new counts of read faults, of write faults of the place, and of faults of the
+-- sink. The place is steady or not as before.
 abbrev pub Counted : (ℕ → ℕ → Type 0) → (ℕ → ℕ → Type 0) → (ℕ → ℕ → Type 0) → Outside → Outside → Type 0
 Counted Reads Writes Texts a b = Reads a.place.read_faults b.place.read_faults × Writes a.place.write_faults b.place.write_faults × Texts a.sink.faults b.sink.faults × (b.place.steady ≡ a.place.steady)
 
--- Parts alone can be too many.
+-- A command with this target may have this end: only one that writes parts can write too many.
 abbrev pub MayEnd : Target → End → Type 0
 MayEnd target Fine = Unit {0}
 MayEnd target (Refused r) = Unit {0}
 MayEnd target TooMany = target ≡ Parts
 
--- A write fault is by the count of what the command writes to.
+-- Only the count of write faults for this target rose.
 abbrev pub CountedWrite : Target → Outside → Outside → Type 0
 CountedWrite File a b = Counted Kept Rises Kept a b
 CountedWrite Parts a b = Counted Kept Rises Kept a b
 CountedWrite Text a b = Counted Kept Kept Rises a b
 
--- Which ends may come, and which counts rose, by the way: a fault is counted and not passed over.
+-- The counts that rose, for each end: a fault is counted, and no fault is ignored.
 abbrev pub Tallied : Target → Way → Outside → Outside → Type 0
 Tallied target (Ends e) a b = MayEnd target e × Counted Kept Kept Kept a b
 Tallied target NotRead a b = Counted Rises Kept Kept a b

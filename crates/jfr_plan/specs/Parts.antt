@@ -1,4 +1,5 @@
--- What a part of a command leaves: when its input was opened, for a chunk, and at the input's end.
+-- The state after a part of a command: what it does when its input is open, for a chunk, or at the input's
+-- end.
 use Rattle.std.specs.Prelude.{◌≡◌, ℕ, Bool, List, Option, Result, Ok, Err}
 use Rattle.jfr_outside.specs.World.{World, Told}
 use Rattle.jfr_header.specs.declared.ending.Ending.{Ending}
@@ -7,7 +8,8 @@ use Rattle.jfr_plan.specs.Effects.{Outside, Stand, stand, done}
 use Rattle.jfr_plan.specs.Walks.{Asked, Stops, Target, asked, IsGoing}
 use Rattle.jfr_plan.specs.Outcomes.{SomeDone, Breaks, Kept, Counted, Tallied}
 
--- A part that ended the command: it was asked to, or something failed; it reads nothing.
+-- The state after a part at which the command ended, as it had to, or because something failed. A part reads
+-- nothing.
 abbrev pub PartEnded : Bool → Asked → Way → Stand → Stand → Type 0
 PartEnded steady a (Ends Fine) s t = ⊥
 PartEnded steady a (Ends e) s t = (a ≡ Stops e) × (t ≡ s)
@@ -15,20 +17,20 @@ PartEnded steady a NotRead s t = ⊥
 PartEnded steady a NotWritten s t = Breaks steady (asked a) s t
 PartEnded steady a NoRoom s t = SomeDone (asked a) s t
 
--- What stands after a part that was asked for this, by its answer.
+-- The state after a part that has to do this, for each result.
 abbrev pub PartStands : Bool → Asked → Result (Unit {0}) Ending → Stand → Stand → Type 0
 PartStands steady a (Ok x) s t = IsGoing a × (t ≡ done (asked a) s)
 PartStands steady a (Err e) s t = PartEnded steady a (way_of e) s t
 
--- A part takes nothing from the input.
+-- The world after a part that has to do this. A part reads nothing from the input.
 abbrev pub PartTold : Bool → Asked → Result (Unit {0}) Ending → Option (List ℕ) → Option (List ℕ) → World → World → Type 0
 PartTold steady a result text text' w v = (v.input ≡ w.input) × PartStands steady a result (stand w text) (stand v text')
 
--- What a part that was asked for this leaves.
+-- The state after a part that has to do this, if the files of the place are known.
 abbrev pub PartLeaves : Asked → Result (Unit {0}) Ending → Outside → Outside → Type 0
 PartLeaves a result before now = Told before.place.told now.place.told (PartTold before.place.steady a result before.sink.written now.sink.written)
 
--- Which counts a part raised.
+-- The counts that rose in a part, for each result.
 abbrev pub PartTallied : Target → Result (Unit {0}) Ending → Outside → Outside → Type 0
 PartTallied target (Ok x) a b = Counted Kept Kept Kept a b
 PartTallied target (Err e) a b = Tallied target (way_of e) a b

@@ -1,7 +1,7 @@
-// The sink of commands that write no text.
+//! A sink for commands that write no text.
 use jfr_outside::{Fault, Sink};
 
-/// Takes every byte and keeps none, for a command that writes to its place alone.
+/// A sink that accepts every byte and keeps none, for a command that writes only to its place.
 #[derive(Drop)]
 pub struct Discard;
 

@@ -1,10 +1,9 @@
-//! What a command does outside: the order of its work, what stands after each answer, and the one loop
-//! over the chunks of its input.
+//! What a command does outside: its effects in order, the state after each ending, and the loop over the
+//! chunks of its input.
 //!
-//! A command is a `Stage`: what it does when its input is open, with each chunk, and at the input's
-//! end. `run_stage` takes one input through a stage. `make_stream` is the command that makes one output
-//! chunk of each chunk, over anything that is a `Make`. Read `specs/Effects.antt` first, then
-//! `specs/Walks.antt` and `specs/Outcomes.antt`.
+//! A command is a `Stage`: what it does when its input is open, for each chunk, and at the input's end.
+//! `run_stage` runs a stage over one input. `make_stream` is the command that makes one output chunk of each
+//! chunk, for any `Make`. Read `specs/Effects.antt` first, then `specs/Walks.antt` and `specs/Outcomes.antt`.
 #![tactic(auto)]
 
 mod discard;

@@ -1,4 +1,4 @@
-// What a command makes of each chunk.
+//! Making an output chunk of each chunk.
 ghost use Rattle.std.specs.Prelude.{◌≡◌, ℕ, List, Option, None, OnOk, IfOk, IfErr};
 ghost use Rattle.jfr_base.specs.declared.flaw.Flaw.{Flaw};
 ghost use Rattle.jfr_header.specs.Fronts.{Whole};
@@ -9,7 +9,7 @@ use jfr_base::ReadFault;
 use jfr_outside::NoMemory;
 use std::alloc::Global;
 
-/// Makes an output chunk of a chunk, or refuses the chunk.
+/// A way to make an output chunk of each chunk, or to refuse the chunk.
 pub trait Make: Drop {
     // The flaw for which a chunk is refused, if it is.
     ghost refusal: { Self → List ℕ → Option Flaw };
@@ -17,10 +17,10 @@ pub trait Make: Drop {
     // The output chunk of a chunk that isn't refused.
     ghost becomes: { Self → List ℕ → List ℕ };
 
-    // Whether the output chunk that was made last is of this chunk, so that `pieces` can tell it.
+    // The output chunk made last was made of this chunk, so `pieces` can return it.
     ghost holds: { Self → List ℕ → Type 0 };
 
-    // The output chunk that was made last, of this chunk.
+    // The output chunk made last, given the chunk that it was made of.
     ghost last: { Self → List ℕ → List ℕ };
 
     /// Makes the output chunk of a whole chunk.
@@ -32,7 +32,7 @@ pub trait Make: Drop {
         ensures refused { IfErr result (IsFlawOf (refusal self.old chunk.now)) }
         ensures same { (refusal self.new ≡ refusal self.old) × (becomes self.new ≡ becomes self.old) };
 
-    /// The pieces of the output chunk that was made last, of this chunk.
+    /// The pieces of the output chunk made last. `chunk` must be the chunk that it was made of.
     fn pieces<'c>(&'c self, alloc: Global, chunk: &'c [u8]) -> Result<Vec<&'c [u8]>, NoMemory>
         requires { holds self.now chunk.now }
         ensures { IfOk result (λ pieces. bytes_in pieces.items ≡ last self.now chunk.now) };

@@ -1,4 +1,4 @@
-// How far a recording was gone through.
+//! The position in a recording, of one file or several.
 ghost use Rattle.std.specs.Prelude.{◌≡◌, ◌+◌, ◌≤◌, ◌^◌, [], true, false, IsTrue, IfSome, None};
 ghost use Rattle.jfr_header.specs.Taking.{Tells};
 ghost use Rattle.jfr_header.specs.Nexts.{NextOf, CutOf, Counted};
@@ -8,8 +8,8 @@ use jfr_outside::Place;
 use std::alloc::Global;
 use std::marker::Model;
 
-/// How far a recording was gone through: where its next chunk starts, and its number. Over several files
-/// both go on, and the room for a chunk is used again. Contracts see the cutter.
+/// The position in a recording: the offset of the next chunk, and its number. Over several files both
+/// continue, and the memory for a chunk is used again. Contracts see the cutter.
 #[derive(Drop)]
 pub struct Position {
     cutter: ChunkCutter,
@@ -28,7 +28,7 @@ impl Model for Position {
 }
 
 impl Position {
-    /// The beginning of a recording. It takes no memory.
+    /// The start of a recording. It allocates nothing.
     pub fn first(alloc: Global) -> Position
         ensures start { result.start ≡ 0 }
         ensures number { result.number ≡ 1 }
@@ -38,7 +38,7 @@ impl Position {
         }
     }
 
-    /// Begins with the input that is open next.
+    /// Continues with the next input, which has just been opened.
     pub(crate) fn begin_input(&mut self)
         ensures start { self.new.start ≡ self.old.start }
         ensures number { self.new.number ≡ self.old.number }
@@ -57,19 +57,19 @@ impl Position {
         ensures writes { (P.state place.new).write_faults ≡ (P.state place.old).write_faults }
         ensures steady { (P.state place.new).steady ≡ (P.state place.old).steady }
         ensures fails { IsTrue ((P.state place.old).steady) → result ≡ Cut.Failed → IfSome (P.state place.old).told (λ w. w.input ≡ None) }
-        ensures small { result ≡ Cut.Chunk → self.new.number ≤ 2 ^ 35 }
+        ensures small { result ≡ Cut.Chunk → self.new.number ≤ 17000000000 }
     {
         self.cutter.next(place)
     }
 
-    /// The bytes of the chunk that was read last.
+    /// The bytes of the last chunk read.
     pub(crate) fn bytes(&self) -> &[u8]
         ensures { result.now ≡ self.now.bytes }
     {
         self.cutter.bytes()
     }
 
-    /// Its number.
+    /// The number of the last chunk read.
     pub(crate) fn number(&self) -> u64
         requires { self.now.given ≡ true }
         ensures { result + 1 ≡ self.now.number }

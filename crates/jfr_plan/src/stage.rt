@@ -1,4 +1,4 @@
-// The one loop over the chunks of an input.
+//! The loop over the chunks of an input.
 ghost use Rattle.std.specs.Prelude.{◌≡◌, ◌<◌, ◌+◌, ◌^◌, ℕ, List, ◌∷◌, [], ◌++◌, length, Option, OnOk, IfSome, false, true};
 ghost use Rattle.jfr_outside.specs.World.{World, Told};
 ghost use Rattle.jfr_header.specs.Fronts.{Whole};
@@ -13,17 +13,17 @@ use crate::Position;
 use jfr_header::{Cut, Ending};
 use jfr_outside::{Place, Sink};
 
-/// A command over an input: what it does when the input is open, with each chunk, and at the end.
+/// A command over an input: what it does when the input is open, for each chunk, and at the end.
 ///
-/// A part that answers `Err` ends the command so. It reads nothing from the input.
+/// If a call returns `Err`, the command ends with this ending. No call reads from the input.
 pub trait Stage {
-    // What it does.
+    // What the command does.
     ghost rule: { Self → Rule };
 
-    // Whether these are the chunks that it was given so far, as its state tells them.
+    // The stage's state is that after these chunks.
     ghost seen: { Self → List (List ℕ) → Type 0 };
 
-    /// Does what is to be done when the input is open.
+    /// Does what the command does when the input is open.
     fn opened<P: Place, O: Sink>(&self, place: &mut P, out: &mut O) -> Result<(), Ending>
         ensures told { PartLeaves (Goes (rule self.now).opens) result
             (outside (P.state place.old) (O.state out.old))
@@ -32,7 +32,7 @@ pub trait Stage {
             (outside (P.state place.old) (O.state out.old))
             (outside (P.state place.new) (O.state out.new)) };
 
-    /// Does what the next chunk asks for, whose number counts from 1.
+    /// Does what the command does for the next chunk. Chunks are numbered from 1.
     fn chunk<P: Place, O: Sink>(
         &mut self,
         place: &mut P,
@@ -41,7 +41,7 @@ pub trait Stage {
         number: u64,
     ) -> Result<(), Ending>
         requires whole { Whole chunk.now }
-        requires number { number < 2 ^ 35 }
+        requires number { number < 17000000000 }
         ensures rule { rule self.new ≡ rule self.old }
         ensures seen { (before : List (List ℕ)) → seen self.old before → number ≡ length before + 1
             → OnOk result (seen self.new (before ++ chunk.now ∷ [])) }
@@ -53,7 +53,7 @@ pub trait Stage {
             (outside (P.state place.old) (O.state out.old))
             (outside (P.state place.new) (O.state out.new)) };
 
-    /// Does what is to be done at the input's end.
+    /// Does what the command does at the input's end.
     fn end<P: Place, O: Sink>(&self, place: &mut P, out: &mut O) -> Result<(), Ending>
         ensures told { (before : List (List ℕ)) → seen self.now before
             → PartLeaves (Goes ((rule self.now).ends before)) result
@@ -64,7 +64,7 @@ pub trait Stage {
             (outside (P.state place.new) (O.state out.new)) };
 }
 
-// Takes the open input to its end, and the position with it.
+// Runs the stage over the open input to its end, and moves the position past it.
 fn run_chunks<P: Place, O: Sink, S: Stage>(
     place: &mut P,
     out: &mut O,
@@ -106,9 +106,9 @@ fn run_chunks<P: Place, O: Sink, S: Stage>(
     }
 }
 
-/// Takes one input through a stage, from a position of the recording: the first one, or what the
-/// files before left. After `Done` the position is that of the next chunk; after another answer
-/// nothing is promised of it.
+/// Runs a stage over one input, which starts at this position of the recording: the first one, or the one
+/// after the files before. After `Done` the position is that of the next chunk; after any other ending
+/// nothing is promised about it.
 pub fn run_stage<P: Place, O: Sink, S: Stage>(
     place: &mut P,
     out: &mut O,

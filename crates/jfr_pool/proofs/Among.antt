@@ -28,7 +28,7 @@ found_among {X = X} t (y ∷ ys) x e = by_test (t y) refl e (found_among t ys x)
     by_test true h e f = let g : y ≡ x = cc in (inl g, subst (λ z. t z ≡ true) g h)
     by_test false h e f = let g = f e in (inr g.0, g.1)
 
--- Something is found where one passes.
+-- If one passes the test, something is found.
 pub some_found : {X : Type 0} (t : X → Bool) (xs : List X) (x : X) → Among xs x → t x ≡ true → (y : X) × (find t xs ≡ Some y)
 some_found t [] x a h = absurd a
 some_found {X = X} t (y ∷ ys) x a h = by_test (t y) refl a (λ b. some_found t ys x b h)
@@ -86,7 +86,7 @@ are_records c p q [] t r a = absurd a
 are_records c p q (x ∷ rs) t r (inl e) = subst (IsRecord c) e t.1
 are_records c p q (x ∷ rs) t r (inr a) = are_records c (record_end x) q rs t.2 r a
 
--- And one stands at a place.
+-- Each of them starts at p or later.
 rises : (p : ℕ) (rs : List Framed) → Rising p rs → (r : Framed) → Among rs r → p ≤ r.at
 rises p [] h r a = absurd a
 rises p (x ∷ rs) h r (inl e) = let q : p ≤ x.at = h.0 in omega (arith, ap (λ (z : Framed). z.at) e)

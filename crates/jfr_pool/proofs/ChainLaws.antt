@@ -1,4 +1,4 @@
--- A chain stands or is faulty, one of the two, and either is what is computed.
+-- There is a chain or a flaw, never both, and either is what is computed.
 use Rattle.std.specs.Prelude.{◌≡◌, ◌≢◌, ℕ, zero, suc, ◌<◌, ◌≤◌, ℤ, pos, negsuc, ◌+ℤ◌, ◌⊎◌, Bool, true, false, ◌&&◌, ◌==◌, nat_lt, List, [], ◌∷◌, length, Option, Some, None, Result, Ok, Err, IsTrue, if◌then◌else◌}
 use Rattle.std.proofs.Common.{ap, arith, refl, sym, ◌∙◌, inl, inr, subst}
 use Rattle.jfr_base.specs.declared.flaw.Flaw.{Flaw}
@@ -28,7 +28,7 @@ earlier_step at d to e = by_sum (pos at +ℤ d) refl e
 step_earlier : (at : ℕ) (d : ℤ) (to : ℕ) → pos at +ℤ d ≡ pos to → to < at → earlier_place at (pos at +ℤ d) ≡ Some to
 step_earlier at d to e h = let t : nat_lt to at ≡ true = grind arith in ap (earlier_place at) e ∙ rw t refl
 
--- The links behind one go on only where a checkpoint is found.
+-- The links after one depend on the rest only if a checkpoint is found.
 links_alike : (d : Delta) (delta : ℤ) (o : Option Framed) (f g : Framed → Result (List Link) Flaw) → ((r : Framed) → o ≡ Some r → f r ≡ g r) → links_behind d delta o f ≡ links_behind d delta o g
 links_alike d (pos zero) o f g h = refl
 links_alike d (pos (suc n)) None f g h = refl
@@ -90,7 +90,7 @@ module _ (c : List ℕ) (rs : List Framed) (records : (r : Framed) → Among rs 
   one_link : (l : Link) (at : ℕ) → IsLink c rs l → l.frame.at ≡ at → l.delta ≡ pos 0 → IsChain c rs at (l ∷ [])
   one_link l at i e d = (i, e, d)
 
-  -- A link before what is told of the older checkpoint.
+  -- A link followed by what is known of the older checkpoint.
   tells_step : (l : Link) (at : ℕ) (r : Framed) → IsLink c rs l → l.frame.at ≡ at → StepsTo at l.delta r.at → IsTrue (starts_at rs r.at 1) → (a : Result (List Link) Flaw) → Tells r.at a → Tells at (before_links l a)
   tells_step l at r i e s t (Err f) h = (l ∷ h.0, (i, e, r.at, s, t, h.1))
   tells_step l at r i e s t (Ok []) h = absurd h
@@ -175,7 +175,7 @@ module _ (c : List ℕ) (rs : List Framed) (records : (r : Framed) → Among rs 
     abbrev delta_of : Link → Delta
     delta_of l = record { at = l.delta_at; end = l.delta_end; value = l.delta }
 
-    -- One turn over a link that stands.
+    -- One turn over a link.
     turn_over : (l : Link) → IsLink c rs l → (next : Framed → Result (List Link) Flaw)
         → links_by rs l.frame (run head_format c (record_end l.frame) l.frame.body) next ≡ before_links l (links_behind (delta_of l) l.delta (earlier_checkpoint rs (earlier_place l.frame.at (pos l.frame.at +ℤ l.delta))) next)
     turn_over l i next = ap (λ a. links_by rs l.frame a next) (head_read l.frame (among_of rs l.frame i.framed) (delta_of l) l.delta_end i.head)

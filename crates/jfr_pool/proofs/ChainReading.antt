@@ -53,7 +53,7 @@ abbrev then_rest : List ℕ → List Framed → Result (Option Framed) Flaw → 
 then_rest c rs (Ok o) = rest c rs o
 then_rest c rs (Err f) = Err f
 
--- What is behind a link is the rest.
+-- What follows a link is the rest.
 behind_rest : (c : List ℕ) (rs : List Framed) (d : Delta) (delta : ℤ) (o : Option Framed) → links_behind d delta o (chain_of c rs) ≡ then_rest c rs (older_by d.at delta o)
 behind_rest c rs d (pos zero) o = refl
 behind_rest c rs d (pos (suc n)) None = refl

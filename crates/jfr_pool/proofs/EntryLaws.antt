@@ -1,4 +1,4 @@
--- The entries of chained checkpoints stand, or one has a flaw, and either is what is computed.
+-- The chained checkpoints have entries, or one has a flaw, and either is what is computed.
 use Rattle.std.specs.Prelude.{◌≡◌, ℕ, zero, suc, ◌+◌, ◌-◌, ◌≤◌, List, [], ◌∷◌, ◌++◌, length, drop, reverse, slice_get, Some, Result, Ok, Err}
 use Rattle.std.proofs.Common.{ap, arith, refl, sym, ◌∙◌, inl, inr, subst, append_assoc, get_or}
 use Rattle.std.proofs.lemmas.List.{append-nil, get_or-reverse, length-reverse}

@@ -29,7 +29,7 @@ get_replicate zero i x = refl
 get_replicate (suc n) zero x = refl
 get_replicate (suc n) (suc i) x = get_replicate n i x
 
--- Where all slots are empty and there are no others, nothing has a number.
+-- If all slots are empty and there are no others, nothing has a number.
 pub indexes_none : (by_class : List Table) (index : Index) (n : ℕ) → index.slots.items ≡ replicate n empty → IsEmpty index.others → Indexes by_class index []
 indexes_none by_class index n slots o = record {
   leads = λ t p. none_of index t (no_others t) (λ i p q. absurd (differ i p q)) ∙ sym (force_none t);
@@ -118,7 +118,7 @@ module _ (old new : Index) (e : EntryAt) (number place : ℕ) (within : place < 
         let f = seat_found old.slots.items (e.class, e.key) place found in
         rw (f.0, homes_stay (e.class, e.key), seat_stays REACH (home old.slots.items (e.class, e.key)) f.1) (ap (option_map (λ (p : Placed). p.number)) here)
 
-    -- A target that has no entry stands nowhere.
+    -- A target without an entry isn't in the index.
     nowhere : (t : ℕ × ℕ) → hits e t ≡ false → number_in_force es t ≡ None → number_of new t ≡ None
     nowhere t apart none = none_of new t (ap (λ z. get target_cmp z t) others ∙ no_other (get target_cmp old.others t) refl) no_slot
       where
@@ -158,7 +158,7 @@ module _ (old new : Index) (e : EntryAt) (number place : ℕ) (within : place < 
             some_push es e (p.class, p.key) (inl (target_same e.class e.key (p.class, p.key) (ap (λ (z : Placed). (z.class, z.key)) g)))
         by_place i p q (inr r) = some_push es e (p.class, p.key) (inr (h.in_slots i p (sym (elsewhere i r) ∙ q)))
 
--- Where no slot is open, the entry is put among the others.
+-- If no slot is open, the entry is put among the others.
 pub passed : (by_class : List Table) (old new : Index) (e : EntryAt) (number : ℕ) (es : List EntryAt) → seat old.slots.items (e.class, e.key) ≡ None → new.slots.items ≡ old.slots.items → Updates target_cmp old.others new.others (e.class, e.key) (Some number) → Indexes by_class old es → length es ≡ number → Indexes by_class new (es ++ e ∷ [])
 passed by_class old new e number es none slots u h n = record {
   leads = λ t out. passed_number t (seat old.slots.items t) refl ∙ ap (cond (hits e t) (Some number)) (h.leads t out) ∙ ap (λ m. cond (hits e t) (Some m) (number_in_force es t)) (sym n) ∙ sym (force_push es e t);

@@ -2,6 +2,7 @@ pub mod Among
 pub mod ChainLaws
 mod ChainReading
 mod EntryLaws
+pub mod ForceLaws
 mod IndexLaws
 mod Listings
 pub mod OneLaws

@@ -23,7 +23,7 @@ abbrev pub behind : List EntryAt → Listing → Listing
 behind es (Ok l) = Ok (es ++ l.0, l.1)
 behind es (Err f) = Err f
 
--- Some entries, and what comes behind their place.
+-- Some entries, and what follows them.
 abbrev pub chained : Listing → (ℕ → Listing) → Listing
 chained (Ok l) next = behind l.0 (next l.1)
 chained (Err f) next = Err f
@@ -32,7 +32,7 @@ behind_behind : (es fs : List EntryAt) (l : Listing) → behind es (behind fs l)
 behind_behind es fs (Ok l) = ap (λ z. Ok (z, l.1)) (sym (append_assoc es fs l.0))
 behind_behind es fs (Err f) = refl
 
--- One of so many, and the others.
+-- The first of several, and the others.
 module _ {A : Type 0} (one : A → List EntryAt) (all rest : List A → List EntryAt) (parts : (a : A) (bs : List A) → all (a ∷ bs) ≡ one a ++ rest bs) where
   listed_rest : (a : A) (r : Answer (List A)) → listed all (on r (λ bs p. Ok (record { value = a ∷ bs; place = p }))) ≡ behind (one a) (listed rest r)
   listed_rest a (Ok g) = ap (λ z. Ok (z, g.place)) (parts a g.value)
@@ -201,7 +201,7 @@ module _ (checkpoint number : ℕ) (k : Classes) (x : List ℕ) (end at : ℕ) w
       by_constants (Ok g) = refl
       by_constants (Err f) = refl
 
--- A checkpoint: so many pools, and the end.
+-- A checkpoint: its pools, and the end.
 module _ (number : ℕ) (k : Classes) (x : List ℕ) (end at : ℕ) where
   abbrev pools_format : ℕ → Format (List PoolAt)
   pools_format n = times n (pool_format k) >>= λ pools. Stop (Done pools)
@@ -220,7 +220,7 @@ module _ (number : ℕ) (k : Classes) (x : List ℕ) (end at : ℕ) where
       by_count (Ok g) e = cc
       by_count (Err g) e = cc
 
-  -- The end, behind the pools.
+  -- The end, after the pools.
   abbrev ended : Listing → Listing
   ended (Ok l) = if nat_lt l.1 end then Err (record { offset = l.1; reason = Trailing }) else Ok l
   ended (Err f) = Err f

@@ -1,5 +1,5 @@
--- Chains and entries, computed on chunks whose records are given: what stands before the checkpoints
--- doesn't matter.
+-- Chains and entries, computed on chunks whose records are given: what comes before the checkpoints doesn't
+-- matter.
 use Rattle.std.specs.Prelude.{◌≡◌, ℕ, pos, negsuc, List, [], ◌∷◌, ◌++◌, None, Some, Ok, Err, codes, replicate, true, false}
 use Rattle.std.proofs.Common.{refl}
 use Rattle.jfr_base.specs.Formats.{int_at, run}

@@ -53,7 +53,7 @@ held_numbered class key number =
 pub seat_on : (slots : List Slot) (t : ℕ × ℕ) (end place : ℕ) → place < end → is_open (held (slot_at slots place)) t ≡ false → seat_from (end - place) place slots t ≡ seat_from (end - (place + 1)) (place + 1) slots t
 seat_on slots t end place i h = let q : end - place ≡ suc (end - (place + 1)) = omega arith in rw q (rw h refl)
 
--- The seat of others stands behind their home.
+-- If their home is taken, the seat of a class and key is after it.
 pub seat_past : (slots : List Slot) (t : ℕ × ℕ) (place : ℕ) → t.0 < 2 ^ 32 → place ≡ home slots t → is_open (held (slot_at slots place)) t ≡ false → seat_from (place + REACH - (place + 1)) (place + 1) slots t ≡ seat slots t
 seat_past slots t place i e h = sym (seat_on slots t (place + REACH) place (omega arith) h) ∙ seat_start slots t place i e
 
@@ -65,7 +65,7 @@ of_open slot t h = by_ordinal (slot.ordinal == 0)
     by_ordinal true = refl
     by_ordinal false = h
 
--- The number of those who stand in their home.
+-- The number of a class and key that are in their home.
 pub number_home : (index : Index) (t : ℕ × ℕ) (place : ℕ) (slot : Slot) → t.0 < 2 ^ 32 → place ≡ home index.slots.items t → slot ≡ slot_at index.slots.items place → is_of slot t ≡ true → number_of index t ≡ number_in slot
 number_home index t place slot fits e s h =
     let open_home = ap (λ z. is_open (held z) t) (sym s) ∙ of_open slot t h in
@@ -79,7 +79,7 @@ number_none index t place slot fits e s q =
     let open_home = ap (λ z. is_open (held z) t) (sym s) ∙ ap (λ o. is_open o t) none in
     ap (number_at index t) (seat_home index.slots.items t place fits e open_home) ∙ ap number_in (sym s) ∙ ap (option_map (λ (p : Placed). p.number)) none
 
--- What stands nowhere has no number.
+-- A class and key that aren't in the index have no number.
 number_nowhere : (index : Index) (t : ℕ × ℕ) → get target_cmp index.others t ≡ None → ((i : ℕ) (p : Placed) → held (slot_at index.slots.items i) ≡ Some p → (p.class, p.key) ≢ t) → (n place : ℕ) → number_at index t (seat_from n place index.slots.items t) ≡ None
 number_nowhere index t o s zero place = o
 number_nowhere index t o s (suc n) place = by_slot (held (slot_at index.slots.items place)) refl (number_nowhere index t o s n (place + 1))

@@ -1,4 +1,4 @@
--- At each place stands the ordinal of the entry in force.
+-- Each key of a table has the ordinal of the entry in force.
 use Rattle.std.specs.Prelude.{◌≡◌, ◌≢◌, ◌⊎◌, ℕ, zero, suc, ◌+◌, ◌-◌, ◌<◌, ◌≤◌, Bool, true, false, cond, List, [], ◌∷◌, ◌++◌, length, Option, Some, None, option_and_then, option_map, slice_get, replicate, nat_lt, nat_eq, if◌then◌else◌}
 use Rattle.std.proofs.Common.{ap, arith, refl, sym, ◌∙◌, inl, inr, set}
 use Rattle.std.proofs.lemmas.Bool.{cases_eq}
@@ -39,7 +39,7 @@ get_zeros (suc k) (suc i) n h = get_zeros k i n h
 last_of : (n : ℕ) → last_number (n + 1) ≡ Some n
 last_of n = let q : n + 1 ≡ suc n = omega arith in ap last_number q
 
--- At each place of a table stands 0.
+-- Each key of a table has the ordinal 0.
 abbrev pub IsZero : Table → Type 0
 IsZero table = (key n : ℕ) → in_table key table ≡ Some n → 0 ≡ n
 
@@ -115,7 +115,7 @@ module _ (old new : Tables) (table new_table : Table) (e : EntryAt) (number : �
           ap last_number (sym m) ∙ last_of number ∙ ap (λ z. Some z) (sym count)
       by_test t n at false f = h.all t n (sym (elsewhere t f) ∙ at)
 
--- An ordinal less one is the number that it stands for.
+-- The number of an ordinal is one less.
 pub less_one : (n : ℕ) → n ≢ 0 → Some (n - 1) ≡ last_number n
 less_one zero h = absurd (h refl)
 less_one (suc n) h = ap (λ z. Some z) (omega arith)

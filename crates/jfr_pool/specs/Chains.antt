@@ -11,13 +11,13 @@ use Rattle.jfr_frame.specs.declared.framed.Framed.{Framed}
 use Rattle.jfr_frame.specs.Records.{AreRecords, starts_at, record_end}
 use Rattle.jfr_pool.specs.declared.link.Link.{Link}
 
--- Where the delta of a checkpoint stands and ends, and the delta as a signed number.
+-- The offset of a checkpoint's delta, the offset after it, and the delta as a signed number.
 pub record Delta : Type 0 where
   pub at : ℕ
   pub end : ℕ
   pub value : ℤ
 
--- A checkpoint's body begins with its start, its duration and its delta.
+-- A checkpoint's body starts with its start, its duration and its delta.
 abbrev pub head_format : Format Delta
 head_format = integer >>= λ start. integer >>= λ duration. Here λ at. integer >>= λ value. Here λ end. Done (record { at = at; end = end; value = cast_signed w64 value })
 
@@ -27,52 +27,55 @@ pub record IsLink (c : List ℕ) (rs : List Framed) (l : Link) : Type 0 where
   pub checkpoint : l.frame.type_id ≡ 1
   pub head : Reads head_format c (record_end l.frame) l.frame.body (record { at = l.delta_at; end = l.delta_end; value = l.delta }) l.delta_end
 
--- A delta that isn't 0 leads from a place to an earlier one.
+-- A delta that isn't 0 leads from an offset to an earlier one.
 pub record StepsTo (at : ℕ) (delta : ℤ) (to : ℕ) : Type 0 where
   pub moves : delta ≢ pos 0
   pub lands : pos at +ℤ delta ≡ pos to
   pub earlier : to < at
 
--- The links from a place on, newest first: each delta leads to the next link, and only the last is 0.
+-- The checkpoints of the chain from an offset on, newest first: each delta leads to the next checkpoint, and
+-- only the last is 0.
 abbrev pub IsChain : List ℕ → List Framed → ℕ → List Link → Type 0
 IsChain c rs at [] = ⊥
 IsChain c rs at (l ∷ []) = IsLink c rs l × (l.frame.at ≡ at) × (l.delta ≡ pos 0)
 IsChain c rs at (l ∷ m ∷ ls) = IsLink c rs l × (l.frame.at ≡ at) × StepsTo at l.delta m.frame.at × IsChain c rs m.frame.at (m ∷ ls)
 
--- A delta is faulty where it is neither 0 nor leads to the start of an earlier checkpoint.
+-- A delta is faulty if it is neither 0 nor leads to the start of an earlier checkpoint.
 pub record LeadsAstray (rs : List Framed) (at : ℕ) (delta : ℤ) : Type 0 where
   pub moves : delta ≢ pos 0
   pub nowhere : (to : ℕ) → StepsTo at delta to → IsTrue (starts_at rs to 1) → ⊥
 
--- The fault of the checkpoint at a place: an integer that doesn't stand, or a faulty delta.
+-- The flaw of the checkpoint at an offset: an integer that doesn't end in time, or a faulty delta.
 abbrev pub LinkFlaw : List ℕ → List Framed → ℕ → ℕ → Reason → Type 0
 LinkFlaw c rs at o why = (r : Framed) × Contains rs r × (r.at ≡ at) ×
     (Fails head_format c (record_end r) r.body o why
     ⊎ ((d : Delta) × Reads head_format c (record_end r) r.body d d.end × (o ≡ d.at) × (why ≡ ChainDelta) × LeadsAstray rs at d.value))
 
--- The links from a place on are read one after another, and the one after them is faulty.
+-- The checkpoints of the chain from an offset on are read one after another, and the one after them is
+-- faulty.
 abbrev pub ChainFlaw : List ℕ → List Framed → ℕ → List Link → ℕ → Reason → Type 0
 ChainFlaw c rs at [] o why = LinkFlaw c rs at o why
 ChainFlaw c rs at (l ∷ ls) o why = IsLink c rs l × (l.frame.at ≡ at) × (to : ℕ) × StepsTo at l.delta to × IsTrue (starts_at rs to 1) × ChainFlaw c rs to ls o why
 
--- The chain from a place on is refused for the flaw of one of its links; want of memory says nothing.
+-- The chain from an offset on is refused for the flaw of one of its checkpoints. Running out of memory says
+-- nothing about the chunk.
 abbrev pub IsRefusedChain : List ℕ → List Framed → ℕ → ReadFault → Type 0
 IsRefusedChain c rs at (Flawed flaw) = (before : List Link) × ChainFlaw c rs at before flaw.offset flaw.reason
 IsRefusedChain c rs at Memory = Unit {0}
 
--- These links, oldest first, are the chain from some place on, among the records of the chunk.
+-- These checkpoints, oldest first, are the chain from some offset on, among the records of the chunk.
 pub record IsReadFrom (c : List ℕ) (links : List Link) : Type 0 where
   pub records : List Framed
   pub last : ℕ
   pub cover : AreRecords c records
   pub chain : IsChain c records last (reverse links)
 
--- By computing: where a delta leads, if it leads to an earlier place.
+-- The offset to which a delta leads, if it is an earlier one.
 abbrev pub earlier_place : ℕ → ℤ → Option ℕ
 earlier_place at (pos to) = if nat_lt to at then Some to else None
 earlier_place at (negsuc n) = None
 
--- The checkpoint that starts there.
+-- The checkpoint that starts at this offset, if there is one.
 abbrev pub checkpoint_at : List Framed → ℕ → Option Framed
 checkpoint_at rs at = find (λ r. (r.at == at) && (r.type_id == 1)) rs
 
@@ -80,30 +83,30 @@ checkpoint_at rs at = find (λ r. (r.at == at) && (r.type_id == 1)) rs
 abbrev pub link_of : Framed → Delta → Link
 link_of r d = record { frame = r; delta_at = d.at; delta_end = d.end; delta = d.value }
 
--- A link before others, or the flaw of the others.
+-- This link followed by the others, or the flaw of the others.
 abbrev pub before_links : Link → Result (List Link) Flaw → Result (List Link) Flaw
 before_links l (Ok ls) = Ok (l ∷ ls)
 before_links l (Err flaw) = Err flaw
 
--- The links behind one, by where its delta leads.
+-- The links after one, by the checkpoint to which its delta leads.
 abbrev pub links_behind : Delta → ℤ → Option Framed → (Framed → Result (List Link) Flaw) → Result (List Link) Flaw
 links_behind d (pos zero) earlier next = Ok []
 links_behind d delta None next = Err (record { offset = d.at; reason = ChainDelta })
 links_behind d delta (Some r) next = next r
 
--- The checkpoint that starts at this place, if there is a place and a checkpoint starts there.
+-- The checkpoint that starts at this offset, if there is an offset and a checkpoint starts there.
 abbrev pub earlier_checkpoint : List Framed → Option ℕ → Option Framed
 earlier_checkpoint rs None = None
 earlier_checkpoint rs (Some to) = checkpoint_at rs to
 
--- The checkpoint that a delta at a place leads to, none behind the oldest, or the flaw of the delta: by the
--- checkpoint that starts where it leads, if one does.
+-- The checkpoint to which the delta at an offset leads, none after the oldest, or the flaw of the delta; by
+-- the checkpoint that starts where it leads, if one does.
 abbrev pub older_by : ℕ → ℤ → Option Framed → Result (Option Framed) Flaw
 older_by at (pos zero) earlier = Ok None
 older_by at delta None = Err (record { offset = at; reason = ChainDelta })
 older_by at delta (Some r) = Ok (Some r)
 
--- The checkpoint that a link's delta leads to, none behind the oldest, or the flaw of the delta.
+-- The checkpoint to which a link's delta leads, none after the oldest, or the flaw of the delta.
 abbrev pub older_of : List Framed → Link → Result (Option Framed) Flaw
 older_of rs l = older_by l.delta_at l.delta (earlier_checkpoint rs (earlier_place l.frame.at (pos l.frame.at +ℤ l.delta)))
 
@@ -117,12 +120,12 @@ abbrev pub links_by : List Framed → Framed → Answer Delta → (Framed → Re
 links_by rs r (Err flaw) next = Err flaw
 links_by rs r (Ok g) next = before_links (link_of r g.value) (links_behind g.value g.value.value (earlier_checkpoint rs (earlier_place r.at (pos r.at +ℤ g.value.value))) next)
 
--- The chain from a checkpoint on, newest first, or its flaw. Each step goes to an earlier record, so as
--- many turns as there are records are enough.
+-- The chain from a checkpoint on, newest first, or its flaw. Each step goes to an earlier record, so the
+-- number of records is a large enough bound.
 abbrev pub chain_within : ℕ → List ℕ → List Framed → Framed → Result (List Link) Flaw
 chain_within zero c rs r = Ok []
 chain_within (suc n) c rs r = links_by rs r (run head_format c (record_end r) r.body) (chain_within n c rs)
 
--- The chain from the last checkpoint on, newest first, or its flaw.
+-- The chain from the last checkpoint on, newest first, or its flaw, by computing.
 unfoldable pub chain_of : List ℕ → List Framed → Framed → Result (List Link) Flaw
 chain_of c rs last = chain_within (length rs) c rs last

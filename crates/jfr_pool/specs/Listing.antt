@@ -9,21 +9,21 @@ use Rattle.jfr_pool.specs.declared.entry.EntryAt.{EntryAt}
 use Rattle.jfr_pool.specs.Entries.{Constant, PoolAt, entry_of}
 use Rattle.jfr_pool.specs.Faults.{TellsFlaw}
 
--- The entries, and the place behind them; or the flaw.
+-- The entries and the offset after them, or the flaw.
 abbrev pub Listing : Type 0
 Listing = Result (List EntryAt × ℕ) Flaw
 
--- The entries of what a format gives.
+-- The entries in what a format gives.
 abbrev pub listed : {A : Type 0} → (A → List EntryAt) → Answer A → Listing
 listed entries (Ok g) = Ok (entries g.value, g.place)
 listed entries (Err flaw) = Err flaw
 
--- One entry, and the place behind it.
+-- One entry and the offset after it, or the flaw.
 abbrev pub single : Result EntryAt Flaw → Listing
 single (Ok e) = Ok (e ∷ [], e.end)
 single (Err flaw) = Err flaw
 
--- The entries of the listing are added to the old ones, and its place is told; or its flaw.
+-- The entries of the listing are added to the old ones, and its offset is returned; or its flaw is.
 abbrev pub Adds : Listing → List EntryAt → List EntryAt → Result ℕ ReadFault → Type 0
 Adds listing old new (Ok to) = (es : List EntryAt) × (listing ≡ Ok (es, to)) × (new ≡ old ++ es)
 Adds listing old new (Err fault) = TellsFlaw listing fault
@@ -32,11 +32,11 @@ Adds listing old new (Err fault) = TellsFlaw listing fault
 abbrev pub entry_in : PoolId → Constant → EntryAt
 entry_in pool e = entry_of pool.checkpoint pool.number pool.class e
 
--- The list of one such entry.
+-- The list of only this entry.
 abbrev pub entry_alone : PoolId → Constant → List EntryAt
 entry_alone pool e = entry_in pool e ∷ []
 
--- The entries of a pool with this number.
+-- The entries of the pool with this number.
 abbrev pub pool_entries : ℕ → ℕ → PoolAt → List EntryAt
 pool_entries checkpoint number p = map (entry_of checkpoint number p.class) p.constants
 
@@ -44,7 +44,7 @@ pool_entries checkpoint number p = map (entry_of checkpoint number p.class) p.co
 abbrev pub count_format : Format ℕ
 count_format = integer >>= λ start. integer >>= λ duration. integer >>= λ delta. Run 1 λ kind. integer
 
--- An integer that a format gives, and the place behind it.
+-- An integer that a format gives and the offset after it, or the flaw.
 abbrev pub integer_by : Answer ℕ → Result Var Flaw
 integer_by (Ok g) = Ok (record { value = g.value; end = g.place })
 integer_by (Err flaw) = Err flaw

@@ -1,4 +1,4 @@
-// The chain of checkpoints.
+//! The chain of checkpoints.
 ghost use Rattle.std.specs.Prelude.{◌≡◌, ◌+ℤ◌, ◌<◌, length, pos, reverse, slice_get, option_copied, IfOk, IfErr, IfSome, IsTrue, MatchResult, Some};
 ghost use Rattle.jfr_base.specs.Formats.{run};
 ghost use Rattle.jfr_frame.specs.Records.{AreRecords, IsRecord, record_end, starts_at};
@@ -7,12 +7,9 @@ ghost use Rattle.jfr_pool.specs.Faults.{TellsFlaw};
 
 use crate::Link;
 use jfr_base::{Flaw, ReadFault, Reason, read_within, signed};
-use jfr_frame::{Framed, Frames};
+use jfr_frame::{CHECKPOINT_TYPE, Framed, Frames};
 use std::alloc::Global;
 use std::marker::Model;
-
-// The type of checkpoint records.
-const CHECKPOINT: u64 = 1;
 
 /// The chained checkpoints of a chunk, in the order of the file: the oldest first.
 #[derive(Drop)]
@@ -30,10 +27,10 @@ impl Model for Chain {
 }
 
 impl Chain {
-    /// Reads the chain whose newest checkpoint starts at the offset `last`. From the newest on, it is
-    /// refused as `Short` where a checkpoint's start, duration or delta doesn't end within its record, and
-    /// as `ChainDelta`, at the delta, where that is neither 0 nor a step to an earlier checkpoint. `Memory`
-    /// where memory is wanting.
+    /// Reads the chain whose newest checkpoint starts at the offset `last`, from the newest on. It is refused
+    /// as `Short` if a checkpoint's start, duration or delta doesn't end within its record, and as
+    /// `ChainDelta`, at the delta, if that is neither 0 nor leads to an earlier checkpoint. `Memory` if
+    /// memory runs out.
     pub fn read(alloc: Global, chunk: &[u8], frames: &Frames, last: u64) -> Result<Chain, ReadFault>
         requires framed { AreRecords chunk.now frames.now }
         requires last { IsTrue (starts_at frames.now last 1) }
@@ -41,11 +38,11 @@ impl Chain {
         ensures read { IfOk result (λ chain. IsReadFrom chunk.now chain) }
         ensures refused { IfErr result (λ fault. IsRefusedChain chunk.now frames.now last fault) }
 
-        // By computing: what the definition gives.
+        // The answer that `chain_of` computes.
         ensures exact { IfSome (checkpoint_at frames.now last) (λ r. MatchResult result (λ chain. chain_of chunk.now frames.now r ≡ Ok (reverse chain)) (TellsFlaw (chain_of chunk.now frames.now r))) }
     {
         let mut links = Vec::new(alloc);
-        let mut next = frames.find(last, CHECKPOINT);
+        let mut next = frames.find(last, CHECKPOINT_TYPE);
         'links: while let Some(frame) = next {
             let link = read_link(chunk, frame)?;
             next = older(frames, &link)?;
@@ -55,14 +52,14 @@ impl Chain {
         Ok(Chain { links })
     }
 
-    /// How many checkpoints the chain has.
+    /// The number of checkpoints.
     pub fn len(&self) -> usize
         ensures { result ≡ length self.now }
     {
         self.links.len()
     }
 
-    /// The checkpoint of a number, from 0, in the order of the file.
+    /// The checkpoint with this number, from 0, in the order of the file.
     pub(crate) fn at(&self, number: usize) -> &Link
         requires { number < length self.now }
         ensures { slice_get self.now number ≡ Some result.now }
@@ -70,7 +67,7 @@ impl Chain {
         &self.links[number]
     }
 
-    /// The checkpoint of a number, from 0, in the order of the file; `None` exactly past the end.
+    /// The checkpoint with this number, from 0, in the order of the file, if there is one.
     pub fn get(&self, at: usize) -> Option<&Link>
         ensures { option_copied result ≡ slice_get self.now at }
     {
@@ -96,7 +93,7 @@ fn read_link(chunk: &[u8], frame: Framed) -> Result<Link, Flaw>
     })
 }
 
-/// The checkpoint that a delta leads to; `None` behind the oldest.
+/// The checkpoint to which a checkpoint's delta leads; `None` for the oldest, whose delta is 0.
 fn older(frames: &Frames, link: &Link) -> Result<Option<Framed>, Flaw>
     ensures exact { result ≡ older_of frames.now link.now }
 {
@@ -112,15 +109,15 @@ fn older(frames: &Frames, link: &Link) -> Result<Option<Framed>, Flaw>
     }
 }
 
-/// The checkpoint that starts where a delta leads, if that is an earlier offset.
+/// The checkpoint that starts where a checkpoint's delta leads, if that is an earlier offset.
 fn earlier_checkpoint(frames: &Frames, link: &Link) -> Option<Framed>
     ensures { result ≡ earlier_checkpoint frames.now (earlier_place link.now.frame.at (pos link.now.frame.at +ℤ link.now.delta)) }
 {
     let place = earlier_place(link.frame.at, link.delta)?;
-    frames.find(place, CHECKPOINT)
+    frames.find(place, CHECKPOINT_TYPE)
 }
 
-/// The offset to which a delta leads from another, if it is an earlier one.
+/// The offset to which a delta leads from the offset `at`, if it is an earlier one.
 fn earlier_place(at: usize, delta: i64) -> Option<u64>
     ensures { result ≡ earlier_place at (pos at +ℤ delta) }
 {

@@ -1,4 +1,4 @@
-// The body of a checkpoint: its pools and their entries.
+//! The body of a checkpoint: its pools and their entries.
 ghost use Rattle.std.specs.Prelude.{◌≡◌, ◌≤◌, is_some, length, map, IfOk, IsSome};
 ghost use Rattle.jfr_base.specs.Formats.{run, times};
 ghost use Rattle.jfr_frame.specs.Records.{IsRecord, record_end};
@@ -12,8 +12,8 @@ use jfr_frame::Framed;
 use jfr_layout::{Classes, Shape};
 use jfr_value::end_of;
 
-/// A pool: its class, the number of its checkpoint in the chain, in the order of the file, and its own in
-/// the checkpoint, both from 0.
+/// A pool: its class, the number of its checkpoint in the chain, in the order of the file, and its own number
+/// in the checkpoint, both from 0.
 #[derive(Clone, Copy)]
 pub(crate) struct PoolId {
     pub class: u64,
@@ -21,7 +21,7 @@ pub(crate) struct PoolId {
     pub number: usize,
 }
 
-/// Adds the entries of a checkpoint of this number to others, and says where its body ends.
+/// Adds the entries of the checkpoint with this number to others, and returns where its body ends.
 pub(crate) fn read_checkpoint(
     chunk: &[u8],
     classes: &Classes,
@@ -52,8 +52,8 @@ pub(crate) fn read_checkpoint(
     Ok(to)
 }
 
-/// How many pools a checkpoint has, and the offset of the first. Before the number stand start, duration,
-/// delta and a type byte.
+/// The number of pools of a checkpoint, and the offset of the first. Start, duration, delta and a type byte
+/// come before the number.
 #[tactic(auto, unfolding(jfr_base::specs::Formats::run))]
 fn pool_count(chunk: &[u8], at: usize, limit: usize) -> Result<Var, Flaw>
     requires order { at ≤ limit }
@@ -71,7 +71,7 @@ fn pool_count(chunk: &[u8], at: usize, limit: usize) -> Result<Var, Flaw>
     Ok(count)
 }
 
-/// Adds the entries of so many pools, and says where they end.
+/// Adds the entries of `count` pools, and returns where they end.
 fn read_pools(
     chunk: &[u8],
     classes: &Classes,
@@ -101,7 +101,8 @@ fn read_pools(
     Ok(to)
 }
 
-/// Adds the entries of a pool of this number, and says where it ends. Its class has to be known.
+/// Adds the entries of the pool with this number, and returns where it ends. The pool is refused if its class
+/// isn't known.
 fn read_pool(
     chunk: &[u8],
     classes: &Classes,
@@ -132,14 +133,14 @@ fn read_pool(
     read_entries(chunk, classes, pool, count.value, count.end, limit, entries)
 }
 
-/// Whether there is a class of this id.
+/// Whether there is a class with this id.
 fn is_known(classes: &Classes, class: u64) -> bool
     ensures { result ≡ is_some (find_class classes.now class) }
 {
     classes.find(class).is_some()
 }
 
-/// Adds so many entries of a pool, and says where they end.
+/// Adds `count` entries of a pool, and returns where they end.
 fn read_entries(
     chunk: &[u8],
     classes: &Classes,
@@ -164,7 +165,7 @@ fn read_entries(
     Ok(to)
 }
 
-/// The entry that begins at the offset `at`: its key, and its value.
+/// The entry that starts at the offset `at`: its key, and its value.
 fn read_entry(
     chunk: &[u8],
     classes: &Classes,

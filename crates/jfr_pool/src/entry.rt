@@ -1,7 +1,6 @@
-// One entry of a constant pool.
+//! One entry of a constant pool.
 
-/// An entry of a constant pool where it stands: its value is a constant. Offsets count from the chunk's
-/// first byte.
+/// An entry of a constant pool, by its offsets in the chunk. Its value is a constant.
 #[derive(Clone, Copy, Debug, PartialEq, Eq)]
 pub struct EntryAt {
     /// The class of its pool.
@@ -10,7 +9,7 @@ pub struct EntryAt {
     pub key: u64,
     /// The offset of the key.
     pub key_at: usize,
-    /// The offset of the value, which stands behind the key.
+    /// The offset of the value, which follows the key.
     pub value_at: usize,
     /// The offset after the value.
     pub end: usize,

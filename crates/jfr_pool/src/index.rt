@@ -1,4 +1,4 @@
-// The numbers of the entries in force that no direct table has, by class and key: a hash table.
+//! A hash table of the entries in force, by class and key, for those that no direct table has.
 ghost use Rattle.std.specs.Prelude.{None, ◌≡◌, false, ◌+◌, ◌-◌, ◌<◌, ◌≤◌, ◌^◌, [], ◌∷◌, ◌++◌, length, vec_len, IfOk, IfSome, IsTrue, OnOk};
 ghost use Rattle.jfr_pool.specs.declared.index.TheConstants.{REACH};
 
@@ -8,20 +8,20 @@ use jfr_base::NoMemory;
 use std::alloc::Global;
 use std::collections::BTreeMap;
 
-// A class and key stand in one of so many slots, of which their home is the first.
+// A class and key are in one of this many slots, of which their home is the first.
 const REACH: usize = 8;
 
-// Classes with ids below this may stand in a slot.
+// Classes with ids below this can be in a slot.
 const CLASSES: u64 = 1 << 32;
 
-// The bits of a class are mixed into a key's from this one on, where few keys have any.
+// The bits of a class are mixed into the key's from this bit on, where few keys have bits set.
 const CLASS_AT: u32 = 48;
 
-// The two are mixed by multiplying with this odd number.
+// The odd number by which the two are multiplied to mix them.
 const MIX: u64 = 0x94D0_49BB_1331_11EB;
 
 /// A slot of the hash table: a class and key, and the ordinal of the entry in force, which is its number plus
-/// 1; 0 where the slot is empty.
+/// 1. An empty slot has the ordinal 0.
 #[derive(Clone, Copy)]
 pub(crate) struct Slot {
     pub key: u64,
@@ -49,7 +49,7 @@ impl Slot {
         self.ordinal == 0 || self.is_of(class, key)
     }
 
-    /// The number of the entry in force; `None` exactly where the slot is empty.
+    /// The number of the entry in force; `None` exactly if the slot is empty.
     #[inline(always)]
     fn number(&self) -> Option<usize>
         ensures { result ≡ number_in self.now }
@@ -58,14 +58,14 @@ impl Slot {
     }
 }
 
-/// The numbers of the entries in force for the classes and keys that no table has. A class and key stand in
-/// the first slot, from their home on, that was open to them; and in the map of the others where none
-/// within reach was, or the class's id is too large for a slot.
+/// The numbers of the entries in force for the classes and keys that no direct table has. A class and key are
+/// in the first slot from their home on that was empty when they were added. If none within reach was, or the
+/// class's id is too large for a slot, they are in the map of the others.
 #[derive(Drop)]
 pub(crate) struct Index {
     /// The hash table.
     pub slots: Vec<Slot>,
-    /// The numbers for classes and keys that stand in no slot.
+    /// The numbers for the classes and keys that are in no slot.
     pub others: BTreeMap<(u64, u64), usize>,
     ghost homes: { REACH < vec_len slots },
 }
@@ -88,8 +88,8 @@ impl Index {
         Ok(index)
     }
 
-    /// The number of the entry in force for a class and a key that no table has; `None` exactly where there
-    /// is none. Mostly they stand in their home, or nothing does.
+    /// The number of the entry in force for a class and a key that no direct table has, if there is one.
+    /// Mostly the class and key are in their home slot, or this slot is empty.
     #[inline(never)]
     pub fn number(&self, class: u64, key: u64) -> Option<usize>
         ensures { result ≡ number_of self.now (class, key) }
@@ -105,8 +105,8 @@ impl Index {
         self.number_past(home, class, key)
     }
 
-    /// The number for a class and a key whose home another pair took, or whose class has an id too large
-    /// for a slot.
+    /// As `number`, for a class and a key whose home slot has others, or whose class has an id too large for
+    /// a slot.
     #[inline(never)]
     fn number_past(&self, place: usize, class: u64, key: u64) -> Option<usize>
         requires home { place ≡ home self.now.slots.items (class, key) }
@@ -123,7 +123,7 @@ impl Index {
         }
     }
 
-    /// The number for a class and a key that stand in no slot.
+    /// The number for a class and a key that are in no slot, if the map of the others has one.
     #[cold]
     fn other_number(&self, class: u64, key: u64) -> Option<usize>
         ensures { result ≡ number_at self.now (class, key) None }
@@ -131,7 +131,8 @@ impl Index {
         self.others.get(&(class, key)).copied()
     }
 
-    /// The index of no entries, with slots for so many: two for each, and the reach behind the last home.
+    /// An index without entries, with slots for `count`: two homes for each and one more, and the slots
+    /// within reach of the last home.
     fn new(alloc: Global, count: usize) -> Result<Index, NoMemory>
         ensures { IfOk result (λ index. (by_class : List Table) → Indexes by_class index []) }
     {
@@ -148,7 +149,7 @@ impl Index {
         })
     }
 
-    /// Takes the next entry, which has this number, where no direct table has it.
+    /// Adds the next entry, which has this number, unless a direct table has its class and key.
     fn take(&mut self, entry: &EntryAt, number: usize, tables: &Tables) -> Result<(), NoMemory>
         requires { number + 1 < 2 ^ 32 }
         ensures { OnOk result ((es : List EntryAt) → Indexes tables.now.by_class.items self.old es → length es ≡ number → Indexes tables.now.by_class.items self.new (es ++ entry.now ∷ [])) }
@@ -159,7 +160,7 @@ impl Index {
         self.put(entry, number)
     }
 
-    /// Puts in the next entry, which has this number.
+    /// Adds the next entry, which has this number.
     fn put(&mut self, entry: &EntryAt, number: usize) -> Result<(), NoMemory>
         requires { number + 1 < 2 ^ 32 }
         ensures { OnOk result ((by_class : List Table) (es : List EntryAt) → Indexes by_class self.old es → length es ≡ number → Indexes by_class self.new (es ++ entry.now ∷ [])) }
@@ -180,7 +181,7 @@ impl Index {
         Ok(())
     }
 
-    /// The number of the first slot within reach that is open to a class and key.
+    /// The first slot within reach that is empty or has this class and key.
     fn seat(&self, class: u64, key: u64) -> Option<usize>
         ensures exact { result ≡ seat self.now.slots.items (class, key) }
         ensures within { IfSome result (λ place. (place < vec_len self.now.slots) × (class < 2 ^ 32)) }
@@ -192,7 +193,7 @@ impl Index {
         self.first_open(home, home + REACH, class, key)
     }
 
-    /// The number of the first slot that is open to a class and key, from one number up to another.
+    /// The first slot, of those from `from` up to `end`, that is empty or has this class and key.
     #[inline(always)]
     fn first_open(&self, from: usize, end: usize, class: u64, key: u64) -> Option<usize>
         requires { end ≤ vec_len self.now.slots }
@@ -207,7 +208,7 @@ impl Index {
         None
     }
 
-    /// The number of the first slot in which a class and key may stand.
+    /// The home of a class and key: the first slot in which they can be.
     #[inline(always)]
     #[tactic(auto, unfolding(crate::specs::Index::home))]
     fn home(&self, class: u64, key: u64) -> usize
@@ -220,7 +221,7 @@ impl Index {
     }
 }
 
-/// How many entries no direct table has.
+/// The number of entries whose class and key no direct table has.
 fn count_past(entries: &[EntryAt], tables: &Tables) -> usize
     ensures { result ≤ length entries.now }
 {

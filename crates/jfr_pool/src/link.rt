@@ -1,4 +1,4 @@
-// One checkpoint of the chain.
+//! One checkpoint of the chain.
 
 use jfr_frame::Framed;
 
@@ -11,6 +11,7 @@ pub struct Link {
     pub delta_at: usize,
     /// The offset after its delta.
     pub delta_end: usize,
-    /// How many bytes from here the earlier checkpoint of the chain starts: negative, or 0 in the oldest.
+    /// The earlier checkpoint of the chain starts this many bytes from this one's first byte: negative, or 0
+    /// in the oldest.
     pub delta: i64,
 }

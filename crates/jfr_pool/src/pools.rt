@@ -1,4 +1,4 @@
-// The entries of the chained checkpoints.
+//! The entries of the chained checkpoints.
 ghost use Rattle.std.specs.Prelude.{◌≡◌, ◌<◌, ◌↔◌, length, slice_get, option_copied, IfOk, IfErr, IsTrue, MatchResult};
 ghost use Rattle.jfr_pool.specs.Chains.{IsReadFrom};
 ghost use Rattle.jfr_pool.specs.Entries.{AreEntries, IsInForce, IsRefusedEntries, entries_of, number_in_force};
@@ -13,7 +13,7 @@ use jfr_layout::Classes;
 use std::alloc::Global;
 use std::marker::Model;
 
-/// The entries of the chained checkpoints, in the order of the file, and which of them is in force for a
+/// The entries of the chained checkpoints, in the order of the file, and which of them is in force for each
 /// class and key.
 #[derive(Drop)]
 pub struct Pools {
@@ -36,11 +36,10 @@ impl Model for Pools {
 }
 
 impl Pools {
-    /// Reads the entries of the chained checkpoints, the oldest first. They are refused at the first flaw
-    /// in the order of the file: `Short` or `StringKind` in a checkpoint's numbers or values, `PoolType`
-    /// where a pool's class isn't known, `Trailing` where a checkpoint has bytes behind its last pool.
-    /// `Memory` where memory is wanting, and for 2^32 entries or more, which only a chunk of 4 GiB or more
-    /// can have.
+    /// Reads the entries of the chained checkpoints, the oldest first. They are refused for the first flaw in
+    /// the order of the file: `Short` or `StringKind` in a checkpoint's numbers or values, `PoolType` if a
+    /// pool's class isn't known, `Trailing` if a checkpoint has bytes after its last pool. `Memory` if memory
+    /// runs out, and for 2^32 entries or more, which only a chunk of 4 GiB or more can have.
     pub fn read(
         alloc: Global,
         chunk: &[u8],
@@ -51,7 +50,7 @@ impl Pools {
         ensures ok { IfOk result (λ pools. AreEntries chunk.now classes.now 0 chain.now pools) }
         ensures refused { IfErr result (λ fault. IsRefusedEntries chunk.now classes.now chain.now fault) }
 
-        // By computing: what the definition gives.
+        // The answer that `entries_of` computes.
         ensures exact { MatchResult result (λ pools. entries_of chunk.now classes.now 0 chain.now ≡ Ok pools) (TellsFlaw (entries_of chunk.now classes.now 0 chain.now)) }
     {
         let mut entries = Vec::new(alloc);
@@ -71,7 +70,7 @@ impl Pools {
         })
     }
 
-    /// How many entries there are.
+    /// The number of entries.
     pub fn len(&self) -> usize
         ensures { result ≡ length self.now }
     {
@@ -85,15 +84,15 @@ impl Pools {
         self.entries.as_slice()
     }
 
-    /// The entry of a number, from 0, in the order of the file; `None` exactly past the end.
+    /// The entry with this number, from 0, in the order of the file, if there is one.
     pub fn get(&self, at: usize) -> Option<&EntryAt>
         ensures { option_copied result ≡ slice_get self.now at }
     {
         self.entries.get(at)
     }
 
-    /// The number of the entry in force for a class and a key: of those with both, the one that stands
-    /// last. `None` exactly where there is none.
+    /// The number of the entry in force for a class and a key, which is the last one with both, if there is
+    /// one.
     #[inline(always)]
     pub fn entry(&self, class: u64, key: u64) -> Option<usize>
         ensures { result ≡ number_in_force self.now (class, key) }
@@ -105,7 +104,7 @@ impl Pools {
         }
     }
 
-    /// Whether the entry of a number is the one in force for its class and key.
+    /// Whether the entry with this number is the one in force for its class and key.
     pub fn in_force(&self, at: usize) -> bool
         requires { at < length self.now }
         ensures { IsTrue result ↔ IsInForce self.now at }

@@ -1,12 +1,12 @@
-// The direct table of a class: the number of its entry in force for each key of a range.
+//! The direct table of a class, which gives the entry in force for each key of a range.
 ghost use Rattle.std.specs.Prelude.{◌≡◌, ◌≢◌, ℕ, option_map, replicate, IfOk};
 
 use jfr_base::NoMemory;
 use std::alloc::Global;
 
 /// The direct table of a class: an ordinal for the key 0, and one for each key of a range that begins at
-/// `first`. The ordinal of a key is the number of its entry in force plus 1, and 0 where none is. Other keys
-/// have none.
+/// `first`. The ordinal of a key is the number of its entry in force plus 1, or 0 if there is no entry. Other
+/// keys aren't in the table.
 #[derive(Drop)]
 pub(crate) struct Table {
     /// The first key of the range.
@@ -20,7 +20,7 @@ pub(crate) struct Table {
 impl Table {
     ghost use Rattle.jfr_pool.specs.Tables.{in_table};
 
-    /// A table of zeros for so many keys from `first` on, and for the key 0.
+    /// A table of zeros for `places` keys from `first` on, and for the key 0.
     pub fn of(alloc: Global, first: u64, places: usize) -> Result<Table, NoMemory>
         ensures { IfOk result (λ table. (table.first ≡ first) × (table.zero ≡ 0) × (table.ordinals.items ≡ replicate places 0)) }
     {
@@ -31,7 +31,7 @@ impl Table {
         })
     }
 
-    /// The ordinal of a key; `None` exactly where the table hasn't the key.
+    /// The ordinal of a key; `None` exactly if the table doesn't have the key.
     #[inline(always)]
     pub fn ordinal(&self, key: u64) -> Option<u32>
         ensures { result ≡ in_table key self.now }

@@ -1,4 +1,4 @@
-// The numbers of the entries in force of classes with small ids: direct tables by class and key.
+//! The direct tables of classes with small ids, which give entries in force by class and key.
 ghost use Rattle.std.specs.Prelude.{◌≡◌, ◌+◌, ◌<◌, ◌≤◌, ◌^◌, [], ◌∷◌, ◌++◌, length, IfOk};
 
 use crate::EntryAt;
@@ -6,17 +6,16 @@ use crate::table::Table;
 use jfr_base::NoMemory;
 use std::alloc::Global;
 
-// Classes with ids below this may have a table.
+// Only classes with ids below this can have a table.
 const MAY_HAVE: u64 = 4096;
 
-// Classes with ids below this have a table whatever the entries are: one of the key 0 alone, where no other
-// fits.
+// Classes with ids below this always have a table, if only one for the key 0.
 const ALWAYS_HAVE: usize = 1024;
 
-// How many ordinals all tables of a chunk together may have, whatever the number of entries.
+// All tables of a chunk together may have this many ordinals, whatever the number of entries.
 const ORDINALS: usize = 65_536;
 
-// How many more for each entry.
+// And this many more for each entry.
 const ORDINALS_PER_ENTRY: usize = 4;
 
 /// The least and the greatest key above 0 of a class.
@@ -33,7 +32,7 @@ const NO_KEYS: KeyRange = KeyRange {
 };
 
 impl KeyRange {
-    /// How many keys there are from the least to the greatest: 0 where there are none, or more than `most`.
+    /// The number of keys from the least to the greatest; 0 if there are none, or more than `most`.
     fn places(self, most: usize) -> usize
         ensures { result ≤ most }
     {
@@ -44,8 +43,8 @@ impl KeyRange {
     }
 }
 
-/// For each class with a small id a direct table. For a class and key it has the number of the entry in force plus
-/// 1, or 0 where there is no entry; a key that the table doesn't have is in the index.
+/// The direct tables of classes with small ids. The ordinal of a class and key is the number of the entry in
+/// force plus 1, or 0 if there is no entry; keys that no table has are in the index.
 #[derive(Drop)]
 pub(crate) struct Tables {
     /// The tables, by the class's id.
@@ -57,7 +56,7 @@ impl Tables {
     ghost use Rattle.jfr_pool.specs.declared.entry.EntryAt.{EntryAt};
     ghost use Rattle.jfr_pool.specs.Tables.{AreTables, ordinal_at};
 
-    /// The tables of entries.
+    /// The tables for these entries.
     pub fn of(alloc: Global, entries: &[EntryAt]) -> Result<Tables, NoMemory>
         requires { length entries.now < 2 ^ 32 }
         ensures { IfOk result (λ tables. AreTables tables entries.now) }
@@ -74,7 +73,7 @@ impl Tables {
         Ok(tables)
     }
 
-    /// The ordinal of a class and key; `None` exactly where no table has them.
+    /// The ordinal of a class and key; `None` exactly if no table has them.
     #[inline(always)]
     pub fn ordinal(&self, class: u64, key: u64) -> Option<u32>
         ensures { result ≡ ordinal_at self.now.by_class.items (class, key) }
@@ -85,8 +84,8 @@ impl Tables {
         table.ordinal(key)
     }
 
-    /// The tables of no entries, for the keys of these ranges, as far as `places` ordinals in all are enough;
-    /// a class for which they aren't has a table for key 0 alone.
+    /// Tables without entries, for the keys of these ranges, with at most `places` ordinals in all. A class
+    /// whose range is larger than what is left of these has a table for the key 0 only.
     fn empty(alloc: Global, ranges: &[KeyRange], places: usize) -> Result<Tables, NoMemory>
         ensures { IfOk result (λ tables. AreTables tables []) }
     {
@@ -100,7 +99,7 @@ impl Tables {
         Ok(Tables { by_class })
     }
 
-    /// Takes the next entry, which has this number, where a table has its class and key.
+    /// Sets the ordinal of the next entry, which has this number, if a table has its class and key.
     fn put(&mut self, entry: &EntryAt, number: usize)
         requires { number + 1 < 2 ^ 32 }
         ensures { (es : List EntryAt) → AreTables self.old es → length es ≡ number → AreTables self.new (es ++ entry.now ∷ []) }
@@ -113,8 +112,8 @@ impl Tables {
     }
 }
 
-/// The range of the keys above 0 of each class, by its id: of all ids below `ALWAYS_HAVE`, and from there up to the
-/// largest id below `MAY_HAVE` that an entry has.
+/// The range of the keys above 0 of each class, by the class's id: for all ids below `ALWAYS_HAVE`, and from
+/// there up to the largest id below `MAY_HAVE` that an entry has.
 fn key_ranges(alloc: Global, entries: &[EntryAt]) -> Result<Vec<KeyRange>, NoMemory> {
     let mut ranges = vec![in alloc; NO_KEYS; ALWAYS_HAVE]?;
     for entry in entries {

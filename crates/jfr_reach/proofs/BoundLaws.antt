@@ -1,4 +1,4 @@
--- The kept events and the entries of a chunk have together at most as many leaves as the chunk has bytes.
+-- The kept events and the entries of a chunk together have at most one leaf for each byte of the chunk.
 use Rattle.std.specs.Prelude.{◌≡◌, ℕ, ◌+◌, ◌≤◌, Bool, true, false, List, [], ◌∷◌, length, replicate, slice_get, Ok, Err}
 use Rattle.std.specs.List.{filter_map, cons_option}
 use Rattle.std.specs.Option.{option_map_or}
@@ -12,13 +12,13 @@ use Rattle.jfr_value.specs.Reading.{value_format}
 use Rattle.jfr_pool.specs.Entries.{inline}
 use Rattle.jfr_chunk.specs.Parts.{Parts, EventAt, event_by, event_of, event_records, events_of, AreParts, pools_at}
 use Rattle.jfr_chunk.specs.Reach.{marked, kept_by}
-use Rattle.jfr_chunk.proofs.Members.{In}
+use Rattle.jfr_worklist.proofs.Members.{In}
 use Rattle.jfr_chunk.proofs.AllLaws.{all_in}
 use Rattle.jfr_chunk.proofs.BoundLaws.{total, record_size, leaves_of, entries_apart}
 use Rattle.jfr_chunk.proofs.CountLaws.{leaves_few}
 use Rattle.jfr_chunk.proofs.StandingLaws.{standing, event_is, tiles_each}
 use Rattle.jfr_reach.specs.Walks.{node_leaves, event_leaves, entry_leaves}
-use Rattle.jfr_reach.proofs.PutLaws.{weigh}
+use Rattle.jfr_worklist.proofs.PutLaws.{weigh}
 
 total_most : {X : Type 0} (v w : X → ℕ) (xs : List X) → ((x : X) → In xs x → v x ≤ w x) → total v xs ≤ total w xs
 total_most v w [] h = omega arith

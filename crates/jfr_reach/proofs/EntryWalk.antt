@@ -4,16 +4,17 @@ use Rattle.std.proofs.Common.{ap, arith, refl, sym, ◌∙◌, inl, inr, subst}
 use Rattle.std.proofs.lemmas.List.{length-replicate}
 use Rattle.jfr_pool.specs.Entries.{number_in_force}
 use Rattle.jfr_chunk.specs.Parts.{Parts, EventAt, AreParts, events_of}
-use Rattle.jfr_chunk.specs.Reach.{IsMarked, Reached, all_targets, nodes_of, roots, next_entries, marked, kept_by, marked_at, swept, reached_marks, led_to}
-use Rattle.jfr_chunk.proofs.ForceLaws.{force_within}
-use Rattle.jfr_chunk.proofs.Members.{In, in_those}
+use Rattle.jfr_worklist.specs.Marks.{IsMarked, marked_at, swept, led_to}
+use Rattle.jfr_chunk.specs.Reach.{Reached, all_targets, nodes_of, roots, next_entries, marked, kept_by, reached_marks}
+use Rattle.jfr_pool.proofs.ForceLaws.{force_within}
+use Rattle.jfr_worklist.proofs.Members.{In, in_those}
 use Rattle.jfr_chunk.proofs.ReachedLaws.{reached_marked}
 use Rattle.jfr_chunk.proofs.StandingLaws.{standing, event_is}
-use Rattle.jfr_chunk.proofs.SweepLaws.{AllBelow, marks_reach}
-use Rattle.jfr_reach.specs.Worklists.{ordered_all}
+use Rattle.jfr_worklist.proofs.SweepLaws.{AllBelow, marks_reach}
+use Rattle.jfr_worklist.specs.Worklists.{ordered_all}
 use Rattle.jfr_reach.specs.Walks.{event_leaves, entry_leaves}
 use Rattle.jfr_reach.proofs.BoundLaws.{leaves_bound}
-use Rattle.jfr_reach.proofs.WalkLaws.{Walking, all_size, walking_ends, started, went_on}
+use Rattle.jfr_worklist.proofs.WalkLaws.{Walking, all_size, walking_ends, started, went_on}
 
 module _ (p : Parts) where
   next_below : (j : ℕ) → AllBelow (length p.entries) (next_entries p j)
@@ -35,7 +36,7 @@ module _ (p : Parts) where
       a ∙ (b ∙ length-replicate (length p.entries) false)
 
   module _ (keep : List Bool) where
-    -- What holds before each round, behind the events.
+    -- What holds before each round of the loop over marked entries, after the events.
     abbrev pub Going : ℕ → List Bool → List ℕ → ℕ → ℕ → Type 0
     Going steps f o at s = Walking (length p.entries) (next_entries p) (roots p (kept_by p keep)) (entry_leaves p) (steps + event_leaves p (kept_by p keep)) f o at s
 
@@ -83,7 +84,7 @@ module _ (p : Parts) where
     in_marked (true ∷ flags) (x ∷ es) e (inr i) = inr (in_marked flags es e i)
     in_marked (false ∷ flags) (x ∷ es) e i = inr (in_marked flags es e i)
 
-    -- What is marked is what paths reach.
+    -- The marked entries are exactly those that paths reach.
     pub marked_reached : AreParts p → (f : List Bool) → f ≡ reached_marks p (kept_by p keep) → (i : ℕ) → IsMarked f i ↔ Reached p (kept_by p keep) i
     marked_reached parts f e i =
         let r = reached_marked p (standing p parts) (kept_by p keep) (λ x k. (let v = event_is p parts x (in_marked keep (events_of p) x k) in (v.value, v.node))) i in

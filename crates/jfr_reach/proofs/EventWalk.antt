@@ -6,17 +6,18 @@ use Rattle.std.proofs.lemmas.List.{append_assoc, append-nil, length-append}
 use Rattle.jfr_value.specs.Nodes.{targets}
 use Rattle.jfr_pool.specs.Entries.{number_in_force}
 use Rattle.jfr_chunk.specs.Parts.{Parts, EventAt, AreParts, events_of}
-use Rattle.jfr_chunk.specs.Reach.{those, node_entries, all_targets, nodes_of, roots, marked, kept_by, marked_at}
+use Rattle.jfr_worklist.specs.Marks.{those, marked_at}
+use Rattle.jfr_chunk.specs.Reach.{node_entries, all_targets, nodes_of, roots, marked, kept_by}
 use Rattle.jfr_chunk.proofs.CountLaws.{references_few}
-use Rattle.jfr_chunk.proofs.Members.{In}
+use Rattle.jfr_worklist.proofs.Members.{In}
 use Rattle.jfr_chunk.proofs.RefLaws.{those_append}
 use Rattle.jfr_chunk.proofs.StandingLaws.{event_is, standing}
-use Rattle.jfr_chunk.proofs.SweepLaws.{AllBelow}
-use Rattle.jfr_reach.specs.Worklists.{ordered_all}
+use Rattle.jfr_worklist.proofs.SweepLaws.{AllBelow}
+use Rattle.jfr_worklist.specs.Worklists.{ordered_all}
 use Rattle.jfr_reach.specs.Walks.{kept_at, event_leaves, node_leaves}
 use Rattle.jfr_reach.proofs.EntryWalk.{roots_below}
 use Rattle.jfr_reach.proofs.KeyLaws.{marked_append, ordered_append}
-use Rattle.jfr_reach.proofs.WalkLaws.{all_size}
+use Rattle.jfr_worklist.proofs.WalkLaws.{all_size}
 
 get_in : {X : Type 0} (xs : List X) (i : ℕ) (x : X) → Some x ≡ slice_get xs i → In xs x
 get_in [] i x e = cc
@@ -34,7 +35,7 @@ kept_in keep es i e h = by_flag (slice_get keep i) h
 entries_few : (p : Parts) → AreParts p → (e : EventAt) → In (events_of p) e → length (node_entries p.entries p.classes p.bytes e.node) ≤ node_leaves p e.node
 entries_few p parts e i = let v = event_is p parts e i in references_few p.classes (standing p parts).sound p.bytes p.entries e.node v.value v.node
 
--- The entries to which the event of a number refers where it is kept.
+-- The entries to which the event with this number refers, if it is kept.
 pub record KeptEntries (p : Parts) (keep : List Bool) (i : ℕ) (numbers : List ℕ) : Type 0 where
   pub roots_are : numbers ≡ roots p (option_to_list (kept_at keep (events_of p) i))
   pub below : AllByRecursion (λ n. n < length p.entries) numbers
@@ -148,7 +149,7 @@ all_few p parts (e ∷ es) i =
     let m = length-append (node_entries p.entries p.classes p.bytes e.node) (roots p es) in
     omega arith
 
--- The entries to which the events refer, where all are kept.
+-- The entries to which the events refer, if all are kept.
 pub record AllEntries (p : Parts) (keep : List Bool) (numbers : List ℕ) : Type 0 where
   pub roots_are : numbers ≡ roots p (kept_by p keep)
   pub below : AllByRecursion (λ n. n < length p.entries) numbers

@@ -5,10 +5,10 @@ use Rattle.std.proofs.lemmas.List.{take_more}
 use Rattle.jfr_value.specs.Visits.{TakesAll}
 use Rattle.jfr_pool.specs.declared.entry.EntryAt.{EntryAt}
 use Rattle.jfr_pool.specs.Entries.{number_in_force}
-use Rattle.jfr_chunk.specs.Reach.{add, those, marked_at}
-use Rattle.jfr_reach.specs.declared.worklist.Worklist.{Worklist}
-use Rattle.jfr_reach.specs.Worklists.{ordered, ordered_all}
-use Rattle.jfr_reach.specs.Walks.{Puts}
+use Rattle.jfr_worklist.specs.Marks.{add, those, marked_at}
+use Rattle.jfr_worklist.specs.declared.worklist.Worklist.{Worklist}
+use Rattle.jfr_worklist.specs.Worklists.{ordered, ordered_all}
+use Rattle.jfr_worklist.specs.Putting.{Puts}
 
 -- Marks at one list of numbers and then at another.
 pub marked_append : (f : List Bool) (xs ys : List ℕ) → marked_at f (xs ++ ys) ≡ marked_at (marked_at f xs) ys

@@ -1,2 +1,1 @@
-pub mod Worklists
 pub mod Walks

@@ -1,19 +1,20 @@
-// Which entries the kept events reach.
+//! The entries that the kept events reach.
 ghost use Rattle.std.specs.Prelude.{◌≡◌, ◌↔◌, ◌+◌, ◌<◌, ◌≤◌, ℕ, false, length, replicate, IfOk};
 ghost use Rattle.jfr_chunk.specs.Parts.{events_of};
-ghost use Rattle.jfr_chunk.specs.Reach.{IsMarked, Reached, is_marked, kept_by, reached_marks};
+ghost use Rattle.jfr_worklist.specs.Marks.{IsMarked, is_marked};
+ghost use Rattle.jfr_chunk.specs.Reach.{Reached, kept_by, reached_marks};
 
 use crate::walk::put_reached;
-use crate::worklist::Worklist;
 use jfr_base::NoMemory;
 use jfr_chunk::{Chunk, Kept};
 use jfr_pool::Pools;
 use jfr_value::Steps;
+use jfr_worklist::Worklist;
 use std::alloc::Global;
 use std::marker::Model;
 use std::sync::ledger::Ledger;
 
-/// Which entries of a chunk are reached: a truth value for each, in the order of the file.
+/// The entries of a chunk that are reached: a flag for each entry, in the order of the file.
 #[derive(Drop)]
 pub struct Marks {
     list: Worklist,
@@ -28,7 +29,7 @@ impl Model for Marks {
 }
 
 impl Marks {
-    /// None of the entries is reached. All the memory that `mark` needs is taken here.
+    /// Marks for the entries of a chunk, none of them set. Allocates all the memory that `mark` needs.
     pub fn make(alloc: Global, pools: &Pools) -> Result<Marks, NoMemory>
         ensures { IfOk result (λ marks. marks ≡ replicate (length pools.now) false) }
     {
@@ -36,9 +37,9 @@ impl Marks {
         Ok(Marks { list })
     }
 
-    /// Marks the entries that paths of the kept events reach, through cycles too, and no others. It takes
-    /// a step for each reference of a kept event to an entry, and walks each reached entry once, at a
-    /// step for each of its leaves. It takes no memory.
+    /// Marks exactly the entries that paths from the kept events reach; references may form cycles. Takes a
+    /// step for each reference from a kept event to an entry, and visits each reached entry once, with a step
+    /// for each of its leaves. Allocates nothing.
     pub fn mark<L: Ledger>(&mut self, chunk: &Chunk<'_>, kept: &Kept, steps: &mut Steps<L>)
         requires fresh { self.old ≡ replicate (length chunk.now.entries) false }
         requires kept { length kept.now ≡ length (events_of chunk.now) }
@@ -50,7 +51,7 @@ impl Marks {
         put_reached(&mut self.list, chunk, kept, steps);
     }
 
-    /// Whether the entry of a number is reached.
+    /// Whether the entry with this number is reached.
     pub fn is_reached(&self, at: usize) -> bool
         requires { at < length self.now }
         ensures { result ≡ is_marked self.now at }

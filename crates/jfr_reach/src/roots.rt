@@ -1,16 +1,17 @@
-// What the kept events refer to.
+//! Marking what the kept events refer to.
 ghost use Rattle.std.specs.Prelude.{◌≡◌, ◌+◌, ◌<◌, ◌≤◌, All, length, option_map, option_to_list};
 ghost use Rattle.jfr_chunk.specs.Parts.{AreParts, events_of};
 ghost use Rattle.jfr_chunk.specs.Reach.{kept_by, node_entries, roots};
-ghost use Rattle.jfr_reach.specs.Walks.{Puts, event_leaves, kept_at};
+ghost use Rattle.jfr_worklist.specs.Putting.{Puts};
+ghost use Rattle.jfr_reach.specs.Walks.{event_leaves, kept_at};
 
-use crate::worklist::Worklist;
 use jfr_chunk::{Chunk, Kept};
 use jfr_value::Steps;
+use jfr_worklist::Worklist;
 use std::sync::ledger::Ledger;
 
-/// Marks the entries in force to which the kept events refer: those of all events at once, where all
-/// are kept.
+/// Marks the entries in force to which the kept events refer. If all events are kept, the list of all events'
+/// entries is used.
 pub(crate) fn put_roots<L: Ledger>(
     list: &mut Worklist,
     chunk: &Chunk<'_>,
@@ -41,7 +42,7 @@ fn put_events<L: Ledger>(list: &mut Worklist, chunk: &Chunk<'_>, kept: &Kept, st
     }
 }
 
-/// Marks the entries in force to which the event of a number refers, where it is kept.
+/// Marks the entries in force to which the event with this number refers, if it is kept.
 #[inline]
 fn put_event<L: Ledger>(
     list: &mut Worklist,
@@ -60,7 +61,7 @@ fn put_event<L: Ledger>(
     }
 }
 
-/// The numbers of the entries in force to which the event of a number refers, where it is kept.
+/// The numbers of the entries in force to which the event with this number refers, if it is kept.
 #[inline]
 fn kept_entries<'a>(chunk: &'a Chunk<'_>, kept: &Kept, number: usize) -> Option<&'a [u32]>
     ensures { option_map (λ s. s.now) result ≡ option_map (λ e. node_entries chunk.now.entries chunk.now.classes chunk.now.bytes e.node) (kept_at kept.now (events_of chunk.now) number) }
@@ -71,7 +72,7 @@ fn kept_entries<'a>(chunk: &'a Chunk<'_>, kept: &Kept, number: usize) -> Option<
     }
 }
 
-/// Marks the entries of these numbers, at a step for each.
+/// Marks the entries with these numbers, with a step for each.
 #[inline]
 fn put_each<L: Ledger>(list: &mut Worklist, entries: &[u32], steps: &mut Steps<L>)
     requires { All (λ number. number < length list.old.flags.items) entries.now }

@@ -1,18 +1,19 @@
-// The walk from the kept events on.
+//! The walk that starts at the kept events.
 ghost use Rattle.std.specs.Prelude.{◌≡◌, ◌+◌, ◌≤◌, false, length, replicate};
 ghost use Rattle.jfr_chunk.specs.Parts.{AreParts};
 ghost use Rattle.jfr_chunk.specs.Reach.{kept_by, next_entries, reached_marks};
-ghost use Rattle.jfr_reach.specs.Walks.{Puts, entry_leaves};
+ghost use Rattle.jfr_worklist.specs.Putting.{Puts};
+ghost use Rattle.jfr_reach.specs.Walks.{entry_leaves};
 
 use crate::node::put_node;
 use crate::roots::put_roots;
-use crate::worklist::Worklist;
 use jfr_chunk::{Chunk, Kept};
 use jfr_value::Steps;
+use jfr_worklist::Worklist;
 use std::sync::ledger::Ledger;
 
-/// Marks the entries that the kept events reach: those to which the events refer, and then, entry by
-/// entry in the order of marking, those to which the marked entries refer.
+/// Marks the entries that the kept events reach: first those to which the events refer; then, for each marked
+/// entry in the order of marking, those to which it refers.
 pub(crate) fn put_reached<L: Ledger>(
     list: &mut Worklist,
     chunk: &Chunk<'_>,
@@ -34,7 +35,7 @@ pub(crate) fn put_reached<L: Ledger>(
     }
 }
 
-/// Marks the entries in force to which the entry of a number refers.
+/// Marks the entries in force to which the entry with this number refers.
 fn put_entry<L: Ledger>(list: &mut Worklist, chunk: &Chunk<'_>, number: usize, steps: &mut Steps<L>)
     requires size { length list.old.flags.items ≡ length chunk.now.entries }
     ensures puts { Puts (next_entries chunk.now number) list.old list.new }

@@ -2,3 +2,4 @@ pub mod PageLaws
 pub mod PlanLaws
 pub mod PartsLaws
 pub mod KeptLaws
+mod EndsWell

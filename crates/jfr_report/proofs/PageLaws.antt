@@ -204,6 +204,6 @@ pub writer_bytes : (json : Bool) (p : Parts) (depth : ℕ) (n : NodeAt) → enco
 writer_bytes true p depth n = refl
 writer_bytes false p depth n = refl
 
--- An event's text behind another, in UTF-8.
+-- An event's text after another, in UTF-8.
 pub written_more : (old new text : List ℕ) → new ≡ old ++ text → encode_utf8_all new ≡ encode_utf8_all old ++ encode_utf8_all text
 written_more old new text h = ap encode_utf8_all h ∙ encodes-append old text

@@ -4,11 +4,9 @@ use Rattle.std.specs.List.{concat}
 use Rattle.jfr_outside.specs.World.{World, State, SinkState, Told, added}
 use Rattle.jfr_header.specs.declared.ending.Ending.{Ending}
 use Rattle.jfr_header.specs.declared.ending.Ending.TheVariants.{Done, Refused, ReadFault, WriteFault, TooManyParts, Memory}
-use Rattle.jfr_plan.specs.Ends as ends
-use Rattle.jfr_plan.specs.Effects.{Outside, outside, Write, stand, done, broken}
-use Rattle.jfr_plan.specs.Walks as walks
+use Rattle.jfr_plan.specs.Effects.{outside, Write, stand, done, broken}
 use Rattle.jfr_plan.specs.Walks.{Goes, Text}
-use Rattle.jfr_plan.specs.Outcomes.{SomeDone, Breaks, Tallied}
+use Rattle.jfr_plan.specs.Outcomes.{SomeDone, Breaks}
 use Rattle.jfr_plan.specs.Parts.{PartStands, PartTold, PartTallied}
 use Rattle.jfr_chunk.specs.Parts.{Parts}
 use Rattle.jfr_chunk.specs.Refusal.{read_parts}
@@ -77,10 +75,3 @@ texts_tallied (Err Done) a s z h = absurd h
 texts_tallied (Err (Refused r)) a s z h = absurd h
 texts_tallied (Err ReadFault) a s z h = absurd h
 texts_tallied (Err TooManyParts) a s z h = absurd h
-
-text_parts : Text ≡ walks.Parts → ⊥
-text_parts e = cc
-
--- Text is never too many parts.
-pub no_parts : (e : Ending) (a b : Outside) → Tallied Text (ends.way_of e) a b → e ≡ TooManyParts → ⊥
-no_parts e a b t is = let k : Tallied Text (ends.Ends ends.TooMany) a b = subst (λ (y : Ending). Tallied Text (ends.way_of y) a b) is t in text_parts k.0

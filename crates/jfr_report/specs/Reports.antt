@@ -1,4 +1,4 @@
--- What the commands that write text ask of each chunk.
+-- What the commands that write text do for each chunk.
 use Rattle.std.specs.Prelude.{ℕ, ◌+◌, Bool, true, false, List, [], ◌∷◌, length, map, Result, Ok, Err, encode_utf8_all}
 use Rattle.jfr_base.specs.declared.flaw.Flaw.{Flaw}
 use Rattle.jfr_filter.specs.Filters.{Given}
@@ -20,12 +20,13 @@ use Rattle.jfr_report.specs.declared.print.Writer.TheVariants as writers
 abbrev pub writes : List (List ℕ) → List Effect
 writes texts = map Write texts
 
--- Chunk number n is refused, or the texts of its parts are written.
+-- Chunk number n is refused with its flaw, or the texts of its parts are written.
 abbrev pub asks_texts : ℕ → (Parts → List (List ℕ)) → Result Parts Flaw → Asked
 asks_texts n texts (Ok p) = Goes (writes (texts p))
 asks_texts n texts (Err flaw) = Stops (refused n flaw)
 
--- A command that writes texts for each chunk, by its number and its parts, and then the last ones.
+-- The rule of a command that writes texts for each chunk, given its number and its parts, and then texts at
+-- the end.
 abbrev pub texting : (ℕ → Parts → List (List ℕ)) → (List (List ℕ) → List (List ℕ)) → Rule
 texting texts last = record {
   opens = [];
@@ -34,39 +35,39 @@ texting texts last = record {
   target = Text;
 }
 
--- An event as a line of JSON, or as text, in UTF-8.
+-- An event as a line of JSON or as text, in UTF-8.
 abbrev pub event_bytes : Bool → ℕ → Parts → NodeAt → List ℕ
 event_bytes true depth p n = encode_utf8_all (event_json p depth n)
 event_bytes false depth p n = encode_utf8_all (event_shown p depth n)
 
--- Those of events, in order.
+-- Each of these events as a line of JSON or as text, in UTF-8.
 abbrev pub events_bytes : Bool → ℕ → Parts → List EventAt → List (List ℕ)
 events_bytes json depth p es = map (λ e. event_bytes json depth p e.node) es
 
--- What writes the events of a chunk: as JSON, or as text.
+-- The writer of a chunk's events: as JSON, or as text.
 abbrev pub writer_of : Bool → Parts → Writer
 writer_of true p = writers.Json p
 writer_of false p = writers.Text p
 
--- The chunk whose events it writes.
+-- The chunk whose events the writer writes.
 abbrev pub chunk_of : Writer → Parts
 chunk_of (writers.Text p) = p
 chunk_of (writers.Json p) = p
 
--- What it writes for an event.
+-- The text that the writer writes for an event.
 abbrev pub text_by : Writer → ℕ → NodeAt → List ℕ
 text_by (writers.Text p) depth n = event_shown p depth n
 text_by (writers.Json p) depth n = event_json p depth n
 
--- Each event that a filter keeps is shown.
+-- The rule of `print`: each event that the filter keeps is shown.
 abbrev pub printing : Given → ℕ → Bool → Rule
 printing g depth json = texting (λ n p. events_bytes json depth p (kept_of g p)) (λ before. [])
 
--- The classes of each chunk.
+-- The rule of `metadata`: the classes of each chunk are shown.
 abbrev pub describing : Rule
 describing = texting (λ n p. encode_utf8_all (metadata_shown p n) ∷ []) (λ before. [])
 
--- The parts of a chunk, if it is accepted, and then others.
+-- The list with the parts of a chunk in front, if the chunk is accepted.
 abbrev pub parts_with : Result Parts Flaw → List Parts → List Parts
 parts_with (Ok p) ps = p ∷ ps
 parts_with (Err flaw) ps = ps
@@ -76,6 +77,6 @@ abbrev pub all_parts : List (List ℕ) → List Parts
 all_parts [] = []
 all_parts (c ∷ cs) = parts_with (read_parts c) (all_parts cs)
 
--- The totals of the recording, at its end.
+-- The rule of `summary`: the totals of the recording are shown at its end.
 abbrev pub summing : Rule
 summing = texting (λ n p. []) (λ before. encode_utf8_all (summary_shown (totals_of (all_parts before))) ∷ [])

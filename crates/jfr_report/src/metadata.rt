@@ -1,12 +1,6 @@
-// The command that writes the classes of each chunk.
-ghost use Rattle.std.specs.Prelude.{◌≡◌, ◌≢◌, ◌<◌, []};
-ghost use Rattle.jfr_base.specs.declared.flaw.Refusal.{Refusal};
-ghost use Rattle.jfr_outside.specs.Counts.{Rose};
-ghost use Rattle.jfr_plan.specs.Ends.{Fine, Refused, way_of};
+//! The command that writes the classes of each chunk.
 ghost use Rattle.jfr_plan.specs.Effects.{outside};
-ghost use Rattle.jfr_plan.specs.Walks.{Text};
-ghost use Rattle.jfr_plan.specs.Outcomes.{After, Tallied};
-ghost use Rattle.jfr_plan.specs.Clauses.{Ended, Halted, Broken, Partly, IsComplete, CanRead};
+ghost use Rattle.jfr_plan.specs.Clauses.{over, Ran};
 ghost use Rattle.jfr_report.specs.Reports.{describing};
 
 use crate::pages::write_text;
@@ -17,7 +11,7 @@ use jfr_outside::{Place, Sink};
 use jfr_show::{TextBuilder, show_metadata};
 use std::alloc::Global;
 
-/// Writes the classes of each chunk.
+/// The report of `metadata`: the classes of each chunk.
 #[derive(Drop)]
 struct Describing {
     text: TextBuilder,
@@ -57,38 +51,8 @@ pub fn metadata_stream<P: Place, O: Sink>(
     out: &mut O,
     file: &str,
 ) -> Ending
-    // What stands after the call, and which counts rose, by the answer.
-    ensures told { After describing [] file.now (way_of result)
+    ensures ran { Ran (over describing file.now) result
         (outside (P.state place.old) (O.state out.old)) (outside (P.state place.new) (O.state out.new)) }
-    ensures counts { Tallied Text (way_of result)
-        (outside (P.state place.old) (O.state out.old)) (outside (P.state place.new) (O.state out.new)) }
-
-    // What stands after each answer, where the place tells its files.
-    ensures done { result ≡ Ending.Done → Ended describing file.now Fine
-        (outside (P.state place.old) (O.state out.old)) (outside (P.state place.new) (O.state out.new)) }
-    ensures refused { (r : Refusal) → result ≡ Ending.Refused r → Ended describing file.now (Refused r)
-        (outside (P.state place.old) (O.state out.old)) (outside (P.state place.new) (O.state out.new)) }
-    ensures halted { result ≡ Ending.ReadFault → Halted describing file.now
-        (outside (P.state place.old) (O.state out.old)) (outside (P.state place.new) (O.state out.new)) }
-    ensures broken { result ≡ Ending.WriteFault → Broken describing file.now
-        (outside (P.state place.old) (O.state out.old)) (outside (P.state place.new) (O.state out.new)) }
-    ensures memory { result ≡ Ending.Memory → Partly describing file.now
-        (outside (P.state place.old) (O.state out.old)) (outside (P.state place.new) (O.state out.new)) }
-
-    // A fault comes only where it was counted, and none is passed over.
-    ensures read_fault { result ≡ Ending.ReadFault → Rose (P.state place.old).read_faults (P.state place.new).read_faults }
-    ensures write_fault { result ≡ Ending.WriteFault → Rose (O.state out.old).faults (O.state out.new).faults }
-    ensures no_read_passed { (P.state place.old).read_faults < (P.state place.new).read_faults → result ≡ Ending.ReadFault }
-    ensures no_write_passed { (O.state out.old).faults < (O.state out.new).faults → result ≡ Ending.WriteFault }
-
-    // Without a fault the answer is the plan's end, or memory was wanting.
-    ensures complete { IsComplete describing file.now (way_of result)
-        (outside (P.state place.old) (O.state out.old)) (outside (P.state place.new) (O.state out.new)) }
-    ensures parts { result ≢ Ending.TooManyParts }
-
-    // The call brings no fault about by itself.
-    ensures can_read { CanRead file.now (P.state place.old) → (result ≢ Ending.ReadFault) × ((P.state place.new).read_faults ≡ (P.state place.old).read_faults) }
-    ensures same { (P.state place.new).steady ≡ (P.state place.old).steady }
 {
     let report = Describing {
         text: TextBuilder::new(alloc),

@@ -1,5 +1,5 @@
-// Texts gathered to pages, and written a page at a time: a call of the system for each event would cost
-// more than its text does.
+//! Pages: texts are collected, and written a page at a time. A system call for each event would take longer
+//! than making its text.
 ghost use Rattle.std.specs.Prelude.{◌≡◌, [], ◌∷◌, ℕ, List, Option, OnOk, encode_utf8_all};
 ghost use Rattle.jfr_report.specs.Gathered.{IsGathered, PageLeaves, TextLeaves, TextCounted};
 
@@ -7,7 +7,7 @@ use jfr_header::Ending;
 use jfr_outside::Sink;
 use jfr_show::TextBuilder;
 
-/// A page is written as soon as it has so many bytes.
+/// A page is written as soon as it has this many bytes.
 const PAGE: usize = 65536;
 
 /// Writes the page if it is full.
@@ -23,7 +23,7 @@ pub(crate) fn write_full_page<O: Sink>(out: &mut O, page: &mut TextBuilder) -> R
     write_page(out, page)
 }
 
-/// Writes what the page holds, if it holds anything, and begins a new one.
+/// Writes the page if it isn't empty, and starts a new one.
 pub(crate) fn write_page<O: Sink>(out: &mut O, page: &mut TextBuilder) -> Result<(), Ending>
     ensures texts { (all rest : List (List ℕ)) (before : Option (List ℕ))
         → IsGathered all before (O.state out.old).written (encode_utf8_all page.old) rest

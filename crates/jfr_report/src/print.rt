@@ -1,12 +1,7 @@
-// The command that shows the events of a recording.
-ghost use Rattle.std.specs.Prelude.{◌≡◌, ◌≢◌, ◌≤◌, ◌<◌, ◌+◌, [], ◌∷◌, ◌++◌, ℕ, List, Option, IfOk, OnOk, Some, length, drop, slice_get, encode_utf8_all};
-ghost use Rattle.jfr_base.specs.declared.flaw.Refusal.{Refusal};
-ghost use Rattle.jfr_outside.specs.Counts.{Rose};
-ghost use Rattle.jfr_plan.specs.Ends.{Fine, Refused, way_of};
+//! The command that shows the events of a recording.
+ghost use Rattle.std.specs.Prelude.{◌≡◌, ◌≤◌, ◌<◌, ◌+◌, ◌∷◌, ◌++◌, ℕ, List, Option, IfOk, OnOk, Some, length, drop, slice_get, encode_utf8_all};
 ghost use Rattle.jfr_plan.specs.Effects.{outside};
-ghost use Rattle.jfr_plan.specs.Walks.{Text};
-ghost use Rattle.jfr_plan.specs.Outcomes.{After, Tallied};
-ghost use Rattle.jfr_plan.specs.Clauses.{Ended, Halted, Broken, Partly, IsComplete, CanRead};
+ghost use Rattle.jfr_plan.specs.Clauses.{over, Ran};
 ghost use Rattle.jfr_value.specs.Nodes.{node_of};
 ghost use Rattle.jfr_chunk.specs.Parts.{events_of};
 ghost use Rattle.jfr_chunk.specs.Seen.{event_at};
@@ -24,7 +19,7 @@ use jfr_path::choose;
 use jfr_show::{JsonWriter, TextBuilder, TextWriter};
 use std::alloc::Global;
 
-/// How events are shown: how many references deep, and as text or as lines of JSON.
+/// How events are shown: the depth to which references are followed, and whether as lines of JSON.
 #[derive(Clone, Copy)]
 pub(crate) struct Style {
     pub(crate) depth: u8,
@@ -32,7 +27,7 @@ pub(crate) struct Style {
     ghost shallow: { depth ≤ 8 },
 }
 
-/// What writes the events of a chunk: as text, or as lines of JSON.
+/// A writer of the events of a chunk: as text, or as lines of JSON.
 #[derive(Drop)]
 pub(crate) enum Writer<'c, 'a> {
     Text(TextWriter<'c, 'a>),
@@ -40,7 +35,7 @@ pub(crate) enum Writer<'c, 'a> {
 }
 
 impl Writer<'_, '_> {
-    /// Adds an event of its chunk to a page.
+    /// Adds an event of the writer's chunk to a page.
     fn show(&mut self, event: &Event<'_>, depth: u8, page: &mut TextBuilder) -> Result<(), NoMemory>
         requires event { slice_get (events_of (chunk_of self.old)) event.now.number ≡ Some (event_at event.now) }
         requires depth { depth ≤ 8 }
@@ -54,7 +49,7 @@ impl Writer<'_, '_> {
     }
 }
 
-/// Shows the events that a filter keeps.
+/// The report of `print`: the events that a filter keeps.
 #[derive(Drop)]
 struct Printing<'f> {
     filter: &'f Filter,
@@ -89,7 +84,7 @@ impl Report for Printing<'_> {
     }
 }
 
-/// Shows the kept events of a chunk.
+/// Shows the kept events of a chunk, with a new writer.
 fn print_kept<O: Sink>(
     alloc: Global,
     out: &mut O,
@@ -105,7 +100,7 @@ fn print_kept<O: Sink>(
     print_events(out, page, chunk, kept, style, &mut writer)
 }
 
-/// Shows the kept events of a chunk, with what writes them.
+/// Shows the kept events of a chunk, with this writer.
 fn print_events<O: Sink>(
     out: &mut O,
     page: &mut TextBuilder,
@@ -125,7 +120,7 @@ fn print_events<O: Sink>(
     write_page(out, page)
 }
 
-/// What writes the events of a chunk, in the style.
+/// A writer of the events of a chunk in this style.
 fn writer_of<'c, 'a>(
     alloc: Global,
     chunk: &'c Chunk<'a>,
@@ -140,7 +135,7 @@ fn writer_of<'c, 'a>(
     }
 }
 
-/// Shows the event of a number if it is kept.
+/// Shows the event with this number, if it is kept.
 fn print_if_kept<O: Sink>(
     out: &mut O,
     page: &mut TextBuilder,
@@ -170,7 +165,7 @@ fn print_if_kept<O: Sink>(
     print_event(out, page, chunk, &event, style, writer)
 }
 
-/// Shows an event to a page, which is written where it is full.
+/// Adds an event to the page, and writes the page if it is full.
 fn print_event<O: Sink>(
     out: &mut O,
     page: &mut TextBuilder,
@@ -191,8 +186,8 @@ fn print_event<O: Sink>(
     write_full_page(out, page)
 }
 
-/// Writes the events of a recording that the filter keeps, with references followed so many deep, as text
-/// or as lines of JSON.
+/// Writes the events of a recording that the filter keeps, as text or as lines of JSON. References are
+/// followed to this depth.
 pub fn print_stream<P: Place, O: Sink>(
     alloc: Global,
     place: &mut P,
@@ -204,38 +199,8 @@ pub fn print_stream<P: Place, O: Sink>(
 ) -> Ending
     requires depth { depth ≤ 8 }
 
-    // What stands after the call, and which counts rose, by the answer.
-    ensures told { After (printing filter.now depth json) [] file.now (way_of result)
+    ensures ran { Ran (over (printing filter.now depth json) file.now) result
         (outside (P.state place.old) (O.state out.old)) (outside (P.state place.new) (O.state out.new)) }
-    ensures counts { Tallied Text (way_of result)
-        (outside (P.state place.old) (O.state out.old)) (outside (P.state place.new) (O.state out.new)) }
-
-    // What stands after each answer, where the place tells its files.
-    ensures done { result ≡ Ending.Done → Ended (printing filter.now depth json) file.now Fine
-        (outside (P.state place.old) (O.state out.old)) (outside (P.state place.new) (O.state out.new)) }
-    ensures refused { (r : Refusal) → result ≡ Ending.Refused r → Ended (printing filter.now depth json) file.now (Refused r)
-        (outside (P.state place.old) (O.state out.old)) (outside (P.state place.new) (O.state out.new)) }
-    ensures halted { result ≡ Ending.ReadFault → Halted (printing filter.now depth json) file.now
-        (outside (P.state place.old) (O.state out.old)) (outside (P.state place.new) (O.state out.new)) }
-    ensures broken { result ≡ Ending.WriteFault → Broken (printing filter.now depth json) file.now
-        (outside (P.state place.old) (O.state out.old)) (outside (P.state place.new) (O.state out.new)) }
-    ensures memory { result ≡ Ending.Memory → Partly (printing filter.now depth json) file.now
-        (outside (P.state place.old) (O.state out.old)) (outside (P.state place.new) (O.state out.new)) }
-
-    // A fault comes only where it was counted, and none is passed over.
-    ensures read_fault { result ≡ Ending.ReadFault → Rose (P.state place.old).read_faults (P.state place.new).read_faults }
-    ensures write_fault { result ≡ Ending.WriteFault → Rose (O.state out.old).faults (O.state out.new).faults }
-    ensures no_read_passed { (P.state place.old).read_faults < (P.state place.new).read_faults → result ≡ Ending.ReadFault }
-    ensures no_write_passed { (O.state out.old).faults < (O.state out.new).faults → result ≡ Ending.WriteFault }
-
-    // Without a fault the answer is the plan's end, or memory was wanting.
-    ensures complete { IsComplete (printing filter.now depth json) file.now (way_of result)
-        (outside (P.state place.old) (O.state out.old)) (outside (P.state place.new) (O.state out.new)) }
-    ensures parts { result ≢ Ending.TooManyParts }
-
-    // The call brings no fault about by itself.
-    ensures can_read { CanRead file.now (P.state place.old) → (result ≢ Ending.ReadFault) × ((P.state place.new).read_faults ≡ (P.state place.old).read_faults) }
-    ensures same { (P.state place.new).steady ≡ (P.state place.old).steady }
 {
     let report = Printing {
         filter,

@@ -34,7 +34,7 @@ class_b = refl
 key-le : (events x : ℕ) → 1 ≤ events → key_of events x ≤ events
 key-le events x some = omega (arith, mod_below (x / 256) events (omega arith))
 
--- Parts behind one another.
+-- Parts one after another.
 join-le : (a b : List ℕ) (m n : ℕ) → length a ≤ m → length b ≤ n → length (a ++ b) ≤ m + n
 join-le a b m n p q = omega (arith, length-append a b)
 
@@ -75,7 +75,7 @@ entry-le k low =
     let front : length (spell k ++ spell (next_of k)) ≤ 6 = join-le (spell k) (spell (next_of k)) 3 3 (few_bytes k (omega arith)) (few_bytes (next_of k) (omega (arith, next_of-le k))) in
     join-le (spell k ++ spell (next_of k)) (string_of (decimal k)) 6 9 front (string_of-le (decimal k) (length-decimal-le 7 k (omega arith) (omega arith) (omega arith)))
 
--- So many parts, each of at most so many bytes.
+-- n parts, each of at most `most` bytes.
 parts-le : (part : ℕ → List ℕ) (most last : ℕ) → ((i : ℕ) → i ≤ last → length (part i) ≤ most) → (n : ℕ) → n ≤ last → length (flat_map part (range_with_len 1 n)) ≤ most * n
 parts-le part most last each zero low = omega arith
 parts-le part most last each (suc n) low =

@@ -1,4 +1,4 @@
-mod Lengths
+pub mod Lengths
 mod PartLaws
 mod Rows
 mod WholeLaws

@@ -22,7 +22,7 @@ pub draw_more : (seed n : ℕ) → draw seed (n + 1) ≡ next_draw (draw seed n)
 unfolding draw
 draw_more seed n = ap (draw seed) (add-one n)
 
--- One part more, behind others.
+-- One part more, after others.
 pub parts_next : (part : ℕ → List ℕ) (n : ℕ) (start before added : List ℕ) → before ≡ start ++ flat_map part (range_with_len 1 n) → added ≡ part (n + 1) → before ++ added ≡ start ++ flat_map part (range_with_len 1 (n + 1))
 parts_next part n start before added so_far is =
     ap (λ (l : List ℕ). l ++ added) so_far

@@ -25,7 +25,7 @@ whole_by header chunk pools is long short reads =
       size = ap size_of front ∙ ap (λ (h : Header). h.size) read.1 ∙ sym size;
     }
 
--- What stands behind the place of the header.
+-- The sample with blank bytes in place of the header.
 abbrev pub filled : List ℕ → ℕ → ℕ → List ℕ
 filled blank seed events = blank ++ metadata ++ events_to seed events events ++ checkpoint events
 
@@ -59,6 +59,6 @@ made_of blank seed events pools is at =
     ∙ ap (λ (l : List ℕ). header_bytes (sample_header (68 + length before + length (checkpoint events)) (68 + length before)) ++ l) rest
     ∙ sym (append_assoc (header_bytes (sample_header (68 + length before + length (checkpoint events)) (68 + length before))) before (checkpoint events))
 
--- Bytes that were written over by as many others.
+-- Bytes overwritten by the same number of others.
 pub written_over : (count : ℕ) (new old : List ℕ) → count ≡ length old → length new ≡ length old → take count (new ++ drop (length new) old) ≡ new
 written_over count new old is same = ap (λ (n : ℕ). take n (new ++ drop (length new) old)) (is ∙ sym same) ∙ take-append_seam new (drop (length new) old)

@@ -1,4 +1,5 @@
--- The metadata record of the sample, byte for byte: its texts, and its elements, which name them by number.
+-- The metadata record of the sample, byte for byte: its texts, and its elements, which refer to them by
+-- index.
 use Rattle.std.specs.Prelude.{ℕ, List, [], ◌∷◌, ◌++◌, length, codes}
 use Rattle.std.specs.List.{flat_map}
 use Rattle.jfr_base.specs.Integer.{spell}
@@ -14,12 +15,12 @@ texts =
     ∷ codes "true" ∷ codes "long" ∷ codes "java.lang.String" ∷ codes "t.Node" ∷ codes "t.A" ∷ codes "t.B" ∷ codes "jdk.jfr.Event" ∷ codes "5"
     ∷ codes "6" ∷ codes "7" ∷ codes "8" ∷ codes "9" ∷ codes "next" ∷ codes "text" ∷ codes "n" ∷ codes "node" ∷ []
 
--- The size 257, type 0, start 0, duration 0, id 1, and 24 texts.
+-- The start of the record: the size 257, type 0, start 0, duration 0, id 1, and the count of 24 texts.
 abbrev pub front : List ℕ
 front = 129 ∷ 2 ∷ 0 ∷ 0 ∷ 0 ∷ 1 ∷ 24 ∷ []
 
--- The elements, each before those that stand in it: its name, the number of its attributes, for each a key
--- and a value, and the number of elements in it.
+-- The elements, each before those inside it: its name, the number of its attributes, a key and a value for
+-- each, and the number of elements inside it.
 abbrev pub elements : List ℕ
 elements =
     -- Root, and in it metadata with five classes.

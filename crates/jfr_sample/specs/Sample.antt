@@ -6,32 +6,33 @@ use Rattle.jfr_header.specs.declared.header.Header.{Header}
 use Rattle.jfr_header.specs.Headers.{header_bytes}
 use Rattle.jfr_sample.specs.Metadata.{string_of, metadata}
 
--- The number that the generator draws after another.
+-- The draw that follows draw x (a linear congruential generator).
 abbrev pub next_draw : ℕ → ℕ
 next_draw x = (1664525 * x + 1013904223) % 2 ^ 32
 
--- The draw for event i: the first draw is the one after the seed.
+-- The draw for event i: event 1 has the draw that follows the seed.
 unfoldable pub draw : ℕ → ℕ → ℕ
 draw seed zero = seed
 draw seed (suc i) = next_draw (draw seed i)
 
--- The key of a node, from 1 to the number of events, by a draw without its low eight bits.
+-- The key of an event's node, from 1 to the number of events, computed from a draw without its low eight
+-- bits.
 abbrev pub key_of : ℕ → ℕ → ℕ
 key_of events x = 1 + (x / 256) % events
 
--- A record: its size in four bytes, and its body.
+-- A record: its size in four bytes, followed by its body.
 abbrev pub record_of : List ℕ → List ℕ
 record_of body = spell_in 4 (4 + length body) ++ body
 
--- A t.A, of class 8, with its number and the key of its node.
+-- A t.A, whose class is 8: its number and the key of its node.
 abbrev pub event_a : ℕ → ℕ → List ℕ
 event_a i key = record_of (spell 8 ++ spell i ++ spell key)
 
--- A t.B, of class 9, with the key of its node.
+-- A t.B, whose class is 9: the key of its node.
 abbrev pub event_b : ℕ → List ℕ
 event_b key = record_of (spell 9 ++ spell key)
 
--- An event by its draw: a t.A in the lower half of the numbers, else a t.B.
+-- Event i, given its draw x: a t.A if x is below 2^31, else a t.B.
 abbrev pub event_by : ℕ → ℕ → ℕ → List ℕ
 event_by events i x = if nat_lt x (2 ^ 31) then event_a i (key_of events x) else event_b (key_of events x)
 
@@ -39,12 +40,12 @@ event_by events i x = if nat_lt x (2 ^ 31) then event_a i (key_of events x) else
 unfoldable pub event : ℕ → ℕ → ℕ → List ℕ
 event seed events i = event_by events i (draw seed i)
 
--- The key that entry k has for its next node: k - 2 where k is a multiple of 3, else k + 1, which may be
--- missing.
+-- The key of the node that entry k's field `next` refers to: k - 2 if k is a multiple of 3, else k + 1. For
+-- the last entry there may be no such node.
 abbrev pub next_of : ℕ → ℕ
 next_of k = if k % 3 == 0 then k - 2 else k + 1
 
--- Entry k: its key, and its node, whose text is the key in decimal.
+-- Entry k: its key, the key of the next node, and the key in decimal as the text.
 unfoldable pub entry : ℕ → List ℕ
 entry k = spell k ++ spell (next_of k) ++ string_of (decimal k)
 
@@ -61,8 +62,8 @@ entries_to n = flat_map entry (range_with_len 1 n)
 unfoldable pub checkpoint : ℕ → List ℕ
 checkpoint n = record_of ((1 ∷ 0 ∷ 0 ∷ 0 ∷ 0 ∷ 1 ∷ 7 ∷ []) ++ spell n ++ entries_to n)
 
--- The header of a chunk of version 2.1 with this size, whose metadata stands behind it; the last checkpoint
--- stands at `pools`.
+-- The header of a chunk of version 2.1 with this size. The metadata follows the header; the last checkpoint
+-- starts at `pools`.
 abbrev pub sample_header : ℕ → ℕ → Header
 sample_header size pools = record {
   major = 2;
@@ -83,7 +84,7 @@ sample_header size pools = record {
 abbrev pub before_checkpoint : ℕ → ℕ → List ℕ
 before_checkpoint seed events = metadata ++ events_to seed events events
 
--- The sample: the header, and its records, of which the checkpoint is the last.
+-- The sample: the header, followed by its records, of which the checkpoint is the last.
 unfoldable pub sample_of : ℕ → ℕ → List ℕ
 sample_of seed events =
     header_bytes (sample_header (68 + length (before_checkpoint seed events) + length (checkpoint events)) (68 + length (before_checkpoint seed events)))

@@ -1,4 +1,4 @@
-// The checkpoint, with an entry for each key.
+//! The checkpoint, with an entry for each key.
 ghost use Rattle.std.specs.Prelude.{◌≡◌, ◌≤◌, ◌<◌, ◌*◌, ◌^◌, ◌++◌, length, IfOk, OnOk};
 ghost use Rattle.jfr_sample.specs.Sample.{checkpoint, entries_to, entry, next_of};
 
@@ -8,13 +8,14 @@ use jfr_base::var_len;
 use jfr_outside::NoMemory;
 use std::alloc::Global;
 
-/// Type 1, start 0, duration 0, delta 0, the type byte 0, and one pool, of class 7.
+/// The body of the checkpoint up to the pool's count: type 1, start 0, duration 0, delta 0, the type byte 0,
+/// and one pool, of class 7.
 const FRONT: [u8; 7] = [1, 0, 0, 0, 0, 1, 7];
 
-/// No entry has more bytes: two integers below 2^21, and a string of at most seven digits.
+/// The length of the longest entry: two integers below 2^21, and a string of at most seven digits.
 const ENTRY_LEN: usize = 15;
 
-/// Adds the checkpoint with its entries.
+/// Adds the checkpoint that has these entries.
 #[tactic(auto, unfolding(crate::specs::Sample::checkpoint))]
 pub fn push_checkpoint(into: &mut Vec<u8>, events: u32, entries: &[u8]) -> Result<(), NoMemory>
     requires these { entries.now ≡ entries_to events }
@@ -29,7 +30,7 @@ pub fn push_checkpoint(into: &mut Vec<u8>, events: u32, entries: &[u8]) -> Resul
     Ok(())
 }
 
-/// The entries of the keys from 1 to a last one.
+/// The entries with the keys from 1 to `last`.
 pub fn entries_of(alloc: Global, last: u32) -> Result<Vec<u8>, NoMemory>
     requires { last ≤ 1000000 }
     ensures exact { IfOk result (λ entries. entries.items ≡ entries_to last) }
@@ -43,7 +44,7 @@ pub fn entries_of(alloc: Global, last: u32) -> Result<Vec<u8>, NoMemory>
     Ok(entries)
 }
 
-/// Adds the entry of a key.
+/// Adds the entry with this key.
 #[tactic(auto, unfolding(crate::specs::Sample::entry))]
 fn push_entry(into: &mut Vec<u8>, digits: &mut Buffer, key: u64) -> Result<(), NoMemory>
     requires { (1 ≤ key) × (key < 2 ^ 63) }
@@ -54,7 +55,8 @@ fn push_entry(into: &mut Vec<u8>, digits: &mut Buffer, key: u64) -> Result<(), N
     push_string(into, digits.format(key))
 }
 
-/// The key that an entry has for its next node: two less where its key is a multiple of 3, else one more.
+/// The key of the node that the entry's field `next` refers to: `key - 2` if the key is a multiple of 3, else
+/// `key + 1`.
 fn next_of(key: u64) -> u64
     requires { (1 ≤ key) × (key < 2 ^ 63) }
     ensures { result ≡ next_of key }

@@ -1,4 +1,4 @@
-// The events, each by a draw of the generator.
+//! The events. A random draw decides the class and the node of each.
 ghost use Rattle.std.specs.Prelude.{◌≡◌, ◌≤◌, ◌++◌, OnOk};
 ghost use Rattle.jfr_sample.specs.Sample.{event_by, event_a, event_b, events_to, next_draw};
 
@@ -12,13 +12,13 @@ const CLASS_A: u64 = 8;
 /// The id of the event class `t.B`.
 const CLASS_B: u64 = 9;
 
-/// No event has more bytes: a size of four, the class in one, and two integers below 2^21.
+/// The length of the longest event: a size of four bytes, the class in one, and two integers below 2^21.
 pub const EVENT_LEN: usize = 11;
 
-/// Draws below this make a `t.A`, the others a `t.B`.
+/// Draws below this give a `t.A`, the others a `t.B`.
 const HALF: u32 = 1 << 31;
 
-/// The number that the generator draws after another.
+/// The draw that follows this one (a linear congruential generator).
 fn next_draw(draw: u32) -> u32
     ensures { result ≡ next_draw draw }
 {
@@ -40,7 +40,7 @@ pub fn push_events(into: &mut Vec<u8>, seed: u32, events: u32) -> Result<(), NoM
     Ok(())
 }
 
-/// Adds the event of a number and a draw.
+/// Adds the event with this number, whose class and node follow from the draw.
 fn push_event(into: &mut Vec<u8>, events: u32, number: u32, draw: u32) -> Result<(), NoMemory>
     requires { 1 ≤ events }
     ensures { OnOk result (into.new.items ≡ into.old.items ++ event_by events number draw) }
@@ -53,7 +53,7 @@ fn push_event(into: &mut Vec<u8>, events: u32, number: u32, draw: u32) -> Result
     }
 }
 
-/// Adds a `t.A` with its number and the key of its node.
+/// Adds a `t.A` with this number and the node with this key.
 fn push_a(into: &mut Vec<u8>, number: u64, key: u64) -> Result<(), NoMemory>
     ensures { OnOk result (into.new.items ≡ into.old.items ++ event_a number key) }
 {
@@ -63,7 +63,7 @@ fn push_a(into: &mut Vec<u8>, number: u64, key: u64) -> Result<(), NoMemory>
     push_var(into, key)
 }
 
-/// Adds a `t.B` with the key of its node.
+/// Adds a `t.B` with the node with this key.
 fn push_b(into: &mut Vec<u8>, key: u64) -> Result<(), NoMemory>
     ensures { OnOk result (into.new.items ≡ into.old.items ++ event_b key) }
 {

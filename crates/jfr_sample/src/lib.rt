@@ -1,6 +1,6 @@
-//! The sample: a small recording of one chunk, made from a seed, to try the program on.
+//! The sample: a recording of one chunk, made from a seed, to try the program on.
 //!
-//! `sample` is the one call. Read `specs/Sample.antt`, which has the recording byte for byte.
+//! `sample` is the only call. Read `specs/Sample.antt`, which defines the recording byte for byte.
 #![tactic(auto)]
 
 mod checkpoint;

@@ -1,14 +1,14 @@
-// The metadata record, which is the same in every sample.
+//! The metadata record, which is the same in every sample.
 ghost use Rattle.std.specs.Prelude.{◌≡◌, ◌++◌, OnOk};
 ghost use Rattle.jfr_sample.specs.Metadata.{metadata};
 
 use crate::spelled::push_strings;
 use jfr_outside::NoMemory;
 
-/// The size 257, type 0, start 0, duration 0, id 1, and 24 texts.
+/// The start of the record: the size 257, type 0, start 0, duration 0, id 1, and the count of 24 texts.
 const FRONT: [u8; 7] = [0x81, 0x02, 0, 0, 0, 1, 24];
 
-/// The texts, which the elements name by their places from 0.
+/// The texts, which the elements refer to by index, from 0.
 #[rattlefmt::skip]
 const TEXTS: [&str; 24] = [
     "root", "metadata", "class", "name", "id", "superType", "field", "constantPool",
@@ -16,8 +16,8 @@ const TEXTS: [&str; 24] = [
     "6", "7", "8", "9", "next", "text", "n", "node",
 ];
 
-/// The elements, each before those that stand in it: its name, the number of its attributes, for each a key
-/// and a value, and the number of elements in it.
+/// The elements, each before those inside it: its name, the number of its attributes, a key and a value for
+/// each, and the number of elements inside it.
 #[rattlefmt::skip]
 const ELEMENTS: [u8; 86] = [
     // Root and metadata.

@@ -1,4 +1,4 @@
-// The sample, put together.
+//! The whole sample, put together from its parts.
 ghost use Rattle.std.specs.Prelude.{◌≡◌, ◌≤◌, ◌<◌, ◌+◌, ◌*◌, ◌^◌, ◌++◌, length, drop, IfOk};
 ghost use Rattle.jfr_header.specs.Fronts.{Whole};
 ghost use Rattle.jfr_header.specs.Headers.{header_bytes};
@@ -7,18 +7,16 @@ ghost use Rattle.jfr_sample.specs.Sample.{sample_of, sample_header};
 use crate::checkpoint::{entries_of, push_checkpoint};
 use crate::events::{EVENT_LEN, push_events};
 use crate::metadata::push_metadata;
-use jfr_header::{Header, write_header};
+use jfr_header::{HEADER_LEN, Header, write_header};
 use jfr_outside::NoMemory;
 use std::alloc::Global;
 
-/// A header has so many bytes.
-const HEADER_LEN: usize = 68;
-
-/// The header, the metadata and the checkpoint before its entries have at most so many bytes: 68, 257 and 14.
+/// The greatest length of all but the events and entries: the header has 68 bytes, the metadata 257, and the
+/// checkpoint before its entries at most 14.
 const FIXED_LEN: usize = 339;
 
-/// A recording of one chunk with so many events, from 1 to 1,000,000, and as many constants. The same
-/// seed gives the same recording.
+/// A recording of one chunk with this number of events, from 1 to 1,000,000, and the same number of
+/// constants. The same seed gives the same recording.
 pub fn sample(alloc: Global, seed: u32, events: u32) -> Result<Vec<u8>, NoMemory>
     requires some { 1 ≤ events }
     requires most { events ≤ 1000000 }
@@ -38,7 +36,7 @@ pub fn sample(alloc: Global, seed: u32, events: u32) -> Result<Vec<u8>, NoMemory
     Ok(bytes)
 }
 
-/// Puts the header of a chunk over its first bytes, by the position of its checkpoint.
+/// Overwrites the first bytes of a chunk with its header. Its checkpoint is at `pools`.
 fn put_header(chunk: &mut [u8], pools: usize)
     requires long { 68 ≤ length chunk.old }
     requires short { length chunk.old < 2 ^ 28 }

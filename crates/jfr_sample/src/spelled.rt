@@ -1,4 +1,4 @@
-// Integers and strings at the end of bytes.
+//! Appending integers and strings in the format's encoding.
 ghost use Rattle.std.specs.Prelude.{◌≡◌, ◌+◌, ◌<◌, ◌^◌, ◌++◌, OnOk};
 ghost use Rattle.std.specs.List.{flat_map};
 ghost use Rattle.jfr_base.specs.Integer.{spell, spell_in};
@@ -7,13 +7,13 @@ ghost use Rattle.jfr_sample.specs.Metadata.{string_of};
 use jfr_base::{write_in, write_var};
 use jfr_outside::NoMemory;
 
-/// A record's size has so many bytes.
+/// The length of a record's size.
 const SIZE_LEN: usize = 4;
 
 /// The kind of a string whose text is UTF-8.
 const UTF8: u8 = 3;
 
-/// Adds the shortest spelling of a value.
+/// Adds the shortest encoding of a value.
 pub fn push_var(into: &mut Vec<u8>, value: u64) -> Result<(), NoMemory>
     ensures { OnOk result (into.new.items ≡ into.old.items ++ spell value) }
 {
@@ -23,7 +23,7 @@ pub fn push_var(into: &mut Vec<u8>, value: u64) -> Result<(), NoMemory>
     Ok(())
 }
 
-/// Adds the size of a record, whose body has so many bytes.
+/// Adds the size of a record. `body` is the length of what follows the size.
 pub fn push_size(into: &mut Vec<u8>, body: usize) -> Result<(), NoMemory>
     requires { body + 4 < 2 ^ 28 }
     ensures { OnOk result (into.new.items ≡ into.old.items ++ spell_in 4 (4 + body)) }
@@ -34,7 +34,7 @@ pub fn push_size(into: &mut Vec<u8>, body: usize) -> Result<(), NoMemory>
     Ok(())
 }
 
-/// Adds a text as a string.
+/// Adds a text as a string of UTF-8.
 pub fn push_string(into: &mut Vec<u8>, text: &str) -> Result<(), NoMemory>
     ensures { OnOk result (into.new.items ≡ into.old.items ++ string_of text.now) }
 {
@@ -44,7 +44,7 @@ pub fn push_string(into: &mut Vec<u8>, text: &str) -> Result<(), NoMemory>
     Ok(())
 }
 
-/// Adds texts as strings, one behind another.
+/// Adds texts as strings of UTF-8, one after another.
 pub fn push_strings(into: &mut Vec<u8>, texts: &[&str]) -> Result<(), NoMemory>
     ensures { OnOk result (into.new.items ≡ into.old.items ++ flat_map (λ t. string_of t.now) texts.now) }
 {

@@ -74,7 +74,7 @@ same_again g c b s = ap (scrubbed_by g) (again_of g c b s) ∙ (s.settled.again 
 
 -- ---- one chunk after another
 
--- A chunk that stands at a front begins below byte 2^40.
+-- A chunk that is cut from the front starts below byte 2^40.
 begins_early : (rest c : List ℕ) (start : ℕ) (first : Bool) → front rest start first ≡ Chunk c → Whole c → start < 2 ^ 40
 begins_early rest c start first e w = by_order (nat_le (2 ^ 40) start) refl
   where
@@ -164,7 +164,7 @@ recording_again g x =
     let cs : List (List ℕ) = (cut x 0 true).chunks in
     by_chunks g (map (scrubbed g) (before_refused refusal_of cs)) (recording_chunks g x) (all_same g cs (all_whole cs (cut x 0 true).flaw x 0 true (are_cut x 0 true)))
 
--- Results that stand one to one with chunks are those chunks' scrubs.
+-- Outputs that correspond one to one to chunks are those chunks' scrubs.
 are_these : (g : Given) (cs bs : List (List ℕ)) → AllByRecursion Whole cs → AreScrubbed g cs bs → bs ≡ map (scrubbed g) cs
 are_these g [] [] w a = refl
 are_these g (c ∷ cs) (b ∷ bs) w a =

@@ -1,7 +1,7 @@
 -- Kept events, the entries that remain and the metadata record are copied where all that stays is.
-use Rattle.std.specs.Prelude.{◌≡◌, ◌⊎◌, ℕ, ◌+◌, Bool, true, false, ◌==◌, ◌||◌, List, [], ◌∷◌, reverse, filter, slice_get, zero, suc, Option, Some, None, cond}
+use Rattle.std.specs.Prelude.{◌≡◌, ◌⊎◌, ℕ, ◌+◌, Bool, true, false, ◌==◌, ◌||◌, List, [], ◌∷◌, reverse, filter, slice_get, zero, suc, Option, Some, None, cond, if◌then◌else◌}
 use Rattle.std.specs.List.{AllByRecursion, filter_map, cons_option, enumerate_from, list_any}
-use Rattle.std.proofs.Common.{ap, refl, sym, subst, inl, inr}
+use Rattle.std.proofs.Common.{ap, refl, sym, ◌∙◌, subst, inl, inr}
 use Rattle.jfr_layout.specs.Classes.{Classes}
 use Rattle.jfr_frame.specs.declared.framed.Framed.{Framed}
 use Rattle.jfr_frame.proofs.RecordLaws.{record_one}
@@ -10,8 +10,9 @@ use Rattle.jfr_pool.specs.declared.entry.EntryAt.{EntryAt}
 use Rattle.jfr_pool.specs.Entries.{AreEntries, entries_from}
 use Rattle.jfr_chunk.specs.Parts.{Parts, EventAt, AreParts, events_of, metadata_at}
 use Rattle.jfr_chunk.specs.Reach.{kept_by, marked, reached_marks, remain}
-use Rattle.jfr_chunk.specs.Scrub.{Whole, Chained, output_record_by, output_record_of, output_records, output_records_whole}
-use Rattle.jfr_chunk.proofs.Members.{In, contains_in, in_cases}
+use Rattle.jfr_chunk.specs.Scrub.{Whole, Chained, output_record_by, output_record_of, output_records, output_records_whole, written_anew}
+use Rattle.jfr_chunk.specs.Metas.{metadata_size, rebuilt}
+use Rattle.jfr_worklist.proofs.Members.{In, contains_in, in_cases}
 use Rattle.jfr_chunk.proofs.AllLaws.{all_in, in_filter_map}
 use Rattle.jfr_chunk.proofs.TestLaws.{is_eq}
 use Rattle.jfr_laws.proofs.Listed.{in_any}
@@ -23,6 +24,7 @@ use Rattle.jfr_scrub.specs.Bodies.{OutputRecordIsCopied}
 use Rattle.jfr_scrub.specs.Pieces.{EntryIsCopied, EventIsCopied, MetadataIsCopied, RecordIsCopied}
 use Rattle.jfr_scrub.specs.OutputRecords.{link_there}
 use Rattle.jfr_scrub.proofs.GallopingLaws.{event_recorded}
+use Rattle.jfr_scrub.proofs.NewLaws.{new_written}
 use Rattle.jfr_scrub.proofs.CursorLaws.{cursor_first, event_in, events_given}
 use Rattle.jfr_scrub.proofs.FitLaws.{pools_number}
 use Rattle.jfr_scrub.proofs.RunLaws.{event_alone}
@@ -80,9 +82,9 @@ or_first b d e = ap (λ z. z || d) e
 
 module _ (p : Parts) (a : AreParts p) (ps : List Part) where
   -- Of what stays whole.
-  whole_copied : (kept : List EventAt) (left : List EntryAt) (r : Framed) → AllByRecursion (OutputRecordIsCopied left ps) (output_records p kept) → In p.records r → link_there p r ≡ None → output_records_whole p kept r ≡ true → RecordIsCopied ps r
-  whole_copied kept left r c i l w =
-      all_in (OutputRecordIsCopied left ps) (output_records p kept) (Whole r) c (in_given (output_record_of p kept) p.records r (Whole r) i (λ j. output_record_by (l j) (w j) r))
+  whole_copied : (kept : List EventAt) (left : List EntryAt) (r : Framed) → AllByRecursion (OutputRecordIsCopied left ps) (output_records p kept) → In p.records r → link_there p r ≡ None → output_records_whole p kept r ≡ true → written_anew p kept r ≡ None → RecordIsCopied ps r
+  whole_copied kept left r c i l w n =
+      all_in (OutputRecordIsCopied left ps) (output_records p kept) (Whole r) c (in_given (output_record_of p kept) p.records r (Whole r) i (λ j. output_record_by (l j) (w j) (n j) r))
 
   event_copied : (flags : List Bool) (left : List EntryAt) → AllByRecursion (OutputRecordIsCopied left ps) (output_records p (kept_by p flags)) → (e : EventAt) → In (kept_by p flags) e → EventIsCopied ps e
   unfolding events_of
@@ -95,7 +97,8 @@ module _ (p : Parts) (a : AreParts p) (ps : List Part) where
       let chosen : list_any (λ x. x.record_of.at == r.at) (kept_by p flags) ≡ true =
       in_any (λ (x : EventAt). x.record_of.at == r.at) (kept_by p flags) e i (is_eq e.record_of.at r.at (ap (λ (z : Framed). z.at) recorded.0)) in
       subst (RecordIsCopied ps) (sym recorded.0)
-      (whole_copied (kept_by p flags) left r c there.1 alone.1 (or_first (list_any (λ x. x.record_of.at == r.at) (kept_by p flags)) (r.at == metadata_at p.bytes) chosen))
+      (whole_copied (kept_by p flags) left r c there.1 alone.1 (or_first (list_any (λ x. x.record_of.at == r.at) (kept_by p flags)) (r.at == metadata_at p.bytes) chosen)
+      (ap (λ t. if t then rebuilt p (kept_by p flags) r.size else None) alone.0))
 
   pub events_are_copied : (flags : List Bool) (left : List EntryAt) → AllByRecursion (OutputRecordIsCopied left ps) (output_records p (kept_by p flags)) → AllByRecursion (EventIsCopied ps) (kept_by p flags)
   events_are_copied flags left c = all_from (EventIsCopied ps) (kept_by p flags) (event_copied flags left c)
@@ -108,7 +111,7 @@ module _ (p : Parts) (a : AreParts p) (ps : List Part) where
       let r : Framed = there.0 in
       let all : AllByRecursion (EntryIsCopied ps) (filter (λ x. x.checkpoint == e.checkpoint) left) =
       all_in (OutputRecordIsCopied left ps) (output_records p kept) (Chained e.checkpoint link.0) c
-      (in_given (output_record_of p kept) p.records r (Chained e.checkpoint link.0) there.1 (λ h. output_record_by (there.2 h) (output_records_whole p kept r) r)) in
+      (in_given (output_record_of p kept) p.records r (Chained e.checkpoint link.0) there.1 (λ h. output_record_by (there.2 h) (output_records_whole p kept r) (written_anew p kept r) r)) in
       all_in (EntryIsCopied ps) (filter (λ x. x.checkpoint == e.checkpoint) left) e all (in_filter (λ x. x.checkpoint == e.checkpoint) left e i (is_eq e.checkpoint e.checkpoint refl))
 
   pub entries_are_copied : (kept : List EventAt) → AllByRecursion (OutputRecordIsCopied (remain p kept) ps) (output_records p kept) → AllByRecursion (EntryIsCopied ps) (remain p kept)
@@ -129,12 +132,13 @@ module _ (p : Parts) (a : AreParts p) (ps : List Part) where
           let m : a.metadata_record.type_id ≡ 0 = a.metadata_there.type_is in
           cc
 
-  pub metadata_is_copied : (kept : List EventAt) (left : List EntryAt) → AllByRecursion (OutputRecordIsCopied left ps) (output_records p kept) → MetadataIsCopied ps p
-  metadata_is_copied kept left c =
+  pub metadata_is_copied : (kept : List EventAt) (left : List EntryAt) → AllByRecursion (OutputRecordIsCopied left ps) (output_records p kept) → rebuilt p kept (metadata_size p) ≡ None → MetadataIsCopied ps p
+  metadata_is_copied kept left c none =
       let r = a.metadata_record in
       record {
         frame = r;
         there = a.metadata_there;
         copied = whole_copied kept left r c (contains_in p.records r a.metadata_there.listed) no_link
-            (or_true (list_any (λ e. e.record_of.at == r.at) kept) (r.at == metadata_at p.bytes) (is_eq r.at (metadata_at p.bytes) a.metadata_there.place));
+            (or_true (list_any (λ e. e.record_of.at == r.at) kept) (r.at == metadata_at p.bytes) (is_eq r.at (metadata_at p.bytes) a.metadata_there.place))
+            (sym (new_written p a kept r (metadata_stands p a)) ∙ (ap (λ t. if t then rebuilt p kept (metadata_size p) else None) (is_eq r.at (metadata_at p.bytes) a.metadata_there.place) ∙ none));
       }

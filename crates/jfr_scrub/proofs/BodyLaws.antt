@@ -10,7 +10,7 @@ use Rattle.jfr_header.specs.Headers.{header_of, header_bytes}
 use Rattle.jfr_header.specs.declared.header.Header.{Header}
 use Rattle.jfr_chunk.specs.Reach.{remain}
 use Rattle.jfr_chunk.specs.Parts.{Parts, EventAt, metadata_at}
-use Rattle.jfr_chunk.specs.Scrub.{OutputRecord, Whole, Chained, Written, bytes_of, written_bytes, older_after, written, last_at, record_of, moved, output_records, scrub_of}
+use Rattle.jfr_chunk.specs.Scrub.{OutputRecord, Whole, Chained, Rebuilt, Written, bytes_of, written_bytes, older_after, written, last_at, record_of, moved, output_records, scrub_of}
 use Rattle.jfr_scrub.specs.Bodies.{Progress, OutputRecordFits, IsBefore, place_seen, body_with, IsBody, NotFalling}
 use Rattle.jfr_scrub.specs.Left.{HasRange}
 use Rattle.jfr_scrub.specs.Pieces.{Laying, more}
@@ -82,6 +82,8 @@ going_next p left all ss s b next m g e n k =
     before : (s : OutputRecord) (at to : ℕ) (older : Option ℕ) → IsBefore older at → at < to → IsBefore (older_after s at older) to
     before (Whole r) at to None h i = tt
     before (Whole r) at to (Some o) h i = omega (arith, h)
+    before (Rebuilt r x) at to None h i = tt
+    before (Rebuilt r x) at to (Some o) h i = omega (arith, h)
     before (Chained number l) at to older h i = i
 
     going : 1 ≤ length (bytes_of p.bytes left s b.at b.older) →
@@ -134,7 +136,7 @@ not_less : (m n : ℕ) (es : List EntryAt) → m ≤ n → NotFalling n es → N
 not_less m n [] h a = tt
 not_less m n (e ∷ es) h a = let i : n ≤ e.checkpoint = a.0 in (omega arith, a.1)
 
--- Those of the numbers before one, of that one, and of those behind it.
+-- The entries of the checkpoints before number n, of this one, and of those after it.
 pub record Parted (es before rest here behind : List EntryAt) (n : ℕ) : Type 0 where
   pub all : es ≡ before ++ rest
   pub some : rest ≡ here ++ behind
@@ -215,7 +217,7 @@ high_of : (n : ℕ) (es : List EntryAt) → AllByRecursion (λ e. leb e.checkpoi
 high_of n [] a = tt
 high_of n (e ∷ es) a = ((λ q. let f = leb-false e.checkpoint n a.0 in absurd (omega arith)), high_of n es a.1)
 
--- The entries of a number, between two places.
+-- The entries of checkpoint n, between two indices.
 pub entries_here : (es : List EntryAt) (n k m : ℕ) → k ≤ length es → AllWithin (λ e. ltb e.checkpoint n ≡ true) es 0 k → AllWithin (λ e. ltb e.checkpoint n ≡ false) es k (length es) →
     m ≤ length (drop k es) → AllWithin (λ e. leb e.checkpoint n ≡ true) (drop k es) 0 m → AllWithin (λ e. leb e.checkpoint n ≡ false) (drop k es) m (length (drop k es)) →
     take m (drop k es) ≡ filter (λ e. e.checkpoint == n) es

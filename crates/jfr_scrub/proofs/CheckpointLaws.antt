@@ -58,7 +58,7 @@ groups_length c (g ∷ gs) a =
     let i = groups_length c gs a.1 in
     omega arith
 
--- How many bytes come behind the size.
+-- The number of bytes after the size.
 pub tail_length : (c : List ℕ) (l : Link) (delta : ℕ) (gs : List Group) → LinkFits c l delta gs → AllByRecursion (GroupRange (length c)) gs →
     length (checkpoint_tail c l delta gs) ≡ (l.delta_at - l.frame.type_at) + length (spell delta) + 1 + length (spell (length gs)) + groups_size gs
 tail_length c l delta gs f a =
@@ -83,11 +83,11 @@ tail_length c l delta gs f a =
     let t₄ : length b ≡ groups_size gs = groups_length c gs a in
     omega arith
 
--- One part behind another.
+-- One part after another.
 pub more_more : (o : Laying) (a b : List ℕ) → more (more o a) b ≡ more o (a ++ b)
 more_more o a b = λ i. record { chunk = o.chunk; bytes = append_assoc o.bytes a b i }
 
--- One entry behind another.
+-- One entry after another.
 flat_map_suc : (f : EntryAt → List ℕ) (es : List EntryAt) (i : ℕ) (d : EntryAt) → i < length es → flat_map f (take (suc i) es) ≡ flat_map f (take i es) ++ f (get_or es i d)
 flat_map_suc f [] i d h = absurd (omega arith)
 flat_map_suc f (e ∷ es) zero d h = append-nil (f e)
@@ -103,7 +103,7 @@ entry_laid o now next es i d h l n =
 regrouped : (o s a t m d k n g : List ℕ) → a ≡ t ++ m → (((((o ++ s) ++ a) ++ d) ++ k) ++ n) ++ g ≡ o ++ (s ++ (t ++ (m ++ (d ++ (k ++ (n ++ g))))))
 regrouped o s a t m d k n g e = rw e (simp append_assoc)
 
--- One behind another, of the chunk that stays the same.
+-- Parts one after another, of the chunk that doesn't change.
 pub laid_parts : (o a b d e f g : Laying) (s v n : List ℕ) (p q t u : ℕ) (h : List ℕ → List ℕ) → a ≡ more o s → b ≡ more a (slice_range a.chunk p q) → d ≡ more b v → e ≡ more d (slice_range d.chunk t u) → f ≡ more e n → g ≡ more f (h f.chunk) →
     g ≡ more (more (more (more (more (more o s) (slice_range o.chunk p q)) v) (slice_range o.chunk t u)) n) (h o.chunk)
 laid_parts o a b d e f g s v n p q t u h i j k l m w =

@@ -7,7 +7,7 @@ use Rattle.jfr_frame.specs.declared.framed.Framed.{Framed}
 use Rattle.jfr_frame.specs.Records.{Tiles, record_end}
 use Rattle.jfr_frame.proofs.RecordLaws.{some_bytes, tiles_order}
 use Rattle.jfr_pool.specs.declared.entry.EntryAt.{EntryAt}
-use Rattle.jfr_chunk.specs.Scrub.{OutputRecord, Whole, Chained}
+use Rattle.jfr_chunk.specs.Scrub.{OutputRecord, Whole, Chained, Rebuilt}
 use Rattle.jfr_chunk.proofs.AllLaws.{all_append}
 use Rattle.jfr_scrub.specs.declared.piece.MadePart.{MadePart}
 use Rattle.jfr_scrub.specs.declared.piece.Part.{Part}
@@ -87,7 +87,7 @@ keeps_settled ps qs from to k h = λ s e l c. by_case s e l (copied_cases ps fro
     by_case s e l (inl d) = k s e l d
     by_case s e l (inr d) = let i : from ≤ s = d.0 in let j : e ≤ to = d.1 in narrower qs from to s e (h (omega arith)) d.0 d.1
 
--- What is made of pieces one behind another.
+-- The made parts of pieces one after another.
 pub made_append : (ps qs : List Part) → made_parts (ps ++ qs) ≡ made_parts ps ++ made_parts qs
 made_append [] qs = refl
 made_append (parts.Copied from to ∷ ps) qs = made_append ps qs
@@ -102,7 +102,7 @@ grows_left ps qs rs e = record { keeps = keeps_left ps qs rs e; made = ap made_p
 pub grows_then : (ps qs rs : List Part) (a b : List MadePart) → Grows ps qs a → Grows qs rs b → Grows ps rs (a ++ b)
 grows_then ps qs rs a b g h = record { keeps = keeps_then ps qs rs g.keeps h.keeps; made = h.made ∙ (ap (λ z. z ++ b) g.made ∙ append_assoc (made_parts ps) a b) }
 
--- Where the last range goes on, and where it is a piece now.
+-- The last range is continued, or becomes a piece.
 last_made : (ps : List Part) (from to : ℕ) → made_parts (ps ++ parts.Copied from to ∷ []) ≡ made_parts ps
 last_made ps from to = made_append ps (parts.Copied from to ∷ []) ∙ append-nil (made_parts ps)
 
@@ -136,7 +136,7 @@ run_parts left rs before rest e = ap (flat_map (output_record_parts left)) e ∙
     none [] = refl
     none (r ∷ rs) = none rs
 
--- What is made so far and what is left are all, behind a run and one that stays.
+-- The parts made so far and those left are all, after a run and one more output record.
 pub parts_next : (left : List EntryAt) (now mid next : List Part) (rs : List Framed) (before rest ss : List OutputRecord) (s : OutputRecord) (all : List MadePart) → before ≡ map (λ r. Whole r) rs ++ rest → rest ≡ s ∷ ss → Grows now mid [] → Grows mid next (output_record_parts left s) →
     made_parts now ++ flat_map (output_record_parts left) before ≡ all → made_parts next ++ flat_map (output_record_parts left) ss ≡ all
 parts_next left now mid next rs before rest ss s all e q g h m =
@@ -160,10 +160,11 @@ entries_kept ps qs k n (e ∷ es) a c = (k e.key_at e.end a.0.order c.0, entries
 
 output_record_kept : (ps qs : List Part) → Keeps ps qs → (b : List ℕ) (left : List EntryAt) → AllByRecursion (HasRange (length b)) left → (s : OutputRecord) (at : ℕ) (older : Option ℕ) → OutputRecordFits b left s at older → OutputRecordIsCopied left ps s → OutputRecordIsCopied left qs s
 output_record_kept ps qs k b left a (Whole r) at older f c = k r.at (record_end r) (some_bytes b r f) c
+output_record_kept ps qs k b left a (Rebuilt r x) at older f c = tt
 output_record_kept ps qs k b left a (Chained number l) at older f c =
     entries_kept ps qs k (length b) (filter (λ e. e.checkpoint == number) left) (range_filter (length b) (λ e. e.checkpoint == number) left a) c
 
--- All are copied, where those that come still are in what keeps what is copied now.
+-- All are copied, if those still to come are, in any pieces that keep the ranges copied so far.
 abbrev pub SoFar : {X : Type 0} → (List Part → X → Type 0) → List Part → List X → List X → Type 0
 SoFar P now rest all = (ps : List Part) → Keeps now ps → AllByRecursion (P ps) rest → AllByRecursion (P ps) all
 
@@ -180,19 +181,19 @@ pub none_left : {X : Type 0} (rest : List X) → length rest ≤ 0 → rest ≡ 
 none_left [] h = refl
 none_left (x ∷ rest) h = absurd (omega arith)
 
--- Entries behind the first of them.
+-- Entries after the first of them.
 pub so_far_entries : (n i : ℕ) (now next : List Part) (rest all pool : List EntryAt) → SoFar EntryIsCopied now rest all → Keeps now next → pool ≡ take i rest → AllByRecursion (HasRange n) pool → AllByRecursion (EntryIsCopied next) pool → SoFar EntryIsCopied next (drop i rest) all
 so_far_entries n i now next rest all pool s k e r c = λ ps m d.
     s ps (keeps_then now next ps k m) (subst (AllByRecursion (EntryIsCopied ps)) (ap (λ z. z ++ drop i rest) e ∙ take-append-drop i rest) (all_append (EntryIsCopied ps) pool (drop i rest) (entries_kept next ps m n pool r c) d))
 
--- Entries behind one.
+-- Entries after one.
 pub so_far_entry : (n i : ℕ) (now next : List Part) (es all : List EntryAt) (d : EntryAt) → i < length es → SoFar EntryIsCopied now (drop i es) all → Keeps now next → HasRange n (get_or es i d) → EntryIsCopied next (get_or es i d) → SoFar EntryIsCopied next (drop (i + 1) es) all
 so_far_entry n i now next es all d h s k r c =
     let e = get_or es i d in
     let g : drop i es ≡ e ∷ drop (i + 1) es = drop-cons es i d h ∙ ap (λ m. e ∷ drop m es) (sym (add-one i)) in
     λ ps m b. s ps (keeps_then now next ps k m) (subst (AllByRecursion (EntryIsCopied ps)) (sym g) (m e.key_at e.end r.order c, b))
 
--- What stays behind one.
+-- The output records after one.
 pub so_far_output_record : (b : List ℕ) (left : List EntryAt) (now next : List Part) (s : OutputRecord) (rest all : List OutputRecord) (at : ℕ) (older : Option ℕ) → AllByRecursion (HasRange (length b)) left → OutputRecordFits b left s at older → SoFar (OutputRecordIsCopied left) now (s ∷ rest) all → Keeps now next → OutputRecordIsCopied left next s →
     SoFar (OutputRecordIsCopied left) next rest all
 so_far_output_record b left now next s rest all at older a f so k c = λ ps m d. so ps (keeps_then now next ps k m) (output_record_kept next ps m b left a s at older f c, d)
@@ -205,7 +206,7 @@ records_copied b left now next k p from to (r ∷ rs) c h t =
     let e : r.at ≡ from = t.0 in
     (k r.at (record_end r) l (narrower now p to r.at (record_end r) c (omega arith) (tiles_order b (record_end r) to rs t.2)), records_copied b left now next k p (record_end r) to rs c (omega arith) t.2)
 
--- What stays behind a run.
+-- The output records after a run.
 pub so_far_run : (b : List ℕ) (left : List EntryAt) (now next : List Part) (before rest all : List OutputRecord) (rs : List Framed) (from to : ℕ) → before ≡ map (λ r. Whole r) rs ++ rest → Tiles b from rs to → SoFar (OutputRecordIsCopied left) now before all → Keeps now next → IsCopied next from to →
     SoFar (OutputRecordIsCopied left) next rest all
 so_far_run b left now next before rest all rs from to e t so k c = λ ps m d.

@@ -21,7 +21,7 @@ use Rattle.jfr_laws.proofs.Order.{Numbered, numbered_at, output_records_in, chai
 use Rattle.jfr_laws.proofs.Premises.{all_links, ready}
 use Rattle.jfr_scrub.specs.declared.output_records.Cursor.{Cursor}
 use Rattle.jfr_scrub.specs.declared.output_records.OutputRecord as told
-use Rattle.jfr_scrub.specs.OutputRecords.{output_record_as, events_from, event_there, link_there, IsCursor, still_output_records, is_kept_at, event_behind, linked_at, link_behind}
+use Rattle.jfr_scrub.specs.OutputRecords.{output_record_in, events_from, event_there, link_there, IsCursor, still_output_records, is_kept_at, event_behind, linked_at, link_behind}
 use Rattle.jfr_scrub.proofs.OutputRecordLaws.{Rises, rises_given, rises_marked, Stands, at_head, past_head, elsewhere, found_place, any_found, Occurs, AllOccur, in_order}
 
 -- Where an event, or a numbered checkpoint, starts.
@@ -94,7 +94,7 @@ kept_stands es r e h = found_place event_place es r.at e h
 pub link_stands : (p : Parts) → Stands link_place (link_there p)
 link_stands p r l h = found_place link_place (enumerate_from 0 (reverse p.chain)) r.at l h
 
--- The events behind a record.
+-- The events after a record.
 pub record Passed (f g : Framed → Option EventAt) (es : List EventAt) (fs : List Bool) (r : Framed) (rs : List Framed) (m : ℕ) (keep : Bool) : Type 0 where
   pub events : drop m es ≡ filter_map f rs
   pub kept : marked (drop m fs) (drop m es) ≡ filter_map g rs
@@ -138,7 +138,7 @@ event_passed f g s t es fs n r rs a e k = by_head (slice_get es n) refl
     by_head None q = none_here (subst (Rises event_place (r.at + 1)) (sym (drop_none es n q)) tt)
     by_head (Some x) q = by_test x (drop_at es n x q) (event_place x == r.at) refl
 
--- The checkpoints behind a record.
+-- The checkpoints after a record.
 pub record LinkPassed (f : Framed → Option (ℕ × Link)) (ls : List Link) (r : Framed) (rs : List Framed) (m : ℕ) (there : Option (ℕ × Link)) : Type 0 where
   pub links : enumerate_from m (drop m ls) ≡ filter_map f rs
   pub here : there ≡ f r
@@ -161,7 +161,7 @@ link_passed f s ls n r rs a e = by_head (slice_get ls n) refl
     by_head None q = none_here (subst (λ z. Rises link_place (r.at + 1) (enumerate_from n z)) (sym (drop_none ls n q)) tt)
     by_head (Some l) q = by_test l (drop_at ls n l q) (l.frame.at == r.at) refl
 
--- A cursor behind a record.
+-- A cursor after a record.
 pub cursor_passed : (p : Parts) (flags : List Bool) (c : Cursor) (r : Framed) → IsCursor p flags c → slice_get p.records c.frame ≡ Some r →
     IsCursor p flags (record { frame = c.frame + 1; event = event_behind (events_of p) c.event r.at; link = link_behind (reverse p.chain) c.link r.at })
     × (is_kept_at (events_of p) flags c.event r.at ≡ list_any (λ e. e.record_of.at == r.at) (kept_by p flags))
@@ -177,7 +177,7 @@ cursor_passed p flags c r i e =
       v.here,
     )
 
--- A cursor behind the record that starts at a place.
+-- A cursor after the record at an offset.
 abbrev Behind : Parts → List Bool → Cursor → Framed → ℕ → Type 0
 Behind p flags c r at =
     IsCursor p flags (record { frame = c.frame + 1; event = event_behind (events_of p) c.event at; link = link_behind (reverse p.chain) c.link at })
@@ -206,20 +206,20 @@ pub output_records_none : (p : Parts) (flags : List Bool) (c : Cursor) → lengt
 output_records_none p flags c h = ap (filter_map (output_record_of p (kept_by p flags))) (drop_all c.frame p.records h)
 
 pub output_record_next : (p : Parts) (flags : List Bool) (c d : Cursor) (frames : List Framed) (at : ℕ) (o : Option told.OutputRecord) → frames ≡ p.records → option_map (λ r. r.at) (slice_get frames c.frame) ≡ Some at → d.frame ≡ c.frame + 1 →
-    IfSome (slice_get p.records c.frame) (λ r. option_map output_record_as o ≡ output_record_of p (kept_by p flags) r) → still_output_records p flags c ≡ cons_option (option_map output_record_as o) (still_output_records p flags d)
+    IfSome (slice_get p.records c.frame) (λ r. option_map (output_record_in p flags) o ≡ output_record_of p (kept_by p flags) r) → still_output_records p flags c ≡ cons_option (option_map (output_record_in p flags) o) (still_output_records p flags d)
 output_record_next p flags c d frames at o e h f g = by_record (slice_get p.records c.frame) refl (ap (λ rs. option_map (λ r. r.at) (slice_get rs c.frame)) (sym e) ∙ h) g
   where
-    by_record : (x : Option Framed) → slice_get p.records c.frame ≡ x → option_map (λ r. r.at) x ≡ Some at → IfSome x (λ r. option_map output_record_as o ≡ output_record_of p (kept_by p flags) r) → still_output_records p flags c ≡ cons_option (option_map output_record_as o) (still_output_records p flags d)
+    by_record : (x : Option Framed) → slice_get p.records c.frame ≡ x → option_map (λ r. r.at) x ≡ Some at → IfSome x (λ r. option_map (output_record_in p flags) o ≡ output_record_of p (kept_by p flags) r) → still_output_records p flags c ≡ cons_option (option_map (output_record_in p flags) o) (still_output_records p flags d)
     by_record None e h g = cc
     by_record (Some r) e h g = output_records_at p flags c r e ∙ (λ i. cons_option (sym g i) (filter_map (output_record_of p (kept_by p flags)) (drop (sym f i) p.records)))
 
-pub told_some : (before rest : List OutputRecord) (o : Option told.OutputRecord) → before ≡ cons_option (option_map output_record_as o) rest → is_some o ≡ true → MatchOption o (before ≡ []) (λ s. before ≡ output_record_as s ∷ rest)
-told_some before rest None e h = cc
-told_some before rest (Some s) e h = e
+pub told_some : (p : Parts) (flags : List Bool) (before rest : List OutputRecord) (o : Option told.OutputRecord) → before ≡ cons_option (option_map (output_record_in p flags) o) rest → is_some o ≡ true → MatchOption o (before ≡ []) (λ s. before ≡ output_record_in p flags s ∷ rest)
+told_some p flags before rest None e h = cc
+told_some p flags before rest (Some s) e h = e
 
-pub told_none : (before rest : List OutputRecord) (o : Option told.OutputRecord) → before ≡ cons_option (option_map output_record_as o) rest → is_some o ≡ false → before ≡ rest
-told_none before rest None e h = e
-told_none before rest (Some s) e h = cc
+pub told_none : (p : Parts) (flags : List Bool) (before rest : List OutputRecord) (o : Option told.OutputRecord) → before ≡ cons_option (option_map (output_record_in p flags) o) rest → is_some o ≡ false → before ≡ rest
+told_none p flags before rest None e h = e
+told_none p flags before rest (Some s) e h = cc
 
 rises_first : (p : ℕ) (rs : List Framed) (f : Framed → Option EventAt) → Stands event_place f → AllOccur event_place rs (filter_map f rs)
 rises_first p [] f s = tt
@@ -234,14 +234,15 @@ rises_first p (r ∷ rs) f s = by_value (f r) refl (occur_more r (filter_map f r
     by_value (Some x) e h = (inl (sym (s r x e)), h)
 
 -- The checkpoints that stay are those that stand at the records.
-chained_given : (all : List Numbered) (whole : Framed → Bool) (rs : List Framed) → chained_of (output_records_in all whole rs) ≡ filter_map (λ r. numbered_at all r.at) rs
-chained_given all whole [] = refl
-chained_given all whole (r ∷ rs) = by_value (numbered_at all r.at) (whole r) (chained_given all whole rs)
+chained_given : (all : List Numbered) (whole : Framed → Bool) (new : Framed → Option (List ℕ)) (rs : List Framed) → chained_of (output_records_in all whole new rs) ≡ filter_map (λ r. numbered_at all r.at) rs
+chained_given all whole new [] = refl
+chained_given all whole new (r ∷ rs) = by_value (numbered_at all r.at) (whole r) (new r) (chained_given all whole new rs)
   where
-    by_value : (o : Option Numbered) (b : Bool) → chained_of (output_records_in all whole rs) ≡ filter_map (λ r. numbered_at all r.at) rs → chained_of (cons_option (output_record_by o b r) (output_records_in all whole rs)) ≡ cons_option o (filter_map (λ r. numbered_at all r.at) rs)
-    by_value (Some l) b e = ap (λ z. l ∷ z) e
-    by_value None true e = e
-    by_value None false e = e
+    by_value : (o : Option Numbered) (b : Bool) (w : Option (List ℕ)) → chained_of (output_records_in all whole new rs) ≡ filter_map (λ r. numbered_at all r.at) rs → chained_of (cons_option (output_record_by o b w r) (output_records_in all whole new rs)) ≡ cons_option o (filter_map (λ r. numbered_at all r.at) rs)
+    by_value (Some l) b w e = ap (λ z. l ∷ z) e
+    by_value None true None e = e
+    by_value None true (Some x) e = e
+    by_value None false w e = e
 
 -- A cursor before the first record.
 pub cursor_first : (p : Parts) (flags : List Bool) → AreParts p → IsCursor p flags (record { frame = 0; event = 0; link = 0 })
@@ -255,5 +256,5 @@ cursor_first p flags a =
       parts = a;
       events = refl;
       kept = sym (in_order event_place (kept_by p flags) p.records 0 [] (kept_by p flags) rises refl tt (rises_marked event_place 0 flags (events_of p) up) (all_marked (λ x. Occurs (event_place x) p.records) flags (events_of p) there));
-      links = sym ((ready p a (λ r. false) []).order) ∙ chained_given (all_links p) (λ r. false) p.records;
+      links = sym ((ready p a (λ r. false) (λ r. None) (λ r x i e. cc) []).order) ∙ chained_given (all_links p) (λ r. false) (λ r. None) p.records;
     }

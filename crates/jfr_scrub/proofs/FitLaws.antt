@@ -1,4 +1,4 @@
--- What stays of a chunk fits where it stood.
+-- What is left of a chunk fits in its bytes.
 use Rattle.std.specs.Prelude.{◌≡◌, ℕ, zero, suc, ◌+◌, ◌-◌, ◌<◌, ◌≤◌, Bool, true, false, List, [], ◌∷◌, ◌++◌, length, map, reverse, replicate, slice_set, Option, Some, None, is_some}
 use Rattle.std.specs.List.{flat_map, enumerate_from, AllByRecursion}
 use Rattle.std.proofs.Common.{arith, refl, sym, ◌∙◌, subst, append_assoc}
@@ -15,16 +15,18 @@ use Rattle.jfr_pool.specs.declared.link.Link.{Link}
 use Rattle.jfr_pool.specs.declared.entry.EntryAt.{EntryAt}
 use Rattle.jfr_pool.specs.Entries.{Constant, PoolAt, entry_of, entries_from, AreEntries}
 use Rattle.jfr_chunk.specs.Parts.{Parts, EventAt, AreParts}
-use Rattle.jfr_chunk.specs.Reach.{marked, marked_at, swept, led_to, next_entries, roots, reached_marks, remain}
+use Rattle.jfr_chunk.specs.Reach.{marked, next_entries, roots, reached_marks, remain}
+use Rattle.jfr_worklist.specs.Marks.{marked_at, swept, led_to}
 use Rattle.jfr_chunk.specs.Written.{distance}
-use Rattle.jfr_chunk.specs.Scrub.{OutputRecord, Whole, Chained, groups_of, bytes_of, written_bytes, written, output_records, output_records_whole}
+use Rattle.jfr_chunk.specs.Scrub.{OutputRecord, Whole, Chained, Rebuilt, groups_of, bytes_of, written_bytes, written, written_anew, output_records, output_records_whole}
 use Rattle.jfr_laws.proofs.Standing.{LinkStands, Constants, Pools, body_stands}
 use Rattle.jfr_laws.proofs.Marks.{all_marked}
 use Rattle.jfr_laws.proofs.Order.{Numbered}
-use Rattle.jfr_laws.proofs.OutputRecords.{Deltas, OutputRecordStands}
+use Rattle.jfr_laws.proofs.OutputRecords.{Deltas, OutputRecordStands, own_frame}
 use Rattle.jfr_laws.proofs.ReadBack.{tail_small}
 use Rattle.jfr_laws.proofs.Premises.{all_links, IsCheckpoint, Ready, ready, chained_checkpoints}
 use Rattle.jfr_laws.proofs.Lengths.{length_back, sizes_within}
+use Rattle.jfr_laws.proofs.AnewLaws.{good_anew}
 use Rattle.jfr_scrub.specs.Fits.{LinkFits}
 use Rattle.jfr_scrub.specs.Bodies.{OutputRecordFits, NotFalling}
 use Rattle.jfr_scrub.specs.Left.{HasRange}
@@ -49,6 +51,9 @@ module _ (c : List ℕ) (left : List EntryAt) (k : Classes) where
   all_written : (ss : List OutputRecord) (at : ℕ) (older : Option ℕ) → AllByRecursion (OutputRecordStands c left k) ss → Deltas (is_some older) ss → AllByRecursion (WrittenFits c left) (written c left at older ss)
   all_written [] at older a d = tt
   all_written (Whole r ∷ ss) at older a d = (a.0, all_written ss (at + length (bytes_of c left (Whole r) at older)) older a.1 d)
+  all_written (Rebuilt r x ∷ ss) at older a d =
+      let i : 0 < record_end (own_frame x) = some_bytes x (own_frame x) a.0.1 in
+      ((a.0.0, omega arith, a.0.2), all_written ss (at + length (bytes_of c left (Rebuilt r x) at older)) older a.1 d)
   all_written (Chained i l ∷ ss) at older a d = (link_fits i l at older a.0 d.0, all_written ss (at + length (bytes_of c left (Chained i l) at older)) (Some at) a.1 d.1)
 
 -- What is written has a byte.
@@ -57,6 +62,7 @@ some_written c left (Whole r) at older f =
     let i = some_bytes c r f in
     let l : length (record_bytes c r) ≡ record_end r - r.at = range_length c r.at (record_end r) f.within in
     omega arith
+some_written c left (Rebuilt r x) at older f = f.1
 some_written c left (Chained i l) at older f =
     let n = checkpoint_length c l (distance at older) (groups_of left i) f in
     let w = size_width c l.frame f.framed in
@@ -69,7 +75,7 @@ module _ (p : Parts) (a : AreParts p) (kept : List EventAt) where
 
   is_ready : Ready p (remain p kept) (output_records p kept)
   unfolding remain
-  is_ready = ready p a (output_records_whole p kept) (reached_marks p kept)
+  is_ready = ready p a (output_records_whole p kept) (written_anew p kept) (good_anew p a kept) (reached_marks p kept)
 
   pub all_fit : AllByRecursion (WrittenFits p.bytes (remain p kept)) (written p.bytes (remain p kept) 68 None (output_records p kept))
   all_fit = all_written p.bytes (remain p kept) p.classes (output_records p kept) 68 None is_ready.stand is_ready.deltas
@@ -77,7 +83,7 @@ module _ (p : Parts) (a : AreParts p) (kept : List EventAt) where
   pub all_within : 68 + length (flat_map (written_bytes p.bytes (remain p kept)) (written p.bytes (remain p kept) 68 None (output_records p kept))) ≤ length p.bytes
   all_within =
       let i = length_back p.bytes (remain p kept) p.classes (output_records p kept) 68 None is_ready.stand is_ready.deltas in
-      let j = sizes_within p.bytes (all_links p) (output_records_whole p kept) (records_of (all_links p) (chained_checkpoints p a)) p.records 68 (length p.bytes) a.records in
+      let j = sizes_within p.bytes (all_links p) (output_records_whole p kept) (written_anew p kept) (records_of (all_links p) (chained_checkpoints p a)) p.records 68 (length p.bytes) a.records in
       omega arith
 
 -- Entries in the order of their checkpoints, each in its range.

@@ -1,4 +1,4 @@
--- Events that stand one behind another.
+-- Runs of events.
 use Rattle.std.specs.Prelude.{◌≡◌, ◌↔◌, ℕ, zero, suc, ◌+◌, ◌*◌, ◌^◌, ◌<◌, ◌≤◌, Bool, true, false, ◌==◌, ◌&&◌, List, [], ◌∷◌, length, drop, slice_get, Option, Some, None, Ok, Err, option_map, unwrap_or, cond, if◌then◌else◌, IsTrue}
 use Rattle.std.specs.List.{cons_option, filter_map}
 use Rattle.std.specs.Option.{option_map_or}
@@ -27,7 +27,7 @@ rises_get place p [] k x a g = cc
 rises_get place p (y ∷ xs) zero x a g = let h : y ≡ x = cc in subst (λ z. p ≤ place z) h a.0
 rises_get place p (y ∷ xs) (suc k) x a g = let i : place y + 1 ≤ place x = rises_get place (place y + 1) xs k x a.1 g in let j : p ≤ place y = a.0 in omega arith
 
--- What a function gives stands behind the records of lower numbers.
+-- What a function gives comes after the records with lower numbers.
 given_later : {X : Type 0} (place : X → ℕ) (f : Framed → Option X) → Stands place f → (p : ℕ) (rs : List Framed) (i k : ℕ) (r : Framed) (x : X) → Rising p rs → i < k → slice_get (filter_map f rs) k ≡ Some x → slice_get rs i ≡ Some r → r.at < place x
 given_later place f s p [] i k r x a l g h = cc
 given_later place f s p (q ∷ rs) i zero r x a l g h = absurd (omega (arith, l))
@@ -48,7 +48,7 @@ given_later {X = X} place f s p (q ∷ rs) (suc i) (suc k) r x a l g h = by_valu
     by_value None g u v = u g
     by_value (Some y) g u v = v g
 
--- Where one of them stands at the record of its number, the first record has one.
+-- If one of them is at the record with its own number, the first record has one.
 given_first : {X : Type 0} (place : X → ℕ) (f : Framed → Option X) → Stands place f → (p : ℕ) (q : Framed) (rs : List Framed) (k : ℕ) (r : Framed) (x : X) → Rising p (q ∷ rs) → slice_get (filter_map f (q ∷ rs)) k ≡ Some x → slice_get (q ∷ rs) k ≡ Some r → place x ≡ r.at → (y : X) × (f q ≡ Some y)
 given_first {X = X} place f s p q rs k r x a g h e = by_value (f q) refl g
   where
@@ -63,7 +63,7 @@ given_first {X = X} place f s p q rs k r x a g h e = by_value (f q) refl g
     by_value None t g = absurd (none_first k g h)
     by_value (Some y) t g = (y, t)
 
--- The record of a number and what the function gives by that number belong together.
+-- The record with a number has the value of the function with this number.
 record Given {X : Type 0} (f : Framed → Option X) (rs : List Framed) (i : ℕ) : Type 0 where
   framed : Framed
   value : X
@@ -185,7 +185,7 @@ few_events : (p : Parts) → length (events_of p) ≤ length p.records
 unfolding events_of
 few_events p = subst (λ es. length es ≤ length p.records) (sym (events_given p p.records)) (few_given (event_in p) p.records)
 
-pub counts_small : (p : Parts) → IsAccepted p → (length p.records < 2 ^ 28) × (length (events_of p) < 2 ^ 28)
+pub counts_small : (p : Parts) → IsAccepted p → (length p.records < 2 ^ 30) × (length (events_of p) < 2 ^ 30)
 counts_small p a =
     let i = few_records p.bytes 68 (length p.bytes) p.records a.parts.records in
     let j = few_events p in

@@ -17,7 +17,7 @@ use Rattle.jfr_plan.specs.Ends.{End, Fine, Refused}
 use Rattle.jfr_plan.specs.Effects.{alone, stand}
 use Rattle.jfr_plan.specs.Walks.{plan_in}
 use Rattle.jfr_plan.specs.Outcomes.{AllDone}
-use Rattle.jfr_plan.specs.Clauses.{Ended}
+use Rattle.jfr_plan.specs.Clauses.{over, Ended}
 use Rattle.jfr_plan.specs.Makes.{IsFlawOf}
 use Rattle.jfr_pool.specs.Faults.{TellsFlaw}
 use Rattle.jfr_chunk.specs.Scrub.{scrub_of}
@@ -59,7 +59,7 @@ scrubs_world g input output e w v p q d =
     record { recording = h.recording; read = h.read; written = recording_scrubbed g h.recording; stands = h.stands; scrub = is_scrub_of g h.recording }
 
 -- Where all effects of the plan are done, the output holds the scrub of the input.
-scrubs : (g : Given) (input output : List ℕ) (e : End) (a b : State) → Ended (scrubbing g output) input e (alone a) (alone b) → Told a.told b.told (Scrubs g input output)
+scrubs : (g : Given) (input output : List ℕ) (e : End) (a b : State) → Ended (over (scrubbing g output) input) e (alone a) (alone b) → Told a.told b.told (Scrubs g input output)
 scrubs g input output e a b d = by_told a.told b.told d
   where
     by_told : (s t : Option World) → Told s t (λ w v. AllDone (plan_in (scrubbing g output) input w) e (stand w None) (stand v None)) → Told s t (Scrubs g input output)
@@ -68,8 +68,8 @@ scrubs g input output e a b d = by_told a.told b.told d
     by_told (Some w) (Some v) d = scrubs_world g input output e w v None None d
 
 -- An answer that the plan ends with.
-pub headline : (g : Given) (input output : List ℕ) (e : Ending) (a b : State) → (e ≡ ending.Done → Ended (scrubbing g output) input Fine (alone a) (alone b))
-    → ((r : Refusal) → e ≡ ending.Refused r → Ended (scrubbing g output) input (Refused r) (alone a) (alone b)) → IsByPlan e → Told a.told b.told (Scrubs g input output)
+pub headline : (g : Given) (input output : List ℕ) (e : Ending) (a b : State) → (e ≡ ending.Done → Ended (over (scrubbing g output) input) Fine (alone a) (alone b))
+    → ((r : Refusal) → e ≡ ending.Refused r → Ended (over (scrubbing g output) input) (Refused r) (alone a) (alone b)) → IsByPlan e → Told a.told b.told (Scrubs g input output)
 headline g input output ending.Done a b d r h = scrubs g input output Fine a b (d refl)
 headline g input output (ending.Refused x) a b d r h = scrubs g input output (Refused x) a b (r x refl)
 headline g input output ending.ReadFault a b d r h = absurd h
@@ -77,7 +77,7 @@ headline g input output ending.WriteFault a b d r h = absurd h
 headline g input output ending.TooManyParts a b d r h = absurd h
 headline g input output ending.Memory a b d r h = absurd h
 
--- What the reader of a chunk tells is what refuses the chunk.
+-- The flaw that reading a chunk returns is the one for which the chunk is refused.
 pub refused_by : (c : List ℕ) (fault : ReadFault) → TellsFlaw (read_parts c) fault → IsFlawOf (refusal_of c) fault
 unfolding refusal_of
 refused_by c (Flawed flaw) e = ap flaw_in e

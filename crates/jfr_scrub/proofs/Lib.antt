@@ -3,6 +3,8 @@ pub mod RemainingLaws
 pub mod CheckpointLaws
 pub mod Widths
 pub mod OutputRecordLaws
+pub mod NewLaws
+pub mod UsedLaws
 pub mod CursorLaws
 pub mod BodyLaws
 pub mod FitLaws
@@ -14,3 +16,4 @@ pub mod CountLaws
 pub mod AgainLaws
 pub mod HeadlineLaws
 mod MadeFile
+mod EndsWell

@@ -1,4 +1,4 @@
--- What stands in the output of a command that makes an output chunk of each chunk.
+-- The contents of the output of a command that makes an output chunk of each chunk.
 use Rattle.std.specs.Prelude.{◌≡◌, ◌⊎◌, ℕ, ◌+◌, List, [], ◌∷◌, ◌++◌, length, map, true, Option, Some, None, unwrap_or}
 use Rattle.std.proofs.Common.{ap, refl, sym, ◌∙◌, subst, inl, inr}
 use Rattle.std.proofs.lemmas.List.{append-nil, append_assoc}
@@ -38,7 +38,7 @@ walked k m output before (c ∷ cs) flaw =
     let h = walked_on k m (k c) c cs (length before + 1) (walk (making output k m) (before ++ c ∷ []) cs flaw) (walked k m output (before ++ c ∷ []) cs flaw) in
     record { last = h.0; is_last = h.1; effects_are = h.2 }
 
--- What is appended to the open output stands in its file.
+-- What is appended to the open output is in its file.
 appended : (m : List ℕ → List ℕ) (output : List ℕ) (cs : List (List ℕ)) (s : Stand) (b : List ℕ) → s.output ≡ Some output → fin.get s.files output ≡ Some b
     → fin.get (done (appends m cs) s).files output ≡ Some (b ++ joined (map m cs))
 appended m output [] s b o g = g ∙ ap Some (sym (append-nil b))
@@ -58,7 +58,7 @@ ended : (last : List Effect) (s : Stand) → (last ≡ []) ⊎ (last ≡ Finish 
 ended last s (inl e) = ap (λ es. (done es s).files) e
 ended last s (inr e) = ap (λ es. (done es s).files) e
 
--- Where all effects of the plan are done, the results stand in the output, one after another.
+-- If all effects of the plan are done, the output has the results, one after another.
 pub record Made (k : List ℕ → Option Flaw) (m : List ℕ → List ℕ) (input output : List ℕ) (w v : World) : Type 0 where
   pub recording : List ℕ
   pub read : file w input ≡ Some recording

@@ -8,7 +8,7 @@ use Rattle.jfr_frame.specs.declared.framed.Framed.{Framed}
 use Rattle.jfr_frame.specs.Records.{Rising}
 use Rattle.jfr_chunk.specs.Reach.{marked}
 
--- One behind another, from a place on.
+-- The members are one after another, from an offset on.
 abbrev pub Rises : {X : Type 0} → (X → ℕ) → ℕ → List X → Type 0
 Rises place p [] = ⊤
 Rises place p (x ∷ xs) = (p ≤ place x) × Rises place (place x + 1) xs
@@ -23,7 +23,7 @@ rises_marked place p (f ∷ fs) [] a = tt
 rises_marked place p (true ∷ fs) (x ∷ xs) a = (a.0, rises_marked place (place x + 1) fs xs a.1)
 rises_marked place p (false ∷ fs) (x ∷ xs) a = let i : p ≤ place x = a.0 in rises_less place p (place x + 1) (marked fs xs) (omega arith) (rises_marked place (place x + 1) fs xs a.1)
 
--- The function gives what stands at the record's place.
+-- The function gives a value at the record's offset.
 abbrev pub Stands : {X : Type 0} → (X → ℕ) → (Framed → Option X) → Type 0
 Stands {X} place f = (r : Framed) (x : X) → f r ≡ Some x → place x ≡ r.at
 
@@ -35,7 +35,7 @@ rises_given {X = X} place f s p (r ∷ rs) a = by_value (f r) refl (rises_given 
     by_value None e h = let i : p ≤ r.at = a.0 in rises_less place p (r.at + 1) (filter_map f rs) (omega arith) h
     by_value (Some x) e h = let w = s r x e in let i : p ≤ r.at = a.0 in (omega arith, subst (λ n. Rises place (n + 1) (filter_map f rs)) (sym w) h)
 
--- What comes first stands at the first record.
+-- The first value is at the first record.
 pub at_head : {X : Type 0} (place : X → ℕ) (f : Framed → Option X) → Stands place f → (r : Framed) (rs : List Framed) (x : X) (xs : List X) → Rising (r.at + 1) rs → x ∷ xs ≡ filter_map f (r ∷ rs) → place x ≡ r.at →
     (f r ≡ Some x) × (xs ≡ filter_map f rs)
 at_head {X = X} place f s r rs x xs a e h = by_value (f r) refl e (rises_given place f s (r.at + 1) rs a)
@@ -48,7 +48,7 @@ at_head {X = X} place f s r rs x xs a e h = by_value (f r) refl e (rises_given p
     by_value None q e b = absurd (past (filter_map f rs) e b)
     by_value (Some y) q e b = let i : x ≡ y = cc in (q ∙ ap (λ z. Some z) (sym i), cc)
 
--- All stand past the first record.
+-- All values are past the first record.
 pub past_head : {X : Type 0} (place : X → ℕ) (f : Framed → Option X) → Stands place f → (r : Framed) (rs : List Framed) (xs : List X) → xs ≡ filter_map f (r ∷ rs) → Rises place (r.at + 1) xs →
     (f r ≡ None) × (xs ≡ filter_map f rs)
 past_head {X = X} place f s r rs xs e b = by_value (f r) refl e
@@ -61,7 +61,7 @@ past_head {X = X} place f s r rs xs e b = by_value (f r) refl e
     by_value None q e = (q, e)
     by_value (Some y) q e = absurd (not_first y (filter_map f rs) xs b e (s r y q))
 
--- What comes first stands elsewhere.
+-- The first value isn't at the first record.
 pub elsewhere : {X : Type 0} (place : X → ℕ) (f : Framed → Option X) → Stands place f → (r : Framed) (rs : List Framed) (x : X) (xs : List X) → Rising r.at (r ∷ rs) → x ∷ xs ≡ filter_map f (r ∷ rs) → (place x == r.at) ≡ false →
     Rises place (r.at + 1) (x ∷ xs)
 elsewhere {X = X} place f s r rs x xs a e h = by_list (filter_map f (r ∷ rs)) e (rises_given place f s r.at (r ∷ rs) a)
@@ -80,7 +80,7 @@ elsewhere {X = X} place f s r rs x xs a e h = by_list (filter_map f (r ∷ rs)) 
         let n : place x ≡ r.at → ⊥ = unequal (place x) r.at h in
         (omega (arith, n), c.1)
 
--- What a search by place finds stands there.
+-- The member that a search by offset finds is at this offset.
 pub found_place : {X : Type 0} (place : X → ℕ) (xs : List X) (at : ℕ) (x : X) → find (λ y. place y == at) xs ≡ Some x → place x ≡ at
 found_place place [] at x e = cc
 found_place {X = X} place (y ∷ ys) at x e = by_test (place y == at) refl e (found_place place ys at x)

@@ -1,4 +1,4 @@
--- Pieces, one behind another.
+-- Pieces, one after another.
 use Rattle.std.specs.Prelude.{◌≡◌, ℕ, zero, suc, ◌+◌, ◌-◌, ◌<◌, ◌≤◌, List, [], ◌∷◌, ◌++◌, length, take, drop, slice_range, Vec, vec_len, vec_capacity}
 use Rattle.std.specs.Global.{Global}
 use Rattle.std.specs.List.{flat_map, AllByRecursion}
@@ -47,7 +47,7 @@ put_last c made x more ps qs part from to a e f t q =
     ∙ (ap (λ z. z ++ (slice_range more from to ++ [])) (ap (λ z. flat_map (part_bytes c z) ps) e ∙ same_pieces c made x ps a)
     ∙ ap (λ z. flat_map (part_bytes c made) ps ++ z) (append-nil (slice_range more from to) ∙ made_last made x more from to e f t)))
 
--- The same as the first piece.
+-- The same, for a piece added in front.
 pub put_first : (c made x more : List ℕ) (ps qs : List Part) (part : MadePart) (from to : ℕ) → AllByRecursion (Lies (length c) (length made)) ps → more ≡ made ++ x → from ≡ length made → to ≡ length more →
     qs ≡ parts.Made part from to ∷ ps → flat_map (part_bytes c more) qs ≡ x ++ flat_map (part_bytes c made) ps
 put_first c made x more ps qs part from to a e f t q =
@@ -96,7 +96,7 @@ lies_get n m [] i d a h = absurd (omega arith)
 lies_get n m (p ∷ ps) zero d a h = a.0
 lies_get n m (p ∷ ps) (suc i) d a h = lies_get n m ps i d a.1 (omega arith)
 
--- The pieces, and behind them a range of the chunk.
+-- The pieces, followed by a range of the chunk.
 abbrev pub pending : Laid → ℕ → ℕ → Laid
 pending l from to = record { chunk = l.chunk; made = l.made; pieces = l.pieces ++ parts.Copied from to ∷ [] }
 
@@ -107,7 +107,7 @@ pending_bytes l from to =
 laying_pending : (l : Laid) (from to : ℕ) → laying_of (pending l from to) ≡ record { chunk = l.chunk; bytes = joined l ++ slice_range l.chunk from to }
 laying_pending l from to = λ i. record { chunk = l.chunk; bytes = pending_bytes l from to i }
 
--- A range that goes on where the last one ends.
+-- A range that continues the last one.
 pub longer_laid : (l o : Laid) (from middle at to : ℕ) → pending l from middle ≡ o → at ≡ middle → from ≤ middle → at ≤ to → laying_of (pending l from to) ≡ more (laying_of o) (slice_range o.chunk at to)
 longer_laid l o from middle at to v e h i =
     let c = l.chunk in
@@ -124,7 +124,7 @@ settled l m o from to v e f = (λ i. record { chunk = e i; bytes = f i }) ∙ (s
 pub next_laid : (l m o : Laid) (from to at end : ℕ) → pending l from to ≡ o → m.chunk ≡ l.chunk → joined m ≡ joined l ++ slice_range l.chunk from to → laying_of (pending m at end) ≡ more (laying_of o) (slice_range o.chunk at end)
 next_laid l m o from to at end v e f = laying_pending m at end ∙ ap (λ (z : Laying). more z (slice_range z.chunk at end)) (settled l m o from to v e f)
 
--- Bytes that are made behind the last range.
+-- Bytes that are made after the last range.
 pub made_laid : (l m n o : Laid) (x : List ℕ) (from to : ℕ) → pending l from to ≡ o → m.chunk ≡ l.chunk → joined m ≡ joined l ++ slice_range l.chunk from to → n.chunk ≡ m.chunk → joined n ≡ joined m ++ x → laying_of (pending n 0 0) ≡ more (laying_of o) x
 made_laid l m n o x from to v e f g h =
     laying_pending n 0 0 ∙ ((λ i. record { chunk = g i; bytes = (append-nil (joined n) ∙ h) i }) ∙ ap (λ z. more z x) (settled l m o from to v e f))

@@ -1,4 +1,4 @@
--- Entries as they stand in pools.
+-- Entries, by their pools.
 use Rattle.std.specs.Prelude.{◌≡◌, ℕ, zero, suc, ◌+◌, ◌-◌, ◌<◌, ◌≤◌, Bool, true, false, ◌&&◌, ◌==◌, List, [], ◌∷◌, ◌++◌, length, take, drop, min, slice_get, Some, if◌then◌else◌}
 use Rattle.std.specs.List.{AllByRecursion}
 use Rattle.std.proofs.Common.{ap, arith, refl, sym, ◌∙◌, subst, get_or, drop-cons, add-one, append_assoc}
@@ -6,7 +6,8 @@ use Rattle.std.proofs.lemmas.List.{drop_all, append-nil, length-drop, take_all}
 use Rattle.std.proofs.lemmas.Bool.Decides.{nat_tests}
 use Rattle.jfr_meta.specs.Written.{capped}
 use Rattle.jfr_pool.specs.declared.entry.EntryAt.{EntryAt}
-use Rattle.jfr_chunk.specs.Reach.{marked, is_marked}
+use Rattle.jfr_chunk.specs.Reach.{marked}
+use Rattle.jfr_worklist.specs.Marks.{is_marked}
 use Rattle.jfr_chunk.specs.Written.{Group, add_entry, by_pool}
 use Rattle.jfr_scrub.specs.Left.{HasRange, same_pool, leading, entries_size, pool_size, groups_size}
 
@@ -46,7 +47,7 @@ by_first e (f ∷ fs) = let i = by_first f fs in ap (add_entry e) i ∙ by_test 
 pub itself : (e : EntryAt) → same_pool e e ≡ true
 itself e = let p : (e.pool == e.pool) ≡ true = grind (arith, nat_tests) in let q : (e.class == e.class) ≡ true = grind (arith, nat_tests) in rw (p, q) refl
 
--- The entries of the first pool, and those behind it.
+-- The entries of the first pool, and those after it.
 pub by_leading : (e : EntryAt) (es : List EntryAt) →
     by_pool (e ∷ es) ≡ record { class = e.class; pool = e.pool; entries = take (leading e (e ∷ es)) (e ∷ es) } ∷ by_pool (drop (leading e (e ∷ es)) (e ∷ es))
 by_leading e es =
@@ -56,7 +57,7 @@ by_leading e es =
 pub some_leading : (e : EntryAt) (es : List EntryAt) → 1 ≤ leading e (e ∷ es)
 some_leading e es = let l : leading e (e ∷ es) ≡ suc (leading e es) = ap (λ b. if b then suc (leading e es) else 0) (itself e) in omega arith
 
--- Fewer are behind those of the first one's pool.
+-- Fewer entries come after those of the first one's pool.
 pub rest_smaller : (es rest : List EntryAt) (e : EntryAt) (n : ℕ) → slice_get es 0 ≡ Some e → n ≡ leading e es → rest ≡ drop n es → length rest < length es
 rest_smaller [] rest e n g l r = cc
 rest_smaller (x ∷ es) rest e n g l r =

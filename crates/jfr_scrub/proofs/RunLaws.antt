@@ -15,7 +15,8 @@ use Rattle.jfr_pool.specs.declared.entry.EntryAt.{EntryAt}
 use Rattle.jfr_pool.specs.declared.link.Link.{Link}
 use Rattle.jfr_chunk.specs.Parts.{Parts, EventAt, AreParts, events_of, metadata_at}
 use Rattle.jfr_chunk.specs.Reach.{kept_by}
-use Rattle.jfr_chunk.specs.Scrub.{OutputRecord, Whole, output_record_by, output_record_of, written, written_bytes}
+use Rattle.jfr_chunk.specs.Scrub.{OutputRecord, Whole, output_record_by, output_record_of, written, written_anew, written_bytes}
+use Rattle.jfr_chunk.specs.Metas.{rebuilt}
 use Rattle.jfr_chunk.proofs.AllLaws.{all_append, all_get}
 use Rattle.jfr_laws.proofs.Quiet.{IsQuiet, quiet_records}
 use Rattle.jfr_scrub.specs.declared.run.Run.{Run}
@@ -30,7 +31,7 @@ use Rattle.jfr_scrub.proofs.CheckpointLaws.{more_more}
 use Rattle.jfr_scrub.proofs.CursorLaws.{cursor_passed, output_records_at}
 use Rattle.jfr_scrub.proofs.FitLaws.{some_written}
 
--- The cursor behind its event.
+-- The cursor after its event.
 abbrev pub next_event : Cursor → Cursor
 next_event c = record { frame = c.frame + 1; event = c.event + 1; link = c.link }
 
@@ -62,8 +63,8 @@ unlinked ls n at e = by_link (slice_get ls n) e
 pub event_alone : (p : Parts) (a : AreParts p) (n : ℕ) (r : Framed) → slice_get p.records n ≡ Some r → is_event_class p.classes r.type_id ≡ true → ((r.at == metadata_at p.bytes) ≡ false) × (link_there p r ≡ None)
 event_alone p a n r e t = (by_test (r.at == metadata_at p.bytes) q.on_metadata, by_link (link_there p r) q.on_chained)
   where
-    q : IsQuiet p a r
-    q = all_get (IsQuiet p a) p.records n r (quiet_records p a) e
+    q : IsQuiet p a p.classes r
+    q = all_get (IsQuiet p a p.classes) p.records n r (quiet_records p a p.classes) e
 
     no_event : is_event_class p.classes r.type_id ≡ false → ⊥
     no_event f = let g : true ≡ false = sym t ∙ f in cc
@@ -82,7 +83,8 @@ at_run p flags c i h =
     let u = cursor_passed p flags c x.frame i x.framed in
     let w = event_alone p i.parts c.frame x.frame x.framed ((event_recorded p x.frame x.event x.given).1) in
     let l : link_behind (reverse p.chain) c.link x.frame.at ≡ c.link = unlinked (reverse p.chain) c.link x.frame.at (u.2 ∙ w.1) in
-    let s : output_record_of p (kept_by p flags) x.frame ≡ Some (Whole x.frame) = λ j. output_record_by (w.1 j) ((sym u.1 ∙ x.keep) j || (x.frame.at == metadata_at p.bytes)) x.frame in
+    let n : written_anew p (kept_by p flags) x.frame ≡ None = ap (λ t. if t then rebuilt p (kept_by p flags) x.frame.size else None) w.0 in
+    let s : output_record_of p (kept_by p flags) x.frame ≡ Some (Whole x.frame) = λ j. output_record_by (w.1 j) ((sym u.1 ∙ x.keep) j || (x.frame.at == metadata_at p.bytes)) (n j) x.frame in
     record {
       frame = x.frame;
       there = x.framed;
@@ -108,7 +110,7 @@ starts_there p frames bytes n here at f b h a = a ∙ ((λ i. unwrap_or ((h ∙ 
     by_record None = refl
     by_record (Some r) = refl
 
--- A record among those that cover a range, and where the one behind it starts.
+-- A record among those that cover a range, and the offset of the next one.
 start_next : (c : List ℕ) (p q : ℕ) (rs : List Framed) (n : ℕ) (r : Framed) → Tiles c p rs q → slice_get rs n ≡ Some r → IsRecord c r × (option_map_or (λ s. s.at) (slice_get rs (suc n)) q ≡ record_end r)
 start_next c p q [] n r t e = cc
 start_next c p q (x ∷ rs) zero r t e = let h : x ≡ r = cc in subst (λ z. IsRecord c z × (option_map_or (λ s. s.at) (slice_get rs 0) q ≡ record_end z)) h (t.1, first (record_end x) rs t.2)
@@ -145,7 +147,7 @@ run_next p flags c d from u a =
       output_records = u.output_records ∙ (ap (λ ss. map (λ r. Whole r) u.records ++ ss) a.output_records ∙ more_output_records u.records a.frame (still_output_records p flags (next_event d)));
     }
 
--- Where all events are kept, those that stand one behind another are a run.
+-- If all events are kept, consecutive ones are a run.
 all_flags : (flags : List Bool) (n : ℕ) → list_all (λ keep. keep) flags ≡ true → n < length flags → unwrap_or (slice_get flags n) false ≡ true
 all_flags [] n a l = absurd (omega (arith, l))
 all_flags (false ∷ flags) n a l = cc
@@ -165,7 +167,7 @@ kept_there p flags d x a t f =
     ∙ (ap (λ o. option_map_or (λ e. (e.record_of.at == x.record_of.at) && unwrap_or (slice_get flags d.event) false) o false) t
     ∙ (λ j. k j && all_flags flags d.event a.set l j))
 
--- The cursor behind so many events.
+-- The cursor after n events.
 abbrev pub behind : Cursor → ℕ → Cursor
 behind c n = record { frame = c.frame + n; event = c.event + n; link = c.link }
 
@@ -183,7 +185,7 @@ passes_events p flags c i a (suc n) h =
     let e : (m : ℕ) → (m + n) + 1 ≡ m + suc n = λ m. omega arith in
     subst (Passes p flags c) (λ j. record { frame = e c.frame j; event = e c.event j; link = c.link }) (passes_next p flags c (behind c n) u (kept_there p flags (behind c n) x.event a x.there x.framed))
 
--- And it ends where the next record isn't the next event.
+-- The run ends if the next record isn't the next event.
 pub ends_events : (p : Parts) (flags : List Bool) (c : Cursor) (n : ℕ) → IsCursor p flags (behind c n) → (HasEventAt p c n → ⊥) → is_in_run p flags (behind c n) ≡ false
 ends_events p flags c n i h = by_test (is_in_run p flags (behind c n)) refl
   where
@@ -191,7 +193,7 @@ ends_events p flags c n i h = by_test (is_in_run p flags (behind c n)) refl
     by_test true t = let x = in_run p flags (behind c n) i t in absurd (h (record { event = x.event; there = x.there; framed = x.framed ∙ ap (λ r. Some r) (sym ((event_recorded p x.frame x.event x.given).0)) }))
     by_test false t = refl
 
--- A run is laid out as its records are, one behind another.
+-- A run is laid out as its records are, one after another.
 seen_before : (before : Option ℕ) (at : ℕ) → place_seen before false at ≡ before
 seen_before None at = refl
 seen_before (Some place) at = refl
@@ -227,7 +229,7 @@ laid_run p left all ss (r ∷ rs) from to b g t o =
     let e = first_of_range b r left m to o.0 (subst (λ c. IsRecord c r) (sym g.chunk) t.1) (tiles_order p.bytes (record_end r) to rs t.2) in
     subst (Going p left all ss) (e ∙ ap (λ n. with_range b n to) t.0) rest
 
--- What is left to lay out behind a run.
+-- What is left to lay out after a run.
 pub going_run : (p : Parts) (flags : List Bool) (left : List EntryAt) (all rest : List OutputRecord) (c d : Cursor) (run : Run) (b next : Progress) → IsRun p flags c d run.from run.to → Going p left all (still_output_records p flags c) b → next ≡ body_with_run b run → still_output_records p flags d ≡ rest → Going p left all rest next
 going_run p flags left all rest c d run b next u g n e =
     let laid = laid_run p left all (still_output_records p flags d) u.records run.from run.to b (subst (λ ss. Going p left all ss b) u.output_records g) u.tiles u.others in

@@ -1,4 +1,4 @@
--- The output behind the header, while it is laid out.
+-- The body of an output chunk, which is all that follows its header, while it is laid out.
 use Rattle.std.specs.Prelude.{◌≡◌, ℕ, ◌+◌, ◌<◌, ◌≤◌, Bool, true, false, ◌==◌, List, [], ◌∷◌, length, filter, Option, Some, None, unwrap_or, ⊤}
 use Rattle.std.specs.List.{AllByRecursion, flat_map}
 use Rattle.jfr_frame.specs.Records.{IsRecord}
@@ -6,49 +6,50 @@ use Rattle.jfr_pool.specs.declared.entry.EntryAt.{EntryAt}
 use Rattle.jfr_chunk.specs.Parts.{Parts, EventAt, metadata_at}
 use Rattle.jfr_chunk.specs.Reach.{remain}
 use Rattle.jfr_chunk.specs.Written.{Group, distance}
-use Rattle.jfr_chunk.specs.Scrub.{OutputRecord, Whole, Chained, output_records, groups_of, bytes_of, written_bytes, older_after, written, last_at, record_of, moved}
+use Rattle.jfr_chunk.specs.Scrub.{OutputRecord, Whole, Chained, Rebuilt, output_records, groups_of, bytes_of, written_bytes, older_after, written, last_at, record_of, moved}
 use Rattle.jfr_scrub.specs.declared.body.Body.{Body}
 use Rattle.jfr_scrub.specs.declared.piece.MadePart.{MadePart}
-use Rattle.jfr_scrub.specs.declared.piece.MadePart.TheVariants.{ChunkHeader, CheckpointSize, CheckpointDelta, PoolCount, PoolClass, EntryCount}
+use Rattle.jfr_scrub.specs.declared.piece.MadePart.TheVariants.{ChunkHeader, CheckpointSize, CheckpointDelta, PoolCount, PoolClass, EntryCount, MetadataRecord}
 use Rattle.jfr_scrub.specs.declared.piece.Part.{Part}
 use Rattle.jfr_scrub.specs.Pieces.{Laying, laying_of, more, EntryIsCopied, Keeps, RecordIsCopied}
 use Rattle.jfr_scrub.specs.Fits.{LinkFits}
 
--- What is laid out behind the header so far, as bytes.
+-- The body so far, as bytes.
 pub record Progress : Type 0 where
   pub output : Laying
   pub at : ℕ
   pub older : Option ℕ
   pub metadata : Option ℕ
 
--- What the code holds of a body, as bytes.
+-- The body that a value of the code's type holds.
 abbrev pub progress_of : Body → Progress
 progress_of b = record { output = laying_of b.output; at = b.at; older = b.older; metadata = b.metadata }
 
--- The output record fits where its record stood.
+-- The output record takes no more bytes than its record.
 abbrev pub OutputRecordFits : List ℕ → List EntryAt → OutputRecord → ℕ → Option ℕ → Type 0
 OutputRecordFits c left (Whole r) at older = IsRecord c r
+OutputRecordFits c left (Rebuilt r x) at older = IsRecord c r × (1 ≤ length x) × (length x ≤ r.size)
 OutputRecordFits c left (Chained number l) at older = LinkFits c l (distance at older) (groups_of left number)
 
--- The older checkpoint stands before a place.
+-- The older checkpoint, if there is one, starts before this offset.
 abbrev pub IsBefore : Option ℕ → ℕ → Type 0
 IsBefore None at = ⊤
 IsBefore (Some older) at = older < at
 
--- A place that was seen before, or is seen now.
+-- The offset of the metadata record in the output, if it has been laid out before or is the current record.
 abbrev pub place_seen : Option ℕ → Bool → ℕ → Option ℕ
 place_seen (Some place) now at = Some place
 place_seen None true at = Some at
 place_seen None false at = None
 
--- The body with one output record more: its bytes, the place behind it, the last checkpoint, and where the
--- metadata record stands, which stood at a place.
+-- The body with one output record more: its bytes, the offset after it, the offset of the last checkpoint,
+-- and that of the metadata record, which was at this offset in the chunk.
 abbrev pub body_with : List EntryAt → ℕ → Progress → OutputRecord → Progress
 body_with left metadata b s =
     let bytes = bytes_of b.output.chunk left s b.at b.older in
     record { output = more b.output bytes; at = b.at + length bytes; older = older_after s b.at b.older; metadata = place_seen b.metadata ((record_of s).at == metadata) b.at }
 
--- The body of all output records.
+-- The body with all output records.
 pub record IsBody (p : Parts) (left : List EntryAt) (ss : List OutputRecord) (b : Progress) : Type 0 where
   pub output : b.output ≡ record { chunk = p.bytes; bytes = flat_map (written_bytes p.bytes left) (written p.bytes left 68 None ss) }
   pub at : b.at ≡ 68 + length (flat_map (written_bytes p.bytes left) (written p.bytes left 68 None ss))
@@ -56,36 +57,37 @@ pub record IsBody (p : Parts) (left : List EntryAt) (ss : List OutputRecord) (b 
   pub metadata : unwrap_or b.metadata 0 ≡ moved (written p.bytes left 68 None ss) (metadata_at p.bytes)
   pub within : b.at ≤ length p.bytes
 
--- Entries of one checkpoint after those of the ones before it.
+-- The entries are in the order of their checkpoints, whose numbers are at least n.
 abbrev pub NotFalling : ℕ → List EntryAt → Type 0
 NotFalling n [] = ⊤
 NotFalling n (e ∷ es) = (n ≤ e.checkpoint) × NotFalling e.checkpoint es
 
--- An output record is copied: a whole record lies in one copied piece, and so does each entry of a chained
--- checkpoint.
+-- An output record is copied: a whole record is in one copied piece, and so is each entry of a chained
+-- checkpoint. Of a metadata record that is built anew nothing has to be.
 abbrev pub OutputRecordIsCopied : List EntryAt → List Part → OutputRecord → Type 0
 OutputRecordIsCopied left ps (Whole r) = RecordIsCopied ps r
+OutputRecordIsCopied left ps (Rebuilt r x) = ⊤
 OutputRecordIsCopied left ps (Chained number l) = AllByRecursion (EntryIsCopied ps) (filter (λ e. e.checkpoint == number) left)
 
--- The output records are copied in these pieces, and in any pieces in which what these copy lies in one
--- copied piece too.
+-- The output records are copied in these pieces, and in any others that keep the copied ranges of these.
 abbrev pub OutputRecordsAreCopied : List EntryAt → List OutputRecord → List Part → Type 0
 OutputRecordsAreCopied left ss ps = (qs : List Part) → Keeps ps qs → AllByRecursion (OutputRecordIsCopied left qs) ss
 
--- The parts that are made for a pool: its class and its number of entries.
+-- The made parts of a pool: its class and its number of entries.
 abbrev pub pool_parts : Group → List MadePart
 pool_parts g = PoolClass ∷ EntryCount ∷ []
 
--- The parts that are made for a checkpoint: its size, its delta, its number of pools, and then those of
--- each pool.
+-- The made parts of a checkpoint: its size, its delta, its number of pools, then those of each pool.
 abbrev pub checkpoint_parts : List Group → List MadePart
 checkpoint_parts gs = CheckpointSize ∷ CheckpointDelta ∷ PoolCount ∷ flat_map pool_parts gs
 
--- The parts that are made for an output record: none for a whole record, which is copied.
+-- The made parts of an output record: none for a whole record, which is copied, and one for a metadata record
+-- that is built anew.
 abbrev pub output_record_parts : List EntryAt → OutputRecord → List MadePart
 output_record_parts left (Whole r) = []
+output_record_parts left (Rebuilt r x) = MetadataRecord ∷ []
 output_record_parts left (Chained number l) = checkpoint_parts (groups_of left number)
 
--- All parts that are made where these events are kept: the header, and then those of each output record.
+-- All made parts of the output if these events are kept: the header, then those of each output record.
 abbrev pub all_made : Parts → List EventAt → List MadePart
 all_made p kept = ChunkHeader ∷ flat_map (output_record_parts (remain p kept)) (output_records p kept)

@@ -1,4 +1,4 @@
--- What a scrub writes: a recording with a chunk for each chunk before the first that is refused.
+-- The output of a scrub: a recording with a chunk for each chunk before the first that is refused.
 use Rattle.std.specs.Prelude.{◌≡◌, ℕ, List, [], ◌∷◌, map, Option, Some, None, true, ⊤}
 use Rattle.jfr_base.specs.declared.flaw.Flaw.{Flaw}
 use Rattle.jfr_filter.specs.Filters.{Given}
@@ -13,7 +13,7 @@ use Rattle.jfr_chunk.specs.Refusal.{refusal_of}
 use Rattle.jfr_laws.specs.Laws.{IsSettled}
 use Rattle.jfr_scrub.specs.Scrubs.{scrubbed}
 
--- These chunks, unless there is a flaw.
+-- These chunks if there is no flaw, else none.
 abbrev pub unless_refused : Option Flaw → List (List ℕ) → List (List ℕ)
 unless_refused None cs = cs
 unless_refused (Some flaw) cs = []
@@ -23,9 +23,9 @@ abbrev pub before_refused : (List ℕ → Option Flaw) → List (List ℕ) → L
 before_refused refusal [] = []
 before_refused refusal (c ∷ cs) = unless_refused (refusal c) (c ∷ before_refused refusal cs)
 
--- The chunk c, which is whole, is accepted, and b is what it becomes: a chunk that is accepted again, with
--- exactly the events that the filter keeps and exactly the constants that they reach, and of the same
--- meaning; scrubbed once more it stays the same.
+-- The chunk c is whole and accepted, and b is its output: a chunk that is accepted again, has exactly the
+-- events that the filter keeps and exactly the constants that they reach, and means the same. Scrubbed once
+-- more it doesn't change.
 pub record IsScrubbed (g : Given) (c b : List ℕ) : Type 0 where
   pub parts : Parts
   pub bytes : parts.bytes ≡ c
@@ -33,30 +33,31 @@ pub record IsScrubbed (g : Given) (c b : List ℕ) : Type 0 where
   pub becomes : b ≡ scrub_of parts (kept_of g parts)
   pub settled : IsSettled g parts
 
--- Such results stand one to one with chunks, in order.
+-- The outputs correspond one to one, in order, to the chunks.
 abbrev pub AreScrubbed : Given → List (List ℕ) → List (List ℕ) → Type 0
 AreScrubbed g [] [] = ⊤
 AreScrubbed g (c ∷ cs) (b ∷ bs) = IsScrubbed g c b × AreScrubbed g cs bs
 AreScrubbed g [] (b ∷ bs) = ⊥
 AreScrubbed g (c ∷ cs) [] = ⊥
 
--- The bytes y are cut into just these chunks to their end; without a chunk there are no bytes.
+-- The bytes y are cut into exactly these chunks, up to the end; without a chunk there are no bytes.
 abbrev pub AreChunksOf : List (List ℕ) → List ℕ → Type 0
 AreChunksOf [] y = y ≡ []
 AreChunksOf (c ∷ cs) y = cut y 0 true ≡ record { chunks = c ∷ cs; flaw = None }
 
--- The bytes y are the results for the recording x, one after another: a recording of just these chunks.
+-- The bytes y are the outputs of the chunks of the recording x, one after another: a recording of exactly
+-- these chunks.
 pub record IsScrubOf (g : Given) (x y : List ℕ) : Type 0 where
   pub results : List (List ℕ)
   pub scrubbed : AreScrubbed g (before_refused refusal_of (cut x 0 true).chunks) results
   pub bytes : y ≡ joined results
   pub chunks : AreChunksOf results y
 
--- What a recording becomes: the chunks before the first that is refused, each scrubbed, one after another.
+-- The output of a recording: the chunks before the first that is refused, each scrubbed, one after another.
 abbrev pub recording_scrubbed : Given → List ℕ → List ℕ
 recording_scrubbed g x = joined (map (scrubbed g) (before_refused refusal_of (cut x 0 true).chunks))
 
--- The answer is one that the plan of a scrub ends with.
+-- The ending is one with which the plan of a scrub ends.
 abbrev pub IsByPlan : Ending → Type 0
 IsByPlan Done = ⊤
 IsByPlan (Refused refusal) = ⊤
@@ -65,7 +66,7 @@ IsByPlan WriteFault = ⊥
 IsByPlan TooManyParts = ⊥
 IsByPlan Memory = ⊥
 
--- The output holds the scrub of the input.
+-- The output file is the scrub of the input.
 pub record Scrubs (g : Given) (input output : List ℕ) (w v : World) : Type 0 where
   pub recording : List ℕ
   pub read : file w input ≡ Some recording

@@ -1,15 +1,17 @@
--- What a chunk becomes, laid out as pieces.
-use Rattle.std.specs.Prelude.{◌≡◌, ℕ, List, length}
+-- The output of a chunk, laid out as pieces.
+use Rattle.std.specs.Prelude.{◌≡◌, ℕ, List, length, None}
 use Rattle.std.specs.List.{AllByRecursion}
 use Rattle.jfr_chunk.specs.Parts.{EventAt, Parts}
 use Rattle.jfr_chunk.specs.Reach.{remain}
+use Rattle.jfr_chunk.specs.Metas.{metadata_size, rebuilt}
 use Rattle.jfr_chunk.specs.Scrub.{scrub_of}
 use Rattle.jfr_scrub.specs.Bodies.{all_made}
 use Rattle.jfr_scrub.specs.Pieces.{EntryIsCopied, EventIsCopied, IsHeaded, Laid, MetadataIsCopied, joined, made_parts}
 
--- The pieces, joined, are what the chunk becomes where these events are kept. Made are the header and
--- single integers, in the order of `kinds`; each kept event, each entry that remains, and the metadata
--- record lie in one copied piece each. So many events are kept, and so many entries remain.
+-- The pieces, joined, are the chunk's output if these events are kept. Only the header, single integers and a
+-- metadata record that is built anew are made, in the order of `kinds`. Each kept event, each entry that
+-- remains, and a metadata record that isn't built anew is in one copied piece. The counts are those of the
+-- kept events and of the entries that remain.
 pub record LaysOut (p : Parts) (kept : List EventAt) (laid : Laid) (event_count entry_count : ℕ) : Type 0 where
   pub becomes : joined laid ≡ scrub_of p kept
   pub of_chunk : laid.chunk ≡ p.bytes
@@ -17,6 +19,6 @@ pub record LaysOut (p : Parts) (kept : List EventAt) (laid : Laid) (event_count 
   pub kinds : made_parts laid.pieces ≡ all_made p kept
   pub events_copied : AllByRecursion (EventIsCopied laid.pieces) kept
   pub entries_copied : AllByRecursion (EntryIsCopied laid.pieces) (remain p kept)
-  pub metadata_copied : MetadataIsCopied laid.pieces p
+  pub metadata_copied : rebuilt p kept (metadata_size p) ≡ None → MetadataIsCopied laid.pieces p
   pub events : event_count ≡ length kept
   pub entries : entry_count ≡ length (remain p kept)

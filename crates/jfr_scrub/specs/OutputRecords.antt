@@ -4,17 +4,36 @@ use Rattle.std.specs.List.{filter_map, enumerate_from}
 use Rattle.std.specs.Option.{option_map_or}
 use Rattle.jfr_frame.specs.declared.framed.Framed.{Framed}
 use Rattle.jfr_pool.specs.declared.link.Link.{Link}
-use Rattle.jfr_chunk.specs.Parts.{Parts, EventAt, AreParts, event_of, event_records, events_of}
+use Rattle.jfr_chunk.specs.Parts.{Parts, EventAt, AreParts, event_of, event_records, events_of, metadata_at}
 use Rattle.jfr_chunk.specs.Reach.{marked, kept_by}
-use Rattle.jfr_chunk.specs.Scrub.{OutputRecord, Whole, Chained, output_record_of}
+use Rattle.jfr_chunk.specs.Scrub.{OutputRecord, Whole, Chained, Rebuilt, output_record_of}
+use Rattle.jfr_chunk.specs.Metas.{metadata_size, rebuilt}
 use Rattle.jfr_scrub.specs.declared.output_records.OutputRecord as told
 use Rattle.jfr_scrub.specs.declared.output_records.OutputRecord.TheVariants as told_records
 use Rattle.jfr_scrub.specs.declared.output_records.Cursor.{Cursor}
 
--- The output record that a value of the code's own enum stands for.
-abbrev pub output_record_as : told.OutputRecord → OutputRecord
-output_record_as (told_records.Whole r) = Whole r
-output_record_as (told_records.Chained number l) = Chained number l
+-- The output record for a record: the whole record, or the bytes that replace it.
+abbrev pub whole_or : Option (List ℕ) → Framed → OutputRecord
+whole_or None r = Whole r
+whole_or (Some x) r = Rebuilt r x
+
+-- The bytes that replace a record: for the record at this offset, the new metadata record, if there is one.
+abbrev pub new_at : ℕ → Option (List ℕ) → Framed → Option (List ℕ)
+new_at place new r = if r.at == place then new else None
+
+-- The output record of a value of the code's enum, given the offset of the metadata record and the new one,
+-- if there is one.
+abbrev pub output_record_as : ℕ → Option (List ℕ) → told.OutputRecord → OutputRecord
+output_record_as place new (told_records.Whole r) = whole_or (new_at place new r) r
+output_record_as place new (told_records.Chained number l) = Chained number l
+
+-- The new metadata record if these events are kept, if it is built anew.
+abbrev pub new_metadata : Parts → List Bool → Option (List ℕ)
+new_metadata p flags = rebuilt p (kept_by p flags) (metadata_size p)
+
+-- The output record of a value of the code's enum, for a chunk of which these events are kept.
+abbrev pub output_record_in : Parts → List Bool → told.OutputRecord → OutputRecord
+output_record_in p flags s = output_record_as (metadata_at p.bytes) (new_metadata p flags) s
 
 -- The events of some of the records.
 abbrev pub events_from : Parts → List Framed → List EventAt
@@ -24,34 +43,34 @@ events_from p rs = filter_map (event_of p.bytes p.classes) (event_records p.clas
 abbrev pub event_there : List EventAt → Framed → Option EventAt
 event_there es r = find (λ e. e.record_of.at == r.at) es
 
--- The chained checkpoint that starts at a record's place, with its number.
+-- The chained checkpoint that starts where this record does, with its number.
 abbrev pub link_there : Parts → Framed → Option (ℕ × Link)
 link_there p r = find (λ l. l.1.frame.at == r.at) (enumerate_from 0 (reverse p.chain))
 
--- The cursor's events and checkpoints are those of the records from its record on.
+-- From the cursor's event and checkpoint on, the events and checkpoints are those of the records from its
+-- record on.
 pub record IsCursor (p : Parts) (flags : List Bool) (c : Cursor) : Type 0 where
   pub parts : AreParts p
   pub events : drop c.event (events_of p) ≡ events_from p (drop c.frame p.records)
   pub kept : marked (drop c.event flags) (drop c.event (events_of p)) ≡ filter_map (event_there (kept_by p flags)) (drop c.frame p.records)
   pub links : enumerate_from c.link (drop c.link (reverse p.chain)) ≡ filter_map (link_there p) (drop c.frame p.records)
 
--- The output records of the records from the cursor's on.
+-- The output records for the records from the cursor's on.
 abbrev pub still_output_records : Parts → List Bool → Cursor → List OutputRecord
 still_output_records p flags c = filter_map (output_record_of p (kept_by p flags)) (drop c.frame p.records)
 
--- Whether the event of a number starts at a place and is kept.
+-- Whether the event with this number starts at this offset and is kept.
 abbrev pub is_kept_at : List EventAt → List Bool → ℕ → ℕ → Bool
 is_kept_at es flags n at = option_map_or (λ e. (e.record_of.at == at) && unwrap_or (slice_get flags n) false) (slice_get es n) false
 
--- The number of the event that comes next behind a place: one more where the event of a number starts there.
+-- The number of the next event after this offset, given that of the next event from it on.
 abbrev pub event_behind : List EventAt → ℕ → ℕ → ℕ
 event_behind es n at = option_map_or (λ e. if e.record_of.at == at then n + 1 else n) (slice_get es n) n
 
--- The checkpoint of a number, with the number, where it starts at a place.
+-- The checkpoint with this number, and the number, if it starts at this offset.
 abbrev pub linked_at : List Link → ℕ → ℕ → Option (ℕ × Link)
 linked_at ls n at = option_and_then (λ l. if l.frame.at == at then Some (n, l) else None) (slice_get ls n)
 
--- The number of the checkpoint that comes next behind a place: one more where the checkpoint of a number
--- starts there.
+-- The number of the next checkpoint after this offset, given that of the next checkpoint from it on.
 abbrev pub link_behind : List Link → ℕ → ℕ → ℕ
 link_behind ls n at = option_map_or (λ l. if l.frame.at == at then n + 1 else n) (slice_get ls n) n

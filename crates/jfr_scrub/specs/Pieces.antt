@@ -1,4 +1,4 @@
--- The pieces of an output: ranges of the chunk, and ranges of the bytes that are made.
+-- The pieces of an output: ranges of the chunk, and ranges of made bytes.
 use Rattle.std.specs.Prelude.{◌≡◌, ℕ, ◌+◌, ◌^◌, ◌<◌, ◌≤◌, List, [], ◌∷◌, ◌++◌, length, slice_get, slice_range, Some, ⊤}
 use Rattle.std.specs.List.{AllByRecursion, flat_map}
 use Rattle.jfr_base.specs.Integer.{FitsIn, spell, spell_in}
@@ -6,17 +6,19 @@ use Rattle.jfr_header.specs.Headers.{header_bytes}
 use Rattle.jfr_header.specs.declared.header.Header.{Header}
 use Rattle.jfr_frame.specs.declared.framed.Framed.{Framed}
 use Rattle.jfr_frame.specs.Records.{record_end}
+use Rattle.jfr_meta.specs.Body.{Body}
+use Rattle.jfr_meta.specs.Slimmed.{bytes_of_body}
 use Rattle.jfr_pool.specs.declared.entry.EntryAt.{EntryAt}
 use Rattle.jfr_chunk.specs.Parts.{Parts, EventAt, StartsAt, metadata_at}
 use Rattle.jfr_scrub.specs.declared.piece.MadePart.{MadePart}
-use Rattle.jfr_scrub.specs.declared.piece.MadePart.TheVariants.{ChunkHeader, CheckpointSize, CheckpointDelta, PoolCount, PoolClass, EntryCount}
+use Rattle.jfr_scrub.specs.declared.piece.MadePart.TheVariants.{ChunkHeader, CheckpointSize, CheckpointDelta, PoolCount, PoolClass, EntryCount, MetadataRecord}
 use Rattle.jfr_scrub.specs.declared.piece.Part.{Part}
 use Rattle.jfr_scrub.specs.declared.piece.Part.TheVariants as parts
 use Rattle.jfr_scrub.specs.declared.piece.Piece.{Piece}
 use Rattle.jfr_scrub.specs.declared.piece.Piece.TheVariants as pieces
 use Rattle.jfr_scrub.specs.declared.ranges.Ranges.{Ranges}
 
--- A chunk, the bytes that are made, and the pieces in order.
+-- A chunk, the made bytes, and the pieces in order.
 pub record Laid : Type 0 where
   pub chunk : List ℕ
   pub made : List ℕ
@@ -27,11 +29,11 @@ abbrev pub part_bytes : List ℕ → List ℕ → Part → List ℕ
 part_bytes c made (parts.Copied from to) = slice_range c from to
 part_bytes c made (parts.Made part from to) = slice_range made from to
 
--- The pieces, one behind another.
+-- The bytes of the pieces, one after another.
 abbrev pub joined : Laid → List ℕ
 joined l = flat_map (part_bytes l.chunk l.made) l.pieces
 
--- A piece lies in the chunk, or in the made bytes, of these lengths.
+-- The range of a piece lies in the chunk, or in the made bytes, of these lengths.
 abbrev pub Lies : ℕ → ℕ → Part → Type 0
 Lies n m (parts.Copied from to) = (from ≤ to) × (to ≤ n)
 Lies n m (parts.Made part from to) = (from ≤ to) × (to ≤ m)
@@ -40,21 +42,21 @@ Lies n m (parts.Made part from to) = (from ≤ to) × (to ≤ m)
 abbrev pub LieIn : Laid → Type 0
 LieIn l = AllByRecursion (Lies (length l.chunk) (length l.made)) l.pieces
 
--- The pieces that ranges are over a chunk.
+-- The pieces given by a chunk and these ranges.
 abbrev pub laid_in : List ℕ → Ranges → Laid
 laid_in c r = record { chunk = c; made = r.made.items; pieces = r.parts.items }
 
--- The range that a piece is.
+-- The range of a piece.
 abbrev pub part_of : Piece → Part
 part_of (pieces.Copied at bytes) = parts.Copied at (at + length bytes.now)
 part_of (pieces.Made part from to) = parts.Made part from to
 
--- What is copied are the chunk's bytes from its place on.
+-- The bytes of a copied piece are those of the chunk at its offset.
 abbrev pub IsOfChunk : List ℕ → Piece → Type 0
 IsOfChunk c (pieces.Copied at bytes) = bytes.now ≡ slice_range c at (at + length bytes.now)
 IsOfChunk c (pieces.Made part from to) = ⊤
 
--- The range of the chunk from start to end lies in one piece that is copied.
+-- The range of the chunk from start to end is in one copied piece.
 pub record IsCopied (ps : List Part) (start end : ℕ) : Type 0 where
   pub number : ℕ
   pub from : ℕ
@@ -63,51 +65,51 @@ pub record IsCopied (ps : List Part) (start end : ℕ) : Type 0 where
   pub begins : from ≤ start
   pub ends : end ≤ to
 
--- A record lies in one piece that is copied.
+-- The record is in one copied piece.
 abbrev pub RecordIsCopied : List Part → Framed → Type 0
 RecordIsCopied ps r = IsCopied ps r.at (record_end r)
 
--- The record of an event lies in one piece that is copied.
+-- The record of the event is in one copied piece.
 abbrev pub EventIsCopied : List Part → EventAt → Type 0
 EventIsCopied ps e = RecordIsCopied ps e.record_of
 
--- An entry, its key and its value, lies in one piece that is copied.
+-- The entry, with its key and its value, is in one copied piece.
 abbrev pub EntryIsCopied : List Part → EntryAt → Type 0
 EntryIsCopied ps e = IsCopied ps e.key_at e.end
 
--- The header's metadata record lies in one piece that is copied.
+-- The metadata record at the position in the header is in one copied piece.
 pub record MetadataIsCopied (ps : List Part) (p : Parts) : Type 0 where
   pub frame : Framed
   pub there : StartsAt p.records (metadata_at p.bytes) 0 frame
   pub copied : RecordIsCopied ps frame
 
--- Every range that has a byte and lies in one piece that is copied still does.
+-- Every range that isn't empty and was in one copied piece still is.
 abbrev pub Keeps : List Part → List Part → Type 0
 Keeps ps qs = (start end : ℕ) → start < end → IsCopied ps start end → IsCopied qs start end
 
--- What the pieces are that are made, in order.
+-- The meanings of the made pieces, in order.
 abbrev pub made_parts : List Part → List MadePart
 made_parts [] = []
 made_parts (parts.Copied from to ∷ ps) = made_parts ps
 made_parts (parts.Made part from to ∷ ps) = part ∷ made_parts ps
 
--- What was copied still is, and behind what was made these are made.
+-- The ranges that were copied still are, and these made parts follow those before.
 pub record Grows (ps qs : List Part) (these : List MadePart) : Type 0 where
   pub keeps : Keeps ps qs
   pub made : made_parts qs ≡ made_parts ps ++ these
 
--- The bytes are the 68 bytes of a header.
+-- The bytes are those of a header.
 pub record IsHeader (b : List ℕ) : Type 0 where
   pub header : Header
   pub bytes : b ≡ header_bytes header
 
--- The bytes spell an integer of 64 bits shortest, in nine bytes at most.
+-- The bytes are the shortest spelling, of at most nine bytes, of an integer of 64 bits.
 pub record IsShortest (b : List ℕ) : Type 0 where
   pub value : ℕ
   pub small : value < 2 ^ 64
   pub bytes : b ≡ spell value
 
--- The bytes spell an integer in so many bytes, nine at most, for which they have room.
+-- The bytes spell an integer in a given number of bytes, at most nine, that is large enough for it.
 pub record IsInWidth (b : List ℕ) : Type 0 where
   pub width : ℕ
   pub value : ℕ
@@ -116,7 +118,13 @@ pub record IsInWidth (b : List ℕ) : Type 0 where
   pub fits : FitsIn value width
   pub bytes : b ≡ spell_in width value
 
--- The bytes are an integer, spelled as one of this kind is. The header is none.
+-- The bytes are a metadata record whose size takes five bytes.
+pub record IsMetadataRecord (b : List ℕ) : Type 0 where
+  pub body : Body
+  pub bytes : b ≡ bytes_of_body body
+
+-- The bytes are those of a part with this meaning: an integer in the right spelling, or a metadata record. A
+-- header is neither.
 abbrev pub IsNumber : MadePart → List ℕ → Type 0
 IsNumber ChunkHeader b = ⊥
 IsNumber CheckpointSize b = IsInWidth b
@@ -124,8 +132,9 @@ IsNumber CheckpointDelta b = IsShortest b
 IsNumber PoolCount b = IsShortest b
 IsNumber PoolClass b = IsShortest b
 IsNumber EntryCount b = IsShortest b
+IsNumber MetadataRecord b = IsMetadataRecord b
 
--- An integer of this kind is spelled shortest.
+-- An integer with this meaning is in its shortest spelling.
 abbrev pub TakesShortest : MadePart → Type 0
 TakesShortest ChunkHeader = ⊥
 TakesShortest CheckpointSize = ⊥
@@ -133,17 +142,18 @@ TakesShortest CheckpointDelta = ⊤
 TakesShortest PoolCount = ⊤
 TakesShortest PoolClass = ⊤
 TakesShortest EntryCount = ⊤
+TakesShortest MetadataRecord = ⊥
 
--- A piece that is made is an integer of its kind.
+-- A made piece has the bytes of its meaning, which isn't a header.
 abbrev pub IsNumberIn : List ℕ → Part → Type 0
 IsNumberIn made (parts.Copied from to) = ⊤
 IsNumberIn made (parts.Made part from to) = IsNumber part (slice_range made from to)
 
--- Each piece that is made is an integer of its kind.
+-- Each made piece has the bytes of its meaning, which isn't a header.
 abbrev pub AreNumbers : Laid → Type 0
 AreNumbers l = AllByRecursion (IsNumberIn l.made) l.pieces
 
--- The first piece is the header, and each other one that is made is an integer of its kind.
+-- The first piece is the header, and each other made piece has the bytes of its meaning.
 pub record IsHeaded (l : Laid) : Type 0 where
   pub from : ℕ
   pub to : ℕ
@@ -152,7 +162,7 @@ pub record IsHeaded (l : Laid) : Type 0 where
   pub header : IsHeader (slice_range l.made from to)
   pub numbers : AllByRecursion (IsNumberIn l.made) others
 
--- A chunk, and the bytes that are laid out of it so far.
+-- A chunk, and the bytes of its output so far.
 pub record Laying : Type 0 where
   pub chunk : List ℕ
   pub bytes : List ℕ
@@ -161,6 +171,6 @@ pub record Laying : Type 0 where
 abbrev pub laying_of : Laid → Laying
 laying_of l = record { chunk = l.chunk; bytes = joined l }
 
--- More bytes are laid.
+-- The output with more bytes.
 abbrev pub more : Laying → List ℕ → Laying
 more l bytes = record { chunk = l.chunk; bytes = l.bytes ++ bytes }

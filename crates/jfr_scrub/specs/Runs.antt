@@ -13,32 +13,33 @@ use Rattle.jfr_scrub.specs.Pieces.{more}
 use Rattle.jfr_scrub.specs.Scrubbing.{IsAccepted}
 use Rattle.jfr_scrub.specs.OutputRecords.{IsCursor, events_from, is_kept_at, still_output_records}
 
--- Where the record of a number starts; behind the last one, the chunk's end.
+-- The offset of the record with this number; after the last one, the chunk's end.
 abbrev pub record_start : Parts → ℕ → ℕ
 record_start p n = option_map_or (λ r. r.at) (slice_get p.records n) (length p.bytes)
 
--- The cursor's record is its event and is kept.
+-- Whether the cursor's record is that of the cursor's event, and the event is kept.
 abbrev pub is_in_run : Parts → List Bool → Cursor → Bool
 is_in_run p flags c = option_map_or (λ r. is_kept_at (events_of p) flags c.event r.at) (slice_get p.records c.frame) false
 
--- The parts stand in a whole chunk, and the cursor's events are those of the records from its record on.
+-- The parts are those of a whole chunk, and from the cursor's event on, the events are those of the records
+-- from its record on.
 pub record IsAtEvents (p : Parts) (c : Cursor) : Type 0 where
   pub accepted : IsAccepted p
   pub events : drop c.event (events_of p) ≡ events_from p (drop c.frame p.records)
 
--- The record so far behind the cursor's is that of the event as far behind the cursor's.
+-- The record at this offset from the cursor's is that of the event at the same offset from the cursor's.
 pub record HasEventAt (p : Parts) (c : Cursor) (offset : ℕ) : Type 0 where
   pub event : EventAt
   pub there : slice_get (events_of p) (c.event + offset) ≡ Some event
   pub framed : slice_get p.records (c.frame + offset) ≡ Some event.record_of
 
--- The numbers so far behind the cursor's have 64 bits.
+-- The numbers at this offset from the cursor's fit in 64 bits.
 pub record HasRoom (c : Cursor) (offset : ℕ) : Type 0 where
   pub event : c.event + offset < 2 ^ 64
   pub frame : c.frame + offset < 2 ^ 64
 
--- Records that are written whole take a range of the chunk, one behind another, and none is the metadata
--- record. The output records from one cursor on are these, and then those from another.
+-- A run of consecutive records that are written whole covers this range of the chunk, and none of them is the
+-- metadata record. The output records from one cursor on are these, then those from the other.
 pub record IsRun (p : Parts) (flags : List Bool) (c d : Cursor) (from to : ℕ) : Type 0 where
   pub records : List Framed
   pub tiles : Tiles p.bytes from records to
@@ -46,11 +47,11 @@ pub record IsRun (p : Parts) (flags : List Bool) (c d : Cursor) (from to : ℕ) 
   pub others : AllByRecursion (λ r. (r.at == metadata_at p.bytes) ≡ false) records
   pub output_records : still_output_records p flags c ≡ map (λ r. Whole r) records ++ still_output_records p flags d
 
--- The cursor moves from its record behind a run.
+-- The cursor has moved past a run.
 pub record Passes (p : Parts) (flags : List Bool) (c d : Cursor) : Type 0 where
   pub cursor : IsCursor p flags d
   pub run : IsRun p flags c d (record_start p c.frame) (record_start p d.frame)
 
--- The body with a range of the chunk more.
+-- The body with the range of a run added.
 abbrev pub body_with_run : Progress → Run → Progress
 body_with_run b run = record b { output = more b.output (slice_range b.output.chunk run.from run.to); at = b.at + (run.to - run.from) }

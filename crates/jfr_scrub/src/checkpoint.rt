@@ -1,4 +1,4 @@
-// What is written of a chained checkpoint.
+//! Laying out a chained checkpoint.
 ghost use Rattle.std.specs.Prelude.{◌≡◌, ◌+◌, ◌-◌, ◌^◌, ◌<◌, ◌≤◌, ◌++◌, [], length, IfOk, OnOk};
 ghost use Rattle.std.specs.List.{AllByRecursion, flat_map};
 ghost use Rattle.jfr_chunk.specs.Written.{by_pool, checkpoint_bytes, entry_bytes, group_bytes};
@@ -14,8 +14,8 @@ use jfr_base::var_len;
 use jfr_outside::NoMemory;
 use jfr_pool::{EntryAt, Link};
 
-/// Lays out a checkpoint with these entries: its size made true in as many bytes as before, another
-/// delta, and the pools that have an entry left. Tells how many bytes those are.
+/// Lays out a checkpoint with these entries: its new size in the same number of bytes as before, the new
+/// delta, and the pools that have an entry left. Returns the number of bytes.
 pub(crate) fn lay_checkpoint(
     output: &mut Output,
     link: &Link,

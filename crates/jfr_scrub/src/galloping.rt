@@ -1,4 +1,4 @@
-// How many events stand one behind another, by a galloping search.
+//! Finding the length of a run of events by a galloping search.
 ghost use Rattle.std.specs.Prelude.{◌≡◌, ◌+◌, ◌*◌, ◌<◌, ◌≤◌, ◌↔◌, ℕ, IsTrue};
 ghost use Rattle.jfr_chunk.specs.Parts.{AreParts};
 ghost use Rattle.jfr_scrub.specs.Runs.{HasEventAt, HasRoom, IsAtEvents};
@@ -6,9 +6,9 @@ ghost use Rattle.jfr_scrub.specs.Runs.{HasEventAt, HasRoom, IsAtEvents};
 use crate::output_records::Cursor;
 use jfr_chunk::Chunk;
 
-/// How many records from the cursor's on are events, one behind another. The numbers of the events'
-/// records rise: where the record so far behind the cursor's is the event as far behind the cursor's, all
-/// records before it are events too. So few are looked at, by steps that double and then halve.
+/// The number of consecutive records, from the cursor's on, that are events. Event numbers rise with record
+/// numbers: if record `r + k` is event `e + k`, all `k` records between are events. So only a few records
+/// have to be tested, at offsets that first double and are then halved.
 pub(crate) fn events_ahead(chunk: &Chunk, cursor: &Cursor) -> usize
     requires { IsAtEvents chunk.now cursor.now }
     ensures each { (offset : ℕ) → offset < result → HasEventAt chunk.now cursor.now offset }
@@ -18,7 +18,7 @@ pub(crate) fn events_ahead(chunk: &Chunk, cursor: &Cursor) -> usize
     other_by_halving(chunk, cursor, high - high / 2, high)
 }
 
-// An offset where no event stands. One does at the lower half of those before it.
+// An offset at which the record isn't the event. At all offsets below its half it is.
 fn other_by_doubling(chunk: &Chunk, cursor: &Cursor) -> usize
     requires { IsAtEvents chunk.now cursor.now }
     ensures room { HasRoom cursor.now result }
@@ -32,7 +32,7 @@ fn other_by_doubling(chunk: &Chunk, cursor: &Cursor) -> usize
     high
 }
 
-// The first offset where no event stands, which is between these.
+// The first offset at which the record isn't the event. It lies between `low` and `high`.
 fn other_by_halving(chunk: &Chunk, cursor: &Cursor, mut low: usize, mut high: usize) -> usize
     requires at { IsAtEvents chunk.now cursor.now }
     requires room { HasRoom cursor.now high }
@@ -53,7 +53,7 @@ fn other_by_halving(chunk: &Chunk, cursor: &Cursor, mut low: usize, mut high: us
     low
 }
 
-// Whether the record so far behind the cursor's is the event as far behind the cursor's.
+// Whether the record at this offset from the cursor's is the event at the same offset from the cursor's.
 #[inline(always)]
 fn is_event_at(chunk: &Chunk, cursor: &Cursor, offset: usize) -> bool
     requires parts { AreParts chunk.now }

@@ -1,15 +1,17 @@
-// What a chunk becomes, laid out as pieces.
-ghost use Rattle.std.specs.Prelude.{◌≡◌, ◌<◌, ◌≤◌, length, unwrap_or, IfOk};
+//! The output of a chunk, laid out as pieces.
+ghost use Rattle.std.specs.Prelude.{◌≡◌, ◌<◌, ◌≤◌, length, option_map, unwrap_or, IfOk, IfSome};
 ghost use Rattle.jfr_header.specs.Headers.{header_bytes};
 ghost use Rattle.jfr_chunk.specs.Chosen.{kept_of};
 ghost use Rattle.jfr_chunk.specs.Parts.{events_of};
 ghost use Rattle.jfr_chunk.specs.Reach.{kept_by, reached_marks};
 ghost use Rattle.jfr_laws.specs.Laws.{IsSettled};
 ghost use Rattle.jfr_scrub.specs.LaysOut.{LaysOut};
-ghost use Rattle.jfr_scrub.specs.Pieces.{joined, laid_in, LieIn};
+ghost use Rattle.jfr_scrub.specs.OutputRecords.{new_metadata};
+ghost use Rattle.jfr_scrub.specs.Pieces.{IsMetadataRecord, joined, laid_in, LieIn};
 ghost use Rattle.jfr_scrub.specs.Scrubbing.{IsAccepted};
 
 use crate::body::{Body, lay_body};
+use crate::metadata::slim_metadata;
 use crate::pieces::Pieces;
 use crate::ranges::Ranges;
 use crate::remaining::remaining;
@@ -24,7 +26,7 @@ use std::alloc::Global;
 use std::marker::{Brand, Model};
 use std::sync::ledger::{Blank, Ledger};
 
-/// What an accepted chunk becomes, as pieces, and how much is kept.
+/// The output of an accepted chunk, as pieces, and the numbers of events and entries that are kept.
 #[derive(Drop)]
 pub(crate) struct LaidOut<'a> {
     pieces: Pieces<'a>,
@@ -46,7 +48,7 @@ impl<'a> Model for LaidOut<'a> {
 }
 
 impl<'a> LaidOut<'a> {
-    /// Lays out what an accepted chunk becomes, with the events that a filter keeps.
+    /// Lays out the output of an accepted chunk, with the events that a filter keeps.
     pub(crate) fn make(
         alloc: Global,
         chunk: &Chunk<'a>,
@@ -57,7 +59,8 @@ impl<'a> LaidOut<'a> {
     {
         let kept = choose(alloc, chunk, filter)?;
         let marks = marks_of::<Brand>(alloc, Blank::new(1), chunk, &kept)?;
-        lay_out(alloc, chunk, &kept, &marks)
+        let slim = slim_metadata(alloc, chunk, &kept)?;
+        lay_out(alloc, chunk, &kept, &marks, slim.as_deref())
     }
 
     /// The pieces.
@@ -67,7 +70,7 @@ impl<'a> LaidOut<'a> {
         &self.pieces
     }
 
-    /// How many bytes the pieces have at most.
+    /// A bound on the number of bytes of the pieces.
     pub(crate) fn size(&self) -> usize
         ensures exact { result ≡ self.now.size }
         ensures enough { length (joined self.now.laid) ≤ result }
@@ -75,21 +78,21 @@ impl<'a> LaidOut<'a> {
         self.size
     }
 
-    /// How many events are kept.
+    /// The number of events that are kept.
     pub(crate) fn kept_events(&self) -> usize
         ensures { result ≡ self.now.events }
     {
         self.kept_events
     }
 
-    /// How many entries remain.
+    /// The number of entries that remain.
     pub(crate) fn kept_entries(&self) -> usize
         ensures { result ≡ self.now.entries }
     {
         self.kept_entries
     }
 
-    /// The ranges that the pieces are, apart from the chunk.
+    /// The ranges of the pieces, without the chunk.
     pub(crate) fn into_ranges(self) -> Ranges
         ensures same { laid_in self.entry.laid.chunk result ≡ self.entry.laid }
         ensures lie { LieIn (laid_in self.entry.laid.chunk result) }
@@ -98,21 +101,25 @@ impl<'a> LaidOut<'a> {
     }
 }
 
-// Lays out what a chunk becomes where these events are kept and these entries are reached.
+// Lays out the output of a chunk if these events are kept and these entries are reached, with the new
+// metadata record, if there is one.
 fn lay_out<'a>(
     alloc: Global,
     chunk: &Chunk<'a>,
     kept: &Kept,
     marks: &Marks,
+    slim: Option<&[u8]>,
 ) -> Result<LaidOut<'a>, NoMemory>
     requires marks { marks.now ≡ reached_marks chunk.now (kept_by chunk.now kept.now) }
     requires kept { length kept.now ≡ length (events_of chunk.now) }
+    requires slim { option_map (λ s. s.now) slim ≡ new_metadata chunk.now kept.now }
+    requires metadata { IfSome slim (λ s. IsMetadataRecord s.now) }
     ensures laid { IfOk result (λ s. LaysOut chunk.now (kept_by chunk.now kept.now) s.laid s.events s.entries) }
     ensures accepted { IfOk result (λ s. IsAccepted chunk.now) }
 {
     let left = remaining(alloc, chunk.pools(), marks)?;
     let left = left.as_slice();
-    let body = lay_body(alloc, chunk, kept, left)?;
+    let body = lay_body(alloc, chunk, kept, left, slim)?;
     let size = body.at;
     let front = front_of(chunk.header(), &body);
     let pieces = body.output.finish(&front)?;
@@ -143,7 +150,7 @@ fn marks_of<L: Ledger>(
     Ok(marks)
 }
 
-// The header with the size and the positions of what is laid out.
+// The header of the output, with its size and positions.
 fn front_of(header: &Header, body: &Body) -> [u8; 68]
     ensures { result ≡ header_bytes (record (header.now) { size = body.now.at; pools = unwrap_or body.now.older 0; metadata = unwrap_or body.now.metadata 0 }) }
 {

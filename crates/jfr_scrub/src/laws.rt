@@ -1,16 +1,30 @@
-// Laws of scrubbed recordings. These calls do nothing.
-ghost use Rattle.std.specs.Prelude.{◌≡◌, ℕ, List};
+//! Laws of scrubbed recordings. The functions do nothing; their contracts are the laws.
+ghost use Rattle.std.specs.Prelude.{◌≡◌, ◌↔◌, ℕ, List, [], Some, true};
 ghost use Rattle.jfr_filter.specs.Filters.{Given};
-ghost use Rattle.jfr_scrub.specs.Headline.{IsScrubOf, recording_scrubbed};
+ghost use Rattle.jfr_header.specs.Cuts.{cut};
+ghost use Rattle.jfr_plan.specs.Ends.{Fine};
+ghost use Rattle.jfr_plan.specs.Walks.{plan_after};
+ghost use Rattle.jfr_plan.specs.Accepted.{AllAccepted};
+ghost use Rattle.jfr_chunk.specs.Refusal.{refusal_of};
+ghost use Rattle.jfr_scrub.specs.Headline.{IsScrubOf, before_refused, recording_scrubbed};
+ghost use Rattle.jfr_scrub.specs.Scrubs.{scrubbing};
 
-/// What a recording becomes is its scrub, and it has no other: a recording that is cut into just the
-/// chunks that are written, each of them accepted again.
+/// The output of a recording is a recording, which is cut into exactly the chunks that are written, and each
+/// of them is accepted. No other output meets the definition.
 pub fn output_is_a_recording()
     ensures scrub { (g : Given) (x : List ℕ) → IsScrubOf g x (recording_scrubbed g x) }
     ensures one { (g : Given) (x y : List ℕ) → IsScrubOf g x y → y ≡ recording_scrubbed g x }
 {}
 
-/// A scrubbed recording that is scrubbed again with the same filter stays the same.
+/// Scrubbing the output again with the same filter doesn't change it.
 pub fn scrubbed_again_stays_the_same()
     ensures { (g : Given) (x : List ℕ) → recording_scrubbed g (recording_scrubbed g x) ≡ recording_scrubbed g x }
+{}
+
+/// Scrubbing ends well exactly if the recording is cut into chunks without a flaw and none of them is
+/// refused. Then the chunks before a refused one are all chunks.
+pub fn scrubbing_ends_well(output: &[u8], recording: &[u8])
+    ensures exactly { (g : Given) → ((plan_after (scrubbing g output.now) [] (Some recording.now)).end ≡ Some Fine) ↔ AllAccepted refusal_of recording.now }
+    ensures all { (g : Given) → (plan_after (scrubbing g output.now) [] (Some recording.now)).end ≡ Some Fine
+        → before_refused refusal_of (cut recording.now 0 true).chunks ≡ (cut recording.now 0 true).chunks }
 {}

@@ -1,6 +1,6 @@
-//! The scrubber: what each chunk of a recording becomes, and the stream that scrubs a recording.
+//! The scrubber: the output of each chunk of a recording, and the stream that scrubs a recording.
 //!
-//! `scrub_stream` takes a recording, `Scrubber` one chunk; both lay out what a chunk becomes by `LaidOut`.
+//! `scrub_stream` scrubs a recording, `Scrubber` one chunk. Both lay out the output of a chunk by `LaidOut`.
 //! Read `specs/Scrubs.antt`, `specs/Headline.antt` and `specs/Pieces.antt` first.
 #![tactic(auto)]
 
@@ -9,6 +9,7 @@ mod checkpoint;
 mod galloping;
 mod laid;
 mod laws;
+mod metadata;
 mod output;
 mod output_records;
 mod piece;
@@ -19,7 +20,7 @@ mod run;
 mod scrub;
 mod scrubber;
 
-pub use laws::{output_is_a_recording, scrubbed_again_stays_the_same};
+pub use laws::{output_is_a_recording, scrubbed_again_stays_the_same, scrubbing_ends_well};
 pub use piece::{MadePart, Piece};
 pub use scrub::scrub_stream;
 pub use scrubber::Scrubber;

@@ -1,8 +1,8 @@
-// An output while it is laid out.
+//! The output of a chunk while it is laid out.
 ghost use Rattle.std.specs.Prelude.{◌≡◌, ◌≤◌, ◌<◌, ◌++◌, [], ◌∷◌, length, slice_range, IfOk, OnOk};
 ghost use Rattle.jfr_base.specs.Integer.{FitsIn, spell, spell_in};
-ghost use Rattle.jfr_scrub.specs.declared.piece.MadePart.TheVariants.{CheckpointSize, ChunkHeader};
-ghost use Rattle.jfr_scrub.specs.Pieces.{Grows, IsCopied, IsHeaded, IsHeader, IsNumber, joined, Keeps, laying_of, made_parts, more, TakesShortest};
+ghost use Rattle.jfr_scrub.specs.declared.piece.MadePart.TheVariants.{CheckpointSize, ChunkHeader, MetadataRecord};
+ghost use Rattle.jfr_scrub.specs.Pieces.{Grows, IsCopied, IsHeaded, IsHeader, IsMetadataRecord, IsNumber, joined, Keeps, laying_of, made_parts, more, TakesShortest};
 
 use crate::piece::MadePart;
 use crate::pieces::Pieces;
@@ -11,11 +11,11 @@ use jfr_outside::NoMemory;
 use std::alloc::Global;
 use std::marker::Model;
 
-/// What is laid out of a chunk so far. Ranges of the chunk that touch are one piece.
+/// The output so far. Adjacent ranges of the chunk are one piece.
 #[derive(Drop)]
 pub(crate) struct Output<'a> {
     pieces: Pieces<'a>,
-    // The range of the chunk that comes behind the pieces.
+    // The range of the chunk that follows the pieces.
     from: usize,
     to: usize,
 }
@@ -63,7 +63,7 @@ impl<'a> Output<'a> {
         Ok(())
     }
 
-    // Adds an integer that is made.
+    // Adds made bytes.
     fn put(&mut self, part: MadePart, bytes: &[u8]) -> Result<(), NoMemory>
         requires { IsNumber part bytes.now }
         ensures ok { OnOk result (laying_of self.new ≡ more (laying_of self.old) bytes.now) }
@@ -76,7 +76,7 @@ impl<'a> Output<'a> {
         Ok(())
     }
 
-    /// Adds an integer, spelled shortest.
+    /// Adds an integer in its shortest spelling.
     pub(crate) fn put_integer(&mut self, part: MadePart, value: u64) -> Result<(), NoMemory>
         requires { TakesShortest part }
         ensures ok { OnOk result (laying_of self.new ≡ more (laying_of self.old) (spell value)) }
@@ -87,7 +87,7 @@ impl<'a> Output<'a> {
         self.put(part, &spelled[..len])
     }
 
-    /// Adds a checkpoint's size in so many bytes.
+    /// Adds a checkpoint's size, spelled in `width` bytes.
     pub(crate) fn put_size(&mut self, value: u64, width: usize) -> Result<(), NoMemory>
         requires width { (1 ≤ width) × (width ≤ 9) }
         requires fits { FitsIn value width }
@@ -97,6 +97,15 @@ impl<'a> Output<'a> {
         let mut spelled = [0; 9];
         write_in(value, width, &mut spelled);
         self.put(MadePart::CheckpointSize, &spelled[..width])
+    }
+
+    /// Adds a metadata record.
+    pub(crate) fn put_metadata(&mut self, bytes: &[u8]) -> Result<(), NoMemory>
+        requires { IsMetadataRecord bytes.now }
+        ensures ok { OnOk result (laying_of self.new ≡ more (laying_of self.old) bytes.now) }
+        ensures grows { OnOk result (Grows self.old.pieces self.new.pieces (MetadataRecord ∷ [])) }
+    {
+        self.put(MadePart::MetadataRecord, bytes)
     }
 
     /// The pieces, with the header before them.

@@ -1,15 +1,15 @@
-// The output records of a chunk: what is written of each of its records.
-ghost use Rattle.std.specs.Prelude.{◌≡◌, ◌||◌, ◌+◌, ◌-◌, ◌^◌, ◌<◌, [], ◌∷◌, length, slice_get, option_map, IfSome, MatchOption, Some};
+//! The output records of a chunk: what is written for each of its records.
+ghost use Rattle.std.specs.Prelude.{◌≡◌, ◌||◌, ◌+◌, ◌-◌, ◌^◌, ◌<◌, [], ◌∷◌, length, slice_get, option_map, ℕ, List, Option, IfSome, MatchOption, Some};
 ghost use Rattle.jfr_chunk.specs.Parts.{events_of};
 ghost use Rattle.jfr_chunk.specs.Reach.{kept_by};
 ghost use Rattle.jfr_chunk.specs.Scrub.{output_record_by, output_record_of};
-ghost use Rattle.jfr_scrub.specs.OutputRecords.{IsCursor, event_behind, is_kept_at, link_behind, linked_at, output_record_as, still_output_records};
+ghost use Rattle.jfr_scrub.specs.OutputRecords.{IsCursor, event_behind, is_kept_at, link_behind, linked_at, new_at, output_record_as, output_record_in, still_output_records};
 
 use jfr_chunk::{Chunk, Kept};
 use jfr_frame::{Framed, Frames};
 use jfr_pool::{Chain, Link};
 
-/// What is written of a record: the whole of it, or, of a chained checkpoint, the pools that have an entry
+/// What is written for a record: all its bytes, or, for a chained checkpoint, the pools that have an entry
 /// left. Checkpoints are numbered in the order of the file.
 #[derive(Clone, Copy, Debug)]
 pub(crate) enum OutputRecord {
@@ -17,7 +17,7 @@ pub(crate) enum OutputRecord {
     Chained(usize, Link),
 }
 
-/// The numbers of the record, of the event and of the chained checkpoint that come next.
+/// The numbers of the next record, the next event and the next chained checkpoint.
 #[derive(Clone, Copy, Debug)]
 pub(crate) struct Cursor {
     pub(crate) frame: usize,
@@ -25,7 +25,7 @@ pub(crate) struct Cursor {
     pub(crate) link: usize,
 }
 
-/// The next output record, if there is one. A record is read only where the whole of it is written.
+/// The next output record, if there is one. A record is read only if all its bytes are written.
 #[inline(always)]
 pub(crate) fn next_output_record(
     chunk: &Chunk,
@@ -34,7 +34,7 @@ pub(crate) fn next_output_record(
 ) -> Option<OutputRecord>
     requires { IsCursor chunk.now kept.now cursor.old }
     ensures cursor { IsCursor chunk.now kept.now cursor.new }
-    ensures exact { MatchOption result (still_output_records chunk.now kept.now cursor.old ≡ []) (λ s. still_output_records chunk.now kept.now cursor.old ≡ output_record_as s ∷ still_output_records chunk.now kept.now cursor.new) }
+    ensures exact { MatchOption result (still_output_records chunk.now kept.now cursor.old ≡ []) (λ s. still_output_records chunk.now kept.now cursor.old ≡ output_record_in chunk.now kept.now s ∷ still_output_records chunk.now kept.now cursor.new) }
 {
     let frames = chunk.frames();
     'records: while cursor.frame < frames.len() {
@@ -47,7 +47,7 @@ pub(crate) fn next_output_record(
     None
 }
 
-// Where the record of a number starts.
+// The offset of the record with this number.
 #[inline(always)]
 fn place_of(frames: &Frames, number: usize) -> usize
     requires { number < length frames.now }
@@ -59,7 +59,8 @@ fn place_of(frames: &Frames, number: usize) -> usize
     }
 }
 
-// The output record of the cursor's record, which starts at a place. The cursor moves behind it.
+// The output record for the cursor's record, which starts at `at`, if anything is written for it. Moves the
+// cursor past the record.
 #[inline(always)]
 fn pass_record(chunk: &Chunk, kept: &Kept, cursor: &mut Cursor, at: usize) -> Option<OutputRecord>
     requires cursor { IsCursor chunk.now kept.now cursor.old }
@@ -67,7 +68,7 @@ fn pass_record(chunk: &Chunk, kept: &Kept, cursor: &mut Cursor, at: usize) -> Op
     requires more { cursor.old.frame < 2 ^ 64 - 1 }
     ensures cursor { IsCursor chunk.now kept.now cursor.new }
     ensures next { cursor.new.frame ≡ cursor.old.frame + 1 }
-    ensures exact { IfSome (slice_get chunk.now.records cursor.old.frame) (λ r. option_map output_record_as result ≡ output_record_of chunk.now (kept_by chunk.now kept.now) r) }
+    ensures exact { IfSome (slice_get chunk.now.records cursor.old.frame) (λ r. option_map (output_record_in chunk.now kept.now) result ≡ output_record_of chunk.now (kept_by chunk.now kept.now) r) }
 {
     let number = cursor.frame;
     cursor.frame = number + 1;
@@ -77,8 +78,8 @@ fn pass_record(chunk: &Chunk, kept: &Kept, cursor: &mut Cursor, at: usize) -> Op
     chosen(link, is_kept, is_metadata, chunk.frames(), number)
 }
 
-// The output record of the record of a number: a chained checkpoint as one, and another record whole or not
-// at all.
+// The output record for the record with this number: for a chained checkpoint always, for another record if
+// it is kept.
 #[inline(always)]
 fn chosen(
     link: Option<(usize, Link)>,
@@ -87,7 +88,7 @@ fn chosen(
     frames: &Frames,
     number: usize,
 ) -> Option<OutputRecord>
-    ensures { IfSome (slice_get frames.now number) (λ r. option_map output_record_as result ≡ output_record_by link (is_kept || is_metadata) r) }
+    ensures { (place : ℕ) (new : Option (List ℕ)) → IfSome (slice_get frames.now number) (λ r. option_map (output_record_as place new) result ≡ output_record_by link (is_kept || is_metadata) (new_at place new r) r) }
 {
     match link {
         Some((number, link)) => Some(OutputRecord::Chained(number, link)),
@@ -101,7 +102,7 @@ fn chosen(
     }
 }
 
-// Whether a kept event starts at a place. The number moves behind an event that starts there.
+// Whether a kept event starts at this offset. If an event starts there, moves the number past it.
 #[inline(always)]
 fn pass_event(chunk: &Chunk, kept: &Kept, number: &mut usize, at: usize) -> bool
     ensures number { number.new ≡ event_behind (events_of chunk.now) number.old at }
@@ -111,7 +112,8 @@ fn pass_event(chunk: &Chunk, kept: &Kept, number: &mut usize, at: usize) -> bool
     let Some(place) = chunk.event_place(old) else {
         return false;
     };
-    // An event that has a place has a number below the count: the second test is for the sum alone.
+    // The second test never holds, since there is an event with this number. It shows that the sum can't
+    // overflow.
     if place != at || old >= chunk.event_count() {
         return false;
     }
@@ -119,7 +121,7 @@ fn pass_event(chunk: &Chunk, kept: &Kept, number: &mut usize, at: usize) -> bool
     kept.get(old).unwrap_or(false)
 }
 
-// The chained checkpoint that starts at a place, with its number, which moves behind it.
+// The chained checkpoint that starts at this offset, with its number. Moves the number past it.
 #[inline(always)]
 fn pass_link(chain: &Chain, number: &mut usize, at: usize) -> Option<(usize, Link)>
     ensures number { number.new ≡ link_behind chain.now number.old at }
@@ -127,7 +129,8 @@ fn pass_link(chain: &Chain, number: &mut usize, at: usize) -> Option<(usize, Lin
 {
     let old = *number;
     let link = *chain.get(old)?;
-    // The second test is for the sum alone, as above.
+    // The second test never holds, since there is a link with this number. It shows that the sum can't
+    // overflow.
     if link.frame.at != at || old >= chain.len() {
         return None;
     }

@@ -1,25 +1,27 @@
-// Pieces of an output.
+//! The pieces of an output.
 
-/// What bytes are that are made rather than copied. All but the header are one compressed integer each, of
-/// at most nine bytes.
+/// The meaning of a range of made bytes. Except for the header and the metadata record, each is one
+/// compressed integer of at most nine bytes.
 #[derive(Clone, Copy, Debug)]
 pub enum MadePart {
-    /// The chunk's header, of 68 bytes: the one before, with the size and the positions of the output.
+    /// The 68 bytes of the header: that of the chunk, with the size and the positions of the output.
     ChunkHeader,
-    /// The size of a checkpoint's record, in as many bytes as it took before.
+    /// The size of a checkpoint's record, in the same number of bytes as before.
     CheckpointSize,
-    /// A checkpoint's delta, in two's complement: what is added to its offset to come to the earlier
-    /// checkpoint of the chain, or 0 in the first of the chunk.
+    /// A checkpoint's delta, in two's complement: the number to add to its offset for the offset of the
+    /// checkpoint before it in the chain, or 0 in the first of the chunk.
     CheckpointDelta,
-    /// How many pools a checkpoint has.
+    /// The number of pools of a checkpoint.
     PoolCount,
     /// The id of the class of a pool's entries.
     PoolClass,
-    /// How many entries a pool has.
+    /// The number of entries of a pool.
     EntryCount,
+    /// A metadata record without the event classes that the output doesn't need.
+    MetadataRecord,
 }
 
-/// A range of the chunk, or of the bytes that are made.
+/// A range of the chunk, or of the made bytes.
 #[derive(Clone, Copy, Debug)]
 pub(crate) enum Part {
     Copied {
@@ -33,15 +35,15 @@ pub(crate) enum Part {
     },
 }
 
-/// A piece of what a chunk becomes.
+/// A piece of the output of a chunk.
 #[derive(Clone, Copy, Debug)]
 pub enum Piece<'a> {
-    /// These bytes of the chunk, which stand there from the offset `at` on.
+    /// These bytes of the chunk, which start there at the offset `at`.
     Copied {
         at: usize,
         bytes: &'a [u8],
     },
-    /// The range `from..to` of the bytes that are made (`Scrubber::made`), and what it is.
+    /// The range `from..to` of the made bytes (`Scrubber::made`), and its meaning.
     Made {
         part: MadePart,
         from: usize,

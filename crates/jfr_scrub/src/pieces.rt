@@ -1,4 +1,4 @@
-// The pieces of an output, in order.
+//! The pieces of an output, in order.
 ghost use Rattle.std.specs.Prelude.{◌≡◌, ℕ, ◌<◌, ◌≤◌, ◌+◌, ◌++◌, [], ◌∷◌, length, slice_get, slice_range, option_map, vec_len, vec_capacity, IfSome, OnOk};
 ghost use Rattle.std.specs.List.{AllByRecursion, flat_map};
 ghost use Rattle.jfr_scrub.specs.declared.piece.MadePart.TheVariants.{ChunkHeader};
@@ -10,7 +10,7 @@ use jfr_outside::NoMemory;
 use std::alloc::Global;
 use std::marker::Model;
 
-/// Ranges of a chunk and of made bytes, one behind another.
+/// Ranges of a chunk and of made bytes, one after another.
 #[derive(Drop)]
 pub(crate) struct Pieces<'a> {
     chunk: &'a [u8],
@@ -57,7 +57,7 @@ impl<'a> Pieces<'a> {
         Ok(())
     }
 
-    /// Adds an integer that is made.
+    /// Adds made bytes.
     pub(crate) fn put(&mut self, part: MadePart, bytes: &[u8]) -> Result<(), NoMemory>
         requires { IsNumber part bytes.now }
         ensures chunk { self.new.chunk ≡ self.old.chunk }
@@ -75,7 +75,7 @@ impl<'a> Pieces<'a> {
         Ok(())
     }
 
-    /// Puts the header before all pieces.
+    /// Adds the header before all pieces.
     pub(crate) fn put_front(&mut self, bytes: &[u8]) -> Result<(), NoMemory>
         requires { IsHeader bytes.now }
         ensures chunk { self.new.chunk ≡ self.old.chunk }
@@ -97,21 +97,21 @@ impl<'a> Pieces<'a> {
         Ok(())
     }
 
-    /// The bytes that are made.
+    /// The made bytes.
     pub(crate) fn made(&self) -> &[u8]
         ensures { result.now ≡ self.now.made }
     {
         self.made.as_slice()
     }
 
-    /// How many pieces there are.
+    /// The number of pieces.
     pub(crate) fn len(&self) -> usize
         ensures { result ≡ length self.now.pieces }
     {
         self.parts.len()
     }
 
-    /// The piece of a number, from 0; `None` exactly past the end.
+    /// The piece with this number, from 0, if there is one.
     pub(crate) fn get(&self, number: usize) -> Option<Piece<'a>>
         ensures exact { option_map part_of result ≡ slice_get self.now.pieces number }
         ensures of_chunk { IfSome result (IsOfChunk self.now.chunk) }
@@ -120,7 +120,7 @@ impl<'a> Pieces<'a> {
         Some(piece_of(self.chunk, part))
     }
 
-    /// The ranges, apart from the chunk.
+    /// The ranges, without the chunk.
     pub(crate) fn into_ranges(self) -> Ranges
         ensures same { laid_in self.entry.chunk result ≡ self.entry }
         ensures lie { LieIn (laid_in self.entry.chunk result) }
@@ -131,7 +131,7 @@ impl<'a> Pieces<'a> {
         }
     }
 
-    /// Writes the pieces behind what was written, into room that is there.
+    /// Appends the bytes of the pieces. The vector must have the capacity.
     pub(crate) fn write(&self, out: &mut Vec<u8>)
         requires { vec_len out.old + length (joined self.now) ≤ vec_capacity out.old }
         ensures { out.new.items ≡ out.old.items ++ joined self.now }
@@ -140,7 +140,7 @@ impl<'a> Pieces<'a> {
     }
 }
 
-// The piece that a range is.
+// A range as a piece.
 fn piece_of<'a>(chunk: &'a [u8], part: Part) -> Piece<'a>
     requires { (m : ℕ) × Lies (length chunk.now) m part }
     ensures exact { part_of result ≡ part }
@@ -155,7 +155,7 @@ fn piece_of<'a>(chunk: &'a [u8], part: Part) -> Piece<'a>
     }
 }
 
-// Writes ranges behind what was written, into room that is there.
+// Appends the bytes of the ranges. The vector must have the capacity.
 fn write_parts(out: &mut Vec<u8>, chunk: &[u8], made: &[u8], parts: &[Part])
     requires lie { AllByRecursion (Lies (length chunk.now) (length made.now)) parts.now }
     requires room { vec_len out.old + length (flat_map (part_bytes chunk.now made.now) parts.now) ≤ vec_capacity out.old }
@@ -166,7 +166,7 @@ fn write_parts(out: &mut Vec<u8>, chunk: &[u8], made: &[u8], parts: &[Part])
     }
 }
 
-// Writes a range behind what was written, into room that is there.
+// Appends the bytes of a range. The vector must have the capacity.
 fn write_part(out: &mut Vec<u8>, chunk: &[u8], made: &[u8], part: Part)
     requires lies { Lies (length chunk.now) (length made.now) part }
     requires room { vec_len out.old + length (part_bytes chunk.now made.now part) ≤ vec_capacity out.old }

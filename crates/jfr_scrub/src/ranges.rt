@@ -1,4 +1,4 @@
-// Ranges of a chunk, apart from it.
+//! Ranges of a chunk, without the chunk itself.
 ghost use Rattle.std.specs.Prelude.{◌≡◌, [], length, IfOk};
 ghost use Rattle.jfr_outside.specs.World.{bytes_in};
 ghost use Rattle.jfr_scrub.specs.Pieces.{joined, laid_in, LieIn, Lies, part_bytes};
@@ -7,8 +7,8 @@ use crate::piece::Part;
 use jfr_outside::NoMemory;
 use std::alloc::Global;
 
-/// Ranges of a chunk and of made bytes, one behind another. The chunk isn't held: it is given again
-/// where its bytes are asked for.
+/// Ranges of a chunk and of made bytes, one after another. The chunk isn't borrowed. It is passed again when
+/// its bytes are needed.
 #[derive(Drop)]
 pub(crate) struct Ranges {
     pub(crate) made: Vec<u8>,
@@ -16,7 +16,7 @@ pub(crate) struct Ranges {
 }
 
 impl Ranges {
-    /// No ranges. They take no memory.
+    /// No ranges. It allocates nothing.
     pub(crate) fn new(alloc: Global) -> Ranges
         ensures made { result.made.items ≡ [] }
         ensures parts { result.parts.items ≡ [] }
@@ -27,7 +27,7 @@ impl Ranges {
         }
     }
 
-    /// The bytes of the ranges, one behind another.
+    /// The bytes of each range, in order.
     pub(crate) fn pieces<'c>(
         &'c self,
         alloc: Global,

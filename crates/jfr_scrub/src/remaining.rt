@@ -1,4 +1,4 @@
-// The entries that remain.
+//! The entries that remain.
 ghost use Rattle.std.specs.Prelude.{◌≡◌, ℕ, ◌<◌, ◌≤◌, ◌++◌, [], ◌∷◌, length, slice_get, Some, IfOk, IsTrue, OnOk, if◌then◌else◌};
 ghost use Rattle.std.specs.List.{AllByRecursion};
 ghost use Rattle.jfr_meta.specs.Written.{capped};
@@ -12,7 +12,7 @@ use jfr_pool::{EntryAt, Pools};
 use jfr_reach::Marks;
 use std::alloc::Global;
 
-/// The entries that remain, in order: all that the chunk has, which are lent, or a list of those that do.
+/// The entries that remain, in order. If all do, the chunk's own list is borrowed.
 #[derive(Drop)]
 pub(crate) enum RemainingEntries<'p> {
     All(&'p [EntryAt]),
@@ -20,7 +20,6 @@ pub(crate) enum RemainingEntries<'p> {
 }
 
 impl RemainingEntries<'_> {
-    /// The entries.
     pub(crate) fn as_slice(&self) -> &[EntryAt]
         ensures { result.now ≡ entries_in self.now }
     {
@@ -31,7 +30,7 @@ impl RemainingEntries<'_> {
     }
 }
 
-/// The entries that are reached, in order.
+/// The entries that remain: those that are reached.
 pub(crate) fn remaining<'p>(
     alloc: Global,
     pools: &'p Pools,
@@ -71,7 +70,6 @@ fn reached(alloc: Global, pools: &Pools, marks: &Marks) -> Result<Vec<EntryAt>, 
     Ok(left)
 }
 
-// The entry of a number.
 fn entry_at(pools: &Pools, at: usize) -> EntryAt
     requires { at < length pools.now }
     ensures { slice_get pools.now at ≡ Some result }
@@ -82,7 +80,7 @@ fn entry_at(pools: &Pools, at: usize) -> EntryAt
     }
 }
 
-// Adds an entry that is kept.
+// Adds an entry if it is kept.
 fn push_if(left: &mut Vec<EntryAt>, entry: EntryAt, keep: bool) -> Result<(), NoMemory>
     ensures ok { OnOk result (left.new.items ≡ left.old.items ++ (if keep then entry ∷ [] else [])) }
 {
@@ -92,7 +90,7 @@ fn push_if(left: &mut Vec<EntryAt>, entry: EntryAt, keep: bool) -> Result<(), No
     Ok(())
 }
 
-// Whether two entries of a checkpoint are of one pool.
+// Whether two entries of a checkpoint are in the same pool.
 fn same_pool(one: &EntryAt, other: &EntryAt) -> bool
     ensures { result ≡ same_pool one.now other.now }
 {
@@ -102,7 +100,7 @@ fn same_pool(one: &EntryAt, other: &EntryAt) -> bool
     one.class == other.class
 }
 
-/// How many entries at the front are of the pool of one.
+/// The number of entries at the start of the list that are in the same pool as this one.
 pub(crate) fn pool_len(first: &EntryAt, entries: &[EntryAt]) -> usize
     ensures exact { result ≡ leading first.now entries.now }
     ensures within { result ≤ length entries.now }
@@ -115,7 +113,7 @@ pub(crate) fn pool_len(first: &EntryAt, entries: &[EntryAt]) -> usize
     entries.len()
 }
 
-// How many bytes the entries of a pool take.
+// The number of bytes of a pool's entries.
 fn entries_len(entries: &[EntryAt]) -> u64
     requires { (n : ℕ) × AllByRecursion (HasRange n) entries.now }
     ensures { result ≡ capped (entries_size entries.now) }
@@ -127,7 +125,7 @@ fn entries_len(entries: &[EntryAt]) -> u64
     len
 }
 
-// How many bytes a pool takes.
+// The number of bytes of a pool.
 fn pool_size(class: u64, entries: &[EntryAt]) -> u64
     requires { (n : ℕ) × AllByRecursion (HasRange n) entries.now }
     ensures { result ≡ capped (pool_size class entries.now) }
@@ -136,7 +134,7 @@ fn pool_size(class: u64, entries: &[EntryAt]) -> u64
     entries_len(entries).saturating_add(head as u64)
 }
 
-/// How many pools some entries are of, and how many bytes those take.
+/// The number of pools that some entries are in, and the number of bytes of these pools.
 #[derive(Clone, Copy, Debug)]
 pub(crate) struct Measure {
     pub(crate) count: usize,

@@ -1,4 +1,4 @@
-// Runs of kept events, which are copied as they stand.
+//! Runs of kept events, which are copied as one range.
 ghost use Rattle.std.specs.Prelude.{◌≡◌, false};
 ghost use Rattle.jfr_chunk.specs.Parts.{events_of};
 ghost use Rattle.jfr_scrub.specs.Runs.{IsRun, Passes, is_in_run};
@@ -9,15 +9,15 @@ use crate::galloping::events_ahead;
 use crate::output_records::Cursor;
 use jfr_chunk::{Chunk, Kept};
 
-/// The range of the chunk that a run takes.
+/// The range of the chunk that a run covers.
 #[derive(Clone, Copy, Debug)]
 pub(crate) struct Run {
     pub(crate) from: usize,
     pub(crate) to: usize,
 }
 
-/// The kept events that stand from the cursor on, one behind another, up to another record. The cursor
-/// moves behind them. No record is read.
+/// The run of kept events that starts at the cursor and ends before the first other record. Moves the cursor
+/// past it. No record is read.
 #[inline(always)]
 pub(crate) fn pass_run(chunk: &Chunk, kept: &Kept, cursor: &mut Cursor) -> Run
     requires { IsCursor chunk.now kept.now cursor.old }
@@ -33,7 +33,7 @@ pub(crate) fn pass_run(chunk: &Chunk, kept: &Kept, cursor: &mut Cursor) -> Run
     Run { from, to }
 }
 
-// Moves the cursor behind the run.
+// Moves the cursor past the run.
 fn pass_kept(chunk: &Chunk, kept: &Kept, cursor: &mut Cursor)
     requires accepted { IsAccepted chunk.now }
     requires cursor { IsCursor chunk.now kept.now cursor.old }
@@ -49,7 +49,7 @@ fn pass_kept(chunk: &Chunk, kept: &Kept, cursor: &mut Cursor)
     pass_each(chunk, kept, cursor);
 }
 
-// Passes one record after another.
+// Moves the cursor past the run, one record at a time.
 fn pass_each(chunk: &Chunk, kept: &Kept, cursor: &mut Cursor)
     requires accepted { IsAccepted chunk.now }
     requires cursor { IsCursor chunk.now kept.now cursor.old }
@@ -62,7 +62,7 @@ fn pass_each(chunk: &Chunk, kept: &Kept, cursor: &mut Cursor)
     }
 }
 
-// Whether the cursor's record is its event and is kept.
+// Whether the cursor's record is that of the cursor's event, and the event is kept.
 #[inline(always)]
 fn is_in_run(chunk: &Chunk, kept: &Kept, cursor: &Cursor) -> bool
     ensures { result ≡ is_in_run chunk.now kept.now cursor.now }
@@ -73,7 +73,7 @@ fn is_in_run(chunk: &Chunk, kept: &Kept, cursor: &Cursor) -> bool
     }
 }
 
-// Whether the event of a number starts at a place and is kept.
+// Whether the event with this number starts at this offset and is kept.
 #[inline(always)]
 fn is_kept_at(chunk: &Chunk, kept: &Kept, number: usize, at: usize) -> bool
     ensures { result ≡ is_kept_at (events_of chunk.now) kept.now number at }

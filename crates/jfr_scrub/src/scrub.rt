@@ -1,12 +1,7 @@
-// The stream that scrubs a recording.
-ghost use Rattle.std.specs.Prelude.{◌≡◌, ◌≢◌, ◌<◌, ℕ, List, [], None};
-ghost use Rattle.jfr_base.specs.declared.flaw.Refusal.{Refusal};
-ghost use Rattle.jfr_outside.specs.Counts.{Rose};
-ghost use Rattle.jfr_plan.specs.Ends.{Fine, Refused, way_of};
+//! The stream that scrubs a recording.
+ghost use Rattle.std.specs.Prelude.{◌≡◌, ◌≢◌, ℕ, List, None};
 ghost use Rattle.jfr_plan.specs.Effects.{alone};
-ghost use Rattle.jfr_plan.specs.Outcomes.{After, Tallied};
-ghost use Rattle.jfr_plan.specs.Walks.{File};
-ghost use Rattle.jfr_plan.specs.Clauses.{Ended, Halted, Broken, Partly, IsComplete, CanRead, CanCreate};
+ghost use Rattle.jfr_plan.specs.Clauses.{over, Ran, CanCreate};
 ghost use Rattle.jfr_outside.specs.World.{Told};
 ghost use Rattle.jfr_header.specs.Fronts.{Whole};
 ghost use Rattle.jfr_chunk.specs.Refusal.{refusal_of};
@@ -24,8 +19,8 @@ use jfr_plan::{Make, make_stream};
 use std::alloc::Global;
 use std::mem;
 
-/// Makes of each chunk what it becomes under a filter. The indexes of a chunk are kept in the room of the
-/// one before.
+/// Makes the output of each chunk with a filter. `room` holds the last chunk's memory, which the next chunk
+/// uses again.
 #[derive(Drop)]
 struct Scrub<'f> {
     filter: &'f Filter,
@@ -61,8 +56,8 @@ impl<'f> Make for Scrub<'f> {
     }
 }
 
-/// Scrubs a recording: opens the input, creates the output, appends what each chunk becomes by one
-/// call, and finishes the output after the last.
+/// Scrubs a recording: opens the input, creates the output, appends the output of each chunk by one call, and
+/// finishes the output after the last.
 pub fn scrub_stream<P: Place>(
     alloc: Global,
     place: &mut P,
@@ -77,31 +72,12 @@ pub fn scrub_stream<P: Place>(
     ensures headline { IsByPlan result → Told (P.state place.old).told (P.state place.new).told (Scrubs filter.now input.now output.now) }
     ensures each { (c : List ℕ) → Whole c → refusal_of c ≡ None → IsScrubbed filter.now c (scrubbed filter.now c) }
 
-    // What stands after the call, and which counts rose, by the answer.
-    ensures told { After (scrubbing filter.now output.now) [] input.now (way_of result) (alone (P.state place.old)) (alone (P.state place.new)) }
-    ensures counts { Tallied File (way_of result) (alone (P.state place.old)) (alone (P.state place.new)) }
+    ensures ran { Ran (over (scrubbing filter.now output.now) input.now) result
+        (alone (P.state place.old)) (alone (P.state place.new)) }
 
-    // What stands after each answer, where the place tells its files.
-    ensures done { result ≡ Ending.Done → Ended (scrubbing filter.now output.now) input.now Fine (alone (P.state place.old)) (alone (P.state place.new)) }
-    ensures refused { (r : Refusal) → result ≡ Ending.Refused r → Ended (scrubbing filter.now output.now) input.now (Refused r) (alone (P.state place.old)) (alone (P.state place.new)) }
-    ensures halted { result ≡ Ending.ReadFault → Halted (scrubbing filter.now output.now) input.now (alone (P.state place.old)) (alone (P.state place.new)) }
-    ensures broken { result ≡ Ending.WriteFault → Broken (scrubbing filter.now output.now) input.now (alone (P.state place.old)) (alone (P.state place.new)) }
-    ensures memory { result ≡ Ending.Memory → Partly (scrubbing filter.now output.now) input.now (alone (P.state place.old)) (alone (P.state place.new)) }
-
-    // A fault comes only where it was counted, and none is passed over.
-    ensures read_fault { result ≡ Ending.ReadFault → Rose (P.state place.old).read_faults (P.state place.new).read_faults }
-    ensures write_fault { result ≡ Ending.WriteFault → Rose (P.state place.old).write_faults (P.state place.new).write_faults }
-    ensures no_read_passed { (P.state place.old).read_faults < (P.state place.new).read_faults → result ≡ Ending.ReadFault }
-    ensures no_write_passed { (P.state place.old).write_faults < (P.state place.new).write_faults → result ≡ Ending.WriteFault }
-
-    // Without a fault the answer is the plan's end, or memory was wanting.
-    ensures complete { IsComplete (scrubbing filter.now output.now) input.now (way_of result) (alone (P.state place.old)) (alone (P.state place.new)) }
-    ensures parts { result ≢ Ending.TooManyParts }
-
-    // The call brings no fault about by itself.
-    ensures can_read { CanRead input.now (P.state place.old) → (result ≢ Ending.ReadFault) × ((P.state place.new).read_faults ≡ (P.state place.old).read_faults) }
-    ensures can_create { CanCreate output.now (P.state place.old) → (result ≢ Ending.WriteFault) × ((P.state place.new).write_faults ≡ (P.state place.old).write_faults) }
-    ensures same { (P.state place.new).steady ≡ (P.state place.old).steady }
+    // The call brings no write fault about by itself.
+    ensures can_create { CanCreate output.now (P.state place.old)
+        → (result ≢ Ending.WriteFault) × ((P.state place.new).write_faults ≡ (P.state place.old).write_faults) }
 {
     make_stream(
         alloc,

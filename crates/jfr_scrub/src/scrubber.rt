@@ -1,4 +1,4 @@
-// The scrubber of one chunk.
+//! The scrubber of one chunk.
 ghost use Rattle.std.specs.Prelude.{◌≡◌, [], length, slice_get, option_map, IfOk, IfSome};
 ghost use Rattle.jfr_chunk.specs.Chosen.{kept_of};
 ghost use Rattle.jfr_laws.specs.Laws.{IsSettled};
@@ -14,8 +14,8 @@ use jfr_outside::NoMemory;
 use std::alloc::Global;
 use std::marker::Model;
 
-/// What an accepted chunk becomes, as pieces: ranges of the chunk, and ranges of the few bytes that are
-/// made. The room to write them is there.
+/// The output of an accepted chunk, as pieces: ranges of the chunk, and ranges of a few made bytes. The
+/// memory to write them is allocated already.
 #[derive(Drop)]
 pub struct Scrubber<'a> {
     laid: LaidOut<'a>,
@@ -35,8 +35,8 @@ impl<'a> Model for Scrubber<'a> {
 }
 
 impl<'a> Scrubber<'a> {
-    /// Lays out what an accepted chunk becomes, with the events that a filter keeps. All the memory that
-    /// `write` needs is taken here.
+    /// Lays out the output of an accepted chunk, with the events that a filter keeps. Allocates all the
+    /// memory that `write` needs.
     pub fn prepare(
         alloc: Global,
         chunk: &Chunk<'a>,
@@ -56,7 +56,7 @@ impl<'a> Scrubber<'a> {
         Ok(Scrubber { laid, out })
     }
 
-    /// Writes the pieces. It takes no memory.
+    /// Writes the pieces. Allocates nothing.
     pub fn write(&mut self)
         requires empty { self.old.written ≡ [] }
         ensures { self.new ≡ all_written self.old }
@@ -64,42 +64,42 @@ impl<'a> Scrubber<'a> {
         self.laid.pieces().write(&mut self.out);
     }
 
-    /// The bytes that are written: none at first, and all of them after `write`.
+    /// The bytes that have been written: none before `write`, all of them after it.
     pub fn bytes(&self) -> &[u8]
         ensures { result.now ≡ self.now.written }
     {
         self.out.as_slice()
     }
 
-    /// How many events are kept.
+    /// The number of events that are kept.
     pub fn kept_events(&self) -> usize
         ensures { result ≡ self.now.events }
     {
         self.laid.kept_events()
     }
 
-    /// How many entries remain.
+    /// The number of entries that remain.
     pub fn kept_entries(&self) -> usize
         ensures { result ≡ self.now.entries }
     {
         self.laid.kept_entries()
     }
 
-    /// The bytes that are made.
+    /// The made bytes.
     pub fn made(&self) -> &[u8]
         ensures { result.now ≡ self.now.laid.made }
     {
         self.laid.pieces().made()
     }
 
-    /// How many pieces there are.
+    /// The number of pieces.
     pub fn piece_count(&self) -> usize
         ensures { result ≡ length self.now.laid.pieces }
     {
         self.laid.pieces().len()
     }
 
-    /// The piece of a number, from 0, in the order of the output; `None` exactly past the end.
+    /// The piece with this number, from 0 in the order of the output, if there is one.
     pub fn piece(&self, number: usize) -> Option<Piece<'a>>
         ensures exact { option_map part_of result ≡ slice_get self.now.laid.pieces number }
         ensures of_chunk { IfSome result (IsOfChunk self.now.laid.chunk) }

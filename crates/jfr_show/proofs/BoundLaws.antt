@@ -12,7 +12,7 @@ use Rattle.jfr_pool.specs.Chains.{IsChain, IsLink}
 use Rattle.jfr_chunk.specs.Parts.{AreParts, Parts, events_of, is_inert, pools_at}
 use Rattle.jfr_chunk.proofs.AllLaws.{all_in}
 use Rattle.jfr_chunk.proofs.BoundLaws.{entries_few}
-use Rattle.jfr_chunk.proofs.Members.{contains_in}
+use Rattle.jfr_worklist.proofs.Members.{contains_in}
 use Rattle.jfr_chunk.proofs.StandingLaws.{described_sound, tiles_each}
 use Rattle.jfr_show.specs.Counting.{AreBelow}
 use Rattle.jfr_show.specs.Summing.{IsBounded}
@@ -75,11 +75,11 @@ pub below_more : (m n : ℕ) (t : Tallies) → m ≤ n → AreBelow m t → AreB
 below_more m n t h b = record { each = λ q tally is. (let k = b.each q tally is in let e = k.0 in let f = k.1 in (omega arith, omega arith)) }
 
 -- A number that is kept, and what a chunk adds to it.
-pub sum_fits : (kept more bytes chunks size : ℕ) → chunks ≤ 2 ^ 35 → bytes ≤ 2 ^ 28 * chunks → kept ≤ bytes → more ≤ size → size < 2 ^ 28 → kept + more < 2 ^ 64
+pub sum_fits : (kept more bytes chunks size : ℕ) → chunks ≤ 17000000000 → bytes ≤ 2 ^ 30 * chunks → kept ≤ bytes → more ≤ size → size < 2 ^ 30 → kept + more < 2 ^ 64
 sum_fits kept more bytes chunks size a b c d e = omega arith
 
 -- The totals with a chunk more stay in bounds.
-pub bounded_next : (t : Totals) (first : Option Beginning) (size duration events checkpoints constants inert : ℕ) (m : Tallies) → IsBounded t → t.chunks < 2 ^ 35 → size < 2 ^ 28 → duration < 2 ^ 64 → events ≤ size → checkpoints ≤ size → constants ≤ size → inert ≤ size → AreBelow (t.bytes + size) m
+pub bounded_next : (t : Totals) (first : Option Beginning) (size duration events checkpoints constants inert : ℕ) (m : Tallies) → IsBounded t → t.chunks < 17000000000 → size < 2 ^ 30 → duration < 2 ^ 64 → events ≤ size → checkpoints ≤ size → constants ≤ size → inert ≤ size → AreBelow (t.bytes + size) m
     → IsBounded (record { first = first; chunks = t.chunks + 1; bytes = t.bytes + size; duration = t.duration + duration; events = t.events + events; checkpoints = t.checkpoints + checkpoints; constants = t.constants + constants; inert = t.inert + inert; tallies = m })
 bounded_next t first size duration events checkpoints constants inert m b few small short e c k i below =
     let u = b.bytes in

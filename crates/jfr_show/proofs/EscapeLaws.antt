@@ -6,7 +6,7 @@ use Rattle.serde_json.specs.Data.{string}
 use Rattle.serde_json.specs.Written.{compact_text}
 use Rattle.serde_json.proofs.OnLiterals.{serde_json_on_literals}
 
--- Each byte stands for itself.
+-- No byte needs an escape.
 abbrev pub IsPlain : List ℕ → Type 0
 IsPlain bytes = compact_text (string bytes) ≡ 34 ∷ (bytes ++ 34 ∷ [])
 

@@ -42,13 +42,13 @@ module _ (es : List EntryAt) (n : ℕ) (e : EntryAt) (there : slice_get es n ≡
       let q : get_or es n e ≡ e = get_or_from_slice_get es n e e there in
       get_or-enumerate_from 0 es n (0, e) (slice_get_within es n e there) ∙ (λ i. (p i, q i))
 
--- An entry stands within.
+-- There is an entry at each index below the length.
 entry_within : (es : List EntryAt) (n : ℕ) → n < length es → (e : EntryAt) × (slice_get es n ≡ Some e)
 entry_within [] n h = absurd (omega arith)
 entry_within (x ∷ xs) zero h = (x, refl)
 entry_within (x ∷ xs) (suc n) h = entry_within xs n (omega arith)
 
--- So far so many are in force.
+-- The number of the first n entries that are in force.
 pub record IsCount (es : List EntryAt) (n count : ℕ) : Type 0 where
   pub exact : count ≡ count_by (is_in_force es) (take n (enumerate_from 0 es))
   pub most : count ≤ n

@@ -1,4 +1,4 @@
--- Which value stands somewhere, by what the shape and the class say of it.
+-- Which value is at an offset, for each shape and class.
 use Rattle.std.specs.Prelude.{◌≡◌, ◌≢◌, ℕ, ◌+◌, ◌-◌, ◌≤◌, true, false, List, [], ◌++◌, length, map, replicate, slice_range, Option, Some, None, Ok, option_and_then}
 use Rattle.std.proofs.Common.{ap, arith, refl, sym, ◌∙◌, subst, inl, inr}
 use Rattle.std.proofs.lemmas.List.{take_all}
@@ -64,7 +64,7 @@ module _ (k : Classes) (c : List ℕ) (at to end : ℕ) (s : Shape) (l : to ≤ 
   abbrev bytes_there : List ℕ
   bytes_there = slice_range c at to
 
-  -- A reference: its key stands there.
+  -- A reference: its key is there.
   pub record KeyForm (v : Value) : Type 0 where
     pub key : ℕ
     pub kind : LeafKind
@@ -143,7 +143,7 @@ module _ (k : Classes) (c : List ℕ) (at to end : ℕ) (s : Shape) (l : to ≤ 
       let b = raw_base (kind_of d.name) m bytes_there n.key f n.is in
       record { count = b.0; value = n.value ∙ ap (λ z. Single s (leaf_kinds.Base (kind_of d.name)) bytes_there z) b.1 }
 
-  -- A string: it is read there, and its bytes alone have its text.
+  -- A string: it is read there, and its text follows from its own bytes.
   pub record TextForm (v : Value) : Type 0 where
     pub content : Content
     pub reads : run (string_format true) c end at ≡ Ok (record { value = content; place = to })
@@ -163,7 +163,7 @@ module _ (k : Classes) (c : List ℕ) (at to end : ℕ) (s : Shape) (l : to ≤ 
   pub text_form : (v : Value) (d : Class) → IsNode k c (node_at s at to) v → s.array ≡ false → s.constant ≡ false → find_class k s.class ≡ Some d → kind_of d.name ≡ kinds.Text → TextForm v
   text_form v d i a o q x = text_by_kind v (kind_of d.name) (base_form v d i a o q (λ m. (let z : kinds.Text ≡ kinds.Composite = sym x ∙ m in cc))) x
 
-  -- A composite value: its fields stand there.
+  -- A composite value: its fields are there.
   pub record FieldsForm (d : Class) (v : Value) : Type 0 where
     pub parts : Values
     pub row : IsRow k c at to (map (λ f. f.shape) d.fields) parts
@@ -190,7 +190,7 @@ module _ (k : Classes) (c : List ℕ) (at to end : ℕ) (s : Shape) (l : to ≤ 
             value = ap (λ z. Group t z vs) p.5 ∙ ap (λ (z : Shape). Group z [] vs) (sym i.shape);
           }
 
-  -- An array: its count stands there, and its items behind it.
+  -- An array: its count is there, followed by its items.
   pub record ArrayForm (v : Value) : Type 0 where
     pub count : Var
     pub found : int_at c at end ≡ Some count

@@ -1,4 +1,4 @@
--- The JSON of a value that stands somewhere, by what was read there, and of more and more items.
+-- The JSON of the value at an offset, by what was read there, and of one item more.
 use Rattle.std.specs.Prelude.{◌≡◌, ◌≢◌, ℕ, zero, suc, ◌+◌, ◌≤◌, Bool, true, false, List, [], ◌∷◌, ◌++◌, length, codes, decimal, Some, None, Ok, slice_range, is_some, if◌then◌else◌}
 use Rattle.std.specs.Option.{option_map_or}
 use Rattle.std.specs.Str.{chars}

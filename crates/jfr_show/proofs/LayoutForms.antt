@@ -1,4 +1,4 @@
--- Which value stands somewhere, by its layout, and that what is read there is that value's.
+-- Which value is at an offset, by its layout; and that what is read there is the value's.
 use Rattle.std.specs.Prelude.{◌≡◌, ℕ, ◌+◌, ◌≤◌, true, false, List, [], length, slice_range, slice_get, map, replicate, Some, None, Ok, IsSome, IsOk}
 use Rattle.std.proofs.Common.{ap, arith, refl, sym, ◌∙◌, subst}
 use Rattle.std.specs.Option.{option_map_or}
@@ -145,7 +145,7 @@ module _ (k : Classes) (c : List ℕ) (at to end : ℕ) (s : FieldLayout) (l : t
         value = f.value;
       }
 
-  -- An array: the items behind its count.
+  -- An array: the items after its count.
   pub array_stands : s.shape.array ≡ true → IsSome (int_at c at end)
   array_stands a = subst IsSome (sym (array_form k c at to end s.shape l w v i a).found) refl
 
@@ -161,6 +161,6 @@ module _ (k : Classes) (c : List ℕ) (at to end : ℕ) (s : FieldLayout) (l : t
       let q : f.count ≡ n = (let x : int_at c at end ≡ Some f.count = f.found in cc) in
       record { head = f.head; parts = f.parts; row = subst (λ (z : Var). IsRow k c z.end to (replicate z.value (item_of s.shape)) f.parts) q f.row; value = f.value }
 
--- The layout of an array's items is known where the array's is.
+-- The layout of an array's items is known if the array's is.
 pub item_known : (k : Classes) (s t : FieldLayout) → IsLayoutIfKnown k s → t ≡ layout_with (item_of s.shape) s.class_index s.kind → IsLayoutIfKnown k t
 item_known k s t is e = subst (λ (z : FieldLayout). IsLayoutIfKnown k z) (sym e) (record { form = refl; of_class = λ o h. (let q = is.of_class o h in record { class_index = q.class_index; kind = q.kind; form = refl }) })

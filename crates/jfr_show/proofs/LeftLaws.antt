@@ -1,4 +1,4 @@
--- A loop over values that stand one behind another: those that are left, and what is made of them yet.
+-- A loop over consecutive values: those that are left, and the result so far.
 use Rattle.std.specs.Prelude.{◌≡◌, ℕ, ◌+◌, ◌≤◌, List, [], ◌∷◌, length}
 use Rattle.std.proofs.Common.{ap, arith, refl, sym, ◌∙◌, subst}
 use Rattle.jfr_layout.specs.Classes.{Classes}
@@ -8,7 +8,7 @@ use Rattle.jfr_value.specs.Nodes.{node_at, IsNode, IsRow}
 use Rattle.jfr_value.proofs.VisitLaws.{none_left}
 use Rattle.jfr_value.proofs.WalkLaws.{first_of}
 
--- Values of these shapes stand from one place up to the other, and what is made so far, with what `onto`
+-- Values of these shapes are left from one offset up to the other, and the result so far, with what `onto`
 -- makes of them, is the whole.
 pub record Left {A : Type 0} (k : Classes) (c : List ℕ) (to : ℕ) (whole : A) (onto : A → Values → A) (ss : List Shape) (from : ℕ) (made : A) : Type 0 where
   pub others : Values
@@ -26,14 +26,14 @@ module _ {A : Type 0} (k : Classes) (c : List ℕ) (to : ℕ) (whole : A) where
       let m : f.others ≡ Nil = no_values f.others (f.row.of_shapes ∙ e) in
       (n.ends, sym z ∙ (sym (ap (onto made) m) ∙ f.rest))
 
-  -- Where something closes what was made, it stands behind all.
+  -- At the end no values are left, and the result is the whole.
   pub left_closes : (onto : A → Values → A) (ss : List Shape) (from : ℕ) (made : A) → Left k c to whole onto ss from made → ss ≡ [] → (from ≡ to) × (onto made Nil ≡ whole)
   left_closes onto ss from made f e =
       let n = none_left k c from to ss f.others f.row e in
       let m : f.others ≡ Nil = no_values f.others (f.row.of_shapes ∙ e) in
       (n.ends, sym (ap (onto made) m) ∙ f.rest)
 
-  -- The value that stands first.
+  -- The first value that is left.
   pub record FirstLeft (s : Shape) (from : ℕ) : Type 0 where
     pub place : ℕ
     pub value : Value
@@ -45,7 +45,7 @@ module _ {A : Type 0} (k : Classes) (c : List ℕ) (to : ℕ) (whole : A) where
       let g = first_of k c from to s ss f.others (subst (λ z. IsRow k c from to z f.others) e f.row) in
       record { place = from + length (bytes_of g.value); value = g.value; node = record { shape = sym g.shape; order = g.stands.order; within = g.stands.within; bytes = g.stands.bytes; fits = g.fits }; within = g.row.order }
 
-  -- What is left behind it, once it is made.
+  -- What is left after this value is added to the result.
   pub left_goes : (onto next : A → Values → A) (s : Shape) (ss us : List Shape) (from : ℕ) (made : A) (limit end : ℕ) (new : A)
       → Left k c to whole onto us from made → us ≡ s ∷ ss → to ≤ limit
       → ((p : ℕ) (v : Value) → IsNode k c (node_at s from p) v → p ≤ limit → (end ≡ p) × ((vs : Values) → onto made (Cons v vs) ≡ next new vs))

@@ -1,4 +1,4 @@
--- Lines of parts, one behind another.
+-- Lines of parts, one after another.
 use Rattle.std.specs.Prelude.{◌≡◌, ℕ, zero, suc, ◌+◌, List, [], ◌∷◌, ◌++◌, codes, drop, slice_get, Some}
 use Rattle.std.proofs.Common.{ap, arith, refl, sym, ◌∙◌}
 use Rattle.std.proofs.lemmas.List.{append_assoc, append-nil}
@@ -56,7 +56,7 @@ module _ (k : Classes) (refer : ℕ → ℕ × ℕ → List ℕ) (level : ℕ) w
       let z : new ≡ ((((made ++ indent level) ++ f.name) ++ q) ++ shown k refer level v) ++ newline = n ∙ ap (λ z. z ++ newline) y in
       ap (λ z. onto_fields z made (Cons v vs)) e ∙ (field_group made (indent level) f.name q (shown k refer level v) newline rest ∙ ap (λ z. z ++ rest) (sym z))
 
--- The lines stand between what opens and what closes them.
+-- The lines are between what opens and what closes them.
 close_group : (was a l i b : List ℕ) → (((was ++ a) ++ l) ++ i) ++ b ≡ was ++ (((a ++ l) ++ i) ++ b)
 close_group was a l i b = simp append_assoc
 

@@ -18,7 +18,7 @@ take_next xs i x is = take_more xs i x (slice_get_within xs i x is) ∙ ap (λ y
 pub pieces_more : {X : Type 0} (f : X → List ℕ) (xs : List X) (i : ℕ) (x : X) (start now new : List ℕ) → slice_get xs i ≡ Some x → now ≡ start ++ flat_map f (take i xs) → new ≡ now ++ f x → new ≡ start ++ flat_map f (take (i + 1) xs)
 pieces_more f xs i x start now new is so next = next ∙ (ap (λ z. z ++ f x) so ∙ (flat_map_more f start (take i xs) x ∙ ap (λ z. start ++ flat_map f z) (sym (take_next xs i x is))))
 
--- The same behind the first member.
+-- The same after the first member.
 pub others_more : {X : Type 0} (f : X → List ℕ) (xs : List X) (i : ℕ) (x : X) (start now new : List ℕ) → 1 ≤ i → slice_get xs i ≡ Some x → now ≡ start ++ flat_map f (drop 1 (take i xs)) → new ≡ now ++ f x → new ≡ start ++ flat_map f (drop 1 (take (i + 1) xs))
 others_more f xs zero x start now new h is so next = absurd (omega arith)
 others_more f [] (suc i) x start now new h is so next = cc
@@ -48,6 +48,6 @@ metadata_is p k number n was a b d now same all e f g h =
     let rest : List ℕ = flat_map (class_lines p.classes) p.classes in
     h ∙ (ap (λ z. d ++ flat_map (class_lines k) z) (take_all n k all) ∙ (ap (λ z. d ++ flat_map (class_lines z) z) same ∙ ap (λ z. z ++ rest) (g ∙ (ap (λ z. z ++ newline) (f ∙ ap (λ z. z ++ decimal number) e))) ∙ simp append_assoc refl))
 
--- A line of a number more.
+-- One line with a number more.
 pub line_more : (was now new lines word : List ℕ) (n m : ℕ) → now ≡ was ++ lines → new ≡ now ++ number_line word n → n ≡ m → new ≡ was ++ (lines ++ number_line word m)
 line_more was now new lines word n m so next e = next ∙ (ap (λ k. now ++ number_line word k) e ∙ (ap (λ z. z ++ number_line word m) so ∙ append_assoc was lines (number_line word m)))

@@ -34,7 +34,7 @@ changed_with f ms [] ds = refl
 changed_with f ms (g ∷ fs) [] = refl
 changed_with f ms (g ∷ fs) (d ∷ ds) = changed_with f (put (encode_utf8_all g.name) d ms) fs ds ∙ ap (λ z. members_with z fs (map f ds)) (changed_put f (encode_utf8_all g.name) d ms)
 
--- The value of the number that a value is.
+-- The value whose index is given by another value.
 abbrev picked : List Data → Data → Data
 picked ds d = nth ds (number_in d)
 
@@ -50,7 +50,7 @@ picked_numbers all n (f ∷ fs) (d ∷ ds) e h =
 lay_group : (c q t r : List ℕ) → c ++ (q ++ 58 ∷ (t ++ r)) ≡ (c ++ (q ++ 58 ∷ [])) ++ (t ++ r)
 lay_group c q t r = sym (append_assoc c (q ++ 58 ∷ []) (t ++ r) ∙ ap (λ z. c ++ z) (append_assoc q (58 ∷ []) (t ++ r)))
 
--- What stands behind the leads is the text of the members that they number.
+-- Laid out by the leads, values are the text of the members whose numbers the leads have.
 laid : (later : Bool) (ms : Members) (ds : List Data) → members_text later (changed (picked ds) ms) ≡ laid_out (leads later ms) ds
 laid later no_members ds = refl
 laid later (member key d ms) ds =

@@ -1,4 +1,4 @@
--- Fields of a value by the places where they begin, and their texts in any order.
+-- Fields of a value by the offsets where they start, and their texts in any order.
 use Rattle.std.specs.Prelude.{◌≡◌, ℕ, zero, suc, ◌+◌, ◌<◌, ◌≤◌, List, [], ◌∷◌, ◌++◌, ◌⊎◌, length, map, drop, slice_get, Some, IfSome}
 use Rattle.std.specs.List.{AllByRecursion}
 use Rattle.std.specs.Option.{option_map_or}
@@ -34,7 +34,7 @@ module _ (k : Classes) (c : List ℕ) where
       let there : from + length (bytes_of v) ≡ end = (let l = range_length c from p i.within in let b = ap length i.bytes in let o = i.order in omega arith) in
       sym (append_assoc made (from ∷ []) (starts (from + length (bytes_of v)) vs)) ∙ (ap (λ z. (made ++ from ∷ []) ++ starts z vs) there ∙ ap (λ z. z ++ starts end vs) (sym n))
 
-  -- The field of a number.
+  -- The field with a number.
   pub record Placed (at to : ℕ) (vs : Values) (j : ℕ) (s : Shape) : Type 0 where
     pub place : ℕ
     pub end : ℕ
@@ -63,7 +63,7 @@ module _ (k : Classes) (c : List ℕ) where
       let p = placed (at + length (bytes_of h.value)) to ss h.others j s h.row e in
       subst (λ z. Placed at to z (suc j) s) (sym h.are) (record { place = p.place; end = p.end; value = p.value; begins = p.begins; node = p.node; within = p.within; json = p.json })
 
--- As many values as shapes, with as many beginnings.
+-- There is one value for each shape, and one start for each value.
 pub count_json : (k : Classes) (refer : ℕ × ℕ → Data) (vs : Values) → length (json_of_all k refer vs) ≡ length (shapes_of vs)
 count_json k refer Nil = refl
 count_json k refer (Cons v vs) = ap suc (count_json k refer vs)
@@ -72,7 +72,7 @@ pub count_starts : (at : ℕ) (vs : Values) → length (starts at vs) ≡ length
 count_starts at Nil = refl
 count_starts at (Cons v vs) = ap suc (count_starts (at + length (bytes_of v)) vs)
 
--- The member of a number.
+-- The member with an index.
 pub all_at : {A : Type 0} (P : A → Type 0) (xs : List A) (i : ℕ) (x : A) → AllByRecursion P xs → slice_get xs i ≡ Some x → P x
 all_at P [] i x a e = cc
 all_at P (y ∷ xs) zero x a e = let h : y ≡ x = cc in subst P h a.0
@@ -112,7 +112,7 @@ found_in (z ∷ xs) x y (suc i) e = elim (found_in xs x y i e) [
   | inr h ↦ inr (ap suc h.0, h.1)
 ]
 
--- What stands at a number of a list.
+-- The member with an index, from a default that isn't used.
 pub got : {A : Type 0} (xs : List A) (i : ℕ) (x d : A) → i < length xs → x ≡ get_or xs i d → slice_get xs i ≡ Some x
 got [] i x d l e = absurd (omega arith)
 got (y ∷ xs) zero x d l e = ap Some (sym e)

@@ -69,7 +69,7 @@ none_counted k leaders n e = record {
 }
 
 -- The tallies of few records are small.
-pub counted_small : (k : Classes) (leaders : List ℕ) (rs : List Framed) (n i : ℕ) (ts : List Tally) → AreWithin rs n → n < 2 ^ 28 → AreTallies k leaders (take i rs) ts → AreSmall ts
+pub counted_small : (k : Classes) (leaders : List ℕ) (rs : List Framed) (n i : ℕ) (ts : List Tally) → AreWithin rs n → n < 2 ^ 30 → AreTallies k leaders (take i rs) ts → AreSmall ts
 counted_small k leaders rs n i ts w small a = record {
   each = λ index t g. (let within : index < length k = let l = slice_get_within ts index t g in let c = a.count in omega arith in
       let same : class_tally k leaders (take i rs) index ≡ t = (let q : Some (class_tally k leaders (take i rs) index) ≡ Some t = sym (a.each index within) ∙ g in cc) in
@@ -79,7 +79,7 @@ counted_small k leaders rs n i ts w small a = record {
       (omega arith, omega arith));
 }
 
--- One record more is counted; the tallies stand at the front of their vector.
+-- One record more is counted; the tallies are at the front of their vector.
 pub next_counted : (k : Classes) (leaders : List ℕ) (rs : List Framed) (i n : ℕ) (r : Framed) (old new rest : List Tally) → slice_get rs i ≡ Some r → length new ≡ n → AreTallies k leaders (take i rs) old → ((xs : List Framed) → AreTallies k leaders xs old → AreTallies k leaders (xs ++ r ∷ []) new) → AreTallies k leaders (take (i + 1) rs) (take n (new ++ rest))
 next_counted k leaders rs i n r old new rest there l a step =
     let front : take n (new ++ rest) ≡ new = ap (λ m. take m (new ++ rest)) (sym l) ∙ take-append_seam new rest in

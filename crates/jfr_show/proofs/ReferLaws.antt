@@ -18,7 +18,7 @@ pub by_answer : {A : Type 0} (r : Result A NoMemory) {P Q : A → Type 0} → If
 by_answer (Ok a) h f = f a h
 by_answer (Err a) h f = h
 
--- The entry behind a node that was found.
+-- The entry of a node that was found.
 pub no_entry : (o : Option EntryAt) → None ≡ option_map entry_node o → o ≡ None
 no_entry None e = refl
 no_entry (Some x) e = cc

@@ -8,10 +8,15 @@ use Rattle.jfr_value.specs.declared.leaf.LeafKind.TheVariants as leaf_kinds
 use Rattle.jfr_value.specs.Values.{Value, Single, Group, Nil, Cons}
 use Rattle.serde_json.specs.Written.{compact_text}
 use Rattle.serde_json.proofs.OnLiterals.{serde_json_on_literals}
+use Rattle.jfr_meta.specs.Trees as trees
+use Rattle.jfr_chunk.specs.Parts.{Parts}
 use Rattle.jfr_show.specs.Json.{base_json, json_of, missing_json, reference_json}
 use Rattle.jfr_show.specs.Leaves.{base_shown}
+use Rattle.jfr_show.specs.Metadata.{metadata_shown}
 use Rattle.jfr_show.specs.Shown.{shown, missing_shown, reference_shown}
 use Rattle.jfr_show.specs.Texts.{quoted}
+use Rattle.jfr_show.specs.declared.beginning.Beginning.{Beginning}
+use Rattle.jfr_show.specs.Totals.{Totals, number_lines, summary_shown, tallies_of}
 
 abbrev plain : ℕ → Shape
 plain id = record { class = id; constant = false; array = false }
@@ -28,7 +33,7 @@ classes = record { id = 5; name = codes "long"; super_name = None; fields = []; 
     ∷ record { id = 8; name = codes "t.A"; super_name = None; fields = record { name = codes "n"; shape = plain 5 } ∷ record { name = codes "node"; shape = reference 7 } ∷ []; categories = [] }
     ∷ []
 
--- An event of the number 300, whose node has the key 1.
+-- An event with the number 300, whose node has the key 1.
 abbrev event : Value
 event = Group (plain 8) [] (Cons (Single (plain 5) (leaf_kinds.Base kinds.Long) (0xAC ∷ 2 ∷ []) None) (Cons (Single (reference 7) (leaf_kinds.Key 1) (1 ∷ []) (Some 1)) Nil))
 
@@ -41,7 +46,7 @@ deeper_row : shown classes (λ level target. missing_shown classes target) 1 eve
 unfolding digits
 deeper_row = refl
 
--- Its JSON, in which the fields stand in the order of the bytes of their names.
+-- Its JSON, in which the fields are in the order of the bytes of their names.
 json_row : compact_text (json_of classes (λ target. reference_json classes target) event) ≡ codes "{\"n\":300,\"node\":{\"class\":\"t.Node\",\"key\":1}}"
 unfolding serde_json_on_literals digits
 json_row = refl
@@ -57,6 +62,23 @@ numbers_row = refl
 
 no_items_row : shown classes (λ level target. []) 0 (Group (array 5) (0 ∷ []) Nil) ≡ codes "[\n]"
 no_items_row = refl
+
+-- A boolean is false exactly where its byte is 0.
+abbrev flag : ℕ → Value
+flag byte = Group (plain 8) [] (Cons (Single (plain 4) (leaf_kinds.Base kinds.Boolean) (byte ∷ []) None) Nil)
+
+abbrev flagged : Classes
+flagged = record { id = 8; name = codes "t.A"; super_name = None; fields = record { name = codes "last"; shape = plain 4 } ∷ []; categories = [] } ∷ []
+
+false_row : shown flagged (λ level target. []) 0 (flag 0) ≡ codes "t.A {\n  last = false\n}"
+false_row = refl
+
+true_row : shown flagged (λ level target. []) 0 (flag 2) ≡ codes "t.A {\n  last = true\n}"
+true_row = refl
+
+false_json_row : compact_text (json_of flagged (λ target. reference_json flagged target) (flag 0)) ≡ codes "{\"last\":false}"
+unfolding serde_json_on_literals
+false_json_row = refl
 
 -- Values of base names.
 byte_row : base_shown kinds.Byte (0xFF ∷ []) ≡ codes "-1"
@@ -85,3 +107,68 @@ byte_json_row = refl
 -- A quote, a backslash, the end of a line, U+007F, and a character beyond ASCII.
 quoted_row : quoted (34 ∷ 92 ∷ 10 ∷ 127 ∷ 228 ∷ []) ≡ codes "\"\\\"\\\\\\u000a\\u007f" ++ 228 ∷ 34 ∷ []
 quoted_row = refl
+
+-- The classes of a chunk: with two categories, with one, with a super type, and with marks of both kinds.
+abbrev described : Parts
+described = record {
+  bytes = [];
+  records = [];
+  chain = [];
+  body = record { start = 0; duration = 0; id = 0; strings = []; root = trees.Node 0 0 [] trees.Nil };
+  classes =
+      record { id = 4; name = codes "boolean"; super_name = None; fields = []; categories = [] }
+      ∷ record { id = 5; name = codes "long"; super_name = None; fields = []; categories = [] }
+      ∷ record { id = 30; name = codes "jdk.types.StackFrame"; super_name = None; fields = record { name = codes "method"; shape = reference 31 } ∷ []; categories = [] }
+      ∷ record { id = 31; name = codes "jdk.types.Method"; super_name = None; fields = []; categories = [] }
+      ∷ record { id = 35; name = codes "jdk.types.StackTrace"; super_name = None; fields = record { name = codes "truncated"; shape = plain 4 } ∷ record { name = codes "frames"; shape = array 30 } ∷ record { name = codes "methods"; shape = record { class = 31; constant = true; array = true } } ∷ []; categories = [] }
+      ∷ record { id = 103; name = codes "jdk.CPULoad"; super_name = Some (codes "jdk.jfr.Event"); fields = record { name = codes "startTime"; shape = plain 5 } ∷ []; categories = codes "Operating System" ∷ codes "Processor" ∷ [] }
+      ∷ record { id = 104; name = codes "t.A"; super_name = Some (codes "jdk.jfr.Event"); fields = []; categories = codes "the \"A\"" ∷ [] }
+      ∷ [];
+  entries = [];
+}
+
+metadata_row : metadata_shown described 3
+    ≡ codes "chunk 3\n"
+    ++ codes "boolean id 4\n"
+    ++ codes "long id 5\n"
+    ++ codes "jdk.types.StackFrame id 30\n" ++ codes "  method: jdk.types.Method constant\n"
+    ++ codes "jdk.types.Method id 31\n"
+    ++ codes "jdk.types.StackTrace id 35\n" ++ codes "  truncated: boolean\n" ++ codes "  frames: jdk.types.StackFrame[]\n" ++ codes "  methods: jdk.types.Method[] constant\n"
+    ++ codes "jdk.CPULoad id 103 super jdk.jfr.Event\n" ++ codes "  category \"Operating System\", \"Processor\"\n" ++ codes "  startTime: long\n"
+    ++ codes "t.A id 104 super jdk.jfr.Event\n" ++ codes "  category \"the \\\"A\\\"\"\n"
+unfolding metadata_shown digits
+metadata_row = refl
+
+-- The totals of two chunks with four events.
+abbrev beginning : Beginning
+beginning = record { major = 2; minor = 1; start_nanos = 1000 }
+
+abbrev totals : Totals
+totals = record {
+  first = Some beginning;
+  chunks = 2;
+  bytes = 640;
+  duration = 18446744073709551620;
+  events = 4;
+  checkpoints = 3;
+  constants = 8;
+  inert = 1;
+  tallies = tallies_of [];
+}
+
+totals_row : number_lines totals beginning
+    ≡ codes "version 2.1\n"
+    ++ codes "chunks 2\n"
+    ++ codes "bytes 640\n"
+    ++ codes "start 1000\n"
+    ++ codes "duration 18446744073709551620\n"
+    ++ codes "events 4\n"
+    ++ codes "checkpoints 3\n"
+    ++ codes "constants 8\n"
+    ++ codes "inert 1\n"
+unfolding digits
+totals_row = refl
+
+no_chunks_row : summary_shown (record totals { first = None }) ≡ []
+unfolding summary_shown
+no_chunks_row = refl

@@ -1,4 +1,4 @@
--- How a value is shown that stands somewhere, by what was read there.
+-- The text of the value at an offset, by what was read there.
 use Rattle.std.specs.Prelude.{◌≡◌, ◌≢◌, ℕ, ◌+◌, ◌≤◌, true, false, List, [], ◌++◌, length, codes, Some, None, Ok, slice_range, if◌then◌else◌}
 use Rattle.std.specs.Option.{option_map_or}
 use Rattle.std.proofs.Common.{ap, refl, sym, ◌∙◌}
@@ -25,7 +25,7 @@ use Rattle.jfr_show.specs.Shown.{shown, shown_all, fields_shown, items_shown}
 use Rattle.jfr_show.specs.Texts.{quoted}
 use Rattle.jfr_show.proofs.LayoutForms.{is_integer, is_raw, is_reference, is_text}
 
--- A string is a key exactly where its span is of that kind.
+-- A string is a key exactly if its span is of that kind.
 pub key_in : (s : StringSpan) → s.kind ≡ span_kinds.Key → key_of (content_of s) ≡ Some s.key
 key_in s e = ap (λ z. key_of (content_by z s)) e
 

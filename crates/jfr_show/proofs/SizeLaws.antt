@@ -22,12 +22,12 @@ use Rattle.jfr_show.specs.declared.tally.Tally.{Tally}
 use Rattle.jfr_show.specs.Counting.{AddsEvents, AreBelow, FitsUnder, added, both, no_tally}
 use Rattle.jfr_show.specs.Totals.{Occurrence, Tallies, occurrence, occurrences, of_name, tally_of}
 
--- No more than so many records, of no more than so many bytes.
+-- At most n records, of at most n bytes together.
 pub record AreWithin (rs : List Framed) (n : ℕ) : Type 0 where
   pub count : length rs ≤ n
   pub bytes : sum_by (λ r. r.size) rs ≤ n
 
--- No more than so many events, of no more than so many bytes.
+-- At most n events, of at most n bytes together.
 pub record IsWithin (t : Tally) (n : ℕ) : Type 0 where
   pub events : t.events ≤ n
   pub bytes : t.bytes ≤ n

@@ -22,7 +22,7 @@ use Rattle.jfr_show.specs.Totals.{Occurrence, Tallies, Totals, beginning_of, cou
 use Rattle.jfr_show.proofs.ClassTallies.{added_some, added_twice}
 use Rattle.jfr_show.proofs.TallyLaws.{tally_path}
 
--- Names tie where they have the same bytes.
+-- Names compare as equal if they have the same bytes.
 tied : (a b : List ℕ) → eq_by_cmp (slice_cmp nat_cmp) a b ≡ bytes_eq b a
 tied a b = (eq_by_cmp_equiv nat_list_cmp_total).symm a b ∙ is_eq-slice_cmp b a
 
@@ -30,7 +30,7 @@ tied a b = (eq_by_cmp_equiv nat_list_cmp_total).symm a b ∙ is_eq-slice_cmp b a
 abbrev entry : List Occurrence → Occurrence → List ℕ × Tally
 entry all e = (e.name, tally_of (of_name e.name all))
 
--- The tally of all, where there are some.
+-- The tally of all events, if there are any.
 some_of : List Occurrence → Tally → Option Tally
 some_of [] t = None
 some_of (e ∷ es) t = Some t

@@ -1,4 +1,4 @@
--- The texts that the cache has of a chunk.
+-- The texts in the cache of a chunk.
 use Rattle.std.specs.Prelude.{◌≡◌, IfSome}
 use Rattle.std.specs.List.{AllByRecursion}
 use Rattle.jfr_chunk.specs.Parts.{Parts}
@@ -6,10 +6,10 @@ use Rattle.jfr_show.specs.declared.cache.CachedText.{CachedText}
 use Rattle.jfr_show.specs.declared.cache.TextCache.{TextCache}
 use Rattle.jfr_show.specs.Shown.{referred}
 
--- A text is what its class and key show in the chunk, so many references deep, at its level.
+-- The cached text is that of the reference to its class and key in this chunk, for its depth and level.
 abbrev pub IsCached : Parts → CachedText → Type 0
 IsCached p t = t.text ≡ referred p t.references t.level (t.class, t.key)
 
--- Each text is.
+-- All texts in the cache are texts of this chunk.
 abbrev pub AreCached : Parts → TextCache → Type 0
 AreCached p ts = AllByRecursion (λ o. IfSome o (IsCached p)) ts.places.items

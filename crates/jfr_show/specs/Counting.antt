@@ -1,5 +1,5 @@
--- How the events of a chunk are counted: first at a leader of their class, which is a class of the same name,
--- and then under the names of the classes.
+-- How the events of a chunk are counted: first by the leader of their class, which is a class with the same
+-- name, then by the names of the classes.
 use Rattle.std.specs.Prelude.{◌≡◌, ℕ, ◌+◌, ◌^◌, ◌<◌, ◌≤◌, ◌==◌, Bool, false, List, filter, length, map, Option, Some, IfSome, option_and_then, option_map, slice_get, unwrap_or, if◌then◌else◌}
 use Rattle.std.specs.List.{AllZip}
 use Rattle.std.specs.Option.{option_map_or}
@@ -19,42 +19,42 @@ use Rattle.jfr_show.specs.Totals.{Occurrence, Tallies, occurrence, of_name, tall
 abbrev pub HasName : Classes → List ℕ → ℕ → Type 0
 HasName k name index = option_map (λ c. c.name) (slice_get k index) ≡ Some name
 
--- The class is led by the one at this index.
+-- The class with this index may be the leader of the class: it has the same name.
 abbrev pub IsLed : Classes → Class → ℕ → Type 0
 IsLed k class leader = HasName k class.name leader
 
--- The index of a leader for each class, in order.
+-- The indices of the leaders of all classes, in order.
 abbrev pub AreLeaders : Classes → List ℕ → Type 0
 AreLeaders k leaders = AllZip (IsLed k) k leaders
 
--- Strings of a table by their indices, each with the index of a class that it names.
+-- A map from the indices of strings in a table to the index of a class that the string names.
 abbrev pub AreNamed : Classes → List (List ℕ) → BTreeMap ℕ ℕ → Type 0
 AreNamed k texts named = (string : ℕ) → IfSome (tree.get nat_cmp named string) (HasName k (text_at texts string))
 
--- The index of the leader of the class of an id, where records of this type are events.
+-- The index of the leader of the class with this id, if records of this type are events.
 abbrev pub leader_of : Classes → List ℕ → ℕ → Option ℕ
 leader_of k leaders id = option_and_then (slice_get leaders) (event_index k id)
 
--- The record is an event of a class that is led by the one at this index.
+-- The record is an event, and the class with this index is the leader of its class.
 abbrev pub is_at : Classes → List ℕ → ℕ → Framed → Bool
 is_at k leaders index r = option_map_or (λ n. n == index) (leader_of k leaders r.type_id) false
 
--- The tally of the events of the classes that are led by the one at an index.
+-- The tally of the events of all classes whose leader has this index.
 abbrev pub class_tally : Classes → List ℕ → List Framed → ℕ → Tally
 class_tally k leaders rs index = tally_of (map (occurrence k) (filter (is_at k leaders index) rs))
 
--- A tally for each class, in order, of the events of the classes that it leads.
+-- A tally for each class, in order, of the events of all classes whose leader it is.
 pub record AreTallies (k : Classes) (leaders : List ℕ) (rs : List Framed) (ts : List Tally) : Type 0 where
   pub count : length ts ≡ length k
   pub each : (index : ℕ) → index < length k → slice_get ts index ≡ Some (class_tally k leaders rs index)
 
--- The tallies are those of some leaders.
+-- The tallies are those for some choice of leaders.
 pub record AreClassTallies (k : Classes) (rs : List Framed) (ts : List Tally) : Type 0 where
   pub leaders : List ℕ
   pub led : AreLeaders k leaders
   pub tallies : AreTallies k leaders rs ts
 
--- One event more fits in each.
+-- Each tally has room for one more event.
 pub record AreSmall (ts : List Tally) : Type 0 where
   pub each : (index : ℕ) (t : Tally) → slice_get ts index ≡ Some t → (t.events < 2 ^ 32) × (t.bytes < 2 ^ 32)
 
@@ -66,22 +66,22 @@ no_tally = record { events = 0; bytes = 0 }
 abbrev pub both : Tally → Tally → Tally
 both s t = record { events = s.events + t.events; bytes = s.bytes + t.bytes }
 
--- What stands under a name with a tally more: one of no events adds nothing.
+-- The tally of a name after another is added. An empty tally adds nothing.
 abbrev pub added : Option Tally → Tally → Option Tally
 added kept t = if t.events == 0 then kept else Some (both (unwrap_or kept no_tally) t)
 
--- A tally is added to the one under a name.
+-- The tally is added to that of this name; all others are unchanged.
 pub record AddsTally (old : Tallies) (name : List ℕ) (t : Tally) (new : Tallies) : Type 0 where
   pub each : (other : List ℕ) → fin.get new other ≡ (if bytes_eq name other then added (fin.get old other) t else fin.get old other)
 
--- Under each name the events of that name are added.
+-- For each name the events of that name are added.
 pub record AddsEvents (old : Tallies) (es : List Occurrence) (new : Tallies) : Type 0 where
   pub each : (name : List ℕ) → fin.get new name ≡ added (fin.get old name) (tally_of (of_name name es))
 
--- A tally may be added to the one under a name.
+-- The tally can be added to that of this name without an overflow.
 pub record FitsUnder (m : Tallies) (name : List ℕ) (t : Tally) : Type 0 where
   pub each : (kept : Tally) → fin.get m name ≡ Some kept → (kept.events + t.events < 2 ^ 64) × (kept.bytes + t.bytes < 2 ^ 64)
 
--- No number of the tallies is larger than this.
+-- No number in the tallies is above `most`.
 pub record AreBelow (most : ℕ) (m : Tallies) : Type 0 where
   pub each : (name : List ℕ) (t : Tally) → fin.get m name ≡ Some t → (t.events ≤ most) × (t.bytes ≤ most)

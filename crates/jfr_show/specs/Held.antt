@@ -6,7 +6,7 @@ use Rattle.std.specs.declared.alloc.Global.{Global}
 use Rattle.jfr_show.specs.declared.tally.Tally.{Tally}
 use Rattle.jfr_show.specs.Totals.{Tallies}
 
--- The bytes of a name, and the tally under it.
+-- The bytes of a name, and its tally.
 abbrev pub entry_of : String Global × Tally → List ℕ × Tally
 entry_of e = (string_bytes e.0, e.1)
 

@@ -6,30 +6,30 @@ use Rattle.jfr_chunk.specs.Parts.{Parts}
 use Rattle.jfr_show.specs.Names.{class_name}
 use Rattle.jfr_show.specs.Texts.{newline, quoted}
 
--- A field's line: two spaces, its name, the name of its class, and a mark where it is an array or a constant.
+-- A field's line: two spaces, its name, the name of its class, and marks if it is an array or a constant.
 abbrev pub field_line : Classes → Field → List ℕ
 field_line k f =
     codes "  " ++ f.name ++ codes ": " ++ class_name k f.shape.class
     ++ (if f.shape.array then codes "[]" else []) ++ (if f.shape.constant then codes " constant" else []) ++ newline
 
--- The line of a class's categories, each between quotes; none where there are no categories.
+-- The line of a class's categories, each between quotes; no line if it has none.
 abbrev pub categories_line : List (List ℕ) → List ℕ
 categories_line [] = []
 categories_line (c ∷ cs) = codes "  category " ++ join_by quoted (codes ", ") (c ∷ cs) ++ newline
 
--- The name of a super type, where one is given.
+-- The name of the super type, if there is one.
 abbrev pub super_part : Option (List ℕ) → List ℕ
 super_part None = []
 super_part (Some name) = codes " super " ++ name
 
--- The line of a class: its name, its id, and its super type.
+-- The first line of a class: its name, its id, and its super type.
 abbrev pub class_line : Class → List ℕ
 class_line c = c.name ++ codes " id " ++ decimal c.id ++ super_part c.super_name ++ newline
 
--- A class: its line, that of its categories, and one for each field.
+-- The lines of a class: its first line, that of its categories, and one for each field.
 abbrev pub class_lines : Classes → Class → List ℕ
 class_lines k c = class_line c ++ categories_line c.categories ++ flat_map (field_line k) c.fields
 
--- A line with the chunk's number, and the lines of each class.
+-- The text of a chunk's classes: a line with the chunk's number, then the lines of each class.
 unfoldable pub metadata_shown : Parts → ℕ → List ℕ
 metadata_shown p number = codes "chunk " ++ decimal number ++ newline ++ flat_map (class_lines p.classes) p.classes

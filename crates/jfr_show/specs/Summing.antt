@@ -1,11 +1,11 @@
--- The totals that a summary keeps, and how large they can be.
+-- The totals in a summary, and how large they can be.
 use Rattle.std.specs.Prelude.{◌*◌, ◌^◌, ◌≤◌}
 use Rattle.jfr_show.specs.declared.summary.Summary.TheInside.{Inside}
 use Rattle.jfr_show.specs.Counting.{AreBelow}
 use Rattle.jfr_show.specs.Held.{tallies_in}
 use Rattle.jfr_show.specs.Totals.{Totals}
 
--- The totals that are kept.
+-- The totals in a summary's fields.
 abbrev pub totals_in : Inside → Totals
 totals_in s = record {
   first = s.first;
@@ -19,11 +19,12 @@ totals_in s = record {
   tallies = tallies_in s.tallies;
 }
 
--- A chunk has less than 2^28 bytes, and no more events, checkpoints, entries or other records than bytes.
--- So no sum over fewer than 2^35 chunks wraps in 64 bits, nor one of durations in 128.
+-- The totals are so small that no sum wraps. A chunk has less than 2^30 bytes, and no more events,
+-- checkpoints, entries or other records than bytes. So no sum over fewer than 17000000000 chunks wraps in 64
+-- bits, and no sum of durations in 128.
 pub record IsBounded (t : Totals) : Type 0 where
-  pub chunks : t.chunks ≤ 2 ^ 35
-  pub bytes : t.bytes ≤ 2 ^ 28 * t.chunks
+  pub chunks : t.chunks ≤ 17000000000
+  pub bytes : t.bytes ≤ 2 ^ 30 * t.chunks
   pub duration : t.duration ≤ 2 ^ 64 * t.chunks
   pub events : t.events ≤ t.bytes
   pub checkpoints : t.checkpoints ≤ t.bytes

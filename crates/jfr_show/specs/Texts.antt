@@ -3,7 +3,7 @@ use Rattle.std.specs.Prelude.{ℕ, ◌*◌, ◌/◌, ◌%◌, ◌||◌, ◌==◌
 use Rattle.std.specs.Char.{digit_char}
 use Rattle.std.specs.List.{flat_map, list_all}
 
--- Each character is a byte of its own.
+-- Whether all characters are ASCII.
 abbrev pub is_ascii : List ℕ → Bool
 is_ascii text = list_all (λ b. nat_lt b 128) text
 
@@ -19,8 +19,8 @@ indent level = replicate (2 * level) 32
 abbrev pub hex_byte : ℕ → List ℕ
 hex_byte b = digit_char (b / 16) ∷ digit_char (b % 16) ∷ []
 
--- A quote and a backslash stand behind a backslash; a character below U+0020, and U+007F, is \u and its
--- number in four hexadecimal digits; every other character is itself.
+-- A quote and a backslash get a backslash before them; a character below U+0020, and U+007F, is \u and its
+-- number in four hexadecimal digits; every other character is unchanged.
 abbrev pub escaped : ℕ → List ℕ
 escaped c =
     if c == 34 then 92 ∷ 34 ∷ []

@@ -1,4 +1,4 @@
--- The totals of chunks, and how they are shown.
+-- The totals of chunks, and their text.
 use Rattle.std.specs.Prelude.{ℕ, ◌==◌, Bool, false, List, [], ◌++◌, length, map, filter, count_by, sum_by, take, slice_get, codes, decimal, Option, option_map}
 use Rattle.std.specs.List.{enumerate_from, flat_map}
 use Rattle.std.specs.Option.{option_map_or}
@@ -23,35 +23,35 @@ pub record Occurrence : Type 0 where
   pub name : List ℕ
   pub size : ℕ
 
--- The record of an event as it is counted.
+-- The event of this record, as it is counted.
 abbrev pub occurrence : Classes → Framed → Occurrence
 occurrence k r = record { name = encode_utf8_all (class_name k r.type_id); size = r.size }
 
--- The events of a chunk.
+-- The events of a chunk, as they are counted.
 abbrev pub occurrences : Parts → List Occurrence
 occurrences p = map (λ e. occurrence p.classes e.record_of) (events_of p)
 
--- How many events these are, and how many bytes their records have.
+-- The number of these events, and the bytes of their records together.
 abbrev pub tally_of : List Occurrence → Tally
 tally_of es = record { events = length es; bytes = sum_by (λ e. e.size) es }
 
--- Those of the classes of a name.
+-- The events whose class has this name.
 abbrev pub of_name : List ℕ → List Occurrence → List Occurrence
 of_name name es = filter (λ e. bytes_eq e.name name) es
 
--- Tallies by the bytes of names, in the order of these.
+-- Tallies by name, in the order of the names' bytes.
 abbrev pub Tallies : Type 0
 Tallies = fin.FinMap (slice_cmp nat_cmp) Tally
 
--- The tallies of events: under the name of each, that of all events of this name.
+-- The tallies of events: for each name that occurs, that of all events with this name.
 abbrev pub tallies_of : List Occurrence → Tallies
 tallies_of es = fin.from_entries (map (λ e. (e.name, tally_of (of_name e.name es))) es)
 
--- The entry of this number is the one in force for its class and key.
+-- The entry with this number is the one in force for its class and key.
 abbrev pub is_in_force : List EntryAt → ℕ × EntryAt → Bool
 is_in_force es (number, e) = option_map_or (λ n. n == number) (number_in_force es (e.class, e.key)) false
 
--- How many entries are in force.
+-- The number of entries in force.
 abbrev pub count_in_force : List EntryAt → ℕ
 count_in_force es = count_by (is_in_force es) (enumerate_from 0 es)
 
@@ -59,7 +59,7 @@ count_in_force es = count_by (is_in_force es) (enumerate_from 0 es)
 abbrev pub header_in : Parts → Header
 header_in p = header_of (take 68 p.bytes)
 
--- What a recording says of its beginning: the version of the first chunk, and when that starts.
+-- The beginning of a recording whose first chunk has this header: its version, and when it starts.
 abbrev pub beginning_of : Header → Beginning
 beginning_of h = record { major = h.major; minor = h.minor; start_nanos = h.start_nanos }
 
@@ -89,19 +89,19 @@ totals_of ps = record {
   tallies = tallies_of (flat_map occurrences ps);
 }
 
--- A line of a word and a number.
+-- A line with a word and a number.
 abbrev pub number_line : List ℕ → ℕ → List ℕ
 number_line word n = word ++ codes " " ++ decimal n ++ newline
 
--- The line of the version.
+-- The line with the version.
 abbrev pub version_line : Beginning → List ℕ
 version_line b = codes "version " ++ decimal b.major ++ codes "." ++ decimal b.minor ++ newline
 
--- The line of a name: how many events, and how many bytes.
+-- The line of a name: the number of its events, and their bytes.
 abbrev pub tally_line : List ℕ × Tally → List ℕ
 tally_line (name, t) = chars name ++ codes " " ++ decimal t.events ++ codes " " ++ decimal t.bytes ++ newline
 
--- The nine lines of the numbers, where the recording begins so.
+-- The first nine lines of the totals, for a recording with this beginning.
 abbrev pub number_lines : Totals → Beginning → List ℕ
 number_lines t b =
     version_line b
@@ -118,6 +118,6 @@ number_lines t b =
 abbrev pub tally_lines : Tallies → List ℕ
 tally_lines m = flat_map tally_line (fin.entries m)
 
--- The totals as they are shown: the numbers, and the names. Nothing is shown without a chunk.
+-- The text of the totals: the numbers, then the names. Without a chunk it is empty.
 unfoldable pub summary_shown : Totals → List ℕ
 summary_shown t = option_map_or (λ b. number_lines t b ++ tally_lines t.tallies) t.first []

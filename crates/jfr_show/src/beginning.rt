@@ -1,9 +1,9 @@
-// What a recording says of its beginning.
+//! The version and the start of a recording.
 ghost use Rattle.std.specs.Prelude.{◌≡◌};
 
 use jfr_header::Header;
 
-/// The version of a recording's first chunk, and when that starts.
+/// The version of a recording's first chunk, and when it starts.
 #[derive(Clone, Copy, Debug)]
 pub(crate) struct Beginning {
     pub major: u16,
@@ -15,7 +15,7 @@ pub(crate) struct Beginning {
 impl Beginning {
     ghost use Rattle.jfr_show.specs.Totals.{beginning_of};
 
-    /// What a header says of it.
+    /// The beginning of a recording whose first chunk has this header.
     pub fn of(header: &Header) -> Beginning
         ensures { result ≡ beginning_of header.now }
     {

@@ -1,4 +1,4 @@
-// A text that grows at its end.
+//! A text that grows at its end.
 ghost use Rattle.std.specs.Prelude.{◌≡◌, ◌<◌, [], ◌∷◌, ◌++◌, IsTrue, IfOk, OnOk, decimal, string_bytes};
 ghost use Rattle.std.specs.Char.{digit_char};
 ghost use Rattle.std.specs.Fmt.{signed_decimal};
@@ -11,8 +11,8 @@ use jfr_text::Characters;
 use std::alloc::Global;
 use std::marker::Model;
 
-/// A text that grows at its end. Contracts see it as the list of its characters. After want of memory
-/// nothing is promised of what it holds.
+/// A text that grows at its end. Contracts see it as the list of its characters. After memory runs out nothing
+/// is promised about its contents.
 #[derive(Drop)]
 pub struct TextBuilder {
     text: String,
@@ -28,7 +28,7 @@ impl Model for TextBuilder {
 }
 
 impl TextBuilder {
-    /// The text without characters. It takes no memory.
+    /// An empty text. It allocates nothing.
     pub fn new(alloc: Global) -> TextBuilder
         ensures { result ≡ [] }
     {
@@ -37,7 +37,7 @@ impl TextBuilder {
         }
     }
 
-    /// Takes all characters out, and keeps the memory for the next text.
+    /// Removes all characters, and keeps the memory for the next text.
     pub fn clear(&mut self)
         ensures { self.new ≡ [] }
     {
@@ -51,14 +51,14 @@ impl TextBuilder {
         self.text.as_bytes()
     }
 
-    /// The text as it stands.
+    /// The text so far.
     pub(crate) fn as_str(&self) -> &str
         ensures { chars result.now ≡ self.now }
     {
         self.text.as_str()
     }
 
-    /// The text, which is copied only where it has at most 14 bytes.
+    /// The text, which is copied only if it has at most 14 bytes.
     pub fn into_text(self) -> Result<Text, NoMemory>
         ensures ok { IfOk result (λ text. text ≡ self) }
     {
@@ -80,7 +80,7 @@ impl TextBuilder {
         Ok(())
     }
 
-    /// Adds a text whose characters are a byte each, so that the contract names them as they stand.
+    /// Adds a text of ASCII characters. So the contract needs no decoding of UTF-8.
     pub fn push_ascii(&mut self, text: &str) -> Result<(), NoMemory>
         requires ascii { IsTrue (is_ascii text.now) }
         ensures ok { OnOk result (self.new ≡ self.old ++ text.now) }

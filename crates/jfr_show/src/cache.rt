@@ -1,8 +1,9 @@
-// A cache of the texts of what references show, for the events of one chunk.
-//
-// Many events refer to few constants, as their threads. What a reference shows depends on the chunk, the
-// class and the key, the references that are left to follow, and the level alone, so its text may stand
-// again wherever all these are as before. A text has one place, and the last one there stays.
+//! A cache of the texts that references are shown as, for the events of one chunk.
+//!
+//! Many events refer to the same few constants, such as their threads. The text of a reference depends only
+//! on the chunk, the class and the key, the number of references still to be followed, and the level. So it
+//! can be used again if all these are equal. The cache has a fixed number of slots. The class and the key
+//! select the slot, and a newer text replaces an older one.
 ghost use Rattle.std.specs.Prelude.{◌≡◌, ◌+◌, ◌*◌, ◌≤◌, ◌++◌, IfOk, IfSome, OnOk};
 ghost use Rattle.std.specs.Str.{chars};
 ghost use Rattle.jfr_chunk.specs.Parts.{Parts};
@@ -16,13 +17,14 @@ use jfr_base::NoMemory;
 use jfr_chunk::Chunk;
 use std::alloc::Global;
 
-/// How many texts the cache holds at most.
+/// The number of slots.
 const PLACES: usize = 2048;
 
 /// The most bytes that a text in the cache may have.
 const LONGEST: usize = 4096;
 
-/// What a class and a key show, with so many references left, at a level.
+/// The text of the reference to a class and a key, with this number of references still to be followed, at
+/// this level.
 #[derive(Drop)]
 pub(crate) struct CachedText {
     pub(crate) class: u64,
@@ -32,7 +34,7 @@ pub(crate) struct CachedText {
     pub(crate) text: TextBuilder,
 }
 
-/// The texts that the cache has of a chunk, each at its place.
+/// The texts of one chunk's references, each in its slot.
 #[derive(Drop)]
 pub(crate) struct TextCache {
     pub(crate) alloc: Global,
@@ -40,7 +42,7 @@ pub(crate) struct TextCache {
 }
 
 impl TextCache {
-    /// No text yet, of whichever chunk.
+    /// An empty cache, for any chunk.
     pub(crate) fn new(alloc: Global) -> Result<TextCache, NoMemory>
         ensures none { IfOk result (λ cache. (p : Parts) → AreCached p cache) }
     {
@@ -51,7 +53,7 @@ impl TextCache {
         Ok(TextCache { alloc, places })
     }
 
-    /// Adds what a class and a key refer to, and may keep the text in the cache.
+    /// Adds the text of the reference to a class and a key, and may keep it in the cache.
     pub(crate) fn show(
         &mut self,
         chunk: &Chunk<'_>,
@@ -81,7 +83,7 @@ impl TextCache {
         Ok(())
     }
 
-    /// The text of a class and a key, if the cache has it.
+    /// The text of the reference to a class and a key, if the cache has it.
     fn get(&self, class: u64, key: u64, depth: Depth) -> Option<&str>
         ensures shown { (p : Parts) → AreCached p self.now → IfSome result (λ text. chars text.now ≡ referred p depth.reach.references depth.level (class, key)) }
     {
@@ -98,7 +100,7 @@ impl TextCache {
         Some(cached.text.as_str())
     }
 
-    /// Keeps a text at its place, unless it is too long.
+    /// Keeps a text in its slot, unless it is too long.
     fn keep(&mut self, cached: CachedText)
         ensures cached { (p : Parts) → AreCached p self.old → IsCached p cached → AreCached p self.new }
     {
@@ -109,7 +111,8 @@ impl TextCache {
     }
 }
 
-/// The place of the text of a class and a key. The keys of a class are often numbered one by one.
+/// The slot for a class and a key. The keys of a class are often consecutive numbers, which get different
+/// slots.
 fn place_of(class: u64, key: u64) -> usize {
     (key.wrapping_add(class.wrapping_mul(389)) % PLACES as u64) as usize
 }

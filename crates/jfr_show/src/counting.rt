@@ -1,5 +1,5 @@
-// The events of a chunk, counted under the names of their classes.
-ghost use Rattle.std.specs.Prelude.{◌≡◌, ℕ, ◌+◌, ◌^◌, ◌<◌, ◌≤◌, List, ◌∷◌, [], ◌++◌, length, IfOk, OnOk};
+//! Counting the events of a chunk by the names of their classes.
+ghost use Rattle.std.specs.Prelude.{◌*◌, ◌≡◌, ℕ, ◌+◌, ◌^◌, ◌<◌, ◌≤◌, List, ◌∷◌, [], ◌++◌, length, IfOk, OnOk};
 ghost use Rattle.jfr_frame.specs.declared.framed.Framed.{Framed as Record};
 ghost use Rattle.jfr_chunk.specs.Parts.{AreParts};
 ghost use Rattle.jfr_show.specs.Counting.{AddsEvents, AreBelow, AreClassTallies, AreLeaders, AreSmall, AreTallies};
@@ -20,17 +20,17 @@ const NO_EVENTS: Tally = Tally {
     bytes: 0,
 };
 
-/// Adds the events of a chunk to the tallies under the names of their classes. They are counted by class
-/// first, so that a name is looked up once for each string that names classes. Where memory was wanting,
-/// some are added.
+/// Adds the events of a chunk to the tallies of their classes' names. They are first counted by class, so a
+/// name is looked up only once for each string that names classes. If memory runs out, some of the events
+/// have been added.
 pub(crate) fn add_events(
     alloc: Global,
     chunk: &Chunk<'_>,
     tallies: &mut TallyMap,
 ) -> Result<(), NoMemory>
     requires parts { AreParts chunk.now }
-    requires small { length chunk.now.bytes < 2 ^ 28 }
-    requires below { AreBelow (2 ^ 63) (tallies_in tallies.old) }
+    requires small { length chunk.now.bytes < 2 ^ 30 }
+    requires below { AreBelow (2 ^ 30 * 17000000000) (tallies_in tallies.old) }
     ensures ok { OnOk result (AddsEvents (tallies_in tallies.old) (occurrences chunk.now) (tallies_in tallies.new)) }
     ensures below { (most : ℕ) → AreBelow most (tallies_in tallies.old) → AreBelow (most + length chunk.now.bytes) (tallies_in tallies.new) }
 {
@@ -38,10 +38,10 @@ pub(crate) fn add_events(
     add_classes(alloc, chunk, &counted, tallies)
 }
 
-// A tally for each class, in order, of the events of the classes that it leads.
+// A tally for each class, in order, of the events of the classes whose leader it is.
 fn class_tallies(alloc: Global, chunk: &Chunk<'_>) -> Result<Vec<Tally>, NoMemory>
     requires parts { AreParts chunk.now }
-    requires small { length chunk.now.bytes < 2 ^ 28 }
+    requires small { length chunk.now.bytes < 2 ^ 30 }
     ensures { IfOk result (λ counted. AreClassTallies chunk.now.classes chunk.now.records counted.items) }
 {
     let leaders = class_leaders(alloc, chunk)?;
@@ -72,8 +72,8 @@ fn count_record(classes: &Classes, leaders: &[usize], frame: Framed, counted: &m
     }
 }
 
-// Adds the tallies of the classes of a chunk to those under their names. A class that is led by another has
-// no events.
+// Adds the tallies of the classes of a chunk to those of their names. A class that isn't its own leader has
+// an empty tally.
 fn add_classes(
     alloc: Global,
     chunk: &Chunk<'_>,
@@ -81,9 +81,9 @@ fn add_classes(
     tallies: &mut TallyMap,
 ) -> Result<(), NoMemory>
     requires parts { AreParts chunk.now }
-    requires small { length chunk.now.bytes < 2 ^ 28 }
+    requires small { length chunk.now.bytes < 2 ^ 30 }
     requires counted { AreClassTallies chunk.now.classes chunk.now.records counted.now }
-    requires below { AreBelow (2 ^ 63) (tallies_in tallies.old) }
+    requires below { AreBelow (2 ^ 30 * 17000000000) (tallies_in tallies.old) }
     ensures ok { OnOk result (AddsEvents (tallies_in tallies.old) (occurrences chunk.now) (tallies_in tallies.new)) }
     ensures below { (most : ℕ) → AreBelow most (tallies_in tallies.old) → AreBelow (most + length chunk.now.bytes) (tallies_in tallies.new) }
 {
@@ -95,7 +95,7 @@ fn add_classes(
     Ok(())
 }
 
-/// How many entries are in force.
+/// The number of entries in force.
 pub(crate) fn count_in_force(pools: &Pools) -> usize
     ensures exact { result ≡ count_in_force pools.now }
     ensures most { result ≤ length pools.now }

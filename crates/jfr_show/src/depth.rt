@@ -1,22 +1,22 @@
-// How deep a value stands, and how far what is shown goes from it.
+//! The depth of a value in a text, and how deep the parts below it may be.
 ghost use Rattle.std.specs.Prelude.{◌≡◌, ◌+◌, ◌-◌, ◌≤◌, false};
 ghost use Rattle.jfr_show.specs.Depths.{deepest};
 
-/// At most so many composite values stand within one another where no reference is followed: the outermost,
-/// and 32 by inline steps (FORMAT.md, Limits).
+/// The most composite values that can be nested without following a reference: the outermost, and 32 inside
+/// it by inline steps (docs/FORMAT.md, Limits).
 const COMPOSITES: u32 = 33;
 
-/// How far what is shown goes from a value.
+/// How deep the parts below a value may be.
 #[derive(Clone, Copy)]
 pub(crate) struct Reach {
-    /// So many references are followed.
+    /// The number of references that are still followed.
     pub(crate) references: u8,
-    /// At most so many composite values stand within one another from here on.
+    /// The most composite values that can be nested from here on.
     pub(crate) composites: u32,
 }
 
 impl Reach {
-    /// From an event.
+    /// The reach of an event.
     pub(crate) fn of_event(references: u8) -> Reach
         ensures { result ≡ record { references = references; composites = 33 } }
     {
@@ -26,7 +26,7 @@ impl Reach {
         }
     }
 
-    /// From the fields of a composite value.
+    /// The reach of the fields of a composite value.
     pub(crate) fn of_fields(self) -> Reach
         requires { 1 ≤ self.composites }
         ensures { result ≡ record { references = self.references; composites = self.composites - 1 } }
@@ -37,7 +37,7 @@ impl Reach {
         }
     }
 
-    /// From a constant, once its reference is followed.
+    /// The reach of a constant, after its reference is followed.
     pub(crate) fn of_constant(self) -> Reach
         requires { 1 ≤ self.references }
         ensures { result ≡ record { references = self.references - 1; composites = 33 } }
@@ -49,16 +49,16 @@ impl Reach {
     }
 }
 
-/// How deep a value stands in a text, and how far what is shown goes from it.
+/// The level of a value in a text, and how deep the parts below it may be.
 #[derive(Clone, Copy)]
 pub(crate) struct Depth {
     pub(crate) reach: Reach,
-    /// So many levels the value is indented.
+    /// The number of levels by which the value is indented.
     pub(crate) level: usize,
 }
 
 impl Depth {
-    /// That of an event.
+    /// The depth of an event.
     pub(crate) fn of_event(references: u8) -> Depth
         ensures { result ≡ record { reach = record { references = references; composites = 33 }; level = 0 } }
     {
@@ -68,7 +68,7 @@ impl Depth {
         }
     }
 
-    /// That of the fields of a composite value.
+    /// The depth of the fields of a composite value.
     pub(crate) fn of_fields(self) -> Depth
         requires composites { 1 ≤ self.reach.composites }
         requires level { deepest self false ≤ 1000 }
@@ -80,7 +80,7 @@ impl Depth {
         }
     }
 
-    /// That of the items of an array.
+    /// The depth of the items of an array.
     pub(crate) fn of_items(self) -> Depth
         requires level { deepest self false ≤ 1000 }
         ensures { result ≡ record { reach = self.reach; level = self.level + 1 } }
@@ -91,7 +91,7 @@ impl Depth {
         }
     }
 
-    /// That of a constant, which stands where it is referred to.
+    /// The depth of a constant, which is shown in place of the reference to it.
     pub(crate) fn of_constant(self) -> Depth
         requires references { 1 ≤ self.reach.references }
         ensures { result ≡ record { reach = record { references = self.reach.references - 1; composites = 33 }; level = self.level } }

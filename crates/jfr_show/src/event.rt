@@ -1,4 +1,4 @@
-// Events.
+//! The text of an event.
 ghost use Rattle.std.specs.Prelude.{◌≡◌, ◌≤◌, ◌++◌, Some, IfOk, OnOk, slice_get};
 ghost use Rattle.jfr_chunk.specs.Parts.{events_of};
 ghost use Rattle.jfr_chunk.specs.Seen.{event_at};
@@ -13,7 +13,7 @@ use jfr_chunk::{Chunk, Event};
 use jfr_path::fields_of;
 use std::alloc::Global;
 
-/// Adds the text of an event of the chunk, in which references are followed so many deep.
+/// Adds the text of an event of the chunk, in which references are followed to this depth.
 pub fn show_event(
     chunk: &Chunk<'_>,
     event: &Event<'_>,

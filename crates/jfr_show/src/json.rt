@@ -1,14 +1,14 @@
-// The JSON of events, written as it is read.
-//
-// A line is the compact text of a value of `serde_json`, and no such value is made for it: the parts of an
-// event are walked as for its text, and what `serde_json` would write for them is added to a string. An
-// object has its members in the order of their keys, and a class its fields in another, so `MemberOrder` says
-// for each class of the chunk in which order its fields are written and what stands before each value. It is
-// worked out by `serde_json`'s own map: once a chunk for a class of which no field has a long name, and for
-// another each time that one of its values is written. `places.rt` says where the fields of a value stand, so
-// that they can be written in any order. The definition stays that of the library's text.
-//
-// A recording of 34 MB took 8.8 s when a value of `serde_json` was made for each event, and takes 3.5 s.
+//! The JSON of events, written straight from their bytes.
+//!
+//! A line is defined as the compact text of a value of `serde_json`. The writer doesn't build this value,
+//! which would be slow. It walks the parts of the event and adds the text that `serde_json` would write for
+//! each.
+//!
+//! `serde_json` sorts the members of an object by key, while the fields of a class have an order of their own.
+//! So `MemberOrder` holds, for each class, the sorted order of its fields and the text before each value. It
+//! comes from a map of `serde_json`: once a chunk for a class whose fields all have short names, and for any
+//! other class anew for each value. `places.rt` finds where each field of a value starts, so that the fields
+//! can be written in any order.
 ghost use Rattle.std.specs.Prelude.{◌≡◌, ◌≤◌, ◌++◌, Some, IfOk, OnOk, slice_get, string_bytes};
 ghost use Rattle.serde_json.specs.Written.{compact_text};
 ghost use Rattle.jfr_chunk.specs.Parts.{events_of};
@@ -38,7 +38,7 @@ use std::marker::Model;
 use string::push_string;
 use value::push_node;
 
-/// The room for a line, which grows where a line is longer.
+/// The initial capacity for a line.
 const LINE: usize = 1024;
 
 /// Writes events of a chunk as lines of JSON. Contracts see the chunk.
@@ -76,7 +76,7 @@ impl<'c, 'a> JsonWriter<'c, 'a> {
         })
     }
 
-    /// Adds the line with the JSON of an event, in which references are followed so many deep.
+    /// Adds the line with the JSON of an event, in which references are followed to this depth.
     pub fn show(&self, event: &Event<'_>, depth: u8, out: &mut TextBuilder) -> Result<(), NoMemory>
         requires event { slice_get (events_of self.now) event.now.number ≡ Some (event_at event.now) }
         requires depth { depth ≤ 8 }
@@ -94,7 +94,7 @@ impl<'c, 'a> JsonWriter<'c, 'a> {
     }
 }
 
-/// Adds the line with the JSON of an event of the chunk, in which references are followed so many deep.
+/// Adds the line with the JSON of an event of the chunk, in which references are followed to this depth.
 pub fn show_json(
     alloc: Global,
     chunk: &Chunk<'_>,

@@ -1,4 +1,4 @@
-// The classes under which the events of a chunk are counted.
+//! Leaders: of the classes with the same name, the one under which their events are counted.
 ghost use Rattle.std.specs.Prelude.{◌≡◌, ◌<◌, ℕ, List, length, IfOk, IfSome};
 ghost use Rattle.jfr_layout.specs.Classes.{Classes};
 ghost use Rattle.jfr_meta.specs.Attributes.{text_at};
@@ -10,8 +10,8 @@ use jfr_layout::Classes;
 use std::alloc::Global;
 use std::collections::BTreeMap;
 
-/// The leader of each class of a chunk, by its index: the first class that is named by the same string. Many
-/// classes may share one, and even a long one has to be looked up only for their leader.
+/// The index of the leader of each class of a chunk: the first class that is named by the same string. Many
+/// classes may share a long name; then it is looked up only once, for their leader.
 pub(crate) fn class_leaders(alloc: Global, chunk: &Chunk<'_>) -> Result<Vec<usize>, NoMemory>
     ensures ok { IfOk result (λ leaders. AreLeaders chunk.now.classes leaders.items) }
 {
@@ -25,7 +25,7 @@ pub(crate) fn class_leaders(alloc: Global, chunk: &Chunk<'_>) -> Result<Vec<usiz
     Ok(leaders)
 }
 
-// The index of the first class that a string names, where it names the one of this index.
+// The index of the first class that this string names. It names the class with this index.
 fn first_named(
     named: &mut BTreeMap<u64, usize>,
     string: u64,
@@ -41,7 +41,7 @@ fn first_named(
     Ok(index)
 }
 
-/// The index of the leader of the class of an id; `None` exactly where records of this type are no events.
+/// The index of the leader of the class with this id; `None` exactly if records of this type are not events.
 #[inline(always)]
 pub(crate) fn leader_of(classes: &Classes, leaders: &[usize], id: u64) -> Option<usize>
     requires { AreLeaders classes.now leaders.now }

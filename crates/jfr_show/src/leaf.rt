@@ -1,4 +1,4 @@
-// Values without parts.
+//! The text of values without parts.
 ghost use Rattle.std.specs.Prelude.{◌≡◌, ℕ, ◌++◌, List, length, codes, OnOk};
 ghost use Rattle.std.specs.Option.{option_map_or};
 ghost use Rattle.jfr_base.specs.Integer.{worth_within};
@@ -15,7 +15,7 @@ use jfr_base::{NoMemory, signed};
 use jfr_layout::Kind;
 use jfr_text::{Characters, StringSpan};
 
-/// Adds an integer of a kind, by its value.
+/// Adds an integer of this kind.
 pub(crate) fn show_integer(kind: Kind, value: u64, out: &mut TextBuilder) -> Result<(), NoMemory>
     requires integer { inline_form kind ≡ forms.Integer }
     ensures ok { OnOk result ((bytes : List ℕ) → worth_within 8 bytes ≡ value → out.new ≡ out.old ++ base_shown kind bytes) }
@@ -29,7 +29,7 @@ pub(crate) fn show_integer(kind: Kind, value: u64, out: &mut TextBuilder) -> Res
     }
 }
 
-/// Adds a value of a kind whose values all have so many bytes.
+/// Adds a value of a kind whose values have a fixed length.
 pub(crate) fn show_raw(kind: Kind, bytes: &[u8], out: &mut TextBuilder) -> Result<(), NoMemory>
     requires raw { inline_form kind ≡ forms.Raw (length bytes.now) }
     ensures ok { OnOk result (out.new ≡ out.old ++ base_shown kind bytes.now) }
@@ -71,7 +71,7 @@ pub(crate) fn show_hex(bytes: &[u8], out: &mut TextBuilder) -> Result<(), NoMemo
     Ok(())
 }
 
-/// Adds a string that is no key: its text between quotes, or `null`.
+/// Adds a string that isn't a key: its text between quotes, or `null`.
 pub(crate) fn show_string(span: &StringSpan<'_>, out: &mut TextBuilder) -> Result<(), NoMemory>
     ensures ok { OnOk result (out.new ≡ out.old ++ option_map_or quoted (text_of (content_of span.now)) (codes "null")) }
 {

@@ -1,9 +1,9 @@
-//! Recordings as text: events, totals and classes.
+//! The texts of events, totals and classes.
 //!
-//! A `TextWriter` adds the texts of many events of one chunk to a `TextBuilder`, and a `JsonWriter` their
-//! lines of JSON; `show_event` and `show_json` do so for one event, and `show_metadata` for the classes of
-//! a chunk. A `Summary` adds up chunks, and `summary_text` is its text. `event_text`, `event_json` and
-//! `metadata_text` make each text alone. Read `specs/Shown.antt` first, then `specs/Leaves.antt`,
+//! A `TextWriter` adds the texts of many events of one chunk to a `TextBuilder`, and a `JsonWriter` adds
+//! their lines of JSON. `show_event` and `show_json` add one event, and `show_metadata` adds the classes of a
+//! chunk. `event_text`, `event_json` and `metadata_text` return the same texts. A `Summary` adds up chunks,
+//! and `summary_text` is its text. Read `specs/Shown.antt` first, then `specs/Leaves.antt`,
 //! `specs/Texts.antt`, `specs/Json.antt`, `specs/Metadata.antt` and `specs/Totals.antt`.
 #![tactic(auto)]
 

@@ -1,4 +1,4 @@
-// The metadata of a chunk as text.
+//! The metadata of a chunk as text.
 ghost use Rattle.std.specs.Prelude.{◌≡◌, ◌++◌, [], IfOk, IsTrue, OnOk, if◌then◌else◌};
 ghost use Rattle.jfr_show.specs.Metadata.{categories_line, class_line, class_lines, field_line, metadata_shown, super_part};
 ghost use Rattle.jfr_show.specs.Names.{class_name};
@@ -11,8 +11,8 @@ use jfr_chunk::Chunk;
 use jfr_layout::{ClassInfo, Classes, FieldInfo};
 use std::alloc::Global;
 
-/// The classes of a chunk, with its number: a line for each class, for its categories, and for each of
-/// its fields.
+/// The text of a chunk's classes: a line with the chunk's number, then a line for each class, for its
+/// categories, and for each of its fields.
 pub fn metadata_text(alloc: Global, chunk: &Chunk<'_>, number: u64) -> Result<Text, NoMemory>
     ensures ok { IfOk result (λ text. text ≡ metadata_shown chunk.now number) }
 {
@@ -21,7 +21,7 @@ pub fn metadata_text(alloc: Global, chunk: &Chunk<'_>, number: u64) -> Result<Te
     out.into_text()
 }
 
-/// Adds these lines to a text.
+/// Adds the text of a chunk's classes.
 pub fn show_metadata(chunk: &Chunk<'_>, number: u64, out: &mut TextBuilder) -> Result<(), NoMemory>
     ensures ok { OnOk result (out.new ≡ out.old ++ metadata_shown chunk.now number) }
 {
@@ -35,7 +35,7 @@ pub fn show_metadata(chunk: &Chunk<'_>, number: u64, out: &mut TextBuilder) -> R
     Ok(())
 }
 
-// Adds the lines of a class.
+// Adds all lines of a class.
 fn show_class(classes: &Classes, class: &ClassInfo, out: &mut TextBuilder) -> Result<(), NoMemory>
     ensures ok { OnOk result (out.new ≡ out.old ++ class_lines classes.now class.now) }
 {
@@ -47,7 +47,7 @@ fn show_class(classes: &Classes, class: &ClassInfo, out: &mut TextBuilder) -> Re
     Ok(())
 }
 
-// Adds the line of a class.
+// Adds the first line of a class.
 fn show_class_line(class: &ClassInfo, out: &mut TextBuilder) -> Result<(), NoMemory>
     ensures ok { OnOk result (out.new ≡ out.old ++ class_line class.now) }
 {
@@ -58,7 +58,7 @@ fn show_class_line(class: &ClassInfo, out: &mut TextBuilder) -> Result<(), NoMem
     out.push_ascii("\n")
 }
 
-// Adds the name of a super type, where one is given.
+// Adds the name of a super type, if there is one.
 fn show_super(name: &Option<Text>, out: &mut TextBuilder) -> Result<(), NoMemory>
     ensures ok { OnOk result (out.new ≡ out.old ++ super_part name.now) }
 {
@@ -71,7 +71,7 @@ fn show_super(name: &Option<Text>, out: &mut TextBuilder) -> Result<(), NoMemory
     }
 }
 
-// Adds the line of a class's categories, where there are any.
+// Adds the line of a class's categories, if it has any.
 fn show_categories(categories: &Words, out: &mut TextBuilder) -> Result<(), NoMemory>
     ensures ok { OnOk result (out.new ≡ out.old ++ categories_line categories.now) }
 {
@@ -90,7 +90,6 @@ fn show_categories(categories: &Words, out: &mut TextBuilder) -> Result<(), NoMe
     out.push_ascii("\n")
 }
 
-// Adds the line of a field.
 fn show_field(classes: &Classes, field: &FieldInfo, out: &mut TextBuilder) -> Result<(), NoMemory>
     ensures ok { OnOk result (out.new ≡ out.old ++ field_line classes.now field.now) }
 {
@@ -103,7 +102,7 @@ fn show_field(classes: &Classes, field: &FieldInfo, out: &mut TextBuilder) -> Re
     out.push_ascii("\n")
 }
 
-// Adds the name of the class of an id.
+// Adds the name of the class with this id.
 fn show_class_name(classes: &Classes, id: u64, out: &mut TextBuilder) -> Result<(), NoMemory>
     ensures ok { OnOk result (out.new ≡ out.old ++ class_name classes.now id) }
 {
@@ -113,7 +112,7 @@ fn show_class_name(classes: &Classes, id: u64, out: &mut TextBuilder) -> Result<
     }
 }
 
-// Adds a text where it is to stand.
+// Adds a text if the flag is set.
 fn push_if(stands: bool, text: &str, out: &mut TextBuilder) -> Result<(), NoMemory>
     requires ascii { IsTrue (is_ascii text.now) }
     ensures ok { OnOk result (out.new ≡ out.old ++ (if stands then text.now else [])) }

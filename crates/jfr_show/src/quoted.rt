@@ -1,4 +1,4 @@
-// Texts between quotes.
+//! Texts between quotes.
 ghost use Rattle.std.specs.Prelude.{◌≡◌, ◌++◌, OnOk};
 ghost use Rattle.std.specs.Str.{chars};
 ghost use Rattle.jfr_show.specs.Texts.{escaped, quoted};
@@ -32,7 +32,7 @@ pub(crate) fn push_characters(
     out.push_ascii("\"")
 }
 
-/// Adds a character of a text.
+/// Adds a character, escaped if it must be.
 fn push_escaped(character: char, out: &mut TextBuilder) -> Result<(), NoMemory>
     ensures ok { OnOk result (out.new ≡ out.old ++ escaped character) }
 {

@@ -1,4 +1,4 @@
-// What stands in a chunk, where it is known that it does.
+//! Reading parts of a chunk that are known to be there. These calls can't fail.
 ghost use Rattle.std.specs.Prelude.{◌≡◌, ◌+◌, ◌≤◌, length, true, slice_range, Some, Ok, IsSome, IsOk, IfSome, option_map};
 ghost use Rattle.jfr_base.specs.Formats.{int_at, run};
 ghost use Rattle.jfr_text.specs.Spans.{content_of};
@@ -11,7 +11,7 @@ use jfr_chunk::Chunk;
 use jfr_text::{StringSpan, read_string};
 use jfr_value::Node;
 
-/// The integer that begins at a place and ends at the limit or before it.
+/// The integer that starts at `at` and ends by `limit`.
 #[inline(always)]
 pub(crate) fn integer_at(chunk: &Chunk<'_>, at: usize, limit: usize) -> Var
     requires order { at ≤ limit }
@@ -25,7 +25,7 @@ pub(crate) fn integer_at(chunk: &Chunk<'_>, at: usize, limit: usize) -> Var
     }
 }
 
-/// The string that begins at a place and ends at the limit or before it.
+/// The string that starts at `at` and ends by `limit`.
 #[inline(always)]
 pub(crate) fn string_at<'a>(chunk: &Chunk<'a>, at: usize, limit: usize) -> StringSpan<'a>
     requires order { at ≤ limit }
@@ -39,7 +39,7 @@ pub(crate) fn string_at<'a>(chunk: &Chunk<'a>, at: usize, limit: usize) -> Strin
     }
 }
 
-/// So many bytes from a place on.
+/// The `count` bytes that start at `at`.
 #[inline(always)]
 pub(crate) fn bytes_at<'a>(chunk: &Chunk<'a>, at: usize, count: usize) -> &'a [u8]
     requires { at + count ≤ length chunk.now.bytes }
@@ -48,7 +48,7 @@ pub(crate) fn bytes_at<'a>(chunk: &Chunk<'a>, at: usize, count: usize) -> &'a [u
     &chunk.bytes()[at..at + count]
 }
 
-/// The value of the entry in force for a class and a key; `None` exactly where there is none.
+/// The value of the entry in force for a class and a key; `None` exactly if there is no such entry.
 #[inline(always)]
 pub(crate) fn constant<'a>(chunk: &Chunk<'a>, class: u64, key: u64) -> Option<Node<'a>>
     ensures exact { option_map node_of result ≡ option_map entry_node (in_force chunk.now.entries (class, key)) }

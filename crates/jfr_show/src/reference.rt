@@ -1,4 +1,4 @@
-// A class and a key, by name.
+//! The texts of references that aren't followed.
 ghost use Rattle.std.specs.Prelude.{◌≡◌, ◌++◌, OnOk};
 ghost use Rattle.std.specs.Str.{chars};
 ghost use Rattle.jfr_show.specs.Names.{class_name};
@@ -8,7 +8,7 @@ use crate::TextBuilder;
 use jfr_base::NoMemory;
 use jfr_chunk::Chunk;
 
-/// The name of the class of an id; empty where there is none.
+/// The name of the class with this id; empty if there is no such class.
 pub(crate) fn class_name<'c>(chunk: &'c Chunk<'_>, class: u64) -> &'c str
     ensures { chars result.now ≡ class_name chunk.now.classes class }
 {
@@ -18,7 +18,7 @@ pub(crate) fn class_name<'c>(chunk: &'c Chunk<'_>, class: u64) -> &'c str
     }
 }
 
-/// Adds the name of a class, and a key.
+/// Adds the name of a class and a key.
 pub(crate) fn show_name(
     chunk: &Chunk<'_>,
     class: u64,
@@ -32,7 +32,7 @@ pub(crate) fn show_name(
     out.push_number(key)
 }
 
-/// Adds the name of a class, and a key for which no entry is in force.
+/// Adds the name of a class and a key, and that no entry is in force for them.
 pub(crate) fn show_missing(
     chunk: &Chunk<'_>,
     class: u64,

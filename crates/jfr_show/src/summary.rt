@@ -1,4 +1,4 @@
-// The totals of a recording.
+//! The totals of a recording.
 ghost use Rattle.std.specs.Prelude.{◌≡◌, ◌+◌, ◌^◌, ◌<◌, List, [], ◌∷◌, ◌++◌, IfOk, IsTrue, OnOk, decimal};
 ghost use Rattle.jfr_chunk.specs.Parts.{Parts};
 ghost use Rattle.jfr_show.specs.Texts.{is_ascii};
@@ -15,7 +15,7 @@ use std::alloc::Global;
 use std::collections::BTreeMap;
 use std::marker::Model;
 
-/// The totals of the chunks that were added. Contracts see it as these totals.
+/// The totals of the chunks that were added. Contracts see these totals.
 #[derive(Drop)]
 pub struct Summary {
     alloc: Global,
@@ -47,7 +47,7 @@ impl Model for Summary {
 }
 
 impl Summary {
-    /// The totals of no chunks. It takes no memory.
+    /// The totals of no chunks. It allocates nothing.
     pub fn new(alloc: Global) -> Summary
         ensures { result ≡ totals_of [] }
     {
@@ -65,9 +65,9 @@ impl Summary {
         }
     }
 
-    /// Adds a chunk to those so far. After want of memory nothing is promised of the totals.
+    /// Adds a chunk. After memory runs out nothing is promised about the totals.
     pub fn add(&mut self, chunk: &Chunk<'_>) -> Result<(), NoMemory>
-        requires { self.old.chunks < 2 ^ 35 }
+        requires { self.old.chunks < 17000000000 }
         ensures ok { OnOk result ((ps : List Parts) → self.old ≡ totals_of ps → self.new ≡ totals_of (ps ++ chunk.now ∷ [])) }
     {
         let header = chunk.header();
@@ -82,7 +82,7 @@ impl Summary {
         add_events(self.alloc, chunk, &mut self.tallies)
     }
 
-    /// How many chunks were added.
+    /// The number of chunks that were added.
     pub fn chunks(&self) -> u64
         ensures { result ≡ self.now.chunks }
     {
@@ -90,8 +90,8 @@ impl Summary {
     }
 }
 
-/// The totals as text: nine lines, and one for each name of a class that has an event, in the order of
-/// the names' bytes. Without a chunk the text is empty.
+/// The text of the totals: nine lines, then a line for each name of a class with events, in the order of the
+/// names' bytes. Without a chunk the text is empty.
 pub fn summary_text(alloc: Global, summary: &Summary) -> Result<Text, NoMemory>
     ensures ok { IfOk result (λ text. text ≡ summary_shown summary.now) }
 {
@@ -100,7 +100,6 @@ pub fn summary_text(alloc: Global, summary: &Summary) -> Result<Text, NoMemory>
     out.into_text()
 }
 
-// Adds the totals to a text.
 #[tactic(auto, unfolding(crate::specs::Totals::summary_shown))]
 fn show_summary(summary: &Summary, out: &mut TextBuilder) -> Result<(), NoMemory>
     ensures ok { OnOk result (out.new ≡ out.old ++ summary_shown summary.now) }
@@ -114,7 +113,7 @@ fn show_summary(summary: &Summary, out: &mut TextBuilder) -> Result<(), NoMemory
     }
 }
 
-// Adds the lines of the numbers.
+// Adds the first nine lines.
 fn show_numbers(summary: &Summary, first: Beginning, out: &mut TextBuilder) -> Result<(), NoMemory>
     ensures ok { OnOk result (out.new ≡ out.old ++ number_lines summary.now first) }
 {
@@ -129,7 +128,6 @@ fn show_numbers(summary: &Summary, first: Beginning, out: &mut TextBuilder) -> R
     push_line("inert", u128::from(summary.inert), out)
 }
 
-// Adds the line of the version.
 fn show_version(first: Beginning, out: &mut TextBuilder) -> Result<(), NoMemory>
     ensures ok { OnOk result (out.new ≡ out.old ++ version_line first) }
 {
@@ -140,7 +138,6 @@ fn show_version(first: Beginning, out: &mut TextBuilder) -> Result<(), NoMemory>
     out.push_ascii("\n")
 }
 
-// Adds the line of a word and a number.
 fn push_line(word: &str, number: u128, out: &mut TextBuilder) -> Result<(), NoMemory>
     requires ascii { IsTrue (is_ascii word.now) }
     ensures ok { OnOk result (out.new ≡ out.old ++ number_line word.now number) }

@@ -1,4 +1,4 @@
-// How many events there are of a name.
+//! Counts of events by the name of their class.
 ghost use Rattle.std.specs.Prelude.{◌≡◌, ◌+◌, ◌^◌, ◌<◌, ◌++◌, OnErr, OnOk};
 ghost use Rattle.jfr_show.specs.Counting.{AddsTally, FitsUnder, both};
 ghost use Rattle.jfr_show.specs.Held.{tallies_in};
@@ -9,7 +9,7 @@ use jfr_base::NoMemory;
 use std::alloc::Global;
 use std::collections::BTreeMap;
 
-/// How many events there are, and how many bytes their records have.
+/// The number of events, and the bytes of their records together.
 #[derive(Clone, Copy, Debug)]
 pub(crate) struct Tally {
     pub events: u64,
@@ -17,7 +17,7 @@ pub(crate) struct Tally {
 }
 
 impl Tally {
-    /// The tally of these events and others.
+    /// The tally of the events of both.
     fn plus(self, other: Tally) -> Tally
         requires events { self.events + other.events < 2 ^ 64 }
         requires bytes { self.bytes + other.bytes < 2 ^ 64 }
@@ -33,7 +33,7 @@ impl Tally {
 /// Tallies by the names of classes.
 pub(crate) type TallyMap = BTreeMap<String, Tally>;
 
-/// Adds a tally to the one under a name. One of no events adds no name.
+/// Adds a tally to that of a name. An empty tally adds no name.
 pub(crate) fn add_tally(
     alloc: Global,
     tallies: &mut TallyMap,
@@ -66,7 +66,7 @@ pub(crate) fn show_tallies(tallies: &TallyMap, out: &mut TextBuilder) -> Result<
     Ok(())
 }
 
-// Adds the line of a name.
+// Adds the line with a name and its tally.
 fn show_tally(name: &str, tally: Tally, out: &mut TextBuilder) -> Result<(), NoMemory>
     ensures ok { OnOk result (out.new ≡ out.old ++ tally_line (name.now, tally)) }
 {

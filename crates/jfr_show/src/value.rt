@@ -1,4 +1,4 @@
-// Values, by one walk over their bytes.
+//! The text of values, made in one walk over their bytes.
 ghost use Rattle.std.specs.Prelude.{◌≡◌, ℕ, ◌+◌, ◌≤◌, ◌<◌, ◌-◌, ◌*◌, ◌++◌, length, true, false, Some, IfOk, OnOk, slice_get};
 ghost use Rattle.std.specs.List.{AllByRecursion};
 ghost use Rattle.jfr_layout.specs.Classes.{Class};
@@ -39,8 +39,7 @@ pub(crate) fn show_node(
     Ok(())
 }
 
-/// Adds the value of a layout that begins at a place and ends at the limit or before it, and says where
-/// it ends.
+/// Adds the value with this layout that starts at `at` and ends by `limit`. Returns where it ends.
 #[cycle(show)]
 pub(crate) fn show_value(
     chunk: &Chunk<'_>,
@@ -94,7 +93,7 @@ pub(crate) fn show_value(
     }
 }
 
-/// Adds a value of the class at a place, and says where it ends.
+/// Adds a value of the class with index `place`. Returns where it ends.
 #[cycle(show)]
 fn show_fields(
     chunk: &Chunk<'_>,
@@ -134,7 +133,7 @@ fn show_fields(
     Ok(to)
 }
 
-/// Adds an array, and says where it ends.
+/// Adds an array. Returns where it ends.
 #[cycle(show)]
 fn show_items(
     chunk: &Chunk<'_>,
@@ -169,7 +168,7 @@ fn show_items(
     Ok(to)
 }
 
-/// Adds what a class and a key refer to.
+/// Adds the text of the reference to a class and a key.
 #[cycle(show)]
 pub(crate) fn show_reference(
     chunk: &Chunk<'_>,

@@ -1,4 +1,4 @@
-// The text of events of one chunk, with a cache of the texts of their references.
+//! A writer of the texts of many events of one chunk, with a cache of the texts of their references.
 ghost use Rattle.std.specs.Prelude.{◌≡◌, ℕ, ◌+◌, ◌≤◌, ◌<◌, ◌-◌, ◌++◌, length, false, Some, IfOk, OnOk, slice_get};
 ghost use Rattle.std.specs.List.{AllByRecursion};
 ghost use Rattle.jfr_layout.specs.Classes.{Class};
@@ -25,7 +25,7 @@ use jfr_value::{Node, layout_of};
 use std::alloc::Global;
 use std::marker::Model;
 
-/// Writes events of a chunk as text, and keeps the texts of what they refer to. Contracts see the chunk.
+/// Writes events of a chunk as text, and keeps the texts of their references. Contracts see the chunk.
 #[derive(Drop)]
 pub struct TextWriter<'c, 'a> {
     chunk: &'c Chunk<'a>,
@@ -56,7 +56,7 @@ impl<'c, 'a> TextWriter<'c, 'a> {
         Ok(TextWriter { chunk, cache })
     }
 
-    /// Adds the text of an event, in which references are followed so many deep.
+    /// Adds the text of an event, in which references are followed to this depth.
     pub fn show(
         &mut self,
         event: &Event<'_>,
@@ -80,7 +80,7 @@ impl<'c, 'a> TextWriter<'c, 'a> {
     }
 }
 
-/// Adds the value of a node of the chunk, as `show_node` does.
+/// Adds the value of a node of the chunk, as `show_node` does, but with the cache.
 fn show_event_node(
     chunk: &Chunk<'_>,
     cache: &mut TextCache,
@@ -114,7 +114,7 @@ fn show_event_node(
     }
 }
 
-/// Adds a value of the class at a place, and says where it ends.
+/// Adds a value of the class with index `place`. Returns where it ends.
 fn show_fields(
     chunk: &Chunk<'_>,
     cache: &mut TextCache,
@@ -156,8 +156,7 @@ fn show_fields(
     Ok(to)
 }
 
-/// Adds the value of a layout that begins at a place and ends at the limit or before it, and says where
-/// it ends.
+/// Adds the value with this layout that starts at `at` and ends by `limit`. Returns where it ends.
 fn show_field(
     chunk: &Chunk<'_>,
     cache: &mut TextCache,

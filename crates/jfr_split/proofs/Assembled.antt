@@ -107,6 +107,6 @@ not_created steady folder out ending b a h =
     map_told b a (PartTold steady (Goes (Create out ∷ [])) (Err ending) None None) (λ w v. FilesOutcome steady (assembling folder out w.files) (way_of ending) (stand w None) (stand v None)) h
     (λ w v k. part_ended steady (Create out ∷ []) (effects (joining_all (fin.values (files_in folder w.files))).steps) (assembling folder out w.files) (way_of ending) (stand w None) (stand v None) refl k.1)
 
--- What holds from a place as it was before holds from one that tells the same.
+-- What holds for a place holds for another with the same known files.
 pub told_same : (P : Bool → World → World → Type 0) (st st' : Bool) (b b' a : Option World) → st' ≡ st → b' ≡ b → Told b' a (P st') → Told b a (P st)
 told_same P st st' b b' a e f h = subst (λ (y : Option World). Told y a (P st)) f (subst (λ (y : Bool). Told b' a (P y)) e h)

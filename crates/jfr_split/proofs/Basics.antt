@@ -48,7 +48,7 @@ pub for_both : {X : Type 0} (P Q R : X → Type 0) (xs : List X) → ((x : X) �
 for_both P Q R [] f h k = tt
 for_both P Q R (x ∷ xs) f h k = (f x h.0 k.0, for_both P Q R xs f h.1 k.1)
 
--- What is told before a call, from a claim on it and what is told after.
+-- What is known before a call, from a claim on it and what is known after.
 pub told_before : (b a : Option World) (P : World → World → Type 0) (F : World → Type 0) → Told b a P → ((w v : World) → P w v → F w) → IfSome b F
 told_before None a P F t f = tt
 told_before (Some w) None P F t f = absurd t

@@ -1,4 +1,4 @@
--- What stands after plans that are carried out one after another.
+-- The state after plans that are carried out one after another.
 use Rattle.std.proofs.Common.{◌≡◌, refl, sym, ◌∙◌, ap, subst, Bool, false, ◌||◌, List, [], ◌∷◌, ◌++◌, Option, None, Some, append_assoc, append-nil}
 use Rattle.std.specs.List.{list_any}
 use Rattle.std.proofs.lemmas.List.Folds.{list_any-append}
@@ -67,7 +67,7 @@ unfinished_after steady a b s t u n e h = record {
   cause = h.cause;
 }
 
--- What stands by a plan, and the effects of which were done before, stands by the plan of both.
+-- A state after one plan, when the effects of another were done before, is a state after the plan of both.
 pub outcome_after : (steady : Bool) (a : List Effect) (all later : Plan) (way : Way) (s t u : Stand) → effects all.steps ≡ a ++ effects later.steps → all.end ≡ later.end → list_any is_finish a ≡ false → t ≡ done a s → FilesOutcome steady later way t u → FilesOutcome steady all way s u
 outcome_after steady a all later (Ends e) s t u c d n k h = record {
   end = d ∙ h.end;

@@ -1,5 +1,5 @@
 -- Each effect of cutting a recording can be done, where the names of its parts are new.
-use Rattle.std.proofs.Common.{◌≡◌, ℕ, ◌+◌, ◌<◌, ◌≤◌, refl, sym, ◌∙◌, ap, subst, Bool, true, false, cond, ◌==◌, ◌||◌, nat_le, List, [], ◌∷◌, ◌++◌, length, Option, None, Some, unwrap_or, Less, Equal, Ordering, if◌then◌else◌, arith}
+use Rattle.std.proofs.Common.{◌≡◌, ◌≢◌, ℕ, ◌+◌, ◌<◌, ◌≤◌, refl, sym, ◌∙◌, ap, subst, Bool, true, false, cond, ◌==◌, ◌||◌, nat_le, List, [], ◌∷◌, ◌++◌, length, Option, None, Some, unwrap_or, Less, Equal, Ordering, if◌then◌else◌, arith}
 use Rattle.std.proofs.lemmas.Grind.{common_steps}
 use Rattle.std.proofs.lemmas.Bool.{leb-false}
 use Rattle.std.specs.FinMap as fin
@@ -10,9 +10,9 @@ use Rattle.jfr_header.specs.declared.ending.Ending.{Ending}
 use Rattle.jfr_header.specs.declared.ending.Ending.TheVariants.{WriteFault}
 use Rattle.jfr_plan.specs.Ends.{TooMany, NotWritten, way_of}
 use Rattle.jfr_plan.specs.Effects.{Effect, Create, Append, Finish, Stand, Outside, AtEnd, Chunks, needing, apply, effects, stand}
-use Rattle.jfr_plan.specs.Walks.{Asked, Stops, Goes, Walk, walk, walk_on, cut_after, plan_after, plan_in}
-use Rattle.jfr_plan.specs.Outcomes.{After, Breaks}
-use Rattle.jfr_plan.proofs.Clauses.{Cans, none_breaks}
+use Rattle.jfr_plan.specs.Walks.{Asked, Stops, Goes, Walk, Parts, walk, walk_on, cut_after, plan_after, plan_in}
+use Rattle.jfr_plan.specs.Outcomes.{After, Breaks, Tallied}
+use Rattle.jfr_plan.proofs.Clauses.{writes_clause, Cans, none_breaks}
 use Rattle.jfr_plan.proofs.Walking.{effects_needing, effects_append}
 use Rattle.jfr_split.specs.Parts.{SplitRule, IsUsable, Part, folder_of, no_part, begins, is_full, part_by, part_with, part_of}
 use Rattle.jfr_split.specs.Names.{part_name}
@@ -188,9 +188,8 @@ plan_can rule file (Some x) s u o new =
     let e : effects (walk (splitting_as rule name) [] cs flaw).steps ≡ parted rule name no_part cs flaw = walked rule name [] cs flaw ∙ ap (λ (p : Part). parted rule name p cs flaw) (of_none rule) in
     subst (λ (es : List Effect). Cans es s) (sym e) (follow rule name no_part cs flaw (rises rule (folder_of rule) file u) s o (subst (λ (es : List Effect). AllNew s.files es) e new))
 
--- A steady place without an open output gives no write fault where the names of the parts are new.
-pub can_create : (rule : SplitRule) (file : List ℕ) (e : Ending) (a b : Outside) → IsUsable rule → CanCreateAll (splitting rule file) file a.place → After (splitting rule file) [] file (way_of e) a b → e ≡ WriteFault → ⊥
-can_create rule file e a b u c t is =
+no_write_fault : (rule : SplitRule) (file : List ℕ) (e : Ending) (a b : Outside) → IsUsable rule → CanCreateAll (splitting rule file) file a.place → After (splitting rule file) [] file (way_of e) a b → e ≡ WriteFault → ⊥
+no_write_fault rule file e a b u c t is =
     let r = splitting rule file in
     let h : After r [] file NotWritten a b = subst (λ (y : Ending). After r [] file (way_of y) a b) is t in
     let F : World → Type 0 = λ w. AllNew w.files (effects (plan_in r file w).steps) → w.output ≡ None → ⊥ in
@@ -198,3 +197,9 @@ can_create rule file e a b u c t is =
     (told_before a.place.told b.place.told (λ w v. Breaks a.place.steady (effects (plan_in r file w).steps) (stand w a.sink.written) (stand v b.sink.written)) F h
     (λ w v z new closed. none_breaks (effects (plan_in r file w).steps) z.first z.rest z.failed (stand w a.sink.written) (plan_can rule file (file_of w file) (stand w a.sink.written) u closed new) z.parts (z.cause c.steady)))
     c.new c.closed
+
+-- A steady place without an open output gives no write fault where the names of the parts are new.
+pub can_create : (rule : SplitRule) (file : List ℕ) (e : Ending) (a b : Outside) → IsUsable rule → After (splitting rule file) [] file (way_of e) a b → Tallied Parts (way_of e) a b → CanCreateAll (splitting rule file) file a.place → (e ≢ WriteFault) × (b.place.write_faults ≡ a.place.write_faults)
+can_create rule file e a b u t c can =
+    let no = no_write_fault rule file e a b u can t in
+    (no, writes_clause Parts e a b c no)

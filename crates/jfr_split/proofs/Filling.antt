@@ -134,7 +134,7 @@ fills rule name p (c ∷ cs) r f h m =
     fill_by b rule name rule.max_parts p c (groups_after rule (part_with rule p c) cs) (filling rule name (part_with rule p c) cs) r f.0 h (all_within rule name (part_with rule p c) cs f.1 n)
     (fills rule name (part_with rule p c) cs r f.1 (some_number b p c h) n)
 
--- What the parts hold, over what stood there before.
+-- The files of the parts, in place of those there before.
 pub filled : (rule : SplitRule) (name : ℕ → List ℕ) (cs : List (List ℕ)) → Rises name rule.max_parts → AllFit rule name no_part cs → (s : Stand) (q : List ℕ) → fin.get (done (filling rule name no_part cs) s).files q ≡ over (numbered name 1 (groups rule cs)) q (fin.get s.files q)
 filled rule name [] r f s q = refl
 filled rule name (c ∷ cs) r f s q =

@@ -21,7 +21,7 @@ pub of_none : (rule : SplitRule) → part_of rule [] ≡ no_part
 unfolding part_of
 of_none rule = refl
 
--- The chunks that still stand in the last part, and the parts behind it.
+-- The chunks that still belong to the current part, and the parts after it.
 pub record Groups : Type 0 where
   pub here : List (List ℕ)
   pub later : List (List (List ℕ))
@@ -38,7 +38,7 @@ groups_after rule p (c ∷ cs) = grouped (begins rule p c) c (groups_after rule 
 abbrev pub groups : SplitRule → List (List ℕ) → List (List (List ℕ))
 groups rule cs = (groups_after rule no_part cs).later
 
--- Groups, one behind another.
+-- Groups, one after another.
 abbrev pub flat : List (List (List ℕ)) → List (List ℕ)
 flat gs = flat_map (λ g. g) gs
 

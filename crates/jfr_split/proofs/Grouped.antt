@@ -4,16 +4,15 @@ use Rattle.std.proofs.lemmas.Grind.{common_steps}
 use Rattle.jfr_header.specs.Cuts.{joined}
 use Rattle.jfr_plan.specs.Ends.{Fine}
 use Rattle.jfr_plan.specs.Effects.{Effect, Create, Append, Finish, AtEnd}
-use Rattle.jfr_plan.specs.Walks.{IsGoing, asked, gone, walk, cut_after}
+use Rattle.jfr_plan.specs.Walks.{IsGoing, asked, gone, cut_after}
+use Rattle.jfr_plan.proofs.EndsWell.{plan_ends_well}
 use Rattle.jfr_plan.proofs.Walking.{from_here, effects_needing}
 use Rattle.jfr_split.specs.Parts.{SplitRule, Part, folder_of, no_part, is_full, begins, part_by, part_with, part_after, part_of}
 use Rattle.jfr_split.specs.Names.{part_name}
 use Rattle.jfr_split.specs.Splits.{closing, asks_part, splitting_as}
 use Rattle.jfr_split.specs.Laws.{split_plan}
 use Rattle.jfr_split.specs.Groups.{is_full_for, Fit, WasFull, AreParts, written, AreWritten}
-use Rattle.jfr_split.proofs.Basics.{same_end}
 use Rattle.jfr_split.proofs.Fold.{Groups, grouped, groups_after, groups, groups_flat, of_none, of_all}
-use Rattle.jfr_split.proofs.Ending.{good}
 use Rattle.jfr_split.proofs.Filling.{filling, AllFit, gone_filling, all_fit, all_within, new_asks, closed, some_number}
 use Rattle.jfr_split.proofs.Rejoin.{appends, joined_append}
 use Rattle.jfr_split.proofs.Round.{never}
@@ -105,9 +104,9 @@ parts_written rule file x e =
     let name = part_name (folder_of rule) file in
     let r = splitting_as rule name in
     let all = cut_after [] x in
-    let g = good r (never rule name) [] all.chunks all.flaw (same_end (walk r [] all.chunks all.flaw).end Fine e) in
-    let f = from_here r [] x all.chunks [] None (sym (append-nil all.chunks)) g.flawless g.go in
-    let fit : AllFit rule name no_part all.chunks = subst (λ (p : Part). AllFit rule name p all.chunks) (of_none rule) (all_fit rule name [] all.chunks g.go) in
+    let g = (plan_ends_well r [] x (never rule name)).0 e in
+    let f = from_here r [] x all.chunks [] None (sym (append-nil all.chunks)) g.0 g.1 in
+    let fit : AllFit rule name no_part all.chunks = subst (λ (p : Part). AllFit rule name p all.chunks) (of_none rule) (all_fit rule name [] all.chunks g.1) in
     record {
       parts = groups rule all.chunks;
       are = are_parts rule all.chunks;

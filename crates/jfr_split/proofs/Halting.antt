@@ -60,7 +60,7 @@ halted_first : (steady : Bool) (earlier : List (List ℕ)) (x : List ℕ) (left 
 halted_first steady earlier x None s t never h = record { first = []; rest = effects (plan_after adding earlier (Some x)).steps; parts = refl; unfinished = refl; stands = h; cause = never }
 halted_first steady earlier x (Some left) s t never h = met_first steady earlier x left s t never h
 
--- What stands after one of the files, which is there.
+-- The state after one of the files, which exists.
 pub file_outcome : (steady : Bool) (earlier : List (List ℕ)) (x : List ℕ) (left : Option (List ℕ)) (way : Way) (s t : Stand) → OutcomeIn steady adding earlier (Some x) left way s t → FilesOutcome steady (plan_after adding earlier (Some x)) way s t
 file_outcome steady earlier x left (Ends e) s t h = h
 file_outcome steady earlier x left NotRead s t h = halted_first steady earlier x left s t (λ y. some_none (Some x) x refl (h.1 y)) h.0
@@ -73,7 +73,7 @@ not_listed T steady plan fault y o None a is t never = tt
 not_listed T steady plan faults.Failed y o (Some w) a is t never = rw is (rw t (record { first = []; rest = effects (plan w.files).steps; parts = refl; unfinished = refl; stands = refl; cause = λ k. never k refl }))
 not_listed T steady plan faults.Memory y o (Some w) a is t never = rw is (rw t (record { first = []; rest = effects (plan w.files).steps; parts = refl; stands = refl }))
 
--- A read that gave up is told by how the command ends.
+-- A read that failed is known from how the command ends.
 pub gave_up : {T : Type 0} (r : Result T Fault) (z : Result T Ending) (y : Ending) → MatchResult r (λ x. z ≡ Ok x) (λ e. IsErrAnd z (λ k. k ≡ after_read e)) → z ≡ Err y → (fault : Fault) × (r ≡ Err fault) × (y ≡ after_read fault)
 gave_up (Ok x) z y h is = cc
 gave_up (Err fault) (Ok x) y h is = cc

@@ -17,18 +17,18 @@ use Rattle.jfr_plan.specs.Walks.{Goes, walk, cut_after, plan_by, plan_after}
 use Rattle.jfr_plan.specs.Outcomes.{AllDone, OutcomeIn, OutcomeOf}
 use Rattle.jfr_plan.specs.Goings.{IsAt, IsPast}
 use Rattle.jfr_plan.specs.Parts.{PartEnded, PartStands, PartTold}
+use Rattle.jfr_plan.proofs.EndsWell.{NeverStopsWell, plan_ends_well}
 use Rattle.jfr_plan.proofs.Walking.{done_append}
 use Rattle.jfr_split.specs.Clauses.{is_finish, FilesOutcome}
 use Rattle.jfr_split.specs.Joins.{adding, plan_then, joining, CanJoin}
-use Rattle.jfr_split.proofs.Basics.{goes_stops, same_end}
-use Rattle.jfr_split.proofs.Ending.{NeverFine, good}
+use Rattle.jfr_split.proofs.Basics.{goes_stops}
 use Rattle.jfr_split.proofs.Over.{is, same_name, look}
 use Rattle.jfr_split.proofs.Sorting.{bytes_of}
 use Rattle.jfr_split.proofs.Rejoin.{appends, appends_append, adds, one_part}
 use Rattle.jfr_split.proofs.Composing.{Follows, outcome_after, outcome_stops, some_more, breaks_more}
 use Rattle.jfr_split.proofs.Halting.{file_outcome}
 
--- The first files were joined: these are their chunks, and the plan goes on with the files behind them.
+-- The first files were joined: these are their chunks, and the plan continues with the files after them.
 pub record Joined (contents : List (List ℕ)) (i start number : ℕ) (s t : Stand) : Type 0 where
   pub earlier : List (List ℕ)
   pub at : IsAt earlier start number
@@ -80,15 +80,15 @@ appends_finish : (cs : List (List ℕ)) → list_any is_finish (appends cs) ≡ 
 appends_finish [] = refl
 appends_finish (c ∷ cs) = appends_finish cs
 
-never_fine : NeverFine adding
+pub never_fine : NeverStopsWell adding
 never_fine before c e = cc
 
 -- A file that was joined well has no flaw.
 flawless : (earlier : List (List ℕ)) (x : List ℕ) → (plan_after adding earlier (Some x)).end ≡ Some Fine → cut_after earlier x ≡ record { chunks = (cut_after earlier x).chunks; flaw = None }
 flawless earlier x e =
     let all = cut_after earlier x in
-    let g = good adding never_fine earlier all.chunks all.flaw (same_end (walk adding earlier all.chunks all.flaw).end Fine e) in
-    ap (λ (f : Option Flaw). let cuts : Cuts = record { chunks = all.chunks; flaw = f } in cuts) g.flawless
+    let g = (plan_ends_well adding earlier x never_fine).0 e in
+    ap (λ (f : Option Flaw). let cuts : Cuts = record { chunks = all.chunks; flaw = f } in cuts) g.0
 
 added : (earlier cs : List (List ℕ)) (x : List ℕ) → cut_after earlier x ≡ record { chunks = cs; flaw = None } → effects (plan_after adding earlier (Some x)).steps ≡ appends cs
 added earlier cs x e = ap (λ (y : Cuts). effects (plan_by adding (walk adding earlier y.chunks y.flaw)).steps) e ∙ (adds earlier cs).steps
@@ -118,7 +118,7 @@ last_file steady contents i start number x way s t u j rest n h =
     (j.end ∙ ap (λ (xs : List (List ℕ)). (joining j.earlier xs).end) rest)
     (appends_finish j.earlier) j.stands (outcome_stops steady (plan_after adding j.earlier (Some x)) later way t u n h)
 
--- The first files were joined, between what a place tells before and after.
+-- The first files were joined, between the known states before and after.
 abbrev pub JoinedFrom : List (List ℕ) → ℕ → ℕ → ℕ → Option World → Option World → Type 0
 JoinedFrom contents i start number b a = Told b a (λ w v. Joined contents i start number (stand w None) (stand v None))
 
@@ -132,7 +132,7 @@ abbrev pub JoinedSo : Bool → List (List ℕ) → Way → Option World → Opti
 JoinedSo steady contents way b a = Told b a (λ w v. FilesOutcome steady (joining [] contents) way (stand w None) (stand v None))
 
 module _ (out : List ℕ) (ss : List (String Global)) (contents : List (List ℕ)) (i start number : ℕ) (d : String Global) where
-  -- One file more, where it was joined well.
+  -- One file more, if it was joined well.
   pub file_joined : (steady : Bool) (b a e : Option World) (start' number' : ℕ) (name : List ℕ) → i < length ss → name ≡ string_bytes (get_or ss i d) → IfSome b (CanJoin out (bytes_of ss) contents) → JoinedFrom contents i start number b a
       → ((earlier : List (List ℕ)) → IsAt earlier start number → Told a e (OutcomeOf steady adding earlier name None None (Ends Fine)))
       → ((earlier : List (List ℕ)) → IsAt earlier start number → IfSome a (IsPast (λ _. Unit {0}) earlier name start' number'))
@@ -202,7 +202,7 @@ files_ended steady out ss contents i start number result (Some w) (Some v) None 
 files_ended steady out ss contents i start number result (Some w) (Some v) (Some u) l can j f =
     finish_all steady contents i start number result (stand w None) (stand v None) (stand u None) j (nothing_left (file w) ss contents i can.held l) f.1
 
--- An answer that tells a good end is the good one.
+-- The only ending with a good end is `Done`.
 pub fine_done : (e : Ending) → way_of e ≡ Ends Fine → e ≡ Done
 fine_done Done h = refl
 fine_done (ending.Refused r) h = cc

@@ -66,7 +66,7 @@ leaves_more a b e x y h =
     map_told x.place.told y.place.told (PartTold x.place.steady (Goes a) (Err e) x.sink.written y.sink.written) (PartTold x.place.steady (Goes (a ++ b)) (Err e) x.sink.written y.sink.written) h
     (λ w v k. (k.0, ended_more x.place.steady a b (way_of e) (stand w x.sink.written) (stand v y.sink.written) k.1))
 
--- One part went on, and memory was wanting for the next.
+-- One part of the command was done, and memory ran out in the next.
 pub leaves_none : (a b : List Effect) (o : Unit {0}) (x y : Outside) → PartLeaves (Goes a) (Ok o) x y → PartLeaves (Goes (a ++ b)) (Err Memory) x y
 leaves_none a b o x y h =
     map_told x.place.told y.place.told (PartTold x.place.steady (Goes a) (Ok o) x.sink.written y.sink.written) (PartTold x.place.steady (Goes (a ++ b)) (Err Memory) x.sink.written y.sink.written) h

@@ -3,7 +3,7 @@ mod Assembled
 mod Basics
 mod Composing
 mod Creating
-mod Ending
+mod EndsWell
 mod Filling
 mod Fold
 mod Grouped
@@ -16,5 +16,6 @@ mod Ordered
 mod Over
 mod Rejoin
 mod Round
+mod Rows
 mod Sorting
 mod Stems

@@ -1,4 +1,4 @@
--- Names of parts rise with their numbers, and stand among the names that are joined.
+-- Names of parts rise with their numbers, and are among the names that are joined.
 use Rattle.std.proofs.Common.{◌≡◌, ℕ, zero, suc, ◌+◌, ◌-◌, ◌/◌, ◌%◌, ◌<◌, ◌≤◌, ◌^◌, refl, sym, ◌∙◌, ap, Bool, true, false, not, ◌&&◌, List, [], ◌∷◌, ◌++◌, length, take, drop, Option, None, Some, Less, append_assoc, length-append, length-drop, reverse, if◌then◌else◌, nat_lt, ◌==◌, arith}
 use Rattle.std.specs.Str.{bytes_eq}
 use Rattle.std.specs.List.{suffix_len}
@@ -44,7 +44,7 @@ plain_each : (x : List ℕ) → ((k : ℕ) → k < length x → no_slash (get_or
 plain_each [] h = refl
 plain_each (b ∷ x) h = and_true (no_slash b) (is_plain x) (h 0 (omega arith)) (plain_each x (λ k l. h (suc k) (omega (arith, l))))
 
--- What stands behind the last slash has none.
+-- The part of a name after the last slash has no slash.
 plain_base : (file : List ℕ) → is_plain (base file) ≡ true
 plain_base file =
     let long = suffix_len no_slash file in
@@ -87,7 +87,7 @@ rest_found folder rest plain =
     rest_by (bytes_eq (take (length folder + 1) name) w && is_plain (drop (length folder + 1) name)) (drop (length folder + 1) name) rest
     (and_true (bytes_eq (take (length folder + 1) name) w) (is_plain (drop (length folder + 1) name)) ((bytes_decides (take (length folder + 1) name) w).1 front) (ap is_plain back ∙ plain)) back
 
--- A part stands in its folder, and ends in `.jfr`.
+-- The name of a part is in its folder, and ends in `.jfr`.
 pub part_joined : (folder file : List ℕ) (n : ℕ) → is_joined folder (part_name (Some folder) file n) ≡ true
 unfolding part_name is_joined
 part_joined folder file n =

@@ -15,18 +15,17 @@ use Rattle.jfr_header.proofs.CutLaws.{are_cut, all_whole, joined_all}
 use Rattle.std.specs.List.{AllByRecursion}
 use Rattle.jfr_plan.specs.Ends.{Fine, TooMany}
 use Rattle.jfr_plan.specs.Effects.{Effect, Create, Append, Finish, Stand, Plan, AtEnd, needing, apply, done, effects}
-use Rattle.jfr_plan.specs.Walks.{Stops, Goes, Asked, walk, gone, cut_after, plan_after}
+use Rattle.jfr_plan.specs.Walks.{Stops, Goes, Asked, gone, cut_after, plan_after}
+use Rattle.jfr_plan.proofs.EndsWell.{NeverStopsWell, plan_ends_well}
 use Rattle.jfr_plan.proofs.Walking.{from_here, done_append}
 use Rattle.jfr_split.specs.Parts.{SplitRule, IsUsable, Part, folder_of, no_part, begins, part_of}
 use Rattle.jfr_split.specs.Names.{part_name, is_joined}
 use Rattle.jfr_split.specs.Splits.{closing, asks_part, splitting_as}
 use Rattle.jfr_split.specs.Joins.{files_in, joining_all}
 use Rattle.jfr_split.specs.Laws.{split_plan, split, Returns}
-use Rattle.jfr_split.proofs.Basics.{same_end}
 use Rattle.jfr_split.proofs.Fold.{groups_flat, groups, of_none}
 use Rattle.jfr_split.proofs.Ordered.{order}
 use Rattle.jfr_split.proofs.Naming.{part_joined}
-use Rattle.jfr_split.proofs.Ending.{NeverFine, good}
 use Rattle.jfr_split.proofs.Over.{Entries, is, over, numbered, sorted_numbered, same_name, is_self, look}
 use Rattle.jfr_split.proofs.Filling.{filling, AllFit, gone_filling, all_fit, all_within, filled, all_full, stands, grown_at}
 use Rattle.jfr_split.proofs.Creating.{rises}
@@ -41,7 +40,7 @@ never_by : (rule : SplitRule) (name : ℕ → List ℕ) (b : Bool) (p : Part) (c
 never_by rule name true p c e = never_new (nat_le rule.max_parts p.number) (closing p ++ Create (name (p.number + 1)) ∷ Append c ∷ []) e
 never_by rule name false p c e = cc
 
-pub never : (rule : SplitRule) (name : ℕ → List ℕ) → NeverFine (splitting_as rule name)
+pub never : (rule : SplitRule) (name : ℕ → List ℕ) → NeverStopsWell (splitting_as rule name)
 never rule name before c e = never_by rule name (begins rule (part_of rule before) c) (part_of rule before) c e
 
 -- The last part is finished, and no file changes.
@@ -60,14 +59,14 @@ pub whole_parts : (rule : SplitRule) (name : ℕ → List ℕ) (x : List ℕ) (s
 whole_parts rule name x s e =
     let r = splitting_as rule name in
     let all = cut_after [] x in
-    let g = good r (never rule name) [] all.chunks all.flaw (same_end (walk r [] all.chunks all.flaw).end Fine e) in
-    let f = from_here r [] x all.chunks [] None (sym (append-nil all.chunks)) g.flawless g.go in
+    let g = (plan_ends_well r [] x (never rule name)).0 e in
+    let f = from_here r [] x all.chunks [] None (sym (append-nil all.chunks)) g.0 g.1 in
     let t = done (gone r [] all.chunks) s in
     let k : gone r [] all.chunks ≡ filling rule name no_part all.chunks = gone_filling rule name [] all.chunks ∙ ap (λ (p : Part). filling rule name p all.chunks) (of_none rule) in
     record {
       chunks = all.chunks;
-      are = subst (λ (o : Option Flaw). AreCut all.chunks o x 0 true) g.flawless (are_cut x 0 true);
-      fit = subst (λ (p : Part). AllFit rule name p all.chunks) (of_none rule) (all_fit rule name [] all.chunks g.go);
+      are = subst (λ (o : Option Flaw). AreCut all.chunks o x 0 true) g.0 (are_cut x 0 true);
+      fit = subst (λ (p : Part). AllFit rule name p all.chunks) (of_none rule) (all_fit rule name [] all.chunks g.1);
       files = ap (λ (es : List Effect). (done es s).files) f.steps
           ∙ ap (λ (y : Stand). y.files) (done_append (gone r [] all.chunks) (effects (needing AtEnd (closing (part_of rule all.chunks)))) s)
           ∙ closed_files ((part_of rule all.chunks).number == 0) t ∙ ap (λ (es : List Effect). (done es s).files) k;

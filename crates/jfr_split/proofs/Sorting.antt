@@ -44,7 +44,7 @@ among q x (y ∷ ys) none h =
     let k : 0 < one_at q y + sum_by (one_at q) ys = subst (λ (n : ℕ). 0 < n) (sum_by-cons (one_at q) y ys) h in
     among_by (bytes_eq q y) q x y (sum_by (one_at q) ys) refl none.0 k (among q x ys none.1)
 
--- What stands in a list that is up isn't below its first.
+-- No member of a rising list is below the first.
 least : (q y : List ℕ) (ys : List (List ℕ)) → NoneBelow y ys → 0 < sum_by (one_at q) (y ∷ ys) → is_lt (order q y) ≡ false
 least q y ys none h = among q y (y ∷ ys) (ap is_lt (order_same y), none) h
 

@@ -1,15 +1,15 @@
--- What calls over many files say of each of their answers.
-use Rattle.std.specs.Prelude.{◌≡◌, ℕ, Bool, true, false, IsTrue, IfSome, List, ◌++◌, Option, None, Some}
+-- What calls over many files promise of each of their answers.
+use Rattle.std.specs.Prelude.{◌≡◌, ℕ, Bool, true, false, IsTrue, IsSome, List, ◌++◌, Option, None, Some}
 use Rattle.std.specs.List.{filter_map, list_any, AllByRecursion}
 use Rattle.jfr_outside.specs.World.{World, State, Files, Told, file}
-use Rattle.jfr_outside.specs.Counts.{Rose}
-use Rattle.jfr_plan.specs.Ends.{End, Way}
+use Rattle.jfr_plan.specs.Ends.{Way}
 use Rattle.jfr_plan.specs.Effects.{Effect, Create, Finish, Plan, Stand, Outside, stand, done, effects}
-use Rattle.jfr_plan.specs.Walks.{Rule, plan_in}
-use Rattle.jfr_plan.specs.Outcomes.{Outcome, AllDone, SomeDone, Breaks}
-use Rattle.jfr_plan.specs.Clauses.{IsPlanned}
+use Rattle.jfr_plan.specs.Walks.{Rule, File, plan_in}
+use Rattle.jfr_plan.specs.Outcomes.{Outcome}
+use Rattle.jfr_plan.specs.Clauses.{Task}
+use Rattle.jfr_split.specs.Joins.{assembling}
 
--- The name of the file that an effect creates.
+-- The name of the file that an effect creates, if it creates one.
 abbrev pub created_name : Effect → Option (List ℕ)
 created_name (Create name) = Some name
 created_name _ = None
@@ -31,7 +31,7 @@ abbrev pub is_finish : Effect → Bool
 is_finish Finish = true
 is_finish _ = false
 
--- A read failed, on a place that isn't steady: the first of these effects are done, and the output isn't
+-- A read failed, on a place that isn't steady. The first of these effects are done, and the output isn't
 -- finished.
 pub record Unfinished (steady : Bool) (all : List Effect) (s t : Stand) : Type 0 where
   pub first : List Effect
@@ -41,33 +41,19 @@ pub record Unfinished (steady : Bool) (all : List Effect) (s t : Stand) : Type 0
   pub stands : t ≡ done first s
   pub cause : IsTrue steady → ⊥
 
--- What stands after many files were read under this plan, by the way.
+-- The state after a command over many files with this plan, for each end.
 abbrev pub FilesOutcome : Bool → Plan → Way → Stand → Stand → Type 0
 FilesOutcome steady plan way s t = Outcome steady plan (Unfinished steady (effects plan.steps)) way s t
 
--- What stands after such a call, by what the place tells, under the plan that its files make.
+-- The state after a command over many files, if they are known. They determine the plan.
 abbrev pub AfterFiles : (Files → Plan) → Way → Outside → Outside → Type 0
 AfterFiles plan way a b = Told a.place.told b.place.told (λ w v. FilesOutcome a.place.steady (plan w.files) way (stand w a.sink.written) (stand v b.sink.written))
 
--- The plan ends so, and all its effects are done.
-abbrev pub FilesEnded : (Files → Plan) → End → Outside → Outside → Type 0
-FilesEnded plan e a b = Told a.place.told b.place.told (λ w v. AllDone (plan w.files) e (stand w a.sink.written) (stand v b.sink.written))
-
--- The first effects are done, and the output isn't finished.
-abbrev pub FilesHalted : (Files → Plan) → Outside → Outside → Type 0
-FilesHalted plan a b = Told a.place.told b.place.told (λ w v. Unfinished a.place.steady (effects (plan w.files).steps) (stand w a.sink.written) (stand v b.sink.written))
-
--- The first effects are done, and of the next one, which failed, a prefix of its bytes.
-abbrev pub FilesBroken : (Files → Plan) → Outside → Outside → Type 0
-FilesBroken plan a b = Told a.place.told b.place.told (λ w v. Breaks a.place.steady (effects (plan w.files).steps) (stand w a.sink.written) (stand v b.sink.written))
-
--- The first effects are done.
-abbrev pub FilesPartly : (Files → Plan) → Outside → Outside → Type 0
-FilesPartly plan a b = Told a.place.told b.place.told (λ w v. SomeDone (effects (plan w.files).steps) (stand w a.sink.written) (stand v b.sink.written))
-
--- Where the place tells its files and neither count rose, the way is the plan's end, or memory was wanting.
-abbrev pub FilesComplete : (Files → Plan) → Way → Outside → Outside → Type 0
-FilesComplete plan way a b =
-    (Rose a.place.read_faults b.place.read_faults → ⊥)
-    → (Rose a.place.write_faults b.place.write_faults → ⊥)
-    → IfSome a.place.told (λ w. IsPlanned way (plan w.files).end)
+-- A folder's files are joined to an output. Each file that is listed is there to be read.
+abbrev pub joins : List ℕ → List ℕ → Task
+joins folder output = record {
+  plan = λ w. assembling folder output w.files;
+  Halts = λ steady w v. Unfinished steady (effects (assembling folder output w.files).steps);
+  Readable = λ s. IsTrue s.steady × IsSome s.told;
+  target = File;
+}

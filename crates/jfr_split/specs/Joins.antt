@@ -1,4 +1,4 @@
--- The command that joins the chunks of a folder's files.
+-- The command `assemble`, which joins the chunks of a folder's files.
 use Rattle.std.specs.Prelude.{◌≡◌, ℕ, List, [], ◌∷◌, ◌++◌, map, Option, Some}
 use Rattle.std.specs.List.{AllByRecursion}
 use Rattle.std.specs.FinMap as fin
@@ -10,7 +10,7 @@ use Rattle.jfr_plan.specs.Effects.{Create, Append, Finish, Nothing, AtEnd, needi
 use Rattle.jfr_plan.specs.Walks.{Rule, Goes, File, cut_after, plan_after}
 use Rattle.jfr_split.specs.Names.{is_joined}
 
--- Each chunk of a file is appended.
+-- The rule for one file: each of its chunks is appended.
 abbrev pub adding : Rule
 adding = record {
   opens = [];
@@ -19,22 +19,22 @@ adding = record {
   target = File;
 }
 
--- A plan that ends so, and the next one where that is well.
+-- A plan with this end, followed by the next plan if the end is a good one.
 abbrev pub then_by : Option End → Plan → Plan → Plan
 then_by (Some Fine) p later = record { steps = p.steps ++ later.steps; end = later.end }
 then_by _ p later = p
 
--- A plan, and the next one where it ends well.
+-- A plan, followed by the next plan if it ends well.
 abbrev pub plan_then : Plan → Plan → Plan
 plan_then p later = then_by p.end p later
 
--- The chunks of these files are appended, and the output is finished. Each file is cut by itself; its
--- chunks come after those of the files before, over which their numbers and starts go on.
+-- The plan that appends the chunks of these files and finishes the output. Chunk numbers and offsets continue
+-- from one file to the next.
 abbrev pub joining : List (List ℕ) → List (List ℕ) → Plan
 joining earlier [] = record { steps = needing AtEnd (Finish ∷ []); end = Some Fine }
 joining earlier (x ∷ xs) = plan_then (plan_after adding earlier (Some x)) (joining (earlier ++ (cut_after earlier x).chunks) xs)
 
--- No file at all is refused.
+-- The plan for these files; without any file the recording is refused.
 abbrev pub joining_all : List (List ℕ) → Plan
 joining_all [] = record { steps = []; end = Some (refused 1 (flaw_at 0 NoChunk)) }
 joining_all (x ∷ xs) = joining [] (x ∷ xs)
@@ -43,14 +43,15 @@ joining_all (x ∷ xs) = joining [] (x ∷ xs)
 abbrev pub files_in : List ℕ → Files → Files
 files_in folder files = fin.retain_keys files (is_joined folder)
 
--- The output is created, the chunks of each of the folder's files are appended, and the output is finished.
+-- The plan of the command: the output is created, the chunks of each of the folder's files are appended, and
+-- the output is finished.
 abbrev pub assembling : List ℕ → List ℕ → Files → Plan
 assembling folder output files = record {
   steps = needing Nothing (Create output ∷ []) ++ (joining_all (fin.values (files_in folder files))).steps;
   end = (joining_all (fin.values (files_in folder files))).end;
 }
 
--- The output is open, and each of these files is there beside it, with these contents.
+-- The output is open, and each of these files exists, with these contents, and isn't the output.
 pub record CanJoin (output : List ℕ) (names contents : List (List ℕ)) (w : World) : Type 0 where
   pub opened : w.output ≡ Some output
   pub apart : AllByRecursion (λ name. name ≡ output → ⊥) names

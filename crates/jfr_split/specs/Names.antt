@@ -1,4 +1,4 @@
--- The names of parts, and which files of a folder are joined.
+-- The names of parts, and the files of a folder that are joined.
 use Rattle.std.specs.Prelude.{ℕ, zero, suc, ◌+◌, ◌-◌, ◌/◌, ◌%◌, ◌==◌, ◌&&◌, nat_lt, nat_eq, Bool, false, List, [], ◌∷◌, ◌++◌, length, take, Option, None, Some, if◌then◌else◌}
 use Rattle.std.specs.List.{after_last, ends_with}
 use Rattle.std.specs.Option.{option_map_or}
@@ -8,15 +8,15 @@ use Rattle.jfr_outside.specs.World.{in_folder, rest_in}
 abbrev pub suffix : List ℕ
 suffix = 46 ∷ 106 ∷ 102 ∷ 114 ∷ []
 
--- A name that ends in `.jfr`.
+-- Whether a name ends in `.jfr`.
 abbrev pub is_recording : List ℕ → Bool
 is_recording name = ends_with nat_eq name suffix
 
--- What stands in a name behind its last slash.
+-- The part of a name after its last slash.
 abbrev pub base : List ℕ → List ℕ
 base name = after_last (λ b. b == 47) name
 
--- A name without a final `.jfr`, where something stands before that.
+-- The name without a final `.jfr`, if something comes before that.
 abbrev pub without_suffix : List ℕ → List ℕ
 without_suffix name = if is_recording name && nat_lt 4 (length name) then take (length name - 4) name else name
 
@@ -24,20 +24,20 @@ without_suffix name = if is_recording name && nat_lt 4 (length name) then take (
 unfoldable pub stem : List ℕ → List ℕ
 stem file = without_suffix (base file)
 
--- The last so many decimal digits of a number, with zeros in front.
+-- The last n decimal digits of a number, with leading zeros.
 abbrev pub digits : ℕ → ℕ → List ℕ
 digits zero n = []
 digits (suc k) n = digits k (n / 10) ++ (48 + n % 10) ∷ []
 
--- A name in a folder, or as it is where no folder is given.
+-- The name in a folder, or just the name if no folder is given.
 abbrev pub within : Option (List ℕ) → List ℕ → List ℕ
 within None name = name
 within (Some folder) name = in_folder folder name
 
--- Part number n of a file: the stem, `_`, the number in six digits, and `.jfr`.
+-- The name of part n of a file: the stem, `_`, the number with six digits, and `.jfr`.
 unfoldable pub part_name : Option (List ℕ) → List ℕ → ℕ → List ℕ
 part_name folder file n = within folder (stem file ++ 95 ∷ (digits 6 n ++ suffix))
 
--- The name of a file that stands in the folder itself and ends in `.jfr`.
+-- Whether a file is directly in the folder and its name ends in `.jfr`.
 unfoldable pub is_joined : List ℕ → List ℕ → Bool
 is_joined folder name = option_map_or is_recording (rest_in folder name) false

@@ -1,4 +1,4 @@
-// One effect on a place at a time, for a command that writes one file, or parts.
+//! Single effects on a place, for commands that write one file, or parts.
 ghost use Rattle.std.specs.Prelude.{◌∷◌, []};
 ghost use Rattle.jfr_outside.specs.World.{SinkState};
 ghost use Rattle.jfr_plan.specs.Effects.{outside, Create, Append, Finish};
@@ -8,7 +8,6 @@ ghost use Rattle.jfr_plan.specs.Parts.{PartLeaves, PartTallied};
 use jfr_header::Ending;
 use jfr_outside::Place;
 
-/// Finishes the output.
 pub fn finish_output<P: Place>(place: &mut P) -> Result<(), Ending>
     ensures told { (sink : SinkState) → PartLeaves (Goes (Finish ∷ [])) result
         (outside (P.state place.old) sink) (outside (P.state place.new) sink) }
@@ -20,7 +19,6 @@ pub fn finish_output<P: Place>(place: &mut P) -> Result<(), Ending>
     place.finish_output().map_err(Ending::of_write)
 }
 
-/// Creates the output.
 pub fn create_output<P: Place>(place: &mut P, name: &str) -> Result<(), Ending>
     ensures told { (sink : SinkState) → PartLeaves (Goes (Create name.now ∷ [])) result
         (outside (P.state place.old) sink) (outside (P.state place.new) sink) }
@@ -32,7 +30,6 @@ pub fn create_output<P: Place>(place: &mut P, name: &str) -> Result<(), Ending>
     place.create_output(name).map_err(Ending::of_write)
 }
 
-/// Appends a chunk to the output.
 pub fn append_chunk<P: Place>(place: &mut P, chunk: &[u8]) -> Result<(), Ending>
     ensures told { (sink : SinkState) → PartLeaves (Goes (Append chunk.now ∷ [])) result
         (outside (P.state place.old) sink) (outside (P.state place.new) sink) }

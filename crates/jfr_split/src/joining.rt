@@ -1,17 +1,15 @@
 // The command that joins the chunks of a folder's files.
-ghost use Rattle.std.specs.Prelude.{◌≡◌, ◌≢◌, ◌<◌, ℕ, List, [], map, string_bytes, IsTrue, IsSome, IfSome, OnOk, IfOk, IfErr, MatchResult};
+ghost use Rattle.std.specs.Prelude.{◌≡◌, ◌≢◌, ℕ, List, [], map, string_bytes, IfSome, OnOk, IfOk, IfErr, MatchResult};
 ghost use Rattle.std.specs.FinMap as fin;
-ghost use Rattle.jfr_base.specs.declared.flaw.Refusal.{Refusal};
-ghost use Rattle.jfr_outside.specs.Counts.{Rose};
 ghost use Rattle.jfr_outside.specs.World.{Files};
-ghost use Rattle.jfr_plan.specs.Ends.{Fine, Refused, way_of};
+ghost use Rattle.jfr_plan.specs.Ends.{way_of};
 ghost use Rattle.jfr_plan.specs.Effects.{Plan, alone};
 ghost use Rattle.jfr_plan.specs.Walks.{File};
 ghost use Rattle.jfr_plan.specs.Outcomes.{After, Tallied, Counted, Kept};
 ghost use Rattle.jfr_plan.specs.Goings.{IsAt, IsPast};
-ghost use Rattle.jfr_plan.specs.Clauses.{CanCreate};
-ghost use Rattle.jfr_split.specs.Joins.{adding, joining, joining_all, files_in, assembling, CanJoin};
-ghost use Rattle.jfr_split.specs.Clauses.{AfterFiles, FilesEnded, FilesHalted, FilesBroken, FilesPartly, FilesComplete};
+ghost use Rattle.jfr_plan.specs.Clauses.{Ran, CanCreate};
+ghost use Rattle.jfr_split.specs.Joins.{adding, joining, joining_all, files_in, CanJoin};
+ghost use Rattle.jfr_split.specs.Clauses.{AfterFiles, joins};
 
 use crate::effects::{append_chunk, create_output, finish_output};
 use crate::listing::joined_files;
@@ -21,7 +19,7 @@ use jfr_outside::{Place, Sink};
 use jfr_plan::{Discard, Position, Stage, run_stage};
 use std::alloc::Global;
 
-// Appends each chunk of a file to the output.
+// The stage that appends each chunk of a file to the output.
 #[derive(Drop)]
 struct Adding;
 
@@ -87,7 +85,7 @@ fn join_files<P: Place>(alloc: Global, place: &mut P, files: &[String]) -> Endin
     }
 }
 
-// Joins the files, of which there has to be one.
+// Joins the files. There must be at least one.
 fn join_some<P: Place>(alloc: Global, place: &mut P, files: &[String]) -> Ending
     ensures told { (output : List ℕ) (contents : List (List ℕ))
         → IfSome (P.state place.old).told (CanJoin output (map (λ f. string_bytes f) files.now) contents)
@@ -106,7 +104,7 @@ fn join_some<P: Place>(alloc: Global, place: &mut P, files: &[String]) -> Ending
     join_files(alloc, place, files)
 }
 
-// Lists the folder's files that are joined.
+// The names of the folder's files to join, in order.
 fn list_files<P: Place>(alloc: Global, place: &mut P, folder: &str) -> Result<Vec<String>, Ending>
     ensures told { OnOk result ((P.state place.new).told ≡ (P.state place.old).told) }
     ensures files { IfOk result (λ made. IfSome (P.state place.old).told
@@ -121,13 +119,16 @@ fn list_files<P: Place>(alloc: Global, place: &mut P, folder: &str) -> Result<Ve
     Ok(joined_files(alloc, folder, &names)?)
 }
 
-// Lists the folder, creates the output, and joins the files. All clauses of `assemble` follow from these
-// two.
-fn join_folder<P: Place>(alloc: Global, place: &mut P, folder: &str, out: &str) -> Ending
-    ensures told { AfterFiles (assembling folder.now out.now) (way_of result)
+/// Joins the chunks of a folder's files whose names end in `.jfr`: lists the folder, creates the
+/// output, opens the files one after another in byte order of their names, appends each chunk, and
+/// finishes the output. Each file has to have a chunk at least, and the folder such a file.
+pub fn assemble<P: Place>(alloc: Global, place: &mut P, folder: &str, out: &str) -> Ending
+    ensures ran { Ran (joins folder.now out.now) result
         (alone (P.state place.old)) (alone (P.state place.new)) }
-    ensures counts { Tallied File (way_of result)
-        (alone (P.state place.old)) (alone (P.state place.new)) }
+
+    // The call brings no write fault about by itself.
+    ensures can_create { CanCreate out.now (P.state place.old)
+        → (result ≢ Ending.WriteFault) × ((P.state place.new).write_faults ≡ (P.state place.old).write_faults) }
 {
     let files = match list_files(alloc, place, folder) {
         Ok(files) => files,
@@ -138,52 +139,4 @@ fn join_folder<P: Place>(alloc: Global, place: &mut P, folder: &str, out: &str) 
         Err(ending) => return ending,
     }
     join_some(alloc, place, &files)
-}
-
-/// Joins the chunks of a folder's files whose names end in `.jfr`: lists the folder, creates the
-/// output, opens the files one after another in byte order of their names, appends each chunk, and
-/// finishes the output. Each file has to have a chunk at least, and the folder such a file.
-pub fn assemble<P: Place>(alloc: Global, place: &mut P, folder: &str, out: &str) -> Ending
-    // What stands after the call, and which counts rose, by the answer.
-    ensures told { AfterFiles (assembling folder.now out.now) (way_of result)
-        (alone (P.state place.old)) (alone (P.state place.new)) }
-    ensures counts { Tallied File (way_of result)
-        (alone (P.state place.old)) (alone (P.state place.new)) }
-
-    // For each answer alone, where the place tells its files.
-    ensures done { result ≡ Ending.Done → FilesEnded (assembling folder.now out.now) Fine
-        (alone (P.state place.old)) (alone (P.state place.new)) }
-    ensures refused { (r : Refusal) → result ≡ Ending.Refused r
-        → FilesEnded (assembling folder.now out.now) (Refused r)
-        (alone (P.state place.old)) (alone (P.state place.new)) }
-    ensures halted { result ≡ Ending.ReadFault → FilesHalted (assembling folder.now out.now)
-        (alone (P.state place.old)) (alone (P.state place.new)) }
-    ensures broken { result ≡ Ending.WriteFault → FilesBroken (assembling folder.now out.now)
-        (alone (P.state place.old)) (alone (P.state place.new)) }
-    ensures memory { result ≡ Ending.Memory → FilesPartly (assembling folder.now out.now)
-        (alone (P.state place.old)) (alone (P.state place.new)) }
-
-    // A fault comes only where it was counted, and none is passed over.
-    ensures read_fault { result ≡ Ending.ReadFault
-        → Rose (P.state place.old).read_faults (P.state place.new).read_faults }
-    ensures write_fault { result ≡ Ending.WriteFault
-        → Rose (P.state place.old).write_faults (P.state place.new).write_faults }
-    ensures no_read_passed { (P.state place.old).read_faults < (P.state place.new).read_faults
-        → result ≡ Ending.ReadFault }
-    ensures no_write_passed { (P.state place.old).write_faults < (P.state place.new).write_faults
-        → result ≡ Ending.WriteFault }
-
-    // Without a fault the answer is the plan's end, or memory was wanting.
-    ensures complete { FilesComplete (assembling folder.now out.now) (way_of result)
-        (alone (P.state place.old)) (alone (P.state place.new)) }
-    ensures parts { result ≢ Ending.TooManyParts }
-
-    // The call brings no fault about by itself: the files that are listed are there.
-    ensures can_read { IsTrue (P.state place.old).steady → IsSome (P.state place.old).told
-        → (result ≢ Ending.ReadFault) × ((P.state place.new).read_faults ≡ (P.state place.old).read_faults) }
-    ensures can_create { CanCreate out.now (P.state place.old)
-        → (result ≢ Ending.WriteFault) × ((P.state place.new).write_faults ≡ (P.state place.old).write_faults) }
-    ensures same { (P.state place.new).steady ≡ (P.state place.old).steady }
-{
-    join_folder(alloc, place, folder, out)
 }

@@ -1,8 +1,8 @@
-//! Recordings cut into parts, and parts joined again.
+//! Splitting recordings into parts, and joining parts again.
 //!
-//! `disassemble` writes the chunks of a recording to parts, each a file of its own; `assemble` joins the
-//! chunks of a folder's files in the order of their names. Read `specs/Parts.antt` and
-//! `specs/Names.antt` first, then `specs/Splits.antt` and `specs/Joins.antt`: what the two commands do.
+//! `disassemble` writes the chunks of a recording to parts, each a file of its own. `assemble` joins the
+//! chunks of a folder's files in the order of their names. Read `specs/Parts.antt` and `specs/Names.antt`
+//! first, then `specs/Splits.antt` and `specs/Joins.antt`, which define what the two commands do.
 #![tactic(auto)]
 
 mod effects;

@@ -1,4 +1,4 @@
-// Which files of a folder are joined.
+//! The files of a folder that are joined.
 ghost use Rattle.std.specs.Prelude.{◌≡◌, ◌++◌, ◌∷◌, ◌<◌, [], length, map, string_bytes, slice_get, IfOk, OnOk, if◌then◌else◌};
 ghost use Rattle.std.specs.Str.{chars};
 ghost use Rattle.std.specs.FinMap as fin;
@@ -10,18 +10,19 @@ use crate::name::in_folder;
 use jfr_outside::{NoMemory, Words};
 use std::alloc::Global;
 
-// The name at a place of the list.
+// The name with this index in the list.
 fn name_at(names: &Words, at: usize) -> &str
     requires { at < length names.now }
     ensures { slice_get names.now at ≡ Some (chars result.now) }
 {
     match names.get(at) {
         Some(name) => name,
+        // The index is below the length, so there is a name.
         None => "",
     }
 }
 
-// Adds the name with its folder, if it ends in `.jfr`.
+// Adds the name, with its folder, if it ends in `.jfr`.
 fn push_file(
     alloc: Global,
     files: &mut Vec<String>,

@@ -1,4 +1,4 @@
-// The names of parts.
+//! The names of parts.
 ghost use Rattle.std.specs.Prelude.{◌≡◌, ◌<◌, ◌≤◌, ◌+◌, ◌^◌, ◌∷◌, ◌++◌, [], string_bytes, IfOk, OnOk};
 ghost use Rattle.std.specs.Str.{chars};
 ghost use Rattle.jfr_outside.specs.World.{slice_of, in_folder as name_in_folder};
@@ -7,7 +7,7 @@ ghost use Rattle.jfr_split.specs.Names.{base as base_of_name, without_suffix as 
 use jfr_outside::{NoMemory, Text};
 use std::alloc::Global;
 
-// What stands in a name behind its last slash.
+// The part of a name after its last slash.
 fn base(name: &str) -> &str
     ensures { result.now ≡ base_of_name name.now }
 {
@@ -17,7 +17,7 @@ fn base(name: &str) -> &str
     }
 }
 
-// The name without a final `.jfr`, where something stands before that.
+// The name without a final `.jfr`, if something comes before that.
 fn without_suffix(name: &str) -> &str
     ensures { result.now ≡ name_without_suffix name.now }
 {
@@ -54,7 +54,7 @@ fn digit(value: u64) -> &'static str
     }
 }
 
-// Adds the number in six digits.
+// Adds the number with six digits.
 fn push_digits(text: &mut String, number: u64) -> Result<(), NoMemory>
     requires { number < 10 ^ 6 }
     ensures { OnOk result (string_bytes text.new ≡ string_bytes text.old ++ digits 6 number) }
@@ -112,8 +112,8 @@ pub fn part_string(
     }
 }
 
-/// The name of a part, which is numbered from 1: the folder and a slash where a folder is given, the
-/// stem of the file's name, `_`, the number in six digits, and `.jfr`.
+/// The name of a part: the folder and a slash if a folder is given, the stem of the file's name, `_`, the
+/// number with six digits, and `.jfr`. Parts are numbered from 1.
 pub fn part_name(
     alloc: Global,
     folder: Option<&str>,

@@ -1,22 +1,22 @@
-// How much a part holds, and the part that a chunk stands in.
+//! The limits of parts, and the part to which a chunk belongs.
 ghost use Rattle.std.specs.Prelude.{◌≡◌, ◌<◌, ◌+◌, ◌≤◌, ◌^◌, true, false};
 ghost use Rattle.jfr_outside.specs.World.{slice_of};
 ghost use Rattle.jfr_split.specs.Parts.{IsUsable, folder_of, begins, part_by, part_with};
 
 use jfr_outside::Text;
 
-/// How a recording is cut into parts: where they stand, and how much each of them may hold.
+/// The rule by which a recording is split into parts: the folder, and the limits.
 ///
 /// Each of the three numbers is at least 1, and `max_parts` is at most 999,999.
 #[derive(Drop)]
 pub struct SplitRule {
-    /// The folder of the parts; with none they are named by the stem alone.
+    /// The folder of the parts; without one their names start with the stem.
     pub folder: Option<Text>,
-    /// How many chunks a part may have.
+    /// The most chunks of a part.
     pub max_chunks: u64,
-    /// How many bytes a part of several chunks may have. A larger chunk stands alone.
+    /// The most bytes of a part with several chunks. A larger chunk is a part of its own.
     pub max_size: u64,
-    /// How many parts there may be.
+    /// The most parts that there may be.
     pub max_parts: u64,
 }
 
@@ -30,14 +30,14 @@ pub fn folder_name(rule: &SplitRule) -> Option<&str>
     }
 }
 
-/// The part that is being filled, or none yet.
+/// The current part, if there is one.
 #[derive(Clone, Copy)]
 pub struct Part {
-    /// Its number, from 1; 0 where there is no part yet.
+    /// Its number, from 1; 0 if there is no part yet.
     pub number: u64,
-    /// How many chunks it has.
+    /// The number of its chunks.
     pub chunks: u64,
-    /// How many bytes they have together.
+    /// The number of bytes of its chunks together.
     pub bytes: u64,
 }
 
@@ -56,7 +56,7 @@ impl Part {
     }
 }
 
-/// Whether the chunk begins a new part.
+/// Whether the chunk starts a new part.
 pub fn starts_part(rule: &SplitRule, part: &Part, chunk: &[u8]) -> bool
     ensures { result ≡ begins rule.now part.now chunk.now }
 {
@@ -67,7 +67,7 @@ pub fn starts_part(rule: &SplitRule, part: &Part, chunk: &[u8]) -> bool
         || rule.max_size - size < part.bytes
 }
 
-// The part that the chunk begins.
+// The part that the chunk starts.
 fn new_part(part: &Part, chunk: &[u8]) -> Part
     requires { part.now.number + 1 < 2 ^ 64 }
     ensures { result ≡ part_by true part.now chunk.now }
@@ -79,12 +79,12 @@ fn new_part(part: &Part, chunk: &[u8]) -> Part
     }
 }
 
-// The part with this chunk, which it takes.
+// The part with this chunk added.
 fn fuller_part(rule: &SplitRule, part: &Part, chunk: &[u8]) -> Part
     requires { begins rule.now part.now chunk.now ≡ false }
     ensures { result ≡ part_by false part.now chunk.now }
 {
-    // Read for the proof alone: the part has less than these numbers of 64 bits, so no sum below wraps.
+    // Read only for the proof: the part has less than these numbers of 64 bits, so no sum below wraps.
     let _max_chunks = rule.max_chunks;
     let _max_size = rule.max_size;
     let part = *part;
@@ -95,7 +95,7 @@ fn fuller_part(rule: &SplitRule, part: &Part, chunk: &[u8]) -> Part
     }
 }
 
-/// The part that the chunk stands in.
+/// The part to which the chunk belongs.
 pub fn next_part(rule: &SplitRule, part: &Part, chunk: &[u8]) -> Part
     requires usable { IsUsable rule.now }
     requires room { begins rule.now part.now chunk.now ≡ true → part.now.number < rule.now.max_parts }

@@ -1,4 +1,4 @@
-// What is done with the place for a chunk.
+//! The effects on the place for a chunk.
 ghost use Rattle.std.specs.Prelude.{◌≡◌, ◌<◌, ◌+◌, ◌≤◌, ◌∷◌, [], ◌++◌, OnOk, true};
 ghost use Rattle.jfr_outside.specs.World.{SinkState};
 ghost use Rattle.jfr_plan.specs.Effects.{outside, Create};
@@ -49,7 +49,7 @@ fn open_part<P: Place>(
     create_output(place, name.as_str())
 }
 
-// Begins a new part with the chunk, if there may be one more.
+// Starts a new part with the chunk, if there may be one more.
 fn begin_part<P: Place>(
     alloc: Global,
     place: &mut P,
@@ -73,7 +73,7 @@ fn begin_part<P: Place>(
     append_chunk(place, chunk)
 }
 
-/// Appends the chunk to its part, which is created first where the chunk begins it.
+/// Appends the chunk to its part, which is created first if the chunk starts it.
 pub fn write_chunk<P: Place>(
     alloc: Global,
     place: &mut P,

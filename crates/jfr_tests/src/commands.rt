@@ -1,33 +1,14 @@
-// The commands that write text, those that split and join, and the sample.
+// The commands that write text, and the sample.
 ghost use Rattle.std.specs.Prelude.{◌≤◌};
 
-use crate::calls::words;
+use crate::runs::{says, words};
 use jfr_cli::run;
-use jfr_fixtures::{PLAIN, RINGS, STRINGS, inert, with_classes};
-use jfr_outside::{Call, MemoryPlace, MemorySink, Place};
+use jfr_fixtures::{RINGS, STRINGS, inert, with_classes};
+use jfr_outside::{MemoryPlace, MemorySink};
 use jfr_sample::sample;
 use std::alloc::Global;
 use std::process::Abort;
 use std::test::Fail;
-
-// A run over a place, with its status and what it says on both streams.
-fn says(
-    rt: &impl Abort,
-    alloc: Global,
-    place: &mut MemoryPlace,
-    line: &[&str],
-    status: u8,
-    text: &str,
-    fault: &str,
-) -> Result<(), Fail> {
-    let words = words(alloc, line)?;
-    let mut out = MemorySink::new(alloc);
-    let mut err = MemorySink::new(alloc);
-    assert_eq!(rt; run(alloc, &words, place, &mut out, &mut err), status);
-    assert_eq!(rt; out.bytes(), text.as_bytes());
-    assert_eq!(rt; err.bytes(), fault.as_bytes());
-    Ok(())
-}
 
 // A place with chunks of rings, of strings that are keys, and with inert records.
 fn small_chunks(alloc: Global) -> Result<MemoryPlace, Fail> {
@@ -48,6 +29,27 @@ const DEEP_A: &str = "t.A {
       text = \"q\"
     }
     text = \"p\"
+  }
+}
+";
+
+const DEEP: &str = "t.A {
+  n = 300
+  node = t.Node {
+    next = t.Node {
+      next = t.Node#1
+      text = \"q\"
+    }
+    text = \"p\"
+  }
+}
+t.B {
+  node = t.Node {
+    next = t.Node {
+      next = t.Node#3
+      text = \"s\"
+    }
+    text = \"r\"
   }
 }
 ";
@@ -109,6 +111,7 @@ fn texts_are_written(rt: HostRuntime) -> Result<(), Fail> {
     let mut place = small_chunks(rt.alloc())?;
     for (line, text) in [
         (&["print", "--depth", "0", "rings.jfr"][..], SHALLOW),
+        (&["print", "--depth", "2", "rings.jfr"][..], DEEP),
         (&["print", "--events", "A", "rings.jfr"][..], DEEP_A),
         (&["print", "strings.jfr"][..], KEYS_OF_STRINGS),
         (&["print", "--json", "--depth", "1", "rings.jfr"][..], JSON),
@@ -127,7 +130,7 @@ kept events 4
 constants 7
 kept constants 4
 bytes 418
-kept bytes 385
+kept bytes 362
 ";
 
 #[test]
@@ -160,12 +163,12 @@ fn scrubbed_size(rt: &impl Abort, alloc: Global, seed: u32, events: u32) -> Resu
 }
 
 // The last line of the command `sample`.
-fn last_line(alloc: Global, seed: &str, events: &str) -> Result<String, Fail> {
+fn last_line(rt: &impl Abort, alloc: Global, seed: &str, events: &str) -> Result<String, Fail> {
     let mut place = MemoryPlace::new(alloc);
     let mut out = MemorySink::new(alloc);
     let mut err = MemorySink::new(alloc);
     let line = words(alloc, &["sample", seed, events])?;
-    run(alloc, &line, &mut place, &mut out, &mut err);
+    assert_eq!(rt; run(alloc, &line, &mut place, &mut out, &mut err), 0);
     let bytes = out.bytes();
     let start = bytes
         .iter()
@@ -178,108 +181,26 @@ fn last_line(alloc: Global, seed: &str, events: &str) -> Result<String, Fail> {
     Ok(last)
 }
 
-// What is left of a sample has as many bytes as the command says.
+// What is left of a sample has the number of bytes that the command reports.
 #[test]
 fn the_sample_is_scrubbed_as_a_file(rt: HostRuntime) -> Result<(), Fail> {
     let alloc = rt.alloc();
-    for (seed, events, words) in [(0u32, 7u32, ["0", "7"]), (1, 1_000_000, ["1", "1000000"])] {
+    for (seed, events, words) in [
+        (0u32, 7u32, ["0", "7"]),
+        (1, 2000, ["1", "2000"]),
+        (1, 1_000_000, ["1", "1000000"]),
+    ] {
         let size = scrubbed_size(&rt, alloc, seed, events)?;
         let expected = format!(in alloc; "kept bytes {size}\n")?;
-        let line = last_line(alloc, words[0], words[1])?;
+        let line = last_line(&rt, alloc, words[0], words[1])?;
         assert_eq!(&rt; line.as_str(), expected.as_str());
-    }
-    Ok(())
-}
-
-// A place with a recording of three plain chunks.
-fn three_chunks(alloc: Global) -> Result<MemoryPlace, Fail> {
-    let mut bytes = Vec::new(alloc);
-    for _ in 0..3 {
-        bytes.extend_from_slice(&PLAIN)?;
-    }
-    let mut place = MemoryPlace::new(alloc);
-    place.put("r.jfr", &bytes)?;
-    Ok(place)
-}
-
-// How many bytes the files have.
-fn have(rt: &impl Abort, place: &MemoryPlace, files: &[(&str, Option<usize>)]) {
-    for (name, size) in files {
-        assert_eq!(rt; place.file(name).map(|bytes| bytes.len()), *size);
-    }
-}
-
-const SPLIT: &[&str] = &["disassemble", "--output", "d", "--max-chunks", "2", "r.jfr"];
-
-// A recording is cut into parts, which are joined again.
-#[test]
-fn parts_come_back(rt: HostRuntime) -> Result<(), Fail> {
-    let mut place = three_chunks(rt.alloc())?;
-    says(&rt, rt.alloc(), &mut place, SPLIT, 0, "", "")?;
-    let join = &["assemble", "d", "o.jfr"];
-    says(&rt, rt.alloc(), &mut place, join, 0, "", "")?;
-    have(
-        &rt,
-        &place,
-        &[
-            ("d/r_000001.jfr", Some(206)),
-            ("d/r_000002.jfr", Some(103)),
-            ("d/r_000003.jfr", None),
-            ("o.jfr", Some(309)),
-        ],
-    );
-    let empty = &["assemble", "e", "p.jfr"];
-    let line = "chunk 1 offset 0: NoChunk\n";
-    says(&rt, rt.alloc(), &mut place, empty, 2, "", line)?;
-    have(&rt, &place, &[("p.jfr", Some(0))]);
-    Ok(())
-}
-
-// The second part can't be created: the first one, of so many chunks, is whole and was finished, so that
-// the next output that is finished is the second.
-fn see_first_part(rt: &impl Abort, alloc: Global, chunks: &str, size: usize) -> Result<(), Fail> {
-    let mut place = three_chunks(alloc)?;
-    place.fail(Call::Create, 2, 0)?;
-    place.fail(Call::Finish, 2, 0)?;
-    let line = &[
-        "disassemble",
-        "--output",
-        "d",
-        "--max-chunks",
-        chunks,
-        "r.jfr",
-    ];
-    says(rt, alloc, &mut place, line, 4, "", "write fault\n")?;
-    have(
-        rt,
-        &place,
-        &[("d/r_000001.jfr", Some(size)), ("d/r_000002.jfr", None)],
-    );
-    assert!(rt; place.create_output("other").is_ok());
-    assert!(rt; place.finish_output().is_err());
-    Ok(())
-}
-
-// Calls of the outside that fail, and what stands then.
-#[test]
-fn faults_of_parts_are_told(rt: HostRuntime) -> Result<(), Fail> {
-    see_first_part(&rt, rt.alloc(), "1", 103)?;
-    see_first_part(&rt, rt.alloc(), "2", 206)?;
-    for (call, nth, size) in [(Call::List, 1, None), (Call::Open, 2, Some(103))] {
-        let mut place = MemoryPlace::new(rt.alloc());
-        place.put("d/a.jfr", &PLAIN)?;
-        place.put("d/b.jfr", &PLAIN)?;
-        place.fail(call, nth, 0)?;
-        let join = &["assemble", "d", "o.jfr"];
-        says(&rt, rt.alloc(), &mut place, join, 3, "", "read fault\n")?;
-        have(&rt, &place, &[("o.jfr", size)]);
     }
     Ok(())
 }
 
 // A stream that fails keeps the text that it took.
 #[test]
-fn faults_of_streams_are_told(rt: HostRuntime) -> Result<(), Fail> {
+fn faults_of_streams_are_reported(rt: HostRuntime) -> Result<(), Fail> {
     let alloc = rt.alloc();
     let mut place = small_chunks(alloc)?;
     let mut out = MemorySink::new(alloc);

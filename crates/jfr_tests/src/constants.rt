@@ -1,8 +1,8 @@
 // Scrubs of chunks with constants.
-use crate::calls::{run_over_places, scrub};
+use crate::runs::{run_over_places, scrub};
 use jfr_fixtures::{
-    BYTES_LEFT, NO_NODES, RINGS, STRINGS, STRINGS_SCRUBBED, THREE, THREE_SCRUBBED, TWICE,
-    TWICE_SCRUBBED, WIDE, WIDE_SCRUBBED, with_classes,
+    BYTES_LEFT, CLASSES, CLASSES_OF_A, NO_NODES, RINGS, STRINGS, STRINGS_SCRUBBED, THREE,
+    THREE_SCRUBBED, TWICE, TWICE_SCRUBBED, WIDE, WIDE_SCRUBBED, with_classes, with_metadata,
 };
 use jfr_outside::MemoryPlace;
 use std::alloc::Global;
@@ -10,20 +10,20 @@ use std::test::Fail;
 
 const SCRUB: &[&str] = &["scrub", "a.jfr", "b.jfr"];
 
-// What events reach stays, and nothing else does.
+// What events reach stays, and nothing else does. With the events of `t.B` its description goes too.
 #[test]
 fn constants_that_are_reached_stay(rt: HostRuntime) -> Result<(), Fail> {
-    for (records, last, scrubbed, scrubbed_last) in [
-        (RINGS, 333, RINGS, 333),
-        (BYTES_LEFT, 334, BYTES_LEFT, 334),
-        (NO_NODES, 333, NO_NODES, 333),
-        (TWICE, 344, TWICE_SCRUBBED, 337),
-        (THREE, 366, THREE_SCRUBBED, 359),
-        (STRINGS, 330, STRINGS_SCRUBBED, 330),
-        (WIDE, 352, WIDE_SCRUBBED, 345),
+    for (records, last, classes, scrubbed, scrubbed_last) in [
+        (RINGS, 333, CLASSES, RINGS, 333),
+        (BYTES_LEFT, 334, CLASSES, BYTES_LEFT, 334),
+        (NO_NODES, 333, CLASSES, NO_NODES, 333),
+        (TWICE, 344, CLASSES_OF_A, TWICE_SCRUBBED, 314),
+        (THREE, 366, CLASSES_OF_A, THREE_SCRUBBED, 336),
+        (STRINGS, 330, CLASSES_OF_A, STRINGS_SCRUBBED, 307),
+        (WIDE, 352, CLASSES_OF_A, WIDE_SCRUBBED, 322),
     ] {
         let recording = with_classes(rt.alloc(), records, last)?;
-        let expected = with_classes(rt.alloc(), scrubbed, scrubbed_last)?;
+        let expected = with_metadata(rt.alloc(), classes, scrubbed, scrubbed_last)?;
         run_over_places(&rt, rt.alloc(), &recording, SCRUB, 0, "", Some(&expected))?;
     }
     Ok(())
@@ -97,9 +97,9 @@ fn push_integer(bytes: &mut Vec<u8>, value: u64) -> Result<(), Fail> {
 fn a_long_ring_stays(rt: HostRuntime) -> Result<(), Fail> {
     let records = long_ring(rt.alloc())?;
     let recording = with_classes(rt.alloc(), &records, 330)?;
-    let expected = recording.as_slice();
+    let expected = with_metadata(rt.alloc(), CLASSES_OF_A, &records, 307)?;
     let mut place = MemoryPlace::new(rt.alloc());
     place.put("a.jfr", &recording)?;
-    scrub(&rt, rt.alloc(), &mut place, 0, "", Some(expected))?;
+    scrub(&rt, rt.alloc(), &mut place, 0, "", Some(&expected))?;
     Ok(())
 }

@@ -1,6 +1,10 @@
 // Scrubs with filters.
-use crate::calls::run_over_places;
-use jfr_fixtures::{BYTES_LEFT, JDK_LIKE, NO_POOLS, RINGS, chunk_of, with_classes};
+use crate::runs::run_over_places;
+use jfr_fixtures::{
+    BYTES_LEFT, CLASSES_OF_A, CLASSES_OF_B, ENTER_AND_LOAD_CLASSES, ENTER_CLASSES, JDK_LIKE,
+    LOAD_CLASSES, NO_EVENT_CLASSES, NO_JDK_EVENT_CLASSES, NO_POOLS, PARK_AND_ENTER_CLASSES,
+    PARK_CLASSES, RINGS, chunk_of, jdk_unnamed, with_classes, with_metadata,
+};
 use std::alloc::Global;
 use std::process::Abort;
 use std::test::Fail;
@@ -23,7 +27,7 @@ const SYMBOLS: &[u8] = &[
 const NOTHING: &[u8] = &[0x8A, 0x80, 0x80, 0, 1, 0, 0, 0, 0, 0];
 
 // What remains of its last checkpoint: a class, a method and a stack trace; the later thread of key 2
-// with its stack trace and all that this leads to, at two distances; nothing; and all.
+// with its stack trace and all that this leads to; nothing; and all.
 const ONE_TRACE: &[u8] = &[
     0xA7, 0x80, 0x80, 0, 1, 0, 0, 0xF5, 0xF6, 0xFF, 0xFF, 0xFF, 0xFF, 0xFF, 0xFF, 0xFF, 0, 3, 0x1F,
     1, 1, 1, 1, 0x21, 1, 1, 1, 2, 3, 1, 0, 0x23, 1, 1, 0, 1, 1, 0x0A, 2,
@@ -31,14 +35,6 @@ const ONE_TRACE: &[u8] = &[
 
 const RENAMED: &[u8] = &[
     0xDE, 0x80, 0x80, 0, 1, 0, 0, 0x86, 0xF7, 0xFF, 0xFF, 0xFF, 0xFF, 0xFF, 0xFF, 0xFF, 0, 5, 0x1E,
-    1, 2, 3, 1, 0x77, 0x65, 3, 0x0E, 0x77, 0x6F, 0x72, 0x6B, 0x65, 0x72, 0x2D, 0x72, 0x65, 0x6E,
-    0x61, 0x6D, 0x65, 0x64, 2, 0x1F, 2, 1, 1, 1, 2, 4, 1, 0x20, 2, 4, 3, 8, 0x61, 0x70, 0x70, 0x2F,
-    0x4C, 0x6F, 0x63, 0x6B, 5, 3, 3, 0x72, 0x75, 0x6E, 0x21, 2, 1, 1, 2, 3, 1, 0, 2, 2, 5, 3, 1, 0,
-    0x23, 1, 2, 0, 2, 2, 0x14, 4, 1, 0x0A, 2,
-];
-
-const RENAMED_FARTHER: &[u8] = &[
-    0xDE, 0x80, 0x80, 0, 1, 0, 0, 0xFB, 0xF6, 0xFF, 0xFF, 0xFF, 0xFF, 0xFF, 0xFF, 0xFF, 0, 5, 0x1E,
     1, 2, 3, 1, 0x77, 0x65, 3, 0x0E, 0x77, 0x6F, 0x72, 0x6B, 0x65, 0x72, 0x2D, 0x72, 0x65, 0x6E,
     0x61, 0x6D, 0x65, 0x64, 2, 0x1F, 2, 1, 1, 1, 2, 4, 1, 0x20, 2, 4, 3, 8, 0x61, 0x70, 0x70, 0x2F,
     0x4C, 0x6F, 0x63, 0x6B, 5, 3, 3, 0x72, 0x75, 0x6E, 0x21, 2, 1, 1, 2, 3, 1, 0, 2, 2, 5, 3, 1, 0,
@@ -57,7 +53,15 @@ const ALL_LATER: &[u8] = &[
     0x23, 2, 1, 0, 1, 1, 0x0A, 2, 2, 0, 2, 2, 0x14, 4, 1, 0x0A, 2,
 ];
 
-// The three events of the chunk, and its metadata record.
+// The later thread of key 2 and what it leads to, where this thread has the system name `w` and no Java name.
+const UNNAMED: &[u8] = &[
+    0xCF, 0x80, 0x80, 0, 1, 0, 0, 0xC6, 0xF8, 0xFF, 0xFF, 0xFF, 0xFF, 0xFF, 0xFF, 0xFF, 0, 5, 0x1E,
+    1, 2, 3, 1, 0x77, 0x65, 0, 2, 0x1F, 2, 1, 1, 1, 2, 4, 1, 0x20, 2, 4, 3, 8, 0x61, 0x70, 0x70,
+    0x2F, 0x4C, 0x6F, 0x63, 0x6B, 5, 3, 3, 0x72, 0x75, 0x6E, 0x21, 2, 1, 1, 2, 3, 1, 0, 2, 2, 5, 3,
+    1, 0, 0x23, 1, 2, 0, 2, 2, 0x14, 4, 1, 0x0A, 2,
+];
+
+// The three events of the chunk that is like the JDK's, and its metadata record.
 const PARK: (usize, usize) = (145, 156);
 
 const ENTER: (usize, usize) = (156, 167);
@@ -66,23 +70,43 @@ const LOAD: (usize, usize) = (167, 178);
 
 const METADATA: (usize, usize) = (178, 1269);
 
-// What stays of the chunk that is like the JDK's: its first checkpoint, records, its last checkpoint;
-// and where the last checkpoint and the metadata record stand.
-fn jdk_like(
-    alloc: Global,
-    first: &[u8],
-    records: &[(usize, usize)],
-    last: &[u8],
-    last_at: u64,
-    metadata_at: u64,
-) -> Result<Vec<u8>, Fail> {
-    let mut parts: Vec<&[u8]> = Vec::new(alloc);
-    parts.push(first)?;
-    for (from, to) in records {
-        parts.push(JDK_LIKE.get(*from..*to).ok_or("no record")?)?;
+// What stays of the chunk that is like the JDK's: its first checkpoint, events, the metadata record (None
+// for its own), and its last checkpoint; the first two bytes of this checkpoint's delta, which seven of
+// 0xFF follow; and where the last checkpoint and the metadata record lie.
+#[derive(Clone, Copy)]
+struct Left {
+    first: &'static [u8],
+    events: &'static [(usize, usize)],
+    classes: Option<&'static [u8]>,
+    last: &'static [u8],
+    delta: [u8; 2],
+    places: (u64, u64),
+}
+
+// A checkpoint with another delta.
+fn moved(alloc: Global, checkpoint: &[u8], delta: [u8; 2]) -> Result<Vec<u8>, Fail> {
+    let mut bytes = Vec::from_slice(alloc, checkpoint)?;
+    if let Some(first) = bytes.get_mut(7) {
+        *first = delta[0];
     }
-    parts.push(last)?;
-    Ok(chunk_of(alloc, &parts, last_at, metadata_at)?)
+    if let Some(second) = bytes.get_mut(8) {
+        *second = delta[1];
+    }
+    Ok(bytes)
+}
+
+// The chunk of it.
+fn chunk_left(alloc: Global, left: &Left) -> Result<Vec<u8>, Fail> {
+    let last = moved(alloc, left.last, left.delta)?;
+    let mut parts: Vec<&[u8]> = Vec::new(alloc);
+    parts.push(left.first)?;
+    for (from, to) in left.events {
+        parts.push(JDK_LIKE.get(*from..*to).ok_or("no event")?)?;
+    }
+    let own = JDK_LIKE.get(METADATA.0..METADATA.1).ok_or("no metadata")?;
+    parts.push(left.classes.unwrap_or(own))?;
+    parts.push(&last)?;
+    Ok(chunk_of(alloc, &parts, left.places.0, left.places.1)?)
 }
 
 // Scrubs a recording with an option, and compares the output.
@@ -98,59 +122,85 @@ fn filtered(
     run_over_places(rt, alloc, recording, &command, 0, "", Some(expected))
 }
 
-// Events go with the constants that they alone reach.
+// An option, its list, and what stays.
+type Row = (&'static str, &'static str, Left);
+
+const NOTHING_LEFT: Left = Left {
+    first: NOTHING,
+    events: &[],
+    classes: Some(NO_JDK_EVENT_CLASSES),
+    last: NOTHING_LATER,
+    delta: [0xC4, 0xFA],
+    places: (768, 78),
+};
+
+const UNNAMED_LEFT: Left = Left {
+    first: SYMBOLS,
+    events: &[ENTER],
+    classes: Some(ENTER_CLASSES),
+    last: UNNAMED,
+    delta: [0xC6, 0xF8],
+    places: (1022, 123),
+};
+
+#[rattlefmt::skip]
+static ROWS: [Row; 7] = [
+    ("--include-events", "ThreadPark", Left {
+        first: THREAD_AND_SYMBOLS, events: &[PARK], classes: Some(PARK_CLASSES),
+        last: ONE_TRACE, delta: [0xBC, 0xF8], places: (1032, 140),
+    }),
+    ("--include-threads", "worker*", Left {
+        first: SYMBOLS, events: &[ENTER], classes: Some(ENTER_CLASSES),
+        last: RENAMED, delta: [0xC6, 0xF8], places: (1022, 123),
+    }),
+    ("--exclude-threads", "main", Left {
+        first: SYMBOLS, events: &[ENTER, LOAD], classes: Some(ENTER_AND_LOAD_CLASSES),
+        last: RENAMED, delta: [0xD5, 0xF7], places: (1135, 134),
+    }),
+    ("--include-threads", "*", Left {
+        first: THREAD_AND_SYMBOLS, events: &[PARK, ENTER], classes: Some(PARK_AND_ENTER_CLASSES),
+        last: ALL_LATER, delta: [0xCF, 0xF7], places: (1141, 151),
+    }),
+    ("--include-categories", "Operating*", Left {
+        first: NOTHING, events: &[LOAD], classes: Some(LOAD_CLASSES),
+        last: NOTHING_LATER, delta: [0x99, 0xF9], places: (939, 89),
+    }),
+    ("--exclude-events", "jdk.?,park", Left {
+        first: THREAD_AND_SYMBOLS, events: &[PARK, ENTER, LOAD], classes: None,
+        last: ALL_LATER, delta: [0xDF, 0xF6], places: (1253, 162),
+    }),
+    ("--include-events", "t.A", NOTHING_LEFT),
+];
+
+// Events go with the constants and the classes that only they need. A second scrub changes nothing.
 #[test]
 fn events_are_chosen(rt: HostRuntime) -> Result<(), Fail> {
-    for (option, list, first, records, last, last_at, metadata_at) in [
-        (
-            "--include-events",
-            "ThreadPark",
-            THREAD_AND_SYMBOLS,
-            &[PARK, METADATA][..],
-            ONE_TRACE,
-            1231,
-            140,
-        ),
-        (
-            "--include-threads",
-            "worker*",
-            SYMBOLS,
-            &[ENTER, METADATA][..],
-            RENAMED,
-            1214,
-            123,
-        ),
-        (
-            "--exclude-threads",
-            "main",
-            SYMBOLS,
-            &[ENTER, LOAD, METADATA][..],
-            RENAMED_FARTHER,
-            1225,
-            134,
-        ),
-        (
-            "--include-categories",
-            "Operating*",
-            NOTHING,
-            &[LOAD, METADATA][..],
-            NOTHING_LATER,
-            1180,
-            89,
-        ),
-        (
-            "--exclude-events",
-            "jdk.?,park",
-            THREAD_AND_SYMBOLS,
-            &[PARK, ENTER, LOAD, METADATA][..],
-            ALL_LATER,
-            1253,
-            162,
-        ),
-    ] {
-        let expected = jdk_like(rt.alloc(), first, records, last, last_at, metadata_at)?;
+    for (option, list, left) in ROWS.iter() {
+        let expected = chunk_left(rt.alloc(), left)?;
         filtered(&rt, rt.alloc(), &JDK_LIKE, option, list, &expected)?;
         filtered(&rt, rt.alloc(), &expected, option, list, &expected)?;
+    }
+    Ok(())
+}
+
+// A thread without a Java name goes by its system name. The empty text is a name.
+#[test]
+fn threads_without_java_names_go_by_system_names(rt: HostRuntime) -> Result<(), Fail> {
+    for (kind, list, left) in [
+        (0u8, "w", UNNAMED_LEFT),
+        (0, "worker*", NOTHING_LEFT),
+        (1, "w", NOTHING_LEFT),
+    ] {
+        let recording = jdk_unnamed(rt.alloc(), kind)?;
+        let expected = chunk_left(rt.alloc(), &left)?;
+        filtered(
+            &rt,
+            rt.alloc(),
+            &recording,
+            "--include-threads",
+            list,
+            &expected,
+        )?;
     }
     Ok(())
 }
@@ -172,14 +222,21 @@ const SECOND_WITH_A_BYTE_LEFT: &[u8] = &[
 // A ring of constants stays whole, or goes whole.
 #[test]
 fn rings_stay_or_go(rt: HostRuntime) -> Result<(), Fail> {
-    for (records, last, list, scrubbed, scrubbed_last) in [
-        (RINGS, 333, "t.A", FIRST_RING, 330),
-        (RINGS, 333, "t.B", SECOND_RING, 328),
-        (RINGS, 333, "t.C", NO_POOLS, 325),
-        (BYTES_LEFT, 334, "B", SECOND_WITH_A_BYTE_LEFT, 329),
+    for (records, last, list, classes, scrubbed, scrubbed_last) in [
+        (RINGS, 333, "t.A", CLASSES_OF_A, FIRST_RING, 307),
+        (RINGS, 333, "t.B", CLASSES_OF_B, SECOND_RING, 295),
+        (RINGS, 333, "t.C", NO_EVENT_CLASSES, NO_POOLS, 234),
+        (
+            BYTES_LEFT,
+            334,
+            "B",
+            CLASSES_OF_B,
+            SECOND_WITH_A_BYTE_LEFT,
+            296,
+        ),
     ] {
         let recording = with_classes(rt.alloc(), records, last)?;
-        let expected = with_classes(rt.alloc(), scrubbed, scrubbed_last)?;
+        let expected = with_metadata(rt.alloc(), classes, scrubbed, scrubbed_last)?;
         filtered(
             &rt,
             rt.alloc(),

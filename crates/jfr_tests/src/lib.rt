@@ -2,12 +2,16 @@
 #![tactic(auto)]
 
 #[cfg(test)]
-mod calls;
-#[cfg(test)]
 mod commands;
 #[cfg(test)]
 mod constants;
 #[cfg(test)]
+mod descriptions;
+#[cfg(test)]
 mod filters;
+#[cfg(test)]
+mod parts;
+#[cfg(test)]
+mod runs;
 #[cfg(test)]
 mod scrubs;

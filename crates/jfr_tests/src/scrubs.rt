@@ -1,14 +1,14 @@
 // Scrubs of the plain chunk.
-use crate::calls::{run_over_places, scrub, words};
+use crate::runs::{run_over_places, scrub, words};
 use jfr_cli::run;
 use jfr_fixtures::{NO_CLASSES, NO_POOLS, PLAIN, inert, plain_with};
-use jfr_outside::{Call, MemoryPlace, MemorySink, Place, SteadyPlace, SteadySink};
+use jfr_outside::{Call, MemoryPlace, Place, SteadyPlace, SteadySink};
 use std::alloc::Global;
 use std::test::Fail;
 
 const SCRUB: &[&str] = &["scrub", "a.jfr", "b.jfr"];
 
-// The plain chunk so many times, and then its first bytes.
+// The plain chunk `times` times, and then its first `more` bytes.
 fn plain(alloc: Global, times: usize, more: usize) -> Result<Vec<u8>, Fail> {
     let mut bytes = Vec::new(alloc);
     for _ in 0..times {
@@ -71,7 +71,8 @@ fn changed_chunks_are_refused(rt: HostRuntime) -> Result<(), Fail> {
         ),
         (&[(67, 0x00)][..], "chunk 1 offset 67: NotCompact\n"),
         (&[(15, 0x43)][..], "chunk 1 offset 8: ChunkSize\n"),
-        (&[(12, 0x10)][..], "chunk 1 offset 8: ChunkSize\n"),
+        (&[(12, 0x40)][..], "chunk 1 offset 8: ChunkSize\n"),
+        (&[(12, 0x10)][..], "chunk 1 offset 103: ShortChunk\n"),
         (&[(96, 0x08)][..], "chunk 1 offset 96: RecordSize\n"),
         (&[(96, 0x01)][..], "chunk 1 offset 96: RecordSize\n"),
         (&[(31, 0x45)][..], "chunk 1 offset 24: MetadataPosition\n"),
@@ -88,7 +89,7 @@ fn changed_chunks_are_refused(rt: HostRuntime) -> Result<(), Fail> {
     Ok(())
 }
 
-// Metadata records with trees of 16 and of 17 levels, each behind its strings; and checkpoints that end
+// Metadata records with trees of 16 and of 17 levels, each after its strings; and checkpoints that end
 // too early and too late.
 const SIXTEEN_LEVELS: &[u8] = &[
     0x46, 0, 0, 0, 1, 2, 3, 4, 0x72, 0x6F, 0x6F, 0x74, 3, 8, 0x6D, 0x65, 0x74, 0x61, 0x64, 0x61,
@@ -124,12 +125,24 @@ fn other_records_are_refused(rt: HostRuntime) -> Result<(), Fail> {
         let left: &[u8] = if status == 0 { &bytes } else { &[] };
         run_over_places(&rt, rt.alloc(), &bytes, SCRUB, status, line, Some(left))?;
     }
-    let deep = plain_with(rt.alloc(), SIXTEEN_LEVELS, NO_POOLS)?;
-    run_over_places(&rt, rt.alloc(), &deep, SCRUB, 0, "", Some(&deep))?;
     Ok(())
 }
 
-// A recording that ends early is refused at its end, and the chunks before stand.
+// The tree of 16 levels without the text that it doesn't use.
+const SIXTEEN_LEVELS_SLIM: &[u8] = &[
+    0xC4, 0x80, 0x80, 0x80, 0, 0, 0, 0, 1, 1, 3, 8, 0x6D, 0x65, 0x74, 0x61, 0x64, 0x61, 0x74, 0x61,
+    0, 0, 1, 0, 0, 1, 0, 0, 1, 0, 0, 1, 0, 0, 1, 0, 0, 1, 0, 0, 1, 0, 0, 1, 0, 0, 1, 0, 0, 1, 0, 0,
+    1, 0, 0, 1, 0, 0, 1, 0, 0, 1, 0, 0, 1, 0, 0, 0,
+];
+
+#[test]
+fn sixteen_levels_are_scrubbed(rt: HostRuntime) -> Result<(), Fail> {
+    let deep = plain_with(rt.alloc(), SIXTEEN_LEVELS, NO_POOLS)?;
+    let expected = plain_with(rt.alloc(), SIXTEEN_LEVELS_SLIM, NO_POOLS)?;
+    run_over_places(&rt, rt.alloc(), &deep, SCRUB, 0, "", Some(&expected))
+}
+
+// A recording that ends early is refused at its end, and the chunks before stay.
 #[test]
 fn cut_recordings_are_refused(rt: HostRuntime) -> Result<(), Fail> {
     for (times, more, line) in [
@@ -148,7 +161,7 @@ fn cut_recordings_are_refused(rt: HostRuntime) -> Result<(), Fail> {
 
 // Calls of the outside that fail.
 #[test]
-fn faults_are_told(rt: HostRuntime) -> Result<(), Fail> {
+fn faults_are_reported(rt: HostRuntime) -> Result<(), Fail> {
     let two = plain(rt.alloc(), 2, 0)?;
     let part = plain(rt.alloc(), 1, 10)?;
     for (call, nth, status, line, output) in [
@@ -203,7 +216,8 @@ fn the_first_event_decides(rt: HostRuntime) -> Result<(), Fail> {
     Ok(())
 }
 
-// Every other list of words is a usage fault, and nothing is done.
+// Every other list of words is a usage fault, and nothing is asked of the place: calls that would fail do so
+// after it.
 #[test]
 fn other_words_are_a_usage_fault(rt: HostRuntime) -> Result<(), Fail> {
     let usage = "usage: jfr print|summary|metadata|scrub|disassemble|assemble|sample\n";
@@ -238,14 +252,17 @@ fn other_words_are_a_usage_fault(rt: HostRuntime) -> Result<(), Fail> {
         ][..],
         &["scrub", "--include-events", "A", "a.jfr", "b.jfr", "c.jfr"][..],
     ] {
-        let mut place = SteadyPlace::new(rt.alloc());
+        let mut place = MemoryPlace::new(rt.alloc());
         place.put("a.jfr", &PLAIN)?;
+        place.fail(Call::Open, 1, 0)?;
+        place.fail(Call::Create, 1, 0)?;
         let mut out = SteadySink::new(rt.alloc());
         let mut err = SteadySink::new(rt.alloc());
         let words = words(rt.alloc(), line)?;
         assert_eq!(&rt; run(rt.alloc(), &words, &mut place, &mut out, &mut err), 1);
         assert_eq!(&rt; err.bytes(), usage.as_bytes());
-        assert_eq!(&rt; place.file("b.jfr"), None);
+        assert!(&rt; place.open_input("a.jfr").is_err());
+        assert!(&rt; place.create_output("b.jfr").is_err());
     }
     Ok(())
 }
@@ -293,24 +310,17 @@ fn options_come_before_the_names(rt: HostRuntime) -> Result<(), Fail> {
     Ok(())
 }
 
-// Over a steady place a plain chunk is scrubbed; and a line that is cut short changes no status.
+// Over a steady place plain chunks are scrubbed, and nothing is said.
 #[test]
-fn sinks_may_fail(rt: HostRuntime) -> Result<(), Fail> {
-    let line = words(rt.alloc(), &["scrub", "a.jfr", "b.jfr"])?;
-    let mut steady = SteadyPlace::new(rt.alloc());
-    steady.put("a.jfr", &PLAIN)?;
+fn plain_chunks_stay_over_a_steady_place(rt: HostRuntime) -> Result<(), Fail> {
+    let line = words(rt.alloc(), SCRUB)?;
+    let two = plain(rt.alloc(), 2, 0)?;
+    let mut place = SteadyPlace::new(rt.alloc());
+    place.put("a.jfr", &two)?;
     let mut out = SteadySink::new(rt.alloc());
-    let mut silent = SteadySink::new(rt.alloc());
-    assert_eq!(&rt;
-        run(rt.alloc(), &line, &mut steady, &mut out, &mut silent),
-        0
-    );
-    assert_eq!(&rt; steady.file("b.jfr"), Some(&PLAIN[..]));
-    let mut place = MemoryPlace::new(rt.alloc());
-    place.put("a.jfr", &[])?;
-    let mut err = MemorySink::new(rt.alloc());
-    err.fail(1, 5)?;
-    assert_eq!(&rt; run(rt.alloc(), &line, &mut place, &mut out, &mut err), 2);
-    assert_eq!(&rt; err.bytes(), b"chunk".as_slice());
+    let mut err = SteadySink::new(rt.alloc());
+    assert_eq!(&rt; run(rt.alloc(), &line, &mut place, &mut out, &mut err), 0);
+    assert_eq!(&rt; place.file("b.jfr"), Some(two.as_slice()));
+    assert!(&rt; out.bytes().is_empty() && err.bytes().is_empty());
     Ok(())
 }

@@ -1,8 +1,13 @@
-//! Tests of the calls on whole chunks, as tables: reading, paths, reach, choice and scrubbing.
+//! Tests of the calls on whole chunks, as tables: reading, paths, choice, reach and scrubbing, and of the
+//! libraries above them, the example and the sample.
 #![tactic(auto)]
 
 #[cfg(test)]
-mod names;
+mod choice;
+#[cfg(test)]
+mod class_names;
+#[cfg(test)]
+mod example;
 #[cfg(test)]
 mod paths;
 #[cfg(test)]
@@ -11,3 +16,7 @@ mod pieces;
 mod reach;
 #[cfg(test)]
 mod reading;
+#[cfg(test)]
+mod samples;
+#[cfg(test)]
+mod slim_metadata;

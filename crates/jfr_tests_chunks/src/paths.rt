@@ -1,27 +1,13 @@
 // Where paths and names lead.
 use crate::reading::read;
-use jfr_chunk::{Chunk, Kept};
-use jfr_filter::{Filter, Side};
-use jfr_fixtures::{JDK_LIKE, KEYS, RINGS, STRINGS, with_classes};
+use jfr_chunk::Chunk;
+use jfr_fixtures::{KEYS, RINGS, STRINGS, with_classes};
 use jfr_outside::{NoMemory, Text, Words};
-use jfr_path::{Path, choose, fields_of, leads, named};
+use jfr_path::{Path, fields_of, leads, named};
 use jfr_value::Step;
 use std::alloc::Global;
 use std::process::Abort;
 use std::test::Fail;
-
-// Which of the events of the chunk that is like the JDK's are kept.
-const PARK: &[bool] = &[true, false, false];
-
-const ENTER: &[bool] = &[false, true, false];
-
-const LOAD: &[bool] = &[false, false, true];
-
-const PARK_AND_ENTER: &[bool] = &[true, true, false];
-
-const ENTER_AND_LOAD: &[bool] = &[false, true, true];
-
-const NONE: &[bool] = &[false, false, false];
 
 // Adds steps to a path.
 fn push_steps(path: &mut Path, steps: &[Step]) -> Result<(), NoMemory> {
@@ -227,94 +213,4 @@ fn names_lead_to_texts(rt: HostRuntime) -> Result<(), Fail> {
     compare_texts(&rt, rt.alloc(), RINGS, 333, OF_RINGS)?;
     compare_texts(&rt, rt.alloc(), KEYS, 333, OF_KEYS)?;
     compare_texts(&rt, rt.alloc(), STRINGS, 330, OF_STRINGS)
-}
-
-// Gives an option to a filter that lacks it.
-fn give(filter: &mut Filter, side: Side, list: &str) -> Result<(), Fail> {
-    if filter.has(side) {
-        Err("the option is given already")?;
-    }
-    filter.add(side, list)?;
-    Ok(())
-}
-
-// The filter of one option.
-fn filter_of(alloc: Global, side: Side, list: &str) -> Result<Filter, Fail> {
-    let mut filter = Filter::new(alloc);
-    give(&mut filter, side, list)?;
-    Ok(filter)
-}
-
-// Compares the flags of events.
-fn compare_flags(rt: &impl Abort, kept: &Kept, list: &str, flags: &[bool]) {
-    assert_eq!(rt; kept.len(), flags.len(), "{list}");
-    for (number, flag) in flags.iter().enumerate() {
-        assert_eq!(rt; kept.get(number), Some(*flag), "{list}");
-    }
-}
-
-// Compares which events of a chunk an option keeps.
-fn compare_kept(
-    rt: &impl Abort,
-    alloc: Global,
-    chunk: &Chunk<'_>,
-    side: Side,
-    list: &str,
-    flags: &[bool],
-) -> Result<(), Fail> {
-    let filter = filter_of(alloc, side, list)?;
-    let kept = choose(alloc, chunk, &filter)?;
-    compare_flags(rt, &kept, list, flags);
-    Ok(())
-}
-
-// By class, by the name in force of the thread, and by category.
-fn compare_choices(rt: &impl Abort, alloc: Global, chunk: &Chunk<'_>) -> Result<(), Fail> {
-    compare_kept(rt, alloc, chunk, Side::IncludeEvents, "ThreadPark", PARK)?;
-    compare_kept(
-        rt,
-        alloc,
-        chunk,
-        Side::ExcludeEvents,
-        "jdk.*Park,CPULoad",
-        ENTER,
-    )?;
-    compare_kept(rt, alloc, chunk, Side::IncludeThreads, "worker*", ENTER)?;
-    compare_kept(rt, alloc, chunk, Side::IncludeThreads, "worker-1", NONE)?;
-    compare_kept(rt, alloc, chunk, Side::IncludeThreads, "*", PARK_AND_ENTER)?;
-    compare_kept(
-        rt,
-        alloc,
-        chunk,
-        Side::ExcludeThreads,
-        "main",
-        ENTER_AND_LOAD,
-    )?;
-    compare_kept(
-        rt,
-        alloc,
-        chunk,
-        Side::IncludeCategories,
-        "Operating*",
-        LOAD,
-    )?;
-    compare_kept(
-        rt,
-        alloc,
-        chunk,
-        Side::ExcludeCategories,
-        "Processor",
-        PARK_AND_ENTER,
-    )
-}
-
-// Events are chosen by what the options say.
-fn compare_chosen(rt: &impl Abort, alloc: Global) -> Result<(), Fail> {
-    let chunk = read(alloc, &JDK_LIKE)?;
-    compare_choices(rt, alloc, &chunk)
-}
-
-#[test]
-fn events_are_chosen(rt: HostRuntime) -> Result<(), Fail> {
-    compare_chosen(&rt, rt.alloc())
 }

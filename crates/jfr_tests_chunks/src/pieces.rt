@@ -1,10 +1,10 @@
 // What a chunk becomes, piece by piece.
-use crate::reading::read;
+use crate::reading::{chained, read};
 use jfr_chunk::Chunk;
 use jfr_filter::{Filter, Side};
 use jfr_fixtures::{
-    PLAIN, RINGS, STRINGS, STRINGS_SCRUBBED, THREE, THREE_SCRUBBED, TWICE, TWICE_SCRUBBED, WIDE,
-    WIDE_SCRUBBED, inert, with_classes,
+    CLASSES, CLASSES_OF_A, PLAIN, RINGS, STRINGS, STRINGS_SCRUBBED, THREE, THREE_SCRUBBED, TWICE,
+    TWICE_SCRUBBED, WIDE, WIDE_SCRUBBED, inert, with_classes, with_metadata,
 };
 use jfr_scrub::{Piece, Scrubber};
 use std::alloc::Global;
@@ -97,22 +97,30 @@ fn compare_records(
     compare_scrub(rt, alloc, &bytes, expected, kept)
 }
 
-// Records and what is left of them, with each the place of the last checkpoint; and how many events and
-// entries are kept.
-type Left = ((&'static [u8], u64), (&'static [u8], u64), (usize, usize));
+// Records, and the metadata record and records that are left of them, each with the place of the last
+// checkpoint; and how many events and entries are kept.
+type Left = (
+    (&'static [u8], u64),
+    (&'static [u8], &'static [u8], u64),
+    (usize, usize),
+);
 
 const LEFT: [Left; 5] = [
-    ((RINGS, 333), (RINGS, 333), (2, 4)),
-    ((TWICE, 344), (TWICE_SCRUBBED, 337), (1, 1)),
-    ((THREE, 366), (THREE_SCRUBBED, 359), (1, 1)),
-    ((STRINGS, 330), (STRINGS_SCRUBBED, 330), (1, 3)),
-    ((WIDE, 352), (WIDE_SCRUBBED, 345), (1, 1)),
+    ((RINGS, 333), (CLASSES, RINGS, 333), (2, 4)),
+    ((TWICE, 344), (CLASSES_OF_A, TWICE_SCRUBBED, 314), (1, 1)),
+    ((THREE, 366), (CLASSES_OF_A, THREE_SCRUBBED, 336), (1, 1)),
+    (
+        (STRINGS, 330),
+        (CLASSES_OF_A, STRINGS_SCRUBBED, 307),
+        (1, 3),
+    ),
+    ((WIDE, 352), (CLASSES_OF_A, WIDE_SCRUBBED, 322), (1, 1)),
 ];
 
 // Compares what is left of records.
 fn compare_left(rt: &impl Abort, alloc: Global, left: &Left) -> Result<(), Fail> {
-    let (records, (scrubbed, last), kept) = *left;
-    let expected = with_classes(alloc, scrubbed, last)?;
+    let (records, (metadata, scrubbed, last), kept) = *left;
+    let expected = with_metadata(alloc, metadata, scrubbed, last)?;
     compare_records(rt, alloc, records, &expected, kept)
 }
 
@@ -122,13 +130,21 @@ fn compare_inert(rt: &impl Abort, alloc: Global) -> Result<(), Fail> {
     compare_scrub(rt, alloc, &bytes, &PLAIN, (0, 0))
 }
 
-// Without a filter a chunk keeps its events and what they reach, and nothing else.
+// A chunk of two checkpoints without pools stays as it is.
+fn compare_chained(rt: &impl Abort, alloc: Global) -> Result<(), Fail> {
+    let bytes = chained(alloc)?;
+    compare_scrub(rt, alloc, &bytes, &bytes, (0, 0))
+}
+
+// Without a filter a chunk keeps its events and what they reach, without the descriptions of event classes
+// that have no events, and nothing else.
 #[test]
 fn chunks_become_what_is_reached(rt: HostRuntime) -> Result<(), Fail> {
     for left in LEFT.iter() {
         compare_left(&rt, rt.alloc(), left)?;
     }
-    compare_inert(&rt, rt.alloc())
+    compare_inert(&rt, rt.alloc())?;
+    compare_chained(&rt, rt.alloc())
 }
 
 // The bytes of a range of the chunk, where one piece copies the whole of it.
@@ -177,7 +193,7 @@ fn first_event(alloc: Global) -> Result<Filter, Fail> {
     Ok(filter)
 }
 
-// A kept event lies in one piece that is copied from where it stands, and one that goes in none.
+// A kept event lies in one piece that is copied from its place, and one that goes in none.
 fn compare_first_event(rt: &impl Abort, alloc: Global, bytes: &[u8]) -> Result<(), Fail> {
     let chunk = read(alloc, bytes)?;
     let filter = first_event(alloc)?;

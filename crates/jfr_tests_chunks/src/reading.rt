@@ -19,7 +19,7 @@ fn rings(alloc: Global) -> Result<Vec<u8>, AllocError> {
     with_classes(alloc, RINGS, 333)
 }
 
-// The events alone.
+// Only the events.
 fn no_nodes(alloc: Global) -> Result<Vec<u8>, AllocError> {
     with_classes(alloc, NO_NODES, 333)
 }
@@ -59,8 +59,8 @@ const OLDER: &[u8] = &[
     15, 1, 0, 0, 0xf9, 0xff, 0xff, 0xff, 0xff, 0xff, 0xff, 0xff, 0xff, 0, 0,
 ];
 
-// The plain chunk with it.
-fn chained(alloc: Global) -> Result<Vec<u8>, AllocError> {
+/// The plain chunk with it.
+pub(crate) fn chained(alloc: Global) -> Result<Vec<u8>, AllocError> {
     chunk_of(alloc, &[NO_CLASSES, NO_POOLS, OLDER], 103, 68)
 }
 
@@ -74,7 +74,7 @@ fn counts_what_a_chunk_has(rt: HostRuntime) -> Result<(), Fail> {
     compare_counts(&rt, alloc, inert(alloc)?, (0, 1, 0, 3))
 }
 
-// Compares the second of two events, behind whose last field bytes are left.
+// Compares the second of two events, whose last field isn't the end of its record.
 fn compare_last_event(rt: &impl Abort, chunk: &Chunk<'_>) {
     assert_eq!(rt; chunk.event_count(), 2);
     let places = chunk
@@ -193,7 +193,7 @@ fn compare_edit(
 }
 
 #[test]
-fn tells_the_first_flaw(rt: HostRuntime) -> Result<(), Fail> {
+fn the_first_flaw_is_reported(rt: HostRuntime) -> Result<(), Fail> {
     let alloc = rt.alloc();
     compare_edits(&rt, alloc, plain(alloc)?, &EDITS_OF_PLAIN)?;
     compare_edits(&rt, alloc, rings(alloc)?, &EDITS_OF_RINGS)?;
@@ -231,7 +231,7 @@ fn checkpoints_end_with_their_last_pool(rt: HostRuntime) -> Result<(), Fail> {
     compare_checkpoint(&rt, alloc, byte_left, 103, Reason::Trailing)
 }
 
-// Adds elements, each of which stands in the one before.
+// Adds elements, each of which is a child of the one before.
 fn push_levels(metadata: &mut Vec<u8>, levels: u8) -> Result<(), AllocError> {
     for _ in 1..levels {
         metadata.extend_from_slice(&[1, 0, 1])?;
@@ -239,7 +239,7 @@ fn push_levels(metadata: &mut Vec<u8>, levels: u8) -> Result<(), AllocError> {
     metadata.extend_from_slice(&[1, 0, 0])
 }
 
-// A chunk whose elements stand so many levels deep.
+// A chunk whose elements are this many levels deep.
 fn levels(alloc: Global, levels: u8) -> Result<Vec<u8>, AllocError> {
     let (head, _) = NO_CLASSES.split_at(22);
     let mut metadata = Vec::from_slice(alloc, head)?;

@@ -1,21 +1,21 @@
-// What stands after a call that failed.
+// What is left after a call that failed.
 use crate::runs::{Fault, OUTPUTS, Run, run_once};
 use std::alloc::Global;
 use std::test::Fail;
 
-/// What stands after a call that failed, told by runs over the first chunks that meet no failure.
+/// What is left after a call that failed, given by runs over the first chunks in which no call fails.
 #[derive(Clone, Copy)]
 pub(crate) enum Left {
     /// No output, and no text.
     Nothing,
-    /// What a run over so many chunks leaves, but for a text that comes at the end alone.
+    /// What a run over this many chunks leaves, without a text that comes only at the end.
     Chunks(usize),
-    /// What a run over so many chunks leaves, but that of the last piece that it writes only those bytes are
-    /// there that the failed call keeps.
+    /// What a run over this many chunks leaves, but of the last piece that it writes only the bytes that the
+    /// failed call keeps.
     PartOf(usize),
 }
 
-/// A command over chunks, and whether its text comes at the end alone.
+/// A command over chunks, and whether its text comes only at the end.
 pub(crate) struct Command {
     pub words: &'static [&'static str],
     pub at_end: bool,
@@ -30,7 +30,7 @@ fn is_same(file: Option<&[u8]>, other: Option<&[u8]>) -> bool {
     }
 }
 
-// The bytes that a file had before, and so many more of those that it has now.
+// The bytes that a file had before, and the next `more` of those that it has now.
 fn grown<'a>(now: Option<&'a [u8]>, before: Option<&[u8]>, more: usize) -> Option<&'a [u8]> {
     let now = now?;
     let size = match before {
@@ -50,7 +50,7 @@ pub(crate) fn leaves_same(run: &Run, whole: &Run) -> bool {
     run.out.bytes() == whole.out.bytes()
 }
 
-// Whether a run left what one over fewer chunks does, and so many bytes more of what one over more chunks
+// Whether a run left what one over fewer chunks does, and the next `more` bytes of what one over more chunks
 // does.
 fn is_between(command: &Command, run: &Run, before: &Run, now: &Run, more: usize) -> bool {
     for name in OUTPUTS.iter() {
@@ -72,7 +72,7 @@ fn is_between(command: &Command, run: &Run, before: &Run, now: &Run, more: usize
     )
 }
 
-/// Whether this stands after a call that failed and kept so many bytes.
+/// Whether this is left after a call that failed and kept this many bytes.
 pub(crate) fn is_left(
     alloc: Global,
     command: &Command,

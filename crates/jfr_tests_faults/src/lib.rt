@@ -1,9 +1,18 @@
-//! Tests of every command with each call of the outside failing in turn, over places and sinks in memory.
+//! Tests of what goes wrong and of what is extreme: each call of the outside fails in turn under every command,
+//! recordings end anywhere, classes nest as deep as they may, and chunks have many checkpoints.
 #![tactic(auto)]
 
 #[cfg(test)]
+mod chains;
+#[cfg(test)]
+mod cuts;
+#[cfg(test)]
 mod left;
 #[cfg(test)]
+mod nested;
+#[cfg(test)]
 mod runs;
+#[cfg(test)]
+mod scrub;
 #[cfg(test)]
 mod sweep;

@@ -60,7 +60,7 @@ impl Run {
     }
 }
 
-// The first of two chunks, so many of them, in a.jfr, and one in each file of the folder d.
+// The first `chunks` of two chunks in a.jfr, and one in each file of the folder d.
 fn place_with(alloc: Global, chunks: usize) -> Result<MemoryPlace, Fail> {
     let rings = with_classes(alloc, RINGS, 333)?;
     let strings = with_classes(alloc, STRINGS, 330)?;
@@ -79,7 +79,7 @@ fn place_with(alloc: Global, chunks: usize) -> Result<MemoryPlace, Fail> {
 }
 
 /// Runs a command over the first chunks, with reads of at most 50 bytes, and a call that fails and keeps at
-/// most so many bytes.
+/// most this many bytes.
 pub(crate) fn run_once(
     alloc: Global,
     command: &[&str],

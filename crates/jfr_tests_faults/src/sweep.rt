@@ -6,7 +6,7 @@ use std::alloc::Global;
 use std::process::Abort;
 use std::test::Fail;
 
-// A command over two chunks; for each file that it reads, how many bytes each read gives; and what stands
+// A command over two chunks; for each file that it reads, how many bytes each read gives; and what is left
 // after each call that fails: those of `KINDS`, and the writes to the output stream.
 struct Case {
     command: Command,
@@ -101,7 +101,7 @@ fn closes_output(fault: Fault) -> bool {
     }
 }
 
-// A run in which a call fails: its status, its line, and what stands.
+// A run in which a call fails: its status, its line, and what is left.
 fn see_fault(
     rt: &impl Abort,
     alloc: Global,
@@ -164,7 +164,7 @@ fn see_writes(
     see_whole(rt, alloc, command, Fault::Write(nth))
 }
 
-// How many chunks lie whole in so many bytes of the recording.
+// How many whole chunks the first bytes of the recording hold.
 fn chunks_in(bytes: usize) -> usize {
     if bytes < FIRST {
         0
@@ -175,8 +175,8 @@ fn chunks_in(bytes: usize) -> usize {
     }
 }
 
-// A read fails after so many bytes of the recording were taken: the chunks among them stand, and of the
-// file that is open so many bytes are left.
+// A read fails after the first bytes of the recording were taken: the whole chunks among them stay, and of
+// the open file the rest is left.
 fn see_read(
     rt: &impl Abort,
     alloc: Global,

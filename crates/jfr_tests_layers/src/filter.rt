@@ -173,7 +173,7 @@ fn three_lists(alloc: Global) -> Result<Filter, FilterFault> {
     Ok(filter)
 }
 
-/// The class alone, and the thread alone.
+/// Only the class, and only the thread.
 fn allows_parts(rt: &impl Abort, filter: &Filter, none: &Words, java: &Words) {
     assert!(rt; filter.allows_class("t.A", none));
     assert!(rt; !filter.allows_class("t.A", java));
@@ -202,7 +202,7 @@ fn parts(rt: HostRuntime) -> Result<(), Fail> {
     asks_three_lists(&rt, rt.alloc())
 }
 
-/// Each option by itself, for one text: a class is matched by its simple name too, a category as it stands.
+/// Each option by itself, for one text: a class is matched by its simple name too, a category only whole.
 fn asks_options(rt: &impl Abort, filter: &Filter) {
     assert!(rt; filter.matches(Side::IncludeEvents, "t.A"));
     assert!(rt; !filter.matches(Side::ExcludeCategories, "t.A"));

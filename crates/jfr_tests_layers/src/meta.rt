@@ -29,7 +29,7 @@ const EDITS_OF_CLASSES: [Edit; 7] = [
     (204, 8, 191, Reason::InlineDeep),
 ];
 
-// The metadata of a record that stands alone.
+// The metadata of a record by itself.
 fn read(alloc: Global, record: &[u8]) -> Result<Metadata, ReadFault> {
     match next_record(record, 0)? {
         Some(frame) => read_metadata(alloc, record, &frame),
@@ -108,7 +108,7 @@ fn see_edit(
 }
 
 #[test]
-fn tells_the_flaws_of_edited_records(rt: HostRuntime) -> Result<(), Fail> {
+fn flaws_of_edited_records_are_reported(rt: HostRuntime) -> Result<(), Fail> {
     for edit in EDITS_OF_NO_CLASSES.iter() {
         see_edit(&rt, rt.alloc(), NO_CLASSES, *edit)?;
     }
@@ -118,7 +118,7 @@ fn tells_the_flaws_of_edited_records(rt: HostRuntime) -> Result<(), Fail> {
     Ok(())
 }
 
-// Adds elements, each of which stands in the one before.
+// Adds elements, each of which is a child of the one before.
 fn push_levels(bytes: &mut Vec<u8>, levels: u8) -> Result<(), AllocError> {
     for _ in 1..levels {
         bytes.extend_from_slice(&[1, 0, 1])?;
@@ -126,7 +126,7 @@ fn push_levels(bytes: &mut Vec<u8>, levels: u8) -> Result<(), AllocError> {
     bytes.extend_from_slice(&[1, 0, 0])
 }
 
-// Why a record with so many levels of elements is refused.
+// Why a record with this many levels of elements is refused.
 fn fault_of_levels(alloc: Global, levels: u8) -> Result<Option<ReadFault>, ReadFault> {
     let (head, _) = NO_CLASSES.split_at(22);
     let mut bytes = Vec::from_slice(alloc, head)?;
@@ -137,7 +137,7 @@ fn fault_of_levels(alloc: Global, levels: u8) -> Result<Option<ReadFault>, ReadF
     fault_in(alloc, &bytes)
 }
 
-// Compares why a record with so many levels is refused, where it is.
+// Compares why a record with this many levels is refused, if it is.
 fn see_levels(
     rt: &impl Abort,
     alloc: Global,
@@ -154,13 +154,13 @@ fn sixteen_levels_are_read(rt: HostRuntime) -> Result<(), Fail> {
     see_levels(&rt, rt.alloc(), 17, flawed(70, Reason::TreeDeep))
 }
 
-// The record of a chunk without classes as it is written: its size takes four bytes.
-const WRITTEN: [u8; 31] = [
-    0x9f, 0x80, 0x80, 0x00, 0x00, 0x00, 0x00, 0x01, 0x02, 0x03, 0x04, 0x72, 0x6f, 0x6f, 0x74, 0x03,
-    0x08, 0x6d, 0x65, 0x74, 0x61, 0x64, 0x61, 0x74, 0x61, 0x00, 0x00, 0x01, 0x01, 0x00, 0x00,
+// The record of a chunk without classes as it is written: its size takes five bytes.
+const WRITTEN: [u8; 32] = [
+    0xA0, 0x80, 0x80, 0x80, 0x00, 0x00, 0x00, 0x00, 0x01, 0x02, 0x03, 0x04, 0x72, 0x6F, 0x6F, 0x74,
+    0x03, 0x08, 0x6D, 0x65, 0x74, 0x61, 0x64, 0x61, 0x74, 0x61, 0x00, 0x00, 0x01, 0x01, 0x00, 0x00,
 ];
 
-// That record as it is written. Its length is told before, without the number of strings.
+// That record as it is written. Its length is known before, without the number of strings.
 fn written(rt: &impl Abort, alloc: Global) -> Result<Vec<u8>, NoMemory> {
     let mut strings = Words::new(alloc);
     strings.push("root")?;

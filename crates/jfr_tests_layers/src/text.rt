@@ -40,7 +40,7 @@ fn texts(rt: HostRuntime) -> Result<(), Fail> {
     // A count in two bytes, and a unit in three.
     has_text(&rt, alloc, b"\x03\x82\x00hi", Some("hi"))?;
     has_text(&rt, alloc, b"\x04\x81\x00\xC1\x80\x00", Some("A"))?;
-    // A longer unit behind eight of one byte, and one among the first eight.
+    // A longer unit after eight of one byte, and one among the first eight.
     has_text(
         &rt,
         alloc,

@@ -159,3 +159,24 @@ fn a_whole_chunk_is_a_cut(rt: HostRuntime) -> Result<(), Fail> {
     assert!(rt; !is_cut(&PLAIN[..67]));
     Ok(())
 }
+
+// The header of the plain chunk with these last four bytes of its size.
+fn size_of(size: [u8; 4]) -> Result<u64, Flaw> {
+    let mut bytes = [0; 68];
+    bytes.copy_from_slice(&PLAIN[..68]);
+    bytes[12..16].copy_from_slice(&size);
+    let header = read_header(&bytes)?;
+    Ok(header.size)
+}
+
+#[test]
+fn a_chunk_has_fewer_than_2_to_the_30_bytes(rt: HostRuntime) {
+    let flaw = Flaw {
+        offset: 8,
+        reason: Reason::ChunkSize,
+    };
+    assert_eq!(rt; size_of([0x3F, 0xFF, 0xFF, 0xFF]), Ok((1 << 30) - 1));
+    assert_eq!(rt; size_of([0x40, 0, 0, 0]), Err(flaw));
+    assert_eq!(rt; size_of([0, 0, 0, 68]), Ok(68));
+    assert_eq!(rt; size_of([0, 0, 0, 67]), Err(flaw));
+}

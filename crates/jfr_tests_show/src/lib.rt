@@ -1,11 +1,14 @@
-//! Tests of the texts of events, on whole chunks.
-//!
-//! The test chunks stand in `chunks.rt`.
+//! Tests of the texts of events, in lines and as JSON, of the totals of recordings and of the metadata, on
+//! whole chunks.
 #![tactic(auto)]
 
 #[cfg(test)]
-mod chunks;
+mod events;
 #[cfg(test)]
-mod lines;
+mod json;
 #[cfg(test)]
-mod texts;
+mod kinds;
+#[cfg(test)]
+mod metadata;
+#[cfg(test)]
+mod totals;

@@ -4,7 +4,7 @@
 #[cfg(test)]
 mod joins;
 #[cfg(test)]
-mod names;
+mod part_names;
 #[cfg(test)]
 mod recordings;
 #[cfg(test)]

@@ -1,6 +1,7 @@
 // Recordings cut into parts, over places in memory.
-use crate::recordings::{PLAIN, recording};
+use crate::recordings::recording;
 use jfr_base::{Reason, Refusal};
+use jfr_fixtures::PLAIN;
 use jfr_header::Ending;
 use jfr_outside::{Call, MemoryPlace, NoMemory, Place, SteadyPlace, Text};
 use jfr_split::{SplitRule, disassemble};

@@ -15,7 +15,7 @@ fn flawed(class: usize, field: Option<usize>, reason: Reason) -> Option<ClassFau
     })
 }
 
-// So many composite classes, each with so many inline fields of the next, and a number at the end.
+// `length` composite classes, each with one or two inline fields of the next, and a number at the end.
 fn chain(alloc: Global, length: u64, twice: bool) -> Result<ClassList, ClassFault> {
     let mut list = ClassList::new(alloc);
     for id in 0..length {
@@ -45,7 +45,7 @@ fn fault_of(
 }
 
 #[test]
-fn tells_the_first_flaw(rt: HostRuntime) -> Result<(), Fail> {
+fn the_first_flaw_is_reported(rt: HostRuntime) -> Result<(), Fail> {
     let alloc = rt.alloc();
     let number = [("x", inline(2))];
     let twice = [("x", inline(2)), ("y", inline(2)), ("x", inline(2))];

@@ -32,7 +32,7 @@ fn pools_of(alloc: Global, classes: &Classes, chunk: &[u8], last: u64) -> Result
     Pools::read(alloc, chunk, classes, &chain)
 }
 
-// The entries of the chunk of these records, whose last checkpoint stands at a place.
+// The entries of the chunk of these records, whose last checkpoint lies at this place.
 fn pools_in(alloc: Global, records: &[u8], last: u64) -> Result<Pools, Fail> {
     let classes = classes(alloc)?;
     let chunk = chunk_of(alloc, &[records], last, 68)?;
@@ -89,7 +89,7 @@ fn entries_follow_the_chain(rt: HostRuntime) -> Result<(), Fail> {
 }
 
 #[test]
-fn faults_are_told(rt: HostRuntime) -> Result<(), Fail> {
+fn faults_are_reported(rt: HostRuntime) -> Result<(), Fail> {
     let alloc = rt.alloc();
     let classes = classes(alloc)?;
     let table: [(&[u8], u64, Reason); 5] = [
@@ -144,8 +144,8 @@ fn checkpoint_of(alloc: Global, entries: &[(u64, u64)]) -> Result<Vec<u8>, Alloc
     Ok(bytes)
 }
 
-// The entries of a checkpoint that stands alone.
-fn pools_alone(alloc: Global, ids: &[u64], entries: &[(u64, u64)]) -> Result<Pools, Fail> {
+// The entries of a checkpoint by itself.
+fn pools_of_checkpoint(alloc: Global, ids: &[u64], entries: &[(u64, u64)]) -> Result<Pools, Fail> {
     let classes = empty_classes(alloc, ids)?;
     let checkpoint = checkpoint_of(alloc, entries)?;
     let chunk = chunk_of(alloc, &[&checkpoint], 68, 68)?;
@@ -161,7 +161,7 @@ const ONE_HOME: [u64; 11] = [0, 74, 117, 160, 203, 246, 320, 363, 406, 449, 492]
 const LARGE: u64 = 1 << 32;
 
 #[test]
-fn keys_of_one_home_are_told_apart(rt: HostRuntime) -> Result<(), Fail> {
+fn keys_of_one_home_are_distinct(rt: HostRuntime) -> Result<(), Fail> {
     let alloc = rt.alloc();
     let mut entries = Vec::new(alloc);
     for _ in 0..2 {
@@ -170,7 +170,7 @@ fn keys_of_one_home_are_told_apart(rt: HostRuntime) -> Result<(), Fail> {
         }
         entries.push((LARGE, 0))?;
     }
-    let pools = pools_alone(alloc, &[UNROWED, UNROWED + 1, LARGE], &entries)?;
+    let pools = pools_of_checkpoint(alloc, &[UNROWED, UNROWED + 1, LARGE], &entries)?;
     assert_eq!(rt; pools.len(), 24);
     for (number, (class, key)) in entries.iter().enumerate() {
         assert_eq!(rt; pools.entry(*class, *key), Some(number % 12 + 12));
@@ -193,7 +193,7 @@ fn keys_of_small_classes_have_a_place(rt: HostRuntime) -> Result<(), Fail> {
         (10, u64::MAX),
         (4096, 1),
     ];
-    let pools = pools_alone(rt.alloc(), &[7, 8, 9, 10, 4096], &entries)?;
+    let pools = pools_of_checkpoint(rt.alloc(), &[7, 8, 9, 10, 4096], &entries)?;
     let table = [
         (6, 0, None),
         (6, 1, None),

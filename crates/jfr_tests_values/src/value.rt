@@ -47,7 +47,7 @@ fn trace_classes(alloc: Global) -> Result<Classes, ClassFault> {
     Classes::make(alloc, list)
 }
 
-// As many composite classes as may stand within one another, each with an array of the next.
+// As many composite classes as may nest, each with an array of the next.
 fn deep_classes(alloc: Global) -> Result<Classes, ClassFault> {
     let mut list = ClassList::new(alloc);
     for id in 0..33u64 {
@@ -150,7 +150,7 @@ fn leaves_follow_one_another(rt: HostRuntime) -> Result<(), Fail> {
 }
 
 #[test]
-fn an_item_stands_behind_the_one_before(rt: HostRuntime) -> Result<(), Fail> {
+fn an_item_follows_the_one_before(rt: HostRuntime) -> Result<(), Fail> {
     let classes = some_classes(rt.alloc())?;
     let node = node_at_front(&classes, items(4), &TWO_PAIRS).ok_or("no value")?;
     let second = child(&classes, &node, &Step::Item(1)).ok_or("no item")?;
@@ -204,7 +204,7 @@ fn deep_bytes(alloc: Global) -> Result<Vec<u8>, AllocError> {
 }
 
 #[test]
-fn values_stand_within_one_another(rt: HostRuntime) -> Result<(), Fail> {
+fn values_nest(rt: HostRuntime) -> Result<(), Fail> {
     let alloc = rt.alloc();
     let classes = deep_classes(alloc)?;
     let bytes = deep_bytes(alloc)?;

@@ -128,7 +128,7 @@ fn the_walk_to_the_end_hands_out_the_same(rt: HostRuntime) -> Result<(), Fail> {
     let (targets, end) = walk_to_end(alloc, &classes, items(4), &bytes).ok_or("no memory")?;
     assert_eq!(rt; end, Ok(node.end));
     assert_eq!(rt; targets.as_slice(), all.as_slice());
-    // The second node's number is wanting.
+    // The second node's number is missing.
     let (_, short) = walk_to_end(alloc, &classes, items(4), &bytes[..13]).ok_or("no memory")?;
     let flaw = Flaw {
         offset: 13,

@@ -48,7 +48,7 @@ module _ (x : List ℕ) (end at : ℕ) (order : at ≤ end) (within : end ≤ le
       (after (content_of s) s.end read, i.within)
   ranges (Err f) e = tt
 
--- The key that stands at a place is the one that its format computes.
+-- The key at an offset is the one that its format computes.
 pub key_computed : (x : List ℕ) (end at to key : ℕ) → at ≤ end → end ≤ length x → IntAt x at to key → to ≤ end → run key_format x end at ≡ Ok (record { value = Key key; place = to })
 unfolding run
 key_computed x end at to key order within stands before =

@@ -1,11 +1,11 @@
--- What `eq` of two iterators answers, where each gives a list: whether the lists are one.
+-- What `eq` of two iterators returns: whether the lists that they give are equal.
 use Rattle.std.specs.Prelude.{◌≡◌, ℕ, Bool, true, false, List, [], ◌∷◌, Option, Some, None, MatchOption, IfSome}
 use Rattle.std.proofs.Common.{refl, sym, subst, ◌∙◌}
 use Rattle.std.specs.Iterator.{AlwaysYields, YieldsThen, ComparesItemsByEq}
 use Rattle.std.specs.List.{AllZip}
 use Rattle.std.proofs.lemmas.Iterator.{YieldsList}
 
--- The test holds exactly where the lists are one.
+-- The test holds exactly if the lists are equal.
 abbrev pub TellsSame : Bool → List ℕ → List ℕ → Type 0
 TellsSame r xs ys = (r ≡ true → xs ≡ ys) × (xs ≡ ys → r ≡ true)
 
@@ -50,7 +50,7 @@ module _ {S T : Type 0} (steps : S → Option ℕ → S → Type 0) (others : T 
       let n = f.1 y b.1.0 b.1.1 in
       further v z xs ys (sym m.0 ∙ same x y q.0 ∙ n.0) (along cs bs o p xs ys a.1.0 u b.1.0 w m.1 n.1 (a.0, a.1.2, a.2) (b.0, b.1.2, b.2) q.1 h)
 
--- `eq` of two iterators tells whether their lists are one.
+-- `eq` of two iterators returns whether their lists are equal.
 pub eq_from_yields_List : {S U T : Type 0} {steps : S → Option ℕ → S → Type 0} {others : T → Option ℕ → T → Type 0} {s : S} {eq : ℕ → ℕ → Bool} {xs ys : List ℕ}
     (becomes : U → T → Type 0) (other : U) (r : Bool) → ComparesItemsByEq steps becomes others s other eq r
     → YieldsList steps (λ x. x) s xs → ((it : T) → becomes other it → YieldsList others (λ x. x) it ys)

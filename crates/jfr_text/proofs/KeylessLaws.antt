@@ -1,4 +1,4 @@
--- Strings where keys are not allowed: the same, but that a key is refused at its kind byte.
+-- Strings if keys are not allowed: only a key is refused, at its kind byte.
 use Rattle.std.specs.Prelude.{◌≡◌, ℕ, ◌+◌, ◌<◌, ◌==◌, List, slice_index, nat_lt, true, false, if◌then◌else◌}
 use Rattle.std.proofs.Common.{ap, refl, arith}
 use Rattle.jfr_base.specs.declared.reason.Reason.TheVariants.{Short, StringKind}

@@ -86,7 +86,7 @@ row_kind_six : run (string_format true) (6 ∷ []) 1 0 ≡ refused 0 StringKind
 unfolding run string_format int_at
 row_kind_six = refl
 
--- Where keys are not allowed.
+-- If keys are not allowed.
 row_no_key : run (string_format false) (2 ∷ 5 ∷ []) 2 0 ≡ refused 0 StringKind
 unfolding run string_format int_at
 row_no_key = refl

@@ -13,7 +13,7 @@ value_seen : {A : Type 0} (r : Answer A) (to : ℕ) → seen r ≡ Ok to → (v 
 value_seen (Ok got) to e = let p : got.place ≡ to = cc in (got.value, ap (λ t. Ok (record { value = got.value; place = t })) p)
 value_seen (Err flaw) to e = absurd cc
 
--- So many short integers end behind the last of them.
+-- Short integers end after the last of them.
 module _ (count : ℕ) (x : List ℕ) (from end : ℕ) (inside : from + count ≤ end) (within : end ≤ length x) (short : AreShort x from (from + count)) where
   short_seen : seen (run (times count integer) x end from) ≡ Ok (from + count)
   unfolding run

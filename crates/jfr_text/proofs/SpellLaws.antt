@@ -13,7 +13,7 @@ use Rattle.jfr_base.proofs.FreeLaws.{reads_exact, times_free}
 use Rattle.jfr_text.specs.Strings.{SpellAll}
 use Rattle.jfr_text.specs.Spans.{first_integers}
 
--- An integer alone.
+-- A single integer.
 integer_spells : (b : List ℕ) (v : ℕ) → Exactly integer b v → Spells b v
 integer_spells b v e =
     let whole : b ≡ e.0 = e.3 ∙ (ap (λ r. e.0 ++ r) e.6.1 ∙ append-nil e.0) in
@@ -69,7 +69,7 @@ spelled_first (v ∷ vs) b s =
     ∙ (ap (λ o. option_map_or (λ (w : Var). w.value ∷ first_integers (length vs) (drop w.end (s.0 ++ s.1))) o []) (front_is s.0 s.1 v s.3)
     ∙ ap (λ z. v ∷ z) (ap (first_integers (length vs)) rest ∙ spelled_first vs s.1 s.4))
 
--- Where so many integers end is enough to tell them.
+-- The integers are determined by where they end.
 pub record ReadsAll (n : ℕ) (x : List ℕ) (end at to : ℕ) : Type 0 where
   pub order : at ≤ to
   pub spelled : SpellAll (slice_range x at to) (first_integers n (slice_range x at to))

@@ -140,7 +140,7 @@ one_content b s t e f =
     λ u g. exact_run b (length b) within (string_format true) 0 (length b) b u (format_of_string true b u g (always u)) all within in
     ap held (sym (read s e) ∙ read t f)
 
--- ---- where a string stands, it is read, and not refused
+-- ---- a valid string is read, and not refused
 
 module _ (x : List ℕ) (at to end : ℕ) (s : Content) (order : at ≤ to) (within : to ≤ end) (bound : end ≤ length x) (is : IsString (slice_range x at to) s) where
   pub string_read : Reads (string_format true) x end at s to

@@ -8,13 +8,13 @@ use Rattle.std.proofs.lemmas.Nat.{and_block}
 use Rattle.std.proofs.lemmas.Nat.Bits.{and_pow}
 use Rattle.jfr_text.specs.Spans.{AreShort}
 
--- The top bits of so many bytes.
+-- The top bits of k bytes.
 abbrev tops : ℕ → ℕ
 tops zero = 0
 tops (suc n) = tops n * 256 + 128
 
 module _ (byte : ℕ → ℕ) (small : (k : ℕ) → byte k < 256) where
-  -- The number of so many bytes from the k-th on, the lowest first.
+  -- The number that bytes spell from the k-th on, the lowest first.
   abbrev word : ℕ → ℕ → ℕ
   word k zero = 0
   word k (suc n) = word (suc k) n * 256 + byte k
@@ -39,7 +39,7 @@ module _ (byte : ℕ → ℕ) (small : (k : ℕ) → byte k < 256) where
         | inr now ↦ let same : k ≡ j = omega arith in subst (λ i. byte i < 128) same here
       ]
 
--- Eight bytes that stand at a place of a list are short exactly where their word has no top bit.
+-- Eight bytes at an offset of a list are short exactly if their word has none of their top bits.
 module _ (x y : List ℕ) (at w : ℕ) (small : (k : ℕ) → slice_index x k < 256) (stands : y ≡ take 8 (slice_range x at (at + 8))) (is : w ≡ from_le_bytes w64 y) where
   abbrev byte : ℕ → ℕ
   byte k = slice_index x (at + k)

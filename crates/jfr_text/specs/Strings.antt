@@ -1,4 +1,4 @@
--- How a string is spelled, its kind byte and what follows it, and the text that it has.
+-- How a string is spelled, as a kind byte and what follows it, and which text it has.
 use Rattle.std.specs.Prelude.{◌≡◌, ℕ, ◌%◌, ◌^◌, Bool, List, [], ◌∷◌, ◌++◌, length, map, Option, Some, None, ◌==◌, nat_lt, if◌then◌else◌, false, ⊤}
 use Rattle.std.specs.Char.Utf16.{utf16_lossy_chars}
 use Rattle.bstr.specs.Utf8.{lossy_chars}
@@ -7,8 +7,8 @@ use Rattle.jfr_base.specs.Formats.{Format, Done, Int, Byte, Run, times, ◌>>=�
 use Rattle.jfr_base.specs.declared.reason.Reason.{Reason}
 use Rattle.jfr_base.specs.declared.reason.Reason.TheVariants.{StringKind}
 
--- What a string holds: nothing, no characters, a key into the pool of its class, or what spells its text:
--- bytes that should be UTF-8, integers whose low 16 bits are a unit of UTF-16, or bytes that are each a
+-- The content of a string: nothing, no characters, a key into the pool of its class, or what spells its text:
+-- bytes that should be UTF-8, integers whose low 16 bits are a UTF-16 unit, or bytes that are each a
 -- character.
 pub data Content : Type 0 where
   Null : Content
@@ -23,12 +23,12 @@ abbrev pub SpellAll : List ℕ → List ℕ → Type 0
 SpellAll bytes [] = bytes ≡ []
 SpellAll bytes (v ∷ vs) = (front rest : List ℕ) × (bytes ≡ front ++ rest) × Spells front v × SpellAll rest vs
 
--- The bytes are a spelled count, and then what it counts.
+-- The bytes are the spelling of a count, followed by what it counts.
 abbrev pub Counted : List ℕ → ℕ → (List ℕ → Type 0) → Type 0
 Counted bytes n P = (front rest : List ℕ) × (bytes ≡ front ++ rest) × Spells front n × P rest
 
--- The kind byte says what follows it: nothing for 0 and 1, a key for 2, a length and so many bytes for 3
--- and 5, a count and so many integers for 4.
+-- The kind byte determines what follows it: nothing for 0 and 1, a key for 2, a length and this many bytes
+-- for 3 and 5, a count and this many integers for 4.
 abbrev pub IsBody : Content → ℕ → List ℕ → Type 0
 IsBody Null kind rest = (kind ≡ 0) × (rest ≡ [])
 IsBody Empty kind rest = (kind ≡ 1) × (rest ≡ [])
@@ -37,7 +37,7 @@ IsBody (Utf8 bytes) kind rest = (kind ≡ 3) × Counted rest (length bytes) (λ 
 IsBody (Units units) kind rest = (kind ≡ 4) × Counted rest (length units) (λ r. SpellAll r units)
 IsBody (Latin bytes) kind rest = (kind ≡ 5) × Counted rest (length bytes) (λ r. r ≡ bytes)
 
--- These bytes, and no others, spell a string of this content: a kind byte, and what follows it.
+-- These bytes are exactly one string with this content: a kind byte, and what follows it.
 abbrev pub IsString : List ℕ → Content → Type 0
 IsString [] content = ⊥
 IsString (kind ∷ rest) content = IsBody content kind rest
@@ -46,9 +46,8 @@ IsString (kind ∷ rest) content = IsBody content kind rest
 abbrev pub low_units : List ℕ → List ℕ
 low_units integers = map (λ v. v % 2 ^ 16) integers
 
--- A null string and a key have no text, and the empty string has no characters. Bytes that are no UTF-8
--- read as U+FFFD, and so does a surrogate without its partner. A byte of Latin-1 is the character of its
--- number.
+-- The null string and a key have no text, and the empty string has no characters. Bytes that aren't UTF-8
+-- read as U+FFFD, and so does a surrogate without a partner. A byte of Latin-1 is the code of a character.
 abbrev pub text_of : Content → Option (List ℕ)
 text_of Null = None
 text_of Empty = Some []
@@ -57,23 +56,23 @@ text_of (Utf8 bytes) = Some (lossy_chars bytes)
 text_of (Units integers) = Some (utf16_lossy_chars (low_units integers))
 text_of (Latin bytes) = Some bytes
 
--- A kind above 5 is refused, and so is a key where keys are not allowed.
+-- A kind above 5 is refused, and so is a key if keys aren't allowed.
 abbrev pub kind_fault : Bool → ℕ → Option Reason
 kind_fault keyed kind = if nat_lt 5 kind then Some StringKind else if keyed then None else if kind == 2 then Some StringKind else None
 
--- The format of a length and so many bytes.
+-- The format of a length and this many bytes.
 abbrev pub counted_bytes : Format (List ℕ)
 counted_bytes = Int unchecked (λ n spelled. Run n (λ bytes. Done bytes))
 
--- The format of a count and so many integers.
+-- The format of a count and this many integers.
 abbrev pub counted_integers : Format (List ℕ)
 counted_integers = Int unchecked (λ n spelled. times n integer)
 
--- What a string holds that is its kind byte alone, 0 or 1.
+-- The content of a string that is only a kind byte, 0 or 1.
 abbrev pub bare_content : ℕ → Content
 bare_content kind = if kind == 0 then Null else Empty
 
--- The format of a key, behind its kind byte.
+-- The format of a key, after its kind byte.
 abbrev pub key_format : Format Content
 key_format = integer >>= λ key. Done (Key key)
 
@@ -87,11 +86,11 @@ after_kind kind =
     else if kind == 4 then (counted_integers >>= λ units. Done (Units units))
     else (counted_bytes >>= λ bytes. Done (Latin bytes))
 
--- The format of a string, where keys are allowed or not.
+-- The format of a string, with keys or without.
 unfoldable pub string_format : Bool → Format Content
 string_format keyed = Byte (kind_fault keyed) after_kind
 
--- Where keys are not allowed, the string is no key.
+-- The string isn't a key, unless keys are allowed.
 abbrev pub IsAllowed : Bool → Content → Type 0
 IsAllowed false (Key key) = ⊥
 IsAllowed keyed content = ⊤

@@ -1,4 +1,4 @@
-// The characters of a string's text, one after another.
+//! The characters of a string's text, as an iterator.
 ghost use Rattle.std.specs.Prelude.{◌≡◌};
 ghost use Rattle.std.specs.Iterator.{YieldsFirst, item_count};
 ghost use Rattle.std.specs.Slice.Iter.{iter_rest};
@@ -11,13 +11,13 @@ use bstr::ByteSlice;
 use std::marker::Model;
 use std::slice;
 
-/// The characters of a string's text that are left, as an iterator. Contracts see them as a list.
+/// An iterator over the characters of a string's text. Contracts see it as the list of those that are left.
 #[derive(Drop)]
 pub struct Characters<'a> {
     source: Source<'a>,
 }
 
-/// What the characters are made of.
+/// What the characters are decoded from.
 #[derive(Drop)]
 enum Source<'a> {
     Latin(slice::Iter<'a, u8>),
@@ -36,8 +36,8 @@ impl<'a> Model for Characters<'a> {
 }
 
 impl<'a> Characters<'a> {
-    /// The characters of the string's text; `None` exactly for the null string and a key. It takes no
-    /// memory.
+    /// The characters of the string's text; `None` exactly for the null string and for a key. It allocates
+    /// nothing.
     pub fn of(span: &StringSpan<'a>) -> Option<Characters<'a>>
         ensures { result ≡ text_of (content_of span.now) }
     {
@@ -68,7 +68,7 @@ impl<'a> Iterator for Characters<'a> {
     }
 }
 
-/// The next byte, as the character of its number.
+/// The next byte, as the character with this code.
 fn next_latin(bytes: &mut slice::Iter<'_, u8>) -> Option<char>
     ensures steps { YieldsFirst iter_rest bytes.old result bytes.new }
 {

@@ -1,9 +1,9 @@
 //! Strings of six kinds, and their texts.
 //!
-//! `read_string` reads a string where it stands (FORMAT.md, Strings), and `text_of` makes its text. Without
-//! making it, `Characters` hands out the text's characters one by one, and `same_text` compares it with
-//! another text. Read `specs/Strings.antt` first: how a string is spelled, and which text it has; then
-//! `specs/Spans.antt`: what a span of the bytes holds.
+//! `read_string` reads a string in place (docs/FORMAT.md, Strings), and `text_of` makes its text. Without
+//! making the text, `Characters` iterates over its characters, and `same_text` compares it with another text.
+//! Read `specs/Strings.antt` first, for how a string is spelled and which text it has, and then
+//! `specs/Spans.antt`, for what a span of bytes holds.
 #![tactic(auto)]
 
 mod characters;
@@ -17,5 +17,7 @@ mod utf16;
 pub use characters::Characters;
 pub use laws::{format_reads_strings, one_content, spelled_integers, strings_are_read};
 pub use read::{is_bare, is_key, read_string, short_units_end};
-pub use span::{StringKind, StringSpan};
+pub use span::{
+    EMPTY_BYTE, KEY_BYTE, LATIN_BYTE, NULL_BYTE, StringKind, StringSpan, UNITS_BYTE, UTF8_BYTE,
+};
 pub use text::{same_text, text_of};

@@ -1,17 +1,18 @@
-// Reading a string where it stands.
+//! Reading a string in place.
 ghost use Rattle.std.specs.Prelude.{◌≡◌, ◌↔◌, ℕ, ◌+◌, ◌-◌, ◌<◌, ◌≤◌, ◌^◌, List, [], length, IfOk, IfErr, IfSome, IsTrue, MatchOption, MatchResult, Ok, Err, slice_index, slice_range, true};
 ghost use Rattle.jfr_base.specs.Integer.{IntAt};
 ghost use Rattle.jfr_base.specs.Formats.{Reads, Fails, times, integer, checked, run, seen};
 ghost use Rattle.jfr_text.specs.Spans.{content_of, first_integers, answer_of, AreShort, IsShortUnits, IsSpanAt};
 ghost use Rattle.jfr_text.specs.Strings.{Key, Units, SpellAll, IsString, kind_fault, counted_bytes, counted_integers, after_kind, bare_content, key_format, string_format};
 
+use crate::span::{EMPTY_BYTE, KEY_BYTE, LATIN_BYTE, NULL_BYTE, UNITS_BYTE, UTF8_BYTE};
 use crate::{StringKind, StringSpan};
 use jfr_base::{Flaw, Reason, read_within};
 
 /// A word with the top bit of each of its eight bytes set.
 const TOP_BITS: u64 = 0x8080_8080_8080_8080;
 
-/// Reads the string that begins at the offset `at` and ends by `end`: a kind byte, and what follows it. The
+/// Reads the string that starts at the offset `at` and ends by `end`: a kind byte, and what follows it. The
 /// flaw is `Short` at the kind byte, the integer or the run of bytes that doesn't end by `end`, or
 /// `StringKind` at a kind byte above 5.
 #[inline(always)]
@@ -19,7 +20,7 @@ pub fn read_string<'a>(bytes: &'a [u8], at: usize, end: usize) -> Result<StringS
     requires order { at ≤ end }
     requires within { end ≤ length bytes.now }
 
-    // The string by its grammar, and where its parts stand.
+    // The string by its grammar, and where its parts are.
     ensures ok { IfOk result (λ s. Reads (string_format true) bytes.now end at (content_of s) s.end) }
     ensures spelled { IfOk result (λ s. IsString (slice_range bytes.now at s.end) (content_of s)) }
     ensures span { IfOk result (IsSpanAt bytes.now at) }
@@ -27,7 +28,7 @@ pub fn read_string<'a>(bytes: &'a [u8], at: usize, end: usize) -> Result<StringS
 
     ensures refused { IfErr result (λ e. Fails (string_format true) bytes.now end at e.offset e.reason) }
 
-    // By computing: what the format's run gives.
+    // The answer that the string format computes.
     ensures exact { answer_of result ≡ run (string_format true) bytes.now end at }
 {
     if at == end {
@@ -36,8 +37,7 @@ pub fn read_string<'a>(bytes: &'a [u8], at: usize, end: usize) -> Result<StringS
     read_kind(bytes[at], bytes, at, end)
 }
 
-/// Whether the string that begins at the offset `at` is its kind byte alone: the null string, or the empty
-/// one.
+/// Whether the string that starts at the offset `at` is only a kind byte: the null string, or the empty one.
 #[inline(always)]
 pub fn is_bare(bytes: &[u8], at: usize, end: usize) -> bool
     requires order { at ≤ end }
@@ -46,10 +46,10 @@ pub fn is_bare(bytes: &[u8], at: usize, end: usize) -> bool
     ensures spelled { IsTrue result → IsString (slice_range bytes.now at (at + 1)) (bare_content (slice_index bytes.now at)) }
     ensures bare { IsTrue result → run (string_format true) bytes.now end at ≡ Ok (record { value = bare_content (slice_index bytes.now at); place = at + 1 }) }
 {
-    at < end && bytes[at] < 2
+    at < end && bytes[at] < KEY_BYTE
 }
 
-/// Whether the string that begins at the offset `at` is a key. Then the key is the integer behind the kind
+/// Whether the string that starts at the offset `at` is a key. If so, the key is the integer after the kind
 /// byte, which isn't read here.
 #[inline(always)]
 pub fn is_key(bytes: &[u8], at: usize, end: usize) -> bool
@@ -59,11 +59,11 @@ pub fn is_key(bytes: &[u8], at: usize, end: usize) -> bool
     ensures spelled { IsTrue result → (to key : ℕ) → IntAt bytes.now (at + 1) to key → to ≤ end → IsString (slice_range bytes.now at to) (Key key) }
     ensures key { IsTrue result → run (string_format true) bytes.now end at ≡ run key_format bytes.now end (at + 1) }
 {
-    at < end && bytes[at] == 2
+    at < end && bytes[at] == KEY_BYTE
 }
 
-/// Where the string ends that begins at the offset `at`, if it is UTF-16 in short integers: its kind byte
-/// is 4, its count has one byte, and so has each of its integers. `None` also where it doesn't end by
+/// The offset after the string that starts at the offset `at`, if it is UTF-16 in short integers: its kind
+/// byte is 4, its count has one byte, and so has each of its integers. `None` also if it doesn't end by
 /// `end`.
 #[inline(never)]
 pub fn short_units_end(bytes: &[u8], at: usize, end: usize) -> Option<usize>
@@ -74,7 +74,7 @@ pub fn short_units_end(bytes: &[u8], at: usize, end: usize) -> Option<usize>
     ensures spelled { IfSome result (λ to. (units : List ℕ) × IsString (slice_range bytes.now at to) (Units units)) }
     ensures units { IfSome result (λ to. (units : List ℕ) × (run (string_format true) bytes.now end at ≡ Ok (record { value = Units units; place = to }))) }
 {
-    if end - at < 2 || bytes[at] != 4 {
+    if end - at < 2 || bytes[at] != UNITS_BYTE {
         return None;
     }
     let from = at + 2;
@@ -90,7 +90,7 @@ pub fn short_units_end(bytes: &[u8], at: usize, end: usize) -> Option<usize>
     }
 }
 
-/// Reads what follows the kind byte at an offset.
+/// Reads what follows the kind byte, which is at the offset `at`.
 #[inline(always)]
 fn read_kind<'a>(kind: u8, bytes: &'a [u8], at: usize, end: usize) -> Result<StringSpan<'a>, Flaw>
     requires order { at < end }
@@ -99,9 +99,9 @@ fn read_kind<'a>(kind: u8, bytes: &'a [u8], at: usize, end: usize) -> Result<Str
     ensures exact { answer_of result ≡ checked at (kind_fault true kind) (run (after_kind kind) bytes.now end (at + 1)) }
 {
     match kind {
-        0 => Ok(bare(StringKind::Null, at)),
-        1 => Ok(bare(StringKind::Empty, at)),
-        2 => {
+        NULL_BYTE => Ok(bare(StringKind::Null, at)),
+        EMPTY_BYTE => Ok(bare(StringKind::Empty, at)),
+        KEY_BYTE => {
             let key = read_within(bytes, at + 1, end)?;
             Ok(StringSpan {
                 kind: StringKind::Key,
@@ -112,9 +112,9 @@ fn read_kind<'a>(kind: u8, bytes: &'a [u8], at: usize, end: usize) -> Result<Str
                 key: key.value,
             })
         }
-        3 => Ok(read_bytes(bytes, at + 1, end)?.spanned(StringKind::Utf8, at)),
-        4 => Ok(read_integers(bytes, at + 1, end)?.spanned(StringKind::Units, at)),
-        5 => Ok(read_bytes(bytes, at + 1, end)?.spanned(StringKind::Latin, at)),
+        UTF8_BYTE => Ok(read_bytes(bytes, at + 1, end)?.spanned(StringKind::Utf8, at)),
+        UNITS_BYTE => Ok(read_integers(bytes, at + 1, end)?.spanned(StringKind::Units, at)),
+        LATIN_BYTE => Ok(read_bytes(bytes, at + 1, end)?.spanned(StringKind::Latin, at)),
         _ => Err(Flaw {
             offset: at as u64,
             reason: Reason::StringKind,
@@ -122,7 +122,7 @@ fn read_kind<'a>(kind: u8, bytes: &'a [u8], at: usize, end: usize) -> Result<Str
     }
 }
 
-/// The string that is its kind byte alone.
+/// The string that is only a kind byte.
 #[inline(always)]
 fn bare<'a>(kind: StringKind, at: usize) -> StringSpan<'a>
     requires { at + 1 < 2 ^ 64 }
@@ -139,7 +139,7 @@ fn bare<'a>(kind: StringKind, at: usize) -> StringSpan<'a>
     }
 }
 
-/// A length or a count, what it counts, and the offset after that.
+/// A length or a count, the bytes that it covers, and the offset after them.
 #[derive(Clone, Copy)]
 struct Counted<'a> {
     count: u64,
@@ -148,7 +148,7 @@ struct Counted<'a> {
 }
 
 impl<'a> Counted<'a> {
-    /// The string whose kind byte stands before the count.
+    /// The string of this kind, whose kind byte is at the offset `at`.
     #[inline(always)]
     fn spanned(self, kind: StringKind, at: usize) -> StringSpan<'a>
         ensures place { (result.kind ≡ kind) × (result.at ≡ at) × (result.end ≡ self.entry.end) }
@@ -165,7 +165,7 @@ impl<'a> Counted<'a> {
     }
 }
 
-/// Reads a length, and so many bytes.
+/// Reads a length, and this many bytes.
 #[inline(always)]
 fn read_bytes<'a>(bytes: &'a [u8], at: usize, end: usize) -> Result<Counted<'a>, Flaw>
     requires order { at ≤ end }
@@ -187,7 +187,7 @@ fn read_bytes<'a>(bytes: &'a [u8], at: usize, end: usize) -> Result<Counted<'a>,
     })
 }
 
-/// Reads a count, and so many integers.
+/// Reads a count, and this many integers.
 #[inline(always)]
 fn read_integers<'a>(bytes: &'a [u8], at: usize, end: usize) -> Result<Counted<'a>, Flaw>
     requires order { at ≤ end }
@@ -206,7 +206,7 @@ fn read_integers<'a>(bytes: &'a [u8], at: usize, end: usize) -> Result<Counted<'
     })
 }
 
-/// The offset after so many integers. In most strings each has one byte.
+/// The offset after `count` integers. In most strings each has one byte.
 fn skip_integers(count: u64, bytes: &[u8], at: usize, end: usize) -> Result<usize, Flaw>
     requires order { at ≤ end }
     requires within { end ≤ length bytes.now }
@@ -217,8 +217,8 @@ fn skip_integers(count: u64, bytes: &[u8], at: usize, end: usize) -> Result<usiz
     skip_each_integer(count - (from - at) as u64, bytes, from, end)
 }
 
-/// The offset after the integers of one byte at the front of so many: that of the first longer one, the
-/// end, or behind them all.
+/// The offset after the leading integers of one byte, at most `count` of them: that of the first longer
+/// integer, the end, or the offset after them all.
 #[inline(always)]
 fn skip_short_integers(count: u64, bytes: &[u8], at: usize, end: usize) -> usize
     requires order { at ≤ end }
@@ -232,8 +232,8 @@ fn skip_short_integers(count: u64, bytes: &[u8], at: usize, end: usize) -> usize
     skip_short_bytes(bytes, from, to)
 }
 
-/// Whether the bytes from one offset up to another are integers of one byte each. Where there are eight or
-/// more, the last eight are tested as a group too, which covers what the groups from the front leave.
+/// Whether the bytes from one offset up to another are integers of one byte each. If there are eight or more,
+/// the last eight are tested as a group, too, which covers the rest after the groups from the front.
 #[inline(always)]
 fn are_short(bytes: &[u8], from: usize, to: usize) -> bool
     requires order { from ≤ to }
@@ -247,7 +247,7 @@ fn are_short(bytes: &[u8], from: usize, to: usize) -> bool
     to - rest < 8 && are_eight_short(bytes, to - 8)
 }
 
-/// The offset after the integers of one byte at the front, as far as they come in eights.
+/// The offset after the leading groups of eight integers of one byte.
 #[inline(always)]
 fn skip_short_eights(bytes: &[u8], at: usize, end: usize) -> usize
     requires order { at ≤ end }
@@ -263,8 +263,8 @@ fn skip_short_eights(bytes: &[u8], at: usize, end: usize) -> usize
     place
 }
 
-/// Whether the eight bytes from an offset on are integers of one byte each. They are tested as one word,
-/// which has none of the bytes' top bits then.
+/// Whether the eight bytes from an offset on are integers of one byte each. They are tested as one word: then
+/// none of the bytes' top bits is set in it.
 #[inline(always)]
 fn are_eight_short(bytes: &[u8], at: usize) -> bool
     requires { at + 8 ≤ length bytes.now }
@@ -293,7 +293,7 @@ fn skip_short_bytes(bytes: &[u8], at: usize, end: usize) -> usize
     end
 }
 
-/// The offset after so many integers, one by one.
+/// The offset after `count` integers, read one by one.
 #[tactic(auto, using(jfr_base::proofs::SeenLaws::ends), unfolding(jfr_base::specs::Formats::run))]
 fn skip_each_integer(count: u64, bytes: &[u8], at: usize, end: usize) -> Result<usize, Flaw>
     requires order { at ≤ end }

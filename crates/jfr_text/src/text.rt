@@ -1,4 +1,4 @@
-// The text of a string: made, and compared.
+//! The text of a string: made, and compared.
 ghost use Rattle.std.specs.Prelude.{◌≡◌, ◌↔◌, ◌∷◌, [], ◌++◌, Some, IfOk, OnOk, IsTrue, string_bytes};
 ghost use Rattle.std.specs.Str.{chars};
 ghost use Rattle.jfr_text.specs.Spans.{content_of};
@@ -9,8 +9,8 @@ use crate::characters::Characters;
 use jfr_base::{NoMemory, Text};
 use std::alloc::Global;
 
-/// The text of a string; `None` exactly for the null string and for a key. Bytes that are no UTF-8, and
-/// surrogates without their partner, read as U+FFFD.
+/// The text of a string; `None` exactly for the null string and for a key. Bytes that aren't UTF-8, and
+/// surrogates without a partner, read as U+FFFD.
 pub fn text_of(alloc: Global, span: &StringSpan<'_>) -> Result<Option<Text>, NoMemory>
     ensures ok { IfOk result (λ text. text ≡ text_of (content_of span.now)) }
 {
@@ -20,7 +20,7 @@ pub fn text_of(alloc: Global, span: &StringSpan<'_>) -> Result<Option<Text>, NoM
     }
 }
 
-/// The text of the characters.
+/// The text with these characters.
 fn made_of(alloc: Global, characters: Characters<'_>) -> Result<Text, NoMemory>
     ensures ok { IfOk result (λ text. text ≡ characters.entry) }
 {
@@ -39,8 +39,7 @@ fn add(text: &mut String, character: char) -> Result<(), NoMemory>
     Ok(())
 }
 
-/// Whether the string has this text; the null string and a key have none. It makes no text, and takes no
-/// memory.
+/// Whether the string has this text; the null string and a key have none. It allocates nothing.
 pub fn same_text(span: &StringSpan<'_>, text: &str) -> bool
     ensures exact { IsTrue result ↔ (text_of (content_of span.now) ≡ Some (chars text.now)) }
 {

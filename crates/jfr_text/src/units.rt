@@ -1,4 +1,4 @@
-// The units of UTF-16 that integers hold.
+//! UTF-16 units, each in the low 16 bits of an integer.
 ghost use Rattle.std.specs.Prelude.{◌≡◌};
 ghost use Rattle.std.specs.Iterator.{YieldsFirst, item_count};
 ghost use Rattle.jfr_text.specs.Spans.{first_integers};
@@ -7,7 +7,8 @@ ghost use Rattle.jfr_text.specs.Strings.{low_units};
 use jfr_base::{Var, read_within};
 use std::marker::Model;
 
-/// The units that are left. Contracts see them as a list: the low 16 bits of each integer.
+/// An iterator over UTF-16 units. Contracts see it as the list of those that are left: the low 16 bits of
+/// each integer.
 #[derive(Drop)]
 pub(crate) struct Units<'a> {
     rest: &'a [u8],
@@ -25,7 +26,7 @@ impl<'a> Model for Units<'a> {
 }
 
 impl<'a> Units<'a> {
-    /// The units of so many integers at the front of a payload.
+    /// The units of the first `count` integers of a payload.
     pub(crate) fn new(payload: &'a [u8], count: u64) -> Units<'a>
         ensures { result ≡ low_units (first_integers count payload.now) }
     {

@@ -1,4 +1,4 @@
-// The characters that units of UTF-16 decode to.
+//! The characters that UTF-16 units decode to.
 ghost use Rattle.std.specs.Prelude.{◌≡◌, ◌<◌, ◌≤◌, ◌++◌, None, unwrap_or, option_to_list};
 ghost use Rattle.std.specs.Char.Utf16.{utf16_lossy_chars, lone_unit_char, surrogate_pair_char, is_high_surrogate, is_low_surrogate};
 ghost use Rattle.std.specs.Iterator.{YieldsFirst, item_count};
@@ -8,11 +8,11 @@ ghost use Rattle.jfr_text.specs.Strings.{low_units};
 use crate::units::Units;
 use std::marker::Model;
 
-/// The characters that are left, with U+FFFD for each surrogate without its partner. Contracts see
-/// them as a list.
+/// An iterator over characters, with U+FFFD for each surrogate without a partner. Contracts see it as the
+/// list of those that are left.
 #[derive(Drop)]
 pub(crate) struct Utf16<'a> {
-    /// The unit after a high surrogate that isn't its partner, until it is decoded.
+    /// A unit that was read because it follows a high surrogate, but isn't its partner; it is decoded next.
     held: Option<u16>,
     units: Units<'a>,
 }
@@ -27,7 +27,7 @@ impl<'a> Model for Utf16<'a> {
 }
 
 impl<'a> Utf16<'a> {
-    /// The characters of the units in so many integers at the front of a payload.
+    /// The characters of the units in the first `count` integers of a payload.
     pub(crate) fn new(payload: &'a [u8], count: u64) -> Utf16<'a>
         ensures { result ≡ utf16_lossy_chars (low_units (first_integers count payload.now)) }
     {
@@ -63,7 +63,7 @@ impl<'a> Iterator for Utf16<'a> {
     }
 }
 
-/// The unit that is held, or else the next one.
+/// The held unit, or else the next one.
 fn take_unit(held: &mut Option<u16>, units: &mut Units<'_>) -> Option<u16>
     ensures held { held.new ≡ None }
     ensures steps { YieldsFirst (λ left. left) (option_to_list held.old ++ units.old) result units.new }
@@ -74,14 +74,14 @@ fn take_unit(held: &mut Option<u16>, units: &mut Units<'_>) -> Option<u16>
     }
 }
 
-/// The first unit of a pair.
+/// Whether the unit is a high surrogate, the first of a pair.
 fn is_high(unit: u16) -> bool
     ensures { result ≡ is_high_surrogate unit }
 {
     0xD800 <= unit && unit < 0xDC00
 }
 
-/// The second unit of a pair.
+/// Whether the unit is a low surrogate, the second of a pair.
 fn is_low(unit: u16) -> bool
     ensures { result ≡ is_low_surrogate unit }
 {
@@ -98,7 +98,7 @@ fn pair(high: u16, low: u16) -> char
     char::from_u32(0x1_0000 + above).unwrap_or(char::REPLACEMENT_CHARACTER)
 }
 
-/// The character of a unit that is in no pair, which for a surrogate is U+FFFD.
+/// The character of a unit that isn't in a pair; U+FFFD for a surrogate.
 fn lone(unit: u16) -> char
     ensures { result ≡ unwrap_or (lone_unit_char unit) 0xFFFD }
 {

@@ -1,4 +1,4 @@
--- A value of a known class stands somewhere or is refused, one of the two, with one answer.
+-- At an offset there is a value of a known class, or it is refused; never both, and with one answer only.
 use Rattle.std.specs.Prelude.{◌≡◌, ◌⊎◌, ℕ, ◌≤◌, List, length, Option, Some, None, Result, Ok, Err, IsSome, IfOk, IfErr}
 use Rattle.std.proofs.Common.{ap, arith, refl, sym, ◌∙◌, inl, inr, subst}
 use Rattle.jfr_base.specs.declared.flaw.Flaw.{Flaw}

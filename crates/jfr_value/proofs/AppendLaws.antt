@@ -1,4 +1,4 @@
--- Values that stand one behind another, in two parts.
+-- Values one after another, in two parts.
 use Rattle.std.specs.Prelude.{◌≡◌, ℕ, List, [], ◌∷◌, ◌++◌, Result, Ok, Err}
 use Rattle.std.proofs.Common.{ap, refl, subst, sym, ◌∙◌}
 use Rattle.jfr_base.specs.declared.flaw.Flaw.{Flaw}
@@ -9,7 +9,7 @@ use Rattle.jfr_value.specs.Values.{Value, targets_of, targets_of_all, values_of}
 use Rattle.jfr_value.specs.Visits.{TakesAll, TakesRead, TakesReadAll}
 use Rattle.jfr_value.proofs.TakingLaws.{cons_taken}
 
--- The same behind the same place.
+-- Equal answers after equal answers.
 pub then_same : (r s : Result ℕ Flaw) (f g : ℕ → Result ℕ Flaw) → r ≡ s → ((p : ℕ) → f p ≡ g p) → then_at r f ≡ then_at s g
 then_same r s f g e h = ap (λ z. then_at z f) e ∙ by_place s
   where
@@ -39,7 +39,7 @@ module _ {X : Type 0} (f : X → Format Value) (x : List ℕ) (end : ℕ) where
     takes_parts [] us old new h = (old, refl, h)
     takes_parts (t ∷ ts) us old new h = let p = takes_parts ts us h.0 new h.2 in (p.0, (h.0, h.1, p.1), p.2)
 
-    -- The first value, and those behind it.
+    -- The first value, and those after it.
     record Parted (z : X) (xs : List X) (at to : ℕ) (old new : A) : Type 0 where
       place : ℕ
       now : A

@@ -26,7 +26,7 @@ both_join R S T f None y (Some c) r s = absurd r
 both_join R S T f (Some a) y None r s = absurd r
 both_join R S T f (Some a) None (Some c) r s = absurd s
 
--- The same steps, to nodes of equal shape and bytes.
+-- Nodes of equal shape and bytes have the same steps, to nodes of equal shape and bytes.
 pub law_of_bytes : (k m : Classes) (c d : List ℕ) (n o : NodeAt) (v : Value) → Sound k → Sound m → IsNode k c n v → SameNode c d n o → o.at ≤ o.end → o.end ≤ length d → Agree k m n.shape.class → SameSteps k m c d n o
 law_of_bytes k m c d n o v sound also i e p q a step =
     both_join (IsNode k c) (IsNode m d) (SameNode c d)

@@ -51,7 +51,7 @@ base_alone k (Group s h vs) c a q n f = by_case f.0
     by_case (inl p) = cc
     by_case (inr p) = absurd (n (let e : c ≡ p.2 = (let x = p.3 in cc) in ap (λ (z : Class). kind_of z.name) e ∙ p.4))
 
--- The values of the fields of a composite node stand one behind another, from its start to its end.
+-- The values of the fields of a composite node lie one after another, from its start to its end.
 pub record FieldsIn (k : Classes) (c : List ℕ) (n : NodeAt) (v : Value) (fs : List Field) : Type 0 where
   pub parts : Values
   pub row : IsRow k c n.at n.end (map (λ f. f.shape) fs) parts
@@ -83,7 +83,7 @@ fields_in k c n v d i a o q m = by_value v i
               is = ap (λ y. laid y (list_of vs)) z;
             }
 
--- The items of an array stand one behind another, from the end of its count.
+-- The items of an array lie one after another, from the end of its count.
 pub record ItemsIn (k : Classes) (c : List ℕ) (n : NodeAt) (v : Value) : Type 0 where
   pub count : ℕ
   pub place : ℕ
@@ -172,7 +172,7 @@ module _ (k : Classes) (c : List ℕ) (n : NodeAt) (v : Value) (sound : Sound k)
       let f = fields_in k c n v d i a o q m in
       (f.parts, f.row, field_picked n.shape (children k c n) j a ∙ ap (λ z. slice_get z j) (children_are k c n v sound i ∙ f.is))
 
-  -- The same by the layouts of the class.
+  -- The field with a number, by the layouts of the class.
   pub field_row : (j place : ℕ) (kind : Kind) (ss : List FieldLayout) → n.shape.array ≡ false → n.shape.constant ≡ false → slice_get k place ≡ find_class k n.shape.class → place < length k → IfSome (slice_get k place) (λ c. kind ≡ kind_of c.name) → kind ≡ kinds.Composite → IfSome (slice_get k place) (λ c. AreFieldLayouts k c.fields ss)
       → (vs : Values) × IsRow k c n.at n.end (map (λ s. s.shape) ss) vs × (child k c n (steps.Field j) ≡ slice_get (laid n.at (list_of vs)) j)
   field_row j place kind ss a o q l e m h =
@@ -211,7 +211,7 @@ module _ (k : Classes) (c : List ℕ) (n : NodeAt) (v : Value) (sound : Sound k)
           let q : shape_of u ≡ item_of n.shape = (let x : shape_of u ∷ shapes_of vs ≡ item_of n.shape ∷ replicate m (item_of n.shape) = r.of_shapes in cc) in
           subst (λ (z : Shape). IsSome (find_class k z.class)) q (inline_known k u (ap (λ (z : Shape). z.array) q) (ap (λ (z : Shape). z.constant) q ∙ o) r.fit.0)
 
--- What the code hands out as a step's end is a value.
+-- The node to which a step of the code leads is one of a value.
 pub child_value : (k : Classes) (n m : Node) (step : Step) → Sound k → IsValue k n → m.bytes.now ≡ n.bytes.now → child k n.bytes.now (node_of n) step ≡ Some (node_of m) → IsValue k m
 child_value k n m step sound (v, i) b e =
     by_part (part v step) (subst (λ z. Both (IsNode k n.bytes.now) z (part v step)) e (child_is k n.bytes.now (node_of n) v sound i step))

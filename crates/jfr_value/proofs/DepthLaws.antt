@@ -38,7 +38,7 @@ no_right : {X : Type 0} (xs ys : List X) → xs ++ ys ≡ [] → ys ≡ []
 no_right [] ys e = e
 no_right (x ∷ xs) ys e = cc
 
--- Where nothing is found at any member.
+-- If nothing is found at any member.
 none_at : {X : Type 0} (found : ℕ → X → List ClassFlaw) (n : ℕ) (xs : List X) → flat_map (λ x. found x.0 x.1) (enumerate_from n xs) ≡ [] → AllByRecursion (λ x. (i : ℕ) × (found i x ≡ [])) xs
 none_at found n [] e = tt
 none_at found n (x ∷ xs) e = (
@@ -121,7 +121,7 @@ each_exact f (g ∷ fs) (Cons v vs) e a =
     bind_exact (f g.shape) (λ a. for_each fs (λ g. f g.shape) >>= λ rest. Done (a ∷ rest)) (bytes_of v) (bytes_of_all vs) (bytes_of v ++ bytes_of_all vs) v (v ∷ list_of vs) refl (subst (λ z. Exactly (f z) (bytes_of v) v) q a.0)
     (bind_exact (for_each fs (λ g. f g.shape)) (λ rest. Done (v ∷ rest)) (bytes_of_all vs) [] (bytes_of_all vs) (list_of vs) (v ∷ list_of vs) (sym (append-nil (bytes_of_all vs))) (each_exact f fs vs r a.1) (refl, refl))
 
--- What is handed on with its bytes.
+-- A value with its bytes.
 with_exact : {A B : Type 0} (f : Format A) (g : A → List ℕ → B) (c b : List ℕ) (a : A) → Exactly f b a → Exactly (with_bytes c f (λ a s. Done (g a s))) b (g a (c ++ b))
 with_exact (Done v) g c b a e = (ap (λ z. g z (c ++ b)) e.0 ∙ ap (λ z. g v z) (ap (λ z. c ++ z) e.1 ∙ append-nil c), e.1)
 with_exact (Stop next) g c b a e = absurd e

@@ -124,7 +124,7 @@ layouts_there k s ss i a = let c = layout_class k s i in (subst (λ o. IfSome o 
 pub text_seen : (x : List ℕ) (end at : ℕ) (r : Answer Content) → r ≡ run (string_format true) x end at → seen r ≡ seen (run (base_format kinds.Text) x end at)
 text_seen x end at r e = ap seen e ∙ sym (seen-made (string_format true) key_of x end at)
 
--- Items of a class without fields have no bytes, so an array of them is its count alone.
+-- Items of a class without fields have no bytes, so an array of them is only its count.
 pub hollow_item : (k : Classes) (s : Shape) (c : Class) → find_class k s.class ≡ Some c → kind_of c.name ≡ kinds.Composite → c.fields ≡ [] → s.constant ≡ false
     → (x : List ℕ) (end at : ℕ) → run (item_format (class_format 34 k) (item_of s)) x end at ≡ Ok (record { value = Group (item_of s) [] Nil; place = at })
 unfolding run

@@ -1,4 +1,4 @@
--- A value of a known class of sound classes is refused as Short or StringKind alone.
+-- A value of a known class of sound classes is refused only as Short or StringKind.
 use Rattle.std.specs.Prelude.{◌≡◌, ℕ, zero, suc, ◌+◌, Bool, true, false, List, [], ◌∷◌, ◌++◌, ◌⊎◌, Option, Some, None, if◌then◌else◌, ◌==◌, nat_lt, ⊤, slice_range, slice_index}
 use Rattle.std.specs.Option.{option_map_or}
 use Rattle.std.specs.List.{AllByRecursion}

@@ -232,7 +232,7 @@ module _ (k : Classes) (levels : ℕ) (x : List ℕ) (end : ℕ) where
     trace_seen : (at : ℕ) → seen (run integer x end at) ≡ seen (row (f.traces ∷ []) at)
     trace_seen at = key_seen trace (f.traces ∷ []) at (each.1.1.1.0, tt) (f.traces, refl, f.trace_is)
 
-    -- The keys behind the integers, and the trace behind the thread.
+    -- The keys after the integers, and the trace after the thread.
     behind : (at : ℕ) → seen (row ss at) ≡ then_at (seen (run (times 2 integer) x end at)) (λ p. seen (row (f.threads ∷ f.traces ∷ []) p))
     behind at =
         ap (λ z. seen (row z at)) f.all

@@ -37,7 +37,7 @@ layout_known k s i = subst IsSome (sym (layout_class k s i).found) refl
 pub layout_within : (k : Classes) (s : FieldLayout) → IsFieldLayout k s → s.class_index < length k
 layout_within k s i = placed_within k s.shape.class s.class_index i.class_index
 
--- The layout of a shape whose class stands at a place.
+-- The layout of a shape whose class has an index.
 pub layout_made : (k : Classes) (s : Shape) (place : ℕ) (kind : Kind) → class_index k s.class ≡ Some place → IfSome (slice_get k place) (λ c. kind ≡ kind_of c.name) → IsFieldLayout k (layout_with s place kind)
 layout_made k s place kind p h =
     let c = placed_some k s.class place p in

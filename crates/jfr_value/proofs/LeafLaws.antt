@@ -1,4 +1,4 @@
--- The leaves of a value: what they refer to, and that there are at most as many as bytes.
+-- The leaves of a value: what they refer to, and that there are no more of them than bytes.
 use Rattle.std.specs.Prelude.{◌≡◌, ℕ, ◌+◌, ◌≤◌, List, [], ◌∷◌, ◌++◌, length, Option, Some, None, Bool, true, false, if◌then◌else◌}
 use Rattle.std.specs.List.{filter_map, cons_option}
 use Rattle.std.specs.Option.{option_map}
@@ -56,7 +56,7 @@ single_target : (s : Shape) (kind : LeafKind) (b : List ℕ) (key : Option ℕ) 
 single_target s kind b None e = ap (λ z. cons_option (option_map (λ key. (s.class, key)) z) []) e
 single_target s kind b (Some key) e = ap (λ z. cons_option (option_map (λ key. (s.class, key)) z) []) e
 
--- What a value refers to is what its leaves refer to.
+-- A value refers to what its leaves refer to.
 mutual
   pub leaf_targets : (k : Classes) (at : ℕ) (v : Value) → Fits k v → filter_map leaf_target (leaves_at at v) ≡ targets_of v
   leaf_targets k at (Single s kind b key) f = single_target s kind b key (single_key k s kind b key f)
@@ -103,7 +103,7 @@ head_has k at s h ss (inr p) = by_mark s.array p.0
     by_mark true q = cc
     by_mark false q = omega arith
 
--- At most as many leaves as bytes.
+-- There are no more leaves than bytes.
 mutual
   pub leaves_within : (k : Classes) (at : ℕ) (v : Value) → Fits k v → length (leaves_at at v) ≤ length (bytes_of v)
   leaves_within k at (Single s kind b key) f = single_has k s kind b key f

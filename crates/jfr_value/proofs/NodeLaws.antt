@@ -1,4 +1,4 @@
--- Nodes and the values that stand there.
+-- Nodes and their values.
 use Rattle.std.specs.Prelude.{◌≡◌, ℕ, zero, suc, ◌+◌, ◌≤◌, List, [], ◌∷◌, ◌++◌, length, slice_range, Option, Some, None, Ok, Bool, true, false, if◌then◌else◌, slice_get}
 use Rattle.std.specs.Option.{option_map_or, option_and_then}
 use Rattle.std.proofs.Common.{ap, arith, refl, sym, subst}

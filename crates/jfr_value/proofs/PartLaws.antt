@@ -1,4 +1,4 @@
--- One part of a row where it stands.
+-- One part of a row, and its node.
 use Rattle.std.specs.Prelude.{◌≡◌, ℕ, ◌+◌, ◌<◌, ◌≤◌, List, length, slice_get, Some, Ok, Bool, true, false, not, replicate, IfSome, IsTrue, ◌↔◌}
 use Rattle.std.proofs.Common.{ap, refl, sym, ◌∙◌, subst}
 use Rattle.jfr_base.specs.Formats.{run, seen}
@@ -36,7 +36,7 @@ part_there k c at end ss vs i s place r e p =
       is = x.is ∙ ap (λ z. Some (node_at s z (start_of at vs (i + 1)))) (sym p);
     }
 
--- Items without bytes all stand at one place.
+-- Items without bytes are all at one offset.
 pub hollow_part : (k : Classes) (c : List ℕ) (at end : ℕ) (s : FieldLayout) (count i : ℕ) (vs : Values) (b : Bool) → IsPlaced k s → s.shape.array ≡ false → s.shape.constant ≡ false → IfSome (slice_get k s.class_index) (λ c. IsTrue b ↔ IsHollow c) → b ≡ true
     → IsRow k c at end (replicate count s.shape) vs → i < count → slice_get (laid at (list_of vs)) i ≡ Some (node_at s.shape at at)
 hollow_part k c at end s count i vs b p a o h t r l =

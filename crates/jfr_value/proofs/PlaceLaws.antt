@@ -55,11 +55,11 @@ get_within [] i h = absurd (omega arith)
 get_within (x ∷ xs) zero h = (x, refl)
 get_within (x ∷ xs) (suc i) h = get_within xs i (omega arith)
 
--- And a class stands there.
+-- There is a class with this index.
 pub placed_some : (k : Classes) (id place : ℕ) → class_index k id ≡ Some place → (c : Class) × (slice_get k place ≡ Some c)
 placed_some k id place e = get_within k place (placed_within k id place e)
 
--- The place of a known class, where another number stands for no place.
+-- The index of a known class, when another number is used for no index.
 pub known_place : (k : Classes) (id place other : ℕ) (o : Option ℕ) → o ≡ class_index k id → place ≡ unwrap_or o other → IsSome (find_class k id) → class_index k id ≡ Some place
 known_place k id place other None e u h = absurd (known_placed k id h (sym e))
 known_place k id place other (Some p) e u h = sym e ∙ ap (λ z. Some z) (sym u)

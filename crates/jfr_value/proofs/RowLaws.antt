@@ -1,4 +1,4 @@
--- Values one behind another, and where each of them begins.
+-- Values one after another, and where each of them starts.
 use Rattle.std.specs.Prelude.{◌≡◌, ℕ, zero, suc, ◌+◌, ◌<◌, ◌≤◌, false, List, [], ◌∷◌, ◌++◌, length, map, replicate, slice_get, Some}
 use Rattle.std.proofs.Common.{ap, arith, refl, sym, ◌∙◌, subst, inl, inr}
 use Rattle.jfr_base.proofs.RunLaws.{Stands, stands_split}
@@ -11,7 +11,7 @@ use Rattle.jfr_value.specs.Nodes.{node_at, IsNode, IsRow, laid}
 pub row_stands : (k : Classes) (c : List ℕ) (at to : ℕ) (ss : List Shape) (vs : Values) → IsRow k c at to ss vs → Stands c at to (bytes_of_all vs)
 row_stands k c at to ss vs r = record { order = r.order; within = r.within; bytes = r.bytes }
 
--- Where the value of a number begins.
+-- The offset of the value with this number.
 abbrev pub start_of : ℕ → Values → ℕ → ℕ
 start_of at vs zero = at
 start_of at Nil (suc i) = at

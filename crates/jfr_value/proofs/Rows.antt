@@ -101,12 +101,12 @@ string_target : target classes strings (node (inline 6) 1 3) ≡ Some (6, 1)
 unfolding run int_at class_format value_format string_format kind_of value_of
 string_target = refl
 
--- A count of 2^40 in seven bytes: the second item is wanting.
+-- A count of 2^40 in seven bytes: the second item is missing.
 long_array : run (value_format classes (record { class = 5; constant = false; array = true })) (128 ∷ 128 ∷ 128 ∷ 128 ∷ 128 ∷ 32 ∷ 1 ∷ []) 7 0 ≡ Err (record { offset = 7; reason = Short })
 unfolding run int_at class_format value_format string_format kind_of
 long_array = refl
 
--- A string of an unknown kind, behind a reference.
+-- A string of an unknown kind, after a reference.
 unknown_kind : run (value_format classes (inline 7)) (1 ∷ 6 ∷ []) 2 0 ≡ Err (record { offset = 1; reason = StringKind })
 unfolding run int_at class_format value_format string_format kind_of
 unknown_kind = refl

@@ -1,4 +1,4 @@
--- Where an integer ends, whatever it says.
+-- Where an integer ends, whatever its value is.
 use Rattle.std.specs.Prelude.{◌≡◌, ℕ, zero, suc, ◌+◌, ◌-◌, ◌<◌, ◌≤◌, ◌⊎◌, List, ◌∷◌, length, slice_range, slice_index, Option, Some, None, Ok, Err, nat_lt, true, false}
 use Rattle.std.specs.Option.{option_map}
 use Rattle.std.proofs.Common.{ap, arith, refl, subst, sym, ◌∙◌, inl, inr}
@@ -13,7 +13,7 @@ use Rattle.jfr_layout.specs.declared.kind.Kind.{Kind}
 use Rattle.jfr_layout.specs.declared.kind.Kind.TheVariants as kinds
 use Rattle.jfr_value.specs.Reading.{base_format}
 
--- What is made of an integer doesn't change where it ends.
+-- What is computed from an integer doesn't change where it ends.
 pub int_made : {A : Type 0} (g : ℕ → List ℕ → A) (x : List ℕ) (end at : ℕ) → seen (run integer x end at) ≡ seen (run (Int unchecked (λ v s. Done (g v s))) x end at)
 unfolding run
 int_made {A = A} g x end at = by_int (int_at x at end)
@@ -34,7 +34,7 @@ base_skipped kind x end at h = int_made nothing x end at ∙ ap (λ f. seen (run
     is_int (inr (inr (inl e))) = ap base_format (sym e)
     is_int (inr (inr (inr e))) = ap base_format (sym e)
 
--- It ends behind its last group, if that is there.
+-- An integer ends after its last group, if that is there.
 int_ends : (x : List ℕ) (end at n : ℕ) → front_within 8 (slice_range x at end) ≡ Some n → Ok (at + n) ≡ seen (run integer x end at)
 unfolding run int_at
 int_ends x end at n e = ap (λ o. seen (after_int x at unchecked (λ v s p. run (Done v) x end p) (option_map (λ n. record { value = worth_within 8 (slice_range x at (at + n)); end = at + n }) o))) (sym e)
@@ -60,7 +60,7 @@ past_end x at end to h i e l = by_int (int_at x at (length x)) refl e
     by_int None q e = cc
     by_int (Some v) q e = let g : to ≡ v.end = cc in ap (λ o. seen (after_int x at unchecked (λ v s p. run (Done v) x end p) o)) (sym (ends_past x at end (length x) v h i (omega arith) (omega arith) q (omega arith)))
 
--- What is known between two groups, after so many of seven bits.
+-- What is known between two groups, after `passed` groups of seven bits.
 pub record Skipping (x : List ℕ) (at end passed : ℕ) : Type 0 where
   pub room : passed ≤ 8
   pub same : front_within 8 (slice_range x at end) ≡ option_map (λ n. passed + n) (front_within (8 - passed) (slice_range x (at + passed) end))
@@ -94,7 +94,7 @@ skip_next x at end passed s m l h b =
     by_front None = refl
     by_front (Some n) = ap (λ z. Some z) (omega arith)
 
--- After so many bytes with more to come.
+-- After bytes that aren't the last group.
 pub skip_all : (x : List ℕ) (at end passed : ℕ) → passed ≤ 8 → at + passed ≤ end → end ≤ length x → ((k : ℕ) → k < passed → 128 ≤ slice_index x (at + k)) → Skipping x at end passed
 skip_all x at end zero m l h more = skip_start x at end
 skip_all x at end (suc n) m l h more =

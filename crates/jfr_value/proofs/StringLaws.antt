@@ -29,7 +29,7 @@ are_units b (v ∷ us) s =
 spelled_alone : (r h t : List ℕ) (v : ℕ) → r ≡ h ++ t → t ≡ [] → Spells h v → Spells r v
 spelled_alone r h t v e d s = subst (λ z. Spells z v) (sym (no_rest r h t e d)) s
 
--- A length, and a run of so many bytes.
+-- A length, and a run of this many bytes.
 counted_run : (r h t : List ℕ) (n : ℕ) (c d : List ℕ) → r ≡ h ++ t → Spells h n → t ≡ c ++ d → length c ≡ n → d ≡ [] → Counted r (length c) (λ z. z ≡ c)
 counted_run r h t n c d e s f l g = (h, t, e, subst (Spells h) (sym l) s, no_rest t c d f g)
 

@@ -177,7 +177,7 @@ module _ {A : Type 0} (takes : ℕ × ℕ → A → A → Type 0) (x : List ℕ)
       (subst (λ o. TakesRead takes (after_int x at unchecked (λ n b p. run (times n (item_format inline (item_of s)) >>= λ vs. Done (Group s b (values_of vs))) x end p) o) old new) (sym e)
       (if_made (times v.value (item_format inline (item_of s))) (λ vs. Group s (slice_range x at v.end) (values_of vs)) (λ vs. TakesAll takes (targets_of_all (values_of vs)) old new) (λ v. TakesAll takes (targets_of v) old new) x end v.end (λ vs p. p) h))
 
-  -- A value and those behind it.
+  -- A value and those after it.
   pub cons_taken : (f : Format Value) (g : Format (List Value)) (to : ℕ) (old now new : A) → seen (run f x end at) ≡ Ok to → TakesRead takes (run f x end at) old now → TakesReadAll takes (run g x end to) now new
       → TakesReadAll takes (run (f >>= λ v. g >>= λ vs. Done (v ∷ vs)) x end at) old new
   cons_taken f g to old now new e h t =
@@ -190,7 +190,7 @@ module _ {A : Type 0} (takes : ℕ × ℕ → A → A → Type 0) (x : List ℕ)
           (λ vs q. takes_append takes (targets_of got.value) (targets_of_all (values_of vs)) old now new h q) (subst (λ z. TakesReadAll takes (run g x end z) now new) (sym p) t)
       by_answer (Err f) e h = tt
 
--- What is taken of the values that are left is, behind what was taken, all that is taken.
+-- The targets of the values that are left, after those that were taken, are all targets.
 pub record TakesLeft {A : Type 0} (takes : ℕ × ℕ → A → A → Type 0) (all left : Answer (List Value)) (old now : A) : Type 0 where
   pub then_all : (new : A) → TakesReadAll takes left now new → TakesReadAll takes all old new
 
@@ -237,7 +237,7 @@ module _ {A : Type 0} (takes : ℕ × ℕ → A → A → Type 0) (k : Classes) 
       by_int (Some v) e = let c = layout_class k s i in let w = hollow_is k s.shape s.class_index b c.class c.there h t in
           items_taken takes x end at (class_format 34 k) s.shape v a a w.0 e (hollow_items_taken s.shape c.class c.found w.2.0 w.2.1 w.1 v.value v.end)
 
--- Where a value was read, its targets are those of the node.
+-- If a value was read, its targets are those of the node.
 pub node_taken : {A : Type 0} (takes : ℕ × ℕ → A → A → Type 0) (k : Classes) (s : Shape) (x : List ℕ) (end at : ℕ) (old new : A) → Sound k → at ≤ end → end ≤ length x → (r : Result ℕ Flaw) → r ≡ seen (run (value_format k s) x end at)
     → TakesRead takes (run (value_format k s) x end at) old new → IfOk r (λ to. TakesAll takes (targets k x (node_at s at to)) old new)
 node_taken takes k s x end at old new sound o h r e t = subst (λ z. IfOk z (λ to. TakesAll takes (targets k x (node_at s at to)) old new)) (sym e) (by_answer (run (value_format k s) x end at) (run_says (value_format k s) x end at o h) t)

@@ -1,4 +1,4 @@
--- Strings that are keys, by the integer behind their kind byte, and those that are none.
+-- Strings that are keys, by the integer after their kind byte, and those that aren't.
 use Rattle.std.specs.Prelude.{◌≡◌, ℕ, ◌+◌, ◌==◌, List, Ok, Err, None, IfOk, option_map, option_to_list, true, false, if◌then◌else◌}
 use Rattle.std.proofs.Common.{ap, refl, sym, ◌∙◌, subst}
 use Rattle.jfr_base.specs.Formats.{Answer, Done, integer, on, run, seen}
@@ -15,7 +15,7 @@ module _ (x : List ℕ) (end at : ℕ) (is_key : run (string_format true) x end 
   pub key_ends : seen (run integer x end (at + 1)) ≡ seen (run (base_format kinds.Text) x end at)
   key_ends = sym (seen-made (string_format true) key_of x end at ∙ (ap seen is_key ∙ seen-made integer (λ key. Key key) x end (at + 1)))
 
-  -- And what is handed on is the integer.
+  -- The key that it gives is the integer.
   module _ {A : Type 0} (takes : ℕ × ℕ → A → A → Type 0) (class : ℕ) (old new : A) where
     abbrev Taken : Answer Content → Type 0
     Taken r = IfOk r (λ got. TakesAll takes (option_to_list (option_map (λ key. (class, key)) (key_of got.value))) old new)
@@ -28,7 +28,7 @@ module _ (x : List ℕ) (end at : ℕ) (is_key : run (string_format true) x end 
     pub key_taken : IfOk (run integer x end (at + 1)) (λ key. takes (class, key.value) old new) → Taken (run (string_format true) x end at)
     key_taken h = subst Taken (sym (is_key ∙ run-bind integer (λ key. Done (Key key)) x end (at + 1))) (taken_by (run integer x end (at + 1)) h)
 
--- A string that is no key ends where its content does, and nothing is handed on.
+-- A string that isn't a key ends where its content does, and gives no key.
 module _ (x : List ℕ) (end at to : ℕ) (content : Content) (reads : run (string_format true) x end at ≡ Ok (record { value = content; place = to })) where
   pub keyless_ends : Ok to ≡ seen (run (base_format kinds.Text) x end at)
   keyless_ends = sym (seen-made (string_format true) key_of x end at ∙ ap seen reads)
@@ -40,6 +40,6 @@ module _ (x : List ℕ) (end at to : ℕ) (content : Content) (reads : run (stri
     pub keyless_taken : AllTaken (run (string_format true) x end at)
     keyless_taken = subst AllTaken (sym reads) (subst (λ o. TakesAll takes (option_to_list (option_map (λ key. (class, key)) o)) state state) (sym no_key) refl)
 
--- A string that is its kind byte alone is no key.
+-- A string that is only a kind byte isn't a key.
 pub bare_keyless : (kind : ℕ) → key_of (bare_content kind) ≡ None
 bare_keyless kind = elim (kind == 0) as (λ b. key_of (if b then Null else Empty) ≡ None) [ true ↦ refl | false ↦ refl ]

@@ -1,4 +1,4 @@
--- What a value's format reads: its bytes, and parts that stand by themselves.
+-- What a value's format reads: its bytes, and parts that are values by themselves.
 use Rattle.jfr_value.specs.declared.leaf.LeafKind.{LeafKind}
 use Rattle.jfr_value.specs.declared.leaf.LeafKind.TheVariants as leaf_kinds
 use Rattle.jfr_value.specs.Values.{Value, Single, Group, values_of, list_of, shape_of, parts_of, bytes_of, bytes_of_all}
@@ -57,7 +57,7 @@ module _ (k : Classes) where
           (λ b vs. each_more (λ f. shape_format (class_format n k) f.shape) (λ f. shape_format (class_format (suc n) k) f.shape) (λ f. shape_more (class_format n k) (class_format (suc n) k) m f.shape) c.fields b vs)
           (kind_of c.name) s b v e
 
--- What is read has its shape and its bytes, and each part stands by itself.
+-- The value that is read has this shape and these bytes, and each part is a value by itself.
 pub record Whole (f : Shape → Format Value) (s : Shape) (b : List ℕ) (v : Value) : Type 0 where
   pub shape : shape_of v ≡ s
   pub bytes : bytes_of v ≡ b
@@ -104,7 +104,7 @@ parts_whole f s h r b vs v e d i = subst (Whole f s b) (sym e) (record { shape =
 pub no_rest : (b h r : List ℕ) → b ≡ h ++ r → r ≡ [] → b ≡ h
 no_rest b h r e d = e ∙ (ap (λ z. h ++ z) d ∙ append-nil h)
 
--- The same for a format of items and of shapes.
+-- If a format of inline values reads whole values, so does that of a shape.
 abbrev pub Each : (f : Shape → Format Value) → Type 0
 Each f = (s : Shape) (b : List ℕ) (v : Value) → Exactly (f s) b v → Whole (shape_format f) s b v
 

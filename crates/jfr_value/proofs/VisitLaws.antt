@@ -34,7 +34,7 @@ use Rattle.jfr_value.proofs.StackLaws.{field_there, inner_room}
 use Rattle.jfr_value.proofs.StringLaws.{is_exact}
 use Rattle.jfr_value.proofs.WalkLaws.{first_of}
 
--- Targets that are taken behind others, none, and one.
+-- Targets that are taken after others, none, and one.
 pub takes_append : {A : Type 0} (takes : ℕ × ℕ → A → A → Type 0) (ts us : List (ℕ × ℕ)) (a b c : A) → TakesAll takes ts a b → TakesAll takes us b c → TakesAll takes (ts ++ us) a c
 takes_append takes [] us a b c e h = subst (λ z. TakesAll takes us z c) (sym e) h
 takes_append takes (t ∷ ts) us a b c g h = (g.0, g.1, takes_append takes ts us g.0 b c g.2 h)
@@ -46,7 +46,7 @@ pub takes_one : {A : Type 0} (takes : ℕ × ℕ → A → A → Type 0) (ts : L
 takes_one takes ts t a b e h = subst (λ z. TakesAll takes z a b) (sym e) (b, h, refl)
 
 module _ (k : Classes) (c : List ℕ) (at to end : ℕ) (s : Shape) (l : to ≤ end) (w : end ≤ length c) where
-  -- A reference: its key stands there.
+  -- A reference: its key is there.
   pub record KeyNode (v : Value) : Type 0 where
     pub key : ℕ
     pub found : int_at c at end ≡ Some (record { value = key; end = to })
@@ -153,7 +153,7 @@ module _ (k : Classes) (c : List ℕ) (at to end : ℕ) (s : Shape) (l : to ≤ 
       no_key kinds.Text b key x i = absurd (x refl)
       no_key kinds.Composite b key x i = absurd i
 
-  -- A string refers to its key, where it is one.
+  -- A string refers to its key, if it is one.
   pub record TextNode (v : Value) : Type 0 where
     pub content : Content
     pub reads : run (string_format true) c end at ≡ Ok (record { value = content; place = to })
@@ -176,7 +176,7 @@ module _ (k : Classes) (c : List ℕ) (at to end : ℕ) (s : Shape) (l : to ≤ 
   pub inline_plain : (v : Value) (place : ℕ) (kind : Kind) (form : Form) → IsNode k c (node_at s at to) v → s.array ≡ false → s.constant ≡ false → IsLayoutIfKnown k (record { shape = s; class_index = place; kind = kind; form = form }) → kind ≢ kinds.Text → kind ≢ kinds.Composite → PlainNode kind v
   inline_plain v place kind form i a o p x n = plain_node kind v (base_node v place kind i a o (inline_node v place kind form i a o p) n) x
 
-  -- Parts that stand from a place on, behind so many leaves.
+  -- Parts that lie from an offset on, after `more` leaves.
   pub record PartsNode (from more : ℕ) (ss : List Shape) (v : Value) : Type 0 where
     pub parts : Values
     pub row : IsRow k c from to ss parts
@@ -223,7 +223,7 @@ module _ (k : Classes) (c : List ℕ) (at to end : ℕ) (s : Shape) (l : to ≤ 
   room_within place kind levels d m o r =
       subst (AllByRecursion (Room k (levels - 1))) (sym (shapes_there place d.class d.there)) (rooms (Room k (levels - 1)) d.class.fields (inner_room k levels s d.class r o d.found (sym d.kind_is ∙ m)).1)
 
-  -- An array: its count, and the items behind it.
+  -- An array: its count, and the items after it.
   record ArrayNode (v : Value) : Type 0 where
     count : Var
     found : int_at c at end ≡ Some count
@@ -265,7 +265,7 @@ module _ (k : Classes) (c : List ℕ) (at to end : ℕ) (s : Shape) (l : to ≤ 
       let q : n.count ≡ count = (let x : int_at c at end ≡ Some n.count = n.found in cc) in
       subst (λ (z : Var). PartsNode z.end 1 (replicate z.value (item_of s)) v) q n.items
 
--- Where no values are left, or values without bytes: there are no leaves, and they refer to nothing.
+-- If no values are left, or values without bytes, there are no leaves and no targets.
 pub record Nothing (at to : ℕ) (vs : Values) : Type 0 where
   pub ends : at ≡ to
   pub leaves : length (leaves_from at vs) ≡ 0
@@ -300,7 +300,7 @@ module _ (k : Classes) (c : List ℕ) (at to : ℕ) where
           let b : bytes_of v ≡ [] = hollow_bytes k v d (ap (λ (z : Shape). z.array) p ∙ a) (ap (λ (z : Shape). z.constant) p ∙ o) (ap (λ (z : Shape). find_class k z.class) p ∙ q) h f.0 in
           ap (λ z. z ++ bytes_of_all vs) b ∙ none n vs g f.1
 
-  -- The class of an array's items is known where there is one.
+  -- The class of an array's items is known if there are items.
   pub items_known : (n : ℕ) (s : Shape) (vs : Values) → IsRow k c at to (replicate n (item_of s)) vs → n ≢ 0 → s.constant ≡ false → IsSome (find_class k s.class)
   items_known zero s vs r n o = absurd (n refl)
   items_known (suc n) s Nil r m o = let h = r.of_shapes in cc
@@ -314,8 +314,8 @@ module _ (k : Classes) (c : List ℕ) (at to : ℕ) where
       let d = placed_some k s.class place q in
       no_bytes n (item_of s) d.0 vs r refl o (placed_class k s.class place q ∙ d.1) (subst (λ z. IfSome z IsHollow) d.1 h)
 
--- A loop over values that stand one behind another: those that are left stand from a place on, and what
--- they refer to is to be taken yet, at a step for each of their leaves.
+-- A loop over values one after another: those that are left lie from an offset on, and what they refer to
+-- still has to be taken, with a step for each of their leaves.
 pub record Left {A : Type 0} (takes : ℕ × ℕ → A → A → Type 0) (k : Classes) (c : List ℕ) (at to : ℕ) (vs : Values) (old : A) (before : ℕ) (ss : List Shape) (from : ℕ) (now : A) (after : ℕ) : Type 0 where
   pub others : Values
   pub row : IsRow k c from to ss others
@@ -328,7 +328,7 @@ module _ {A : Type 0} (takes : ℕ × ℕ → A → A → Type 0) (k : Classes) 
       let n = none_left k c from to ss f.others f.row e in
       (n.ends, f.taken now (takes_none takes (targets_of_all f.others) now n.targets), (let x = n.leaves in let y = f.steps in omega arith))
 
-  -- The value that stands first.
+  -- The first value.
   pub record FirstLeft (s : Shape) (from : ℕ) : Type 0 where
     pub place : ℕ
     pub value : Value
@@ -340,7 +340,7 @@ module _ {A : Type 0} (takes : ℕ × ℕ → A → A → Type 0) (k : Classes) 
       let g = first_of k c from to s ss f.others (subst (λ z. IsRow k c from to z f.others) e f.row) in
       record { place = from + length (bytes_of g.value); value = g.value; node = record { shape = sym g.shape; order = g.stands.order; within = g.stands.within; bytes = g.stands.bytes; fits = g.fits }; within = g.row.order }
 
-  -- What is left behind it.
+  -- What is left after it.
   pub left_goes : (s : Shape) (ss us : List Shape) (from : ℕ) (now : A) (after end result : ℕ) (new : A) (next : ℕ) → Left takes k c at to vs old before us from now after → us ≡ s ∷ ss → to ≤ end
       → ((p : ℕ) (v : Value) → IsNode k c (node_at s from p) v → p ≤ end → (result ≡ p) × TakesAll takes (targets_of v) now new × (next ≡ after + length (leaves_at from v)))
       → Left takes k c at to vs old before ss result new next

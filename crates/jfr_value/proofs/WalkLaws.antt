@@ -1,4 +1,4 @@
--- One step of a walk over values that stand one behind another.
+-- One step of a walk over values one after another.
 use Rattle.std.specs.Prelude.{◌≡◌, ◌≢◌, ℕ, zero, suc, ◌+◌, ◌<◌, ◌≤◌, Bool, true, false, List, [], ◌∷◌, ◌++◌, ◌⊎◌, length, map, replicate, slice_get, slice_range, Option, Some, None, IsSome, IfSome, Ok, if◌then◌else◌}
 use Rattle.std.proofs.Common.{ap, arith, refl, sym, ◌∙◌, subst, inl, inr}
 use Rattle.std.proofs.lemmas.List.{append_assoc, append-nil, length-append}
@@ -39,7 +39,7 @@ use Rattle.jfr_value.proofs.PlaceLaws.{get_within, placed_class, placed_some, pl
 use Rattle.jfr_value.proofs.FitLaws.{is_base}
 use Rattle.jfr_value.proofs.RowLaws.{row_stands, hollow_bytes}
 
--- Values behind others.
+-- Values followed by others.
 abbrev pub behind : Values → Values → Values
 behind Nil us = us
 behind (Cons v vs) us = Cons v (behind vs us)
@@ -68,7 +68,7 @@ leaves_behind at (Cons v vs) us =
     ∙ (ap (λ y. leaves_at at v ++ (leaves_from (at + length (bytes_of v)) vs ++ leaves_from y us)) z
     ∙ sym (append_assoc (leaves_at at v) (leaves_from (at + length (bytes_of v)) vs) (leaves_from (at + length (bytes_of v ++ bytes_of_all vs)) us)))
 
--- The first value of a row, and the rest behind it.
+-- The first value of a row, and the rest after it.
 pub record First (k : Classes) (c : List ℕ) (at end : ℕ) (s : Shape) (ss : List Shape) (vs : Values) : Type 0 where
   pub value : Value
   pub others : Values
@@ -92,7 +92,7 @@ first_of k c at end s ss (Cons v vs) r =
       row = record { order = h.second.order; within = h.second.within; bytes = h.second.bytes; fit = r.fit.1; of_shapes = (let x : shape_of v ∷ shapes_of vs ≡ s ∷ ss = r.of_shapes in cc) };
     }
 
--- The first leaf is handed out, and these values are left.
+-- The first leaf is returned, and these values are left.
 pub record Taken (k : Classes) (c : List ℕ) (at end to : ℕ) (kind : LeafKind) (class : ℕ) (ss : List Shape) (vs : Values) : Type 0 where
   pub others : Values
   pub row : IsRow k c to end ss others
@@ -254,7 +254,7 @@ module _ (k : Classes) (c : List ℕ) (at end : ℕ) (s : Shape) (ss : List Shap
             (let i = size_behind ps us in omega arith),
           )
 
-  -- An array: its count is handed out, and its items are what comes next.
+  -- An array: its count is returned, and its items come next.
   record Counted (vs : Values) (w : Var) : Type 0 where
     items : Values
     others : Values
@@ -405,7 +405,7 @@ pub array_found : (k : Classes) (c : List ℕ) (at end : ℕ) (s : Shape) (ss : 
 array_found k c at end s ss vs w place left r a e p (inl q) = subst (λ z. Taken k c at end w.end (leaf_kinds.Count w.value) s.class (replicate z (item_of s) ++ ss) vs) (sym q) (array_taken k c at end s ss vs w r a e)
 array_found k c at end s ss vs w place left r a e p (inr q) = subst (λ z. Taken k c at end w.end (leaf_kinds.Count w.value) s.class (replicate z (item_of s) ++ ss) vs) (sym q.0) (hollow_taken k c at end s ss vs w place r a e p q.1 q.2 q.3)
 
--- Where no shapes are left, no leaves are.
+-- If no shapes are left, no leaves are.
 pub no_leaves : (k : Classes) (c : List ℕ) (at end : ℕ) (vs : Values) → IsRow k c at end [] vs → leaves_from at vs ≡ []
 no_leaves k c at end Nil r = refl
 no_leaves k c at end (Cons v vs) r = let h = r.of_shapes in cc

@@ -1,8 +1,8 @@
--- The groups of compressed integers, looked at in sixteen bytes at once.
+-- The groups of compressed integers, tested in sixteen bytes at once.
 use Rattle.std.specs.Prelude.{◌≡◌, ℕ, ◌+◌, ◌<◌, List, slice_index, nat_lt, if◌then◌else◌}
 use Rattle.std.specs.Int.{bit_at}
 
--- A bit for each of sixteen bytes, which is set where the byte has no top bit, so that it is the last group
--- of an integer, if it is one of its groups of seven bits.
+-- A bit for each of sixteen bytes, which is set if the byte has no top bit. Such a byte is the last group of
+-- an integer, if it is one of its groups of seven bits.
 abbrev pub AreLastGroups : List ℕ → ℕ → ℕ → Type 0
 AreLastGroups x at lasts = (k : ℕ) → k < 16 → bit_at lasts k ≡ (if nat_lt (slice_index x (at + k)) 128 then 1 else 0)

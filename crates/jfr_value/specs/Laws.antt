@@ -1,4 +1,4 @@
--- What holds of every value, wherever it stands.
+-- Laws of values and of nodes.
 use Rattle.std.specs.Prelude.{◌≡◌, ◌↔◌, ◌⊎◌, ℕ, ◌≤◌, List, [], ◌∷◌, ◌++◌, flat_map, replicate, Some, Contains, if◌then◌else◌}
 use Rattle.std.specs.List.{filter_map}
 use Rattle.jfr_base.specs.declared.flaw.Flaw.{Flaw}
@@ -14,12 +14,12 @@ use Rattle.jfr_value.specs.Reading.{value_format}
 use Rattle.jfr_value.specs.Nodes.{NodeAt, node_at, node_bytes, IsNode, EndsAt, IsRefused, IsValueReason, child, children, inside, target, targets, Both}
 use Rattle.jfr_value.specs.Leaves.{leaves, leaf_target}
 
--- The trees that fit are those that the format reads, each from its own bytes alone.
+-- The trees that fit are exactly those that the format reads, each from its own bytes.
 abbrev pub AreRead : Classes → Type 0
 AreRead k = (v : Value) → Fits k v ↔ Exactly (value_format k (shape_of v)) (bytes_of v) v
 
--- A value of the shape stands there, or what stands there is refused: one of the two, with one value and
--- one flaw.
+-- Either there is a value of the shape at the offset, or it is refused; never both, and with only one such
+-- value or flaw.
 pub record HasOneAnswer (k : Classes) (c : List ℕ) (s : Shape) (at end : ℕ) : Type 0 where
   pub some : ((to : ℕ) × (to ≤ end) × EndsAt k c s at to) ⊎ ((flaw : Flaw) × IsRefused k c s at end flaw)
   pub not_both : (to : ℕ) → to ≤ end → EndsAt k c s at to → (flaw : Flaw) → IsRefused k c s at end flaw → ⊥
@@ -40,25 +40,27 @@ SameSteps k m c d n o = (step : Step) → Both (SameNode c d) (child k c n step)
 abbrev pub RefersInside : Classes → List ℕ → NodeAt → ℕ × ℕ → Type 0
 RefersInside k c n t = (path : List Step) × (m : NodeAt) × (inside k c n path ≡ Some m) × (target k c m ≡ Some t)
 
--- What a node refers to is what the ends of its paths of fields and items refer to, and what its leaves do.
+-- The targets of a node are those of the nodes to which its paths of fields and items lead, and those of its
+-- leaves.
 pub record RefersByParts (k : Classes) (c : List ℕ) (n : NodeAt) : Type 0 where
   pub paths : (t : ℕ × ℕ) → Contains (targets k c n) t ↔ RefersInside k c n t
   pub leaves_too : filter_map leaf_target (leaves k c n) ≡ targets k c n
 
--- The nodes are where values of these shapes stand, one behind another, from one place up to the other.
+-- These are nodes of values of these shapes, which cover the bytes from one offset up to the other, one after
+-- another.
 abbrev pub Cover : Classes → List ℕ → ℕ → ℕ → List Shape → List NodeAt → Type 0
 Cover k c at to [] [] = at ≡ to
 Cover k c at to (s ∷ ss) (n ∷ ns) = (n.at ≡ at) × (n.shape ≡ s) × ((v : Value) × IsNode k c n v) × Cover k c n.end to ss ns
 Cover k c at to [] (n ∷ ns) = ⊥
 Cover k c at to (s ∷ ss) [] = ⊥
 
--- An array's items cover what stands behind its count, which is read at its start.
+-- An array's items cover what follows its count, which is read at its start.
 pub record ItemsCover (k : Classes) (c : List ℕ) (n : NodeAt) : Type 0 where
   pub count : Var
   pub counted : int_at c n.at n.end ≡ Some count
   pub cover : Cover k c count.end n.end (replicate count.value (item_of n.shape)) (children k c n)
 
--- The leaves of a node where this value stands: a reference, or a value of a base name, alone; or else
+-- The leaves of a node with this value: the only one of a reference or of a value of a base name; otherwise
 -- those of its children in order, and before them an array's count.
 abbrev pub LeavesInOrder : Classes → List ℕ → NodeAt → Value → Type 0
 LeavesInOrder k c n (Single s kind b key) = leaves k c n ≡ record { kind = kind; class = s.class; at = n.at; spelled = b } ∷ []

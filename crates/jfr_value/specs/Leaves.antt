@@ -10,18 +10,18 @@ use Rattle.jfr_value.specs.declared.leaf.LeafKind.TheVariants as leaf_kinds
 use Rattle.jfr_value.specs.Values.{Value, Values, Single, Group, Nil, Cons, bytes_of}
 use Rattle.jfr_value.specs.Nodes.{NodeAt, value_of}
 
--- A leaf where it stands, with the bytes that spell it.
+-- A leaf in a chunk: its offset, and the bytes that spell it.
 pub record LeafAt : Type 0 where
   pub kind : LeafKind
   pub class : ℕ
   pub at : ℕ
   pub spelled : List ℕ
 
--- A leaf that the code hands out, as a leaf in the chunk.
+-- A leaf of the code, as a leaf in the chunk.
 abbrev pub leaf_of : Leaf → LeafAt
 leaf_of l = record { kind = l.kind; class = l.class; at = l.at; spelled = l.spelled.now }
 
--- The leaves of a value that stands at a place, from left to right.
+-- The leaves of a value that starts at an offset, from left to right.
 abbrev mutual
   pub leaves_at : ℕ → Value → List LeafAt
   leaves_at at (Single s kind b key) = record { kind = kind; class = s.class; at = at; spelled = b } ∷ []
@@ -40,13 +40,13 @@ abbrev pub spelled_key : List ℕ → Option ℕ
 spelled_key [] = None
 spelled_key (kind ∷ rest) = if kind == 2 then Some (worth_within 8 rest) else None
 
--- A reference is a key, and so may a string be.
+-- The key of a leaf: a reference has one, and a string may be one.
 abbrev pub leaf_key : LeafKind → List ℕ → Option ℕ
 leaf_key (leaf_kinds.Key key) spelled = Some key
 leaf_key (leaf_kinds.Count n) spelled = None
 leaf_key (leaf_kinds.Base kinds.Text) spelled = spelled_key spelled
 leaf_key (leaf_kinds.Base kind) spelled = None
 
--- What a leaf refers to.
+-- The class and the key to which a leaf refers, if it does.
 abbrev pub leaf_target : LeafAt → Option (ℕ × ℕ)
 leaf_target l = option_map (λ key. (l.class, key)) (leaf_key l.kind l.spelled)

@@ -1,4 +1,4 @@
--- A value is a tree of bytes, without places: a single value, or parts behind a head.
+-- A value is a tree of bytes, without offsets: a single value, or parts after a head.
 use Rattle.std.specs.Prelude.{◌≡◌, ℕ, true, false, List, [], ◌∷◌, ◌++◌, ◌⊎◌, ⊤, replicate, length, map, Option, Some, None}
 use Rattle.std.specs.Option.{option_map}
 use Rattle.jfr_base.specs.Integer.{Spells}
@@ -13,10 +13,10 @@ use Rattle.jfr_value.specs.declared.leaf.LeafKind.TheVariants as leaf_kinds
 
 mutual
   pub data Value : Type 0 where
-    -- A value without parts: what kind of leaf it is, its bytes, and the key of a reference or of a string
-    -- that is one.
+    -- A value without parts: the kind of leaf that it is, its bytes, and the key if it is a reference, or a
+    -- string that is a key.
     Single : (shape : Shape) (kind : LeafKind) (bytes : List ℕ) (key : Option ℕ) → Value
-    -- An array behind its count, or a composite value, of which the head is empty.
+    -- An array, whose head is its count, or a composite value, whose head is empty.
     Group : (shape : Shape) (head : List ℕ) (parts : Values) → Value
 
   pub data Values : Type 0 where
@@ -63,12 +63,12 @@ abbrev mutual
   bytes_of_all Nil = []
   bytes_of_all (Cons v vs) = bytes_of v ++ bytes_of_all vs
 
--- The class and the key that the value itself refers to.
+-- The class and the key to which the value itself refers.
 abbrev pub own_target : Value → Option (ℕ × ℕ)
 own_target (Single s kind b key) = option_map (λ k. (s.class, k)) key
 own_target (Group s h vs) = None
 
--- The classes and keys that the value and its parts refer to, at any depth, from left to right.
+-- The classes and keys to which the value and its parts refer, at any depth, from left to right.
 abbrev mutual
   pub targets_of : Value → List (ℕ × ℕ)
   targets_of (Single s kind b None) = []
@@ -107,8 +107,8 @@ IsSingle k s kind b key =
     ((s.array ≡ false) × (s.constant ≡ true) × (n : ℕ) × Spells b n × (kind ≡ leaf_kinds.Key n) × (key ≡ Some n))
     ⊎ ((s.array ≡ false) × (s.constant ≡ false) × (c : Class) × (find_class k s.class ≡ Some c) × (kind ≡ leaf_kinds.Base (kind_of c.name)) × IsBase (kind_of c.name) b key)
 
--- What stands before the parts, and the shapes of these: an array has its count and so many items, a
--- composite value nothing and its fields.
+-- The bytes before the parts, and the shapes of the parts: an array has its count, and this many items; a
+-- composite value has no bytes before its fields.
 abbrev pub IsHead : Classes → Shape → List ℕ → List Shape → Type 0
 IsHead k s h parts =
     ((s.array ≡ true) × (n : ℕ) × Spells h n × (parts ≡ replicate n (item_of s)))
@@ -128,11 +128,12 @@ abbrev mutual
 abbrev pub IsHollow : Class → Type 0
 IsHollow c = (kind_of c.name ≡ kinds.Composite) × (c.fields ≡ [])
 
--- An array of inline values of such a class, which is its count alone.
+-- An array of inline values of such a class, which is only its count.
 abbrev pub IsHollowArray : Shape → Class → Type 0
 IsHollowArray s c = (s.array ≡ true) × (s.constant ≡ false) × IsHollow c
 
--- The layout has its form, and is that of its class; of a constant the class doesn't matter.
+-- The layout has the form of its shape and kind, and is that of its class; the class of a constant doesn't
+-- matter.
 pub record IsPlaced (k : Classes) (s : FieldLayout) : Type 0 where
   pub form : s.form ≡ form_of s.shape s.kind
   pub of_class : s.shape.constant ≡ false → IsFieldLayout k s

@@ -1,4 +1,4 @@
--- A walk over a value from left to right: what it has left.
+-- What a walk over a value from left to right has left.
 use Rattle.std.specs.Prelude.{◌≡◌, ℕ, suc, ◌+◌, ◌*◌, ◌<◌, ◌≤◌, ⊤, false, true, List, [], ◌∷◌, ◌++◌, drop, length, map, replicate, slice_get, Some, IsSome, Ok, Err, if◌then◌else◌}
 use Rattle.std.specs.Option.{option_map_or}
 use Rattle.std.specs.List.{AllByRecursion}
@@ -16,7 +16,7 @@ use Rattle.jfr_value.specs.Reading.{value_format}
 use Rattle.jfr_value.specs.Nodes.{IsRow}
 use Rattle.jfr_value.specs.Leaves.{LeafAt, leaf_of, leaves_from}
 
--- From an inline value of the shape no chain of so many inline steps begins.
+-- No chain of n inline steps begins with an inline value of the shape.
 abbrev pub Room : Classes → ℕ → Shape → Type 0
 Room k n s = s.constant ≡ false → (c : Class) → find_class k s.class ≡ Some c → is_composite (kind_of c.name) ≡ true → goes_inline n k c ≡ false
 
@@ -34,26 +34,26 @@ shapes_left k (f ∷ fs) = shapes_left k fs ++ frame_shapes k f
 abbrev pub IsPlacedIfKnown : Classes → Shape → ℕ → Type 0
 IsPlacedIfKnown k s place = s.constant ≡ false → IsSome (find_class k s.class) → class_index k s.class ≡ Some place
 
--- The layout has its form, and is that of its class, if the class is known.
+-- The layout has the form of its shape and kind, and is that of its class, if the class is known.
 pub record IsLayoutIfKnown (k : Classes) (s : FieldLayout) : Type 0 where
   pub form : s.form ≡ form_of s.shape s.kind
   pub of_class : s.shape.constant ≡ false → IsSome (find_class k s.shape.class) → IsFieldLayout k s
 
--- A frame at a height of the stack: so many inline steps may follow, each with two frames at most.
+-- A frame at a height of the stack: at most `levels` inline steps can follow, each with at most two frames.
 abbrev pub IsFrame : Classes → ℕ → Frame → Type 0
 IsFrame k height (Fields place number levels) = (height + 2 * levels ≤ 67) × (place < length k) × ((c : Class) → slice_get k place ≡ Some c → AllByRecursion (λ f. Room k levels f.shape) c.fields)
 IsFrame k height (Items shape place left levels) = (height + 2 * levels ≤ (if shape.array then 67 else 68)) × IsPlacedIfKnown k shape place × Room k levels shape
 
--- Each frame of a stack stands at its height, counted from the bottom.
+-- Each frame of a stack is a frame at its height, counted from the bottom.
 abbrev pub AreFrames : Classes → ℕ → List Frame → Type 0
 AreFrames k height [] = ⊤
 AreFrames k height (f ∷ fs) = IsFrame k (suc height) f × AreFrames k (suc height) fs
 
--- These values are what is left, up to an end.
+-- These values are left, up to `end`.
 abbrev pub IsLeft : Classes → List ℕ → ℕ → Cursor → Values → Type 0
 IsLeft k c end cursor vs = IsRow k c cursor.at end (shapes_left k cursor.stack) vs
 
--- The values that were read; none where one was refused.
+-- The values that were read; none if one was refused.
 abbrev pub got_values : Answer (List Value) → Values
 got_values (Ok g) = values_of g.value
 got_values (Err e) = Nil
@@ -66,8 +66,8 @@ values_left k c end cursor = got_values (run (for_each (shapes_left k cursor.sta
 abbrev pub leaves_left : Classes → List ℕ → ℕ → Cursor → List LeafAt
 leaves_left k c end cursor = leaves_from cursor.at (values_left k c end cursor)
 
--- How many values there are, of which each with parts counts twice, so that every step of a walk makes the
--- number smaller.
+-- The number of values, where each with parts counts twice, so that every step of a walk makes the number
+-- smaller.
 abbrev mutual
   pub size_of : Value → ℕ
   size_of (Single s kind b key) = 1
@@ -77,13 +77,13 @@ abbrev mutual
   size_of_all Nil = 0
   size_of_all (Cons v vs) = size_of v + size_of_all vs
 
--- What one step of a walk does: it ends, hands out the first leaf, or comes closer to it.
+-- What one step of a walk does: it ends, gives the first leaf, or comes closer to it.
 abbrev pub GoesOn : Classes → List ℕ → ℕ → ℕ → Values → ℕ → Cursor → Progress → Type 0
 GoesOn k c end at vs size cursor Ended = (ws : Values) × IsLeft k c end cursor ws × (leaves_from at vs ≡ []) × (leaves_from cursor.at ws ≡ [])
 GoesOn k c end at vs size cursor (Found leaf) = (ws : Values) × IsLeft k c end cursor ws × (leaves_from at vs ≡ leaf_of leaf ∷ leaves_from cursor.at ws)
 GoesOn k c end at vs size cursor Onward = (ws : Values) × IsLeft k c end cursor ws × (leaves_from at vs ≡ leaves_from cursor.at ws) × (size_of_all ws + length cursor.stack < size)
 
--- A walk over values that stand there.
+-- A walk over values, which are there.
 pub record IsWalk (k : Classes) (c : List ℕ) (end : ℕ) (cursor : Cursor) : Type 0 where
   pub sound : Sound k
   pub frames : AreFrames k 0 cursor.stack

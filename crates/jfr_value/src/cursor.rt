@@ -1,5 +1,5 @@
-// The walk over leaves, from one to the next, so that its caller can stop at any (`Leaves`). No command of
-// jfr uses it; it is for other programs that read values.
+//! The walk from leaf to leaf that is under `Leaves`, whose caller can stop at any leaf. No command of jfr
+//! uses it; it is for other programs that read values.
 ghost use Rattle.std.specs.Prelude.{◌≡◌, ◌≢◌, ◌⊎◌, ◌+◌, ◌*◌, ◌≤◌, ◌<◌, [], ◌∷◌, ◌++◌, length, true, false, Some, if◌then◌else◌, IfSome, MatchOption, slice_get, slice_range};
 ghost use Rattle.jfr_layout.specs.Classes.{Sound, find_class, kind_of};
 ghost use Rattle.jfr_layout.specs.declared.class.ClassInfo.{ClassInfo};
@@ -18,19 +18,20 @@ use crate::{Leaf, LeafKind};
 use jfr_base::read_within;
 use jfr_layout::{Classes, Kind, Shape};
 
-/// Where a walk stands, and what it has left: the values of the last frame come first.
+/// The state of a walk: the offset that it has reached, and the values that are left. Those of the last frame
+/// come first.
 #[derive(Drop)]
 pub(crate) struct Cursor {
     pub(crate) at: usize,
     pub(crate) stack: Stack,
 }
 
-/// What a step of a walk came to.
+/// The result of a step of a walk.
 #[derive(Drop)]
 pub(crate) enum Progress<'a> {
     /// No value is left.
     Ended,
-    /// The walk went on without a leaf: into a value's parts, or out of a frame that is done.
+    /// No leaf yet: the walk went into a value's parts, or out of a frame that is done.
     Onward,
     /// The next leaf.
     Found(Leaf<'a>),
@@ -53,7 +54,7 @@ pub(crate) fn next_in<'a>(cursor: &mut Cursor, walk: &Walk<'_, 'a, ()>) -> Optio
     }
 }
 
-/// One step: the last frame's next value, or the end of that frame.
+/// Takes one step: to the last frame's next value, or out of that frame.
 fn advance<'a>(cursor: &mut Cursor, walk: &Walk<'_, 'a, ()>) -> Progress<'a>
     requires sound { Sound walk.now.classes.now }
     requires frames { AreFrames walk.now.classes.now 0 cursor.old.stack }
@@ -81,7 +82,7 @@ fn advance<'a>(cursor: &mut Cursor, walk: &Walk<'_, 'a, ()>) -> Progress<'a>
     }
 }
 
-/// Enters the next field of a frame that was taken from the stack, where one is left.
+/// Enters the next field of a frame that was taken from the stack, if one is left.
 fn next_field<'a>(
     cursor: &mut Cursor,
     walk: &Walk<'_, 'a, ()>,
@@ -109,7 +110,7 @@ fn next_field<'a>(
     enter(cursor, walk, layout.shape, layout.class_index, levels)
 }
 
-/// Enters the next item of a frame that was taken from the stack, where one is left.
+/// Enters the next item of a frame that was taken from the stack, if one is left.
 fn next_item<'a>(
     cursor: &mut Cursor,
     walk: &Walk<'_, 'a, ()>,
@@ -137,7 +138,7 @@ fn next_item<'a>(
     enter(cursor, walk, shape, place, levels)
 }
 
-/// Enters the value of a shape that stands next.
+/// Enters the next value, which has this shape.
 fn enter<'a>(
     cursor: &mut Cursor,
     walk: &Walk<'_, 'a, ()>,
@@ -173,7 +174,7 @@ fn enter<'a>(
     }
 }
 
-/// Enters an array: its count is a leaf, and its items are what comes next.
+/// Enters an array: its count is a leaf, and its items come next.
 fn enter_array<'a>(
     cursor: &mut Cursor,
     walk: &Walk<'_, 'a, ()>,
@@ -210,7 +211,7 @@ fn enter_array<'a>(
     Progress::Found(leaf)
 }
 
-/// How many items of an array there are to walk over: none where they have no bytes.
+/// The number of items of an array that are walked: none if items have no bytes.
 fn items_to_walk(classes: &Classes, shape: Shape, place: usize, count: u64) -> u64
     ensures { (result ≡ count) ⊎ ((result ≡ 0) × (shape.constant ≡ false) × (place < length classes.now) × IfSome (slice_get classes.now place) IsHollow) }
 {
@@ -223,7 +224,7 @@ fn items_to_walk(classes: &Classes, shape: Shape, place: usize, count: u64) -> u
     count
 }
 
-/// Hands out the key of a reference.
+/// Returns the key of a reference as a leaf.
 fn enter_key<'a>(cursor: &mut Cursor, walk: &Walk<'_, 'a, ()>, shape: Shape) -> Progress<'a>
     requires array { shape.array ≡ false }
     requires constant { shape.constant ≡ true }
@@ -245,7 +246,7 @@ fn enter_key<'a>(cursor: &mut Cursor, walk: &Walk<'_, 'a, ()>, shape: Shape) -> 
     Progress::Found(leaf)
 }
 
-/// Hands out a value of a base name.
+/// Returns a value of a base name as a leaf.
 fn enter_base<'a>(
     cursor: &mut Cursor,
     walk: &Walk<'_, 'a, ()>,

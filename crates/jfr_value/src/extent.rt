@@ -1,7 +1,6 @@
-// The walk to a value's end, over bytes of which nothing is known: a value stands there, or what stands
-// there is refused. On the way it hands out what the value refers to. jfr_chunk uses it for each event
-// (`end_visiting`), jfr_pool for each constant, and jfr_show where it looks for an object's fields
-// (`end_of`).
+//! The walk to a value's end, over bytes of which nothing is known: it finds the value's end or a flaw. On the
+//! way it passes the value's references to a visitor. jfr_chunk uses it for each event (`end_visiting`),
+//! jfr_pool for each constant, and jfr_show to find an object's fields (`end_of`).
 ghost use Rattle.std.specs.Prelude.{◌≡◌, ◌⊎◌, ℕ, ◌+◌, ◌≤◌, ◌<◌, length, IfOk, IfErr, Ok, IfSome, IsSome, IsTrue, ◌↔◌, slice_get, true};
 ghost use Rattle.std.specs.List.{AllByRecursion};
 ghost use Rattle.jfr_base.specs.Formats.{run, seen};
@@ -25,9 +24,9 @@ use jfr_base::{Flaw, Reason, read_within};
 use jfr_layout::{ClassLayout, Classes, FieldLayout, Form, Kind, Shape};
 use jfr_text::read_string;
 
-/// The offset after the value of a shape that begins at the offset `at`. Its class must be known. Where no
-/// value ends by `end`, the flaw is that of the first leaf from the left that doesn't: `Short`, or
-/// `StringKind` for a string of an unknown kind.
+/// The offset after the value of a shape that starts at the offset `at`. Its class must be known. If no value
+/// ends by `end`, the flaw is that of the first leaf from the left that doesn't: `Short`, or `StringKind` for
+/// a string of an unknown kind.
 #[inline]
 pub fn end_of(
     classes: &Classes,
@@ -54,9 +53,9 @@ pub fn end_of(
     value_end(walk, &layout, at, &mut NoVisit)
 }
 
-/// Where a value of a layout ends, as `end_of` says it. On the way the class and the key of each reference,
-/// and of each string that is a key, are handed to a visitor, from left to right. After a flaw it has
-/// taken some of them.
+/// The offset after a value, as `end_of` returns it. The class and the key of each reference, and of each
+/// string that is a key, are passed to the visitor, from left to right. After a flaw it has taken some of
+/// them.
 #[inline(always)]
 pub fn end_visiting<C, V: Visit<C>>(
     classes: &Classes,
@@ -88,7 +87,7 @@ pub fn end_visiting<C, V: Visit<C>>(
     value_end(walk, layout, at, visitor)
 }
 
-/// Where a value ends, stated by the format's run.
+/// The body of `end_visiting`. Its clauses are in terms of the format's `run`.
 #[inline(always)]
 fn value_end<C, V: Visit<C>>(
     walk: Walk<'_, '_, C>,
@@ -113,7 +112,7 @@ fn value_end<C, V: Visit<C>>(
     }
 }
 
-/// Where a value ends that isn't the fields of a composite class.
+/// The offset after a value that isn't the fields of a composite class.
 #[inline]
 fn other_end<C, V: Visit<C>>(
     walk: Walk<'_, '_, C>,
@@ -150,8 +149,8 @@ impl Visit<()> for NoVisit {
     fn visit(&mut self, _with: &(), _class: u64, _key: u64) {}
 }
 
-/// The layout of a shape. Where its class isn't known, only the layout's shape, and the form of an array or
-/// a key, say something.
+/// The layout of a shape. If its class isn't known, only the layout's shape, and the form of an array or a
+/// key, are meaningful.
 pub fn layout_of(classes: &Classes, shape: Shape) -> FieldLayout
     ensures shape { result.shape ≡ shape }
     ensures form { result.form ≡ form_of result.shape result.kind }
@@ -164,7 +163,7 @@ pub fn layout_of(classes: &Classes, shape: Shape) -> FieldLayout
     }
 }
 
-/// Whether the layout is one of arrays of inline values without bytes: its class is composite and has no
+/// Whether the layout is one of arrays whose items have no bytes: inline values of a composite class without
 /// fields.
 fn is_hollow_array(classes: &Classes, layout: &FieldLayout) -> bool
     requires { layout.now.class_index < length classes.now }
@@ -176,7 +175,7 @@ fn is_hollow_array(classes: &Classes, layout: &FieldLayout) -> bool
     is_hollow(classes, layout.class_index)
 }
 
-/// Whether the inline values of the class of an index have no bytes.
+/// Whether the inline values of the class with this index have no bytes.
 pub(crate) fn is_hollow(classes: &Classes, place: usize) -> bool
     requires { place < length classes.now }
     ensures { IfSome (slice_get classes.now place) (λ c. IsTrue result ↔ IsHollow c) }
@@ -187,7 +186,7 @@ pub(crate) fn is_hollow(classes: &Classes, place: usize) -> bool
     }
 }
 
-/// Where a run of so many bytes ends.
+/// The offset after a run of `count` bytes.
 #[inline(always)]
 fn run_end(count: usize, at: usize, end: usize) -> Result<usize, Flaw>
     requires order { at ≤ end }
@@ -200,7 +199,7 @@ fn run_end(count: usize, at: usize, end: usize) -> Result<usize, Flaw>
     Ok(at + count)
 }
 
-/// Where a string ends.
+/// The offset after a string.
 fn string_end(bytes: &[u8], at: usize, end: usize) -> Result<usize, Flaw>
     requires order { at ≤ end }
     requires within { end ≤ length bytes.now }
@@ -210,7 +209,7 @@ fn string_end(bytes: &[u8], at: usize, end: usize) -> Result<usize, Flaw>
     Ok(read_string(bytes, at, end)?.end)
 }
 
-/// Where a value of a base name ends.
+/// The offset after a value of a base name.
 #[tactic(auto, unfolding(jfr_base::specs::Formats::run))]
 pub(crate) fn base_end(kind: Kind, bytes: &[u8], at: usize, end: usize) -> Result<usize, Flaw>
     requires order { at ≤ end }
@@ -228,7 +227,7 @@ pub(crate) fn base_end(kind: Kind, bytes: &[u8], at: usize, end: usize) -> Resul
     }
 }
 
-/// Where a value of a layout ends.
+/// The offset after a value with this layout.
 #[cycle(ends)]
 #[tactic(auto, using(jfr_base::proofs::SeenLaws::ends), unfolding(jfr_base::specs::Formats::run, crate::specs::Reading::class_format))]
 #[inline(always)]
@@ -257,9 +256,9 @@ pub(crate) fn layout_end<C, V: Visit<C>>(
     }
 }
 
-/// Where an inline value of a composite class or an array ends. Each call's answer comes in memory. It is
-/// taken apart here, by `?` and `Ok` again; handed on as it is, it would force the answers that
-/// `layout_end` gives for other forms into memory, too.
+/// The offset after an array, or after an inline value of a composite class. The calls return their results
+/// in memory. They are unpacked here, by `?` and `Ok`; passed on as they are, they would force the results
+/// that `layout_end` has for other forms into memory, too.
 #[cycle(ends)]
 #[tactic(auto, using(jfr_base::proofs::SeenLaws::ends), unfolding(jfr_base::specs::Formats::run, crate::specs::Reading::class_format))]
 #[inline(always)]
@@ -293,7 +292,7 @@ fn compound_end<C, V: Visit<C>>(
     }
 }
 
-/// Where the values of layouts end, one after another.
+/// The offset after values with these layouts, one after another.
 #[cycle(ends)]
 #[tactic(auto, using(jfr_base::proofs::SeenLaws::ends), unfolding(jfr_base::specs::Formats::run, crate::specs::Reading::class_format))]
 #[inline(always)]
@@ -320,7 +319,7 @@ fn row_end<C, V: Visit<C>>(
     Ok(to)
 }
 
-/// Where the values of layouts end, out of line of the walk over the value of which they are the fields.
+/// As `row_end`, out of line of the walk over the value whose fields these are.
 #[cycle(ends)]
 #[tactic(auto, using(jfr_base::proofs::SeenLaws::ends), unfolding(jfr_base::specs::Formats::run, crate::specs::Reading::class_format))]
 #[inline(never)]
@@ -343,8 +342,8 @@ pub(crate) fn fields_end<C, V: Visit<C>>(
     row_end(walk, layouts, at, levels, visitor)
 }
 
-/// Where the fields of an event, or of another value that stands by itself, end: group by group of fused
-/// fields.
+/// The offset after the fields of an event, or of another value that isn't part of one. Each group of fused
+/// fields is passed at once.
 #[inline(always)]
 fn whole_row_end<C, V: Visit<C>>(
     walk: Walk<'_, '_, C>,
@@ -370,7 +369,7 @@ fn whole_row_end<C, V: Visit<C>>(
     Ok(to)
 }
 
-/// Where an array ends: its count, and so many items behind it.
+/// The offset after an array: a count, and this many items.
 #[cycle(ends)]
 #[tactic(auto, using(jfr_base::proofs::SeenLaws::ends), unfolding(jfr_base::specs::Formats::run, crate::specs::Reading::class_format))]
 #[inline(never)]

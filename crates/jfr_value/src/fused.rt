@@ -1,4 +1,4 @@
-// The walk to a value's end, where it passes fused fields: all fields of an event go by here.
+//! The walk to a value's end over fused fields. All fields of an event are passed here.
 ghost use Rattle.std.specs.Prelude.{◌≡◌, ℕ, ◌+◌, ◌≤◌, List, IfOk};
 ghost use Rattle.std.specs.List.{AllByRecursion};
 ghost use Rattle.jfr_base.specs.Formats.{run, seen};
@@ -17,7 +17,7 @@ use crate::walk::Walk;
 use jfr_base::Flaw;
 use jfr_layout::{ClassLayout, FusedFields, FusedKind};
 
-/// Where the values of fused fields end. Where they can't be passed at once, they are walked one by one.
+/// The offset after fused fields. If they can't be passed at once, they are walked one by one.
 #[inline(always)]
 pub(crate) fn fused_end<C, V: Visit<C>>(
     walk: Walk<'_, '_, C>,
@@ -52,8 +52,8 @@ pub(crate) fn fused_end<C, V: Visit<C>>(
     }
 }
 
-/// The end of fused fields, walked field by field. The call's answer is taken apart here, as in
-/// `compound_end`.
+/// The offset after fused fields, walked field by field. The result is unpacked here, so that the fast paths
+/// of `fused_end` keep theirs in registers.
 #[inline(always)]
 fn each_end<C, V: Visit<C>>(
     walk: Walk<'_, '_, C>,
@@ -78,7 +78,7 @@ fn each_end<C, V: Visit<C>>(
     Ok(to)
 }
 
-/// Where the event prelude ends: two integers, and references of these classes.
+/// The offset after the event prelude: two integers, and references of these classes.
 #[inline(always)]
 fn prelude_end<C, V: Visit<C>>(
     walk: Walk<'_, '_, C>,

@@ -1,22 +1,19 @@
-// The walk to a value's end, where it passes integers: their values don't matter, only where they end.
+//! The walk to a value's end over integers, whose values don't matter, only their ends.
 ghost use Rattle.std.specs.Prelude.{◌≡◌, ℕ, ◌+◌, ◌≤◌, ◌<◌, length, IfOk, IfSome, Ok};
 ghost use Rattle.std.specs.Int.{bit_at};
 ghost use Rattle.jfr_base.specs.Formats.{integer, run, seen, times};
 ghost use Rattle.jfr_value.specs.Groups.{AreLastGroups};
 
-use jfr_base::Flaw;
+use jfr_base::{Flaw, SHORT_GROUPS};
 use std::simd::prelude::*;
 
-/// How many groups of an integer have seven bits. Behind them comes one of eight.
-const SHORT_GROUPS: usize = 8;
-
-/// The bit of the ninth group, which is the last one whatever it says.
+/// The bit of the ninth group, which is always the last one.
 const NINTH_GROUP: u64 = 1 << SHORT_GROUPS;
 
-/// How many bytes are looked at in one step.
+/// The number of bytes that are tested at once.
 const VECTOR: usize = 16;
 
-/// Where an integer ends.
+/// The offset after the integer at the offset `at`.
 #[inline(always)]
 pub(crate) fn integer_end(bytes: &[u8], at: usize, end: usize) -> Result<usize, Flaw>
     requires order { at ≤ end }
@@ -34,7 +31,7 @@ pub(crate) fn integer_end(bytes: &[u8], at: usize, end: usize) -> Result<usize, 
     Ok(to)
 }
 
-/// Where an integer ends, if 16 bytes are there, so that all of its groups are.
+/// The offset after an integer at which 16 bytes are left, which is enough for all of its groups.
 #[inline(always)]
 fn groups_end(bytes: &[u8], at: usize) -> usize
     requires room { at + 16 ≤ length bytes.now }
@@ -44,7 +41,7 @@ fn groups_end(bytes: &[u8], at: usize) -> usize
     at + groups_with_more(last_groups(bytes, at), 0) + 1
 }
 
-/// Where so many integers end that stand one behind another.
+/// The offset after `count` integers, one after another.
 #[inline(always)]
 pub(crate) fn integers_end(bytes: &[u8], at: usize, end: usize, count: usize) -> Result<usize, Flaw>
     requires order { at ≤ end }
@@ -59,8 +56,8 @@ pub(crate) fn integers_end(bytes: &[u8], at: usize, end: usize, count: usize) ->
     }
 }
 
-/// Where so many integers end, if the last groups of all of them stand in the next 16 bytes, which are
-/// looked at once. Whether they do is tested behind the last integer; before that, one may seem to end past
+/// The offset after `count` integers, if all of them end within the next 16 bytes, which are tested at once.
+/// Whether they do is checked only after the last integer; until then the end computed for one may lie past
 /// the 16 bytes.
 #[inline(always)]
 fn integers_at_once(bytes: &[u8], at: usize, end: usize, count: usize) -> Option<usize>
@@ -85,7 +82,8 @@ fn integers_at_once(bytes: &[u8], at: usize, end: usize, count: usize) -> Option
     Some(to)
 }
 
-/// Where integers end, one after another. The call's answer is taken apart here, as in `compound_end`.
+/// The offset after integers, walked one by one. The result is unpacked here, so that the fast path of
+/// `integers_end` keeps its own in registers.
 #[inline(always)]
 fn far_integers_end(bytes: &[u8], at: usize, end: usize, count: usize) -> Result<usize, Flaw>
     requires order { at ≤ end }
@@ -97,7 +95,7 @@ fn far_integers_end(bytes: &[u8], at: usize, end: usize, count: usize) -> Result
     Ok(to)
 }
 
-/// Where integers end, one after another, out of line.
+/// The offset after integers, walked one by one, out of line.
 #[inline(never)]
 fn each_integer_end(bytes: &[u8], at: usize, end: usize, count: usize) -> Result<usize, Flaw>
     requires order { at ≤ end }
@@ -112,8 +110,8 @@ fn each_integer_end(bytes: &[u8], at: usize, end: usize, count: usize) -> Result
     Ok(to)
 }
 
-/// Which of the 16 bytes from an offset on have no top bit, so that an integer's last group may stand
-/// there: a bit for each.
+/// A bit for each of the 16 bytes from an offset on, which is set if the byte has no top bit, so that it can
+/// be an integer's last group.
 #[inline(always)]
 fn last_groups(bytes: &[u8], at: usize) -> u64
     requires room { at + 16 ≤ length bytes.now }
@@ -123,8 +121,8 @@ fn last_groups(bytes: &[u8], at: usize) -> u64
     sixteen.simd_lt(u8x16::splat(128)).to_bitmask()
 }
 
-/// How many groups of an integer have another one behind them, by the bits that `last_groups` gives and the
-/// number of the byte with which the integer begins. They are at most the eight groups of seven bits.
+/// The number of groups of an integer that are followed by another one, by the bits of `last_groups` and the
+/// number of the integer's first byte. There are at most eight, the groups of seven bits.
 #[inline(always)]
 fn groups_with_more(lasts: u64, from: usize) -> usize
     requires from { from < 64 }
@@ -135,8 +133,8 @@ fn groups_with_more(lasts: u64, from: usize) -> usize
     ((lasts >> from) | NINTH_GROUP).trailing_zeros() as usize
 }
 
-/// Where an integer ends that begins near the end of the bytes. The call's answer is taken apart here, as
-/// in `compound_end`.
+/// The offset after an integer that starts near the end of the bytes. The result is unpacked here, so that
+/// the fast path of `integer_end` keeps its own in registers.
 #[inline(always)]
 fn near_end(bytes: &[u8], at: usize, end: usize) -> Result<usize, Flaw>
     requires order { at ≤ end }
@@ -148,7 +146,7 @@ fn near_end(bytes: &[u8], at: usize, end: usize) -> Result<usize, Flaw>
     Ok(to)
 }
 
-/// Where an integer ends, group by group.
+/// The offset after an integer, group by group.
 #[cold]
 #[inline(never)]
 fn last_integer_end(bytes: &[u8], at: usize, end: usize) -> Result<usize, Flaw>

@@ -1,4 +1,4 @@
-// The walk to a value's end, where it passes keys and strings, and hands the keys on.
+//! The walk to a value's end over keys and strings, which passes the keys to a visitor.
 ghost use Rattle.std.specs.Prelude.{◌≡◌, ◌≤◌, IfOk, option_map, option_to_list, true};
 ghost use Rattle.jfr_base.specs.Formats.{integer, run, seen};
 ghost use Rattle.jfr_text.specs.Strings.{string_format};
@@ -12,7 +12,8 @@ use crate::walk::Walk;
 use jfr_base::{Flaw, read_short, read_within};
 use jfr_text::{StringKind, is_bare, is_key, read_string, short_units_end};
 
-/// Where a reference of a class ends, whose key is handed on. Most keys have one byte or two.
+/// The offset after a reference, whose class and key are passed to the visitor. Most keys have one byte or
+/// two.
 #[inline(always)]
 pub(crate) fn key_end<C, V: Visit<C>>(
     walk: Walk<'_, '_, C>,
@@ -36,8 +37,8 @@ pub(crate) fn key_end<C, V: Visit<C>>(
     }
 }
 
-/// Where a key ends that may have more than two bytes. The call's answer is taken apart here, as in
-/// `compound_end`.
+/// The offset after a key of any length. The result is unpacked here, so that the fast path of `key_end`
+/// keeps its own in registers.
 #[inline(always)]
 fn far_key_end<C, V: Visit<C>>(
     walk: Walk<'_, '_, C>,
@@ -56,7 +57,7 @@ fn far_key_end<C, V: Visit<C>>(
     Ok(to)
 }
 
-/// Where a key of several bytes ends, or the flaw of one that does not end in time.
+/// The offset after a key of any length, or the flaw of one that doesn't end in time, out of line.
 #[tactic(auto, unfolding(jfr_base::specs::Formats::run))]
 #[inline(never)]
 fn long_key_end<C, V: Visit<C>>(
@@ -81,7 +82,7 @@ fn long_key_end<C, V: Visit<C>>(
     }
 }
 
-/// Where a string of a class ends. If it is a key, that is handed on. Most strings are a key, or null or
+/// The offset after a string. If it is a key, this is passed to the visitor. Most strings are a key, null,
 /// empty, or UTF-16 in integers of one byte.
 #[inline(always)]
 pub(crate) fn text_end<C, V: Visit<C>>(
@@ -110,7 +111,8 @@ pub(crate) fn text_end<C, V: Visit<C>>(
     far_text_end(walk, class, at, visitor)
 }
 
-/// Where a string of any kind ends. The call's answer is taken apart here, as in `compound_end`.
+/// The offset after a string of any kind. The result is unpacked here, so that the fast paths of `text_end`
+/// keep theirs in registers.
 #[inline(always)]
 fn far_text_end<C, V: Visit<C>>(
     walk: Walk<'_, '_, C>,
@@ -130,7 +132,7 @@ fn far_text_end<C, V: Visit<C>>(
     Ok(to)
 }
 
-/// Where a string ends that is read whole.
+/// The offset after a string of any kind, out of line.
 #[inline(never)]
 fn long_text_end<C, V: Visit<C>>(
     walk: Walk<'_, '_, C>,

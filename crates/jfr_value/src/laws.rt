@@ -1,4 +1,5 @@
-// Laws of values and of nodes that no other contract states. These calls do nothing.
+//! Laws of values and of nodes that no other contract states. The functions do nothing; their contracts are
+//! the laws.
 ghost use Rattle.std.specs.Prelude.{◌≡◌, ◌↔◌, ℕ, ◌-◌, ◌≤◌, false, true, List, ◌++◌, flat_map, length, map, slice_get, Some, IsSome, option_to_list};
 ghost use Rattle.jfr_base.specs.Formats.{Reads};
 ghost use Rattle.jfr_layout.specs.Classes.{Agree, Class, Classes, Sound, find_class, kind_of};
@@ -10,18 +11,19 @@ ghost use Rattle.jfr_value.specs.Nodes.{Both, IsNode, NodeAt, children, node_at,
 ghost use Rattle.jfr_value.specs.Reading.{value_format};
 ghost use Rattle.jfr_value.specs.Values.{Value, parts_of};
 
-/// What the format of values reads is what fits. In sound classes no value is too deep for it.
+/// The format of values reads exactly the values that fit their shape. In sound classes no value is too deep
+/// for it.
 pub fn values_are_read()
     ensures { (k : Classes) → Sound k → AreRead k }
 {}
 
-/// A value of a known class stands somewhere, or it is refused: one of the two, with one answer.
+/// At an offset there is a value of a known class, or it is refused; never both, and with one answer only.
 pub fn one_answer()
     ensures { (k : Classes) (c : List ℕ) (s : Shape) (at end : ℕ) → Sound k → IsSome (find_class k s.class) → at ≤ end → end ≤ length c → HasOneAnswer k c s at end }
 {}
 
-/// The law of bytes: a node of the same shape and bytes, under classes that agree on the shape's
-/// class, has the same value and the same steps, wherever it stands.
+/// The law of bytes: nodes of the same shape and bytes, under classes that agree on the shape's class, have
+/// the same value and the same steps, whatever their offsets.
 pub fn same_bytes()
     ensures value { (k m : Classes) (c d : List ℕ) (n o : NodeAt) (v : Value) → Agree k m n.shape.class → IsNode k c n v → SameNode c d n o → o.at ≤ o.end → o.end ≤ length d → IsNode m d o v }
     ensures steps { (k m : Classes) (c d : List ℕ) (n o : NodeAt) (v : Value) → Sound k → Sound m → Agree k m n.shape.class → IsNode k c n v → SameNode c d n o → o.at ≤ o.end → o.end ≤ length d → SameSteps k m c d n o }
@@ -32,18 +34,18 @@ pub fn refers_by_parts()
     ensures { (k : Classes) (c : List ℕ) (n : NodeAt) (v : Value) → Sound k → IsNode k c n v → RefersByParts k c n }
 {}
 
-/// A node has at most as many leaves as bytes.
+/// A node has no more leaves than bytes.
 pub fn leaves_within_bytes()
     ensures { (k : Classes) (c : List ℕ) (n : NodeAt) (v : Value) → Sound k → IsNode k c n v → length (leaves k c n) ≤ n.end - n.at }
 {}
 
-/// A value is read from one place up to another exactly where it stands as a node between them.
+/// A value is read from one offset up to another exactly if it is the value of the node between them.
 pub fn nodes_are_read()
     ensures { (k : Classes) (c : List ℕ) (s : Shape) (at to end : ℕ) (v : Value) → Sound k → at ≤ end → end ≤ length c → Reads (value_format k s) c end at v to ↔ (IsNode k c (node_at s at to) v × (to ≤ end)) }
 {}
 
-/// The children of a node are the parts of its value, each where it stands. The fields of a composite
-/// value cover the node, one behind another, and the items of an array what is behind its count.
+/// The children of a node are the nodes of the parts of its value. The fields of a composite value cover the
+/// node, one after another, and the items of an array cover what follows its count.
 pub fn children_are_parts()
     ensures value { (k : Classes) (c : List ℕ) (n : NodeAt) (v : Value) → Sound k → IsNode k c n v → value_of k c n ≡ Some v }
     ensures parts { (k : Classes) (c : List ℕ) (n : NodeAt) (v : Value) → Sound k → IsNode k c n v → (i : ℕ) → Both (IsNode k c) (slice_get (children k c n) i) (slice_get (parts_of v) i) }
@@ -52,13 +54,13 @@ pub fn children_are_parts()
     ensures items { (k : Classes) (c : List ℕ) (n : NodeAt) (v : Value) → Sound k → IsNode k c n v → n.shape.array ≡ true → ItemsCover k c n }
 {}
 
-/// A node refers to what it refers to by itself, and then to what its children refer to, in order.
+/// The targets of a node are its own target, followed by those of its children, in order.
 pub fn refers_in_order()
     ensures { (k : Classes) (c : List ℕ) (n : NodeAt) (v : Value) → Sound k → IsNode k c n v → targets k c n ≡ option_to_list (target k c n) ++ flat_map (targets k c) (children k c n) }
 {}
 
-/// The leaves of a node are those of its children, in order; before them stands an array's count. A
-/// reference, or a value of a base name, is its one leaf.
+/// The leaves of a node are those of its children, in order; an array's count comes before them. A reference
+/// or a value of a base name is its only leaf.
 pub fn leaves_in_order()
     ensures { (k : Classes) (c : List ℕ) (n : NodeAt) (v : Value) → Sound k → IsNode k c n v → LeavesInOrder k c n v }
 {}

@@ -1,19 +1,19 @@
-// The leaves of a value.
+//! The leaves of a value.
 
 use jfr_layout::Kind;
 
 /// What a leaf is.
 #[derive(Clone, Copy, Debug, PartialEq, Eq)]
 pub enum LeafKind {
-    /// A value of a class with a base name. A string is one too, even where it is a key.
+    /// A value of a class with a base name. A string is one, too, even if it is a key.
     Base(Kind),
-    /// How many items an array has.
+    /// The number of items of an array.
     Count(u64),
     /// The key of a reference.
     Key(u64),
 }
 
-/// A part of a value that has no parts of its own, where it stands.
+/// A leaf of a value in a chunk: a part without parts of its own.
 #[derive(Clone, Copy, Debug)]
 pub struct Leaf<'a> {
     /// What it is.

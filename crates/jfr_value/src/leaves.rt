@@ -1,4 +1,4 @@
-// The leaves of a node, one after another: the walk over leaves, as its callers see it.
+//! The leaves of a node, one after another.
 ghost use Rattle.std.specs.Prelude.{◌≡◌, ◌+◌, ◌∷◌, [], MatchOption};
 ghost use Rattle.jfr_value.specs.Leaves.{leaf_of, leaves};
 ghost use Rattle.jfr_value.specs.Nodes.{IsValue, node_of};
@@ -11,7 +11,7 @@ use jfr_layout::Classes;
 use std::marker::Model;
 use std::sync::ledger::Ledger;
 
-/// The leaves of a value that stands in the bytes of a chunk, from left to right. It takes no memory.
+/// The leaves of a node, from left to right. It allocates nothing.
 #[derive(Drop)]
 pub struct Leaves<'c, 'a> {
     walk: Walk<'c, 'a, ()>,
@@ -32,7 +32,7 @@ impl<'c, 'a> Model for Leaves<'c, 'a> {
 }
 
 impl<'c, 'a> Leaves<'c, 'a> {
-    /// The leaves of a node. A value must stand there.
+    /// The leaves of a node, which must be one of a value.
     pub fn new(classes: &'c Classes, node: Node<'a>) -> Leaves<'c, 'a>
         requires { IsValue classes.now node }
         ensures { result ≡ leaves classes.now node.entry.bytes.now (node_of node.entry) }
@@ -55,7 +55,7 @@ impl<'c, 'a> Leaves<'c, 'a> {
         Leaves { walk, cursor }
     }
 
-    /// Hands out the next leaf, at the cost of a step. `None` exactly after the last.
+    /// The next leaf, for which a step is counted. `None` exactly after the last leaf.
     pub fn next_leaf<L: Ledger>(&mut self, steps: &mut Steps<L>) -> Option<Leaf<'a>>
         ensures exact { MatchOption result ((self.old ≡ []) × (self.new ≡ [])) (λ leaf. self.old ≡ leaf_of leaf ∷ self.new) }
         ensures cost { MatchOption result (steps.new ≡ steps.old) (λ leaf. steps.new ≡ steps.old + 1) }

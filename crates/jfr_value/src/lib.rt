@@ -1,11 +1,11 @@
-//! The values of classes (FORMAT.md, Values): where they end, their parts, their leaves, and what they
+//! The values of classes (docs/FORMAT.md, Values): where they end, their parts, their leaves, and what they
 //! refer to.
 //!
-//! `end_of` says where a value ends that begins at an offset, and `end_visiting` hands out on the way what
-//! the value refers to. `child` leads to a field or an item of a node, and `target` says what the node
-//! refers to by itself. `Leaves` hands out a node's leaves from left to right, and `visit_targets` all that
-//! it refers to. Read `specs/Values.antt` first, then `specs/Reading.antt`, `specs/Nodes.antt`,
-//! `specs/Leaves.antt` and `specs/Visits.antt`; what holds of every value is in `specs/Laws.antt`.
+//! `end_of` returns where the value at an offset ends, and `end_visiting` also passes the value's references
+//! to a visitor. `child` is a field or an item of a node, and `target` what the node itself refers to.
+//! `Leaves` gives a node's leaves from left to right, and `visit_targets` all that it refers to. Read
+//! `specs/Values.antt` first, then `specs/Reading.antt`, `specs/Nodes.antt`, `specs/Leaves.antt` and
+//! `specs/Visits.antt`. The laws of values are in `specs/Laws.antt`.
 #![tactic(auto)]
 
 mod cursor;

@@ -1,8 +1,8 @@
-// Nodes, and the steps between them.
+//! Nodes, and the steps between them.
 
 use jfr_layout::Shape;
 
-/// A value where it stands: its shape, the bytes of its chunk, and the range of its own bytes.
+/// A value in a chunk: its shape, the bytes of the chunk, and the range of its own bytes.
 #[derive(Clone, Copy, Debug)]
 pub struct Node<'a> {
     /// The shape of the value.
@@ -18,9 +18,9 @@ pub struct Node<'a> {
 /// A step from a value to another one.
 #[derive(Clone, Copy, Debug, PartialEq, Eq)]
 pub enum Step {
-    /// To the field of this number, from 0, of a composite value.
+    /// To the field with this number, from 0, of a composite value.
     Field(usize),
-    /// To the item of this number, from 0, of an array.
+    /// To the item with this number, from 0, of an array.
     Item(u64),
     /// From a reference, or from a string that is a key, to the constant that it refers to.
     Follow,

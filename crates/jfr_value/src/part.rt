@@ -1,4 +1,4 @@
-// The parts of values: fields and items.
+//! The parts of values: fields and items.
 ghost use Rattle.std.specs.Prelude.{◌≡◌, ℕ, ◌≤◌, ◌<◌, length, replicate, map, Some, IfSome, false, option_map, slice_get};
 ghost use Rattle.std.specs.List.{AllByRecursion};
 ghost use Rattle.jfr_layout.specs.Classes.{IsFieldLayout, Sound, item_of};
@@ -11,8 +11,8 @@ use crate::{Node, Step};
 use jfr_base::{Var, read_within};
 use jfr_layout::{Classes, FieldLayout, Kind, Shape};
 
-/// The field or the item of a node to which a step leads. A value must stand there. `None` exactly where it
-/// has no such field or item, and for `Follow`. The fields or items before it are walked over.
+/// The field or the item of a node to which a step leads; the node must be one of a value. `None` exactly if
+/// there is no such field or item, and for `Follow`. It takes a walk over the fields or items before it.
 pub fn child<'a>(classes: &Classes, node: &Node<'a>, step: &Step) -> Option<Node<'a>>
     requires { IsValue classes.now node.now }
     ensures exact { option_map node_of result ≡ child classes.now node.now.bytes.now (node_of node.now) step.now }
@@ -26,7 +26,7 @@ pub fn child<'a>(classes: &Classes, node: &Node<'a>, step: &Step) -> Option<Node
     }
 }
 
-/// The field of a number.
+/// The field with this number, if there is one.
 fn field<'a>(classes: &Classes, node: &Node<'a>, number: usize) -> Option<Node<'a>>
     requires { IsValue classes.now node.now }
     ensures exact { option_map node_of result ≡ child classes.now node.now.bytes.now (node_of node.now) (Step.Field number) }
@@ -48,7 +48,7 @@ fn field<'a>(classes: &Classes, node: &Node<'a>, number: usize) -> Option<Node<'
     Some(nth_field(classes, layouts, node, number))
 }
 
-/// The item of a number.
+/// The item with this number, if there is one.
 fn item<'a>(classes: &Classes, node: &Node<'a>, number: u64) -> Option<Node<'a>>
     requires { IsValue classes.now node.now }
     ensures exact { option_map node_of result ≡ child classes.now node.now.bytes.now (node_of node.now) (Step.Item number) }
@@ -79,7 +79,7 @@ pub(crate) fn item_of(array: Shape) -> Shape
     }
 }
 
-/// Where a value ends that stands there.
+/// The offset after the value at the offset `at`, which is known to be there.
 fn part_end(classes: &Classes, layout: &FieldLayout, bytes: &[u8], at: usize, end: usize) -> usize
     requires sound { Sound classes.now }
     requires placed { IsPlaced classes.now layout.now }
@@ -100,7 +100,7 @@ fn part_end(classes: &Classes, layout: &FieldLayout, bytes: &[u8], at: usize, en
     }
 }
 
-/// The field of a number, where the fields have these layouts.
+/// The field with this number, if the fields have these layouts.
 fn nth_field<'a>(
     classes: &Classes,
     layouts: &[FieldLayout],
@@ -127,7 +127,7 @@ fn nth_field<'a>(
     }
 }
 
-/// The item of a number, of an array behind its count.
+/// The item with this number of an array with this count.
 fn nth_item<'a>(
     classes: &Classes,
     node: &Node<'a>,

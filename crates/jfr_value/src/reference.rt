@@ -1,4 +1,4 @@
-// What a value refers to by itself.
+//! What a value itself refers to.
 ghost use Rattle.std.specs.Prelude.{◌≡◌, ◌≤◌, length, IsOk, IfOk, IsSome, IfSome, true};
 ghost use Rattle.jfr_base.specs.Formats.{int_at, run};
 ghost use Rattle.jfr_text.specs.Strings.{string_format};
@@ -11,8 +11,8 @@ use jfr_base::read_within;
 use jfr_layout::{Classes, Form};
 use jfr_text::{StringKind, read_string};
 
-/// The class and the key to which a value refers by itself: those of a reference, or of a string that is
-/// a key. `None` exactly where it refers to nothing, or only its parts do.
+/// The class and the key to which a value itself refers: those of a reference, or of a string that is a key.
+/// `None` exactly if it refers to nothing, or only its parts do.
 pub fn target(classes: &Classes, node: &Node<'_>) -> Option<(u64, u64)>
     requires { IsValue classes.now node.now }
     ensures { result ≡ target classes.now node.now.bytes.now (node_of node.now) }
@@ -41,7 +41,7 @@ fn reference_key(node: &Node<'_>) -> u64
     }
 }
 
-/// The key of a string, where it is one.
+/// The key of a string, if the string is one.
 fn string_key(node: &Node<'_>) -> Option<u64>
     requires order { node.now.at ≤ node.now.end }
     requires within { node.now.end ≤ length node.now.bytes.now }

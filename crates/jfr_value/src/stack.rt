@@ -1,4 +1,4 @@
-// What the walk over leaves still has to do, as a stack of frames.
+//! The stack of a walk over leaves: what is left to walk.
 ghost use Rattle.std.specs.Prelude.{◌≡◌, ◌+◌, ◌<◌, ◌↔◌, [], ◌∷◌, ◌++◌, length, option_to_list, IsSome, IfSome};
 ghost use Rattle.jfr_value.specs.Stacks.{far_frames};
 
@@ -6,27 +6,27 @@ use arrayvec::ArrayVec;
 use jfr_layout::Shape;
 use std::marker::Model;
 
-/// How many frames a walk may have: one for the value, two for each of 33 levels, an array and a
-/// composite value, and one for an array in the deepest of them.
+/// The most frames that a walk can have: one for the value, two for each of 33 levels (an array and a
+/// composite value), and one for an array in the deepest of them.
 pub(crate) const FRAMES: usize = 68;
 
-/// How many of them the walk has from the start.
+/// The number of frames in the part that every walk has.
 const NEAR: usize = 6;
 
-/// How many lie in the part that is made only where a value goes deeper.
+/// The number of frames in the part that is made only for deeper values.
 const FAR: usize = 62;
 
-/// What is left of one value with parts.
+/// What is left to walk of one value with parts.
 #[derive(Clone, Copy, Drop)]
 pub(crate) enum Frame {
-    /// The fields of the class of an index, from a number on; so many composite classes may still stand
-    /// within one another.
+    /// The fields of the class with the index `place`, from `number` on. In them at most `levels` composite
+    /// classes are nested.
     Fields {
         place: usize,
         number: usize,
         levels: u32,
     },
-    /// So many values of a shape, whose class has an index.
+    /// Values of a shape whose class has the index `place`: `left` of them.
     Items {
         shape: Shape,
         place: usize,
@@ -45,8 +45,8 @@ impl Default for Frame {
     }
 }
 
-/// The frames of a walk. An `ArrayVec` fills all of its memory when it is made, and a walk is made for each
-/// node, so the part that few nodes need is made only for those.
+/// The frames of a walk. An `ArrayVec` initializes all of its memory when it is made, and a walk is made for
+/// each node, so the part that few nodes need is made only for those.
 #[derive(Drop)]
 pub(crate) struct Stack {
     near: ArrayVec<Frame, NEAR>,
@@ -67,7 +67,7 @@ impl Model for Stack {
 }
 
 impl Stack {
-    /// No frames.
+    /// An empty stack.
     pub(crate) fn new() -> Stack
         ensures { result ≡ [] }
     {
@@ -91,7 +91,7 @@ impl Stack {
         }
     }
 
-    /// Takes the last frame.
+    /// Takes the last frame off the stack.
     #[inline]
     pub(crate) fn pop(&mut self) -> Option<Frame>
         ensures items { self.old ≡ self.new ++ option_to_list result }

@@ -1,11 +1,11 @@
-// Counting steps.
+//! Counting steps.
 ghost use Rattle.std.specs.Prelude.{◌≡◌, ◌+◌, ◌<◌};
 
 use std::marker::Model;
 use std::sync::ledger::{Blank, Book, Ledger, Share};
 
-/// How many steps were taken, for contracts that bound the work of a call. It has no bytes when the program
-/// runs, and only `tick` changes it.
+/// The number of steps taken, for contracts that bound the work of a call. It takes no space at run time, and
+/// only `tick` changes it.
 #[derive(Drop)]
 pub struct Steps<L: Ledger> {
     book: Book<L>,
@@ -23,7 +23,7 @@ impl<L: Ledger> Model for Steps<L> {
 }
 
 impl<L: Ledger> Steps<L> {
-    /// A count of no steps, over a ledger that stands for nothing yet.
+    /// A count of no steps, with a blank ledger.
     pub fn new(blank: Blank) -> Steps<L>
         requires name { blank.name ≡ L.name }
         requires parts { blank.parts ≡ L.parts }

@@ -1,5 +1,5 @@
-// The walk over what a value refers to, at a step for each leaf, where the value is known to stand.
-// jfr_reach uses it for each constant that it marks (`visit_targets`).
+//! The walk over what a value refers to, for values that are known to be there. It counts a step for each
+//! leaf. jfr_reach uses it for each constant that it marks (`visit_targets`).
 ghost use Rattle.std.specs.Prelude.{◌≡◌, ◌≢◌, ℕ, ◌+◌, ◌≤◌, ◌<◌, length, true, false, IsOk, IfOk, IsSome, IfSome, option_map, option_to_list, slice_get};
 ghost use Rattle.std.specs.List.{AllByRecursion};
 ghost use Rattle.jfr_base.specs.Formats.{int_at, run, seen};
@@ -20,12 +20,12 @@ use jfr_layout::{Classes, FieldLayout, Form, Kind};
 use jfr_text::{StringKind, read_string};
 use std::sync::ledger::Ledger;
 
-/// What takes the references of a value, one by one, and may look at something else for each.
+/// A visitor, which takes the references of a value one by one, and may look at something else for each.
 pub trait Visit<C> {
-    // Whether it can take a target.
+    // Whether the visitor can take a target.
     ghost ready: { Self → C → Type 0 };
 
-    // What becomes of it when it takes a class and a key.
+    // How taking a class and a key changes the visitor.
     ghost takes: { C → ℕ × ℕ → Self → Self → Type 0 };
 
     /// Takes the class and the key of a reference, or of a string that is a key.
@@ -35,8 +35,9 @@ pub trait Visit<C> {
         ensures takes { takes with.now (class, key) self.old self.new };
 }
 
-/// Hands out the class and the key of each reference of a value, and of each string that is a key, from
-/// left to right, at a step for each leaf. It takes no memory. A value must stand there.
+/// Passes the class and the key of each reference of a node, and of each string that is a key, to the
+/// visitor, from left to right. It counts a step for each leaf, and allocates nothing. The node must be one
+/// of a value.
 pub fn visit_targets<C, V: Visit<C>, L: Ledger>(
     classes: &Classes,
     node: Node<'_>,
@@ -60,7 +61,7 @@ pub fn visit_targets<C, V: Visit<C>, L: Ledger>(
     let _end = visit_value(&walk, &layout, node.at, LEVELS, visitor, steps);
 }
 
-/// Visits a value of a layout, and says where it ends.
+/// Visits a value with this layout, and returns where it ends.
 #[cycle(visits)]
 #[inline(always)]
 fn visit_value<C, V: Visit<C>, L: Ledger>(
@@ -89,7 +90,7 @@ fn visit_value<C, V: Visit<C>, L: Ledger>(
     }
 }
 
-/// Visits the fields of the class of an index, and says where they end.
+/// Visits the fields of the class with the index `place`, and returns where they end.
 #[cycle(visits)]
 fn visit_fields<C, V: Visit<C>, L: Ledger>(
     walk: &Walk<'_, '_, C>,
@@ -115,7 +116,7 @@ fn visit_fields<C, V: Visit<C>, L: Ledger>(
     to
 }
 
-/// Visits an array, whose count takes a step, and says where it ends.
+/// Visits an array, whose count takes a step, and returns where it ends.
 #[cycle(visits)]
 fn visit_array<C, V: Visit<C>, L: Ledger>(
     walk: &Walk<'_, '_, C>,
@@ -164,7 +165,7 @@ fn has_bytes(classes: &Classes, layout: &FieldLayout) -> bool
     !is_hollow(classes, layout.class_index)
 }
 
-/// Visits a reference of a class, at a step, and says where it ends.
+/// Visits a reference of a class, in one step, and returns where it ends.
 #[inline(always)]
 fn visit_key<C, V: Visit<C>, L: Ledger>(
     walk: &Walk<'_, '_, C>,
@@ -189,7 +190,7 @@ fn visit_key<C, V: Visit<C>, L: Ledger>(
     key.end
 }
 
-/// Visits a string, at a step, and says where it ends.
+/// Visits a string, in one step, and returns where it ends.
 #[inline(always)]
 fn visit_string<C, V: Visit<C>, L: Ledger>(
     walk: &Walk<'_, '_, C>,
@@ -217,7 +218,7 @@ fn visit_string<C, V: Visit<C>, L: Ledger>(
     string.end
 }
 
-/// Visits a value of a base name that refers to nothing, at a step, and says where it ends.
+/// Visits a value of a base name that refers to nothing, in one step, and returns where it ends.
 #[inline(always)]
 fn visit_plain<C, L: Ledger>(
     walk: &Walk<'_, '_, C>,

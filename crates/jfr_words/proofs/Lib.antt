@@ -1,5 +1,10 @@
+pub mod AnyOrder
+pub mod Given
 pub mod NumberLaws
 pub mod OptionLaws
 pub mod OrderLaws
 pub mod PrintLaws
+mod Rows
+pub mod Settings
+pub mod Sides
 pub mod WordLaws

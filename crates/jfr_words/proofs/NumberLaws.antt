@@ -55,7 +55,7 @@ long_none text u h = number_of-chars text u ∙ by_tests (digits text) (nat_lt 0
 pub other_none : (text : List ℕ) → IsUtf8 text → digits text ≡ false → number_of (chars text) ≡ None
 other_none text u e = number_of-chars text u ∙ no_digits text e
 
--- At most nineteen digits are a number exactly where they parse, and the number is what they parse to.
+-- At most nineteen digits are a number exactly if they parse, and the number is what they parse to.
 pub number_parsed : {E : Type 0} (text : List ℕ) (r : Result ℕ E) → IsUtf8 text → digits text ≡ true → length text ≤ 19 → ParsesUnsigned 64 10 text r → result_ok r ≡ number_of (chars text)
 unfolding number_of
 number_parsed text r u e l p = by_result r p ∙ sym (number_of-chars text u)

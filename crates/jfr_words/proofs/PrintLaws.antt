@@ -15,7 +15,7 @@ use Rattle.jfr_words.specs.Patterns.{given_with}
 use Rattle.jfr_words.specs.Prints.{print_option_of, print_with, print_goes_on, print_named, print_from}
 use Rattle.jfr_words.specs.Words.{IsRead, StillGives}
 
--- What an option and the words behind it give.
+-- The order of an option and the words after it.
 option_read : (g : PrintGiven) (option : PrintOption) (word next : List ℕ) (rest : List (List ℕ)) → print_option_of word ≡ Some option
     → print_from g (word ∷ next ∷ rest) ≡ option_and_then (λ h. print_goes_on option (print_from h (next ∷ rest)) (print_from h rest)) (print_with option next g)
 option_read g option word next rest e =

@@ -1,21 +1,21 @@
 -- Names of files and folders.
 use Rattle.std.specs.Prelude.{ℕ, Bool, false, not, ◌==◌, ◌&&◌, List, [], ◌∷◌, Option, None, Some, if◌then◌else◌}
 
--- A name isn't empty, and doesn't begin with a dash.
+-- A name isn't empty and doesn't begin with a dash.
 abbrev pub is_name : List ℕ → Bool
 is_name [] = false
 is_name (c ∷ cs) = not (c == 45)
 
--- The word, where it is a name.
+-- The word, if it is a name.
 abbrev pub name_in : List ℕ → Option (List ℕ)
 name_in word = if is_name word then Some word else None
 
--- Exactly one word is left, a name.
+-- The name, if exactly one word is left and it is a name.
 abbrev pub only_name : List (List ℕ) → Option (List ℕ)
 only_name (word ∷ []) = name_in word
 only_name _ = None
 
--- Exactly two words are left, both names.
+-- The two names, if exactly two words are left and both are names.
 abbrev pub two_names : List (List ℕ) → Option (List ℕ × List ℕ)
 two_names (first ∷ second ∷ []) = if is_name first && is_name second then Some (first, second) else None
 two_names _ = None

@@ -10,7 +10,7 @@ use Rattle.jfr_words.specs.declared.order.Order.TheVariants.{Scrub}
 use Rattle.jfr_words.specs.Names.{two_names}
 use Rattle.jfr_words.specs.Patterns.{given_with}
 
--- The option of a scrub that a word names.
+-- The option of `scrub` that a word names.
 abbrev pub side_of : List ℕ → Option Side
 side_of word =
     if bytes_eq word (codes "--include-events") then Some IncludeEvents else
@@ -21,12 +21,12 @@ side_of word =
     if bytes_eq word (codes "--exclude-threads") then Some ExcludeThreads else
     None
 
--- The input and the output are left.
+-- The order with these options, if the input and the output are the only words left.
 abbrev pub scrub_named : Given → List (List ℕ) → Option Order
 scrub_named g words = option_map (λ names. Scrub g names.0 names.1) (two_names words)
 
--- The words after `scrub`, where this is given so far: an option takes the next word as its list of
--- patterns, whatever word that is; after the options the names are left.
+-- The order of the words after `scrub`, with these options given so far: an option takes the next word,
+-- whatever it is, as its list of patterns; after the options come the names.
 abbrev pub scrub_from : Given → List (List ℕ) → Option Order
 scrub_from g (word ∷ next ∷ rest) = option_map_or (λ side. option_and_then (λ h. scrub_from h rest) (given_with side next g)) (side_of word) (scrub_named g (word ∷ next ∷ rest))
 scrub_from g words = scrub_named g words

@@ -1,5 +1,5 @@
--- The order that the words of the command line give. It is a function of them, so every list of words has
--- one answer: an order, or none, and then the words are a usage fault.
+-- The order that the words of the command line give. It is a function, so every list of words has exactly one
+-- answer: an order, or none, which is a usage fault.
 use Rattle.std.specs.Prelude.{◌≡◌, ℕ, ◌≤◌, ◌<◌, ◌^◌, List, [], ◌∷◌, Option, None, Some, option_map, option_and_then, Result, Ok, Err, ⊤, if◌then◌else◌, codes, encode_utf8_all}
 use Rattle.std.specs.Str.{bytes_eq}
 use Rattle.jfr_filter.specs.Filters.{nothing_given}
@@ -14,19 +14,19 @@ use Rattle.jfr_words.specs.Prints.{no_print_option, print_from}
 use Rattle.jfr_words.specs.Scrubs.{scrub_from}
 use Rattle.jfr_words.specs.Splits.{no_split_option, split_from}
 
--- The words after `summary`: the file.
+-- The order of the words after `summary`: the file.
 abbrev pub summary_of : List (List ℕ) → Option Order
 summary_of words = option_map (λ file. Summary file) (only_name words)
 
--- The words after `metadata`: the file.
+-- The order of the words after `metadata`: the file.
 abbrev pub metadata_of : List (List ℕ) → Option Order
 metadata_of words = option_map (λ file. Metadata file) (only_name words)
 
--- The words after `assemble`: the folder and the output.
+-- The order of the words after `assemble`: the folder and the output.
 abbrev pub assembly_of : List (List ℕ) → Option Order
 assembly_of words = option_map (λ names. Assemble names.0 names.1) (two_names words)
 
--- The words after `sample`: the seed, and how many events.
+-- The order of the words after `sample`: the seed, and the number of events.
 abbrev pub sample_of : List (List ℕ) → Option Order
 sample_of (seed ∷ events ∷ []) = option_and_then (λ s. option_map (λ e. Sample s e) (number_in 1 1000000 events)) (number_in 0 4294967295 seed)
 sample_of _ = None
@@ -48,15 +48,15 @@ order_of (command ∷ rest) =
 abbrev pub file_name : List ℕ → List ℕ
 file_name word = encode_utf8_all word
 
--- What was read is this; a usage fault, exactly where there is none; where memory was wanting, nothing is
--- said.
+-- A value that was read is the one expected; a usage fault means that none is expected; running out of memory
+-- says nothing.
 abbrev pub IsRead : {T V : Type 0} → Option V → Result T WordsFault → (T → V) → Type 0
 IsRead o (Ok x) seen = o ≡ Some (seen x)
 IsRead o (Err Usage) seen = o ≡ None
 IsRead o (Err Memory) seen = ⊤
 
--- What is given and left now gives what all gave before; a usage fault, exactly where that was none; where
--- memory was wanting, nothing is said.
+-- After a success the order is the same as before; a usage fault means that there was no order before;
+-- running out of memory says nothing.
 abbrev pub StillGives : {T : Type 0} → Option Order → Option Order → Result T WordsFault → Type 0
 StillGives before now (Ok x) = now ≡ before
 StillGives before now (Err Usage) = before ≡ None

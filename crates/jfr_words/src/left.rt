@@ -1,4 +1,4 @@
-// The words of the command line that are not yet read.
+//! The words of the command line that have not been read yet.
 ghost use Rattle.std.specs.Prelude.{◌≡◌, ◌≢◌, ◌∷◌, [], ℕ, List, Option, MatchOption, MatchResult, OnSome, IfNone, option_and_then, slice_get, drop};
 ghost use Rattle.std.specs.Str.{chars};
 ghost use Rattle.jfr_base.specs.Texts.{text_in};
@@ -7,17 +7,17 @@ use crate::WordsFault;
 use jfr_outside::Words;
 use std::marker::Model;
 
-/// An option of a command, which a word names.
+/// An option of a command, named by a word.
 pub(crate) trait Named: Drop {
-    // What a word names.
+    // The option that a word names, if any.
     ghost named: { List ℕ → Option Self };
 
-    /// The option that a word names.
+    /// The option that a word names, if any.
     fn of_word(word: &str) -> Option<Self>
         ensures { result ≡ named (chars word.now) };
 }
 
-/// The words that are left. Contracts see them as their list.
+/// The words that are left. Contracts see them as a list.
 #[derive(Drop)]
 pub(crate) struct Left<'a> {
     words: &'a Words,
@@ -40,14 +40,14 @@ impl<'a> Left<'a> {
         Left { words, at: 0 }
     }
 
-    /// The first word, which stays; `None` exactly where none is left.
+    /// The first word, without taking it; `None` exactly if no word is left.
     pub(crate) fn first(&self) -> Option<&'a str>
         ensures { text_in result ≡ slice_get self.now 0 }
     {
         self.words.get(self.at)
     }
 
-    /// Takes the first word; `None` exactly where none is left.
+    /// Takes the first word; `None` exactly if no word is left.
     pub(crate) fn take(&mut self) -> Option<&'a str>
         ensures { MatchOption result ((self.old ≡ []) × (self.new ≡ [])) (λ word. self.old ≡ chars word.now ∷ self.new) }
     {
@@ -70,14 +70,14 @@ impl<'a> Left<'a> {
         Some(option)
     }
 
-    /// Takes the first word, which must be there.
+    /// Takes the first word; a usage fault if no word is left.
     pub(crate) fn next_word(&mut self) -> Result<&'a str, WordsFault>
         ensures { MatchResult result (λ word. self.old ≡ chars word.now ∷ self.new) (λ fault. (fault ≡ WordsFault.Usage) × (self.old ≡ [])) }
     {
         self.take().ok_or(WordsFault::Usage)
     }
 
-    /// No word may be left.
+    /// Checks that no word is left; a usage fault otherwise.
     pub(crate) fn end(&self) -> Result<(), WordsFault>
         ensures { MatchResult result (λ _. self.now ≡ []) (λ fault. (fault ≡ WordsFault.Usage) × (self.now ≢ [])) }
     {

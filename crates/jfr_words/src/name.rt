@@ -1,4 +1,4 @@
-// Names of files and folders.
+//! Names of files and folders.
 ghost use Rattle.std.specs.Prelude.{◌≡◌};
 ghost use Rattle.std.specs.Str.{chars};
 ghost use Rattle.jfr_words.specs.Names.{is_name, name_in, only_name, two_names};
@@ -9,7 +9,7 @@ use crate::left::Left;
 use jfr_outside::Text;
 use std::alloc::Global;
 
-/// Whether a word is a name: it isn't empty, and doesn't begin with a dash.
+/// Whether a word can be a name: it isn't empty and doesn't begin with a dash.
 fn is_name(word: &str) -> bool
     ensures { result ≡ is_name (chars word.now) }
 {
@@ -29,7 +29,7 @@ pub(crate) fn read_name(alloc: Global, word: &str) -> Result<Text, WordsFault>
     Ok(Text::make(alloc, word)?)
 }
 
-/// The name that alone is left.
+/// The name that is the only word left.
 pub(crate) fn read_only_name(alloc: Global, left: &mut Left<'_>) -> Result<Text, WordsFault>
     ensures { IsRead (only_name left.old) result (λ name. name) }
 {
@@ -38,7 +38,7 @@ pub(crate) fn read_only_name(alloc: Global, left: &mut Left<'_>) -> Result<Text,
     read_name(alloc, word)
 }
 
-/// The two names that are left, and nothing else.
+/// The two names that are the only words left.
 pub(crate) fn read_two_names(alloc: Global, left: &mut Left<'_>) -> Result<(Text, Text), WordsFault>
     ensures { IsRead (two_names left.old) result (λ names. names) }
 {

@@ -1,4 +1,4 @@
-// Numbers as words.
+//! Numbers as words.
 ghost use Rattle.std.specs.Prelude.{◌≡◌, ◌≤◌, IfOk};
 ghost use Rattle.std.specs.Char.{is_ascii_digit};
 ghost use Rattle.std.specs.List.{list_all};
@@ -8,17 +8,17 @@ ghost use Rattle.jfr_words.specs.Words.{IsRead};
 
 use crate::WordsFault;
 
-/// How many digits a number has at most.
+/// The most digits that a number may have.
 const DIGITS: usize = 19;
 
-/// Whether the word is of ASCII digits alone, as the empty one is.
+/// Whether all characters of the word are ASCII digits. True of the empty word.
 fn is_digits(word: &str) -> bool
     ensures { result ≡ list_all is_ascii_digit word.now }
 {
     word.as_bytes().iter().all(|byte| byte.is_ascii_digit())
 }
 
-/// The number that a word spells: one to nineteen digits.
+/// The number that a word spells with one to nineteen digits, if it does.
 fn number_of(word: &str) -> Option<u64>
     ensures { result ≡ number_of (chars word.now) }
 {
@@ -31,7 +31,7 @@ fn number_of(word: &str) -> Option<u64>
     word.parse::<u64>().ok()
 }
 
-/// The number that a word spells, from `low` to `high`.
+/// The number that a word spells; a usage fault if it is none from `low` to `high`.
 pub(crate) fn read_number(word: &str, low: u64, high: u64) -> Result<u64, WordsFault>
     ensures read { IsRead (number_in low high (chars word.now)) result (λ number. number) }
     ensures range { IfOk result (λ number. (low ≤ number) × (number ≤ high)) }

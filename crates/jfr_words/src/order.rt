@@ -1,4 +1,4 @@
-// Orders, and why none was read.
+//! Orders: what a command line asks for. And why words give none.
 use jfr_filter::Filter;
 use jfr_outside::{NoMemory, Text};
 use jfr_split::SplitRule;
@@ -7,8 +7,8 @@ use thiserror::Error;
 /// What the words of a command line ask for.
 #[derive(Drop)]
 pub enum Order {
-    /// Prints the events of the file that the filter keeps, with what they refer to down to the depth, 0
-    /// to 8; as lines of JSON, if asked for.
+    /// Prints the events of the file that the filter keeps. References are followed down to the depth, 0 to
+    /// 8. The output is lines of JSON if `json` is set.
     Print {
         filter: Filter,
         depth: u8,
@@ -23,13 +23,13 @@ pub enum Order {
     Metadata {
         file: Text,
     },
-    /// Scrubs the input into the output, with the events that the filter keeps.
+    /// Writes to the output what remains of the input with only the events that the filter keeps.
     Scrub {
         filter: Filter,
         input: Text,
         output: Text,
     },
-    /// Cuts the file into parts.
+    /// Splits the file into parts.
     Disassemble {
         file: Text,
         rule: SplitRule,
@@ -46,13 +46,13 @@ pub enum Order {
     },
 }
 
-/// Why no order was read.
+/// Why the words gave no order.
 #[derive(Clone, Copy, Debug, PartialEq, Eq, Error)]
 pub enum WordsFault {
-    /// The words are no order.
+    /// The words are not a valid order.
     #[error("Usage")]
     Usage,
-    /// Memory was wanting.
+    /// Memory ran out.
     #[error("Memory")]
     Memory,
 }

@@ -1,4 +1,4 @@
-// Options of a filter.
+//! The options of a filter.
 ghost use Rattle.std.specs.Str.{chars};
 ghost use Rattle.jfr_words.specs.Patterns.{given_with};
 ghost use Rattle.jfr_words.specs.Words.{IsRead};
@@ -6,7 +6,7 @@ ghost use Rattle.jfr_words.specs.Words.{IsRead};
 use crate::WordsFault;
 use jfr_filter::{Filter, FilterFault, Side};
 
-/// Gives an option its patterns, if it has none yet.
+/// Sets the patterns of an option. A usage fault if they were set before or a pattern is empty.
 pub(crate) fn give_patterns(filter: &mut Filter, side: Side, list: &str) -> Result<(), WordsFault>
     ensures { IsRead (given_with side (chars list.now) filter.old) result (λ _. filter.new) }
 {

@@ -1,4 +1,4 @@
-// The words after `print`.
+//! The words after `print`.
 ghost use Rattle.std.specs.Prelude.{◌≡◌, ◌≤◌, ◌∷◌, ℕ, List, length, Some, OnOk};
 ghost use Rattle.std.specs.Str.{chars};
 ghost use Rattle.jfr_words.specs.Prints.{no_print_option, print_option_of, print_from, print_with};
@@ -12,18 +12,18 @@ use crate::{Order, WordsFault};
 use jfr_filter::{Filter, Side};
 use std::alloc::Global;
 
-/// An option of a print.
+/// An option of `print`.
 #[derive(Clone, Copy)]
 pub enum PrintOption {
-    /// A list of patterns, for this side of the filter.
+    /// The list of patterns of this option of the filter.
     Patterns(Side),
-    /// How deep references are followed.
+    /// The depth to which references are followed.
     Depth,
-    /// Lines of JSON, an option without a value.
+    /// Output as lines of JSON. This option has no value.
     Json,
 }
 
-/// The options of a print that are given so far.
+/// The options of `print` given so far.
 #[derive(Drop)]
 pub struct PrintGiven {
     pub filter: Filter,
@@ -31,13 +31,13 @@ pub struct PrintGiven {
     pub json: bool,
 }
 
-/// How deep references are followed at most.
+/// The greatest depth to which references are followed.
 const DEEPEST: u64 = 8;
 
-/// How deep they are followed where nothing else is given.
+/// The depth if the option isn't given.
 const USUAL_DEPTH: u8 = 2;
 
-/// Reads the options of a print and the name after them.
+/// Reads the options of `print` and the name after them.
 pub(crate) fn read_print(alloc: Global, left: &mut Left<'_>) -> Result<Order, WordsFault>
     ensures { IsRead (print_from no_print_option left.old) result (λ order. order) }
 {
@@ -55,7 +55,7 @@ pub(crate) fn read_print(alloc: Global, left: &mut Left<'_>) -> Result<Order, Wo
 }
 
 impl PrintGiven {
-    /// No option.
+    /// No options given.
     fn none(alloc: Global) -> PrintGiven
         ensures { result ≡ no_print_option }
     {
@@ -66,7 +66,7 @@ impl PrintGiven {
         }
     }
 
-    /// Gives an option, with the first word that is left as its value, unless it is `--json`.
+    /// Sets an option. Its value is the first word that is left; only `--json` has no value.
     fn give(&mut self, option: PrintOption, left: &mut Left<'_>) -> Result<(), WordsFault>
         ensures given { (word : List ℕ) → print_option_of word ≡ Some option → StillGives (print_from self.old (word ∷ left.old)) (print_from self.new left.new) result }
         ensures fewer { OnOk result (length left.new ≤ length left.old) }
@@ -78,7 +78,7 @@ impl PrintGiven {
         }
     }
 
-    /// Gives the depth, if there is none yet.
+    /// Sets the depth. A usage fault if it was set before or the word is not a depth.
     fn give_depth(&mut self, value: &str) -> Result<(), WordsFault>
         ensures { IsRead (print_with PrintOption.Depth (chars value.now) self.old) result (λ _. self.new) }
     {
@@ -90,7 +90,7 @@ impl PrintGiven {
         Ok(())
     }
 
-    /// Asks for lines of JSON, if they are not asked for yet.
+    /// Sets the output to lines of JSON. A usage fault if it was set before.
     fn give_json(&mut self) -> Result<(), WordsFault>
         ensures { (next : List ℕ) → IsRead (print_with PrintOption.Json next self.old) result (λ _. self.new) }
     {

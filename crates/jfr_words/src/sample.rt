@@ -1,11 +1,11 @@
-// The words after `sample`.
+//! The words after `sample`.
 ghost use Rattle.jfr_words.specs.Words.{IsRead, sample_of};
 
 use crate::left::Left;
 use crate::number::read_number;
 use crate::{Order, WordsFault};
 
-/// How many events a sample has at most.
+/// The most events that a sample may have.
 const MOST_EVENTS: u64 = 1_000_000;
 
 /// Reads the seed and the number of events.

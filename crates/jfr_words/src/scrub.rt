@@ -1,4 +1,4 @@
-// The words after `scrub`.
+//! The words after `scrub`.
 ghost use Rattle.jfr_filter.specs.Filters.{nothing_given};
 ghost use Rattle.jfr_words.specs.Scrubs.{scrub_from};
 ghost use Rattle.jfr_words.specs.Words.{IsRead};
@@ -10,7 +10,7 @@ use crate::{Order, WordsFault};
 use jfr_filter::{Filter, Side};
 use std::alloc::Global;
 
-/// Reads the options of a scrub and the names after them.
+/// Reads the options of `scrub` and the names after them.
 pub(crate) fn read_scrub(alloc: Global, left: &mut Left<'_>) -> Result<Order, WordsFault>
     ensures { IsRead (scrub_from nothing_given left.old) result (λ order. order) }
 {
@@ -27,7 +27,7 @@ pub(crate) fn read_scrub(alloc: Global, left: &mut Left<'_>) -> Result<Order, Wo
     })
 }
 
-// The options of a scrub are the sides of its filter.
+// The options of `scrub` are those of its filter.
 impl Named for Side {
     ghost use Rattle.jfr_words.specs.Scrubs.{side_of};
 

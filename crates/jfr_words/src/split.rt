@@ -1,4 +1,4 @@
-// The words after `disassemble`.
+//! The words after `disassemble`.
 ghost use Rattle.std.specs.Prelude.{◌≡◌};
 ghost use Rattle.std.specs.Str.{chars};
 ghost use Rattle.jfr_words.specs.Splits.{no_split_option, split_with, split_from, split_rule, is_split_given};
@@ -12,18 +12,18 @@ use jfr_outside::Text;
 use jfr_split::SplitRule;
 use std::alloc::Global;
 
-/// An option of a disassembly.
+/// An option of `disassemble`.
 #[derive(Clone, Copy)]
 pub enum SplitOption {
-    /// The folder of the parts.
+    /// The folder for the parts.
     Output,
-    /// How many chunks a part may have.
+    /// The most chunks that a part may have.
     MaxChunks,
-    /// How many bytes a part of several chunks may have.
+    /// The most bytes that a part of several chunks may have.
     MaxSize,
 }
 
-/// The options of a disassembly that are given so far.
+/// The options of `disassemble` given so far.
 #[derive(Drop)]
 pub struct SplitGiven {
     pub folder: Option<Text>,
@@ -31,19 +31,19 @@ pub struct SplitGiven {
     pub max_size: Option<u64>,
 }
 
-/// How many chunks a part may have where nothing else is given.
+/// The most chunks of a part if the option isn't given.
 const USUAL_CHUNKS: u64 = 5;
 
-/// How many chunks may be given at most.
+/// The greatest value of `--max-chunks`.
 const MOST_CHUNKS: u64 = u32::MAX as u64;
 
-/// How many bytes may be given at most, and how many a part may have where nothing else is given.
+/// The greatest value of `--max-size`, and its value if the option isn't given.
 const MOST_BYTES: u64 = 1 << 40;
 
-/// How many parts there may be.
+/// The most parts that there may be.
 const MOST_PARTS: u64 = 999_999;
 
-/// Reads the options of a disassembly and the name after them.
+/// Reads the options of `disassemble` and the name after them.
 pub(crate) fn read_split(alloc: Global, left: &mut Left<'_>) -> Result<Order, WordsFault>
     ensures { IsRead (split_from no_split_option left.old) result (λ order. order) }
 {
@@ -60,7 +60,7 @@ pub(crate) fn read_split(alloc: Global, left: &mut Left<'_>) -> Result<Order, Wo
 }
 
 impl SplitGiven {
-    /// No option.
+    /// No options given.
     fn none() -> SplitGiven
         ensures { result ≡ no_split_option }
     {
@@ -71,7 +71,7 @@ impl SplitGiven {
         }
     }
 
-    /// Gives an option its value, if it has none yet.
+    /// Sets an option to a value. A usage fault if it was set before or the word is not a value of it.
     fn give(&mut self, alloc: Global, option: SplitOption, value: &str) -> Result<(), WordsFault>
         ensures { IsRead (split_with option (chars value.now) self.old) result (λ _. self.new) }
     {
@@ -86,7 +86,7 @@ impl SplitGiven {
         Ok(())
     }
 
-    /// Whether an option is given.
+    /// Whether an option has been given.
     fn has(&self, option: SplitOption) -> bool
         ensures { result ≡ is_split_given option self.now }
     {
@@ -97,7 +97,7 @@ impl SplitGiven {
         }
     }
 
-    /// The rule that these options give.
+    /// The rule for parts that follows from these options.
     fn rule(self) -> SplitRule
         ensures { result ≡ split_rule self }
     {

@@ -1,4 +1,4 @@
-// The order that the words of the command line give.
+//! Reading the words of the command line as an order.
 ghost use Rattle.std.specs.Prelude.{IfOk, ◌∷◌};
 ghost use Rattle.std.specs.Str.{chars};
 ghost use Rattle.jfr_words.specs.Words.{order_of, summary_of, metadata_of, assembly_of, IsRead, IsUsableOrder};
@@ -13,7 +13,7 @@ use crate::{Order, WordsFault};
 use jfr_outside::Words;
 use std::alloc::Global;
 
-/// Reads the order that the words give.
+/// The order that the words give.
 pub fn read_words(alloc: Global, words: &Words) -> Result<Order, WordsFault>
     ensures read { IsRead (order_of words.now) result (λ order. order) }
     ensures usable { IfOk result IsUsableOrder }
@@ -41,7 +41,6 @@ fn read_command(alloc: Global, command: &str, left: &mut Left<'_>) -> Result<Ord
     }
 }
 
-/// Reads the name after `summary`.
 fn read_summary(alloc: Global, left: &mut Left<'_>) -> Result<Order, WordsFault>
     ensures { IsRead (summary_of left.old) result (λ order. order) }
 {
@@ -49,7 +48,6 @@ fn read_summary(alloc: Global, left: &mut Left<'_>) -> Result<Order, WordsFault>
     Ok(Order::Summary { file })
 }
 
-/// Reads the name after `metadata`.
 fn read_metadata(alloc: Global, left: &mut Left<'_>) -> Result<Order, WordsFault>
     ensures { IsRead (metadata_of left.old) result (λ order. order) }
 {
@@ -57,7 +55,6 @@ fn read_metadata(alloc: Global, left: &mut Left<'_>) -> Result<Order, WordsFault
     Ok(Order::Metadata { file })
 }
 
-/// Reads the names after `assemble`.
 fn read_assembly(alloc: Global, left: &mut Left<'_>) -> Result<Order, WordsFault>
     ensures { IsRead (assembly_of left.old) result (λ order. order) }
 {

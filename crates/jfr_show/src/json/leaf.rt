@@ -1,4 +1,4 @@
-// The JSON of values without parts.
+//! The JSON of values without parts.
 ghost use Rattle.std.specs.Prelude.{◌≡◌, ℕ, ◌++◌, List, length, decimal, OnOk, string_bytes};
 ghost use Rattle.std.specs.Fmt.{signed_decimal};
 ghost use Rattle.std.specs.Option.{option_map_or};
@@ -21,7 +21,7 @@ use jfr_layout::Kind;
 use jfr_text::{Characters, StringSpan};
 use std::alloc::Global;
 
-/// Adds an integer of a kind, by its value.
+/// Adds an integer of this kind.
 pub(crate) fn push_integer(kind: Kind, value: u64, out: &mut String) -> Result<(), NoMemory>
     requires integer { inline_form kind ≡ forms.Integer }
     ensures ok { OnOk result ((bytes : List ℕ) → worth_within 8 bytes ≡ value → string_bytes out.new ≡ string_bytes out.old ++ compact_text (base_json kind bytes)) }
@@ -53,7 +53,7 @@ fn push_signed(number: i64, out: &mut String) -> Result<(), NoMemory>
     Ok(())
 }
 
-/// Adds a value of a kind whose values all have so many bytes.
+/// Adds a value of a kind whose values have a fixed length.
 pub(crate) fn push_raw(
     alloc: Global,
     kind: Kind,
@@ -90,7 +90,7 @@ fn push_byte(bytes: &[u8], out: &mut String) -> Result<(), NoMemory>
     push_signed(i64::from(bytes[0].cast_signed()), out)
 }
 
-/// Adds a string of bytes in hexadecimal.
+/// Adds a JSON string of bytes in hexadecimal.
 fn push_hex(alloc: Global, bytes: &[u8], out: &mut String) -> Result<(), NoMemory>
     ensures ok { OnOk result (string_bytes out.new ≡ string_bytes out.old ++ compact_text (text_json (hex bytes.now))) }
 {
@@ -100,7 +100,7 @@ fn push_hex(alloc: Global, bytes: &[u8], out: &mut String) -> Result<(), NoMemor
     push_string(alloc, string.as_str(), out)
 }
 
-/// Adds a string that is no key: its text, or null.
+/// Adds a string that isn't a key: its text, or null.
 pub(crate) fn push_text(
     alloc: Global,
     span: &StringSpan<'_>,
@@ -121,7 +121,7 @@ fn push_null(out: &mut String) -> Result<(), NoMemory>
     Ok(())
 }
 
-/// Adds a string of characters.
+/// Adds a JSON string of these characters.
 fn push_characters(
     alloc: Global,
     characters: Characters<'_>,

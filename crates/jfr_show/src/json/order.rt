@@ -1,4 +1,4 @@
-// The order in which the fields of a class are written.
+//! The order in which the fields of a class are written: sorted by name, as `serde_json` sorts them.
 ghost use Rattle.std.specs.Prelude.{◌≡◌, [], ◌∷◌, ◌++◌, IfOk, IfSome, string_bytes};
 ghost use Rattle.serde_json.specs.Data.{no_members, string};
 ghost use Rattle.serde_json.specs.View.{members_view};
@@ -12,10 +12,10 @@ use jfr_layout::{Classes, Fields};
 use serde_json::{Map, Value, put};
 use std::alloc::Global;
 
-/// The most bytes that a name may have in an order that is kept.
+/// The length of the longest field name in an order that is kept for the whole chunk.
 const SHORT: usize = 64;
 
-/// A member of an object: what is written before its value, and the number of its field.
+/// A member of an object: the text before its value, and the number of its field.
 #[derive(Drop)]
 pub(crate) struct Lead {
     pub(crate) text: String,
@@ -28,9 +28,9 @@ pub(crate) struct MemberOrder {
     pub(crate) leads: Vec<Lead>,
 }
 
-/// The orders of the classes, each at the place of its class; `None` where a field has a long name. Any number
-/// of classes can share one such name without a copy, so their orders are made as their objects are written:
-/// then what is kept of a field is bounded.
+/// The order for each class, at the index of the class; `None` if a field has a long name. Any number of
+/// classes can share one such name without a copy of it, but each order would hold a copy. So their orders
+/// are made while their objects are written, which bounds the memory.
 pub(crate) fn orders_of(
     alloc: Global,
     classes: &Classes,
@@ -44,7 +44,7 @@ pub(crate) fn orders_of(
     Ok(orders)
 }
 
-/// The order of the fields of a class; `None` where one has a long name.
+/// The order of the fields of a class; `None` if one has a long name.
 fn short_order(alloc: Global, fields: &Fields) -> Result<Option<MemberOrder>, NoMemory>
     ensures ok { IfOk result (λ order. IfSome order (λ o. IsOrder fields.now (leads_of o))) }
 {
@@ -56,7 +56,7 @@ fn short_order(alloc: Global, fields: &Fields) -> Result<Option<MemberOrder>, No
     Ok(Some(order_of(alloc, fields)?))
 }
 
-/// The order of the fields of a class: that in which `serde_json`'s map has them.
+/// The order of the fields of a class: the one in which a map of `serde_json` has them.
 pub(crate) fn order_of(alloc: Global, fields: &Fields) -> Result<MemberOrder, NoMemory>
     ensures ok { IfOk result (λ order. IsOrder fields.now (leads_of order)) }
 {
@@ -66,6 +66,7 @@ pub(crate) fn order_of(alloc: Global, fields: &Fields) -> Result<MemberOrder, No
     for (name, number) in members.iter() {
         leads.push(Lead {
             text: lead_text(alloc, later, name.as_str())?,
+            // The value is a number from `numbered`, so the default isn't used.
             field: number.as_u64().unwrap_or(0) as usize,
         })?;
         later = true;
@@ -73,7 +74,7 @@ pub(crate) fn order_of(alloc: Global, fields: &Fields) -> Result<MemberOrder, No
     Ok(MemberOrder { leads })
 }
 
-/// A member for each field: its number, under its name.
+/// A map from the name of each field to its number.
 fn numbered(alloc: Global, fields: &Fields) -> Result<Map<String, Value>, NoMemory>
     ensures ok { IfOk result (λ members. members_view members.entries ≡ members_with no_members fields.now (numbers 0 fields.now)) }
 {
@@ -89,7 +90,7 @@ fn numbered(alloc: Global, fields: &Fields) -> Result<Map<String, Value>, NoMemo
     Ok(members)
 }
 
-/// What is written before the value of a member: a comma behind another member, the key, and a colon.
+/// The text before the value of a member: a comma if another member comes before, the key, and a colon.
 fn lead_text(alloc: Global, later: bool, key: &str) -> Result<String, NoMemory>
     ensures ok { IfOk result (λ text. string_bytes text ≡ comma_if later ++ (compact_text (string key.now) ++ 58 ∷ [])) }
 {

@@ -1,4 +1,4 @@
-// Where the fields of a value stand.
+//! Where the fields of a value start.
 ghost use Rattle.std.specs.Prelude.{◌≡◌, ℕ, ◌≤◌, ◌<◌, length, IfOk};
 ghost use Rattle.jfr_layout.specs.Classes.{IsFieldLayout, Sound};
 ghost use Rattle.jfr_value.specs.Nodes.{EndsAt, IsRow};
@@ -12,14 +12,15 @@ use jfr_layout::FieldLayout;
 use jfr_value::end_of;
 use std::alloc::Global;
 
-/// Where each field of a value begins, and where the last one ends.
+/// Where each field of a value starts, and where the last one ends.
 #[derive(Drop)]
 pub(crate) struct Places {
     pub(crate) starts: Vec<usize>,
     pub(crate) end: usize,
 }
 
-/// Where the fields of the class at a place stand, which begin there and end at the limit or before it.
+/// Where the fields of a value of the class with index `place` start. The first starts at `at`, and the last
+/// ends by `limit`.
 pub(crate) fn field_places(
     alloc: Global,
     chunk: &Chunk<'_>,
@@ -43,7 +44,7 @@ pub(crate) fn field_places(
     Ok(Places { starts, end })
 }
 
-/// Where the value of a layout ends that begins at a place and ends at the limit or before it.
+/// Where the value with this layout ends that starts at `at` and ends by `limit`.
 fn end_at(chunk: &Chunk<'_>, layout: &FieldLayout, at: usize, limit: usize) -> usize
     requires sound { Sound chunk.now.classes }
     requires layout { IsFieldLayout chunk.now.classes layout.now }

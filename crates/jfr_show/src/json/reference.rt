@@ -1,4 +1,4 @@
-// The JSON of a class and a key.
+//! The JSON of references that aren't followed.
 ghost use Rattle.std.specs.Prelude.{◌≡◌, ◌++◌, OnOk, string_bytes};
 ghost use Rattle.serde_json.specs.Written.{compact_text};
 ghost use Rattle.jfr_show.specs.Json.{missing_json, reference_json};
@@ -9,7 +9,7 @@ use super::string::push_string;
 use crate::reference::class_name;
 use jfr_base::NoMemory;
 
-/// Adds the name of a class, and a key.
+/// Adds the name of a class and a key.
 pub(crate) fn push_reference(
     source: &Source<'_, '_>,
     class: u64,
@@ -26,7 +26,7 @@ pub(crate) fn push_reference(
     Ok(())
 }
 
-/// Adds the name of a class, and a key for which no entry is in force.
+/// Adds the name of a class and a key, and that no entry is in force for them.
 pub(crate) fn push_missing(
     source: &Source<'_, '_>,
     class: u64,

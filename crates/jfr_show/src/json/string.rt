@@ -1,4 +1,4 @@
-// Strings of JSON.
+//! JSON strings.
 ghost use Rattle.std.specs.Prelude.{◌≡◌, [], ◌∷◌, ◌++◌, IsTrue, OnOk, string_bytes};
 ghost use Rattle.serde_json.specs.Data.{string};
 ghost use Rattle.serde_json.specs.Written.{compact_text};
@@ -7,7 +7,7 @@ use jfr_base::NoMemory;
 use serde_json::Value;
 use std::alloc::Global;
 
-/// Adds a string. Most have no character with an escape; `serde_json` writes the others.
+/// Adds a JSON string. Most texts need no escapes and are copied; `serde_json` writes the others.
 pub(crate) fn push_string(alloc: Global, text: &str, out: &mut String) -> Result<(), NoMemory>
     ensures ok { OnOk result (string_bytes out.new ≡ string_bytes out.old ++ compact_text (string text.now)) }
 {
@@ -20,7 +20,7 @@ pub(crate) fn push_string(alloc: Global, text: &str, out: &mut String) -> Result
     Ok(())
 }
 
-/// Whether no byte of a text has an escape.
+/// Whether no character of a text needs an escape.
 fn is_plain(text: &str) -> bool
     ensures { IsTrue result → compact_text (string text.now) ≡ 34 ∷ (text.now ++ 34 ∷ []) }
 {
@@ -32,7 +32,7 @@ fn is_plain(text: &str) -> bool
     true
 }
 
-/// Adds a string as `serde_json` writes it.
+/// Adds a JSON string as `serde_json` writes it.
 fn push_escaped(alloc: Global, text: &str, out: &mut String) -> Result<(), NoMemory>
     ensures ok { OnOk result (string_bytes out.new ≡ string_bytes out.old ++ compact_text (string text.now)) }
 {

@@ -1,4 +1,4 @@
-// The JSON of values, by one walk over their bytes.
+//! The JSON of values, made in one walk over their bytes.
 ghost use Rattle.std.specs.Prelude.{◌≡◌, ℕ, ◌+◌, ◌≤◌, ◌<◌, ◌-◌, ◌*◌, ◌++◌, length, true, Some, IfOk, OnOk, slice_get, string_bytes};
 ghost use Rattle.std.specs.List.{AllByRecursion};
 ghost use Rattle.serde_json.specs.Data.{no_members, object};
@@ -42,8 +42,7 @@ pub(crate) fn push_node(
     Ok(())
 }
 
-/// Adds the value of a layout that begins at a place and ends at the limit or before it, and says where it
-/// ends.
+/// Adds the value with this layout that starts at `at` and ends by `limit`. Returns where it ends.
 #[cycle(json)]
 fn push_value(
     source: &Source<'_, '_>,
@@ -97,7 +96,7 @@ fn push_value(
     }
 }
 
-/// Adds a value of the class at a place, and says where it ends.
+/// Adds a value of the class with index `place`. Returns where it ends.
 #[cycle(json)]
 fn push_fields(
     source: &Source<'_, '_>,
@@ -127,7 +126,7 @@ fn push_fields(
     }
 }
 
-/// Adds a value of the class at a place, whose fields are written in this order, and says where it ends.
+/// Adds a value of the class with index `place`, its fields in this order. Returns where it ends.
 #[cycle(json)]
 fn push_members(
     source: &Source<'_, '_>,
@@ -168,7 +167,7 @@ fn push_members(
     Ok(places.end)
 }
 
-/// Adds an array, and says where it ends.
+/// Adds an array. Returns where it ends.
 #[cycle(json)]
 fn push_items(
     source: &Source<'_, '_>,
@@ -202,7 +201,7 @@ fn push_items(
     Ok(to)
 }
 
-/// Adds a comma where something stands before.
+/// Adds a comma if something comes before.
 fn push_comma(later: bool, out: &mut String) -> Result<(), NoMemory>
     ensures ok { OnOk result (string_bytes out.new ≡ string_bytes out.old ++ comma_if later) }
 {
@@ -212,7 +211,7 @@ fn push_comma(later: bool, out: &mut String) -> Result<(), NoMemory>
     Ok(())
 }
 
-/// Adds what a class and a key refer to.
+/// Adds the JSON of the reference to a class and a key.
 #[cycle(json)]
 fn push_referred(
     source: &Source<'_, '_>,

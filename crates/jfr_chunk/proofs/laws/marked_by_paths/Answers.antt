@@ -1,7 +1,7 @@
 use Rattle.std.specs.Prelude.{Contains}
 use Rattle.std.proofs.lemmas.List.Elements.{All-contains}
 use Rattle.jfr_chunk.specs.Parts.{events_of}
-use Rattle.jfr_chunk.proofs.Members.{contains_in, in_contains}
+use Rattle.jfr_worklist.proofs.Members.{contains_in, in_contains}
 use Rattle.jfr_chunk.proofs.ReachedLaws.{reached_marked}
 use Rattle.jfr_chunk.proofs.StandingLaws.{standing, event_is}
 use Rattle.jfr_chunk.proofs.laws.marked_by_paths.Goals as goal

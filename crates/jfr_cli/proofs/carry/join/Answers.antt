@@ -1,9 +1,8 @@
 use Rattle.std.proofs.Common.{subst, sym, refl}
 use Rattle.jfr_plan.specs.Ends.{way_of}
 use Rattle.jfr_plan.specs.Effects.{alone}
-use Rattle.jfr_plan.specs.Clauses.{CanCreate}
-use Rattle.jfr_split.specs.Joins.{assembling}
-use Rattle.jfr_split.specs.Clauses.{AfterFiles}
+use Rattle.jfr_plan.specs.Clauses.{Ran, CanCreate}
+use Rattle.jfr_split.specs.Clauses.{joins}
 use Rattle.jfr_words.specs.Words.{file_name}
 use Rattle.jfr_cli.proofs.Counting.{lifted}
 use Rattle.jfr_cli.proofs.Orders.{named}
@@ -15,15 +14,15 @@ returns g c =
     let q = g.P.Place.state c.assemble.new.place in
     let folder = named c.as_str.result.now c.args.folder.now c.as_str.utf8 c.as_str.ensures in
     let output = named c.as_str-2.result.now c.args.output.now c.as_str-2.utf8 c.as_str-2.ensures in
-    let way = way_of c.assemble.result in
+    let ran =
+    subst (λ z. Ran (joins z (file_name c.args.output.now)) c.assemble.result (alone p) (alone q)) folder
+    (subst (λ z. Ran (joins c.as_str.result.now z) c.assemble.result (alone p) (alone q)) output c.assemble.ensures.ran) in
     record {
-      leaves =
-          subst (λ z. AfterFiles (assembling z (file_name c.args.output.now)) way (alone p) (alone q)) folder
-          (subst (λ z. AfterFiles (assembling c.as_str.result.now z) way (alone p) (alone q)) output c.assemble.ensures.told);
-      counts = lifted way p q (g.O.Sink.state c.args._out.now) c.assemble.ensures.counts;
+      leaves = ran.told;
+      counts = lifted (way_of c.assemble.result) p q (g.O.Sink.state c.args._out.now) ran.counts;
       sink = refl;
       place = tt;
       wrote = tt;
-      can_read = λ can. (c.assemble.ensures.can_read can.0 can.1).0;
+      can_read = λ can. (ran.can_read can).0;
       can_create = λ can. (c.assemble.ensures.can_create (subst (λ z. CanCreate z p) (sym output) can)).0;
     }

@@ -1,25 +1,21 @@
-use Rattle.std.proofs.Common.{[], subst}
-use Rattle.jfr_plan.specs.Ends.{way_of}
+use Rattle.std.proofs.Common.{subst}
 use Rattle.jfr_plan.specs.Effects.{outside}
-use Rattle.jfr_plan.specs.Outcomes.{After}
-use Rattle.jfr_plan.proofs.Clauses as clauses
+use Rattle.jfr_plan.specs.Clauses.{over, Ran}
 use Rattle.jfr_report.specs.Reports.{printing}
-use Rattle.jfr_words.specs.Words.{file_name}
 use Rattle.jfr_cli.proofs.Orders.{named}
 use Rattle.jfr_cli.proofs.carry.print.Goals as goal
 
 pub returns : goal.returns
 returns g c =
-    let rule = printing c.args.filter.now c.args.depth c.args.json in
     let a = outside (g.P.Place.state c.args.place.now) (g.O.Sink.state c.args.out.now) in
     let b = outside (g.P.Place.state c.print_stream.new.place) (g.O.Sink.state c.print_stream.new.out) in
-    let told = subst (λ z. After rule [] z (way_of c.print_stream.result) a b) (named c.as_str.result.now c.args.file.now c.as_str.utf8 c.as_str.ensures) c.print_stream.ensures.told in
+    let ran = subst (λ z. Ran (over (printing c.args.filter.now c.args.depth c.args.json) z) c.print_stream.result a b) (named c.as_str.result.now c.args.file.now c.as_str.utf8 c.as_str.ensures) c.print_stream.ensures.ran in
     record {
-      leaves = told;
-      counts = c.print_stream.ensures.counts;
+      leaves = ran.told;
+      counts = ran.counts;
       sink = tt;
       place = tt;
       wrote = tt;
-      can_read = λ can. clauses.can_read rule (file_name c.args.file.now) c.print_stream.result a b can told;
+      can_read = λ can. (ran.can_read can).0;
       can_create = λ can. absurd can;
     }

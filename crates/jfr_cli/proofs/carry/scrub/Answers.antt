@@ -1,10 +1,8 @@
-use Rattle.std.proofs.Common.{[], subst, sym, refl}
+use Rattle.std.proofs.Common.{subst, sym, refl}
 use Rattle.jfr_outside.specs.World.{Told}
 use Rattle.jfr_plan.specs.Ends.{way_of}
 use Rattle.jfr_plan.specs.Effects.{alone}
-use Rattle.jfr_plan.specs.Outcomes.{After}
-use Rattle.jfr_plan.specs.Clauses.{CanCreate}
-use Rattle.jfr_plan.proofs.Clauses as clauses
+use Rattle.jfr_plan.specs.Clauses.{over, Ran, CanCreate}
 use Rattle.jfr_scrub.specs.Headline.{IsByPlan, Scrubs}
 use Rattle.jfr_scrub.specs.Scrubs.{scrubbing}
 use Rattle.jfr_words.specs.Words.{file_name}
@@ -16,21 +14,19 @@ pub returns : goal.returns
 returns g c =
     let p = g.P.Place.state c.args.place.now in
     let q = g.P.Place.state c.scrub_stream.new.place in
-    let s = g.O.Sink.state c.args._out.now in
     let input = named c.as_str.result.now c.args.input.now c.as_str.utf8 c.as_str.ensures in
     let output = named c.as_str-2.result.now c.args.output.now c.as_str-2.utf8 c.as_str-2.ensures in
-    let way = way_of c.scrub_stream.result in
-    let told =
-    subst (λ z. After (scrubbing c.args.filter.now (file_name c.args.output.now)) [] z way (alone p) (alone q)) input
-    (subst (λ z. After (scrubbing c.args.filter.now z) [] c.as_str.result.now way (alone p) (alone q)) output c.scrub_stream.ensures.told) in
+    let ran =
+    subst (λ z. Ran (over (scrubbing c.args.filter.now (file_name c.args.output.now)) z) c.scrub_stream.result (alone p) (alone q)) input
+    (subst (λ z. Ran (over (scrubbing c.args.filter.now z) c.as_str.result.now) c.scrub_stream.result (alone p) (alone q)) output c.scrub_stream.ensures.ran) in
     record {
-      leaves = told;
-      counts = lifted way p q s c.scrub_stream.ensures.counts;
+      leaves = ran.told;
+      counts = lifted (way_of c.scrub_stream.result) p q (g.O.Sink.state c.args._out.now) ran.counts;
       sink = refl;
       place = tt;
       wrote =
           subst (λ z. IsByPlan c.scrub_stream.result → Told p.told q.told (Scrubs c.args.filter.now z (file_name c.args.output.now))) input
           (subst (λ z. IsByPlan c.scrub_stream.result → Told p.told q.told (Scrubs c.args.filter.now c.as_str.result.now z)) output c.scrub_stream.ensures.headline);
-      can_read = λ can. clauses.can_read (scrubbing c.args.filter.now (file_name c.args.output.now)) (file_name c.args.input.now) c.scrub_stream.result (alone p) (alone q) can told;
+      can_read = λ can. (ran.can_read can).0;
       can_create = λ can. (c.scrub_stream.ensures.can_create (subst (λ z. CanCreate z p) (sym output) can)).0;
     }

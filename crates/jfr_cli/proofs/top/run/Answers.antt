@@ -1,92 +1,102 @@
 use Rattle.std.proofs.Common.{ap}
-use Rattle.jfr_plan.specs.Effects.{Outside}
+use Rattle.jfr_plan.specs.Effects.{Outside, outside}
 use Rattle.jfr_scrub.proofs.AgainLaws.{is_scrubbed}
-use Rattle.jfr_cli.proofs.Clauses.{usage_told, usage_only, untouched, headline_told, done_told, refused_told, halted_told, broken_told, parts_told, memory_told, memory_said, statuses, no_read_passed, no_write_passed, no_text_passed, one_count, complete, can_read, can_create, sink_told, place_told, same_told}
+use Rattle.jfr_cli.proofs.Clauses.{Answers, answers_by, only_parts, text_writes, usage_told, usage_only, untouched, headline_told, done_told, refused_told, halted_told, broken_told, parts_told, memory_told, memory_said, statuses, no_read_passed, no_write_passed, no_text_passed, one_count, complete, can_read, can_create, sink_told, place_told, same_told}
+use Rattle.jfr_cli.proofs.top.run.Given.{Over}
 use Rattle.jfr_cli.proofs.top.run.Goals as goal
 
+answered : (g : Over) (c : goal.After-say_answer g) → Answers c.args.words.now c.say_answer.result (outside (g.P.Place.state c.args.place.now) (g.O.Sink.state c.args.out.now)) (outside (g.P.Place.state c.obey-ended.new.place) (g.O.Sink.state c.obey-ended.new.out)) (g.E.Sink.state c.args.err.now) (g.E.Sink.state c.say_answer.new.err)
+answered g c = answers_by c.args.words.now c.obey-ended.result c.say_answer.result _ _ _ _ c.obey-ended.ensures c.say_answer.ensures
+
 pub returns-clause-usage : goal.returns-clause-usage
-returns-clause-usage g c = usage_told c.answer.ensures
+returns-clause-usage g c = usage_told (answered g c)
 
 pub returns-clause-usage_only : goal.returns-clause-usage_only
-returns-clause-usage_only g c = usage_only c.answer.ensures
+returns-clause-usage_only g c = usage_only (answered g c)
 
 pub returns-clause-untouched : goal.returns-clause-untouched
-returns-clause-untouched g c = λ h. let e = untouched c.answer.ensures h in (ap (λ (z : Outside). z.place) e, ap (λ (z : Outside). z.sink) e)
+returns-clause-untouched g c = λ h. let e = untouched (answered g c) h in (ap (λ (z : Outside). z.place) e, ap (λ (z : Outside). z.sink) e)
 
 pub returns-clause-headline : goal.returns-clause-headline
-returns-clause-headline g c = headline_told c.answer.ensures
+returns-clause-headline g c = headline_told (answered g c)
 
 pub returns-clause-each : goal.returns-clause-each
 returns-clause-each g c = λ f. is_scrubbed f
 
 pub returns-clause-done : goal.returns-clause-done
-returns-clause-done g c = λ h. (done_told c.answer.ensures h).0
+returns-clause-done g c = λ h. (done_told (answered g c) h).0
 
 pub returns-clause-done_silent : goal.returns-clause-done_silent
-returns-clause-done_silent g c = λ h. (done_told c.answer.ensures h).1
+returns-clause-done_silent g c = λ h. (done_told (answered g c) h).1
 
 pub returns-clause-refused : goal.returns-clause-refused
-returns-clause-refused g c = refused_told c.answer.ensures
+returns-clause-refused g c = refused_told (answered g c)
 
 pub returns-clause-halted : goal.returns-clause-halted
-returns-clause-halted g c = λ h. (halted_told c.answer.ensures h).0
+returns-clause-halted g c = λ h. (halted_told (answered g c) h).0
 
 pub returns-clause-halted_said : goal.returns-clause-halted_said
-returns-clause-halted_said g c = λ h. (halted_told c.answer.ensures h).1
+returns-clause-halted_said g c = λ h. (halted_told (answered g c) h).1
 
 pub returns-clause-broken : goal.returns-clause-broken
-returns-clause-broken g c = λ h. (broken_told c.answer.ensures h).0
+returns-clause-broken g c = λ h. (broken_told (answered g c) h).0
 
 pub returns-clause-broken_said : goal.returns-clause-broken_said
-returns-clause-broken_said g c = λ h. (broken_told c.answer.ensures h).1
+returns-clause-broken_said g c = λ h. (broken_told (answered g c) h).1
 
 pub returns-clause-too_many : goal.returns-clause-too_many
-returns-clause-too_many g c = λ h. (parts_told c.answer.ensures h).0
+returns-clause-too_many g c = λ h. (parts_told (answered g c) h).0
 
 pub returns-clause-too_many_said : goal.returns-clause-too_many_said
-returns-clause-too_many_said g c = λ h. (parts_told c.answer.ensures h).1
+returns-clause-too_many_said g c = λ h. (parts_told (answered g c) h).1
+
+pub returns-clause-parts : goal.returns-clause-parts
+returns-clause-parts g c = only_parts (answered g c)
 
 pub returns-clause-memory : goal.returns-clause-memory
-returns-clause-memory g c = memory_told c.answer.ensures
+returns-clause-memory g c = memory_told (answered g c)
 
 pub returns-clause-memory_said : goal.returns-clause-memory_said
-returns-clause-memory_said g c = memory_said c.answer.ensures
+returns-clause-memory_said g c = memory_said (answered g c)
 
 pub returns-clause-statuses : goal.returns-clause-statuses
-returns-clause-statuses g c = statuses c.answer.ensures
+returns-clause-statuses g c = statuses (answered g c)
 
 pub returns-clause-read_fault : goal.returns-clause-read_fault
-returns-clause-read_fault g c = λ h. (halted_told c.answer.ensures h).2
+returns-clause-read_fault g c = λ h. (halted_told (answered g c) h).2
 
 pub returns-clause-write_fault : goal.returns-clause-write_fault
-returns-clause-write_fault g c = λ h. (broken_told c.answer.ensures h).2
+returns-clause-write_fault g c = λ h. (broken_told (answered g c) h).2
 
 pub returns-clause-no_read_passed : goal.returns-clause-no_read_passed
-returns-clause-no_read_passed g c = no_read_passed c.answer.ensures
+returns-clause-no_read_passed g c = no_read_passed (answered g c)
 
 pub returns-clause-no_write_passed : goal.returns-clause-no_write_passed
-returns-clause-no_write_passed g c = no_write_passed c.answer.ensures
+returns-clause-no_write_passed g c = no_write_passed (answered g c)
 
 pub returns-clause-no_text_passed : goal.returns-clause-no_text_passed
-returns-clause-no_text_passed g c = no_text_passed c.answer.ensures
+returns-clause-no_text_passed g c = no_text_passed (answered g c)
 
 pub returns-clause-one_count : goal.returns-clause-one_count
-returns-clause-one_count g c = one_count c.answer.ensures
+returns-clause-one_count g c = one_count (answered g c)
+
+pub returns-clause-writes : goal.returns-clause-writes
+returns-clause-writes g c = text_writes (answered g c)
 
 pub returns-clause-complete : goal.returns-clause-complete
-returns-clause-complete g c = complete c.answer.ensures
+returns-clause-complete g c = complete (answered g c)
 
 pub returns-clause-can_read : goal.returns-clause-can_read
-returns-clause-can_read g c = can_read c.answer.ensures
+returns-clause-can_read g c = can_read (answered g c)
 
 pub returns-clause-can_create : goal.returns-clause-can_create
-returns-clause-can_create g c = can_create c.answer.ensures
+returns-clause-can_create g c = can_create (answered g c)
 
 pub returns-clause-out : goal.returns-clause-out
-returns-clause-out g c = sink_told c.answer.ensures
+returns-clause-out g c = sink_told (answered g c)
 
 pub returns-clause-place : goal.returns-clause-place
-returns-clause-place g c = place_told c.answer.ensures
+returns-clause-place g c = place_told (answered g c)
 
 pub returns-clause-same : goal.returns-clause-same
-returns-clause-same g c = same_told c.answer.ensures
+returns-clause-same g c = same_told (answered g c)

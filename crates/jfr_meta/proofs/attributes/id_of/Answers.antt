@@ -1,5 +1,5 @@
 use Rattle.std.proofs.Common.{sym, arith}
-use Rattle.jfr_meta.proofs.Ids.{long_none, other_none, small_some, large_none, unparsed_none}
+use Rattle.jfr_meta.proofs.IdLaws.{long_none, other_none, small_some, large_none, unparsed_none}
 use Rattle.jfr_meta.proofs.attributes.id_of.Goals as goal
 
 pub returns-then-text-gt-ID_DIGITS : goal.returns-then-text-gt-ID_DIGITS

@@ -1,6 +1,7 @@
 use Rattle.std.proofs.lemmas.Result.{err_from_is_err_and}
 use Rattle.jfr_meta.specs.Heads.{seen_body}
 use Rattle.jfr_meta.proofs.Answered.{metadata_ok, body_refused, classes_refused}
+use Rattle.jfr_meta.proofs.Depths.{shallow}
 use Rattle.jfr_meta.proofs.metadata.read_metadata.Goals as goal
 
 pub returns-in_err-body-clause-refused : goal.returns-in_err-body-clause-refused
@@ -15,3 +16,7 @@ returns-in_err-classes-clause-refused c =
 
 pub returns-clause-ok : goal.returns-clause-ok
 returns-clause-ok c = metadata_ok c.args.chunk.now c.args.frame.now (seen_body c.in_ok-body.body) c.in_ok-classes.classes c.requires c.in_ok-body.ensures.exact c.in_ok-classes.ensures
+
+pub returns-clause-shallow : goal.returns-clause-shallow
+returns-clause-shallow c =
+    shallow c.args.chunk.now c.args.frame.now (seen_body c.in_ok-body.body) c.in_ok-classes.classes (metadata_ok c.args.chunk.now c.args.frame.now (seen_body c.in_ok-body.body) c.in_ok-classes.classes c.requires c.in_ok-body.ensures.exact c.in_ok-classes.ensures)

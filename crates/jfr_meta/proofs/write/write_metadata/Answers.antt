@@ -12,9 +12,9 @@ returns-clause-read_back c =
     let id = c.args.id in
     let strings = c.args.strings.now in
     let root = c.args.root.now in
-    let size = c.metadata_len.result + (c.var_len.result + c.var_len-2.result + c.var_len-3.result + c.var_len-4.result) + 5 in
+    let size = c.metadata_len.result + (c.var_len.result + c.var_len-2.result + c.var_len-3.result + c.var_len-4.result) + 6 in
     let count : c.var_len-4.result ≡ length (spell (length strings)) = c.var_len-4.ensures.exact ∙ ap (λ n. length (spell n)) c.len-count.ensures in
-    let whole : size ≡ 5 + length (body_bytes start duration id strings root) = omega (arith, body_measured start duration id strings root) in
+    let whole : size ≡ 6 + length (body_bytes start duration id strings root) = omega (arith, body_measured start duration id strings root) in
     read_back start duration id strings root c.push_body.new.out.items c.requires.indices c.requires.depth c.requires.size c.in_ok-push_body.ensures.texts
     (record_written size start duration id strings root c.push_size.new.out.items c.push.new.self.items c.push_body.new.out.items
-    (c.in_ok-push_size.ensures.ok ∙ ap (λ z. z ++ spell_in 4 size) c.new-out.ensures.items) c.in_ok-push.ensures.items c.in_ok-push_body.ensures.ok whole)
+    (c.in_ok-push_size.ensures.ok ∙ ap (λ z. z ++ spell_in 5 size) c.new-out.ensures.items) c.in_ok-push.ensures.items c.in_ok-push_body.ensures.ok whole)

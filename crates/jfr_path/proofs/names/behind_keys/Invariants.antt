@@ -3,7 +3,7 @@ use Rattle.jfr_chunk.specs.Paths.{always, follow_while}
 use Rattle.jfr_value.specs.Nodes.{IsValue, node_of}
 use Rattle.jfr_path.proofs.names.behind_keys.Given as goal
 
--- The place is where following leads that is done so far.
+-- The node is the one reached after the steps followed so far.
 abbrev pub invariant-loop : goal.invariant-loop
 invariant-loop l = record {
   value : IsValue l.chunk.classes l.place;

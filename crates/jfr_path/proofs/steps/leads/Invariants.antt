@@ -4,7 +4,7 @@ use Rattle.jfr_chunk.specs.Paths.{leads}
 use Rattle.jfr_value.specs.Nodes.{IsValue, node_of}
 use Rattle.jfr_path.proofs.steps.leads.Given as goal
 
--- The place is where the steps so far lead.
+-- The node is the one that the steps so far lead to.
 abbrev pub invariant-loop-next : goal.invariant-loop-next
 invariant-loop-next l = record {
   value : IsValue l.chunk.classes l.place;

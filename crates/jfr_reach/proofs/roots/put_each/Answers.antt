@@ -1,7 +1,7 @@
 use Rattle.std.proofs.Common.{◌≡◌, length, take, slice_index_or, true, ap, arith, subst, ◌∙◌}
 use Rattle.std.proofs.Math.Seq.{take-length}
 use Rattle.std.proofs.lemmas.List.{length-set}
-use Rattle.jfr_reach.specs.Walks.{Puts}
+use Rattle.jfr_worklist.specs.Putting.{Puts}
 use Rattle.jfr_reach.proofs.KeyLaws.{puts_more}
 use Rattle.jfr_reach.proofs.roots.put_each.Goals as goal
 

@@ -1,5 +1,5 @@
 use Rattle.std.proofs.Common.{◌≡◌, ◌+◌, length, take}
-use Rattle.jfr_reach.specs.Walks.{Puts}
+use Rattle.jfr_worklist.specs.Putting.{Puts}
 use Rattle.jfr_reach.proofs.roots.put_each.Given as goal
 
 abbrev pub invariant-loop-number : goal.invariant-loop-number

@@ -2,7 +2,7 @@ use Rattle.std.proofs.Common.{◌<◌, arith, length, refl, sym, subst}
 use Rattle.std.specs.Prelude.{All, option_to_list}
 use Rattle.std.proofs.lemmas.List.Elements.{All-from_recursion}
 use Rattle.jfr_chunk.specs.Reach.{roots}
-use Rattle.jfr_reach.specs.Walks.{Puts}
+use Rattle.jfr_worklist.specs.Putting.{Puts}
 use Rattle.jfr_reach.proofs.EventWalk.{kept_entries, kept_none}
 use Rattle.jfr_reach.proofs.roots.put_event.Goals as goal
 

@@ -3,7 +3,7 @@ use Rattle.std.specs.Prelude.{All}
 use Rattle.std.specs.List.{list_all}
 use Rattle.std.proofs.lemmas.List.Elements.{All-from_recursion}
 use Rattle.jfr_chunk.specs.Parts.{events_of}
-use Rattle.jfr_reach.specs.Walks.{Puts}
+use Rattle.jfr_worklist.specs.Putting.{Puts}
 use Rattle.jfr_reach.proofs.EventWalk.{all_entries}
 use Rattle.jfr_reach.proofs.roots.put_roots.Goals as goal
 

@@ -1,8 +1,8 @@
 use Rattle.std.proofs.Common.{◌≡◌, [], ◌<◌, ◌≤◌, length, slice_index, vec_len, arith, ap, ◌∙◌}
 use Rattle.std.proofs.lemmas.List.{nil_from_length}
 use Rattle.std.proofs.lemmas.Grind.{get_or_default_zero}
-use Rattle.jfr_reach.specs.Worklists.{marked_count}
-use Rattle.jfr_reach.proofs.Counts.{count_le, count_none}
+use Rattle.jfr_worklist.specs.Worklists.{marked_count}
+use Rattle.jfr_worklist.proofs.Counts.{count_le, count_none}
 use Rattle.jfr_reach.proofs.EntryWalk.{going_starts, going_on, going_ends, going_cost}
 use Rattle.jfr_reach.proofs.walk.put_reached.Goals as goal
 

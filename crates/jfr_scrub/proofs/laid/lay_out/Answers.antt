@@ -15,8 +15,8 @@ use Rattle.jfr_scrub.proofs.laid.lay_out.Goals as goal
 pub remaining-requires : goal.remaining-requires
 remaining-requires c = ap length c.requires.marks ∙ (marks_length c.args.chunk.now (kept_by c.args.chunk.now c.args.kept.now) ∙ ap (λ (z : List EntryAt). length z) (sym c.pools.ensures))
 
-pub lay_body-requires : goal.lay_body-requires
-lay_body-requires c = c.as_slice-left.ensures ∙ left_is _ _ _ _ _ c.requires.marks c.pools.ensures c.in_ok-left.ensures
+pub lay_body-requires-clause-left : goal.lay_body-requires-clause-left
+lay_body-requires-clause-left c = c.as_slice-left.ensures ∙ left_is _ _ _ _ _ c.requires.marks c.pools.ensures c.in_ok-left.ensures
 
 pub returns-clause-laid : goal.returns-clause-laid
 returns-clause-laid c =

@@ -1,4 +1,4 @@
-use Rattle.std.proofs.Common.{arith, ◌≡◌, ◌^◌, ◌+◌, ◌<◌, ◌≤◌, length, get_or, List, ℕ, Some, sym, ap, subst, ◌∙◌}
+use Rattle.std.proofs.Common.{◌*◌, arith, ◌≡◌, ◌^◌, ◌+◌, ◌<◌, ◌≤◌, length, get_or, List, ℕ, Some, sym, ap, subst, ◌∙◌}
 use Rattle.std.specs.List.{slice_get}
 use Rattle.std.specs.Str.{encode_utf8_all}
 use Rattle.std.proofs.lemmas.Option.{get_or_from_slice_get}
@@ -18,10 +18,10 @@ grown p leaders index most old now a e b =
     events_below old now (before p.classes leaders index p.records) most (length p.bytes) e (chosen_within p.classes (is_before p.classes leaders index) p.records (length p.bytes) (records_within p.bytes p.records a.records)) b
 
 -- The tally of a class may be added.
-fits : (p : Parts) (leaders : List ℕ) (index : ℕ) (old now : Tallies) (ts : List Tally) (name : List ℕ) (none : Tally) → AreParts p → length p.bytes < 2 ^ 28 → AreBelow (2 ^ 63) old → AddsEvents old (before p.classes leaders index p.records) now → AreTallies p.classes leaders p.records ts → index < length p.classes → FitsUnder now name (get_or ts index none)
+fits : (p : Parts) (leaders : List ℕ) (index : ℕ) (old now : Tallies) (ts : List Tally) (name : List ℕ) (none : Tally) → AreParts p → length p.bytes < 2 ^ 30 → AreBelow (2 ^ 30 * 17000000000) old → AddsEvents old (before p.classes leaders index p.records) now → AreTallies p.classes leaders p.records ts → index < length p.classes → FitsUnder now name (get_or ts index none)
 fits p leaders index old now ts name none a small b e counted within =
     let t : get_or ts index none ≡ class_tally p.classes leaders p.records index = get_or_from_slice_get ts index (class_tally p.classes leaders p.records index) none (counted.each index within) in
-    subst (FitsUnder now name) (sym t) (below_fits now name (class_tally p.classes leaders p.records index) (2 ^ 63 + length p.bytes) (length p.bytes) (grown p leaders index (2 ^ 63) old now a e b)
+    subst (FitsUnder now name) (sym t) (below_fits now name (class_tally p.classes leaders p.records index) (2 ^ 30 * 17000000000 + length p.bytes) (length p.bytes) (grown p leaders index (2 ^ 30 * 17000000000) old now a e b)
     (chosen_within p.classes (is_at p.classes leaders index) p.records (length p.bytes) (records_within p.bytes p.records a.records)) (omega arith))
 
 -- The next class is added.

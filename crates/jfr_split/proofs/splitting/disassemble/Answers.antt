@@ -1,18 +1,29 @@
+use Rattle.std.proofs.Common.{◌∙◌, sym, subst, []}
+use Rattle.jfr_header.specs.declared.ending.Ending.{Ending}
 use Rattle.jfr_plan.specs.Ends.{way_of}
 use Rattle.jfr_plan.specs.Effects.{alone}
-use Rattle.jfr_plan.specs.Walks.{Parts}
-use Rattle.jfr_plan.proofs.Clauses.{complete_clause, writes_clause}
+use Rattle.jfr_plan.specs.Outcomes.{After}
+use Rattle.jfr_plan.proofs.Clauses.{ran_over}
 use Rattle.jfr_split.specs.Splits.{splitting}
 use Rattle.jfr_split.proofs.Creating.{can_create}
+use Rattle.jfr_split.proofs.Fold.{of_none}
 use Rattle.jfr_split.proofs.splitting.disassemble.Goals as goal
 
-pub returns-clause-complete : goal.returns-clause-complete
-returns-clause-complete g c =
-    complete_clause (splitting c.args.rule.now c.args.file.now) c.args.file.now (way_of c.split_each.result) (alone (g.P.Place.state c.args.place.now)) (alone (g.P.Place.state c.split_each.new.place)) c.split_each.ensures.told c.split_each.ensures.counts
+pub returns-clause-ran : goal.returns-clause-ran
+returns-clause-ran g c =
+    let a = alone (g.P.Place.state c.args.place.now) in
+    let b = alone (g.P.Place.state c.run_stage.new.place) in
+    let told = c.run_stage.ensures.told [] (of_none c.args.rule.now ∙ sym c.none.ensures) (c.first-at.ensures.start, c.first-at.ensures.number) in
+    ran_over (splitting c.args.rule.now c.args.file.now) c.args.file.now c.run_stage.result a b told c.run_stage.ensures.counts
+
+pub returns-clause-too_many : goal.returns-clause-too_many
+returns-clause-too_many g c = λ e.
+    let told = c.run_stage.ensures.told [] (of_none c.args.rule.now ∙ sym c.none.ensures) (c.first-at.ensures.start, c.first-at.ensures.number) in
+    subst (λ (y : Ending). After (splitting c.args.rule.now c.args.file.now) [] c.args.file.now (way_of y) (alone (g.P.Place.state c.args.place.now)) (alone (g.P.Place.state c.run_stage.new.place))) e told
 
 pub returns-clause-can_create : goal.returns-clause-can_create
 returns-clause-can_create g c = λ can.
     let a = alone (g.P.Place.state c.args.place.now) in
-    let b = alone (g.P.Place.state c.split_each.new.place) in
-    let no = can_create c.args.rule.now c.args.file.now c.split_each.result a b c.requires can c.split_each.ensures.told in
-    (no, writes_clause Parts c.split_each.result a b c.split_each.ensures.counts no)
+    let b = alone (g.P.Place.state c.run_stage.new.place) in
+    let told = c.run_stage.ensures.told [] (of_none c.args.rule.now ∙ sym c.none.ensures) (c.first-at.ensures.start, c.first-at.ensures.number) in
+    can_create c.args.rule.now c.args.file.now c.run_stage.result a b c.requires told c.run_stage.ensures.counts can

@@ -1,4 +1,4 @@
--- The next field comes first, and the frame that is pushed has those behind it.
+-- The next field comes first, and the frame that is pushed has those after it.
 use Rattle.std.proofs.Common.{get_or, sym, subst, arith, refl}
 use Rattle.std.specs.Prelude.{◌+◌, ◌*◌, ◌++◌, ℕ, length, List}
 use Rattle.jfr_layout.specs.declared.shape.Shape.{Shape}

@@ -1,4 +1,4 @@
--- The next item comes first, and the frame that is pushed has those behind it.
+-- The next item comes first, and the frame that is pushed has those after it.
 use Rattle.std.proofs.Common.{sym, subst, arith, refl}
 use Rattle.std.specs.Prelude.{◌+◌, ◌*◌, ◌-◌, ◌++◌, ℕ, length, List}
 use Rattle.jfr_layout.specs.declared.shape.Shape.{Shape}

@@ -1,4 +1,4 @@
--- A node has a field where it is an inline value of a composite class that has it.
+-- A node has a field if it is an inline value of a composite class that has it.
 use Rattle.std.proofs.Common.{sym, ◌∙◌}
 use Rattle.jfr_value.specs.declared.node.Step.TheVariants as steps
 use Rattle.jfr_value.specs.Nodes.{node_of}

@@ -1,4 +1,4 @@
--- A node has an item where it is an array that has it.
+-- A node has an item if it is an array that has it.
 use Rattle.std.proofs.Common.{◌≡◌, length, sym, ◌∙◌, ap, subst, arith}
 use Rattle.std.specs.Prelude.{replicate, IsSome}
 use Rattle.std.proofs.lemmas.List.{length-replicate}

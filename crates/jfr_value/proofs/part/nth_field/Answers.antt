@@ -1,4 +1,4 @@
--- The loop stands at the start of a field, and each field ends where the next begins.
+-- The loop is at the start of a field, and each field ends where the next begins.
 use Rattle.std.proofs.Common.{◌≡◌, get_or, sym, ◌∙◌, ap, arith}
 use Rattle.std.specs.Prelude.{Some, map}
 use Rattle.jfr_value.specs.Nodes.{node_at}

@@ -1,4 +1,4 @@
--- The loop stands at the start of an item, and each item ends where the next begins.
+-- The loop is at the start of an item, and each item ends where the next begins.
 use Rattle.std.proofs.Common.{◌≡◌, ◌<◌, sym, ◌∙◌, ap, arith}
 use Rattle.std.specs.Prelude.{Some, replicate}
 use Rattle.jfr_value.specs.Nodes.{node_at}

@@ -1,4 +1,4 @@
--- Each part of a value where it stands, and what it comes to.
+-- Each part of a value, and what visiting it gives.
 use Rattle.std.proofs.Common.{◌≡◌, ℕ, ◌+◌, ◌-◌, ◌<◌, ◌≤◌, length, refl, sym, ◌∙◌, ap, subst, arith, get_or, rules}
 use Rattle.std.specs.Prelude.{IsSome, IfSome, IsOk, IfOk, option_map, option_to_list, replicate}
 use Rattle.jfr_layout.specs.Classes.{item_of}

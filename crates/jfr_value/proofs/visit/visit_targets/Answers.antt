@@ -1,4 +1,4 @@
--- The value that stands there is the node's.
+-- The value that is visited is the node's.
 use Rattle.std.proofs.Common.{subst, sym, ap, length, arith}
 use Rattle.jfr_layout.specs.declared.shape.Shape.{Shape}
 use Rattle.jfr_value.specs.Nodes.{IsNode, node_at, node_of}

@@ -1,4 +1,4 @@
--- The value of an entry stands where the chunk says.
+-- The value of an entry is at the offset that the chunk has for it.
 use Rattle.std.proofs.Common.{◌≡◌, ap, sym, ◌∙◌, subst}
 use Rattle.std.specs.Prelude.{Some, slice_get, option_copied}
 use Rattle.jfr_value.specs.Nodes.{node_at}

@@ -1,5 +1,5 @@
 use Rattle.std.proofs.Common.{◌<◌, ◌^◌, arith, length, sym}
-use Rattle.jfr_chunk.proofs.ForceLaws.{force_within}
+use Rattle.jfr_pool.proofs.ForceLaws.{force_within}
 use Rattle.jfr_chunk.proofs.refs.ConstantRefsVisitPools.visit.Goals as goal
 
 pub add-requires : goal.add-requires

@@ -1,27 +1,36 @@
-use Rattle.std.proofs.Common.{◌≡◌, IfOk, ap, subst, ◌∙◌}
-use Rattle.std.specs.Prelude.{codes}
+use Rattle.std.proofs.Common.{◌≡◌, None, ap, sym, subst, ◌∙◌}
+use Rattle.std.specs.Prelude.{codes, option_and_then}
 use Rattle.std.specs.Str.{chars}
 use Rattle.jfr_filter.specs.Filters.{allows_thread}
 use Rattle.jfr_value.specs.Nodes.{node_of}
 use Rattle.jfr_chunk.specs.Parts.{Parts}
-use Rattle.jfr_chunk.specs.Paths.{text_of}
-use Rattle.jfr_path.specs.Threads.{Asked, allows_behind, text_behind}
-use Rattle.jfr_path.proofs.NameLaws.{field_there, field_none}
+use Rattle.jfr_chunk.specs.Paths.{follow_while, is_reference, named_field, text_of}
+use Rattle.jfr_path.specs.Threads.{Asked, allows_behind, said_of}
+use Rattle.jfr_path.proofs.TextVerdictLaws.{first_says, second_says, none_says}
 use Rattle.jfr_path.proofs.texts.TextVerdicts.allows_behind.Goals as goal
 
 pub returns-in-Some-clause-ok : goal.returns-in-Some-clause-ok
 unfolding chars
 returns-in-Some-clause-ok c =
-    let thread = node_of c.args.thread.now in
-    let name = node_of c.in-Some.name in
-    let there = field_there c.self.inside.chunk.now (codes "javaName") thread (node_of c.behind_references-holder.result) name c.behind_references-holder.ensures.exact c.in-Some.ensures.exact in
-    let text = subst (λ (z : Parts). text_of z name ≡ text_behind z thread) (ap (λ (z : Asked). z.chunk) c.self.view_is) there in
-    subst (λ z. IfOk c.allows.result (λ allowed. allowed ≡ allows_thread c.args.self.now.filter z)) text c.allows.ensures.ok
+    let self = c.args.self.now in
+    let holder = subst (λ (z : Asked). node_of c.behind_references-holder.result ≡ follow_while 16 is_reference z.chunk (node_of c.args.thread.now)) c.self.view_is c.behind_references-holder.ensures.exact in
+    first_says self.filter self.chunk (node_of c.args.thread.now) (node_of c.behind_references-holder.result) holder c.in-Some.allowed (sym c.in_ok-allowed.ensures.ok ∙ c.in-Some.is)
 
-pub returns-in-None-clause-ok : goal.returns-in-None-clause-ok
+pub returns-in-Some-2-clause-ok : goal.returns-in-Some-2-clause-ok
 unfolding chars
-returns-in-None-clause-ok c =
-    let self = c.self.inside in
-    let thread = node_of c.args.thread.now in
-    let none = field_none self.chunk.now (codes "javaName") thread (node_of c.behind_references-holder.result) c.behind_references-holder.ensures.exact c.in-None.ensures.exact in
-    subst (λ (z : Asked). c.allows_thread.result ≡ allows_behind z.filter z.chunk thread) c.self.view_is (c.allows_thread.ensures ∙ ap (allows_thread self.filter.now) none)
+returns-in-Some-2-clause-ok c =
+    let self = c.args.self.now in
+    let holder = subst (λ (z : Asked). node_of c.behind_references-holder.result ≡ follow_while 16 is_reference z.chunk (node_of c.args.thread.now)) c.self.view_is c.behind_references-holder.ensures.exact in
+    let same = c.in_ok-allowed.ensures.same in
+    let second = ap (λ (z : Asked). said_of z.filter (option_and_then (text_of z.chunk) (named_field z.chunk (codes "osName") (node_of c.behind_references-holder.result)))) (sym same) ∙ (sym c.in_ok-allowed-2.ensures.ok ∙ c.in-Some-2.is) in
+    second_says self.filter self.chunk (node_of c.args.thread.now) (node_of c.behind_references-holder.result) holder c.in-Some-2.allowed (sym c.in_ok-allowed.ensures.ok ∙ c.in_default.is) second
+
+pub returns-clause-ok : goal.returns-clause-ok
+unfolding chars
+returns-clause-ok c =
+    let self = c.args.self.now in
+    let holder = subst (λ (z : Asked). node_of c.behind_references-holder.result ≡ follow_while 16 is_reference z.chunk (node_of c.args.thread.now)) c.self.view_is c.behind_references-holder.ensures.exact in
+    let same = c.in_ok-allowed.ensures.same in
+    let second = ap (λ (z : Asked). said_of z.filter (option_and_then (text_of z.chunk) (named_field z.chunk (codes "osName") (node_of c.behind_references-holder.result)))) (sym same) ∙ (sym c.in_ok-allowed-2.ensures.ok ∙ c.in_default-2.is) in
+    let last = ap (λ (z : Asked). allows_thread z.filter None) (c.self-2.view_is ∙ (c.in_ok-allowed-2.ensures.same ∙ same)) in
+    c.allows_thread.ensures ∙ (last ∙ none_says self.filter self.chunk (node_of c.args.thread.now) (node_of c.behind_references-holder.result) holder (sym c.in_ok-allowed.ensures.ok ∙ c.in_default.is) second)

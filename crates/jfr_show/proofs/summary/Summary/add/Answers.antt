@@ -1,4 +1,4 @@
-use Rattle.std.proofs.Common.{rules, ◌≡◌, ◌+◌, ◌^◌, ◌<◌, ◌≤◌, Some, ap, arith, length, subst, sym, ◌∙◌}
+use Rattle.std.proofs.Common.{◌*◌, rules, ◌≡◌, ◌+◌, ◌^◌, ◌<◌, ◌≤◌, Some, ap, arith, length, subst, sym, ◌∙◌}
 use Rattle.std.specs.Option.{option_or}
 use Rattle.std.proofs.lemmas.List.{length-reverse}
 use Rattle.std.proofs.lemmas.Result.{on_ok_weaker}
@@ -60,16 +60,16 @@ add_events-requires-clause-below c =
     let i = c.self.invariant in
     let a = i.chunks in
     let b = i.bytes in
-    below_more c.self.inside.bytes (2 ^ 63) (tallies_in c.self.inside.tallies) (omega arith) i.tallies
+    below_more c.self.inside.bytes (2 ^ 30 * 17000000000) (tallies_in c.self.inside.tallies) (omega arith) i.tallies
 
 pub invariant_of-self : goal.invariant_of-self
 invariant_of-self c =
     let p = c.args.chunk.now in
     let i = c.self.invariant in
-    let whole : length p.bytes < 2 ^ 28 = whole_small p.bytes c.bytes.ensures.whole in
+    let whole : length p.bytes < 2 ^ 30 = whole_small p.bytes c.bytes.ensures.whole in
     let size : length c.bytes.result.now ≡ length p.bytes = ap length c.bytes.ensures.exact in
     let short = chunk_short p c.bytes.ensures.parts in
-    let few : c.self.inside.chunks < 2 ^ 35 = subst (λ (t : Totals). t.chunks < 2 ^ 35) (sym c.self.view_is) c.requires in
+    let few : c.self.inside.chunks < 17000000000 = subst (λ (t : Totals). t.chunks < 17000000000) (sym c.self.view_is) c.requires in
     let long : c.from.result < 2 ^ 64 = search rules in
     let e : c.event_count.result ≤ length p.bytes = subst (λ n. n ≤ length p.bytes) (sym c.event_count.ensures) short.events in
     let l = c.len.ensures ∙ (sym (length-reverse c.chain.result.now) ∙ ap length c.chain.ensures) in
@@ -98,3 +98,10 @@ returns c = record {
       })
       adds) c.add_events.ensures.ok;
 }
+
+pub overflow_add-self-2 : goal.overflow_add-self-2
+overflow_add-self-2 c =
+    let p = c.args.chunk.now in
+    let i = c.self.invariant in
+    let size : length c.bytes.result.now ≡ length p.bytes = ap length c.bytes.ensures.exact in
+    omega (arith, sum_fits c.self.inside.bytes (length c.bytes.result.now) c.self.inside.bytes c.self.inside.chunks (length p.bytes) i.chunks i.bytes (omega arith) (omega arith) (whole_small p.bytes c.bytes.ensures.whole))

@@ -4,7 +4,7 @@ use Rattle.jfr_text.proofs.DecodingSteps.{decode_none, decode_lone, decode_last,
 use Rattle.jfr_text.proofs.ListSteps.{goes_on}
 use Rattle.jfr_text.proofs.utf16.Utf16Iterator.next.Goals as goal
 
--- What is left is what the units say, where none is held.
+-- If no unit is held, what is left is the characters of the units.
 decoded : (x : ℕ) (all rest : List ℕ) (held : Option ℕ) (y : ℕ) → held ≡ None → all ≡ x ∷ utf16_lossy_chars rest → y ≡ x → all ≡ y ∷ utf16_lossy_chars (option_to_list held ++ rest)
 decoded x all rest held y n e f = e ∙ (ap (λ z. z ∷ utf16_lossy_chars rest) (sym f) ∙ ap (λ h. y ∷ utf16_lossy_chars (option_to_list h ++ rest)) (sym n))
 

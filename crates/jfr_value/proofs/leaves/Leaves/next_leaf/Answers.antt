@@ -1,4 +1,4 @@
--- What is left of the walk are the leaves after the one that is handed out.
+-- The leaves after the one that is returned are left.
 use Rattle.std.proofs.Common.{ap, ◌∙◌, sym}
 use Rattle.std.specs.Prelude.{◌∷◌}
 use Rattle.jfr_value.specs.Leaves.{leaf_of}

@@ -1,0 +1,173 @@
+-- What is built anew of the metadata record of a chunk is a record, and describes the classes that stay.
+use Rattle.std.specs.Prelude.{◌≡◌, ℕ, zero, suc, ◌+◌, ◌-◌, ◌^◌, ◌<◌, ◌≤◌, Bool, true, false, ◌&&◌, ◌||◌, ◌==◌, nat_lt, nat_le, List, [], ◌∷◌, length, map, find, Option, Some, None, Result, Ok, Err, is_some, Contains, if◌then◌else◌, ◌⊎◌}
+use lib.Utf8.{scalars}
+use Rattle.std.specs.List.{AllByRecursion, list_any, list_all}
+use Rattle.std.specs.Str.{chars, encode_utf8_all}
+use Rattle.std.proofs.lemmas.Str.{chars-encodes}
+use Rattle.std.specs.Option.{option_map_or}
+use Rattle.std.proofs.Common.{ap, arith, refl, sym, ◌∙◌, subst, inl, inr}
+use Rattle.std.proofs.lemmas.Bool.Decides.{nat_tests}
+use Rattle.std.proofs.lemmas.List.Elements.{All-contains}
+use Rattle.jfr_base.specs.Formats.{Reads}
+use Rattle.jfr_base.proofs.HoldLaws.{Holds}
+use Rattle.jfr_layout.specs.Classes.{Class, Classes, Sound, Agree, find_class, has_id, is_event_class, extends_event}
+use Rattle.jfr_frame.specs.declared.framed.Framed.{Framed}
+use Rattle.jfr_frame.specs.Records.{IsRecord, record_end, record_bytes}
+use Rattle.jfr_frame.proofs.RecordLaws.{record_one}
+use Rattle.jfr_meta.specs.Trees.{Tree, Node, Trees, Nil, Cons, place_of}
+use Rattle.jfr_meta.specs.Body.{Body, IsElement, AreElements, meta_format}
+use Rattle.jfr_meta.specs.Described.{class_elements, class_flaws, described, IsMetadata}
+use Rattle.jfr_meta.specs.Written.{IsText, HasIndices, bare, depth, depths, table_bytes}
+use Rattle.jfr_meta.specs.Laws.{RootStands}
+use Rattle.jfr_meta.proofs.Bare.{described_bare}
+use Rattle.jfr_meta.proofs.ElementsStand.{root_stands}
+use Rattle.jfr_chunk.specs.Parts.{Parts, EventAt, AreParts, events_of, event_records, metadata_at}
+use Rattle.jfr_chunk.specs.Laws.{AreEvents}
+use Rattle.jfr_chunk.proofs.AllLaws.{all_in, in_filter}
+use Rattle.jfr_worklist.proofs.Members.{In, contains_in, in_contains}
+use Rattle.jfr_chunk.proofs.StandingLaws.{standing}
+use Rattle.jfr_chunk.proofs.TestLaws.{is_eq}
+use Rattle.jfr_layout.specs.Staying.{staying}
+use Rattle.jfr_meta.specs.Stays.{ids_below, HasHead, HasNamed, IsStay, stay_of}
+use Rattle.jfr_meta.specs.Slimmed.{slim_body, bytes_of_body, table_len, IsSlim, slim_in}
+use Rattle.jfr_chunk.specs.Metas.{used_by, stays_in, slim_of, rebuilt, metadata_size, classes_left}
+use Rattle.jfr_chunk.specs.Scrub.{written_anew}
+use Rattle.jfr_laws.proofs.Agrees.{agree_on_event}
+use Rattle.jfr_laws.proofs.Anew.{own_bytes}
+use Rattle.jfr_laws.proofs.Chosen.{is_kept}
+use Rattle.jfr_laws.proofs.Copied.{copied_to}
+use Rattle.jfr_laws.proofs.Five.{StandsAnew, read_back}
+use Rattle.jfr_laws.proofs.Found.{shown_bytes, shown_frame}
+use Rattle.jfr_laws.proofs.Listed.{in_any, in_map, in_passes}
+use Rattle.jfr_meta.proofs.Lists.{nothing_each}
+use Rattle.jfr_laws.proofs.Metadata.{metadata_copied}
+use Rattle.jfr_laws.proofs.OutputRecords.{own_frame}
+use Rattle.jfr_laws.proofs.Premises.{GoodAnew, metadata_stands, recorded}
+use Rattle.jfr_laws.proofs.ReadBack.{moved_frame}
+use Rattle.jfr_meta.proofs.SlimLaws.{Describes, told_well, is_slim}
+use Rattle.jfr_meta.proofs.StayLaws.{is_stay}
+use Rattle.jfr_layout.proofs.StayingLaws.{stay_well, staying_sound}
+use Rattle.jfr_meta.proofs.SlimClasses.{fields_closed}
+
+-- A tree that is spelled by bytes has at most the allowed number of levels.
+mutual
+  element_depth : (x : List ℕ) (limit levels p q : ℕ) (t : Tree) → IsElement x limit levels p q t → depth t ≤ levels
+  element_depth x limit levels p q (Node place name pairs children) e =
+      let d = elements_depth x limit (levels - 1) e.5 q children e.11 in
+      let o : 0 < levels = e.1 in
+      omega arith
+
+  elements_depth : (x : List ℕ) (limit levels p q : ℕ) (ts : Trees) → AreElements x limit levels p q ts → depths ts ≤ levels
+  elements_depth x limit levels p q Nil e = omega arith
+  elements_depth x limit levels p q (Cons t ts) e = omega (arith, element_depth x limit levels p e.0 t e.1, elements_depth x limit levels e.0 q ts e.2)
+
+pub and_parts : (t u : Bool) → (t && u) ≡ true → (t ≡ true) × (u ≡ true)
+and_parts true true e = (refl, refl)
+and_parts true false e = cc
+and_parts false u e = cc
+
+-- Texts, by their characters.
+text_of : (cs : List ℕ) → scalars cs ≡ true → IsText cs
+text_of cs e = (encode_utf8_all cs, (cs, (e, refl)), chars-encodes cs e)
+
+texts_of : (xs : List (List ℕ)) → list_all scalars xs ≡ true → AllByRecursion IsText xs
+texts_of [] e = tt
+texts_of (x ∷ xs) e = let h = and_parts (scalars x) (list_all scalars xs) e in (text_of x h.0, texts_of xs h.1)
+
+-- What is built anew has few bytes.
+pub record IsAnew (p : Parts) (kept : List EventAt) (room : ℕ) (x : List ℕ) : Type 0 where
+  pub bytes : x ≡ bytes_of_body (slim_of p kept)
+  pub all : list_all scalars (slim_of p kept).strings ≡ true
+  pub small : table_len (slim_of p kept) < 536870912
+  pub fits : length x ≤ room
+
+pub is_anew : (p : Parts) (kept : List EventAt) (room : ℕ) (x : List ℕ) → rebuilt p kept room ≡ Some x → IsAnew p kept room x
+unfolding rebuilt slim_in
+is_anew p kept room x e =
+    by_tests (list_all scalars (slim_of p kept).strings) refl (nat_lt (table_len (slim_of p kept)) (2 ^ 29)) refl (nat_le (length (bytes_of_body (slim_of p kept))) room) refl e
+  where
+    by_tests : (s : Bool) → list_all scalars (slim_of p kept).strings ≡ s → (t : Bool) → nat_lt (table_len (slim_of p kept)) (2 ^ 29) ≡ t → (u : Bool) → nat_le (length (bytes_of_body (slim_of p kept))) room ≡ u
+        → (if s then (if t && u then Some (bytes_of_body (slim_of p kept)) else None) else None) ≡ Some x → IsAnew p kept room x
+    by_tests true v true q true r e =
+        let h : x ≡ bytes_of_body (slim_of p kept) = cc in
+        let l : length (bytes_of_body (slim_of p kept)) ≤ room = grind (arith, nat_tests) in
+        record { bytes = h; all = v; small = grind (arith, nat_tests); fits = omega (arith, ap length h) }
+    by_tests true v true q false r e = cc
+    by_tests true v false q u r e = cc
+    by_tests false v t q u r e = cc
+
+anew_room : (p : Parts) (kept : List EventAt) (r : Framed) (x : List ℕ) → written_anew p kept r ≡ Some x → rebuilt p kept r.size ≡ Some x
+anew_room p kept r x e = by_test (r.at == metadata_at p.bytes) e
+  where
+    by_test : (t : Bool) → (if t then rebuilt p kept r.size else None) ≡ Some x → rebuilt p kept r.size ≡ Some x
+    by_test true e = e
+    by_test false e = cc
+
+pub some_class : (k : Classes) (id : ℕ) → is_event_class k id ≡ true → (c : Class) × (find_class k id ≡ Some c)
+unfolding is_event_class
+some_class k id e = by_class (find_class k id) refl (and_parts (nat_lt 1 id) (option_map_or extends_event (find_class k id) false) e).1
+  where
+    by_class : (o : Option Class) → find_class k id ≡ o → option_map_or extends_event o false ≡ true → (c : Class) × (find_class k id ≡ Some c)
+    by_class None q e = cc
+    by_class (Some c) q e = (c, q)
+
+pub any_of : (k : Classes) (id : ℕ) (c : Class) → find_class k id ≡ Some c → has_id k id ≡ true
+any_of [] id c e = cc
+any_of (d ∷ k) id c e = by_test (d.id == id) e (any_of k id c)
+  where
+    by_test : (b : Bool) → (if b then Some d else find_class k id) ≡ Some c → (find_class k id ≡ Some c → has_id k id ≡ true) → (b || has_id k id) ≡ true
+    by_test true e g = refl
+    by_test false e g = g e
+
+module _ (p : Parts) (a : AreParts p) (kept : List EventAt) where
+  abbrev k : Classes
+  k = p.classes
+
+  abbrev used : ℕ → Bool
+  used = used_by kept
+
+  abbrev stays : ℕ → Bool
+  stays = stays_in p kept
+
+  pub d : Describes p.body.strings (class_elements p.body.strings p.body.root) p.classes
+  unfolding described
+  d = told_well p.body.strings (place_of p.body.root) (class_elements p.body.strings p.body.root) p.classes a.metadata.classes
+
+  abbrev ts : List Tree
+  ts = d.elements
+
+  pub stays_is : stays ≡ stay_of p.body.strings ts k used
+  unfolding stays_in
+  stays_is = λ i id. option_map_or (λ ts. stay_of p.body.strings ts k used id) (d.there i) false
+
+  pub stay : IsStay p.body.strings ts k used stays
+  stay = subst (IsStay p.body.strings ts k used) (sym stays_is) (is_stay p.body.strings ts k used (sym d.classes) d.sound (nothing_each (class_flaws p.body.strings) ts d.good))
+
+  closed : (us : List Tree) → class_elements p.body.strings p.body.root ≡ Some us → (t : Tree) (id other : ℕ) → Contains us t → HasHead p.body.strings t id → stays id ≡ true → Contains (ids_below p.body.strings t) other → has_id k other ≡ true → stays other ≡ true
+  closed us e t id other i h s n o =
+      let q : us ≡ ts = (let z : Some us ≡ Some ts = sym e ∙ d.there in cc) in
+      stay.has.names t id other (subst (λ z. Contains z t) q i) h s n o
+
+  pub slim : IsSlim p.body p.classes stays
+  slim = is_slim p.body p.classes stays a.metadata.classes closed
+
+  pub left_sound : Sound (staying stays k)
+  left_sound = staying_sound k stays d.sound (fields_closed p.body.strings ts k stays (sym d.classes) (closed ts d.there) (nothing_each (class_flaws p.body.strings) ts d.good) d.sound)
+
+  pub agree_left : (id : ℕ) (c : Class) → find_class k id ≡ Some c → stays id ≡ true → Agree k (staying stays k) id
+  agree_left id c e s = (stay_well k stays d.sound (fields_closed p.body.strings ts k stays (sym d.classes) (closed ts d.there) (nothing_each (class_flaws p.body.strings) ts d.good) d.sound)).agree id c e s
+
+  shallow : depth p.body.root ≤ 16
+  shallow =
+      let r = root_stands p.bytes a.metadata_record p.body p.classes a.metadata in
+      element_depth p.bytes (length p.body.strings) 16 r.behind_strings (record_end a.metadata_record) p.body.root r.root
+
+  pub stands_anew : (room : ℕ) (x : List ℕ) → IsAnew p kept room x → StandsAnew x (slim_of p kept)
+  unfolding slim_body
+  stands_anew room x n =
+      read_back p.body.start p.body.duration p.body.id (slim_of p kept).strings (slim_of p kept).root x slim.indices (omega (arith, slim.levels, shallow)) n.small (texts_of (slim_of p kept).strings n.all) n.bytes
+
+  pub good_anew : GoodAnew p.bytes (written_anew p kept)
+  good_anew r x i e =
+      let n = is_anew p kept r.size x (anew_room p kept r x e) in
+      ((stands_anew r.size x n).is_record, n.fits)

@@ -1,0 +1,149 @@
+-- The classes of what is written suit what is kept, and its metadata record describes them.
+use Rattle.std.specs.Prelude.{◌≡◌, ℕ, zero, suc, ◌+◌, ◌≤◌, Bool, true, false, not, ◌&&◌, ◌||◌, ◌==◌, List, [], ◌∷◌, length, find, Option, Some, None, Ok, Contains, if◌then◌else◌, ◌⊎◌}
+use Rattle.std.specs.List.{AllByRecursion, list_any}
+use Rattle.std.specs.Option.{option_map_or}
+use Rattle.std.proofs.Common.{ap, arith, refl, sym, ◌∙◌, subst, inl, inr}
+use Rattle.std.proofs.lemmas.Bool.{eq-eqb}
+use Rattle.std.proofs.lemmas.Bool.Decides.{nat_tests}
+use Rattle.std.proofs.lemmas.List.Elements.{All-contains}
+use Rattle.jfr_base.specs.Formats.{Reads}
+use Rattle.jfr_base.proofs.HoldLaws.{Holds}
+use Rattle.jfr_layout.specs.Classes.{Class, Classes, Sound, Agree, find_class, has_id, is_event_class}
+use Rattle.jfr_frame.specs.declared.framed.Framed.{Framed}
+use Rattle.jfr_frame.specs.Records.{IsRecord, record_end, record_bytes}
+use Rattle.jfr_frame.proofs.RecordLaws.{record_one}
+use Rattle.jfr_meta.specs.Trees.{Tree}
+use Rattle.jfr_meta.specs.Body.{Body, meta_format}
+use Rattle.jfr_meta.specs.Described.{described, IsMetadata}
+use Rattle.jfr_meta.specs.Written.{IsText}
+use Rattle.jfr_meta.proofs.Bare.{described_bare}
+use Rattle.jfr_chunk.specs.Parts.{Parts, EventAt, AreParts, events_of, event_records, metadata_at}
+use Rattle.jfr_chunk.specs.Laws.{AreEvents, SameRecords}
+use Rattle.jfr_chunk.proofs.AllLaws.{all_in}
+use Rattle.jfr_worklist.proofs.Members.{In, contains_in, in_contains}
+use Rattle.jfr_chunk.proofs.StandingLaws.{standing}
+use Rattle.jfr_chunk.proofs.TestLaws.{is_eq}
+use Rattle.jfr_layout.specs.Staying.{staying}
+use Rattle.jfr_meta.specs.Slimmed.{slim_body}
+use Rattle.jfr_chunk.specs.Metas.{used_by, stays_in, slim_of, rebuilt, metadata_size, classes_left}
+use Rattle.jfr_chunk.specs.Scrub.{written_anew}
+use Rattle.jfr_laws.proofs.Agrees.{agree_on_event}
+use Rattle.jfr_laws.proofs.Anew.{own_bytes}
+use Rattle.jfr_laws.proofs.AnewLaws as laws
+use Rattle.jfr_laws.proofs.AnewLaws.{IsAnew, is_anew, and_parts, some_class, any_of, left_sound, slim, stay, stands_anew}
+use Rattle.jfr_laws.proofs.Found.{shown_bytes, shown_frame}
+use Rattle.jfr_laws.proofs.Five.{StandsAnew}
+use Rattle.jfr_laws.proofs.Listed.{in_any, in_map, in_passes}
+use Rattle.jfr_laws.proofs.Metadata.{SameBody, metadata_copied}
+use Rattle.jfr_laws.proofs.OutputRecords.{own_frame}
+use Rattle.jfr_laws.proofs.Premises.{metadata_stands, recorded}
+use Rattle.jfr_laws.proofs.ReadBack.{moved_frame}
+use Rattle.jfr_laws.proofs.Same.{event_records_of}
+use Rattle.jfr_layout.proofs.StayingLaws.{found_staying, found_as_before, events_staying, stay_well}
+use Rattle.jfr_meta.proofs.Lists.{nothing_each}
+use Rattle.jfr_laws.proofs.Suits.{Suits}
+use Rattle.jfr_laws.proofs.Whole.{metadata_new, shown_body, MetadataReads}
+
+pub record Anew (p : Parts) (a : AreParts p) (kept : List EventAt) : Type 0 where
+  pub classes : Classes
+  pub left : classes ≡ classes_left p kept
+  pub suits : Suits p kept classes
+  pub reads : MetadataReads p kept a classes
+
+module _ (p : Parts) (a : AreParts p) where
+  -- The metadata record is found among the records.
+  found_first : (rs : List Framed) → AllByRecursion (IsRecord p.bytes) rs → In rs a.metadata_record → find (λ r. r.at == metadata_at p.bytes) rs ≡ Some a.metadata_record
+  found_first [] s i = absurd i
+  found_first (r ∷ rs) s i = by_test (r.at == metadata_at p.bytes) refl i (found_first rs s.1)
+    where
+      by_test : (t : Bool) → (r.at == metadata_at p.bytes) ≡ t → (r ≡ a.metadata_record) ⊎ In rs a.metadata_record → (In rs a.metadata_record → find (λ r. r.at == metadata_at p.bytes) rs ≡ Some a.metadata_record)
+          → (if t then Some r else find (λ r. r.at == metadata_at p.bytes) rs) ≡ Some a.metadata_record
+      by_test true e i f =
+          let h : r.at ≡ metadata_at p.bytes = grind (arith, nat_tests) in
+          ap (λ z. Some z) (record_one p.bytes r a.metadata_record s.0 (metadata_stands p a) (h ∙ sym a.metadata_there.place))
+      by_test false e (inl g) f = let h : true ≡ false = sym (is_eq r.at (metadata_at p.bytes) (ap (λ (z : Framed). z.at) g ∙ a.metadata_there.place)) ∙ e in cc
+      by_test false e (inr j) f = f j
+
+  pub size_is : metadata_size p ≡ a.metadata_record.size
+  size_is = ap (λ o. option_map_or (λ (r : Framed). r.size) o 0) (found_first p.records (recorded p a) (contains_in p.records a.metadata_record a.metadata_there.listed))
+
+module _ (p : Parts) (a : AreParts p) (kept : List EventAt) (are : AreEvents p kept) where
+  -- A kept event is of an event class.
+  is_event : (e : EventAt) → In kept e → is_event_class p.classes e.record_of.type_id ≡ true
+  is_event e i =
+      let j : In (events_of p) e = contains_in (events_of p) e (All-contains (Contains (events_of p)) kept e are (in_contains kept e i)) in
+      in_passes (λ (r : Framed). is_event_class p.classes r.type_id) p.records e.record_of (subst (λ z. In z e.record_of) (event_records_of p a) (in_map (λ (e : EventAt). e.record_of) (events_of p) e j))
+
+  suits_all : Suits p kept p.classes
+  suits_all = record { sound = (standing p a).sound; agree = λ id e. agree_on_event p.classes id (standing p a).sound e; before = λ id e. e; event = is_event }
+
+  abbrev stays : ℕ → Bool
+  stays = stays_in p kept
+
+  used_stays : (e : EventAt) → In kept e → stays e.record_of.type_id ≡ true
+  used_stays e i =
+      let c = some_class p.classes e.record_of.type_id (is_event e i) in
+      (stay p a kept).has.uses e.record_of.type_id (any_of p.classes e.record_of.type_id c.0 c.1)
+      (in_any (λ (f : EventAt). f.record_of.type_id == e.record_of.type_id) kept e i (eq-eqb e.record_of.type_id e.record_of.type_id refl))
+
+  both : (t u : Bool) → t ≡ true → u ≡ true → (t && u) ≡ true
+  both t u e f = ap (λ b. b && u) e ∙ f
+
+  suits_left : Suits p kept (staying stays p.classes)
+  suits_left = record {
+    sound = left_sound p a kept;
+    agree = λ id e.
+        (let h = and_parts (stays id) (is_event_class p.classes id) (sym (events_staying p.classes stays id) ∙ e) in
+        let c = some_class p.classes id h.1 in
+        laws.agree_left p a kept id c.0 c.1 h.0);
+    before = λ id e. (and_parts (stays id) (is_event_class p.classes id) (sym (events_staying p.classes stays id) ∙ e)).1;
+    event = λ e i. events_staying p.classes stays e.record_of.type_id ∙ both (stays e.record_of.type_id) (is_event_class p.classes e.record_of.type_id) (used_stays e i) (is_event e i);
+  }
+
+  -- What is built anew of it.
+  pub new_is : metadata_new p kept a ≡ rebuilt p kept a.metadata_record.size
+  new_is = ap (λ t. if t then rebuilt p kept a.metadata_record.size else None) (is_eq a.metadata_record.at (metadata_at p.bytes) a.metadata_there.place)
+
+  -- The class of a kept event is as it was.
+  pub left_found : (e : EventAt) → In kept e → find_class (classes_left p kept) e.record_of.type_id ≡ find_class p.classes e.record_of.type_id
+  left_found e i = by_new (rebuilt p kept (metadata_size p))
+    where
+      by_new : (w : Option (List ℕ)) → find_class (option_map_or (λ x. staying stays p.classes) w p.classes) e.record_of.type_id ≡ find_class p.classes e.record_of.type_id
+      by_new None = refl
+      by_new (Some x) = found_as_before p.classes stays e.record_of.type_id (used_stays e i)
+
+  then_same : (y z : Body) → SameBody (slim_of p kept) y → SameBody y z → SameBody (slim_of p kept) z
+  then_same y z e f = record { start = e.start ∙ f.start; duration = e.duration ∙ f.duration; id = e.id ∙ f.id; strings = e.strings ∙ f.strings; root = e.root ∙ f.root }
+
+  -- It is read with the classes that stay.
+  reads_anew : (x : List ℕ) → IsAnew p kept a.metadata_record.size x → (b : List ℕ) (place : ℕ) → Holds b (length b) place x → (body : Body) × IsMetadata b (moved_frame place (own_frame x) (length x)) body (staying stays p.classes) × SameBody (slim_of p kept) body
+  unfolding slim_body
+  reads_anew x n b place h =
+      let s : StandsAnew x (slim_of p kept) = stands_anew p a kept a.metadata_record.size x n in
+      let y : Body = record { start = p.body.start; duration = p.body.duration; id = p.body.id; strings = (slim_of p kept).strings; root = s.tree } in
+      let e : length x ≡ 0 + length x = omega arith in
+      let r : Reads meta_format x (0 + length x) 6 y (0 + length x) = subst (λ z. Reads meta_format x z 6 y z) e s.body in
+      let k : described y ≡ Ok (staying stays p.classes) = described_bare p.body.start p.body.duration p.body.id (slim_of p kept).strings (slim_of p kept).root s.tree (staying stays p.classes) (sym s.same) (slim p a kept).classes in
+      let m : IsMetadata x (own_frame x) y (staying stays p.classes) = record { body = r; classes = k } in
+      let g = metadata_copied x b (own_frame x) place y (staying stays p.classes) s.is_record (subst (Holds b (length b) place) (sym (own_bytes x)) h) m in
+      (g.0, subst (λ z. IsMetadata b (moved_frame place (own_frame x) (length z)) g.0 (staying stays p.classes)) (own_bytes x) g.1, then_same y g.0 (record { start = refl; duration = refl; id = refl; strings = refl; root = sym s.same }) g.2)
+
+  abbrev Reading : Option (List ℕ) → Classes → Type 0
+  Reading w m = (b : List ℕ) (place : ℕ) → Holds b (length b) place (shown_bytes p.bytes w a.metadata_record) → (body : Body) × IsMetadata b (shown_frame p.bytes w a.metadata_record place) body m × SameBody (shown_body p kept w) body
+
+  pub anew : Anew p a kept
+  anew = by_new (rebuilt p kept a.metadata_record.size) refl
+    where
+      by_new : (w : Option (List ℕ)) → rebuilt p kept a.metadata_record.size ≡ w → Anew p a kept
+      by_new None e = record {
+        classes = p.classes;
+        left = sym (ap (λ z. option_map_or (λ x. staying stays p.classes) (rebuilt p kept z) p.classes) (size_is p a) ∙ ap (λ o. option_map_or (λ x. staying stays p.classes) o p.classes) e);
+        suits = suits_all;
+        reads = subst (λ w. Reading w p.classes) (sym (new_is ∙ e)) (λ b place h. metadata_copied p.bytes b a.metadata_record place p.body p.classes (metadata_stands p a) h a.metadata);
+      }
+      by_new (Some x) e = record {
+        classes = staying stays p.classes;
+        left = sym (ap (λ z. option_map_or (λ x. staying stays p.classes) (rebuilt p kept z) p.classes) (size_is p a) ∙ ap (λ o. option_map_or (λ x. staying stays p.classes) o p.classes) e);
+        suits = suits_left;
+        reads = subst (λ w. Reading w (staying stays p.classes)) (sym (new_is ∙ e)) (λ b place h. reads_anew x (is_anew p kept a.metadata_record.size x e) b place h);
+      }

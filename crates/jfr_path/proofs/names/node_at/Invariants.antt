@@ -1,0 +1,13 @@
+use Rattle.std.proofs.Common.{◌≡◌}
+use Rattle.std.specs.Prelude.{drop}
+use Rattle.jfr_chunk.specs.Paths.{named_node}
+use Rattle.jfr_value.specs.Nodes.{IsValue, node_of}
+use Rattle.jfr_path.proofs.names.node_at.Given as goal
+
+-- The node is the one that the names so far lead to.
+abbrev pub invariant-loop-number : goal.invariant-loop-number
+invariant-loop-number l = record {
+  value : IsValue l.chunk.classes l.place;
+  bytes : l.place.bytes.now ≡ l.chunk.bytes;
+  left : named_node l.chunk (node_of l.node) l.names ≡ named_node l.chunk (node_of l.place) (drop l.number l.names);
+}

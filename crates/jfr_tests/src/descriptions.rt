@@ -1,0 +1,129 @@
+// Which descriptions of classes stay.
+use crate::runs::words;
+use jfr_cli::run;
+use jfr_fixtures::{JDK_LIKE, NO_POOLS, chunk_of};
+use jfr_outside::{MemoryPlace, MemorySink};
+use std::alloc::Global;
+use std::process::Abort;
+use std::test::Fail;
+
+// The class `long` (5) and the event classes `t.A` (8), with an annotation of `t.B`, `t.B` (9), with a
+// field that has one of `t.D`, `t.C` (10), with one of `t.D` too, and `t.D` (11).
+const ANNOTATED: &[u8] = b"\
+    \xCA\x01\0\0\0\x01\x14\
+    \x03\x04root\x03\x08metadata\x03\x05class\x03\x04name\x03\x02id\x03\x09superType\
+    \x03\x0Djdk.jfr.Event\x03\x0Aannotation\x03\x05field\x03\x04long\x03\x015\x03\x01n\x03\x03t.A\
+    \x03\x018\x03\x03t.B\x03\x019\x03\x03t.C\x03\x0210\x03\x03t.D\x03\x0211\
+    \0\0\x01\x01\0\x05\x02\x02\x03\x09\x04\x0A\0\x02\x03\x03\x0C\x04\x0D\x05\x06\x01\
+    \x07\x01\x02\x0F\0\x02\x03\x03\x0E\x04\x0F\x05\x06\x01\
+    \x08\x02\x03\x0B\x02\x0A\x01\x07\x01\x02\x13\0\x02\x03\x03\x10\x04\x11\x05\x06\x01\
+    \x07\x01\x02\x13\0\x02\x03\x03\x12\x04\x13\x05\x06\0";
+
+// What stays of them with an event of `t.A`: all but `t.C`.
+const NAMED_BY_A: &[u8] = b"\
+    \xB6\x81\x80\x80\0\0\0\0\x01\x12\
+    \x03\x04root\x03\x08metadata\x03\x05class\x03\x04name\x03\x04long\x03\x02id\x03\x015\
+    \x03\x03t.A\x03\x018\x03\x09superType\x03\x0Djdk.jfr.Event\x03\x0Aannotation\x03\x019\
+    \x03\x03t.B\x03\x05field\x03\x01n\x03\x0211\x03\x03t.D\
+    \0\0\x01\x01\0\x04\x02\x02\x03\x04\x05\x06\0\x02\x03\x03\x07\x05\x08\x09\x0A\x01\
+    \x0B\x01\x02\x0C\0\x02\x03\x03\x0D\x05\x0C\x09\x0A\x01\
+    \x0E\x02\x03\x0F\x02\x06\x01\x0B\x01\x02\x10\0\x02\x03\x03\x11\x05\x10\x09\x0A\0";
+
+// And with one of `t.C`: itself, `t.D` and `long`.
+const NAMED_BY_C: &[u8] = b"\
+    \x90\x81\x80\x80\0\0\0\0\x01\x0E\
+    \x03\x04root\x03\x08metadata\x03\x05class\x03\x04name\x03\x04long\x03\x02id\x03\x015\
+    \x03\x03t.C\x03\x0210\x03\x09superType\x03\x0Djdk.jfr.Event\x03\x0Aannotation\x03\x0211\
+    \x03\x03t.D\
+    \0\0\x01\x01\0\x03\x02\x02\x03\x04\x05\x06\0\x02\x03\x03\x07\x05\x08\x09\x0A\x01\
+    \x0B\x01\x02\x0C\0\x02\x03\x03\x0D\x05\x0C\x09\x0A\0";
+
+// The class `long` (5), which has a field of its own class, and the event class `t.A` (8), with one too.
+const LONG_AND_A: &[u8] = b"\
+    \x86\x81\x80\0\0\0\0\x01\x0E\
+    \x03\x04root\x03\x08metadata\x03\x05class\x03\x04name\x03\x04long\x03\x02id\x03\x015\
+    \x03\x05field\x03\x01v\x03\x03t.A\x03\x018\x03\x09superType\x03\x0Djdk.jfr.Event\x03\x01n\
+    \0\0\x01\x01\0\x02\x02\x02\x03\x04\x05\x06\x01\x07\x02\x03\x08\x02\x06\0\
+    \x02\x03\x03\x09\x05\x0A\x0B\x0C\x01\x07\x02\x03\x0D\x02\x06\0";
+
+// Without `t.A`.
+const LONG: &[u8] = b"\
+    \xD2\x80\x80\x80\0\0\0\0\x01\x09\
+    \x03\x04root\x03\x08metadata\x03\x05class\x03\x04name\x03\x04long\x03\x02id\x03\x015\
+    \x03\x05field\x03\x01v\
+    \0\0\x01\x01\0\x01\x02\x02\x03\x04\x05\x06\x01\x07\x02\x03\x08\x02\x06\0";
+
+// Scrubs a recording with an option over a place in memory, and gives the place.
+fn scrubbed(
+    rt: &impl Abort,
+    alloc: Global,
+    recording: &[u8],
+    option: &str,
+    list: &str,
+) -> Result<MemoryPlace, Fail> {
+    let words = words(alloc, &["scrub", option, list, "a.jfr", "b.jfr"])?;
+    let mut place = MemoryPlace::new(alloc);
+    place.put("a.jfr", recording)?;
+    let mut out = MemorySink::new(alloc);
+    let mut err = MemorySink::new(alloc);
+    assert_eq!(rt; run(alloc, &words, &mut place, &mut out, &mut err), 0);
+    Ok(place)
+}
+
+// A chunk of a metadata record, an event, and a checkpoint without pools.
+fn with_event(alloc: Global, metadata: &[u8], event: &[u8]) -> Result<Vec<u8>, Fail> {
+    let last = 68usize.saturating_add(metadata.len());
+    let last = last.saturating_add(event.len()) as u64;
+    Ok(chunk_of(alloc, &[metadata, event, NO_POOLS], last, 68)?)
+}
+
+// A class stays if a class that stays names it, in an annotation too, and however deep.
+#[test]
+fn classes_that_are_named_stay(rt: HostRuntime) -> Result<(), Fail> {
+    let alloc = rt.alloc();
+    for (metadata, event, list, slim, left) in [
+        (ANNOTATED, &[2u8, 8][..], "*", NAMED_BY_A, &[2u8, 8][..]),
+        (ANNOTATED, &[2, 10], "*", NAMED_BY_C, &[2, 10]),
+        (LONG_AND_A, &[3, 8, 7], "t.A", LONG_AND_A, &[3, 8, 7]),
+        (LONG_AND_A, &[3, 8, 7], "t.B", LONG, &[]),
+    ] {
+        let recording = with_event(alloc, metadata, event)?;
+        let expected = with_event(alloc, slim, left)?;
+        let place = scrubbed(&rt, alloc, &recording, "--include-events", list)?;
+        assert_eq!(&rt; place.file("b.jfr"), Some(expected.as_slice()));
+    }
+    Ok(())
+}
+
+// Whether a text occurs in bytes.
+fn occurs(bytes: &[u8], text: &str) -> bool {
+    for at in 0..bytes.len() {
+        if bytes[at..].starts_with(text.as_bytes()) {
+            return true;
+        }
+    }
+    false
+}
+
+// With the events of a class go its name, the names of its own fields, and the categories that only it has.
+#[test]
+fn names_of_classes_without_events_go(rt: HostRuntime) -> Result<(), Fail> {
+    let park = "ThreadPark";
+    let place = scrubbed(&rt, rt.alloc(), &JDK_LIKE, "--include-events", park)?;
+    let output = place.file("b.jfr").ok_or("no output")?;
+    for (text, stays) in [
+        ("jdk.ThreadPark", true),
+        ("parkedClass", true),
+        ("Java Application", true),
+        ("jdk.JavaMonitorEnter", false),
+        ("monitorClass", false),
+        ("jdk.CPULoad", false),
+        ("machineTotal", false),
+        ("Operating System", false),
+        ("Processor", false),
+    ] {
+        assert!(&rt; occurs(&JDK_LIKE, text), "{text}");
+        assert_eq!(&rt; occurs(output, text), stays, "{text}");
+    }
+    Ok(())
+}

@@ -1,0 +1,171 @@
+// The texts of events.
+ghost use Rattle.std.specs.Prelude.{◌≤◌};
+
+use crate::kinds::kinds;
+use jfr_base::ReadFault;
+use jfr_chunk::Chunk;
+use jfr_fixtures::{JDK_LIKE, RINGS, STRINGS, with_classes};
+use jfr_header::is_cut;
+use jfr_outside::{NoMemory, Text};
+use jfr_show::{TextBuilder, event_text, show_event};
+use std::alloc::Global;
+use std::process::Abort;
+use std::test::Fail;
+
+/// The chunk of these bytes.
+pub(crate) fn read<'a>(alloc: Global, bytes: &'a [u8]) -> Result<Chunk<'a>, ReadFault> {
+    if !is_cut(bytes) {
+        return Err(ReadFault::Memory);
+    }
+    Chunk::read(alloc, bytes)
+}
+
+// The text of the event of a number in the chunk of these bytes.
+fn text_of(alloc: Global, bytes: &[u8], number: usize, depth: u8) -> Result<Text, Fail>
+    requires { depth ≤ 8 }
+{
+    let chunk = read(alloc, bytes)?;
+    let event = chunk.event(number).ok_or("no event")?;
+    Ok(event_text(alloc, &chunk, &event, depth)?)
+}
+
+// Adds the text of the event of a number.
+fn add_text(
+    chunk: &Chunk<'_>,
+    number: usize,
+    depth: u8,
+    out: &mut TextBuilder,
+) -> Result<(), NoMemory>
+    requires { depth ≤ 8 }
+{
+    match chunk.event(number) {
+        Some(event) => show_event(chunk, &event, depth, out),
+        None => Err(NoMemory),
+    }
+}
+
+// Compares the text of the event of a number.
+fn compare(
+    rt: &impl Abort,
+    alloc: Global,
+    bytes: &[u8],
+    number: usize,
+    depth: u8,
+    text: &str,
+) -> Result<(), Fail>
+    requires { depth ≤ 8 }
+{
+    let shown = text_of(alloc, bytes, number, depth)?;
+    assert_eq!(rt; shown.as_str(), text);
+    Ok(())
+}
+
+// The texts of the first two events of a chunk, one after the other.
+fn two_texts(alloc: Global, bytes: &[u8]) -> Result<TextBuilder, Fail> {
+    let chunk = read(alloc, bytes)?;
+    let mut out = TextBuilder::new(alloc);
+    out.push_ascii("left")?;
+    out.clear();
+    add_text(&chunk, 0, 0, &mut out)?;
+    add_text(&chunk, 1, 0, &mut out)?;
+    Ok(out)
+}
+
+#[test]
+fn events_follow_one_another(rt: HostRuntime) -> Result<(), Fail> {
+    let alloc = rt.alloc();
+    let out = two_texts(alloc, &with_classes(alloc, RINGS, 333)?)?;
+    let text = "t.A {\n  n = 300\n  node = t.Node#1\n}\nt.B {\n  node = t.Node#3\n}\n";
+    assert_eq!(rt; out.as_bytes(), text.as_bytes());
+    Ok(())
+}
+
+#[test]
+fn references_are_followed_to_the_depth(rt: HostRuntime) -> Result<(), Fail> {
+    let alloc = rt.alloc();
+    let bytes = with_classes(alloc, RINGS, 333)?;
+    compare(
+        &rt,
+        alloc,
+        &bytes,
+        0,
+        0,
+        "t.A {\n  n = 300\n  node = t.Node#1\n}\n",
+    )?;
+    compare(&rt, alloc, &bytes, 1, 0, "t.B {\n  node = t.Node#3\n}\n")?;
+    compare(
+        &rt,
+        alloc,
+        &bytes,
+        0,
+        2,
+        "t.A {\n  n = 300\n  node = t.Node {\n    next = t.Node {\n      next = t.Node#1\n      text = \"q\"\n    }\n    text = \"p\"\n  }\n}\n",
+    )?;
+    compare(
+        &rt,
+        alloc,
+        &bytes,
+        1,
+        2,
+        "t.B {\n  node = t.Node {\n    next = t.Node {\n      next = t.Node#3\n      text = \"s\"\n    }\n    text = \"r\"\n  }\n}\n",
+    )
+}
+
+#[test]
+fn missing_constants_are_shown(rt: HostRuntime) -> Result<(), Fail> {
+    let alloc = rt.alloc();
+    let bytes = with_classes(alloc, STRINGS, 330)?;
+    compare(
+        &rt,
+        alloc,
+        &bytes,
+        0,
+        2,
+        "t.A {\n  n = 300\n  node = t.Node {\n    next = t.Node#0 (missing)\n    text = java.lang.String#2\n  }\n}\n",
+    )
+}
+
+#[test]
+fn values_of_each_kind_are_shown(rt: HostRuntime) -> Result<(), Fail> {
+    let alloc = rt.alloc();
+    let bytes = kinds(alloc)?;
+    compare(
+        &rt,
+        alloc,
+        &bytes,
+        0,
+        1,
+        "t.All {\n  flag = true\n  small = -1\n  letter = 65535\n  low = -1\n  count = -2147483648\n  wide = -1\n  ratio = 0x3f800000\n  exact = 0x3ff0000000000000\n  none = null\n  empty = \"\"\n  told = \"a\\\"\\\\\\u000a\\u007fä\"\n  units = \"b€\"\n  latin = \"ä\"\n  place = t.Place {\n    x = 7\n  }\n  numbers = [\n    1\n    -1\n  ]\n  places = [\n    t.Place {\n      x = 5\n    }\n  ]\n  nothing = [\n  ]\n  keys = [\n    t.Place {\n      x = 3\n    }\n    t.Place#9 (missing)\n  ]\n}\n",
+    )
+}
+
+const PARK: &str = "jdk.ThreadPark {
+  startTime = 1000
+  duration = 50
+  eventThread = java.lang.Thread {
+    osName = \"main\"
+    osThreadId = 100
+    javaName = \"main\"
+    javaThreadId = 1
+  }
+  stackTrace = jdk.types.StackTrace {
+    truncated = false
+    frames = [
+      jdk.types.StackFrame {
+        method = jdk.types.Method#1
+        lineNumber = 10
+        bytecodeIndex = 2
+      }
+    ]
+  }
+  parkedClass = java.lang.Class {
+    name = jdk.types.Symbol#1
+    modifiers = 1
+  }
+}
+";
+
+#[test]
+fn a_stack_trace_is_shown(rt: HostRuntime) -> Result<(), Fail> {
+    compare(&rt, rt.alloc(), &JDK_LIKE, 0, 1, PARK)
+}

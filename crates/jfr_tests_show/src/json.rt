@@ -1,0 +1,109 @@
+// The lines of JSON of events.
+ghost use Rattle.std.specs.Prelude.{◌≤◌};
+
+use crate::events::read;
+use crate::kinds::{kinds, long_names};
+use jfr_fixtures::{JDK_LIKE, RINGS, STRINGS, with_classes};
+use jfr_outside::Text;
+use jfr_show::event_json;
+use std::alloc::Global;
+use std::process::Abort;
+use std::test::Fail;
+
+// The line of the event of a number in the chunk of these bytes.
+fn line_of(alloc: Global, bytes: &[u8], number: usize, depth: u8) -> Result<Text, Fail>
+    requires { depth ≤ 8 }
+{
+    let chunk = read(alloc, bytes)?;
+    let event = chunk.event(number).ok_or("no event")?;
+    Ok(event_json(alloc, &chunk, &event, depth)?)
+}
+
+// Compares the line of the event of a number.
+fn compare(
+    rt: &impl Abort,
+    alloc: Global,
+    bytes: &[u8],
+    number: usize,
+    depth: u8,
+    line: &str,
+) -> Result<(), Fail>
+    requires { depth ≤ 8 }
+{
+    let shown = line_of(alloc, bytes, number, depth)?;
+    assert_eq!(rt; shown.as_str(), line);
+    Ok(())
+}
+
+#[test]
+fn references_are_objects(rt: HostRuntime) -> Result<(), Fail> {
+    let alloc = rt.alloc();
+    let bytes = with_classes(alloc, RINGS, 333)?;
+    compare(
+        &rt,
+        alloc,
+        &bytes,
+        0,
+        1,
+        "{\"type\":\"t.A\",\"values\":{\"n\":300,\"node\":{\"next\":{\"class\":\"t.Node\",\"key\":2},\"text\":\"p\"}}}\n",
+    )?;
+    compare(
+        &rt,
+        alloc,
+        &bytes,
+        1,
+        1,
+        "{\"type\":\"t.B\",\"values\":{\"node\":{\"next\":{\"class\":\"t.Node\",\"key\":4},\"text\":\"r\"}}}\n",
+    )
+}
+
+#[test]
+fn missing_constants_are_members(rt: HostRuntime) -> Result<(), Fail> {
+    let alloc = rt.alloc();
+    let bytes = with_classes(alloc, STRINGS, 330)?;
+    compare(
+        &rt,
+        alloc,
+        &bytes,
+        0,
+        2,
+        "{\"type\":\"t.A\",\"values\":{\"n\":300,\"node\":{\"next\":{\"class\":\"t.Node\",\"key\":0,\"missing\":true},\"text\":{\"class\":\"java.lang.String\",\"key\":2}}}}\n",
+    )
+}
+
+#[test]
+fn members_are_ordered_by_their_keys(rt: HostRuntime) -> Result<(), Fail> {
+    let alloc = rt.alloc();
+    let bytes = kinds(alloc)?;
+    compare(
+        &rt,
+        alloc,
+        &bytes,
+        0,
+        1,
+        "{\"type\":\"t.All\",\"values\":{\"count\":-2147483648,\"empty\":\"\",\"exact\":\"0x3ff0000000000000\",\"flag\":true,\"keys\":[{\"x\":3},{\"class\":\"t.Place\",\"key\":9,\"missing\":true}],\"latin\":\"ä\",\"letter\":65535,\"low\":-1,\"none\":null,\"nothing\":[],\"numbers\":[1,-1],\"place\":{\"x\":7},\"places\":[{\"x\":5}],\"ratio\":\"0x3f800000\",\"small\":-1,\"told\":\"a\\\"\\\\\\n\u{7F}ä\",\"units\":\"b€\",\"wide\":-1}}\n",
+    )
+}
+
+#[test]
+fn long_names_are_keys(rt: HostRuntime) -> Result<(), Fail> {
+    let alloc = rt.alloc();
+    let bytes = long_names(alloc)?;
+    compare(
+        &rt,
+        alloc,
+        &bytes,
+        0,
+        1,
+        "{\"type\":\"t.Long\",\"values\":{\"bbbbbbbbbbbbbbbbbbbbbbbbbbbbbbbbbbbbbbbbbbbbbbbbbbbbbbbbbbbbbbbbb\":3,\"cccccccccccccccccccccccccccccccccccccccccccccccccccccccccccccccc\":2,\"dddddddddddddddddddddddddddddddddddddddddddddddddddddddddddddddd\\\"\":1}}\n",
+    )
+}
+
+const PARK: &str =
+    r#"{"type":"jdk.ThreadPark","values":{"duration":50,"eventThread":{"javaName":"main","javaThreadId":1,"osName":"main","osThreadId":100},"parkedClass":{"modifiers":1,"name":{"class":"jdk.types.Symbol","key":1}},"stackTrace":{"frames":[{"bytecodeIndex":2,"lineNumber":10,"method":{"class":"jdk.types.Method","key":1}}],"truncated":false},"startTime":1000}}
+"#;
+
+#[test]
+fn a_stack_trace_is_an_object(rt: HostRuntime) -> Result<(), Fail> {
+    compare(&rt, rt.alloc(), &JDK_LIKE, 0, 1, PARK)
+}

@@ -1,0 +1,245 @@
+-- The options of each command in any order, each at most once.
+use Rattle.std.specs.Prelude.{◌≡◌, ◌⊎◌, ℕ, ◌^◌, Bool, true, false, ◌||◌, if◌then◌else◌, List, [], ◌∷◌, ◌++◌, length, Option, None, Some, option_map, option_and_then, IsTrue, OnSome, codes, is_some}
+use Rattle.std.specs.List.{list_any, IsDistinct}
+use Rattle.std.specs.List.Sorted.{IsPermutation}
+use Rattle.std.specs.Str.{bytes_eq}
+use Rattle.std.proofs.Common.{arith, ap, refl, sym, subst, ◌∙◌, inl, inr}
+use Rattle.std.proofs.lemmas.List.Sorted.{length_permutation}
+use Rattle.std.proofs.lemmas.Slice.Eq.{bytes_eq-Decides}
+use Rattle.jfr_filter.specs.Filters.{Given, nothing_given, with_patterns}
+use Rattle.jfr_words.specs.declared.order.Order.{Order}
+use Rattle.jfr_words.specs.declared.print.PrintOption.{PrintOption}
+use Rattle.jfr_words.specs.declared.print.PrintOption.TheVariants.{Patterns, Depth, Json}
+use Rattle.jfr_words.specs.declared.print.PrintGiven.{PrintGiven}
+use Rattle.jfr_words.specs.declared.split.SplitOption.{SplitOption}
+use Rattle.jfr_words.specs.declared.split.SplitOption.TheVariants.{Output, MaxChunks, MaxSize}
+use Rattle.jfr_words.specs.declared.split.SplitGiven.{SplitGiven}
+use Rattle.jfr_words.specs.Laws.{valued_options, bare_options, is_option, is_same_option, AreOptions, line}
+use Rattle.jfr_words.specs.Names.{name_in}
+use Rattle.jfr_words.specs.Numbers.{number_in}
+use Rattle.jfr_words.specs.Patterns.{given_with}
+use Rattle.jfr_words.specs.Prints.{no_print_option, print_option_of, print_with, print_from}
+use Rattle.jfr_words.specs.Scrubs.{side_of, scrub_from}
+use Rattle.jfr_words.specs.Splits.{no_split_option, split_option_of, is_split_given, split_with, split_from}
+use Rattle.jfr_words.specs.Words.{order_of}
+use Rattle.jfr_words.proofs.Given.{give, in_any_order, given_once}
+use Rattle.jfr_words.proofs.Settings.{set, Apart, Settles, settles}
+use Rattle.jfr_words.proofs.Sides.{has_side, patterns_of, side_set, side_is, which_side, sides_settle}
+
+-- The options of a print.
+abbrev PrintValue : PrintOption → Type 0
+PrintValue (Patterns side) = List (List ℕ)
+PrintValue Depth = ℕ
+PrintValue Json = Unit {0}
+
+abbrev has_print : PrintOption → PrintGiven → Bool
+has_print (Patterns side) g = has_side side g.filter
+has_print Depth g = is_some g.depth
+has_print Json g = g.json
+
+abbrev put_print : (o : PrintOption) → PrintValue o → PrintGiven → PrintGiven
+put_print (Patterns side) patterns g = record g { filter = with_patterns side patterns g.filter }
+put_print Depth depth g = record g { depth = Some depth }
+put_print Json _ g = record g { json = true }
+
+abbrev print_value : (o : PrintOption) → List ℕ → Option (PrintValue o)
+print_value (Patterns side) list = patterns_of list
+print_value Depth word = number_in 0 8 word
+print_value Json word = Some tt
+
+print_set : (o : PrintOption) (v : List ℕ) (g : PrintGiven) → print_with o v g ≡ set (has_print o) (put_print o) (print_value o v) g
+print_set (Patterns side) v g = ap (option_map (λ h. record g { filter = h })) (side_set side v g.filter) ∙ by_tests (has_side side g.filter) (patterns_of v)
+  where
+    by_tests : (t : Bool) (o : Option (List (List ℕ))) → option_map (λ h. record g { filter = h }) (if t then None else option_map (λ x. with_patterns side x g.filter) o) ≡ (if t then None else option_map (λ x. record g { filter = with_patterns side x g.filter }) o)
+    by_tests true o = refl
+    by_tests false None = refl
+    by_tests false (Some x) = refl
+print_set Depth v g = refl
+print_set Json v g = refl
+
+print_is : (o : PrintOption) (x : PrintValue o) (g : PrintGiven) → has_print o (put_print o x g) ≡ true
+print_is (Patterns side) x g = side_is side x g.filter
+print_is Depth x g = refl
+print_is Json x g = refl
+
+which_print : (o p : PrintOption) → (o ≡ p) ⊎ Apart (has_print o) (put_print o) (has_print p) (put_print p)
+which_print (Patterns s) (Patterns t) = by_which (which_side s t)
+  where
+    by_which : (s ≡ t) ⊎ Apart (has_side s) (with_patterns s) (has_side t) (with_patterns t) → (Patterns s ≡ Patterns t) ⊎ Apart (has_print (Patterns s)) (put_print (Patterns s)) (has_print (Patterns t)) (put_print (Patterns t))
+    by_which (inl e) = inl (ap (λ z. Patterns z) e)
+    by_which (inr a) = inr (record { on = λ x g. a.on x g.filter; back = λ y g. a.back y g.filter; both = λ x y g. ap (λ h. record g { filter = h }) (a.both x y g.filter) })
+which_print (Patterns s) Depth = inr (record { on = λ x g. refl; back = λ y g. refl; both = λ x y g. refl })
+which_print (Patterns s) Json = inr (record { on = λ x g. refl; back = λ y g. refl; both = λ x y g. refl })
+which_print Depth (Patterns t) = inr (record { on = λ x g. refl; back = λ y g. refl; both = λ x y g. refl })
+which_print Depth Depth = inl refl
+which_print Depth Json = inr (record { on = λ x g. refl; back = λ y g. refl; both = λ x y g. refl })
+which_print Json (Patterns t) = inr (record { on = λ x g. refl; back = λ y g. refl; both = λ x y g. refl })
+which_print Json Depth = inr (record { on = λ x g. refl; back = λ y g. refl; both = λ x y g. refl })
+which_print Json Json = inl refl
+
+prints_settle : Settles print_with
+prints_settle = settles print_with PrintValue has_print put_print print_value print_set print_is which_print
+
+-- The options of a disassembly.
+abbrev SplitValue : SplitOption → Type 0
+SplitValue Output = List ℕ
+SplitValue MaxChunks = ℕ
+SplitValue MaxSize = ℕ
+
+abbrev put_split : (o : SplitOption) → SplitValue o → SplitGiven → SplitGiven
+put_split Output folder g = record g { folder = Some folder }
+put_split MaxChunks n g = record g { max_chunks = Some n }
+put_split MaxSize n g = record g { max_size = Some n }
+
+abbrev split_value : (o : SplitOption) → List ℕ → Option (SplitValue o)
+split_value Output word = name_in word
+split_value MaxChunks word = number_in 1 4294967295 word
+split_value MaxSize word = number_in 1 (2 ^ 40) word
+
+split_is_set : (o : SplitOption) (v : List ℕ) (g : SplitGiven) → split_with o v g ≡ set (is_split_given o) (put_split o) (split_value o v) g
+split_is_set Output v g = refl
+split_is_set MaxChunks v g = refl
+split_is_set MaxSize v g = refl
+
+split_is : (o : SplitOption) (x : SplitValue o) (g : SplitGiven) → is_split_given o (put_split o x g) ≡ true
+split_is Output x g = refl
+split_is MaxChunks x g = refl
+split_is MaxSize x g = refl
+
+which_split : (o p : SplitOption) → (o ≡ p) ⊎ Apart (is_split_given o) (put_split o) (is_split_given p) (put_split p)
+which_split Output Output = inl refl
+which_split Output MaxChunks = inr (record { on = λ x g. refl; back = λ y g. refl; both = λ x y g. refl })
+which_split Output MaxSize = inr (record { on = λ x g. refl; back = λ y g. refl; both = λ x y g. refl })
+which_split MaxChunks Output = inr (record { on = λ x g. refl; back = λ y g. refl; both = λ x y g. refl })
+which_split MaxChunks MaxChunks = inl refl
+which_split MaxChunks MaxSize = inr (record { on = λ x g. refl; back = λ y g. refl; both = λ x y g. refl })
+which_split MaxSize Output = inr (record { on = λ x g. refl; back = λ y g. refl; both = λ x y g. refl })
+which_split MaxSize MaxChunks = inr (record { on = λ x g. refl; back = λ y g. refl; both = λ x y g. refl })
+which_split MaxSize MaxSize = inl refl
+
+splits_settle : Settles split_with
+splits_settle = settles split_with SplitValue is_split_given put_split split_value split_is_set split_is which_split
+
+-- A word among some is the first of them, or among the others.
+among : (word first : List ℕ) (others : List (List ℕ)) → list_any (bytes_eq word) (first ∷ others) ≡ true → (word ≡ first) ⊎ (list_any (bytes_eq word) others ≡ true)
+among word first others e = by_test (bytes_eq word first) refl e
+  where
+    by_test : (t : Bool) → bytes_eq word first ≡ t → (t || list_any (bytes_eq word) others) ≡ true → (word ≡ first) ⊎ (list_any (bytes_eq word) others ≡ true)
+    by_test true f e = inl ((bytes_eq-Decides word first).0 f)
+    by_test false f e = inr e
+
+-- Each of these words has the property.
+abbrev Each : (List ℕ → Type 0) → List (List ℕ) → Type 0
+Each P [] = Unit {0}
+Each P (first ∷ others) = P first × Each P others
+
+of_each : (P : List ℕ → Type 0) (words : List (List ℕ)) → Each P words → (word : List ℕ) → list_any (bytes_eq word) words ≡ true → P word
+of_each P [] each word e = cc
+of_each P (first ∷ others) each word e = by_among (among word first others e) (of_each P others each.1 word)
+  where
+    by_among : (word ≡ first) ⊎ (list_any (bytes_eq word) others ≡ true) → (list_any (bytes_eq word) others ≡ true → P word) → P word
+    by_among (inl is) rest = subst P (sym is) each.0
+    by_among (inr e) rest = rest e
+
+-- How words from an option on are read: the option is given, and what follows it is read.
+abbrev Takes : {G O : Type 0} → (List ℕ → Option O) → (O → List ℕ → G → Option G) → (G → List (List ℕ) → Option Order) → List (List ℕ) → Type 0
+Takes {G = G} named given from option = (rest : List (List ℕ)) (g : G) → from g (option ++ rest) ≡ option_and_then (λ h. from h rest) (give named given option g)
+
+print_valued : (word : List ℕ) → list_any (bytes_eq word) (valued_options (codes "print")) ≡ true → (value : List ℕ) → Takes print_option_of print_with print_from (word ∷ value ∷ [])
+print_valued word e value = of_each (λ w. Takes print_option_of print_with print_from (w ∷ value ∷ [])) (valued_options (codes "print")) (λ rest g. refl, (λ rest g. refl, (λ rest g. refl, tt))) word e
+
+print_bare : (word : List ℕ) → list_any (bytes_eq word) (bare_options (codes "print")) ≡ true → Takes print_option_of print_with print_from (word ∷ [])
+print_bare word e = of_each (λ w. Takes print_option_of print_with print_from (w ∷ [])) (bare_options (codes "print")) (json, tt) word e
+  where
+    json : Takes print_option_of print_with print_from (codes "--json" ∷ [])
+    json [] g = by_test g.json
+      where
+        by_test : (t : Bool) → None ≡ option_and_then (λ h. print_from h []) (if t then None else Some (record g { json = true }))
+        by_test true = refl
+        by_test false = refl
+    json (next ∷ rest) g = refl
+
+print_read : (g : PrintGiven) (option : List (List ℕ)) (rest : List (List ℕ)) → IsTrue (is_option (codes "print") option) → print_from g (option ++ rest) ≡ option_and_then (λ h. print_from h rest) (give print_option_of print_with option g)
+print_read g [] rest e = cc
+print_read g (word ∷ []) rest e = print_bare word e rest g
+print_read g (word ∷ value ∷ []) rest e = print_valued word e value rest g
+print_read g (word ∷ value ∷ more ∷ others) rest e = cc
+
+scrub_valued : (word : List ℕ) → list_any (bytes_eq word) (valued_options (codes "scrub")) ≡ true → (value : List ℕ) → Takes side_of given_with scrub_from (word ∷ value ∷ [])
+scrub_valued word e value = of_each (λ w. Takes side_of given_with scrub_from (w ∷ value ∷ [])) (valued_options (codes "scrub")) (λ rest g. refl, (λ rest g. refl, (λ rest g. refl, (λ rest g. refl, (λ rest g. refl, (λ rest g. refl, tt)))))) word e
+
+scrub_read : (g : Given) (option : List (List ℕ)) (rest : List (List ℕ)) → IsTrue (is_option (codes "scrub") option) → scrub_from g (option ++ rest) ≡ option_and_then (λ h. scrub_from h rest) (give side_of given_with option g)
+scrub_read g [] rest e = cc
+scrub_read g (word ∷ []) rest e = cc
+scrub_read g (word ∷ value ∷ []) rest e = scrub_valued word e value rest g
+scrub_read g (word ∷ value ∷ more ∷ others) rest e = cc
+
+split_valued : (word : List ℕ) → list_any (bytes_eq word) (valued_options (codes "disassemble")) ≡ true → (value : List ℕ) → Takes split_option_of split_with split_from (word ∷ value ∷ [])
+split_valued word e value = of_each (λ w. Takes split_option_of split_with split_from (w ∷ value ∷ [])) (valued_options (codes "disassemble")) (λ rest g. refl, (λ rest g. refl, (λ rest g. refl, tt))) word e
+
+split_read : (g : SplitGiven) (option : List (List ℕ)) (rest : List (List ℕ)) → IsTrue (is_option (codes "disassemble") option) → split_from g (option ++ rest) ≡ option_and_then (λ h. split_from h rest) (give split_option_of split_with option g)
+split_read g [] rest e = cc
+split_read g (word ∷ []) rest e = cc
+split_read g (word ∷ value ∷ []) rest e = split_valued word e value rest g
+split_read g (word ∷ value ∷ more ∷ others) rest e = cc
+
+-- Three commands have options, and no other word has any.
+data HasOptions (command : List ℕ) : Type 0 where
+  print : command ≡ codes "print" → HasOptions command
+  scrub : command ≡ codes "scrub" → HasOptions command
+  split : command ≡ codes "disassemble" → HasOptions command
+  no_options : ((option : List (List ℕ)) → IsTrue (is_option command option) → ⊥) → HasOptions command
+
+has_options : (command : List ℕ) → HasOptions command
+has_options command = by_tests (bytes_eq command (codes "print")) (bytes_eq command (codes "scrub")) (bytes_eq command (codes "disassemble")) refl refl refl
+  where
+    by_tests : (p s d : Bool) → bytes_eq command (codes "print") ≡ p → bytes_eq command (codes "scrub") ≡ s → bytes_eq command (codes "disassemble") ≡ d → HasOptions command
+    by_tests true s d e f h = print ((bytes_eq-Decides command (codes "print")).0 e)
+    by_tests false true d e f h = scrub ((bytes_eq-Decides command (codes "scrub")).0 f)
+    by_tests false false true e f h = split ((bytes_eq-Decides command (codes "disassemble")).0 h)
+    by_tests false false false e f h = no_options none
+      where
+        none : (option : List (List ℕ)) → IsTrue (is_option command option) → ⊥
+        none [] t = cc
+        none (word ∷ []) t = cc (rw e at t)
+        none (word ∷ value ∷ []) t = cc (rw (e, f, h) at t)
+        none (word ∷ value ∷ more ∷ others) t = cc
+
+pub any_order : (command : List ℕ) (options others : List (List (List ℕ))) (rest : List (List ℕ)) → AreOptions command options → IsPermutation options others → order_of (line command others rest) ≡ order_of (line command options rest)
+unfolding order_of
+any_order command options others rest all p = by_command (has_options command) all
+  where
+    Same : List ℕ → Type 0
+    Same c = AreOptions c options → order_of (line c others rest) ≡ order_of (line c options rest)
+
+    nothing_given_at : (os ps : List (List (List ℕ))) → length ps ≡ length os → AreOptions command os → ((option : List (List ℕ)) → IsTrue (is_option command option) → ⊥) → order_of (line command ps rest) ≡ order_of (line command os rest)
+    nothing_given_at [] [] e all none = refl
+    nothing_given_at [] (o ∷ ps) e all none = absurd (omega arith)
+    nothing_given_at (o ∷ os) ps e all none = absurd (none o (all 0 o (omega arith)))
+
+    by_command : HasOptions command → Same command
+    by_command (print e) = subst Same (sym e) (λ all. in_any_order print_option_of print_with prints_settle print_from (λ o. IsTrue (is_option (codes "print") o)) print_read options others rest no_print_option all p)
+    by_command (scrub e) = subst Same (sym e) (λ all. in_any_order side_of given_with sides_settle scrub_from (λ o. IsTrue (is_option (codes "scrub") o)) scrub_read options others rest nothing_given all p)
+    by_command (split e) = subst Same (sym e) (λ all. in_any_order split_option_of split_with splits_settle split_from (λ o. IsTrue (is_option (codes "disassemble") o)) split_read options others rest no_split_option all p)
+    by_command (no_options none) = λ all. nothing_given_at options others (length_permutation options others p) all none
+
+pub at_most_once : (command : List ℕ) (options : List (List (List ℕ))) (rest : List (List ℕ)) → AreOptions command options → OnSome (order_of (line command options rest)) (IsDistinct is_same_option options)
+unfolding order_of IsDistinct
+at_most_once command options rest all = by_command (has_options command) all
+  where
+    Once : List ℕ → Type 0
+    Once c = AreOptions c options → OnSome (order_of (line c options rest)) (IsDistinct is_same_option options)
+
+    none_given : (os : List (List (List ℕ))) → AreOptions command os → ((option : List (List ℕ)) → IsTrue (is_option command option) → ⊥) → IsDistinct is_same_option os
+    none_given [] all none = tt
+    none_given (o ∷ os) all none = absurd (none o (all 0 o (omega arith)))
+
+    on_any : {X : Type 0} (o : Option X) (P : Type 0) → P → OnSome o P
+    on_any None P p = tt
+    on_any (Some x) P p = p
+
+    by_command : HasOptions command → Once command
+    by_command (print e) = subst Once (sym e) (λ all. given_once print_option_of print_with prints_settle print_from (λ o. IsTrue (is_option (codes "print") o)) print_read options rest no_print_option all)
+    by_command (scrub e) = subst Once (sym e) (λ all. given_once side_of given_with sides_settle scrub_from (λ o. IsTrue (is_option (codes "scrub") o)) scrub_read options rest nothing_given all)
+    by_command (split e) = subst Once (sym e) (λ all. given_once split_option_of split_with splits_settle split_from (λ o. IsTrue (is_option (codes "disassemble") o)) split_read options rest no_split_option all)
+    by_command (no_options none) = λ all. on_any _ _ (none_given options all none)

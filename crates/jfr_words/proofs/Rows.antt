@@ -1,0 +1,143 @@
+-- The orders of some lines.
+use Rattle.std.specs.Prelude.{◌≡◌, ◌^◌, true, false, [], ◌∷◌, codes, Some, None, refl}
+use Rattle.jfr_filter.specs.Filters.{nothing_given}
+use Rattle.jfr_words.specs.declared.order.Order.TheVariants.{Print, Summary, Metadata, Scrub, Disassemble, Assemble, Sample}
+use Rattle.jfr_words.specs.Numbers.{number_of}
+use Rattle.jfr_words.specs.Words.{order_of}
+
+-- Without options a print goes two references deep.
+print_row : order_of (codes "print" ∷ codes "a" ∷ []) ≡ Some (Print nothing_given 2 false (codes "a"))
+unfolding order_of
+print_row = refl
+
+print_options_row : order_of (codes "print" ∷ codes "--json" ∷ codes "--depth" ∷ codes "0" ∷ codes "--events" ∷ codes "t.A,jdk.*" ∷ codes "a" ∷ [])
+    ≡ Some (Print (record nothing_given { include_events = Some (codes "t.A" ∷ codes "jdk.*" ∷ []) }) 0 true (codes "a"))
+unfolding order_of number_of
+print_options_row = refl
+
+-- The options in another order.
+print_reordered_row : order_of (codes "print" ∷ codes "--events" ∷ codes "t.A,jdk.*" ∷ codes "--json" ∷ codes "--depth" ∷ codes "00" ∷ codes "a" ∷ [])
+    ≡ Some (Print (record nothing_given { include_events = Some (codes "t.A" ∷ codes "jdk.*" ∷ []) }) 0 true (codes "a"))
+unfolding order_of number_of
+print_reordered_row = refl
+
+print_categories_row : order_of (codes "print" ∷ codes "--categories" ∷ codes "Java*" ∷ codes "--depth" ∷ codes "8" ∷ codes "a" ∷ [])
+    ≡ Some (Print (record nothing_given { include_categories = Some (codes "Java*" ∷ []) }) 8 false (codes "a"))
+unfolding order_of number_of
+print_categories_row = refl
+
+too_deep_row : order_of (codes "print" ∷ codes "--depth" ∷ codes "9" ∷ codes "a" ∷ []) ≡ None
+unfolding order_of number_of
+too_deep_row = refl
+
+json_twice_row : order_of (codes "print" ∷ codes "--json" ∷ codes "--json" ∷ codes "a" ∷ []) ≡ None
+unfolding order_of
+json_twice_row = refl
+
+-- Options come before the names.
+late_option_row : order_of (codes "print" ∷ codes "a" ∷ codes "--json" ∷ []) ≡ None
+unfolding order_of
+late_option_row = refl
+
+summary_row : order_of (codes "summary" ∷ codes "a" ∷ []) ≡ Some (Summary (codes "a"))
+unfolding order_of
+summary_row = refl
+
+two_files_row : order_of (codes "summary" ∷ codes "a" ∷ codes "b" ∷ []) ≡ None
+unfolding order_of
+two_files_row = refl
+
+metadata_row : order_of (codes "metadata" ∷ codes "a" ∷ []) ≡ Some (Metadata (codes "a"))
+unfolding order_of
+metadata_row = refl
+
+-- A name doesn't begin with a dash, and isn't empty.
+dash_row : order_of (codes "metadata" ∷ codes "-a" ∷ []) ≡ None
+unfolding order_of
+dash_row = refl
+
+no_name_row : order_of (codes "metadata" ∷ [] ∷ []) ≡ None
+unfolding order_of
+no_name_row = refl
+
+scrub_row : order_of (codes "scrub" ∷ codes "--exclude-threads" ∷ codes "main" ∷ codes "--include-categories" ∷ codes "Java*,*GC" ∷ codes "a" ∷ codes "b" ∷ [])
+    ≡ Some (Scrub (record nothing_given { include_categories = Some (codes "Java*" ∷ codes "*GC" ∷ []); exclude_threads = Some (codes "main" ∷ []) }) (codes "a") (codes "b"))
+unfolding order_of
+scrub_row = refl
+
+-- An option's value is the next word, even if that looks like an option.
+dashed_value_row : order_of (codes "scrub" ∷ codes "--exclude-events" ∷ codes "--include-events" ∷ codes "a" ∷ codes "b" ∷ [])
+    ≡ Some (Scrub (record nothing_given { exclude_events = Some (codes "--include-events" ∷ []) }) (codes "a") (codes "b"))
+unfolding order_of
+dashed_value_row = refl
+
+one_name_row : order_of (codes "scrub" ∷ codes "a" ∷ []) ≡ None
+unfolding order_of
+one_name_row = refl
+
+no_value_row : order_of (codes "scrub" ∷ codes "--include-events" ∷ []) ≡ None
+unfolding order_of
+no_value_row = refl
+
+given_twice_row : order_of (codes "scrub" ∷ codes "--include-events" ∷ codes "A" ∷ codes "--include-events" ∷ codes "B" ∷ codes "a" ∷ codes "b" ∷ []) ≡ None
+unfolding order_of
+given_twice_row = refl
+
+empty_pattern_row : order_of (codes "scrub" ∷ codes "--include-events" ∷ codes "A,,B" ∷ codes "a" ∷ codes "b" ∷ []) ≡ None
+unfolding order_of
+empty_pattern_row = refl
+
+-- Without options a part has at most five chunks and 2 ^ 40 bytes.
+disassemble_row : order_of (codes "disassemble" ∷ codes "a" ∷ []) ≡ Some (Disassemble (codes "a") (record { folder = None; max_chunks = 5; max_size = 2 ^ 40; max_parts = 999999 }))
+unfolding order_of
+disassemble_row = refl
+
+disassemble_options_row : order_of (codes "disassemble" ∷ codes "--max-size" ∷ codes "1099511627776" ∷ codes "--output" ∷ codes "parts" ∷ codes "--max-chunks" ∷ codes "4294967295" ∷ codes "a" ∷ [])
+    ≡ Some (Disassemble (codes "a") (record { folder = Some (codes "parts"); max_chunks = 4294967295; max_size = 1099511627776; max_parts = 999999 }))
+unfolding order_of number_of
+disassemble_options_row = refl
+
+no_chunks_row : order_of (codes "disassemble" ∷ codes "--max-chunks" ∷ codes "0" ∷ codes "a" ∷ []) ≡ None
+unfolding order_of number_of
+no_chunks_row = refl
+
+dashed_folder_row : order_of (codes "disassemble" ∷ codes "--output" ∷ codes "-parts" ∷ codes "a" ∷ []) ≡ None
+unfolding order_of
+dashed_folder_row = refl
+
+assemble_row : order_of (codes "assemble" ∷ codes "parts" ∷ codes "b" ∷ []) ≡ Some (Assemble (codes "parts") (codes "b"))
+unfolding order_of
+assemble_row = refl
+
+sample_row : order_of (codes "sample" ∷ codes "4294967295" ∷ codes "1000000" ∷ []) ≡ Some (Sample 4294967295 1000000)
+unfolding order_of number_of
+sample_row = refl
+
+no_events_row : order_of (codes "sample" ∷ codes "1" ∷ codes "0" ∷ []) ≡ None
+unfolding order_of number_of
+no_events_row = refl
+
+large_seed_row : order_of (codes "sample" ∷ codes "4294967296" ∷ codes "1" ∷ []) ≡ None
+unfolding order_of number_of
+large_seed_row = refl
+
+-- A number has at most nineteen digits.
+digits_row : order_of (codes "sample" ∷ codes "0000000000000000007" ∷ codes "1" ∷ []) ≡ Some (Sample 7 1)
+unfolding order_of number_of
+digits_row = refl
+
+too_many_digits_row : order_of (codes "sample" ∷ codes "00000000000000000007" ∷ codes "1" ∷ []) ≡ None
+unfolding order_of number_of
+too_many_digits_row = refl
+
+signed_row : order_of (codes "sample" ∷ codes "+7" ∷ codes "1" ∷ []) ≡ None
+unfolding order_of number_of
+signed_row = refl
+
+other_command_row : order_of (codes "frobnicate" ∷ codes "x" ∷ []) ≡ None
+unfolding order_of
+other_command_row = refl
+
+no_words_row : order_of [] ≡ None
+unfolding order_of
+no_words_row = refl
