@@ -5,21 +5,21 @@ Takes the given recordings and small ones of hostile.py, changes one in some pla
 their limits, pieces moved, repeated and cut; half the time records, classes and values besides, with sizes, positions
 and deltas that are true again), and runs commands on the outcome, with 1 GB of memory: `summary` first. On an input that
 it accepts come `print --json` and scrub, a scrub with one option, and half of the other commands that read chunks; on
-one that it refuses, and those are four of five, one of all these. Which, goes round by the input's number. Wrong is
+one that it refuses, and those are four of five, one of all these. The choice rotates with the input's number. Wrong is
 
 - a signal, more than 20 seconds, a status that isn't one of the command's, 5 of a command other than print;
 - more than 20 times the input's size and 64 MB of memory of a command other than print;
 - another answer of two commands that check the same: status or line on the error stream;
-- a line of `print --json` that Python's json doesn't read, or another number of lines than `summary` tells events;
+- a line of `print --json` that Python's json doesn't read, or another number of lines than `summary` counts events;
 - a scrub's output that isn't accepted, that scrubs to something else with the same options, or, without options, of
-  which `print --json` tells something else;
+  which `print --json` shows something else;
 - parts, or files joined, that aren't the input again.
 
-With --jobs so many processes work at once, each on every Nth input; with --inputs it stops after so many inputs, if
+With --jobs N, N processes work at once, each on every Nth input; with --inputs N it stops after N inputs, if
 SECONDS are enough for them. Inputs have numbers: the seed and the files determine each, and which commands are run on it.
-An input with a wrong run is kept in the folder `found` where the script is run, and told by its number; a process stops
+An input with a wrong run is kept in the folder `found` where the script is run, and reported by its number; a process stops
 after 20 of them. Prints at the end how often each status of each command came, and how often each reason of refusal; the
-status is 0 where nothing was wrong.
+status is 0 if nothing was wrong.
 """
 import argparse
 import json

@@ -1,5 +1,5 @@
 #!/usr/bin/env python3
-"""Makes a recording that asks for more than its size: hostile.py OUT KIND [SIZE], or hostile.py alone for the kinds
+"""Makes a recording that asks for more than its size: hostile.py OUT KIND [SIZE], or hostile.py without words for the kinds
 
 The recording is spelled by the rules of docs/FORMAT.md, with all sizes, positions and deltas true unless its kind
 says otherwise. SIZE scales what is large in it, from 0 to 1; without it 1, so that the largest recordings are chunks
@@ -46,7 +46,7 @@ def record(kind, body):
 
 
 def checkpoint(pools=(), delta=0, width=1):
-    """A checkpoint of pools, each a class and its spelled entries; its delta in so many bytes at least."""
+    """A checkpoint of pools, each a class and its spelled entries; its delta in at least this many bytes."""
     body = b"\0\0" + integer(delta, width) + b"\0" + integer(len(pools))
     return record(1, body + b"".join(integer(of) + entries for of, entries in pools))
 
@@ -251,7 +251,7 @@ def attributes(size):
 
 
 def long_key(size):
-    """A key of a megabyte that stands a million times each in a class, a field and an annotation."""
+    """A key of a megabyte that a class, a field and an annotation each have a million times."""
     def make(of):
         many = count(2**20, size)
         pairs = (of.at("k" * many) + of.at("v")) * many
@@ -277,7 +277,7 @@ def long_names(size):
 
 
 def alike_fields(size):
-    """2^18 classes with fields of the same two names of two megabytes, which differ in their last letter alone."""
+    """2^18 classes with fields of the same two names of two megabytes, which differ only in their last letter."""
     def make(of):
         long, one = "n" * count(2**21, size), [("name", "t.C")]
         both = [field(of, long + last, LONG) for last in "ab"]
@@ -329,14 +329,14 @@ def long_class_names(size):
 
 
 def alike_classes(size):
-    """2^17 event classes of two names of two megabytes, which differ in their last letter alone, and an event of each."""
+    """2^17 event classes of two names of two megabytes, which differ only in their last letter, and an event of each."""
     many, names = count(2**17, size), ["n" * count(2**21, size) + last for last in "ab"]
     described = metadata(lambda of: [class_(of, names[n % 2], 100 + n, event=True) for n in range(many)])
     return chunk(described, b"".join(record(100 + n, b"") for n in range(many)))
 
 
 def inline(steps, *last, wide=False):
-    """The classes of a chain of so many inline steps, of which the first is of events; the field of the last."""
+    """The classes of a chain of this many inline steps, of which the first is of events; the field of the last."""
     def make(of):
         inner = [class_(of, "t.L%d" % steps, 100 + steps, [field(of, *last)])]
         for step in range(steps):
@@ -362,7 +362,7 @@ def inline_wide(size):
 
 
 def inline_array(size):
-    """An event with an array of bytes, behind a chain of 32 inline steps."""
+    """An event with an array of bytes at the end of a chain of 32 inline steps."""
     described = inline(32, "n", BYTE, False, True)
     many = left(size, described)
     return chunk(described, record(EVENT, integer(many) + b"\1" * many))

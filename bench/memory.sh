@@ -3,8 +3,8 @@
 #
 # The limit on the address space rises by STEP KiB (64 where it isn't given) from where the program can start until
 # each command has twice ended with 0 in a row, so that each allocation that asks the system for more fails in turn.
-# Under each limit a command must end with 0 or 5: with 5 the error stream has a prefix of 'out of memory', and what
-# stands on the output stream or in the output file is a prefix of what stands without a limit. Prints for each command
+# Under each limit a command must end with 0 or 5: with 5 the error stream has a prefix of 'out of memory', and the
+# output stream or the output file has a prefix of what it has without a limit. Prints for each command
 # how many limits were tried, how often it ended with 0 and with 5, and what was wrong; the status is 0 where nothing
 # was.
 set -u

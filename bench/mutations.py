@@ -213,7 +213,7 @@ def spelled_word(rng):
 
 
 def described(body):
-    """What stands before the strings of a metadata record's body, its strings, spelled, and its root."""
+    """What comes before the strings of a metadata record's body, its strings, spelled, and its root."""
     at = 0
     for _ in range(3):
         _, at = integer_at(body, at)
@@ -228,7 +228,7 @@ def described(body):
 
 
 def change_metadata(rng, body):
-    """Some changes of the strings and elements of a metadata record's body, which is left alone if it isn't one."""
+    """Some changes of the strings and elements of a metadata record's body, which is unchanged if it isn't one."""
     try:
         head, strings, root = described(body)
     except NOT_SO:
@@ -339,7 +339,7 @@ class Classes:
         return b"".join(self.value(rng, *shape) for shape in shapes)
 
     def pools(self, body):
-        """What stands before the pools of a checkpoint's body, and the pools, each a class and its entries."""
+        """What comes before the pools of a checkpoint's body, and the pools, each a class and its entries."""
         at = 0
         for _ in range(3):
             _, at = integer_at(body, at)

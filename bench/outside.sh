@@ -2,7 +2,7 @@
 # Tries the program against the real outside: bench/outside.sh PROGRAM FILE
 #
 # FILE is a recording that the program accepts. Each case has a status that is expected, a line on the error stream,
-# and what must stand afterwards. Cases that this machine can't set up (a file system of its own, another user) are
+# and conditions on the files afterwards. Cases that this machine can't set up (a file system of its own, another user) are
 # said to be skipped. Prints a line for each case that is wrong, and at the end how many cases there were and how many
 # were wrong; the status is 0 where none was.
 set -u

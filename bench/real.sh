@@ -3,7 +3,7 @@
 #
 # For each file: each command ends with status 0. A scrub of a scrub's output gives the same bytes. The JDK's own
 # `jfr summary` counts the same events in the file, in what a scrub without options made of it and in its parts
-# together; in a scrub that keeps the most frequent type of event alone it counts those; and `summary` tells the
+# together; in a scrub that keeps only the most frequent type of event it counts those; and `summary` has the
 # same counts. The parts joined are the file again, byte for byte. On a file of less than a megabyte the values of
 # `print --json` are those that the JDK prints (values.py).
 #
@@ -39,7 +39,7 @@ least_and_middle() { printf '%s\n' "$@" | sort -n | awk '$1 != "" { of[NR] = $1 
 times_of() { awk "BEGIN { printf \"%.1f\", $2 / ($1 > 0 ? $1 : 0.001) }"; }
 
 # The seconds of the JDK's runs in turn with those of this program, in the lists `theirs` and `ours`. The words up to
-# `--` are this program's command, those behind it the JDK's; where there are none, or its command ends with another
+# `--` are this program's command, those after it the JDK's; if there are none, or its command ends with another
 # status than 0, it has no seconds.
 race() {
     local mine=() its=()
@@ -56,7 +56,7 @@ race() {
     done
 }
 
-# A row: a label, and what `race` takes, without the program. What was written stands in `text` and in `made` then.
+# A row: a label, and what `race` takes, without the program. Leaves what was written in `text` and in `made`.
 # Fails where the row isn't asked for, or the command has another status than 0.
 row() {
     local label=$1 peak=- least middle its_least=- its_middle=- times=- by_middle=- mine=(); shift
@@ -82,7 +82,7 @@ row() {
 # MB of the file in a second.
 speed() { awk "BEGIN { printf \"%.0f\", $size / 1000000 / ($1 > 0 ? $1 : 0.001) }"; }
 
-# How many bytes stand in `text` and in `made`.
+# How many bytes there are in `text` and in `made`.
 written() { find "$work/text" "$made" -type f -printf '%s\n' | awk '{ sum += $1 } END { print sum + 0 }'; }
 
 # The events of recordings and their numbers together, as the JDK counts them, without the records of metadata and

@@ -31,7 +31,8 @@ code="xqclassqx xqmethodqx xqpackageqx xqloaderqx xqfinalizedqx xqmodulenameqx x
 # recipes/vendor leaves names of threads; recipes/tenant those that it isn't given.
 threads="xqthreadqx xqgroupqx"
 tenant="xqtenantqx"
-# No recipe changes the metadata.
+# No recipe promises to remove what the metadata says. The descriptions of event types leave with their last event;
+# those of annotations and settings stay.
 metadata="
     xqeventnameqx xqfieldqx xqlabelqx xqdescriptionqx xqcategoryqx xqannotationqx xqsettingnameqx xqsettingclassqx"
 
@@ -69,7 +70,7 @@ record() {
         -cp "$to/xqclasspathqx" Secrets run "$to" xqargumentqx --password=xqargumentpasswordqx
 }
 
-# Those of the words that stand in a recording's bytes or in what the JDK prints of it.
+# The words that are in a recording's bytes or in what the JDK prints of it.
 left_in() {
     local recording=$1 jdk=$2 word
     shift 2
@@ -79,7 +80,7 @@ left_in() {
     done
 }
 
-# The words of the first list that stand in the second one, and those that don't.
+# The words of the first list that are in the second one, and those that aren't.
 both() { grep -xFf <(printf '%s\n' $2) <(printf '%s\n' $1) | tr '\n' ' '; }
 only() { grep -vxFf <(printf '%s\n' $2) <(printf '%s\n' $1) | tr '\n' ' '; }
 

@@ -5,7 +5,7 @@ OURS has an object in each line, THEIRS one object for the recording. For each t
 field the values of all events are compared as a collection, since the JDK prints events in the order of
 time and this program in that of the file. Compared are the fields in which both show integers, booleans
 or strings throughout: the JDK shows times, durations and constants otherwise. A string with U+FFFD isn't
-compared: it stands for a surrogate without its partner, which the JDK prints as it is. Integers are
+compared: it replaces a surrogate without its partner, which the JDK prints as it is. Integers are
 compared by their 64 bits: JDK 21 and later show fields that are marked unsigned without a sign.
 
 Prints how much was compared, and the first values that differ; ends with 1 where there are any.
