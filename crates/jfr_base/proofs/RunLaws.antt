@@ -1,4 +1,4 @@
--- What lies at an offset, byte for byte, is what `run` computes there.
+-- `run` at an offset depends only on the bytes from that offset on.
 use Rattle.std.specs.Prelude.{◌≡◌, ℕ, zero, suc, ◌+◌, ◌-◌, ◌≤◌, List, [], ◌∷◌, ◌++◌, length, take, drop, slice_range, slice_index, Some, Ok, option_map, nat_lt, nat_le, true}
 use Rattle.std.proofs.Common.{ap, arith, sym, ◌∙◌, subst}
 use Rattle.std.proofs.lemmas.List.{length-append, get_or-drop}

@@ -91,8 +91,8 @@ Fails (Run n next) x end at o why =
 Fails (Here next) x end at o why = Fails (next at) x end at o why
 Fails (Refuse r) x end at o why = (o ≡ at) × (why ≡ r)
 
--- The format reads exactly these bytes, at any offset, as the value. One that depends on the offset or on the
--- end reads no bytes in this way.
+-- The format reads all of these bytes as the value, at whatever offset they lie. This never holds of a format
+-- that asks for its offset or for the end of the input.
 abbrev pub Exactly : {A : Type 0} → Format A → List ℕ → A → Type 0
 Exactly (Done a) b value = (value ≡ a) × (b ≡ [])
 Exactly (Stop next) b value = ⊥

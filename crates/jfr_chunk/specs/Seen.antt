@@ -39,8 +39,8 @@ event_kept rs early f = option_map (λ r. event_with (end_in early f.record r) r
 abbrev pub due : List EntryAt → Classes → List ℕ → List Framed → BTreeMap ℕ ℕ → EventIndexEntry → List ℕ
 due es k c rs early f = option_map_or (λ e. node_entries es k c e.node) (event_kept rs early f) []
 
--- The numbers are those of all events, one event after another, and each event's `refs_end` is the end of its
--- range, if the first range starts at `from`.
+-- The list holds the entry numbers of all events, event after event. Each event's `refs_end` is where its range
+-- in the list ends, and the first range starts at `from`.
 abbrev pub AreRefs : (EventIndexEntry → List ℕ) → ℕ → List EventIndexEntry → List ℕ → Type 0
 AreRefs due from [] numbers = numbers ≡ []
 AreRefs due from (f ∷ fs) numbers = (rest : List ℕ) × (numbers ≡ due f ++ rest) × (f.refs_end ≡ from + length (due f)) × AreRefs due f.refs_end fs rest

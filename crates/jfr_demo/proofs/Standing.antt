@@ -28,7 +28,7 @@ pub length-record : (body : List ℕ) → length (record_of body) ≡ 4 + length
 unfolding spell_in
 length-record body = omega arith
 
--- The record stands there, and the rest of its body.
+-- A record of this type is at the offset, and the rest of its body follows its type.
 pub record RecordStands (c : List ℕ) (at type : ℕ) (rest : List ℕ) : Type 0 where
   pub is : IsRecord c (framed at type rest)
   pub body : Holds c (record_end (framed at type rest)) (at + 4 + length (spell type)) rest

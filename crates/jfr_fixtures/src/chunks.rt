@@ -42,7 +42,7 @@ pub fn chunk_of(
     chunk_at(alloc, USUAL, records, pools, metadata)
 }
 
-/// The same chunk with these times.
+/// A chunk as `chunk_of` makes it, with these times in its header.
 pub fn chunk_at(
     alloc: Global,
     times: Times,
@@ -107,7 +107,7 @@ pub fn inert(alloc: Global) -> Result<Vec<u8>, AllocError> {
     inert_at(alloc, USUAL)
 }
 
-/// The same chunk with these times.
+/// A chunk as `inert` makes it, with these times in its header.
 pub fn inert_at(alloc: Global, times: Times) -> Result<Vec<u8>, AllocError> {
     let records = [NO_CLASSES, NO_POOLS, UNKNOWN, NO_CLASSES, NO_POOLS];
     chunk_at(alloc, times, &records, 134, 106)

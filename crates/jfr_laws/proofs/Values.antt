@@ -1,4 +1,4 @@
--- The same value is read from the same bytes at any offset.
+-- What value is read from bytes doesn't depend on their offset.
 use Rattle.std.specs.Prelude.{◌≡◌, ℕ, ◌≤◌, List, [], length, Some, Ok, Err, unwrap_or, slice_range}
 use Rattle.std.proofs.Common.{ap, arith, refl, subst}
 use Rattle.jfr_base.specs.Formats.{Format, Exactly, Reads, Answer, Got, run}

@@ -26,12 +26,12 @@ abbrev pub lesser : ℕ → Option ℕ → ℕ
 lesser n None = n
 lesser n (Some m) = min n m
 
--- The number of bytes that the next call keeps, by the scripts before this one and by this one.
+-- The lesser of what the scripts before this one let the next call keep, and of what this one does.
 abbrev pub kept_with : Call → Option ℕ → Script → Option ℕ
 kept_with call keep s = if is_due call s then Some (lesser s.keep keep) else keep
 
--- The number of bytes that the next call of this kind keeps, if it has to fail: the least number of the
--- scripts that are due.
+-- How many bytes the next call of this kind keeps if a script makes it fail: the least number that such a
+-- script gives.
 abbrev pub kept : Call → List Script → Option ℕ
 kept call scripts = fold (kept_with call) None scripts
 

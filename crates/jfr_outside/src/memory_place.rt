@@ -76,8 +76,8 @@ impl MemoryPlace {
     }
 }
 
-// In each contract the first clauses are the trait's. Those after the blank line state when the call fails:
-// if a script is due, and otherwise only for the causes of a steady place.
+// In each contract the first clauses are the trait's. Those after the blank line state when the call fails: if a
+// script says so, and otherwise only for the causes of a steady place.
 impl Place for MemoryPlace {
     ghost state = { λ p. state_of p };
 

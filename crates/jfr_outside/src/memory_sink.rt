@@ -60,7 +60,7 @@ impl Sink for MemorySink {
         ensures told { LeavesPrefix result (state_of self.old).written (state_of self.new).written bytes.now added }
         ensures faults { Counts result (state_of self.old).faults (state_of self.new).faults }
 
-        // A write fails exactly if a script is due, and keeps no more than that script allows.
+        // A write fails exactly if a script says so, and keeps no more bytes than that script allows.
         ensures due { IsDue Append (scripts_of self.old) → IsErrOf result Failed }
         ensures cause { IsErrOf result Failed → IsDue Append (scripts_of self.old) }
         ensures keeps { IfSome (kept Append (scripts_of self.old)) (λ keep. KeepsPrefix keep (state_of self.old).written (state_of self.new).written bytes.now added) }

@@ -44,7 +44,7 @@ pub fn leads<'a>(chunk: &Chunk<'a>, node: &Node<'a>, path: &Path) -> Option<Node
     Some(place)
 }
 
-/// The same value, over the bytes that the chunk itself holds.
+/// The node, borrowed from the chunk and not from where it was found.
 pub(crate) fn in_chunk<'a>(chunk: &Chunk<'a>, node: &Node<'_>) -> Node<'a>
     requires value { IsValue chunk.now.classes node.now }
     requires of_chunk { node.now.bytes.now ≡ chunk.now.bytes }

@@ -37,7 +37,7 @@ none_whole_by n m (Chunk c) next h k = grind (arith, common_steps)
 pub none_whole : (n : ℕ) (x : List ℕ) (s : ℕ) (f : Bool) → n < reach x → whole_in n (cut x s f).chunks ≡ 0
 none_whole n x s f k = ap (λ (y : Cuts). whole_in n y.chunks) (cut_open x s f) ∙ none_whole_by n (reach x) (front x s f) (λ c. cut_within (length x) (drop (length c) x) (s + length c) false) (reaches x s f) k
 
--- The same, if what is refused for its header has a flaw.
+-- If a header is flawed, this number of bytes ends before the 68 bytes of that header.
 abbrev pub BelowHeader : ℕ → Cuts → Type 0
 BelowHeader n y = IfSome y.flaw (IsBelowHeader y n)
 

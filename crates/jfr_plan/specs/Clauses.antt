@@ -10,8 +10,8 @@ use Rattle.jfr_plan.specs.Effects.{Outside, Plan, Stand, stand, effects}
 use Rattle.jfr_plan.specs.Walks.{Rule, Target, File, Parts, Text, plan_in}
 use Rattle.jfr_plan.specs.Outcomes.{Outcome, AllDone, SomeDone, Breaks, HaltedIn, Tallied}
 
--- What a call has to do: its plan, by what the place holds; what a read fault leaves, on a steady place or
--- another; where it can read all that it reads; and what it writes.
+-- What a call has to do: its plan, given the files of the place; what is there after a read fault, on a steady
+-- place or on another; when all of its input can be read; and what it writes to.
 pub record Task : Type 1 where
   pub plan : World → Plan
   pub Halts : Bool → World → World → Stand → Stand → Type 0
@@ -34,7 +34,7 @@ over r input = record {
   target = r.target;
 }
 
--- A claim on what is there before and after a call, if the place tells its files.
+-- If the place tells its files, the claim holds of the files and of the text written, before and after a call.
 abbrev pub Stands : Outside → Outside → (World → World → Stand → Stand → Type 0) → Type 0
 Stands a b P = Told a.place.told b.place.told (λ w v. P w v (stand w a.sink.written) (stand v b.sink.written))
 
@@ -95,7 +95,7 @@ pub record Ran (task : Task) (result : Ending) (before after : Outside) : Type 0
   -- Without a fault the answer is the plan's end, or memory ran out. Only parts can be too many.
   pub complete : IsComplete task (way_of result) before after
   pub parts : result ≡ ending.TooManyParts → task.target ≡ Parts
-  -- The call brings no read fault about by itself, and leaves a steady place steady.
+  -- No read fails if all of the input can be read. A steady place stays steady.
   pub can_read : task.Readable before.place → (result ≢ ending.ReadFault) × (after.place.read_faults ≡ before.place.read_faults)
   pub same : after.place.steady ≡ before.place.steady
 

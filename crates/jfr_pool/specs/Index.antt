@@ -47,8 +47,8 @@ abbrev pub seat_from : ℕ → ℕ → List Slot → ℕ × ℕ → Option ℕ
 seat_from zero place slots t = None
 seat_from (suc n) place slots t = if is_open (held (slot_at slots place)) t then Some place else seat_from n (place + 1) slots t
 
--- The home of a class and key, which is the first slot for them: the two are mixed to a number of 64 bits,
--- and this is scaled to the slots that are followed by REACH others.
+-- The slot where the search for a class and key starts. The two are mixed into a number of 64 bits, which is
+-- scaled to the slots that have at least REACH others after them.
 unfoldable pub home : List Slot → ℕ × ℕ → ℕ
 home slots t = bit_xor t.1 (t.0 * 2 ^ CLASS_AT % 2 ^ 64) * MIX % 2 ^ 64 * (length slots - REACH) / 2 ^ 64
 

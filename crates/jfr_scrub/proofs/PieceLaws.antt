@@ -47,7 +47,7 @@ put_last c made x more ps qs part from to a e f t q =
     ∙ (ap (λ z. z ++ (slice_range more from to ++ [])) (ap (λ z. flat_map (part_bytes c z) ps) e ∙ same_pieces c made x ps a)
     ∙ ap (λ z. flat_map (part_bytes c made) ps ++ z) (append-nil (slice_range more from to) ∙ made_last made x more from to e f t)))
 
--- The same, for a piece added in front.
+-- A made piece added in front adds its bytes in front.
 pub put_first : (c made x more : List ℕ) (ps qs : List Part) (part : MadePart) (from to : ℕ) → AllByRecursion (Lies (length c) (length made)) ps → more ≡ made ++ x → from ≡ length made → to ≡ length more →
     qs ≡ parts.Made part from to ∷ ps → flat_map (part_bytes c more) qs ≡ x ++ flat_map (part_bytes c made) ps
 put_first c made x more ps qs part from to a e f t q =

@@ -62,8 +62,8 @@ abbrev pub NotFalling : ℕ → List EntryAt → Type 0
 NotFalling n [] = ⊤
 NotFalling n (e ∷ es) = (n ≤ e.checkpoint) × NotFalling e.checkpoint es
 
--- An output record is copied: a whole record is in one copied piece, and so is each entry of a chained
--- checkpoint. Of a metadata record that is built anew nothing has to be.
+-- What the pieces must copy of an output record: a whole record in one piece, or each entry of a chained
+-- checkpoint in one piece. A rebuilt metadata record is made, so nothing of it must be copied.
 abbrev pub OutputRecordIsCopied : List EntryAt → List Part → OutputRecord → Type 0
 OutputRecordIsCopied left ps (Whole r) = RecordIsCopied ps r
 OutputRecordIsCopied left ps (Rebuilt r x) = ⊤

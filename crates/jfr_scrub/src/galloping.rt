@@ -18,7 +18,7 @@ pub(crate) fn events_ahead(chunk: &Chunk, cursor: &Cursor) -> usize
     other_by_halving(chunk, cursor, high - high / 2, high)
 }
 
-// An offset at which the record isn't the event. At all offsets below its half it is.
+// An offset at which the record isn't the event, though the records at all offsets below half of it are.
 fn other_by_doubling(chunk: &Chunk, cursor: &Cursor) -> usize
     requires { IsAtEvents chunk.now cursor.now }
     ensures room { HasRoom cursor.now result }

@@ -18,7 +18,7 @@ take_next xs i x is = take_more xs i x (slice_get_within xs i x is) ∙ ap (λ y
 pub pieces_more : {X : Type 0} (f : X → List ℕ) (xs : List X) (i : ℕ) (x : X) (start now new : List ℕ) → slice_get xs i ≡ Some x → now ≡ start ++ flat_map f (take i xs) → new ≡ now ++ f x → new ≡ start ++ flat_map f (take (i + 1) xs)
 pieces_more f xs i x start now new is so next = next ∙ (ap (λ z. z ++ f x) so ∙ (flat_map_more f start (take i xs) x ∙ ap (λ z. start ++ flat_map f z) (sym (take_next xs i x is))))
 
--- The same after the first member.
+-- The piece of one member more, if the first member is left out.
 pub others_more : {X : Type 0} (f : X → List ℕ) (xs : List X) (i : ℕ) (x : X) (start now new : List ℕ) → 1 ≤ i → slice_get xs i ≡ Some x → now ≡ start ++ flat_map f (drop 1 (take i xs)) → new ≡ now ++ f x → new ≡ start ++ flat_map f (drop 1 (take (i + 1) xs))
 others_more f xs zero x start now new h is so next = absurd (omega arith)
 others_more f [] (suc i) x start now new h is so next = cc

@@ -1,5 +1,5 @@
--- How the events of a chunk are counted: first by the leader of their class, which is a class with the same
--- name, then by the names of the classes.
+-- How the events of a chunk are counted. Of the classes with one name, one is the leader. Events are counted by
+-- the leader of their class first, and then by its name.
 use Rattle.std.specs.Prelude.{◌≡◌, ℕ, ◌+◌, ◌^◌, ◌<◌, ◌≤◌, ◌==◌, Bool, false, List, filter, length, map, Option, Some, IfSome, option_and_then, option_map, slice_get, unwrap_or, if◌then◌else◌}
 use Rattle.std.specs.List.{AllZip}
 use Rattle.std.specs.Option.{option_map_or}
@@ -43,7 +43,7 @@ is_at k leaders index r = option_map_or (λ n. n == index) (leader_of k leaders 
 abbrev pub class_tally : Classes → List ℕ → List Framed → ℕ → Tally
 class_tally k leaders rs index = tally_of (map (occurrence k) (filter (is_at k leaders index) rs))
 
--- A tally for each class, in order, of the events of all classes whose leader it is.
+-- One tally for each class, in order. It counts the events of all classes whose leader this class is.
 pub record AreTallies (k : Classes) (leaders : List ℕ) (rs : List Framed) (ts : List Tally) : Type 0 where
   pub count : length ts ≡ length k
   pub each : (index : ℕ) → index < length k → slice_get ts index ≡ Some (class_tally k leaders rs index)

@@ -256,9 +256,9 @@ pub(crate) fn layout_end<C, V: Visit<C>>(
     }
 }
 
-/// The offset after an array, or after an inline value of a composite class. The calls return their results
-/// in memory. They are unpacked here, by `?` and `Ok`; passed on as they are, they would force the results
-/// that `layout_end` has for other forms into memory, too.
+/// The offset after an array, or after an inline value of a composite class. The results of the calls are
+/// unpacked by `?` and wrapped again by `Ok`: returned as they are, they would make `layout_end` return every
+/// result through memory.
 #[cycle(ends)]
 #[tactic(auto, using(jfr_base::proofs::SeenLaws::ends), unfolding(jfr_base::specs::Formats::run, crate::specs::Reading::class_format))]
 #[inline(always)]
@@ -319,7 +319,7 @@ fn row_end<C, V: Visit<C>>(
     Ok(to)
 }
 
-/// As `row_end`, out of line of the walk over the value whose fields these are.
+/// As `row_end`, but never inlined: this keeps the walk over a single value small.
 #[cycle(ends)]
 #[tactic(auto, using(jfr_base::proofs::SeenLaws::ends), unfolding(jfr_base::specs::Formats::run, crate::specs::Reading::class_format))]
 #[inline(never)]
