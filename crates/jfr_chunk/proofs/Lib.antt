@@ -20,6 +20,7 @@ pub mod SeenLaws
 pub mod StageLaws
 pub mod StandingLaws
 pub mod TestLaws
+pub mod UsedLaws
 mod FilterRows
 mod ThreadRows
 mod RingRows

@@ -9,6 +9,7 @@ pub mod Scrub
 pub mod Meaning
 pub mod Seen
 pub mod Refs
+pub mod Used
 pub mod Rooms
 pub mod Stages
 pub mod Laws

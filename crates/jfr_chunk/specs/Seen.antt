@@ -1,5 +1,6 @@
 -- The index that a chunk keeps beside its bytes, and the events that its calls return.
-use Rattle.std.specs.Prelude.{◌≡◌, ℕ, ◌+◌, List, [], ◌∷◌, ◌++◌, Option, Some, length, map, take, reverse, slice_get, option_map, unwrap_or}
+use Rattle.std.specs.Prelude.{◌≡◌, ℕ, ◌+◌, ◌==◌, Bool, false, List, [], ◌∷◌, ◌++◌, Option, Some, length, map, take, reverse, slice_get, option_map, unwrap_or}
+use Rattle.std.specs.List.{list_any}
 use Rattle.std.specs.Option.{option_map_or}
 use Rattle.std.specs.BTreeMap as tree
 use Rattle.std.specs.BTreeMap.{BTreeMap}
@@ -12,6 +13,7 @@ use Rattle.jfr_frame.specs.Records.{record_end}
 use Rattle.jfr_layout.specs.Classes.{Classes}
 use Rattle.jfr_meta.specs.declared.metadata.Metadata.{Metadata}
 use Rattle.jfr_meta.specs.Body.{Body}
+use Rattle.jfr_meta.specs.Stays.{is_in}
 use Rattle.jfr_value.specs.Nodes.{node_at, node_of}
 use Rattle.jfr_pool.specs.declared.link.Link.{Link}
 use Rattle.jfr_pool.specs.declared.entry.EntryAt.{EntryAt}
@@ -45,8 +47,12 @@ abbrev pub AreRefs : (EventIndexEntry → List ℕ) → ℕ → List EventIndexE
 AreRefs due from [] numbers = numbers ≡ []
 AreRefs due from (f ∷ fs) numbers = (rest : List ℕ) × (numbers ≡ due f ++ rest) × (f.refs_end ≡ from + length (due f)) × AreRefs due f.refs_end fs rest
 
--- The parts are those of a whole chunk, and the header, the metadata record, the events and the entries to
--- which they refer are those of the parts.
+-- The event of one of these index entries is of the class with this id.
+abbrev pub used_in : List Framed → List EventIndexEntry → ℕ → Bool
+used_in rs fields id = list_any (λ f. option_map_or (λ r. r.type_id == id) (slice_get rs f.record) false) fields
+
+-- The parts are those of a whole chunk, and the header, the metadata record, the events, the entries to
+-- which they refer and their classes are those of the parts.
 pub record IsIndexed (p : Parts) (header : Header) (metadata : Framed) (index : EventIndex) : Type 0 where
   pub whole : Whole p.bytes
   pub parts : AreParts p
@@ -54,6 +60,7 @@ pub record IsIndexed (p : Parts) (header : Header) (metadata : Framed) (index : 
   pub metadata_there : StartsAt p.records (metadata_at p.bytes) 0 metadata
   pub events : map (event_kept p.records index.early) index.fields.items ≡ map Some (events_of p)
   pub refs_end : AreRefs (due p.entries p.classes p.bytes p.records index.early) 0 index.fields.items index.numbers.items
+  pub used : (id : ℕ) → is_in index.used.ids id ≡ used_in p.records index.fields.items id
 
 -- The parts, with the chained checkpoints in the order of the file.
 abbrev pub parts_in : List ℕ → List Framed → List Link → Body → Classes → List EntryAt → Parts

@@ -1,5 +1,5 @@
 //! An accepted chunk.
-ghost use Rattle.std.specs.Prelude.{◌≡◌, ◌+◌, ◌<◌, ◌≤◌, ◌^◌, true, length, filter, replicate, reverse, slice_get, take, option_map, Ok, IfOk, IfErr, IfSome, MatchResult};
+ghost use Rattle.std.specs.Prelude.{◌≡◌, ◌+◌, ◌<◌, ◌≤◌, ◌^◌, ℕ, true, length, filter, replicate, reverse, slice_get, take, option_map, Ok, IfOk, IfErr, IfSome, MatchResult};
 ghost use Rattle.std.specs.List.{AllZip};
 ghost use Rattle.jfr_header.specs.Fronts.{Whole};
 ghost use Rattle.jfr_header.specs.Headers.{header_of};
@@ -7,7 +7,9 @@ ghost use Rattle.jfr_layout.specs.Classes.{Sound};
 ghost use Rattle.jfr_meta.specs.Answers.{IfFlawed};
 ghost use Rattle.jfr_meta.specs.Described.{IsNamedBy, described};
 ghost use Rattle.jfr_meta.specs.Held.{body_in};
+ghost use Rattle.jfr_meta.specs.Stays.{is_in};
 ghost use Rattle.jfr_meta.specs.Written.{depth};
+ghost use Rattle.jfr_chunk.specs.Metas.{used_by};
 ghost use Rattle.jfr_value.specs.Nodes.{IsValue, node_of};
 ghost use Rattle.jfr_pool.specs.Entries.{entry_node};
 ghost use Rattle.jfr_pool.specs.Faults.{TellsFlaw};
@@ -21,19 +23,14 @@ use crate::event_index::EventIndex;
 use crate::read::{header_in, read_events, record_named};
 use crate::{Event, Kept, Room};
 use jfr_base::{Flaw, NoMemory, ReadFault, Reason, Words};
-use jfr_frame::{Framed, Frames};
+use jfr_frame::{CHECKPOINT_TYPE, Framed, Frames, METADATA_TYPE};
 use jfr_header::Header;
 use jfr_layout::{Classes, Shape};
-use jfr_meta::{ClassNames, Metadata, class_names, read_metadata};
+use jfr_meta::{ClassNames, Ids, Metadata, class_names, read_metadata};
 use jfr_pool::{Chain, Pools};
 use jfr_value::Node;
 use std::alloc::Global;
 use std::marker::Model;
-
-// The types of metadata records and of checkpoints.
-const METADATA: u64 = 0;
-
-const CHECKPOINT: u64 = 1;
 
 // The flaw if no metadata record starts at the position in the header. Its offset is that of the header's
 // field.
@@ -103,8 +100,8 @@ impl<'a> Chunk<'a> {
     {
         let header = header_in(bytes);
         let frames = Frames::read_in(room.frames, bytes)?;
-        let metadata_frame = record_named(&frames, header.metadata, METADATA, NO_METADATA)?;
-        record_named(&frames, header.pools, CHECKPOINT, NO_CHECKPOINT)?;
+        let metadata_frame = record_named(&frames, header.metadata, METADATA_TYPE, NO_METADATA)?;
+        record_named(&frames, header.pools, CHECKPOINT_TYPE, NO_CHECKPOINT)?;
         let chain = Chain::read(alloc, bytes, &frames, header.pools)?;
         let metadata = read_metadata(alloc, bytes, &metadata_frame)?;
         let pools = Pools::read(alloc, bytes, &metadata.classes, &chain)?;
@@ -297,6 +294,13 @@ impl<'a> Chunk<'a> {
         let fields = self.events.fields_at(number)?;
         let frame = self.frames.get(fields.record as usize)?;
         Some(frame.type_id)
+    }
+
+    /// The ids of the classes of all events.
+    pub fn event_classes(&self) -> &Ids
+        ensures { (id : ℕ) → is_in result.now id ≡ used_by (events_of self.now) id }
+    {
+        self.events.used.ids()
     }
 
     /// The number, among all records, of the record of event `number`; `None` exactly if there is no such

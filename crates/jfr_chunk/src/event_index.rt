@@ -4,6 +4,7 @@ ghost use Rattle.jfr_frame.specs.Records.{record_end};
 ghost use Rattle.jfr_chunk.specs.Rooms.{HasNoEvents};
 ghost use Rattle.jfr_chunk.specs.Seen.{end_in};
 
+use crate::used::UsedClasses;
 use jfr_frame::Framed;
 use std::alloc::Global;
 use std::collections::BTreeMap;
@@ -20,8 +21,8 @@ pub(crate) struct EventIndexEntry {
     pub refs_end: u32,
 }
 
-/// The records of the events, in the order of the file, where their fields end, and the numbers of the
-/// entries in force to which they refer.
+/// The records of the events, in the order of the file, where their fields end, the numbers of the entries in
+/// force to which they refer, and their classes.
 #[derive(Drop)]
 pub(crate) struct EventIndex {
     /// An entry for each event.
@@ -31,6 +32,8 @@ pub(crate) struct EventIndex {
     pub early: BTreeMap<u32, u32>,
     /// The numbers of the entries in force to which the events refer, one event after another.
     pub numbers: Vec<u32>,
+    /// The classes of the events.
+    pub used: UsedClasses,
 }
 
 impl EventIndex {
@@ -42,6 +45,7 @@ impl EventIndex {
             fields: Vec::new(alloc),
             early: BTreeMap::new(alloc),
             numbers: Vec::new(alloc),
+            used: UsedClasses::new(alloc),
         }
     }
 
@@ -52,6 +56,7 @@ impl EventIndex {
         self.fields.clear();
         self.early.clear();
         self.numbers.clear();
+        self.used.clear();
     }
 
     /// The entry of event `number`; `None` exactly if there is no such event.

@@ -17,9 +17,11 @@ mod laws;
 mod read;
 mod refs;
 mod room;
+mod used;
 
 pub use chunk::Chunk;
 pub use event::Event;
 pub use kept::Kept;
 pub use laws::{computed_answer, marked_by_paths, one_answer, one_parts, same_paths};
 pub use room::Room;
+pub use used::UsedClasses;

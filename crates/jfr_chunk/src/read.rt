@@ -1,5 +1,5 @@
 //! Stages of reading a chunk.
-ghost use Rattle.std.specs.Prelude.{◌≡◌, ◌<◌, ◌≤◌, ◌^◌, [], length, take, Some, IfOk, IfErr, OnOk};
+ghost use Rattle.std.specs.Prelude.{◌≡◌, ◌<◌, ◌≤◌, ◌^◌, ℕ, [], length, take, Some, IfOk, IfErr, OnOk};
 ghost use Rattle.std.specs.BTreeMap as tree;
 ghost use Rattle.std.specs.Ordering.{nat_cmp};
 ghost use Rattle.jfr_base.specs.Formats.{run, seen};
@@ -8,13 +8,14 @@ ghost use Rattle.jfr_header.specs.Headers.{header_of};
 ghost use Rattle.jfr_frame.specs.Records.{AreRecords, IsRecord, record_end, record_there};
 ghost use Rattle.jfr_layout.specs.Classes.{IsEventLayout, Sound};
 ghost use Rattle.jfr_meta.specs.Answers.{IfFlawed};
+ghost use Rattle.jfr_meta.specs.Stays.{is_in};
 ghost use Rattle.jfr_value.specs.Nodes.{node_at};
 ghost use Rattle.jfr_value.specs.Reading.{value_format};
 ghost use Rattle.jfr_pool.specs.Entries.{inline};
 ghost use Rattle.jfr_chunk.specs.Refs.{AddsRefs};
 ghost use Rattle.jfr_chunk.specs.Reach.{node_entries};
 ghost use Rattle.jfr_chunk.specs.Refusal.{found_or};
-ghost use Rattle.jfr_chunk.specs.Seen.{AreRefs, due};
+ghost use Rattle.jfr_chunk.specs.Seen.{AreRefs, due, used_in};
 ghost use Rattle.jfr_chunk.specs.Stages.{AreFields, IsRefusedEvents};
 
 use crate::event_index::{EventIndex, EventIndexEntry};
@@ -68,11 +69,14 @@ pub(crate) fn read_events(
     requires entries { length pools.now ≤ length chunk.now }
     ensures ok { IfOk result (λ index. AreFields chunk.now classes.now frames.now index.fields.items index.early) }
     ensures refs_end { IfOk result (λ index. AreRefs (due pools.now classes.now chunk.now frames.now index.early) 0 index.fields.items index.numbers.items) }
+    ensures used { IfOk result (λ index. (id : ℕ) → is_in index.used.ids id ≡ used_in frames.now index.fields.items id) }
     ensures refused { IfErr result (IfFlawed (IsRefusedEvents chunk.now classes.now frames.now)) }
 {
     let mut fields = emptied(room.fields, frames.len())?;
     let mut early = room.early;
     early.clear();
+    let mut used = room.used;
+    used.clear();
     let mut refs = ConstantRefs::new(room.numbers);
     for number in 0..frames.len() {
         let frame = frames.at(number);
@@ -84,6 +88,7 @@ pub(crate) fn read_events(
         if end < frame.end() {
             add_early(&mut early, record, end as u32)?;
         }
+        used.add(frame.type_id)?;
         fields.push(EventIndexEntry {
             record,
             refs_end: refs.numbers.len() as u32,
@@ -96,6 +101,7 @@ pub(crate) fn read_events(
         fields,
         early,
         numbers: refs.numbers,
+        used,
     })
 }
 

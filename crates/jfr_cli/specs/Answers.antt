@@ -20,7 +20,7 @@ status_of TooManyParts = 6
 
 -- The line if the words aren't an order.
 abbrev pub usage_line : List ℕ
-usage_line = codes "usage: jfr print|summary|metadata|scrub|disassemble|assemble|sample" ++ newline
+usage_line = codes "usage: jfr print|summary|metadata|scrub|disassemble|assemble|sample|stacks" ++ newline
 
 -- The line of a refused recording: the number of the chunk, the offset in it, and the name of the reason.
 abbrev pub refusal_line : Refusal → List ℕ

@@ -25,6 +25,7 @@ Wrote (orders.Metadata file) e a b = ⊤
 Wrote (orders.Disassemble file rule) e a b = ⊤
 Wrote (orders.Assemble folder output) e a b = ⊤
 Wrote (orders.Sample seed events) e a b = ⊤
+Wrote (orders.Stacks g file) e a b = ⊤
 
 -- The state and the counts of faults after an order, for each ending.
 pub record Carries (o : Order) (e : Ending) (a b : Outside) : Type 0 where

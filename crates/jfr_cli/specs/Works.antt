@@ -10,7 +10,7 @@ use Rattle.jfr_scrub.specs.Scrubs.{scrubbing}
 use Rattle.jfr_split.specs.Splits.{splitting}
 use Rattle.jfr_split.specs.Joins.{assembling}
 use Rattle.jfr_split.specs.Clauses.{Unfinished, CanCreateAll}
-use Rattle.jfr_report.specs.Reports.{printing, summing, describing}
+use Rattle.jfr_report.specs.Reports.{printing, summing, describing, folding}
 use Rattle.jfr_demo.specs.Demo.{sampled}
 use Rattle.jfr_words.specs.declared.order.Order.{Order}
 use Rattle.jfr_words.specs.declared.order.Order.TheVariants as orders
@@ -36,6 +36,7 @@ work_of (orders.Scrub g input output) = Over (scrubbing g (file_name output)) (f
 work_of (orders.Disassemble file rule) = Over (splitting rule (file_name file)) (file_name file)
 work_of (orders.Assemble folder output) = Joins (file_name folder) (file_name output)
 work_of (orders.Sample seed events) = Alone (sample_plan (sampled seed events))
+work_of (orders.Stacks g file) = Over (folding g) (file_name file)
 
 -- The plan of the work, given the files of a place.
 abbrev pub plan_of : Work → World → Plan
@@ -97,3 +98,4 @@ CanCreateFor (orders.Print g depth json file) a = ⊥
 CanCreateFor (orders.Summary file) a = ⊥
 CanCreateFor (orders.Metadata file) a = ⊥
 CanCreateFor (orders.Sample seed events) a = ⊥
+CanCreateFor (orders.Stacks g file) a = ⊥

@@ -11,7 +11,7 @@ use jfr_demo::sample_text;
 use jfr_filter::Filter;
 use jfr_header::Ending;
 use jfr_outside::{NoMemory, Place, Sink, Text};
-use jfr_report::{metadata_stream, print_stream, summary_stream};
+use jfr_report::{metadata_stream, print_stream, stacks_stream, summary_stream};
 use jfr_scrub::scrub_stream;
 use jfr_split::{SplitRule, assemble, disassemble};
 use jfr_words::Order;
@@ -44,6 +44,7 @@ pub(crate) fn carry_out<P: Place, O: Sink>(
         Order::Disassemble { file, rule } => split(alloc, place, out, file, rule),
         Order::Assemble { folder, output } => join(alloc, place, out, folder, output),
         Order::Sample { seed, events } => say_sample(alloc, place, out, *seed, *events),
+        Order::Stacks { filter, file } => stacks(alloc, place, out, filter, file),
     }
 }
 
@@ -72,6 +73,18 @@ fn metadata<P: Place, O: Sink>(alloc: Global, place: &mut P, out: &mut O, file: 
     ensures { Carries (orders.Metadata file.now) result (outside (P.state place.old) (O.state out.old)) (outside (P.state place.new) (O.state out.new)) }
 {
     metadata_stream(alloc, place, out, file.as_str())
+}
+
+fn stacks<P: Place, O: Sink>(
+    alloc: Global,
+    place: &mut P,
+    out: &mut O,
+    filter: &Filter,
+    file: &Text,
+) -> Ending
+    ensures { Carries (orders.Stacks filter.now file.now) result (outside (P.state place.old) (O.state out.old)) (outside (P.state place.new) (O.state out.new)) }
+{
+    stacks_stream(alloc, place, out, file.as_str(), filter)
 }
 
 fn scrub<P: Place, O: Sink>(

@@ -42,7 +42,7 @@ fn say_usage<E: Sink>(err: &mut E) -> u8
 {
     say_line(
         err,
-        "usage: jfr print|summary|metadata|scrub|disassemble|assemble|sample\n",
+        "usage: jfr print|summary|metadata|scrub|disassemble|assemble|sample|stacks\n",
         USAGE,
     )
 }

@@ -31,6 +31,13 @@ impl Ids {
         Ok(())
     }
 
+    /// Removes all ids.
+    pub fn clear(&mut self)
+        ensures { (id : ℕ) → is_in self.new id ≡ false }
+    {
+        self.ids.clear();
+    }
+
     /// Whether the id is in the set.
     pub fn has(&self, id: u64) -> bool
         ensures { result ≡ is_in self.now id }

@@ -13,6 +13,7 @@ use Rattle.jfr_show.specs.Shown.{event_shown}
 use Rattle.jfr_show.specs.Json.{event_json}
 use Rattle.jfr_show.specs.Totals.{totals_of, summary_shown}
 use Rattle.jfr_show.specs.Metadata.{metadata_shown}
+use Rattle.jfr_stacks.specs.Folded.{lines_of, stacks_of}
 use Rattle.jfr_report.specs.declared.print.Writer.{Writer}
 use Rattle.jfr_report.specs.declared.print.Writer.TheVariants as writers
 
@@ -80,3 +81,8 @@ all_parts (c ∷ cs) = parts_with (read_parts c) (all_parts cs)
 -- The rule of `summary`: the totals of the recording are shown at its end.
 abbrev pub summing : Rule
 summing = texting (λ n p. []) (λ before. encode_utf8_all (summary_shown (totals_of (all_parts before))) ∷ [])
+
+-- The rule of `stacks`: the folded stacks of the events that the filter keeps are shown at the end of the
+-- recording.
+abbrev pub folding : Given → Rule
+folding g = texting (λ n p. []) (λ before. lines_of (stacks_of g (all_parts before)) ∷ [])

@@ -12,7 +12,7 @@ use jfr_show::{Summary, summary_text};
 use std::alloc::Global;
 
 /// More chunks than a recording can have: each has at least 68 bytes and starts below byte 2^40.
-const TOO_MANY: u64 = 17_000_000_000;
+pub(crate) const TOO_MANY: u64 = 17_000_000_000;
 
 /// The report of `summary`: adds up the chunks, and writes the totals at the end.
 #[derive(Drop)]

@@ -12,6 +12,8 @@ use Rattle.jfr_layout.specs.Classes.{Classes}
 use Rattle.jfr_meta.specs.Body.{Body}
 use Rattle.jfr_meta.specs.Held.{stays_of}
 use Rattle.jfr_meta.specs.Slimmed.{bytes_of_body, slim_in, table_len}
+use Rattle.jfr_meta.specs.Stays.{is_in}
+use Rattle.jfr_meta.specs.declared.ids.Ids.{Ids}
 use Rattle.jfr_meta.specs.Written.{IsText}
 use Rattle.jfr_meta.proofs.WithinLaws.{all_scalars}
 use Rattle.jfr_chunk.specs.Metas.{metadata_size, rebuilt, slim_of, stays_in, used_by}
@@ -65,6 +67,12 @@ new_is_record p kept room (Some x) e = record { body = slim_of p kept; bytes = (
 pub stays_are : (p : Parts) (kept : List EventAt) (b : Body) (k : Classes) (used stay : ℕ → Bool) → b ≡ p.body → k ≡ p.classes → ((id : ℕ) → used id ≡ used_by kept id) → ((id : ℕ) → stay id ≡ stays_of b k used id) → stay ≡ stays_in p kept
 unfolding stays_in
 stays_are p kept b k used stay e f g h = λ i id. (h id ∙ (λ j. stays_of (e j) (f j) (λ x. g x j) id)) i
+
+-- The set of these classes, if there is one.
+pub stays_ok : {E : Type 0} (p : Parts) (kept : List EventAt) (b : Body) (k : Classes) (used : ℕ → Bool) (r : Result Ids E) → b ≡ p.body → k ≡ p.classes → ((id : ℕ) → used id ≡ used_by kept id)
+    → IfOk r (λ stay. (id : ℕ) → is_in stay id ≡ stays_of b k used id) → IfOk r (λ stay. (id : ℕ) → is_in stay id ≡ stays_in p kept id)
+stays_ok p kept b k used (Err e) f g h i = tt
+stays_ok p kept b k used (Ok stay) f g h i = λ id. ap (λ (z : ℕ → Bool). z id) (stays_are p kept b k used (is_in stay) f g h i)
 
 -- A record that starts where the metadata record does has its size.
 pub frame_size : (p : Parts) (a : AreParts p) (r : Framed) → StartsAt p.records (metadata_at p.bytes) 0 r → r.size ≡ metadata_size p

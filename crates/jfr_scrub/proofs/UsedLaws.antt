@@ -1,13 +1,11 @@
 -- The ids of the classes of kept events, while they are collected.
 use Rattle.std.specs.Prelude.{◌≡◌, ◌⊎◌, ℕ, zero, suc, ◌+◌, ◌<◌, ◌≤◌, Bool, true, false, ◌||◌, ◌==◌, List, [], ◌∷◌, ◌++◌, length, replicate, slice_get, slice_index_or, slice_set, take, Option, Some, None, option_map, unwrap_or, if◌then◌else◌}
-use Rattle.std.specs.List.{AllByRecursion, list_any}
+use Rattle.std.specs.List.{list_all, list_any}
 use Rattle.std.proofs.Common.{ap, arith, refl, sym, ◌∙◌, subst, inl, inr}
 use Rattle.std.proofs.lemmas.Bool.{eqb-true}
 use Rattle.std.proofs.lemmas.List.{length-take-le, take_all}
 use Rattle.std.proofs.lemmas.List.Folds.{list_any-append}
 use Rattle.jfr_layout.proofs.Lists.{present, take_next}
-use Rattle.jfr_meta.specs.Stays.{is_in}
-use Rattle.jfr_meta.specs.declared.ids.Ids.{Ids}
 use Rattle.jfr_chunk.specs.Metas.{used_by}
 use Rattle.jfr_chunk.specs.Parts.{EventAt}
 use Rattle.jfr_chunk.specs.Reach.{marked}
@@ -69,44 +67,10 @@ module _ (fs : List Bool) (es : List EventAt) (same : length fs ≡ length es) w
   pub used_end : (n id : ℕ) → length es ≤ n → used_before fs es n id ≡ used_by (marked fs es) id
   used_end n id h = (λ j. used_by (marked (take_all n fs (omega arith) j) (take_all n es h j)) id)
 
--- Ids that are remembered.
-abbrev pub Remembered : Ids → List ℕ → Type 0
-Remembered ids recent = AllByRecursion (λ id. (id ≡ 0) ⊎ (is_in ids id ≡ true)) recent
-
-pub none_remembered : (ids : Ids) (n : ℕ) → Remembered ids (replicate n 0)
-none_remembered ids zero = tt
-none_remembered ids (suc n) = (inl refl, none_remembered ids n)
-
--- An id that is found there, and isn't 0, is in the set.
-pub remembered_in : (ids : Ids) (recent : List ℕ) (place id : ℕ) → Remembered ids recent → place < length recent → slice_index_or recent place id ≡ id → (id ≡ 0 → ⊥) → is_in ids id ≡ true
-remembered_in ids [] place id r h e n = absurd (omega arith)
-remembered_in ids (x ∷ recent) zero id r h e n = by_cause r.0
-  where
-    by_cause : (x ≡ 0) ⊎ (is_in ids x ≡ true) → is_in ids id ≡ true
-    by_cause (inl z) = absurd (n (sym e ∙ z))
-    by_cause (inr i) = subst (λ y. is_in ids y ≡ true) e i
-remembered_in ids (x ∷ recent) (suc place) id r h e n = remembered_in ids recent place id r.1 (omega arith) e n
-
--- An id that is added is remembered.
-pub remembered_more : (old new : Ids) (recent : List ℕ) (place id : ℕ) → Remembered old recent → ((other : ℕ) → is_in new other ≡ (is_in old other || (id == other))) → Remembered new (slice_set recent place id)
-remembered_more old new recent place id r h = set recent place (all recent r)
-  where
-    own : is_in new id ≡ true
-    own = h id ∙ by_test (is_in old id)
-      where
-        by_test : (b : Bool) → (b || (id == id)) ≡ true
-        by_test true = refl
-        by_test false = grind arith
-
-    one : (x : ℕ) → (x ≡ 0) ⊎ (is_in old x ≡ true) → (x ≡ 0) ⊎ (is_in new x ≡ true)
-    one x (inl e) = inl e
-    one x (inr e) = inr (h x ∙ ap (λ b. b || (id == x)) e)
-
-    all : (xs : List ℕ) → Remembered old xs → Remembered new xs
-    all [] r = tt
-    all (x ∷ xs) r = (one x r.0, all xs r.1)
-
-    set : (xs : List ℕ) (place : ℕ) → Remembered new xs → Remembered new (slice_set xs place id)
-    set [] place r = tt
-    set (x ∷ xs) zero r = (inr own, r.1)
-    set (x ∷ xs) (suc place) r = (r.0, set xs place r.1)
+-- All events are kept if each flag is set.
+pub all_kept : {X : Type 0} (fs : List Bool) (xs : List X) → length fs ≡ length xs → list_all (λ keep. keep) fs ≡ true → marked fs xs ≡ xs
+all_kept [] [] h e = refl
+all_kept [] (x ∷ xs) h e = absurd (omega arith)
+all_kept (f ∷ fs) [] h e = absurd (omega arith)
+all_kept (false ∷ fs) (x ∷ xs) h e = cc
+all_kept (true ∷ fs) (x ∷ xs) h e = ap (λ z. x ∷ z) (all_kept fs xs (omega arith) e)

@@ -2,7 +2,6 @@ pub mod Pieces
 pub mod Left
 pub mod Fits
 pub mod OutputRecords
-pub mod Used
 pub mod Bodies
 pub mod LaysOut
 pub mod Runs

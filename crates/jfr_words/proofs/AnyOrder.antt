@@ -21,6 +21,8 @@ use Rattle.jfr_words.specs.Patterns.{given_with}
 use Rattle.jfr_words.specs.Prints.{no_print_option, print_option_of, print_with, print_from}
 use Rattle.jfr_words.specs.Scrubs.{side_of, scrub_from}
 use Rattle.jfr_words.specs.Splits.{no_split_option, split_option_of, is_split_given, split_with, split_from}
+use Rattle.jfr_words.specs.Stacks.{StacksOption, stacks_option_of, stacks_side, stacks_with, stacks_from}
+use Rattle.jfr_words.specs.declared.stacks.StacksOption.TheVariants.{Events, Categories}
 use Rattle.jfr_words.specs.Words.{order_of}
 use Rattle.jfr_words.proofs.Given.{give, in_any_order, given_once}
 use Rattle.jfr_words.proofs.Settings.{set, Apart, Settles, settles}
@@ -120,6 +122,16 @@ which_split MaxSize MaxSize = inl refl
 splits_settle : Settles split_with
 splits_settle = settles split_with SplitValue is_split_given put_split split_value split_is_set split_is which_split
 
+-- The options of stacks.
+which_stacks : (o p : StacksOption) → (o ≡ p) ⊎ Apart (has_side (stacks_side o)) (with_patterns (stacks_side o)) (has_side (stacks_side p)) (with_patterns (stacks_side p))
+which_stacks Events Events = inl refl
+which_stacks Events Categories = inr (record { on = λ x g. refl; back = λ y g. refl; both = λ x y g. refl })
+which_stacks Categories Events = inr (record { on = λ x g. refl; back = λ y g. refl; both = λ x y g. refl })
+which_stacks Categories Categories = inl refl
+
+stacks_settle : Settles stacks_with
+stacks_settle = settles stacks_with (λ o. List (List ℕ)) (λ o. has_side (stacks_side o)) (λ o. with_patterns (stacks_side o)) (λ o. patterns_of) (λ o. side_set (stacks_side o)) (λ o. side_is (stacks_side o)) which_stacks
+
 -- A word among some is the first of them, or among the others.
 among : (word first : List ℕ) (others : List (List ℕ)) → list_any (bytes_eq word) (first ∷ others) ≡ true → (word ≡ first) ⊎ (list_any (bytes_eq word) others ≡ true)
 among word first others e = by_test (bytes_eq word first) refl e
@@ -183,26 +195,37 @@ split_read g (word ∷ []) rest e = cc
 split_read g (word ∷ value ∷ []) rest e = split_valued word e value rest g
 split_read g (word ∷ value ∷ more ∷ others) rest e = cc
 
--- Three commands have options, and no other word has any.
+stacks_valued : (word : List ℕ) → list_any (bytes_eq word) (valued_options (codes "stacks")) ≡ true → (value : List ℕ) → Takes stacks_option_of stacks_with stacks_from (word ∷ value ∷ [])
+stacks_valued word e value = of_each (λ w. Takes stacks_option_of stacks_with stacks_from (w ∷ value ∷ [])) (valued_options (codes "stacks")) (λ rest g. refl, (λ rest g. refl, tt)) word e
+
+stacks_read : (g : Given) (option : List (List ℕ)) (rest : List (List ℕ)) → IsTrue (is_option (codes "stacks") option) → stacks_from g (option ++ rest) ≡ option_and_then (λ h. stacks_from h rest) (give stacks_option_of stacks_with option g)
+stacks_read g [] rest e = cc
+stacks_read g (word ∷ []) rest e = cc
+stacks_read g (word ∷ value ∷ []) rest e = stacks_valued word e value rest g
+stacks_read g (word ∷ value ∷ more ∷ others) rest e = cc
+
+-- Four commands have options, and no other word has any.
 data HasOptions (command : List ℕ) : Type 0 where
   print : command ≡ codes "print" → HasOptions command
   scrub : command ≡ codes "scrub" → HasOptions command
   split : command ≡ codes "disassemble" → HasOptions command
+  stacks : command ≡ codes "stacks" → HasOptions command
   no_options : ((option : List (List ℕ)) → IsTrue (is_option command option) → ⊥) → HasOptions command
 
 has_options : (command : List ℕ) → HasOptions command
-has_options command = by_tests (bytes_eq command (codes "print")) (bytes_eq command (codes "scrub")) (bytes_eq command (codes "disassemble")) refl refl refl
+has_options command = by_tests (bytes_eq command (codes "print")) (bytes_eq command (codes "scrub")) (bytes_eq command (codes "disassemble")) (bytes_eq command (codes "stacks")) refl refl refl refl
   where
-    by_tests : (p s d : Bool) → bytes_eq command (codes "print") ≡ p → bytes_eq command (codes "scrub") ≡ s → bytes_eq command (codes "disassemble") ≡ d → HasOptions command
-    by_tests true s d e f h = print ((bytes_eq-Decides command (codes "print")).0 e)
-    by_tests false true d e f h = scrub ((bytes_eq-Decides command (codes "scrub")).0 f)
-    by_tests false false true e f h = split ((bytes_eq-Decides command (codes "disassemble")).0 h)
-    by_tests false false false e f h = no_options none
+    by_tests : (p s d t : Bool) → bytes_eq command (codes "print") ≡ p → bytes_eq command (codes "scrub") ≡ s → bytes_eq command (codes "disassemble") ≡ d → bytes_eq command (codes "stacks") ≡ t → HasOptions command
+    by_tests true s d t e f h k = print ((bytes_eq-Decides command (codes "print")).0 e)
+    by_tests false true d t e f h k = scrub ((bytes_eq-Decides command (codes "scrub")).0 f)
+    by_tests false false true t e f h k = split ((bytes_eq-Decides command (codes "disassemble")).0 h)
+    by_tests false false false true e f h k = stacks ((bytes_eq-Decides command (codes "stacks")).0 k)
+    by_tests false false false false e f h k = no_options none
       where
         none : (option : List (List ℕ)) → IsTrue (is_option command option) → ⊥
         none [] t = cc
         none (word ∷ []) t = cc (rw e at t)
-        none (word ∷ value ∷ []) t = cc (rw (e, f, h) at t)
+        none (word ∷ value ∷ []) t = cc (rw (e, f, h, k) at t)
         none (word ∷ value ∷ more ∷ others) t = cc
 
 pub any_order : (command : List ℕ) (options others : List (List (List ℕ))) (rest : List (List ℕ)) → AreOptions command options → IsPermutation options others → order_of (line command others rest) ≡ order_of (line command options rest)
@@ -221,6 +244,7 @@ any_order command options others rest all p = by_command (has_options command) a
     by_command (print e) = subst Same (sym e) (λ all. in_any_order print_option_of print_with prints_settle print_from (λ o. IsTrue (is_option (codes "print") o)) print_read options others rest no_print_option all p)
     by_command (scrub e) = subst Same (sym e) (λ all. in_any_order side_of given_with sides_settle scrub_from (λ o. IsTrue (is_option (codes "scrub") o)) scrub_read options others rest nothing_given all p)
     by_command (split e) = subst Same (sym e) (λ all. in_any_order split_option_of split_with splits_settle split_from (λ o. IsTrue (is_option (codes "disassemble") o)) split_read options others rest no_split_option all p)
+    by_command (stacks e) = subst Same (sym e) (λ all. in_any_order stacks_option_of stacks_with stacks_settle stacks_from (λ o. IsTrue (is_option (codes "stacks") o)) stacks_read options others rest nothing_given all p)
     by_command (no_options none) = λ all. nothing_given_at options others (length_permutation options others p) all none
 
 pub at_most_once : (command : List ℕ) (options : List (List (List ℕ))) (rest : List (List ℕ)) → AreOptions command options → OnSome (order_of (line command options rest)) (IsDistinct is_same_option options)
@@ -242,4 +266,5 @@ at_most_once command options rest all = by_command (has_options command) all
     by_command (print e) = subst Once (sym e) (λ all. given_once print_option_of print_with prints_settle print_from (λ o. IsTrue (is_option (codes "print") o)) print_read options rest no_print_option all)
     by_command (scrub e) = subst Once (sym e) (λ all. given_once side_of given_with sides_settle scrub_from (λ o. IsTrue (is_option (codes "scrub") o)) scrub_read options rest nothing_given all)
     by_command (split e) = subst Once (sym e) (λ all. given_once split_option_of split_with splits_settle split_from (λ o. IsTrue (is_option (codes "disassemble") o)) split_read options rest no_split_option all)
+    by_command (stacks e) = subst Once (sym e) (λ all. given_once stacks_option_of stacks_with stacks_settle stacks_from (λ o. IsTrue (is_option (codes "stacks") o)) stacks_read options rest nothing_given all)
     by_command (no_options none) = λ all. on_any _ _ (none_given options all none)

@@ -7,6 +7,7 @@ use Rattle.std.specs.Str.{chars, bytes_eq}
 use Rattle.std.proofs.Common.{arith, ap, refl, subst}
 use Rattle.std.proofs.lemmas.Bool.Decides.{nat_tests}
 use Rattle.jfr_words.specs.declared.order.Order.{Order}
+use Rattle.jfr_words.specs.declared.order.Order.TheVariants as orders
 use Rattle.jfr_words.specs.declared.order.WordsFault.{WordsFault}
 use Rattle.jfr_words.specs.declared.print.PrintOption.{PrintOption}
 use Rattle.jfr_words.specs.declared.print.PrintOption.TheVariants.{Patterns, Depth, Json}
@@ -22,6 +23,7 @@ use Rattle.jfr_words.specs.Patterns.{given_with}
 use Rattle.jfr_words.specs.Prints.{no_print_option, print_option_of, print_with, print_goes_on, print_named, print_from}
 use Rattle.jfr_words.specs.Scrubs.{side_of, scrub_named, scrub_from}
 use Rattle.jfr_words.specs.Splits.{no_split_option, split_option_of, is_split_given, split_set, split_with, split_named, split_from}
+use Rattle.jfr_words.specs.Stacks.{StacksOption, stacks_option_of, stacks_with, stacks_named, stacks_from}
 use Rattle.jfr_words.specs.Words.{order_of, sample_of, IsRead, IsUsableOrder}
 use Rattle.jfr_words.proofs.WordLaws.{chars_of}
 
@@ -147,6 +149,16 @@ sample_usable (a ∷ b ∷ []) =
     below s h = omega arith
 sample_usable (a ∷ b ∷ c ∷ rest) = tt
 
+stacks_usable : (g : Given) (words : List (List ℕ)) → Gives IsUsableOrder (stacks_from g words)
+stacks_usable g [] = tt
+stacks_usable g (word ∷ []) = gives_map IsUsableOrder _ (only_name (word ∷ [])) (λ file. tt)
+stacks_usable g (word ∷ next ∷ rest) = by_option (stacks_option_of word) (λ h. stacks_usable h rest)
+  where
+    by_option : (z : Option StacksOption) → ((h : Given) → Gives IsUsableOrder (stacks_from h rest))
+        → Gives IsUsableOrder (option_map_or (λ o. option_and_then (λ h. stacks_from h rest) (stacks_with o next g)) z (stacks_named g (word ∷ next ∷ rest)))
+    by_option None u = gives_map IsUsableOrder (λ file. orders.Stacks g file) (only_name (word ∷ next ∷ rest)) (λ file. tt)
+    by_option (Some o) u = gives_after IsUsableOrder _ (stacks_with o next g) u
+
 -- Every order is usable.
 order_usable : (words : List (List ℕ)) → Gives IsUsableOrder (order_of words)
 unfolding order_of
@@ -158,7 +170,8 @@ order_usable (command ∷ rest) =
     (gives_if IsUsableOrder (bytes_eq command (codes "scrub")) _ _ (scrub_usable nothing_given rest)
     (gives_if IsUsableOrder (bytes_eq command (codes "disassemble")) _ _ (split_usable no_split_option rest (tt, tt))
     (gives_if IsUsableOrder (bytes_eq command (codes "assemble")) _ _ (gives_map IsUsableOrder _ (two_names rest) (λ names. tt))
-    (gives_if IsUsableOrder (bytes_eq command (codes "sample")) _ None (sample_usable rest) tt))))))
+    (gives_if IsUsableOrder (bytes_eq command (codes "sample")) _ _ (sample_usable rest)
+    (gives_if IsUsableOrder (bytes_eq command (codes "stacks")) _ None (stacks_usable nothing_given rest) tt)))))))
 
 pub usable_read : (words : List (List ℕ)) (r : Result Order WordsFault) → IsRead (order_of words) r (λ order. order) → IfOk r IsUsableOrder
 usable_read words (Ok order) e = let P : Option Order → Type 0 = Gives IsUsableOrder in subst P e (order_usable words)

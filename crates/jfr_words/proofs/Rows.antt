@@ -1,7 +1,7 @@
 -- The orders of some lines.
 use Rattle.std.specs.Prelude.{◌≡◌, ◌^◌, true, false, [], ◌∷◌, codes, Some, None, refl}
 use Rattle.jfr_filter.specs.Filters.{nothing_given}
-use Rattle.jfr_words.specs.declared.order.Order.TheVariants.{Print, Summary, Metadata, Scrub, Disassemble, Assemble, Sample}
+use Rattle.jfr_words.specs.declared.order.Order.TheVariants.{Print, Summary, Metadata, Scrub, Disassemble, Assemble, Sample, Stacks}
 use Rattle.jfr_words.specs.Numbers.{number_of}
 use Rattle.jfr_words.specs.Words.{order_of}
 
@@ -141,3 +141,13 @@ other_command_row = refl
 no_words_row : order_of [] ≡ None
 unfolding order_of
 no_words_row = refl
+
+stacks_row : order_of (codes "stacks" ∷ codes "--categories" ∷ codes "Java*" ∷ codes "--events" ∷ codes "CPULoad,*Sample" ∷ codes "a" ∷ [])
+    ≡ Some (Stacks (record nothing_given { include_events = Some (codes "CPULoad" ∷ codes "*Sample" ∷ []); include_categories = Some (codes "Java*" ∷ []) }) (codes "a"))
+unfolding order_of
+stacks_row = refl
+
+-- `stacks` has no other options of a filter.
+excluded_stacks_row : order_of (codes "stacks" ∷ codes "--exclude-events" ∷ codes "a" ∷ codes "b" ∷ []) ≡ None
+unfolding order_of
+excluded_stacks_row = refl

@@ -9,6 +9,7 @@ valued_options command =
     if bytes_eq command (codes "print") then codes "--events" ∷ codes "--categories" ∷ codes "--depth" ∷ [] else
     if bytes_eq command (codes "scrub") then codes "--include-events" ∷ codes "--exclude-events" ∷ codes "--include-categories" ∷ codes "--exclude-categories" ∷ codes "--include-threads" ∷ codes "--exclude-threads" ∷ [] else
     if bytes_eq command (codes "disassemble") then codes "--output" ∷ codes "--max-chunks" ∷ codes "--max-size" ∷ [] else
+    if bytes_eq command (codes "stacks") then codes "--events" ∷ codes "--categories" ∷ [] else
     []
 
 -- The options of a command that take none.

@@ -5,4 +5,5 @@ pub mod Patterns
 pub mod Prints
 pub mod Scrubs
 pub mod Splits
+pub mod Stacks
 pub mod Words

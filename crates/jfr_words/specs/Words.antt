@@ -13,6 +13,7 @@ use Rattle.jfr_words.specs.Numbers.{number_in}
 use Rattle.jfr_words.specs.Prints.{no_print_option, print_from}
 use Rattle.jfr_words.specs.Scrubs.{scrub_from}
 use Rattle.jfr_words.specs.Splits.{no_split_option, split_from}
+use Rattle.jfr_words.specs.Stacks.{stacks_from}
 
 -- The order of the words after `summary`: the file.
 abbrev pub summary_of : List (List ℕ) → Option Order
@@ -42,6 +43,7 @@ order_of (command ∷ rest) =
     if bytes_eq command (codes "disassemble") then split_from no_split_option rest else
     if bytes_eq command (codes "assemble") then assembly_of rest else
     if bytes_eq command (codes "sample") then sample_of rest else
+    if bytes_eq command (codes "stacks") then stacks_from nothing_given rest else
     None
 
 -- The name of a file is the word in UTF-8.

@@ -13,6 +13,7 @@ mod print;
 mod sample;
 mod scrub;
 mod split;
+mod stacks;
 mod words;
 
 pub use order::{Order, WordsFault};

@@ -44,6 +44,12 @@ pub enum Order {
         seed: u32,
         events: u32,
     },
+    /// Prints the call stacks of the events of the file that the filter keeps, each with its number of
+    /// events.
+    Stacks {
+        filter: Filter,
+        file: Text,
+    },
 }
 
 /// Why the words gave no order.

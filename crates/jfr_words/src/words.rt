@@ -9,6 +9,7 @@ use crate::print::read_print;
 use crate::sample::read_sample;
 use crate::scrub::read_scrub;
 use crate::split::read_split;
+use crate::stacks::read_stacks;
 use crate::{Order, WordsFault};
 use jfr_outside::Words;
 use std::alloc::Global;
@@ -37,6 +38,7 @@ fn read_command(alloc: Global, command: &str, left: &mut Left<'_>) -> Result<Ord
         "disassemble" => read_split(alloc, left),
         "assemble" => read_assembly(alloc, left),
         "sample" => read_sample(left),
+        "stacks" => read_stacks(alloc, left),
         _ => Err(WordsFault::Usage),
     }
 }

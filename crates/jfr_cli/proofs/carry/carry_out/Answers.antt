@@ -44,3 +44,9 @@ returns-in-Sample g c =
     let a = outside (g.P.Place.state c.args.place.now) (g.O.Sink.state c.args.out.now) in
     let b = outside (g.P.Place.state c.say_sample.new._place) (g.O.Sink.state c.say_sample.new.out) in
     subst (λ o. Carries o c.say_sample.result a b) (sym c.in-Sample.is) c.say_sample.ensures
+
+pub returns-in-Stacks : goal.returns-in-Stacks
+returns-in-Stacks g c =
+    let a = outside (g.P.Place.state c.args.place.now) (g.O.Sink.state c.args.out.now) in
+    let b = outside (g.P.Place.state c.stacks.new.place) (g.O.Sink.state c.stacks.new.out) in
+    subst (λ o. Carries o c.stacks.result a b) (sym c.in-Stacks.is) c.stacks.ensures

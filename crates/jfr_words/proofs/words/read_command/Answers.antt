@@ -33,6 +33,10 @@ pub returns-in-sample : goal.returns-in-sample
 unfolding order_of
 returns-in-sample c = subst (λ o. IsRead o c.read_sample.result (λ order. order)) (sym (order_at c.args.left.now _ (codes "sample") refl c.in-sample.is)) c.read_sample.ensures
 
+pub returns-in-stacks : goal.returns-in-stacks
+unfolding order_of
+returns-in-stacks c = subst (λ o. IsRead o c.read_stacks.result (λ order. order)) (sym (order_at c.args.left.now _ (codes "stacks") refl c.in-stacks.is)) c.read_stacks.ensures
+
 pub returns-in_default : goal.returns-in_default
 unfolding order_of
 returns-in_default c =
@@ -44,4 +48,5 @@ returns-in_default c =
       is_other _ (codes "disassemble") c.utf8.command refl c.in_default.not-disassemble,
       is_other _ (codes "assemble") c.utf8.command refl c.in_default.not-assemble,
       is_other _ (codes "sample") c.utf8.command refl c.in_default.not-sample,
+      is_other _ (codes "stacks") c.utf8.command refl c.in_default.not-stacks,
     )
