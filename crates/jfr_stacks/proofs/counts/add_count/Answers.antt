@@ -1,6 +1,9 @@
-use Rattle.std.proofs.Common.{rules, refl, sym, ◌+◌, ◌∙◌}
+use Rattle.std.proofs.Common.{arith, rules, refl, sym, ◌+◌, ◌∙◌}
 use Rattle.jfr_stacks.proofs.MapLaws.{adds_kept, adds_new, get-counts_in}
 use Rattle.jfr_stacks.proofs.counts.add_count.Goals as goal
+
+pub overflow_add-kept : goal.overflow_add-kept
+overflow_add-kept c = omega (arith, c.requires.each c.args.text.now c.in-Some.kept.now (get-counts_in c.args.counts.now c.args.text.now ∙ sym c.in-Some.ensures.value))
 
 pub returns-in-Some-clause-ok : goal.returns-in-Some-clause-ok
 returns-in-Some-clause-ok c =
