@@ -1,5 +1,5 @@
 -- The kept events of a chunk, one after another, and how many there are.
-use Rattle.std.specs.Prelude.{◌≡◌, ℕ, zero, suc, ◌+◌, ◌^◌, ◌<◌, ◌≤◌, Bool, true, false, cond, List, [], ◌∷◌, ◌++◌, drop, filter, length, Option, None, Some, option_and_then, option_to_list, slice_get, unwrap_or}
+use Rattle.std.specs.Prelude.{◌≡◌, ℕ, zero, suc, ◌+◌, ◌<◌, ◌≤◌, Bool, true, false, cond, List, [], ◌∷◌, ◌++◌, drop, filter, length, Option, None, Some, option_and_then, option_to_list, slice_get, unwrap_or}
 use Rattle.std.specs.List.{cons_option, filter_map}
 use Rattle.std.proofs.Common.{ap, append-nil, arith, refl, sym, ◌∙◌}
 use Rattle.std.proofs.lemmas.List.{append_assoc, drop_all}

@@ -1,16 +1,15 @@
 -- The items of an array, one after another.
-use Rattle.std.specs.Prelude.{◌≡◌, ℕ, zero, suc, ◌+◌, ◌-◌, ◌<◌, ◌≤◌, List, [], ◌∷◌, ◌++◌, length, map, replicate, Some, Ok, IsSome}
+use Rattle.std.specs.Prelude.{◌≡◌, ℕ, suc, ◌+◌, ◌-◌, ◌<◌, ◌≤◌, List, [], ◌∷◌, ◌++◌, map, replicate, Some}
 use Rattle.std.specs.List.{AllByRecursion}
 use Rattle.std.proofs.Common.{ap, append-nil, arith, refl, subst, sym, ◌∙◌}
 use Rattle.std.proofs.lemmas.List.{append_assoc, map-append}
 use Rattle.jfr_base.specs.declared.integer.Var.{Var}
 use Rattle.jfr_base.specs.Formats.{int_at}
-use Rattle.jfr_layout.specs.Classes.{Classes, item_of}
+use Rattle.jfr_layout.specs.Classes.{item_of}
 use Rattle.jfr_layout.specs.declared.shape.Shape.{Shape}
 use Rattle.jfr_value.specs.declared.node.Node.{Node}
 use Rattle.jfr_value.specs.Laws.{Cover, ItemsCover}
 use Rattle.jfr_value.specs.Nodes.{EndsAt, IsNode, NodeAt, children, node_at, node_of}
-use Rattle.jfr_value.specs.Values.{Value}
 use Rattle.jfr_chunk.specs.Parts.{Parts}
 use Rattle.jfr_chunk.proofs.AllLaws.{all_append}
 use Rattle.jfr_stacks.specs.Frames.{IsOf}

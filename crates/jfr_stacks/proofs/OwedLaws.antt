@@ -1,5 +1,5 @@
 -- Events that are counted by entries.
-use Rattle.std.specs.Prelude.{◌≡◌, ℕ, zero, suc, ◌+◌, ◌<◌, ◌≤◌, Bool, true, false, cond, List, [], ◌∷◌, ◌++◌, drop, length, replicate, Option, None, Some, option_to_list, slice_get, slice_set}
+use Rattle.std.specs.Prelude.{◌≡◌, ℕ, zero, suc, ◌+◌, ◌≤◌, Bool, true, false, cond, List, [], ◌∷◌, ◌++◌, length, replicate, Option, None, Some, option_to_list, slice_get, slice_set}
 use Rattle.std.specs.FinMap as fin
 use Rattle.std.proofs.Common.{ap, append-nil, arith, refl, sym, subst, ◌∙◌}
 use Rattle.jfr_stacks.specs.Adding.{AddsText, AddsTexts, AreAtMost, AreBelow, Owes, is_text, owed, plus}

@@ -1,5 +1,5 @@
 -- The folded stacks of chunks, and their lines.
-use Rattle.std.specs.Prelude.{ℕ, List, [], ◌∷◌, ◌++◌, codes, count_by, decimal, length, map}
+use Rattle.std.specs.Prelude.{ℕ, List, ◌++◌, codes, count_by, decimal, map}
 use Rattle.std.specs.List.{filter_map, flat_map}
 use Rattle.std.specs.Ordering.{nat_cmp}
 use Rattle.std.specs.Cmp.Lexicographic.{slice_cmp}

@@ -1,9 +1,9 @@
 -- The frames of an event's call stack.
-use Rattle.std.specs.Prelude.{◌≡◌, ◌<◌, ℕ, List, [], ◌∷◌, codes, length, Option, Some, None, option_and_then, slice_get, if◌then◌else◌}
+use Rattle.std.specs.Prelude.{◌≡◌, ℕ, List, [], ◌∷◌, codes, Option, Some, None, option_and_then, if◌then◌else◌}
 use Rattle.std.specs.Option.{option_map}
 use Rattle.jfr_value.specs.declared.node.Node.{Node}
 use Rattle.jfr_value.specs.Nodes.{IsValue, NodeAt, children, target}
-use Rattle.jfr_pool.specs.Entries.{entry_node, number_in_force}
+use Rattle.jfr_pool.specs.Entries.{number_in_force}
 use Rattle.jfr_chunk.specs.Parts.{Parts}
 use Rattle.jfr_chunk.specs.Paths.{follow_while, is_reference, named_field, named_node}
 

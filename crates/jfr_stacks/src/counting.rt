@@ -35,6 +35,7 @@ pub(crate) fn add_events(
     ensures ok { OnOk result (AddsTexts (counts_in counts.old) (texts_of filter.now chunk.now) (counts_in counts.new)) }
     ensures below { (most : ℕ) → AreBelow most (counts_in counts.old) → AreBelow (most + 1073741823) (counts_in counts.new) }
 {
+    // The clauses of this call bound the number of events.
     let _ = chunk.bytes();
     let kept = choose(alloc, chunk, filter)?;
     let mut writer = StackWriter::new(alloc)?;

@@ -63,6 +63,13 @@ impl Stacks {
         add_events(self.alloc, chunk, filter, &mut self.counts)
     }
 
+    /// The number of chunks that were added.
+    pub fn chunks(&self) -> u64
+        ensures { result ≡ self.now.chunks }
+    {
+        self.chunks
+    }
+
     /// A line for each stack, in the order of the texts' bytes: the text, a space, the number of events, and
     /// the end of the line.
     pub fn text(&self, alloc: Global) -> Result<Text, NoMemory>

@@ -1,5 +1,5 @@
 use Rattle.std.specs.List.{filter_map}
-use Rattle.std.proofs.Common.{◌≡◌, ◌+◌, ◌≤◌, ℕ, List, arith, length, subst, sym}
+use Rattle.std.proofs.Common.{◌+◌, ◌≤◌, ℕ, List, arith, length, subst, sym}
 use Rattle.jfr_chunk.specs.Reach.{kept_by}
 use Rattle.jfr_stacks.specs.Adding.{Owes}
 use Rattle.jfr_stacks.specs.Held.{counts_in}

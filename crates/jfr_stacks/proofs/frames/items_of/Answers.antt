@@ -1,4 +1,4 @@
-use Rattle.std.proofs.Common.{◌≡◌, ◌+◌, ◌-◌, ◌++◌, ◌∷◌, [], arith, refl, subst, sym, ◌∙◌}
+use Rattle.std.proofs.Common.{◌≡◌, ◌+◌, ◌-◌, arith, refl, subst, sym}
 use Rattle.std.specs.Prelude.{IsSome}
 use Rattle.jfr_base.specs.declared.integer.Var.{Var}
 use Rattle.jfr_layout.specs.Classes.{item_of}
