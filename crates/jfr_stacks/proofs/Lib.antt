@@ -1,0 +1,7 @@
+mod CountLaws
+mod EventLaws
+mod FoldLaws
+mod ItemLaws
+mod MapLaws
+mod OwedLaws
+mod TextLaws

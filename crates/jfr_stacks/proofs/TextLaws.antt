@@ -1,0 +1,107 @@
+-- The text of an event's stack is that of its trace, and that of the entry to which the trace refers.
+use Rattle.std.specs.Prelude.{◌≡◌, ℕ, zero, suc, ◌<◌, false, true, List, [], ◌∷◌, ◌++◌, codes, flat_map, length, map, reverse, Option, None, Some, option_and_then, slice_get, if◌then◌else◌}
+use Rattle.std.specs.Option.{option_map}
+use Rattle.std.specs.List.{AllByRecursion}
+use Rattle.std.proofs.Common.{ap, arith, refl, subst, sym, ◌∙◌}
+use Rattle.std.proofs.lemmas.List.{append_assoc, map-append, reverse-append}
+use Rattle.std.proofs.lemmas.List.Concat.{flat_map-cons}
+use Rattle.jfr_value.specs.declared.node.Node.{Node}
+use Rattle.jfr_value.specs.Nodes.{NodeAt, children, node_of, target}
+use Rattle.jfr_pool.specs.declared.entry.EntryAt.{EntryAt}
+use Rattle.jfr_pool.specs.Entries.{entry_node, number_in_force}
+use Rattle.jfr_chunk.specs.Parts.{EventAt, Parts}
+use Rattle.jfr_chunk.specs.Paths.{follow, is_reference, named_field, named_node}
+use Rattle.jfr_path.proofs.FollowLaws.{followed}
+use Rattle.jfr_stacks.specs.Frames.{IsOf, behind, entry_of, frames_in, frames_of, items_of, trace_of}
+use Rattle.jfr_stacks.specs.Texts.{LeadsTo, entry_text, frame_text, joined, stack_of, stack_text, trace_text}
+
+-- The text of an event's stack is that of its trace.
+pub traced : (p : Parts) (e : EventAt) → stack_of p e ≡ option_and_then (λ t. trace_text p (behind 16 p t)) (trace_of p e.node)
+unfolding stack_of frames_of trace_text
+traced p e = by_trace (trace_of p e.node)
+  where
+    by_frames : (o : Option NodeAt) → option_map (stack_text p) (option_and_then (items_of p) (option_map (behind 16 p) (option_and_then (λ m. Some m) o))) ≡ option_map (stack_text p) (option_and_then (items_of p) (option_map (behind 16 p) o))
+    by_frames None = refl
+    by_frames (Some m) = refl
+
+    by_trace : (o : Option NodeAt) → option_map (stack_text p) (option_and_then (items_of p) (option_map (behind 16 p) (option_and_then (λ m. named_node p m (codes "frames" ∷ [])) o))) ≡ option_and_then (λ t. trace_text p (behind 16 p t)) o
+    by_trace None = refl
+    by_trace (Some t) = by_frames (named_field p (codes "frames") (behind 16 p t))
+
+pub traced_none : (p : Parts) (e : EventAt) (n : NodeAt) → e.node ≡ n → None ≡ trace_of p n → stack_of p e ≡ None
+traced_none p e n s h = traced p e ∙ ap (option_and_then (λ t. trace_text p (behind 16 p t))) (ap (trace_of p) s ∙ sym h)
+
+pub traced_some : (p : Parts) (e : EventAt) (n t : NodeAt) → e.node ≡ n → Some t ≡ trace_of p n → stack_of p e ≡ trace_text p (behind 16 p t)
+traced_some p e n t s h = traced p e ∙ ap (option_and_then (λ t. trace_text p (behind 16 p t))) (ap (trace_of p) s ∙ sym h)
+
+there : {X : Type 0} (xs : List X) (i : ℕ) → i < length xs → (x : X) × (slice_get xs i ≡ Some x)
+there [] i h = absurd (omega arith)
+there (x ∷ xs) zero h = (x, refl)
+there (x ∷ xs) (suc i) h = there xs i (omega arith)
+
+-- The entry to which a value refers is the one that is followed to.
+entry_followed : (p : Parts) (n : NodeAt) (number : ℕ) (x : EntryAt) → entry_of p n ≡ Some number → slice_get p.entries number ≡ Some x → follow p n ≡ Some (entry_node x)
+entry_followed p n number x e g = by_target (target p.classes p.bytes n) e
+  where
+    by_target : (o : Option (ℕ × ℕ)) → option_and_then (number_in_force p.entries) o ≡ Some number → option_and_then (λ t. option_map entry_node (option_and_then (λ n. slice_get p.entries n) (number_in_force p.entries t))) o ≡ Some (entry_node x)
+    by_target None e = cc
+    by_target (Some t) e = ap (λ z. option_map entry_node (option_and_then (λ n. slice_get p.entries n) z)) e ∙ ap (option_map entry_node) g
+
+-- A reference to an entry has the stack of the entry.
+pub leads_to : (p : Parts) (n : NodeAt) (number : ℕ) → is_reference n ≡ true → entry_of p n ≡ Some number → number < length p.entries → LeadsTo p n number
+unfolding entry_text
+leads_to p n number r e l =
+    let g = there p.entries number l in
+    record {
+      within = l;
+      same = ap (trace_text p) (followed is_reference p 15 n (entry_node g.0) r (entry_followed p n number g.0 e g.1)) ∙ sym (ap (option_and_then (λ e. trace_text p (behind 15 p (entry_node e)))) g.1);
+    }
+
+-- The frames that are left, from the last to the first, each after a semicolon.
+abbrev pub rest_text : Parts → List Node → List ℕ
+rest_text p items = flat_map (λ t. codes ";" ++ t) (reverse (map (frame_text p) (map node_of items)))
+
+module _ (p : Parts) where
+  last_first : (items : List Node) (x : Node) → reverse (map (frame_text p) (map node_of (items ++ x ∷ []))) ≡ frame_text p (node_of x) ∷ reverse (map (frame_text p) (map node_of items))
+  last_first items x = ap (λ z. reverse (map (frame_text p) z)) (map-append node_of items (x ∷ [])) ∙ (ap reverse (map-append (frame_text p) (map node_of items) (node_of x ∷ [])) ∙ reverse-append (map (frame_text p) (map node_of items)) (frame_text p (node_of x) ∷ []))
+
+  -- The stack begins with the last frame.
+  pub stack_first : (all items : List Node) (x : Node) → all ≡ items ++ x ∷ [] → stack_text p (map node_of all) ≡ frame_text p (node_of x) ++ rest_text p items
+  stack_first all items x e = ap (λ z. stack_text p (map node_of z)) e ∙ ap joined (last_first items x)
+
+  -- The next of the frames that are left.
+  pub rest_first : (all items : List Node) (x : Node) → all ≡ items ++ x ∷ [] → rest_text p all ≡ (codes ";" ++ frame_text p (node_of x)) ++ rest_text p items
+  rest_first all items x e =
+      ap (rest_text p) e
+      ∙ (ap (flat_map (λ t. codes ";" ++ t)) (last_first items x) ∙ flat_map-cons (λ t. codes ";" ++ t) (frame_text p (node_of x)) (reverse (map (frame_text p) (map node_of items))))
+
+  pub stack_none : (all : List Node) → all ≡ [] → stack_text p (map node_of all) ≡ codes "(empty)"
+  stack_none all e = ap (λ z. stack_text p (map node_of z)) e
+
+  -- A frame is written, after a semicolon.
+  pub rest_next : (all items : List Node) (x : Node) (whole before comma now : List ℕ) → all ≡ items ++ x ∷ [] → comma ≡ before ++ codes ";" → now ≡ comma ++ frame_text p (node_of x) → before ++ rest_text p all ≡ whole → now ++ rest_text p items ≡ whole
+  rest_next all items x whole before comma now e c n h =
+      let f : List ℕ = frame_text p (node_of x) in
+      let g : (before ++ codes ";") ++ (f ++ rest_text p items) ≡ before ++ ((codes ";" ++ f) ++ rest_text p items) = simp append_assoc in
+      ap (λ z. z ++ rest_text p items) (n ∙ ap (λ z. z ++ f) c) ∙ (append_assoc (before ++ codes ";") f (rest_text p items) ∙ (g ∙ (ap (λ z. before ++ z) (sym (rest_first all items x e)) ∙ h)))
+
+-- The last of the nodes, and those before it.
+pub all_last : (p : Parts) (all items : List Node) (x : Node) → all ≡ items ++ x ∷ [] → AllByRecursion (IsOf p) all → AllByRecursion (IsOf p) items × IsOf p x
+all_last p all items x e a = split items (subst (AllByRecursion (IsOf p)) e a)
+  where
+    split : (items : List Node) → AllByRecursion (IsOf p) (items ++ x ∷ []) → AllByRecursion (IsOf p) items × IsOf p x
+    split [] a = (tt, a.0)
+    split (y ∷ items) a = let h = split items a.1 in ((a.0, h.0), h.1)
+
+-- The frames are the items of the value behind the field.
+pub frames_found : (p : Parts) (n field array : NodeAt) → Some field ≡ named_field p (codes "frames") n → array ≡ behind 16 p field → frames_in p n ≡ items_of p array
+frames_found p n field array e h = sym (ap (λ o. option_and_then (items_of p) (option_map (behind 16 p) o)) e) ∙ ap (items_of p) (sym h)
+
+pub no_frames : (p : Parts) (n : NodeAt) → None ≡ named_field p (codes "frames") n → None ≡ frames_in p n
+no_frames p n e = ap (λ o. option_and_then (items_of p) (option_map (behind 16 p) o)) e
+
+pub items_none : (p : Parts) (array : NodeAt) → array.shape.array ≡ false → items_of p array ≡ None
+items_none p array e = ap (λ b. if b then Some (children p.classes p.bytes array) else None) e
+
+pub items_some : (p : Parts) (array : NodeAt) → array.shape.array ≡ true → items_of p array ≡ Some (children p.classes p.bytes array)
+items_some p array e = ap (λ b. if b then Some (children p.classes p.bytes array) else None) e

@@ -1,0 +1,43 @@
+-- The frames of an event's call stack.
+use Rattle.std.specs.Prelude.{◌≡◌, ℕ, List, [], ◌∷◌, codes, Option, Some, None, option_and_then, if◌then◌else◌}
+use Rattle.std.specs.Option.{option_map}
+use Rattle.jfr_value.specs.declared.node.Node.{Node}
+use Rattle.jfr_value.specs.Nodes.{IsValue, NodeAt, children, target}
+use Rattle.jfr_pool.specs.Entries.{number_in_force}
+use Rattle.jfr_chunk.specs.Parts.{Parts}
+use Rattle.jfr_chunk.specs.Paths.{follow_while, is_reference, named_field, named_node}
+
+-- The value after following references, at most n in a row.
+abbrev pub behind : ℕ → Parts → NodeAt → NodeAt
+behind n p node = follow_while n is_reference p node
+
+-- The value to which names lead from a node. For each name references are followed, at most 16 in a row, and
+-- then the field with this name is taken; after the last name references are followed again.
+abbrev pub node_at : Parts → NodeAt → List (List ℕ) → Option NodeAt
+node_at p n names = option_map (behind 16 p) (named_node p n names)
+
+-- The items of a node, if it is an array.
+abbrev pub items_of : Parts → NodeAt → Option (List NodeAt)
+items_of p n = if n.shape.array then Some (children p.classes p.bytes n) else None
+
+-- The frames of the event with these fields: the items of stackTrace.frames. If this isn't an array, the event
+-- has no stack.
+unfoldable pub frames_of : Parts → NodeAt → Option (List NodeAt)
+frames_of p n = option_and_then (items_of p) (node_at p n (codes "stackTrace" ∷ codes "frames" ∷ []))
+
+-- The field with the stack trace, in an event with these fields.
+abbrev pub trace_of : Parts → NodeAt → Option NodeAt
+trace_of p n = named_field p (codes "stackTrace") (behind 16 p n)
+
+-- The frames of a stack trace.
+abbrev pub frames_in : Parts → NodeAt → Option (List NodeAt)
+frames_in p n = option_and_then (items_of p) (option_map (behind 16 p) (named_field p (codes "frames") n))
+
+-- The number of the entry in force to which a value refers, if there is one.
+abbrev pub entry_of : Parts → NodeAt → Option ℕ
+entry_of p n = option_and_then (number_in_force p.entries) (target p.classes p.bytes n)
+
+-- A value of the code that is one of the chunk.
+pub record IsOf (p : Parts) (n : Node) : Type 0 where
+  pub bytes : n.bytes.now ≡ p.bytes
+  pub value : IsValue p.classes n

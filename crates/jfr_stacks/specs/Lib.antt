@@ -1,0 +1,6 @@
+pub mod Frames
+pub mod Texts
+pub mod Folded
+pub mod Held
+pub mod Adding
+pub mod Bounds

@@ -1,0 +1,134 @@
+//! Counting the events of a chunk by their stacks.
+ghost use Rattle.std.specs.Prelude.{◌≡◌, ◌*◌, ℕ, ◌+◌, ◌-◌, ◌^◌, ◌<◌, ◌≤◌, List, ◌++◌, length, IfOk, IfSome, OnErr, OnOk, option_map, option_to_list};
+ghost use Rattle.std.specs.List.{filter_map};
+ghost use Rattle.jfr_chunk.specs.Parts.{EventAt, events_of};
+ghost use Rattle.jfr_chunk.specs.Reach.{kept_by};
+ghost use Rattle.jfr_chunk.specs.Seen.{event_at};
+ghost use Rattle.jfr_value.specs.Nodes.{IsValue, node_of};
+ghost use Rattle.jfr_stacks.specs.Adding.{AddsText, AddsTexts, AreAtMost, AreBelow, Fits, Owes, kept_at};
+ghost use Rattle.jfr_stacks.specs.Folded.{Counts, texts_of};
+ghost use Rattle.jfr_stacks.specs.Held.{counts_in};
+ghost use Rattle.jfr_stacks.specs.Texts.{entry_text, stack_of, trace_text};
+
+use crate::counts::{CountMap, add_count};
+use crate::entries::add_entries;
+use crate::steps::{MOST_FOLLOWED, behind};
+use crate::trace::{entry_behind, trace_of};
+use crate::writer::StackWriter;
+use jfr_base::NoMemory;
+use jfr_chunk::{Chunk, Event, Kept};
+use jfr_filter::Filter;
+use jfr_path::choose;
+use jfr_value::Node;
+use std::alloc::Global;
+
+/// Adds the events of a chunk that the filter keeps. They are first counted by the entry that is their stack
+/// trace, so the text of a stack is written only once for each entry. If memory runs out, some of the events
+/// have been added.
+pub(crate) fn add_events(
+    alloc: Global,
+    chunk: &Chunk<'_>,
+    filter: &Filter,
+    counts: &mut CountMap,
+) -> Result<(), NoMemory>
+    requires below { AreBelow (1073741823 * (2 ^ 34 - 1)) (counts_in counts.old) }
+    ensures ok { OnOk result (AddsTexts (counts_in counts.old) (texts_of filter.now chunk.now) (counts_in counts.new)) }
+    ensures below { (most : ℕ) → AreBelow most (counts_in counts.old) → AreBelow (most + 1073741823) (counts_in counts.new) }
+{
+    // The clauses of this call bound the number of events.
+    let _ = chunk.bytes();
+    let kept = choose(alloc, chunk, filter)?;
+    let mut writer = StackWriter::new(alloc)?;
+    let by_entry = count_events(&mut writer, chunk, &kept, counts)?;
+    add_entries(&mut writer, chunk, &by_entry, counts)
+}
+
+// The number of kept events for each entry that is their stack trace. The events whose trace isn't an entry
+// are added to the counts.
+fn count_events(
+    writer: &mut StackWriter,
+    chunk: &Chunk<'_>,
+    kept: &Kept,
+    counts: &mut CountMap,
+) -> Result<Vec<u64>, NoMemory>
+    requires each { length kept.now ≡ length (events_of chunk.now) }
+    requires few { length (events_of chunk.now) ≤ 1073741823 }
+    requires below { AreBelow (1073741823 * (2 ^ 34 - 1)) (counts_in counts.old) }
+    ensures ok { IfOk result (λ by_entry. Owes (entry_text chunk.now) (counts_in counts.old) (filter_map (stack_of chunk.now) (kept_by chunk.now kept.now)) (counts_in counts.new) 0 by_entry.items) }
+    ensures each { IfOk result (λ by_entry. length by_entry.items ≡ length chunk.now.entries) }
+    ensures small { IfOk result (λ by_entry. AreAtMost 1073741823 by_entry.items) }
+    ensures below { (most : ℕ) → AreBelow most (counts_in counts.old) → AreBelow (most + 1073741823) (counts_in counts.new) }
+{
+    let mut by_entry = vec![in writer.alloc(); 0; chunk.pools().len()]?;
+    for number in 0..chunk.event_count() {
+        if let Some(event) = kept_event(chunk, kept, number) {
+            count_event(writer, chunk, &event.node, &mut by_entry, counts)?;
+        }
+    }
+    Ok(by_entry)
+}
+
+// The event with this number, if it is kept.
+fn kept_event<'a>(chunk: &Chunk<'a>, kept: &Kept, number: usize) -> Option<Event<'a>>
+    ensures exact { option_map event_at result ≡ kept_at chunk.now kept.now number }
+    ensures bytes { IfSome result (λ event. event.node.bytes.now ≡ chunk.now.bytes) }
+    ensures value { IfSome result (λ event. IsValue chunk.now.classes event.node) }
+{
+    match kept.get(number) {
+        Some(true) => chunk.event(number),
+        _ => None,
+    }
+}
+
+// Counts an event with these fields at the entry that is its stack trace, or else adds it to the counts.
+fn count_event<'a>(
+    writer: &mut StackWriter,
+    chunk: &Chunk<'a>,
+    fields: &Node<'a>,
+    by_entry: &mut [u64],
+    counts: &mut CountMap,
+) -> Result<(), NoMemory>
+    requires value { IsValue chunk.now.classes fields.now }
+    requires of_chunk { fields.now.bytes.now ≡ chunk.now.bytes }
+    requires each { length by_entry.old ≡ length chunk.now.entries }
+    requires small { AreAtMost 1073741823 by_entry.old }
+    requires fits { Fits 1 (counts_in counts.old) }
+    ensures ok { OnOk result ((e : EventAt) (old : Counts) (done : List (List ℕ)) → e.node ≡ node_of fields.now → Owes (entry_text chunk.now) old done (counts_in counts.old) 0 by_entry.old
+        → Owes (entry_text chunk.now) old (done ++ option_to_list (stack_of chunk.now e)) (counts_in counts.new) 0 by_entry.new) }
+    ensures small { (most : ℕ) → AreAtMost most by_entry.old → AreAtMost (most + 1) by_entry.new }
+    ensures unchanged { OnErr result (counts_in counts.new ≡ counts_in counts.old) }
+{
+    let Some(trace) = trace_of(chunk, fields) else {
+        return Ok(());
+    };
+    match entry_behind(chunk, &trace) {
+        Some(number) => {
+            by_entry[number] += 1;
+            Ok(())
+        }
+        None => {
+            let place = behind(chunk, &trace, MOST_FOLLOWED);
+            add_trace(writer, chunk, &place, 1, counts)
+        }
+    }
+}
+
+/// Adds events with this stack trace to the counts, if it has a stack.
+pub(crate) fn add_trace<'a>(
+    writer: &mut StackWriter,
+    chunk: &Chunk<'a>,
+    trace: &Node<'a>,
+    count: u64,
+    counts: &mut CountMap,
+) -> Result<(), NoMemory>
+    requires value { IsValue chunk.now.classes trace.now }
+    requires of_chunk { trace.now.bytes.now ≡ chunk.now.bytes }
+    requires fits { Fits count (counts_in counts.old) }
+    ensures ok { OnOk result (AddsText (counts_in counts.old) (trace_text chunk.now (node_of trace.now)) count (counts_in counts.new)) }
+    ensures unchanged { OnErr result (counts_in counts.new ≡ counts_in counts.old) }
+{
+    if !writer.write(chunk, trace)? {
+        return Ok(());
+    }
+    add_count(writer.alloc(), counts, writer.as_str(), count)
+}

@@ -1,0 +1,57 @@
+//! Adding the events that were counted by the entry that is their stack trace.
+ghost use Rattle.std.specs.Prelude.{◌≡◌, ◌*◌, ℕ, ◌+◌, ◌-◌, ◌^◌, ◌≤◌, List, length, OnErr, OnOk};
+ghost use Rattle.jfr_stacks.specs.Adding.{AddsText, AddsTexts, AreAtMost, AreBelow, Fits, Owes};
+ghost use Rattle.jfr_stacks.specs.Folded.{Counts};
+ghost use Rattle.jfr_stacks.specs.Held.{counts_in};
+ghost use Rattle.jfr_stacks.specs.Texts.{entry_text};
+
+use crate::counting::add_trace;
+use crate::counts::CountMap;
+use crate::steps::behind;
+use crate::writer::StackWriter;
+use jfr_base::NoMemory;
+use jfr_chunk::Chunk;
+
+/// The most references that are followed from an entry: one was followed to the entry.
+const MOST_FOLLOWED: u32 = 15;
+
+/// Adds the events that were counted by entries to the counts.
+pub(crate) fn add_entries(
+    writer: &mut StackWriter,
+    chunk: &Chunk<'_>,
+    by_entry: &[u64],
+    counts: &mut CountMap,
+) -> Result<(), NoMemory>
+    requires small { AreAtMost 1073741823 by_entry.now }
+    requires owes { (old : Counts) × (ts : List (List ℕ)) × AreBelow (1073741823 * (2 ^ 34 - 1)) old × (length ts ≤ 1073741823) × Owes (entry_text chunk.now) old ts (counts_in counts.old) 0 by_entry.now }
+    ensures ok { OnOk result ((old : Counts) (ts : List (List ℕ)) → Owes (entry_text chunk.now) old ts (counts_in counts.old) 0 by_entry.now → AddsTexts old ts (counts_in counts.new)) }
+    ensures below { (old : Counts) (ts : List (List ℕ)) (most : ℕ) → Owes (entry_text chunk.now) old ts (counts_in counts.old) 0 by_entry.now → AreBelow most old → AreBelow (most + length ts) (counts_in counts.new) }
+{
+    for number in 0..by_entry.len() {
+        add_entry(writer, chunk, number, by_entry[number], counts)?;
+    }
+    Ok(())
+}
+
+// Adds events whose stack trace is the entry with this number.
+#[tactic(auto, unfolding(crate::specs::Texts::entry_text))]
+fn add_entry(
+    writer: &mut StackWriter,
+    chunk: &Chunk<'_>,
+    number: usize,
+    count: u64,
+    counts: &mut CountMap,
+) -> Result<(), NoMemory>
+    requires fits { Fits count (counts_in counts.old) }
+    ensures ok { OnOk result (AddsText (counts_in counts.old) (entry_text chunk.now number) count (counts_in counts.new)) }
+    ensures unchanged { OnErr result (counts_in counts.new ≡ counts_in counts.old) }
+{
+    if count == 0 {
+        return Ok(());
+    }
+    let Some(entry) = chunk.entry_node(number) else {
+        return Ok(());
+    };
+    let trace = behind(chunk, &entry, MOST_FOLLOWED);
+    add_trace(writer, chunk, &trace, count, counts)
+}

@@ -1,0 +1,115 @@
+//! The frames of a stack trace.
+ghost use Rattle.std.specs.Prelude.{◌≡◌, ℕ, ◌≤◌, true, false, length, map, IfOk, IfSome, IsSome, Some, option_map};
+ghost use Rattle.std.specs.List.{AllByRecursion};
+ghost use Rattle.jfr_base.specs.Formats.{int_at};
+ghost use Rattle.jfr_layout.specs.Classes.{Sound};
+ghost use Rattle.jfr_value.specs.Nodes.{EndsAt, IsValue, children, node_of};
+ghost use Rattle.jfr_stacks.specs.Frames.{IsOf, frames_in};
+
+use crate::steps::{MOST_FOLLOWED, behind, named_field};
+use jfr_base::{NoMemory, Var, read_within};
+use jfr_chunk::Chunk;
+use jfr_layout::Shape;
+use jfr_value::{Node, children_are_parts, end_of};
+use std::alloc::Global;
+
+/// The frames of a stack trace, from the innermost call to the outermost; `None` exactly if they aren't an
+/// array.
+pub(crate) fn frames_in<'a>(
+    alloc: Global,
+    chunk: &Chunk<'a>,
+    trace: &Node<'a>,
+) -> Result<Option<Vec<Node<'a>>>, NoMemory>
+    requires value { IsValue chunk.now.classes trace.now }
+    requires of_chunk { trace.now.bytes.now ≡ chunk.now.bytes }
+    ensures ok { IfOk result (λ frames. option_map (λ f. map node_of f.items) frames ≡ frames_in chunk.now (node_of trace.now)) }
+    ensures values { IfOk result (λ frames. IfSome frames (λ f. AllByRecursion (IsOf chunk.now) f.items)) }
+{
+    let Some(field) = named_field(chunk, trace, "frames") else {
+        return Ok(None);
+    };
+    let array = behind(chunk, &field, MOST_FOLLOWED);
+    if !array.shape.array {
+        return Ok(None);
+    }
+    let frames = items_of(alloc, chunk, &array)?;
+    Ok(Some(frames))
+}
+
+/// The items of an array, in order.
+fn items_of<'a>(
+    alloc: Global,
+    chunk: &Chunk<'a>,
+    array: &Node<'a>,
+) -> Result<Vec<Node<'a>>, NoMemory>
+    requires value { IsValue chunk.now.classes array.now }
+    requires of_chunk { array.now.bytes.now ≡ chunk.now.bytes }
+    requires array { array.now.shape.array ≡ true }
+    ensures ok { IfOk result (λ items. map node_of items.items ≡ children chunk.now.classes chunk.now.bytes (node_of array.now)) }
+    ensures values { IfOk result (λ items. AllByRecursion (IsOf chunk.now) items.items) }
+{
+    children_are_parts();
+    chunk.parts_stand();
+    let count = integer_at(chunk, array.at, array.end);
+    let shape = Shape {
+        class: array.shape.class,
+        constant: array.shape.constant,
+        array: false,
+    };
+    let mut items = Vec::new(alloc);
+    let mut at = count.end;
+    'items: for _ in 0..count.value {
+        let end = item_end(chunk, shape, at, array.end);
+        items.push(Node {
+            shape,
+            bytes: array.bytes,
+            at,
+            end,
+        })?;
+        at = end;
+    }
+    Ok(items)
+}
+
+/// Where the item with this shape ends that starts at `at` and ends by `limit`.
+fn item_end(chunk: &Chunk<'_>, shape: Shape, at: usize, limit: usize) -> usize
+    requires sound { Sound chunk.now.classes }
+    requires item { shape.array ≡ false }
+    requires order { at ≤ limit }
+    requires within { limit ≤ length chunk.now.bytes }
+    requires stands { (to : ℕ) × EndsAt chunk.now.classes chunk.now.bytes shape at to × (to ≤ limit) }
+    ensures { (to : ℕ) → EndsAt chunk.now.classes chunk.now.bytes shape at to → to ≤ limit → result ≡ to }
+{
+    if shape.constant {
+        return key_end(chunk, shape, at, limit);
+    }
+    match end_of(chunk.classes(), shape, chunk.bytes(), at, limit) {
+        Ok(end) => end,
+        Err(_) => unreachable!(),
+    }
+}
+
+/// Where the reference ends that starts at `at` and ends by `limit`.
+fn key_end(chunk: &Chunk<'_>, shape: Shape, at: usize, limit: usize) -> usize
+    requires item { shape.array ≡ false }
+    requires reference { shape.constant ≡ true }
+    requires order { at ≤ limit }
+    requires within { limit ≤ length chunk.now.bytes }
+    requires stands { (to : ℕ) × EndsAt chunk.now.classes chunk.now.bytes shape at to × (to ≤ limit) }
+    ensures { (to : ℕ) → EndsAt chunk.now.classes chunk.now.bytes shape at to → to ≤ limit → result ≡ to }
+{
+    integer_at(chunk, at, limit).end
+}
+
+/// The integer that starts at `at` and ends by `limit`.
+fn integer_at(chunk: &Chunk<'_>, at: usize, limit: usize) -> Var
+    requires order { at ≤ limit }
+    requires within { limit ≤ length chunk.now.bytes }
+    requires stands { IsSome (int_at chunk.now.bytes at limit) }
+    ensures { int_at chunk.now.bytes at limit ≡ Some result }
+{
+    match read_within(chunk.bytes(), at, limit) {
+        Ok(number) => number,
+        Err(_) => unreachable!(),
+    }
+}

@@ -1,0 +1,26 @@
+//! Folded call stacks: for each distinct call stack of the events, a line with its frames and the number of
+//! events that have it. Flame graphs are drawn from such lines.
+//!
+//! The frames of a stack are listed from the outermost call to the innermost, with a semicolon between them. A
+//! frame is the name of a class, a dot, and the name of a method:
+//!
+//! ```text
+//! java/lang/Thread.run;app/Main.work;java/util/HashMap.get 17
+//! ```
+//!
+//! `Stacks::new` starts without events, `Stacks::add` adds the events of a chunk that a filter keeps, and
+//! `Stacks::text` returns the lines. Read `specs/Folded.antt` first, then `specs/Texts.antt` and
+//! `specs/Frames.antt`.
+#![tactic(auto)]
+
+mod counting;
+mod counts;
+mod entries;
+mod frames;
+mod names;
+mod stacks;
+mod steps;
+mod trace;
+mod writer;
+
+pub use stacks::Stacks;

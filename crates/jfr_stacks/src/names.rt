@@ -1,0 +1,126 @@
+//! The names of classes and methods in frames.
+ghost use Rattle.std.specs.Prelude.{◌≡◌, ◌<◌, [], ◌∷◌, ◌++◌, IfOk, OnOk, flat_map, string_bytes, option_and_then};
+ghost use Rattle.std.specs.Str.{chars};
+ghost use Rattle.jfr_chunk.specs.Paths.{text_of};
+ghost use Rattle.jfr_value.specs.Nodes.{IsValue, node_of};
+ghost use Rattle.jfr_stacks.specs.Frames.{node_at};
+ghost use Rattle.jfr_stacks.specs.Texts.{escaped, hex_digit, method_names, name_text, type_names};
+
+use crate::steps::{MOST_FOLLOWED, behind};
+use jfr_base::{NoMemory, Text, Words};
+use jfr_chunk::Chunk;
+use jfr_path::{node_at, text_at};
+use jfr_value::Node;
+use std::alloc::Global;
+
+/// The names of the fields that lead from a frame to the name of the method's class.
+pub(crate) fn type_names(alloc: Global) -> Result<Words, NoMemory>
+    ensures { IfOk result (λ names. names ≡ type_names) }
+{
+    let mut names = Words::new(alloc);
+    names.push("method")?;
+    names.push("type")?;
+    names.push("name")?;
+    names.push("string")?;
+    Ok(names)
+}
+
+/// The names of the fields that lead from a frame to the method's name.
+pub(crate) fn method_names(alloc: Global) -> Result<Words, NoMemory>
+    ensures { IfOk result (λ names. names ≡ method_names) }
+{
+    let mut names = Words::new(alloc);
+    names.push("method")?;
+    names.push("name")?;
+    names.push("string")?;
+    Ok(names)
+}
+
+/// Adds the name to which the names of fields lead from a frame.
+#[tactic(auto, unfolding(crate::specs::Texts::name_text))]
+pub(crate) fn push_name(
+    alloc: Global,
+    chunk: &Chunk<'_>,
+    frame: &Node<'_>,
+    names: &Words,
+    out: &mut String,
+) -> Result<(), NoMemory>
+    requires value { IsValue chunk.now.classes frame.now }
+    requires of_chunk { frame.now.bytes.now ≡ chunk.now.bytes }
+    ensures ok { OnOk result (string_bytes out.new ≡ string_bytes out.old ++ name_text chunk.now (node_of frame.now) names.now) }
+{
+    match named_text(alloc, chunk, frame, names)? {
+        Some(text) => push_escaped(text.as_str(), out),
+        None => {
+            out.push_str("?")?;
+            Ok(())
+        }
+    }
+}
+
+/// The text to which the names of fields lead from a frame, if there is one.
+fn named_text(
+    alloc: Global,
+    chunk: &Chunk<'_>,
+    frame: &Node<'_>,
+    names: &Words,
+) -> Result<Option<Text>, NoMemory>
+    requires value { IsValue chunk.now.classes frame.now }
+    requires of_chunk { frame.now.bytes.now ≡ chunk.now.bytes }
+    ensures ok { IfOk result (λ text. text ≡ option_and_then (text_of chunk.now) (node_at chunk.now (node_of frame.now) names.now)) }
+{
+    match node_at(chunk, frame, names) {
+        Some(place) => text_at(alloc, chunk, &behind(chunk, &place, MOST_FOLLOWED)),
+        None => Ok(None),
+    }
+}
+
+/// Adds a text with its special characters escaped.
+fn push_escaped(text: &str, out: &mut String) -> Result<(), NoMemory>
+    ensures ok { OnOk result (string_bytes out.new ≡ string_bytes out.old ++ flat_map escaped (chars text.now)) }
+{
+    for character in text.chars() {
+        push_character(character, out)?;
+    }
+    Ok(())
+}
+
+/// Adds a character, escaped if it is special.
+fn push_character(character: char, out: &mut String) -> Result<(), NoMemory>
+    ensures ok { OnOk result (string_bytes out.new ≡ string_bytes out.old ++ escaped character) }
+{
+    if character <= ' ' || character == ';' || character == '\\' || character == '\u{7F}' {
+        let byte = character as u8;
+        out.push_str("\\u00")?;
+        out.push_str(hex_digit(byte / 16))?;
+        out.push_str(hex_digit(byte % 16))?;
+        return Ok(());
+    }
+    out.push(character)?;
+    Ok(())
+}
+
+/// The digit of a number below 16, in lower case.
+fn hex_digit(number: u8) -> &'static str
+    requires { number < 16 }
+    ensures { result.now ≡ hex_digit number ∷ [] }
+{
+    match number {
+        0 => "0",
+        1 => "1",
+        2 => "2",
+        3 => "3",
+        4 => "4",
+        5 => "5",
+        6 => "6",
+        7 => "7",
+        8 => "8",
+        9 => "9",
+        10 => "a",
+        11 => "b",
+        12 => "c",
+        13 => "d",
+        14 => "e",
+        _ => "f",
+    }
+}
