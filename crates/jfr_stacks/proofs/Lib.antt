@@ -1,3 +1,4 @@
+mod BytesLaws
 mod CountLaws
 mod EventLaws
 mod FoldLaws

@@ -1,5 +1,5 @@
 //! The folded stacks of a recording.
-ghost use Rattle.std.specs.Prelude.{◌≡◌, ◌+◌, ◌^◌, ◌<◌, List, [], ◌∷◌, ◌++◌, length, IfOk, OnOk};
+ghost use Rattle.std.specs.Prelude.{◌≡◌, ◌+◌, ◌^◌, ◌<◌, List, [], ◌∷◌, ◌++◌, encode_utf8_all, length, IfOk, OnOk};
 ghost use Rattle.std.specs.Str.{chars};
 ghost use Rattle.jfr_filter.specs.Filters.{Given};
 ghost use Rattle.jfr_chunk.specs.Parts.{Parts};
@@ -74,6 +74,7 @@ impl Stacks {
     /// the end of the line.
     pub fn text(&self, alloc: Global) -> Result<Text, NoMemory>
         ensures ok { IfOk result (λ text. text ≡ chars (lines_of self.now.stacks)) }
+        ensures bytes { IfOk result (λ text. encode_utf8_all text ≡ lines_of self.now.stacks) }
     {
         let mut out = String::new(alloc);
         push_lines(&self.counts, &mut out)?;
