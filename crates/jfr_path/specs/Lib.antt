@@ -1,3 +1,4 @@
+pub mod Places
 pub mod Strings
 pub mod Threads
 pub mod Verdicts

@@ -4,6 +4,7 @@ ghost use Rattle.std.specs.Str.{chars};
 ghost use Rattle.jfr_chunk.specs.Parts.{AreParts, events_of};
 ghost use Rattle.jfr_chunk.specs.Paths.{always, follow_while, is_reference, named_field, named_node, named_text, text_of};
 ghost use Rattle.jfr_chunk.specs.Seen.{event_at};
+ghost use Rattle.jfr_path.specs.Places.{node_at};
 ghost use Rattle.jfr_value.specs.Nodes.{IsValue, node_of};
 
 use crate::fields_of;
@@ -31,15 +32,29 @@ pub fn named(
     ensures ok { IfOk result (λ text. text ≡ named_text chunk.now (node_of event.now.node) names.now) }
 {
     let fields = fields_of(chunk, event);
-    match node_at(chunk, &fields, names) {
+    match named_node(chunk, &fields, names) {
         Some(node) => text_at(alloc, chunk, &node),
         None => Ok(None),
     }
 }
 
-/// The value to which names lead from a value of the chunk: for each name, references are followed, at most 16
-/// one after another, and then the field of that name is taken. `None` exactly if a field is absent.
+/// The value to which names lead from a value of the chunk. For each name, references are followed, at most 16
+/// in a row, and then the field with this name is taken; after the last name references are followed again.
+/// `None` exactly if a field is absent.
 pub fn node_at<'a>(chunk: &Chunk<'a>, node: &Node<'a>, names: &Words) -> Option<Node<'a>>
+    requires value { IsValue chunk.now.classes node.now }
+    requires of_chunk { node.now.bytes.now ≡ chunk.now.bytes }
+    ensures exact { option_map node_of result ≡ node_at chunk.now (node_of node.now) names.now }
+    ensures bytes { IfSome result (λ to. to.bytes.now ≡ chunk.now.bytes) }
+    ensures value { IfSome result (IsValue chunk.now.classes) }
+{
+    chunk.parts_stand();
+    let place = named_node(chunk, node, names)?;
+    Some(behind_references(chunk, &place))
+}
+
+/// As `node_at`, but no reference is followed after the last name.
+fn named_node<'a>(chunk: &Chunk<'a>, node: &Node<'a>, names: &Words) -> Option<Node<'a>>
     requires value { IsValue chunk.now.classes node.now }
     requires of_chunk { node.now.bytes.now ≡ chunk.now.bytes }
     ensures exact { option_map node_of result ≡ named_node chunk.now (node_of node.now) names.now }

@@ -5,16 +5,12 @@ use Rattle.jfr_value.specs.declared.node.Node.{Node}
 use Rattle.jfr_value.specs.Nodes.{IsValue, NodeAt, children, target}
 use Rattle.jfr_pool.specs.Entries.{number_in_force}
 use Rattle.jfr_chunk.specs.Parts.{Parts}
-use Rattle.jfr_chunk.specs.Paths.{follow_while, is_reference, named_field, named_node}
+use Rattle.jfr_chunk.specs.Paths.{follow_while, is_reference, named_field}
+use Rattle.jfr_path.specs.Places.{node_at}
 
 -- The value after following references, at most n in a row.
 abbrev pub behind : ℕ → Parts → NodeAt → NodeAt
 behind n p node = follow_while n is_reference p node
-
--- The value to which names lead from a node. For each name references are followed, at most 16 in a row, and
--- then the field with this name is taken; after the last name references are followed again.
-abbrev pub node_at : Parts → NodeAt → List (List ℕ) → Option NodeAt
-node_at p n names = option_map (behind 16 p) (named_node p n names)
 
 -- The items of a node, if it is an array.
 abbrev pub items_of : Parts → NodeAt → Option (List NodeAt)

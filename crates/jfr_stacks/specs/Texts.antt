@@ -6,7 +6,8 @@ use Rattle.jfr_value.specs.Nodes.{NodeAt}
 use Rattle.jfr_pool.specs.Entries.{entry_node}
 use Rattle.jfr_chunk.specs.Parts.{EventAt, Parts}
 use Rattle.jfr_chunk.specs.Paths.{text_of}
-use Rattle.jfr_stacks.specs.Frames.{behind, frames_in, frames_of, node_at}
+use Rattle.jfr_path.specs.Places.{node_at}
+use Rattle.jfr_stacks.specs.Frames.{behind, frames_in, frames_of}
 
 -- A character that has a meaning in a folded stack or doesn't print: the space, a semicolon, a backslash, a
 -- character below U+0020, and U+007F.

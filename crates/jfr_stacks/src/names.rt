@@ -3,10 +3,9 @@ ghost use Rattle.std.specs.Prelude.{◌≡◌, ◌<◌, [], ◌∷◌, ◌++◌,
 ghost use Rattle.std.specs.Str.{chars};
 ghost use Rattle.jfr_chunk.specs.Paths.{text_of};
 ghost use Rattle.jfr_value.specs.Nodes.{IsValue, node_of};
-ghost use Rattle.jfr_stacks.specs.Frames.{node_at};
+ghost use Rattle.jfr_path.specs.Places.{node_at};
 ghost use Rattle.jfr_stacks.specs.Texts.{escaped, hex_digit, method_names, name_text, type_names};
 
-use crate::steps::{MOST_FOLLOWED, behind};
 use jfr_base::{NoMemory, Text, Words};
 use jfr_chunk::Chunk;
 use jfr_path::{node_at, text_at};
@@ -70,7 +69,7 @@ fn named_text(
     ensures ok { IfOk result (λ text. text ≡ option_and_then (text_of chunk.now) (node_at chunk.now (node_of frame.now) names.now)) }
 {
     match node_at(chunk, frame, names) {
-        Some(place) => text_at(alloc, chunk, &behind(chunk, &place, MOST_FOLLOWED)),
+        Some(place) => text_at(alloc, chunk, &place),
         None => Ok(None),
     }
 }

@@ -2,7 +2,7 @@ use Rattle.std.specs.Str.{chars}
 use Rattle.jfr_value.specs.Nodes.{node_of}
 use Rattle.jfr_chunk.specs.Paths.{named_node}
 use Rattle.jfr_path.proofs.NameLaws.{named_on, named_off}
-use Rattle.jfr_path.proofs.names.node_at.Goals as goal
+use Rattle.jfr_path.proofs.names.named_node.Goals as goal
 
 pub returns-in_err-place-clause-exact : goal.returns-in_err-place-clause-exact
 returns-in_err-place-clause-exact c =

@@ -2,7 +2,7 @@ use Rattle.std.proofs.Common.{◌≡◌}
 use Rattle.std.specs.Prelude.{drop}
 use Rattle.jfr_chunk.specs.Paths.{named_node}
 use Rattle.jfr_value.specs.Nodes.{IsValue, node_of}
-use Rattle.jfr_path.proofs.names.node_at.Given as goal
+use Rattle.jfr_path.proofs.names.named_node.Given as goal
 
 -- The node is the one that the names so far lead to.
 abbrev pub invariant-loop-number : goal.invariant-loop-number
