@@ -21,3 +21,4 @@ mod UniqueLaws
 mod DecisionLaws
 mod AnswerLaws
 mod StreamLaws
+mod CheckLaws

@@ -225,7 +225,7 @@ module _ (p : Parts) where
   module _ (r : List ℕ) where
     -- No lines were read.
     pub none_read : lines_of_count r (length p.entries) ≡ None → ReceiptPrefix p r None
-    none_read e n s = let q = is_read r n (length p.entries) s.lines s.spelled s.count in let z : None ≡ Some (record { value = s.lines; place = q.0 }) = sym e ∙ q.1 in cc
+    none_read e n s = let q = is_read r n (length p.entries) s.lines s.spelled s.count in let g : Got (List Line) = record { value = s.lines; place = q.0 } in let z : None ≡ Some g = sym e ∙ q.1 in cc
 
     pub same_lines : (g : Got (List Line)) (n : ℕ) (s : IsReceiptOf (take n r) p) → lines_of_count r (length p.entries) ≡ Some g → s.lines ≡ g.value
     same_lines g n s e =

@@ -4,6 +4,7 @@ ghost use Rattle.jfr_chunk.specs.Chosen.{kept_of};
 ghost use Rattle.jfr_chunk.specs.Parts.{events_of};
 ghost use Rattle.jfr_chunk.specs.Reach.{kept_by};
 ghost use Rattle.jfr_verify.specs.Checked.{Answered, Checked, answer_of};
+ghost use Rattle.jfr_verify.specs.Laws.{IsVerified};
 
 use crate::classes::has_classes;
 use crate::closed::is_closed;
@@ -17,9 +18,9 @@ use jfr_filter::Filter;
 use jfr_path::choose;
 use std::alloc::Global;
 
-/// Checks that `b` is an output of `a` with the events that the filter keeps, by the receipt of `b` with
-/// which `receipt` starts. `Ok` has the length of that receipt; otherwise the first check that fails is the
-/// doubt. More bytes may follow the receipt.
+/// Checks that the output `b` means the same as the input `a` with the events that the filter keeps, by the
+/// receipt of `b` at the start of `receipt`. `Ok` has the length of that receipt; more bytes may follow it.
+/// Otherwise the first check that fails is the doubt.
 pub fn check(
     alloc: Global,
     a: &Chunk<'_>,
@@ -27,8 +28,11 @@ pub fn check(
     filter: &Filter,
     receipt: &[u8],
 ) -> Result<usize, CheckFault>
-    ensures { Answered a.now b.now (kept_of filter.now a.now) receipt.now result }
+    ensures exact { Answered a.now b.now (kept_of filter.now a.now) receipt.now result }
+    ensures verified { IfOk result (λ len. IsVerified a.now b.now (kept_of filter.now a.now)) }
 {
+    a.parts_stand();
+    b.parts_stand();
     match choose(alloc, a, filter) {
         Ok(kept) => answer(check_kept(alloc, a, &kept, b, receipt)),
         Err(NoMemory) => Err(CheckFault::Memory),
