@@ -7,7 +7,6 @@ use Rattle.jfr_pool.specs.declared.entry.EntryAt.{EntryAt}
 use Rattle.jfr_pool.specs.Entries.{number_in_force}
 use Rattle.jfr_worklist.specs.Marks.{is_marked, marked_at, add, those}
 use Rattle.jfr_verify.specs.declared.lines.Lines.{Lines}
-use Rattle.jfr_verify.specs.declared.line.Line.{Line}
 use Rattle.jfr_verify.specs.declared.line.Parent.{Parent}
 use Rattle.jfr_verify.specs.Receipts.{new_lines}
 use Rattle.jfr_verify.specs.Added.{Adds}

@@ -1,12 +1,11 @@
 -- An answer is right for each pair of chunks.
-use Rattle.std.specs.Prelude.{◌≡◌, ◌⊎◌, ◌<◌, ◌≤◌, ◌+◌, ◌&&◌, ℕ, zero, suc, Bool, true, false, List, [], ◌∷◌, take, length, map, replicate, slice_get, slice_set, Option, Some, None, Result, Ok, Err, All, Contains}
+use Rattle.std.specs.Prelude.{◌≡◌, ◌⊎◌, ◌<◌, ◌≤◌, ◌+◌, ◌&&◌, ℕ, zero, suc, Bool, true, false, List, [], ◌∷◌, take, length, map, replicate, slice_get, slice_set, Option, Some, None, Result, Ok, Err, Contains}
 use Rattle.std.proofs.Common.{ap, arith, refl, sym, ◌∙◌, subst, inl, inr}
 use Rattle.jfr_base.specs.Formats.{Got}
 use Rattle.jfr_value.specs.Nodes.{NodeAt, targets}
 use Rattle.jfr_pool.specs.declared.entry.EntryAt.{EntryAt}
 use Rattle.jfr_pool.specs.Entries.{entry_node}
 use Rattle.jfr_chunk.specs.Parts.{Parts, EventAt, events_of}
-use Rattle.jfr_worklist.specs.Marks.{IsMarked}
 use Rattle.jfr_verify.specs.declared.line.Line.{Line}
 use Rattle.jfr_verify.specs.declared.line.Parent.{Parent}
 use Rattle.jfr_verify.specs.declared.line.Parent.TheVariants.{OfEvent, OfEntry}
@@ -15,8 +14,7 @@ use Rattle.jfr_verify.specs.declared.doubt.Doubt.TheVariants.{ClassesDiffer, Eve
 use Rattle.jfr_verify.specs.Receipts.{IsReceiptOf, AreValidLines, IsValidLine, IsParent}
 use Rattle.jfr_verify.specs.Reading.{lines_of_count}
 use Rattle.jfr_verify.specs.Closed.{events_closed, entries_closed}
-use Rattle.jfr_verify.specs.Checks.{HasClasses, contents, AreAmong, AreClosed, MarksOfCopies, next_copy}
-use Rattle.jfr_verify.specs.Laws.{Passes}
+use Rattle.jfr_verify.specs.Checks.{HasClasses, contents, AreAmong, AreClosed, next_copy}
 use Rattle.jfr_verify.specs.Checked.{Checked}
 use Rattle.jfr_verify.proofs.ClosedLaws.{closed_is}
 use Rattle.jfr_verify.proofs.ForceLaws.{not_closed}

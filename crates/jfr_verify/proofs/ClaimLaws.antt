@@ -1,5 +1,5 @@
 -- Looking at one parent after another.
-use Rattle.std.specs.Prelude.{◌≡◌, ◌⊎◌, ◌<◌, ◌≤◌, ◌+◌, ◌==◌, ℕ, zero, suc, Bool, true, false, cond, List, [], ◌∷◌, ◌++◌, take, filter, length, replicate, slice_get, slice_set, slice_index_or, Option, Some, None, Contains}
+use Rattle.std.specs.Prelude.{◌≡◌, ◌⊎◌, ◌<◌, ◌≤◌, ◌+◌, ℕ, zero, suc, Bool, true, false, cond, List, [], ◌∷◌, ◌++◌, take, length, replicate, slice_get, slice_set, slice_index_or, Option, Some, None}
 use Rattle.std.specs.Option.{option_map_or}
 use Rattle.std.specs.List.{list_all}
 use Rattle.std.proofs.Common.{ap, arith, refl, sym, ◌∙◌, subst, inl, inr}
@@ -10,7 +10,7 @@ use Rattle.jfr_value.specs.Visits.{TakesAll}
 use Rattle.jfr_pool.specs.declared.entry.EntryAt.{EntryAt}
 use Rattle.jfr_pool.specs.Entries.{number_in_force, entry_node}
 use Rattle.jfr_chunk.specs.Parts.{Parts, EventAt, events_of}
-use Rattle.jfr_worklist.specs.Marks.{is_marked, IsMarked, marked_at, add, those}
+use Rattle.jfr_worklist.specs.Marks.{IsMarked, marked_at, add, those}
 use Rattle.jfr_chunk.specs.Reach.{node_entries, next_entries}
 use Rattle.jfr_pool.proofs.ForceLaws.{force_within}
 use Rattle.jfr_worklist.proofs.Members.{In, contains_in, in_contains, in_those}
@@ -20,7 +20,7 @@ use Rattle.jfr_verify.specs.declared.line.Parent.TheVariants.{OfEvent, OfEntry}
 use Rattle.jfr_verify.specs.Claims.{RefersTo, IsConfirmed, is_same, is_parent_of, children, AreConfirmed}
 use Rattle.jfr_verify.specs.Confirmed.{Confirms, ConfirmsOf, ConfirmsMore, ConfirmsEvents, ConfirmsEntries}
 use Rattle.jfr_worklist.proofs.WalkLaws.{all_size}
-use Rattle.jfr_verify.proofs.MarkLaws.{set_only, all_stay, all_here, all_append, none_marked, count_all}
+use Rattle.jfr_verify.proofs.MarkLaws.{set_only, all_stay, all_here, all_append, none_marked}
 
 children_append : (ps : List Parent) (p : Parent) (xs ys : List ℕ) → children ps p (xs ++ ys) ≡ children ps p xs ++ children ps p ys
 children_append ps p [] ys = refl

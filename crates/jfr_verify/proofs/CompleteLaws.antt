@@ -1,10 +1,10 @@
 -- The output of a scrub passes the checks with its own receipt.
-use Rattle.std.specs.Prelude.{◌≡◌, ◌↔◌, ◌⊎◌, ◌<◌, ℕ, Bool, true, false, List, [], ◌∷◌, length, filter, slice_get, Option, Some, None, All, Contains, if◌then◌else◌}
+use Rattle.std.specs.Prelude.{◌≡◌, ◌↔◌, ◌⊎◌, ℕ, Bool, true, false, List, [], ◌∷◌, filter, Option, Some, None, All, Contains, if◌then◌else◌}
 use Rattle.std.specs.Option.{option_map_or}
 use Rattle.std.proofs.Common.{ap, refl, sym, ◌∙◌, subst, inl, inr}
-use Rattle.std.proofs.lemmas.List.Elements.{All-contains_itself, All-from_recursion, All-contains}
+use Rattle.std.proofs.lemmas.List.Elements.{All-contains_itself, All-from_recursion}
 use Rattle.jfr_frame.specs.Records.{record_bytes}
-use Rattle.jfr_layout.specs.Classes.{Class, Classes}
+use Rattle.jfr_layout.specs.Classes.{Class}
 use Rattle.jfr_layout.specs.Staying.{staying}
 use Rattle.jfr_value.specs.Values.{Value}
 use Rattle.jfr_value.specs.Nodes.{IsNode}
@@ -17,15 +17,14 @@ use Rattle.jfr_chunk.specs.Reach.{Reached, reached_marks, remain, kept_by, roots
 use Rattle.jfr_chunk.specs.Laws.{SameRecords}
 use Rattle.jfr_worklist.proofs.Members.{In, get_in, in_contains}
 use Rattle.jfr_chunk.specs.Metas.{metadata_size, rebuilt, stays_in}
-use Rattle.jfr_pool.proofs.ForceLaws.{Forced, forced}
-use Rattle.jfr_worklist.proofs.SweepLaws.{Reach, root, more}
+use Rattle.jfr_worklist.proofs.SweepLaws.{root, more}
 use Rattle.jfr_chunk.proofs.ReachedLaws.{reached_marked, path_reach, reach_path}
-use Rattle.jfr_chunk.proofs.StandingLaws.{standing, event_is}
+use Rattle.jfr_chunk.proofs.StandingLaws.{standing}
 use Rattle.jfr_laws.specs.Laws.{IsKept}
 use Rattle.jfr_laws.proofs.Same.{chosen_events, event_of_chunk}
 use Rattle.jfr_verify.proofs.AgreeLaws.{all_from_get}
 use Rattle.jfr_verify.specs.Receipts.{IsReceiptOf, receipt_of}
-use Rattle.jfr_verify.specs.Checks.{HasClasses, contents, AreAmong, AreClosed}
+use Rattle.jfr_verify.specs.Checks.{HasClasses, contents, AreClosed}
 use Rattle.jfr_verify.specs.Laws.{Passes, AllReached}
 
 contents_of : (p q : Parts) (es fs : List EventAt) → SameRecords p q es fs → contents p es ≡ contents q fs

@@ -4,7 +4,7 @@ use Rattle.std.specs.Str.{bytes_eq}
 use Rattle.std.proofs.Common.{ap, arith, refl, sym, ◌∙◌, subst, inl, inr}
 use Rattle.std.proofs.lemmas.Bool.{cases_lt}
 use Rattle.std.proofs.lemmas.Option.{slice_get_within}
-use Rattle.std.proofs.lemmas.List.{length-set, length-replicate, length-append}
+use Rattle.std.proofs.lemmas.List.{length-set, length-replicate}
 use Rattle.std.proofs.lemmas.Slice.Eq.{bytes_eq-Decides}
 use Rattle.jfr_value.specs.Nodes.{node_bytes, Both}
 use Rattle.jfr_pool.specs.declared.entry.EntryAt.{EntryAt}
@@ -12,7 +12,7 @@ use Rattle.jfr_pool.specs.Entries.{number_in_force, entry_node, IsInForce}
 use Rattle.jfr_pool.specs.Laws.{IsLast}
 use Rattle.jfr_pool.proofs.OneLaws.{last_is}
 use Rattle.jfr_chunk.specs.Parts.{Parts}
-use Rattle.jfr_worklist.specs.Marks.{is_marked, IsMarked}
+use Rattle.jfr_worklist.specs.Marks.{IsMarked}
 use Rattle.jfr_chunk.specs.Reach.{marked}
 use Rattle.jfr_laws.specs.Laws.{AreCopied, IsCopied}
 use Rattle.jfr_laws.proofs.Marks.{rank, rank_get, rank_order, Ranked, ranked}

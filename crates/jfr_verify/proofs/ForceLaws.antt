@@ -1,14 +1,13 @@
 -- The entries of the output are in force if they are copies of entries in force.
-use Rattle.std.specs.Prelude.{◌≡◌, ◌<◌, ℕ, Bool, true, false, List, ◌&&◌, length, slice_get, Option, Some, None}
-use Rattle.std.proofs.Common.{ap, arith, refl, sym, ◌∙◌, subst}
+use Rattle.std.specs.Prelude.{◌≡◌, Bool, true, false, List, ◌&&◌, length, slice_get, Some}
+use Rattle.std.proofs.Common.{ap, sym, ◌∙◌, subst}
 use Rattle.std.proofs.lemmas.Option.{slice_get_within}
 use Rattle.jfr_pool.specs.declared.entry.EntryAt.{EntryAt}
 use Rattle.jfr_pool.specs.Entries.{number_in_force, IsInForce}
 use Rattle.jfr_chunk.specs.Parts.{Parts, EventAt}
-use Rattle.jfr_worklist.specs.Marks.{IsMarked}
 use Rattle.jfr_chunk.specs.Reach.{marked}
 use Rattle.jfr_laws.specs.Laws.{IsCopied}
-use Rattle.jfr_laws.proofs.Marks.{rank, rank_get, Ranked, ranked}
+use Rattle.jfr_laws.proofs.Marks.{rank_get, Ranked, ranked}
 use Rattle.jfr_laws.proofs.Entries.{copied_get, copied_force, marked_force}
 use Rattle.jfr_layout.specs.Classes.{Classes}
 use Rattle.jfr_verify.specs.Checks.{AreAmong, AreClosed, HasClasses}

@@ -1,5 +1,5 @@
 -- The lines of a receipt: each is valid, and each reached entry has one.
-use Rattle.std.specs.Prelude.{◌≡◌, ◌⊎◌, ℕ, zero, suc, ◌+◌, ◌<◌, ◌≤◌, Bool, true, false, List, [], ◌∷◌, ◌++◌, length, map, slice_get, slice_set, replicate, Some, Contains}
+use Rattle.std.specs.Prelude.{◌≡◌, ◌⊎◌, ℕ, zero, suc, ◌+◌, ◌<◌, Bool, true, false, List, [], ◌∷◌, ◌++◌, length, map, slice_get, slice_set, Some, Contains}
 use Rattle.std.specs.Option.{option_map_or}
 use Rattle.std.proofs.Common.{ap, arith, refl, sym, ◌∙◌, subst, inl, inr}
 use Rattle.std.proofs.lemmas.List.{append-nil, append_assoc, length-append, length-replicate, length-set}
@@ -13,7 +13,7 @@ use Rattle.jfr_chunk.specs.Parts.{Parts, EventAt, events_of}
 use Rattle.jfr_worklist.specs.Marks.{is_marked, IsMarked, marked_at, those}
 use Rattle.jfr_chunk.specs.Reach.{all_targets, nodes_of, roots, node_entries, next_entries}
 use Rattle.jfr_pool.proofs.ForceLaws.{force_within}
-use Rattle.jfr_worklist.proofs.Members.{In, contains_in, in_contains, in_left, in_right, in_cases, in_those}
+use Rattle.jfr_worklist.proofs.Members.{In, contains_in, in_contains, in_left, in_right, in_those}
 use Rattle.jfr_chunk.proofs.RefLaws.{those_append}
 use Rattle.jfr_worklist.proofs.SweepLaws.{Reach, root, more}
 use Rattle.jfr_verify.specs.declared.line.Parent.{Parent}

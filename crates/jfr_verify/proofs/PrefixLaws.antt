@@ -1,19 +1,19 @@
 -- Which prefix is a receipt.
-use Rattle.std.specs.Prelude.{◌≡◌, ◌⊎◌, ◌<◌, ◌≤◌, ◌+◌, ◌-◌, ◌==◌, ℕ, zero, suc, Bool, true, false, List, [], ◌∷◌, ◌++◌, take, drop, map, length, replicate, slice_get, slice_set, slice_range, Option, Some, None, Ok, Err, Contains, option_map, if◌then◌else◌}
+use Rattle.std.specs.Prelude.{◌≡◌, ◌⊎◌, ◌<◌, ◌≤◌, ◌+◌, ◌-◌, ◌==◌, ℕ, zero, suc, Bool, true, false, List, [], ◌∷◌, take, map, length, replicate, slice_get, slice_set, slice_range, Option, Some, None, Ok, Err, Contains, option_map, if◌then◌else◌}
 use Rattle.std.specs.Option.{option_map_or}
 use Rattle.std.proofs.Common.{ap, arith, refl, sym, ◌∙◌, subst, inl, inr}
 use Rattle.std.proofs.lemmas.Option.{slice_get_within}
 use Rattle.std.proofs.lemmas.List.{length-set, length-replicate}
-use Rattle.jfr_base.specs.Formats.{Format, Got, Answer, Reads, Exactly, run, times, integer, ◌>>=◌, Done, Byte}
+use Rattle.jfr_base.specs.Formats.{Got, Answer, Reads, Exactly, run}
 use Rattle.jfr_base.proofs.Exact.{Says, run_says}
-use Rattle.jfr_base.proofs.FreeLaws.{PlaceFree, reads_exact, bind_free, times_free}
+use Rattle.jfr_base.proofs.FreeLaws.{PlaceFree, reads_exact, times_free}
 use Rattle.jfr_base.proofs.RunLaws as running
 use Rattle.jfr_value.specs.Nodes.{NodeAt, targets}
 use Rattle.jfr_pool.specs.declared.entry.EntryAt.{EntryAt}
 use Rattle.jfr_pool.specs.Entries.{number_in_force, entry_node, IsInForce}
 use Rattle.jfr_pool.specs.Laws.{IsLast}
 use Rattle.jfr_pool.proofs.OneLaws.{last_is}
-use Rattle.jfr_chunk.specs.Parts.{Parts, EventAt, events_of}
+use Rattle.jfr_chunk.specs.Parts.{Parts}
 use Rattle.jfr_worklist.specs.Marks.{is_marked, IsMarked, marked_at, those}
 use Rattle.jfr_chunk.specs.Reach.{node_entries, next_entries}
 use Rattle.jfr_worklist.proofs.Members.{In, contains_in, in_contains, in_those, those_in}
@@ -24,9 +24,9 @@ use Rattle.jfr_verify.specs.declared.line.Line.{Line}
 use Rattle.jfr_verify.specs.declared.line.Parent.{Parent}
 use Rattle.jfr_verify.specs.declared.line.Parent.TheVariants.{OfEvent, OfEntry}
 use Rattle.jfr_worklist.specs.Worklists.{marked_count}
-use Rattle.jfr_verify.specs.Receipts.{line_format, receipt_format, kind_check, parent_of, IsParent, IsValidLine, AreValidLines, IsReceiptOf}
+use Rattle.jfr_verify.specs.Receipts.{line_format, receipt_format, IsParent, IsValidLine, AreValidLines, IsReceiptOf}
 use Rattle.jfr_verify.specs.Parents.{IsBefore, IsOrdered, AreOrdered, AreParentsOf, ParentsOf}
-use Rattle.jfr_verify.specs.Claims.{RefersTo, IsConfirmed, AreConfirmed}
+use Rattle.jfr_verify.specs.Claims.{RefersTo, AreConfirmed}
 use Rattle.jfr_verify.specs.Prefix.{AllInForce, ReceiptPrefix}
 use Rattle.jfr_verify.specs.Reading.{got_in, if_count, lines_of_count}
 use Rattle.jfr_worklist.proofs.Counts.{count_set, count_le, count_none}

@@ -1,9 +1,8 @@
 -- Reading lines one after another.
 use Rattle.std.specs.Prelude.{◌≡◌, ◌≤◌, ◌-◌, ◌+◌, ◌==◌, ℕ, zero, suc, Bool, true, false, List, [], ◌∷◌, ◌++◌, length, Option, Some, None, Result, Ok, Err, IfOk, option_map, if◌then◌else◌}
-use Rattle.std.proofs.Common.{ap, arith, refl, sym, ◌∙◌, subst}
+use Rattle.std.proofs.Common.{ap, arith, refl, sym, ◌∙◌}
 use Rattle.std.proofs.lemmas.List.{append_assoc, append-nil}
-use Rattle.jfr_base.specs.declared.flaw.Flaw.{Flaw}
-use Rattle.jfr_base.specs.Formats.{Format, Got, Answer, Done, ◌>>=◌, times, run, on, integer, int_at, after_int, unchecked}
+use Rattle.jfr_base.specs.Formats.{Got, Answer, Done, ◌>>=◌, times, run, on, int_at, after_int, unchecked}
 use Rattle.jfr_base.specs.declared.integer.Var.{Var}
 use Rattle.jfr_base.proofs.FormatLaws.{run-bind}
 use Rattle.jfr_verify.specs.declared.line.Line.{Line}

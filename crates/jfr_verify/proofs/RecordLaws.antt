@@ -1,6 +1,6 @@
 -- Events with equal contents have the same records.
 use Rattle.std.specs.Prelude.{◌≡◌, ℕ, zero, suc, List, [], ◌∷◌, slice_get, Some}
-use Rattle.std.proofs.Common.{ap, refl, sym, ◌∙◌, subst, inl, inr}
+use Rattle.std.proofs.Common.{ap, refl, sym, subst, inl, inr}
 use Rattle.jfr_frame.specs.Records.{record_bytes}
 use Rattle.jfr_layout.specs.Classes.{Agree}
 use Rattle.jfr_chunk.specs.Parts.{Parts, EventAt}

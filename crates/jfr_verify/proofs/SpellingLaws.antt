@@ -1,9 +1,9 @@
 -- The receipt that is written is read as its lines.
-use Rattle.std.specs.Prelude.{◌≡◌, ℕ, zero, suc, List, [], ◌∷◌, ◌++◌, length, None}
+use Rattle.std.specs.Prelude.{◌≡◌, ℕ, List, [], ◌∷◌, ◌++◌, length, None}
 use Rattle.std.specs.List.{flat_map}
-use Rattle.std.proofs.Common.{ap, refl, sym, ◌∙◌, subst}
-use Rattle.std.proofs.lemmas.List.{append-nil, append_assoc}
-use Rattle.jfr_base.specs.Formats.{Format, Done, Byte, ◌>>=◌, integer, times, Exactly}
+use Rattle.std.proofs.Common.{ap, refl, sym}
+use Rattle.std.proofs.lemmas.List.{append-nil}
+use Rattle.jfr_base.specs.Formats.{Done, Byte, ◌>>=◌, integer, times, Exactly}
 use Rattle.jfr_base.specs.Integer.{spell}
 use Rattle.jfr_base.proofs.ExactLaws.{bind_exact}
 use Rattle.jfr_base.proofs.Spelling.{spell_spells}

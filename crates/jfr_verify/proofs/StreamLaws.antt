@@ -1,16 +1,15 @@
 -- Lists of chunks are compared pair by pair.
-use Rattle.std.specs.Prelude.{◌≡◌, ◌≤◌, ◌+◌, ℕ, zero, suc, List, [], ◌∷◌, ◌++◌, take, drop, length, Result, Ok, Err}
-use Rattle.std.specs.List.{AllByRecursion, flat_map}
+use Rattle.std.specs.Prelude.{◌≡◌, ◌≤◌, ◌+◌, ℕ, List, [], ◌∷◌, ◌++◌, take, drop, length, Result, Ok, Err}
+use Rattle.std.specs.List.{AllByRecursion}
 use Rattle.std.proofs.Common.{ap, arith, refl, sym, ◌∙◌, subst}
 use Rattle.jfr_filter.specs.Filters.{Given}
 use Rattle.jfr_chunk.specs.Parts.{Parts, AreParts, events_of}
 use Rattle.jfr_chunk.specs.Chosen.{chosen, kept_of}
-use Rattle.jfr_chunk.specs.Reach.{kept_by}
 use Rattle.jfr_chunk.proofs.ReachedLaws.{path_reach}
 use Rattle.jfr_chunk.proofs.StandingLaws.{standing, event_is}
 use Rattle.jfr_laws.specs.Laws.{IsKept}
-use Rattle.jfr_verify.specs.Receipts.{IsReceiptOf, receipt_of}
-use Rattle.jfr_verify.specs.Laws.{Passes, AllReached}
+use Rattle.jfr_verify.specs.Receipts.{receipt_of}
+use Rattle.jfr_verify.specs.Laws.{Passes}
 use Rattle.jfr_verify.specs.Checked.{Checked}
 use Rattle.jfr_verify.specs.Streams.{Outcome, Verified, Doubted, Onward, Compared, AreVerified, AreLeft, receipts}
 use Rattle.jfr_verify.specs.declared.doubt.Doubt.{Doubt}

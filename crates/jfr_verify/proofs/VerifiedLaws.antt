@@ -1,10 +1,10 @@
 -- A receipt shows that each entry of the output is reached, so its entries are copies of those that remain.
-use Rattle.std.specs.Prelude.{◌≡◌, ◌↔◌, ℕ, ◌<◌, Bool, List, [], ◌∷◌, length, map, slice_get, Option, Some, None, All, Contains}
+use Rattle.std.specs.Prelude.{◌≡◌, ℕ, ◌<◌, Bool, List, [], ◌∷◌, length, map, slice_get, Option, Some, None, Contains}
 use Rattle.std.specs.Option.{option_map_or}
 use Rattle.std.proofs.Common.{ap, arith, refl, sym, ◌∙◌, subst, inl, inr}
 use Rattle.std.proofs.lemmas.Option.{slice_get_within}
 use Rattle.std.proofs.lemmas.List.Elements.{All-contains, All-contains_itself}
-use Rattle.jfr_layout.specs.Classes.{Classes, Agree, Sound}
+use Rattle.jfr_layout.specs.Classes.{Agree}
 use Rattle.jfr_value.specs.Values.{Value}
 use Rattle.jfr_value.specs.Nodes.{NodeAt, IsNode, Both, targets}
 use Rattle.jfr_value.specs.Laws.{SameNode}
@@ -13,10 +13,10 @@ use Rattle.jfr_value.proofs.TargetLaws.{targets_are}
 use Rattle.jfr_pool.specs.declared.entry.EntryAt.{EntryAt}
 use Rattle.jfr_pool.specs.Entries.{number_in_force, inline, entry_node, IsInForce}
 use Rattle.jfr_chunk.specs.Parts.{Parts, EventAt, events_of, AreParts}
-use Rattle.jfr_worklist.specs.Marks.{IsMarked, those}
+use Rattle.jfr_worklist.specs.Marks.{IsMarked}
 use Rattle.jfr_chunk.specs.Reach.{Reached, reached_marks, marked, kept_by, remain, roots, next_entries, all_targets, nodes_of}
 use Rattle.jfr_chunk.specs.Meaning.{SameMeaning}
-use Rattle.jfr_chunk.specs.Laws.{AreEvents, SameRecords, SameOnPaths}
+use Rattle.jfr_chunk.specs.Laws.{SameRecords, SameOnPaths}
 use Rattle.jfr_worklist.proofs.Members.{In, contains_in, in_contains, in_left, in_right, get_in, those_in}
 use Rattle.jfr_chunk.proofs.PathLaws.{Standing}
 use Rattle.jfr_chunk.proofs.StandingLaws.{standing, event_is}
@@ -31,8 +31,7 @@ use Rattle.jfr_laws.proofs.Same.{chosen_events, event_of_chunk}
 use Rattle.jfr_verify.specs.declared.line.Parent.{Parent}
 use Rattle.jfr_verify.specs.declared.line.Line.{Line}
 use Rattle.jfr_verify.specs.declared.line.Parent.TheVariants.{OfEvent, OfEntry}
-use Rattle.jfr_verify.specs.Receipts.{IsParent, IsValidLine, AreValidLines, IsReceiptOf}
-use Rattle.jfr_verify.specs.Checks.{AreAmong, AreClosed}
+use Rattle.jfr_verify.specs.Receipts.{IsParent, IsValidLine, AreValidLines}
 use Rattle.jfr_verify.specs.Laws.{Passes, IsVerified}
 use Rattle.jfr_verify.proofs.AgreeLaws.{agree_on_node}
 use Rattle.jfr_verify.proofs.RecordLaws.{contents_same, event_before}

@@ -8,7 +8,7 @@ use Rattle.jfr_pool.specs.declared.entry.EntryAt.{EntryAt}
 use Rattle.jfr_frame.specs.Records.{record_bytes}
 use Rattle.jfr_layout.specs.Classes.{Classes}
 use Rattle.jfr_pool.specs.Entries.{IsInForce, number_in_force, entry_node}
-use Rattle.jfr_chunk.specs.Parts.{Parts, EventAt, events_of}
+use Rattle.jfr_chunk.specs.Parts.{Parts, EventAt}
 use Rattle.jfr_worklist.specs.Marks.{IsMarked}
 use Rattle.jfr_chunk.specs.Reach.{marked, roots, next_entries}
 use Rattle.jfr_laws.specs.Laws.{AreCopied}

@@ -1,7 +1,7 @@
 -- What passing the checks means for a pair of chunks.
 use Rattle.std.specs.Prelude.{◌≡◌, ◌<◌, ℕ, Bool, List, length}
 use Rattle.jfr_chunk.specs.Parts.{Parts, EventAt, events_of}
-use Rattle.jfr_chunk.specs.Reach.{Reached, kept_by, remain}
+use Rattle.jfr_chunk.specs.Reach.{Reached, remain}
 use Rattle.jfr_chunk.specs.Meaning.{SameMeaning}
 use Rattle.jfr_laws.specs.Laws.{AreCopied, IsKept}
 use Rattle.jfr_verify.specs.Receipts.{IsReceiptOf, receipt_of}

@@ -1,6 +1,6 @@
-use Rattle.std.proofs.Common.{◌≡◌, length, sym, ◌∙◌, subst, true, false, Some, None, List, Bool}
+use Rattle.std.proofs.Common.{sym, subst, true, false, Some, None}
 use Rattle.jfr_layout.specs.Classes.{Sound}
-use Rattle.jfr_verify.specs.Checks.{AreAmong, MarksOfCopies, AreClosed, HasClasses}
+use Rattle.jfr_verify.specs.Checks.{MarksOfCopies}
 use Rattle.jfr_verify.specs.Prefix.{ReceiptPrefix}
 use Rattle.jfr_verify.proofs.ClosedLaws.{closed_is}
 use Rattle.jfr_verify.proofs.ForceLaws.{all_in_force, not_closed, has_of}

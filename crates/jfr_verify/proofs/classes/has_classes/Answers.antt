@@ -1,4 +1,4 @@
-use Rattle.std.proofs.Common.{arith, sym, ◌∙◌}
+use Rattle.std.proofs.Common.{arith, sym}
 use Rattle.jfr_verify.proofs.ClassLaws.{has_found, has_end, not_found, not_same}
 use Rattle.jfr_verify.proofs.classes.has_classes.Goals as goal
 

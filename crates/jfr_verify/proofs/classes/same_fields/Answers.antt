@@ -1,4 +1,4 @@
-use Rattle.std.proofs.Common.{◌≡◌, length, arith, sym, ◌∙◌}
+use Rattle.std.proofs.Common.{◌≡◌, length, arith}
 use Rattle.jfr_verify.proofs.ClassLaws.{up_to_end}
 use Rattle.jfr_verify.proofs.classes.same_fields.Goals as goal
 

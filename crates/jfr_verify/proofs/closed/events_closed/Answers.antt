@@ -1,4 +1,4 @@
-use Rattle.std.proofs.Common.{◌≡◌, ◌<◌, length, true, false, arith, ap, sym, ◌∙◌}
+use Rattle.std.proofs.Common.{◌<◌, length, arith, sym, ◌∙◌}
 use Rattle.jfr_verify.proofs.ClosedLaws.{kept_false, kept_true}
 use Rattle.jfr_verify.proofs.closed.events_closed.Goals as goal
 

@@ -1,4 +1,4 @@
-use Rattle.std.proofs.Common.{ap, sym, ◌∙◌, false, replicate, length}
+use Rattle.std.proofs.Common.{ap, ◌∙◌, false, replicate}
 use Rattle.std.specs.List.{list_all}
 use Rattle.jfr_verify.proofs.ClaimLaws.{children_ends}
 use Rattle.jfr_verify.proofs.confirm.confirm_all.Goals as goal

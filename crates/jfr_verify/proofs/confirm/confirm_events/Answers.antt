@@ -1,7 +1,7 @@
 use Rattle.std.proofs.Common.{◌<◌, length, arith}
 use Rattle.jfr_chunk.specs.Parts.{events_of}
 use Rattle.jfr_verify.proofs.WalkLaws.{some_at}
-use Rattle.jfr_verify.proofs.ClaimLaws.{events_next, events_start}
+use Rattle.jfr_verify.proofs.ClaimLaws.{events_next}
 use Rattle.jfr_verify.proofs.confirm.confirm_events.Goals as goal
 
 pub loop-number-preserved : goal.loop-number-preserved

@@ -1,6 +1,5 @@
-use Rattle.std.proofs.Common.{◌≡◌, ◌<◌, ◌≤◌, ◌∙◌, length, false, true, replicate, List, slice_set, ap, arith, sym, rules, Fits, w64}
-use Rattle.jfr_worklist.specs.Marks.{IsMarked}
-use Rattle.jfr_verify.proofs.CopyLaws.{copies_start, copies_next, none_copied, found_within, copies_end}
+use Rattle.std.proofs.Common.{◌≡◌, ◌∙◌, length, false, replicate, ap, arith, sym, rules}
+use Rattle.jfr_verify.proofs.CopyLaws.{copies_start, copies_next, none_copied, found_within}
 use Rattle.jfr_verify.proofs.copies.marks_of_copies.Goals as goal
 
 pub loop-number-init : goal.loop-number-init

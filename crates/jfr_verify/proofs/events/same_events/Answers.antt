@@ -1,4 +1,4 @@
-use Rattle.std.proofs.Common.{sym, ◌∙◌, arith}
+use Rattle.std.proofs.Common.{sym, arith}
 use Rattle.jfr_verify.proofs.EventLaws.{same_next, same_differs}
 use Rattle.jfr_verify.proofs.events.same_events.Goals as goal
 

@@ -1,4 +1,3 @@
-use Rattle.jfr_worklist.proofs.Members.{contains_in}
 use Rattle.jfr_chunk.proofs.ReachedLaws.{path_reach}
 use Rattle.jfr_chunk.proofs.StandingLaws.{standing, event_is}
 use Rattle.jfr_chunk.specs.Parts.{events_of}

@@ -1,4 +1,4 @@
-use Rattle.std.proofs.Common.{◌≡◌, ◌<◌, length, take, slice_get, slice_index_or, slice_set, Some, true, false, arith, ap, refl, sym, ◌∙◌}
+use Rattle.std.proofs.Common.{◌≡◌, ◌<◌, length, take, slice_index_or, slice_set, true, false, arith, ap, refl, sym, ◌∙◌}
 use Rattle.jfr_verify.specs.declared.line.Line.{Line}
 use Rattle.jfr_verify.specs.declared.line.Parent.TheVariants.{OfEvent}
 use Rattle.jfr_verify.specs.Parents.{IsOrdered, is_next}

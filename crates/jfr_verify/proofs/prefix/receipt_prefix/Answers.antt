@@ -1,7 +1,6 @@
-use Rattle.std.proofs.Common.{◌≡◌, length, true, false, ap, sym, ◌∙◌, subst}
+use Rattle.std.proofs.Common.{◌≡◌, length, true, false, ap, ◌∙◌, subst}
 use Rattle.jfr_verify.specs.Parents.{ParentsOf}
 use Rattle.jfr_verify.specs.Claims.{AreConfirmed}
-use Rattle.jfr_verify.specs.Prefix.{ReceiptPrefix}
 use Rattle.jfr_verify.proofs.PrefixLaws.{by_none, by_unordered, by_held}
 use Rattle.jfr_verify.proofs.prefix.receipt_prefix.Goals as goal
 

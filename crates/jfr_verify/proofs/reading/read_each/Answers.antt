@@ -1,4 +1,4 @@
-use Rattle.std.proofs.Common.{◌≤◌, ◌+◌, arith, sym, subst}
+use Rattle.std.proofs.Common.{◌+◌, arith, sym, subst}
 use Rattle.jfr_verify.proofs.ReadingLaws.{InEach, each_starts, each_next, each_stops, each_ends}
 use Rattle.jfr_verify.proofs.reading.read_each.Goals as goal
 

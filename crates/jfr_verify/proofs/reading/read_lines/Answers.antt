@@ -1,6 +1,5 @@
-use Rattle.std.proofs.Common.{◌≡◌, ℕ, length, arith, sym, ◌∙◌}
-use Rattle.std.specs.Prelude.{IfOk, Result, Ok, Err, Option, option_map}
-use Rattle.jfr_verify.proofs.ReadingLaws.{count_none, count_reads, count_differs, read_ends}
+use Rattle.std.proofs.Common.{◌≡◌, arith, sym}
+use Rattle.jfr_verify.proofs.ReadingLaws.{count_none, count_differs, read_ends}
 use Rattle.jfr_verify.proofs.reading.read_lines.Goals as goal
 
 pub returns-in_default : goal.returns-in_default

@@ -1,7 +1,7 @@
-use Rattle.std.proofs.Common.{◌≡◌, ◌++◌, length, List, ℕ, arith, ap, sym, ◌∙◌}
+use Rattle.std.proofs.Common.{◌≡◌, ◌++◌, length, List, ℕ, arith, ap, ◌∙◌}
 use Rattle.std.specs.List.{flat_map}
 use Rattle.jfr_base.specs.Integer.{spell}
-use Rattle.jfr_verify.specs.Receipts.{line_bytes, lines_of, receipt_of}
+use Rattle.jfr_verify.specs.Receipts.{line_bytes}
 use Rattle.jfr_verify.proofs.WalkLaws.{receipt_is}
 use Rattle.jfr_verify.proofs.receipt.receipt_of.Goals as goal
 

@@ -1,4 +1,4 @@
-use Rattle.std.proofs.Common.{◌≡◌, ◌<◌, length, arith}
+use Rattle.std.proofs.Common.{◌<◌, length, arith}
 use Rattle.jfr_chunk.specs.Parts.{events_of}
 use Rattle.jfr_verify.proofs.WalkLaws.{in_events_size, in_events_next, some_at}
 use Rattle.jfr_verify.proofs.walk.add_events.Goals as goal
