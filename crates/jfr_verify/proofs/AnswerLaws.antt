@@ -48,13 +48,13 @@ module _ (p : Parts) where
       by_before (inl c) = by_entry c (slice_get p.entries i) refl
       by_before (inr f) = inr (λ m s. f s.1)
 
-  dec_held : (before : List ℕ) (l : Line) → Dec (IsValidLine p before l)
-  dec_held before l = by_fresh (dec_contains dec_nat before l.entry)
+  dec_valid : (before : List ℕ) (l : Line) → Dec (IsValidLine p before l)
+  dec_valid before l = by_fresh (dec_contains dec_nat before l.entry)
     where
       by_target : (Contains before l.entry → ⊥) → (e : EntryAt) → slice_get p.entries l.entry ≡ Some e → (n : Node before l.parent) → Dec (Contains (targets p.classes p.bytes n.node) (e.class, e.key)) → Dec (IsValidLine p before l)
-      by_target f e g n (inl c) = inl (record { fresh = f; entry = e; stands = g; node = n.node; parent = n.stands; refers = c })
+      by_target f e g n (inl c) = inl (record { fresh = f; entry = e; there = g; node = n.node; parent = n.stands; refers = c })
       by_target f e g n (inr f') = inr (λ h.
-          let z : h.entry ≡ e = (let a : slice_get p.entries l.entry ≡ Some h.entry = h.stands in cc) in
+          let z : h.entry ≡ e = (let a : slice_get p.entries l.entry ≡ Some h.entry = h.there in cc) in
           let w : h.node ≡ n.node = sym (n.one h.node h.parent) in
           f' (subst (λ (y : EntryAt). Contains (targets p.classes p.bytes n.node) (y.class, y.key)) z (subst (λ y. Contains (targets p.classes p.bytes y) (h.entry.class, h.entry.key)) w h.refers)))
 
@@ -63,16 +63,16 @@ module _ (p : Parts) where
       by_node f e g (inr f') = inr (λ h. f' h.node h.parent)
 
       by_entry : (Contains before l.entry → ⊥) → (o : Option EntryAt) → slice_get p.entries l.entry ≡ o → Dec (IsValidLine p before l)
-      by_entry f None g = inr (λ h. (let z : None ≡ Some h.entry = sym g ∙ h.stands in cc))
+      by_entry f None g = inr (λ h. (let z : None ≡ Some h.entry = sym g ∙ h.there in cc))
       by_entry f (Some e) g = by_node f e g (node_of before l.parent)
 
       by_fresh : Dec (Contains before l.entry) → Dec (IsValidLine p before l)
       by_fresh (inl c) = inr (λ h. h.fresh c)
       by_fresh (inr f) = by_entry f (slice_get p.entries l.entry) refl
 
-  dec_all_held : (before : List ℕ) (ls : List Line) → Dec (AreValidLines p before ls)
-  dec_all_held before [] = inl tt
-  dec_all_held before (l ∷ ls) = by_both (dec_held before l) (dec_all_held (l.entry ∷ before) ls)
+  dec_all_valid : (before : List ℕ) (ls : List Line) → Dec (AreValidLines p before ls)
+  dec_all_valid before [] = inl tt
+  dec_all_valid before (l ∷ ls) = by_both (dec_valid before l) (dec_all_valid (l.entry ∷ before) ls)
     where
       by_both : Dec (IsValidLine p before l) → Dec (AreValidLines p (l.entry ∷ before) ls) → Dec (AreValidLines p before (l ∷ ls))
       by_both (inl a) (inl b) = inl (a, b)
@@ -96,7 +96,7 @@ module _ (p : Parts) where
 
       by_read : (o : Option (Got (List Line))) → lines_of_count r (length p.entries) ≡ o → Prefix r ⊎ ((n : ℕ) → IsReceiptOf (take n r) p → ⊥)
       by_read None e = inr (none_read p r e)
-      by_read (Some g) e = by_each g e (dec_below (λ t. Contains (map (λ l. l.entry) g.value) t) (λ t. dec_contains dec_nat (map (λ l. l.entry) g.value) t) (length p.entries)) (dec_all_held [] g.value)
+      by_read (Some g) e = by_each g e (dec_below (λ t. Contains (map (λ l. l.entry) g.value) t) (λ t. dec_contains dec_nat (map (λ l. l.entry) g.value) t) (length p.entries)) (dec_all_valid [] g.value)
 
 module _ (p q : Parts) where
   -- There are marks of the copies, or none.
@@ -118,7 +118,7 @@ module _ (p q : Parts) where
   verdict kept r = by_classes (dec_all (Contains p.classes) (λ c. dec_contains dec_class p.classes c) q.classes)
     where
       by_prefix : HasClasses p.classes q.classes → contents p kept ≡ contents q (events_of q) → (m : Marked) → AreClosed p kept m.0 → Prefix q r ⊎ ((n : ℕ) → IsReceiptOf (take n r) q → ⊥) → (x : Result ℕ Doubt) × Checked p q kept r x
-      by_prefix h e m c (inl s) = (Ok s.0, (s.1, record { classes = h; events = e; marks = m.0; among = m.1; closed = c; stands = s.2 }))
+      by_prefix h e m c (inl s) = (Ok s.0, (s.1, record { classes = h; events = e; marks = m.0; among = m.1; closed = c; shown = s.2 }))
       by_prefix h e m c (inr f) = (Err ReceiptBad, (h, e, m.0, m.1, c, f))
 
       by_closed : HasClasses p.classes q.classes → contents p kept ≡ contents q (events_of q) → (m : Marked) → (b : Bool) → (events_closed p m.0 kept && entries_closed p m.0 (length p.entries)) ≡ b → (x : Result ℕ Doubt) × Checked p q kept r x

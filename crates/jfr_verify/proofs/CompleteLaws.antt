@@ -91,5 +91,5 @@ module _ (p : Parts) (a : AreParts p) (flags : List Bool) where
     marks = marks;
     among = record { in_force = marked_in_force; copied = k.entries };
     closed = marks_closed;
-    stands = s k.reached;
+    shown = s k.reached;
   }

@@ -47,20 +47,20 @@ entries_append [] ys = refl
 entries_append (l ∷ xs) ys = ap (λ z. l.entry ∷ z) (entries_append xs ys)
 
 module _ (p : Parts) where
-  held_append : (before : List ℕ) (xs ys : List Line) → AreValidLines p before xs → AreValidLines p (after before xs) ys → AreValidLines p before (xs ++ ys)
-  held_append before [] ys h k = k
-  held_append before (l ∷ xs) ys h k = (h.0, held_append (l.entry ∷ before) xs ys h.1 k)
+  valid_append : (before : List ℕ) (xs ys : List Line) → AreValidLines p before xs → AreValidLines p (after before xs) ys → AreValidLines p before (xs ++ ys)
+  valid_append before [] ys h k = k
+  valid_append before (l ∷ xs) ys h k = (h.0, valid_append (l.entry ∷ before) xs ys h.1 k)
 
   -- This is the node of the parent, also if more entries have lines.
   abbrev IsParented : List ℕ → Parent → NodeAt → Type 0
   IsParented before parent n = (more : List ℕ) → ((i : ℕ) → In before i → In more i) → IsParent p more parent n
 
   -- New lines are valid.
-  new_held : (before : List ℕ) (marks : List Bool) (parent : Parent) (n : NodeAt) (is : List ℕ) → IsParented before parent n → ((i : ℕ) → In is i → In (node_entries p.entries p.classes p.bytes n) i) → ((i : ℕ) → In is i → i < length marks) → ((i : ℕ) → In before i → IsMarked marks i) → AreValidLines p before (new_lines marks parent is)
-  new_held before marks parent n [] r f u b = tt
-  new_held before marks parent n (i ∷ is) r f u b = by_mark (is_marked marks i) refl
-      (new_held before (slice_set marks i true) parent n is r (λ j k. f j (inr k)) below (λ j k. set_stays marks i j (b j k)))
-      (new_held (i ∷ before) (slice_set marks i true) parent n is (λ more g. r more (λ j k. g j (inr k))) (λ j k. f j (inr k)) below (λ j k. by_new j k))
+  new_valid : (before : List ℕ) (marks : List Bool) (parent : Parent) (n : NodeAt) (is : List ℕ) → IsParented before parent n → ((i : ℕ) → In is i → In (node_entries p.entries p.classes p.bytes n) i) → ((i : ℕ) → In is i → i < length marks) → ((i : ℕ) → In before i → IsMarked marks i) → AreValidLines p before (new_lines marks parent is)
+  new_valid before marks parent n [] r f u b = tt
+  new_valid before marks parent n (i ∷ is) r f u b = by_mark (is_marked marks i) refl
+      (new_valid before (slice_set marks i true) parent n is r (λ j k. f j (inr k)) below (λ j k. set_stays marks i j (b j k)))
+      (new_valid (i ∷ before) (slice_set marks i true) parent n is (λ more g. r more (λ j k. g j (inr k))) (λ j k. f j (inr k)) below (λ j k. by_new j k))
     where
       Rest : List ℕ → Type 0
       Rest b = AreValidLines p b (new_lines (slice_set marks i true) parent is)
@@ -79,7 +79,7 @@ module _ (p : Parts) where
       line e =
           let t = in_those (number_in_force p.entries) (targets p.classes p.bytes n) i (f i (inl refl)) in
           let l : IsLast p.entries t.0 i = (last_is p.entries t.0 i).0 t.2 in
-          record { fresh = λ k. clash (is_marked marks i) (b i (contains_in before i k)) e; entry = l.entry; stands = l.stands; node = n; parent = r before (λ j k. k); refers = subst (Contains (targets p.classes p.bytes n)) (sym l.has) (in_contains (targets p.classes p.bytes n) t.0 t.1) }
+          record { fresh = λ k. clash (is_marked marks i) (b i (contains_in before i k)) e; entry = l.entry; there = l.stands; node = n; parent = r before (λ j k. k); refers = subst (Contains (targets p.classes p.bytes n)) (sym l.has) (in_contains (targets p.classes p.bytes n) t.0 t.1) }
 
       by_mark : (b : Bool) → is_marked marks i ≡ b → Rest before → Rest (i ∷ before) → AreValidLines p before (new_lines marks parent (i ∷ is))
       by_mark true e x y = rw e x
@@ -157,7 +157,7 @@ module _ (p : Parts) where
         counted = (let l = length-append ls new in let d = m.counted in omega arith);
         listed = λ i k. by_case i (new_marked marks parent is i k);
         all_marked = λ i k. new_after (after before ls) marks parent is b m.all_marked i (subst (λ z. In z i) (after_append before ls new) k);
-        valid = held_append before ls new m.valid (new_held (after before ls) marks parent n is r (λ i k. k) b m.all_marked);
+        valid = valid_append before ls new m.valid (new_valid (after before ls) marks parent n is r (λ i k. k) b m.all_marked);
       }
     where
       by_case : (i : ℕ) → IsMarked marks i ⊎ In (entries (new_lines marks parent (node_entries p.entries p.classes p.bytes n))) i
@@ -222,9 +222,9 @@ module _ (p : Parts) where
   going_next before marks l ls g =
       let h : IsValidLine p before l = g.making.valid.0 in
       let e : EntryAt = h.entry in
-      let q : next_entries p l.entry ≡ node_entries p.entries p.classes p.bytes (entry_node e) = ap (λ o. those (number_in_force p.entries) (option_map_or (λ e. targets p.classes p.bytes (entry_node e)) o [])) h.stands in
+      let q : next_entries p l.entry ≡ node_entries p.entries p.classes p.bytes (entry_node e) = ap (λ o. those (number_in_force p.entries) (option_map_or (λ e. targets p.classes p.bytes (entry_node e)) o [])) h.there in
       let m = making_more (l.entry ∷ before) marks ls (OfEntry l.entry) (entry_node e)
-      (λ more f. (e, in_contains more l.entry (f l.entry (in_after (l.entry ∷ before) ls l.entry (inl refl))), h.stands, refl)) (making_next before marks l ls g.making) in
+      (λ more f. (e, in_contains more l.entry (f l.entry (in_after (l.entry ∷ before) ls l.entry (inl refl))), h.there, refl)) (making_next before marks l ls g.making) in
       record {
         making = subst (λ z. Making (l.entry ∷ before) (marked_at marks z) (ls ++ new_lines marks (OfEntry l.entry) z)) (sym q) m;
         rooted = λ i k. all_stay marks (next_entries p l.entry) i (g.rooted i k);
@@ -280,9 +280,9 @@ module _ (p : Parts) where
         made_more before l (lines_from n p (marked_at marks (next_entries p l.entry)) (ls ++ new_lines marks (OfEntry l.entry) (next_entries p l.entry))) g.making.valid.0
         (made n (l.entry ∷ before) (marked_at marks (next_entries p l.entry)) (ls ++ new_lines marks (OfEntry l.entry) (next_entries p l.entry)) (omega arith) (going_next before marks l ls g))
 
-    pub receipt_stands : Exactly receipt_format (receipt_of p) (lines_of p) → IsReceiptOf (receipt_of p) p
+    pub receipt_of_is_receipt : Exactly receipt_format (receipt_of p) (lines_of p) → IsReceiptOf (receipt_of p) p
     unfolding lines_of
-    receipt_stands e =
+    receipt_of_is_receipt e =
         let m = made (length p.entries) [] (marked_at (no_marks p) (roots p (events_of p))) (event_lines p (no_marks p) 0 (events_of p)) (omega arith) started in
         record {
           lines = lines_of p;

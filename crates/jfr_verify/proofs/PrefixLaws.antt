@@ -170,14 +170,14 @@ module _ (p : Parts) where
       by_get (Some e) q k = (e, q)
 
   -- A line is valid if it is in order and its parent refers to its entry.
-  held_of : (before : List ℕ) (l : Line) → IsOrdered (length p.entries) before l → RefersTo p l.parent l.entry → IsValidLine p before l
-  held_of before l o r = by_parent l.parent o.parent r
+  valid_of : (before : List ℕ) (l : Line) → IsOrdered (length p.entries) before l → RefersTo p l.parent l.entry → IsValidLine p before l
+  valid_of before l o r = by_parent l.parent o.parent r
     where
       e : (e : EntryAt) × (slice_get p.entries l.entry ≡ Some e)
       e = some_entry l.entry o.below
 
       valid : (n : NodeAt) → IsParent p before l.parent n → In (node_entries p.entries p.classes p.bytes n) l.entry → IsValidLine p before l
-      valid n q k = record { fresh = o.fresh; entry = e.0; stands = e.1; node = n; parent = q; refers = refers_key n l.entry e.0 e.1 k }
+      valid n q k = record { fresh = o.fresh; entry = e.0; there = e.1; node = n; parent = q; refers = refers_key n l.entry e.0 e.1 k }
 
       with_parent : (a : Parent) → l.parent ≡ a → IsBefore before a → RefersTo p a l.entry → IsValidLine p before l
       with_parent (OfEvent i) q b r = valid r.0.node (subst (λ z. IsParent p before z r.0.node) (sym q) (r.0, r.1, refl)) (contains_in (node_entries p.entries p.classes p.bytes r.0.node) l.entry r.2)
@@ -189,24 +189,24 @@ module _ (p : Parts) where
       by_parent : (a : Parent) → IsBefore before l.parent → RefersTo p l.parent l.entry → IsValidLine p before l
       by_parent a b r = with_parent l.parent refl b r
 
-  all_held : (before : List ℕ) (ls : List Line) → AreOrdered (length p.entries) before ls → ((l : Line) → In ls l → RefersTo p l.parent l.entry) → AreValidLines p before ls
-  all_held before [] o f = tt
-  all_held before (l ∷ ls) o f = (held_of before l o.0 (f l (inl refl)), all_held (l.entry ∷ before) ls o.1 (λ m k. f m (inr k)))
+  all_valid : (before : List ℕ) (ls : List Line) → AreOrdered (length p.entries) before ls → ((l : Line) → In ls l → RefersTo p l.parent l.entry) → AreValidLines p before ls
+  all_valid before [] o f = tt
+  all_valid before (l ∷ ls) o f = (valid_of before l o.0 (f l (inl refl)), all_valid (l.entry ∷ before) ls o.1 (λ m k. f m (inr k)))
 
   -- The other way round.
-  held_ordered : (before : List ℕ) (ls : List Line) → AreValidLines p before ls → AreOrdered (length p.entries) before ls
-  held_ordered before [] h = tt
-  held_ordered before (l ∷ ls) h = (record { below = slice_get_within p.entries l.entry h.0.entry h.0.stands; fresh = h.0.fresh; parent = by_parent l.parent h.0.parent }, held_ordered (l.entry ∷ before) ls h.1)
+  valid_ordered : (before : List ℕ) (ls : List Line) → AreValidLines p before ls → AreOrdered (length p.entries) before ls
+  valid_ordered before [] h = tt
+  valid_ordered before (l ∷ ls) h = (record { below = slice_get_within p.entries l.entry h.0.entry h.0.there; fresh = h.0.fresh; parent = by_parent l.parent h.0.parent }, valid_ordered (l.entry ∷ before) ls h.1)
     where
       by_parent : (a : Parent) → IsParent p before a h.0.node → IsBefore before a
       by_parent (OfEvent i) q = tt
       by_parent (OfEntry i) q = q.1
 
-  held_refers : AllInForce p → (before : List ℕ) (l : Line) → IsValidLine p before l → RefersTo p l.parent l.entry
-  held_refers f before l h = by_parent l.parent h.parent
+  valid_refers : AllInForce p → (before : List ℕ) (l : Line) → IsValidLine p before l → RefersTo p l.parent l.entry
+  valid_refers f before l h = by_parent l.parent h.parent
     where
       k : In (node_entries p.entries p.classes p.bytes h.node) l.entry
-      k = key_refers f h.node l.entry h.entry h.stands h.refers
+      k = key_refers f h.node l.entry h.entry h.there h.refers
 
       by_parent : (a : Parent) → IsParent p before a h.node → RefersTo p a l.entry
       by_parent (OfEvent i) q = (q.0, q.1, in_contains (node_entries p.entries p.classes p.bytes q.0.node) l.entry (subst (λ z. In (node_entries p.entries p.classes p.bytes z) l.entry) (sym q.2) k))
@@ -214,7 +214,7 @@ module _ (p : Parts) where
 
   all_refer : AllInForce p → (before : List ℕ) (ls : List Line) → AreValidLines p before ls → (l : Line) → In ls l → RefersTo p l.parent l.entry
   all_refer f before [] h l k = absurd k
-  all_refer f before (m ∷ ls) h l (inl e) = subst (λ (z : Line). RefersTo p z.parent z.entry) e (held_refers f before m h.0)
+  all_refer f before (m ∷ ls) h l (inl e) = subst (λ (z : Line). RefersTo p z.parent z.entry) e (valid_refers f before m h.0)
   all_refer f before (m ∷ ls) h l (inr k) = all_refer f (m.entry ∷ before) ls h.1 l k
 
   own_in : (parents : List Parent) (ls : List Line) → AreParentsOf parents ls → (l : Line) → In ls l → slice_get parents l.entry ≡ Some l.parent
@@ -235,11 +235,11 @@ module _ (p : Parts) where
 
     -- The lines aren't in order.
     pub none_ordered : (g : Got (List Line)) → lines_of_count r (length p.entries) ≡ Some g → (AreOrdered (length p.entries) [] g.value → ⊥) → ReceiptPrefix p r None
-    none_ordered g e f n s = f (subst (AreOrdered (length p.entries) []) (same_lines g n s e) (held_ordered [] s.lines s.valid))
+    none_ordered g e f n s = f (subst (AreOrdered (length p.entries) []) (same_lines g n s e) (valid_ordered [] s.lines s.valid))
 
     -- A claim fails.
-    pub none_held : AllInForce p → (g : Got (List Line)) (parents : List Parent) → lines_of_count r (length p.entries) ≡ Some g → AreParentsOf parents g.value → AreConfirmed p parents false → ReceiptPrefix p r None
-    none_held forced g parents e o f n s =
+    pub none_confirmed : AllInForce p → (g : Got (List Line)) (parents : List Parent) → lines_of_count r (length p.entries) ≡ Some g → AreParentsOf parents g.value → AreConfirmed p parents false → ReceiptPrefix p r None
+    none_confirmed forced g parents e o f n s =
         let q = same_lines g n s e in
         f (λ t h. (
         let l = line_at s.lines t (contains_in (line_entries s.lines) t (s.each t h)) in
@@ -248,8 +248,8 @@ module _ (p : Parts) where
         (l.0.parent, v, subst (RefersTo p l.0.parent) l.2 (all_refer forced [] s.lines s.valid l.0 l.1))))
 
     -- The lines are a receipt.
-    pub some_stands : (g : Got (List Line)) (parents : List Parent) → lines_of_count r (length p.entries) ≡ Some g → AreOrdered (length p.entries) [] g.value → AreParentsOf parents g.value → AreConfirmed p parents true → ReceiptPrefix p r (Some g.place)
-    some_stands g parents e a o f =
+    pub some_receipt : (g : Got (List Line)) (parents : List Parent) → lines_of_count r (length p.entries) ≡ Some g → AreOrdered (length p.entries) [] g.value → AreParentsOf parents g.value → AreConfirmed p parents true → ReceiptPrefix p r (Some g.place)
+    some_receipt g parents e a o f =
         let w = was_read r (length p.entries) g e in (
           w.within,
           record {
@@ -257,7 +257,7 @@ module _ (p : Parts) where
             spelled = w.exact;
             count = w.many;
             each = λ t h. in_contains (line_entries g.value) t (each_ordered (length p.entries) g.value a w.many t h);
-            valid = all_held [] g.value a (λ l k. refers l k);
+            valid = all_valid [] g.value a (λ l k. refers l k);
           },
         )
       where
@@ -286,9 +286,9 @@ module _ (p : Parts) where
     pub by_unordered : (count : ℕ) (o : Option LinesRead) (l : LinesRead) (x : Option (Vec Parent Global)) → count ≡ length p.entries → option_map as_got o ≡ lines_of_count r count → o ≡ Some l → ParentsOf count l.lines.items x → x ≡ None → ReceiptPrefix p r None
     by_unordered count o l x c e q w n = none_ordered (as_got l) (read_for count o (Some l) c e q) (subst (λ z. AreOrdered z [] l.lines.items → ⊥) c (subst (ParentsOf count l.lines.items) n w))
 
-    pub by_held : AllInForce p → (count : ℕ) (o : Option LinesRead) (l : LinesRead) (x : Option (Vec Parent Global)) (v : Vec Parent Global) (b : Bool) → count ≡ length p.entries → option_map as_got o ≡ lines_of_count r count → o ≡ Some l → ParentsOf count l.lines.items x → x ≡ Some v → AreConfirmed p v.items b
+    pub by_confirmed : AllInForce p → (count : ℕ) (o : Option LinesRead) (l : LinesRead) (x : Option (Vec Parent Global)) (v : Vec Parent Global) (b : Bool) → count ≡ length p.entries → option_map as_got o ≡ lines_of_count r count → o ≡ Some l → ParentsOf count l.lines.items x → x ≡ Some v → AreConfirmed p v.items b
         → ReceiptPrefix p r (if b then Some l.end else None)
-    by_held forced count o l x v b c e q w n h = by_flag b h
+    by_confirmed forced count o l x v b c e q w n h = by_flag b h
       where
         g : lines_of_count r (length p.entries) ≡ Some (as_got l)
         g = read_for count o (Some l) c e q
@@ -297,5 +297,5 @@ module _ (p : Parts) where
         own = subst (ParentsOf count l.lines.items) n w
 
         by_flag : (b : Bool) → AreConfirmed p v.items b → ReceiptPrefix p r (if b then Some l.end else None)
-        by_flag true h = some_stands (as_got l) v.items g (subst (λ z. AreOrdered z [] l.lines.items) c own.0) own.1 h
-        by_flag false h = none_held forced (as_got l) v.items g own.1 h
+        by_flag true h = some_receipt (as_got l) v.items g (subst (λ z. AreOrdered z [] l.lines.items) c own.0) own.1 h
+        by_flag false h = none_confirmed forced (as_got l) v.items g own.1 h

@@ -11,12 +11,12 @@ use Rattle.jfr_laws.specs.Laws.{IsKept}
 use Rattle.jfr_verify.specs.Receipts.{receipt_of}
 use Rattle.jfr_verify.specs.Laws.{Passes}
 use Rattle.jfr_verify.specs.Checked.{Checked}
-use Rattle.jfr_verify.specs.Streams.{Outcome, Verified, Doubted, Onward, Compared, AreVerified, AreLeft, receipts}
+use Rattle.jfr_verify.specs.Streams.{Outcome, Verified, Doubted, Onward, Compared, AreVerified, AreScrubbed, receipts}
 use Rattle.jfr_verify.specs.declared.doubt.Doubt.{Doubt}
 use Rattle.jfr_verify.specs.declared.doubt.Doubt.TheVariants.{ChunksDiffer, ReceiptBad}
 use Rattle.jfr_verify.proofs.CompleteLaws.{kept_passes}
 use Rattle.jfr_verify.proofs.VerifiedLaws.{verified}
-use Rattle.jfr_verify.proofs.LineLaws.{receipt_stands}
+use Rattle.jfr_verify.proofs.LineLaws.{receipt_of_is_receipt}
 use Rattle.jfr_verify.proofs.UniqueLaws.{checked_once}
 use Rattle.jfr_verify.proofs.SpellingLaws.{receipt_exact}
 use Rattle.jfr_verify.proofs.AnswerLaws.{verdict}
@@ -76,17 +76,17 @@ module _ (g : Given) where
       by_verdict (Err d) c k f = cc
 
   -- The outputs of a scrub are verified with their own receipts.
-  pub left_is_verified : (ps qs : List Parts) (n : ℕ) → AreLeft g ps qs → Compared g ps qs (receipts qs) n (Verified (n + length ps))
-  left_is_verified [] [] n l = ap Verified (let z : n + 0 ≡ n = omega arith in z)
-  left_is_verified [] (q ∷ qs) n l = absurd l
-  left_is_verified (p ∷ ps) [] n l = absurd l
-  left_is_verified (p ∷ ps) (q ∷ qs) n l = (Ok (length (receipt_of q)), checked, onward (left_is_verified ps qs (n + 1) l.2))
+  pub scrubbed_is_verified : (ps qs : List Parts) (n : ℕ) → AreScrubbed g ps qs → Compared g ps qs (receipts qs) n (Verified (n + length ps))
+  scrubbed_is_verified [] [] n l = ap Verified (let z : n + 0 ≡ n = omega arith in z)
+  scrubbed_is_verified [] (q ∷ qs) n l = absurd l
+  scrubbed_is_verified (p ∷ ps) [] n l = absurd l
+  scrubbed_is_verified (p ∷ ps) (q ∷ qs) n l = (Ok (length (receipt_of q)), checked, onward (scrubbed_is_verified ps qs (n + 1) l.2))
     where
       k : IsKept p (kept_of g p)
       k = l.1.0
 
       passes : Passes p k.parts (kept_of g p) (receipt_of k.parts)
-      passes = kept_passes p l.0 (chosen g p) k (λ all. receipt_stands k.parts (λ i h. path_reach k.parts (standing k.parts k.stand) (events_of k.parts) (λ e m. (let v = event_is k.parts k.stand e m in (v.value, v.node))) i (all i h)) (receipt_exact k.parts))
+      passes = kept_passes p l.0 (chosen g p) k (λ all. receipt_of_is_receipt k.parts (λ i h. path_reach k.parts (standing k.parts k.stand) (events_of k.parts) (λ e m. (let v = event_is k.parts k.stand e m in (v.value, v.node))) i (all i h)) (receipt_exact k.parts))
 
       checked : Checked p q (kept_of g p) (receipts (q ∷ qs)) (Ok (length (receipt_of q)))
       checked = (front_within (receipt_of q) (receipts qs), subst (Passes p q (kept_of g p)) (sym (take_front (receipt_of q) (receipts qs))) (subst (λ z. Passes p z (kept_of g p) (receipt_of z)) l.1.1 passes))

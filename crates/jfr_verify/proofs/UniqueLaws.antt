@@ -114,7 +114,7 @@ module _ (p q : Parts) (kept : List EventAt) (r : List ℕ) where
   checked_once (Err ReceiptBad) (Err EntriesDiffer) h k = absurd (k.2 h.2 h.3)
   checked_once (Err ReceiptBad) (Err EntryMissing) h k = absurd (k.4 (closed_too h.2 k.2 h.3 k.3 h.4))
   checked_once (Err ReceiptBad) (Err ReceiptBad) h k = refl
-  checked_once (Err ReceiptBad) (Ok m) h k = absurd (h.5 m k.1.stands)
+  checked_once (Err ReceiptBad) (Ok m) h k = absurd (h.5 m k.1.shown)
   checked_once (Ok n) (Err ReceiptLong) h k = absurd k
   checked_once (Ok n) (Err OutRefused) h k = absurd k
   checked_once (Ok n) (Err ChunksDiffer) h k = absurd k
@@ -122,5 +122,5 @@ module _ (p q : Parts) (kept : List EventAt) (r : List ℕ) where
   checked_once (Ok n) (Err EventsDiffer) h k = absurd (k.1 h.1.events)
   checked_once (Ok n) (Err EntriesDiffer) h k = absurd (k.2 h.1.marks h.1.among)
   checked_once (Ok n) (Err EntryMissing) h k = absurd (k.4 (closed_too h.1.marks k.2 h.1.among k.3 h.1.closed))
-  checked_once (Ok n) (Err ReceiptBad) h k = absurd (k.5 n h.1.stands)
-  checked_once (Ok n) (Ok m) h k = ap (λ z. Ok z) (prefix_one n m h.0 k.0 h.1.stands k.1.stands)
+  checked_once (Ok n) (Err ReceiptBad) h k = absurd (k.5 n h.1.shown)
+  checked_once (Ok n) (Ok m) h k = ap (λ z. Ok z) (prefix_one n m h.0 k.0 h.1.shown k.1.shown)

@@ -152,8 +152,8 @@ module _ (p q : Parts) (a : AreParts p) (b : AreParts q) (flags : List Bool) (re
     reached : Reach (next_entries p) (roots p kept) place
 
   -- In the input, too, the parent refers to the entry.
-  held_by : (before : List ℕ) → ((m : ℕ) → In before m → Good m) → (parent : Parent) (n : NodeAt) (t : ℕ × ℕ) (place : ℕ) → IsParent q before parent n → Contains (targets q.classes q.bytes n) t → number_in_force p.entries t ≡ Some place → Reach (next_entries p) (roots p kept) place
-  held_by before g (OfEvent i) n t place x c f =
+  reached_by : (before : List ℕ) → ((m : ℕ) → In before m → Good m) → (parent : Parent) (n : NodeAt) (t : ℕ × ℕ) (place : ℕ) → IsParent q before parent n → Contains (targets q.classes q.bytes n) t → number_in_force p.entries t ≡ Some place → Reach (next_entries p) (roots p kept) place
+  reached_by before g (OfEvent i) n t place x c f =
       let e = event_before p q kept (events_of q) i x.0 meaning x.1 in
       let v = kept_node e.0 e.1 in
       let w = event_is q b x.0 (get_in (events_of q) i x.0 x.1) in
@@ -162,7 +162,7 @@ module _ (p q : Parts) (a : AreParts p) (b : AreParts q) (flags : List Bool) (re
       let same = targets_same e.0.node x.0.node v.0 w.value v.1 w.node (e.2.paths []) agree in
       let d : Contains (targets p.classes p.bytes e.0.node) t = subst (λ z. Contains z t) (sym same) (subst (λ z. Contains (targets q.classes q.bytes z) t) (sym x.2) c) in
       root (those_in (number_in_force p.entries) (all_targets p (nodes_of kept)) t place (event_in p kept e.0 t e.1 (contains_in (targets p.classes p.bytes e.0.node) t d)) f)
-  held_by before g (OfEntry i) n t place x c f =
+  reached_by before g (OfEntry i) n t place x c f =
       let l : Good i = g i (contains_in before i x.1) in
       let k : Copy i x.0 = copy_of i x.0 x.2 in
       let same = copy_targets i x.0 x.2 k in
@@ -174,9 +174,9 @@ module _ (p q : Parts) (a : AreParts p) (b : AreParts q) (flags : List Bool) (re
 
   line_good : (before : List ℕ) → ((m : ℕ) → In before m → Good m) → (l : Line) → IsValidLine q before l → Good l.entry
   line_good before g l x =
-      let c : Copy l.entry x.entry = copy_of l.entry x.entry x.stands in
+      let c : Copy l.entry x.entry = copy_of l.entry x.entry x.there in
       let k : number_in_force p.entries (x.entry.class, x.entry.key) ≡ Some c.place = subst (λ z. number_in_force p.entries (z, x.entry.key) ≡ Some c.place) c.copied.class (subst (λ z. number_in_force p.entries (c.entry.class, z) ≡ Some c.place) c.copied.key c.force) in
-      record { place = c.place; is_marked = c.is_marked; number_is = c.number_is; reached = held_by before g l.parent x.node (x.entry.class, x.entry.key) c.place x.parent x.refers k }
+      record { place = c.place; is_marked = c.is_marked; number_is = c.number_is; reached = reached_by before g l.parent x.node (x.entry.class, x.entry.key) c.place x.parent x.refers k }
 
   lines_good : (before : List ℕ) (ls : List Line) → ((m : ℕ) → In before m → Good m) → AreValidLines q before ls → (m : ℕ) → In (map (λ l. l.entry) ls) m → Good m
   lines_good before [] g x m i = absurd i
@@ -193,8 +193,8 @@ module _ (p q : Parts) (a : AreParts p) (b : AreParts q) (flags : List Bool) (re
       let f : IsInForce p.entries i = h.among.in_force i m in
       let w : rank marks i < length (marked marks p.entries) = rank_within marks p.entries i f.entry m f.stands in
       let n : length (marked marks p.entries) ≡ length q.entries = copied_length p q (marked marks p.entries) q.entries h.among.copied in
-      let c : Contains (map (λ l. l.entry) h.stands.lines) (rank marks i) = h.stands.each (rank marks i) (omega arith) in
-      let g : Good (rank marks i) = lines_good [] h.stands.lines (λ m j. absurd j) h.stands.valid (rank marks i) (contains_in (map (λ l. l.entry) h.stands.lines) (rank marks i) c) in
+      let c : Contains (map (λ l. l.entry) h.shown.lines) (rank marks i) = h.shown.each (rank marks i) (omega arith) in
+      let g : Good (rank marks i) = lines_good [] h.shown.lines (λ m j. absurd j) h.shown.valid (rank marks i) (contains_in (map (λ l. l.entry) h.shown.lines) (rank marks i) c) in
       let e : g.place ≡ i = rank_once marks g.place i g.is_marked m g.number_is in
       reach_path p s kept kept_node (subst (λ z. Reach (next_entries p) (roots p kept) z) e g.reached)
 

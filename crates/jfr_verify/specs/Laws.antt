@@ -14,7 +14,7 @@ pub record Passes (p q : Parts) (kept : List EventAt) (receipt : List ℕ) : Typ
   pub marks : List Bool
   pub among : AreAmong p q marks
   pub closed : AreClosed p kept marks
-  pub stands : IsReceiptOf receipt q
+  pub shown : IsReceiptOf receipt q
 
 -- The output means the same as the input, and its entries are copies of those that the kept events reach.
 pub record IsVerified (p q : Parts) (kept : List EventAt) : Type 0 where

@@ -42,7 +42,7 @@ IsParent p before (OfEntry i) n = (e : EntryAt) × Contains before i × (slice_g
 pub record IsValidLine (p : Parts) (before : List ℕ) (l : Line) : Type 0 where
   pub fresh : Contains before l.entry → ⊥
   pub entry : EntryAt
-  pub stands : slice_get p.entries l.entry ≡ Some entry
+  pub there : slice_get p.entries l.entry ≡ Some entry
   pub node : NodeAt
   pub parent : IsParent p before l.parent node
   pub refers : Contains (targets p.classes p.bytes node) (entry.class, entry.key)

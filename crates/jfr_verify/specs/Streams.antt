@@ -38,11 +38,11 @@ AreVerified g (p ∷ ps) [] = ⊥
 AreVerified g (p ∷ ps) (q ∷ qs) = IsVerified p q (kept_of g p) × AreVerified g ps qs
 
 -- Each output is the output of a scrub of its input with this filter.
-abbrev pub AreLeft : Given → List Parts → List Parts → Type 0
-AreLeft g [] [] = ⊤
-AreLeft g [] (q ∷ qs) = ⊥
-AreLeft g (p ∷ ps) [] = ⊥
-AreLeft g (p ∷ ps) (q ∷ qs) = AreParts p × ((k : IsKept p (kept_of g p)) × (k.parts ≡ q)) × AreLeft g ps qs
+abbrev pub AreScrubbed : Given → List Parts → List Parts → Type 0
+AreScrubbed g [] [] = ⊤
+AreScrubbed g [] (q ∷ qs) = ⊥
+AreScrubbed g (p ∷ ps) [] = ⊥
+AreScrubbed g (p ∷ ps) (q ∷ qs) = AreParts p × ((k : IsKept p (kept_of g p)) × (k.parts ≡ q)) × AreScrubbed g ps qs
 
 -- The receipts that are written for these chunks, one after another.
 abbrev pub receipts : List Parts → List ℕ
@@ -53,5 +53,5 @@ receipts qs = flat_map receipt_of qs
 pub record IsComparison (g : Given) (ps qs : List Parts) (r : List ℕ) (n : ℕ) : Type 0 where
   pub there : (x : Outcome) × Compared g ps qs r n x
   pub one : (x y : Outcome) → Compared g ps qs r n x → Compared g ps qs r n y → x ≡ y
-  pub sure : (m : ℕ) → AllByRecursion AreParts ps → AllByRecursion AreParts qs → Compared g ps qs r n (Verified m) → AreVerified g ps qs × (m ≡ n + length ps)
-  pub complete : AreLeft g ps qs → Compared g ps qs (receipts qs) n (Verified (n + length ps))
+  pub sound : (m : ℕ) → AllByRecursion AreParts ps → AllByRecursion AreParts qs → Compared g ps qs r n (Verified m) → AreVerified g ps qs × (m ≡ n + length ps)
+  pub complete : AreScrubbed g ps qs → Compared g ps qs (receipts qs) n (Verified (n + length ps))

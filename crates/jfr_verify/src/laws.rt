@@ -14,7 +14,7 @@ pub fn passed_is_verified()
 {}
 
 /// If the events of a chunk reach each of its entries, `receipt_of` gives a receipt of the chunk.
-pub fn receipts_stand()
+pub fn receipt_of_reached()
     ensures { (p : Parts) → AreParts p → IsReceipted p }
 {}
 

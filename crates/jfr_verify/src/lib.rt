@@ -30,7 +30,7 @@ mod walk;
 pub use checker::check;
 pub use doubt::{CheckFault, Doubt};
 pub use laws::{
-    answer_exists, answer_is_unique, kept_is_passed, passed_is_verified, receipts_stand,
+    answer_exists, answer_is_unique, kept_is_passed, passed_is_verified, receipt_of_reached,
     streams_are_compared,
 };
 pub use line::{Line, Parent};

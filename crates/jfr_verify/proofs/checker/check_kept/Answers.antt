@@ -45,7 +45,7 @@ returns-in-Some-2 c =
         marks = c.in-Some.marks.items;
         among = m.0;
         closed = closed_is c.args.a.now _ c.in-Some.marks.items m.1 (sym c.if-not-is_closed.ensures);
-        stands = s.1;
+        shown = s.1;
       },
     )
 
