@@ -1,9 +1,10 @@
 -- Looking at one parent after another.
-use Rattle.std.specs.Prelude.{◌≡◌, ◌⊎◌, ◌<◌, ◌≤◌, ◌+◌, ℕ, zero, suc, Bool, true, false, cond, List, [], ◌∷◌, ◌++◌, take, length, replicate, slice_get, slice_set, slice_index_or, Option, Some, None}
+use Rattle.std.specs.Prelude.{◌≡◌, ◌⊎◌, ◌<◌, ◌≤◌, ◌+◌, ℕ, zero, suc, Bool, true, false, cond, List, [], ◌∷◌, ◌++◌, take, length, replicate, slice_get, slice_index_or, Option, Some, None}
 use Rattle.std.specs.Option.{option_map_or}
 use Rattle.std.specs.List.{list_all}
 use Rattle.std.proofs.Common.{ap, arith, refl, sym, ◌∙◌, subst, inl, inr}
 use Rattle.std.proofs.lemmas.Bool.{cases_lt}
+use Rattle.std.proofs.lemmas.Option.{slice_get_within}
 use Rattle.std.proofs.lemmas.List.{length-replicate}
 use Rattle.jfr_value.specs.Nodes.{targets}
 use Rattle.jfr_value.specs.Visits.{TakesAll}
@@ -20,7 +21,7 @@ use Rattle.jfr_verify.specs.declared.line.Parent.TheVariants.{OfEvent, OfEntry}
 use Rattle.jfr_verify.specs.Claims.{RefersTo, IsConfirmed, is_same, is_parent_of, children, AreConfirmed}
 use Rattle.jfr_verify.specs.Confirmed.{Confirms, ConfirmsOf, ConfirmsMore, ConfirmsEvents, ConfirmsEntries}
 use Rattle.jfr_worklist.proofs.WalkLaws.{all_size}
-use Rattle.jfr_verify.proofs.MarkLaws.{set_only, all_stay, all_here, all_append, none_marked}
+use Rattle.jfr_verify.proofs.MarkLaws.{all_only, all_stay, all_here, all_append, none_marked}
 
 children_append : (ps : List Parent) (p : Parent) (xs ys : List ℕ) → children ps p (xs ++ ys) ≡ children ps p xs ++ children ps p ys
 children_append ps p [] ys = refl
@@ -102,18 +103,6 @@ children_in ps p (x ∷ xs) t i e = by_test (is_parent_of ps p x) refl i (λ j. 
     by_test false q (inl h) f = absurd (clash (is_parent_of ps p x) (is_parent ps p x (subst (λ z. slice_get ps z ≡ Some p) (sym h) e)) q)
     by_test false q (inr j) f = f j
 
-only : (ms : List Bool) (is : List ℕ) (i : ℕ) → IsMarked (marked_at ms is) i → IsMarked ms i ⊎ In is i
-only ms [] i m = inl m
-only ms (j ∷ is) i m = by_case (only (slice_set ms j true) is i m)
-  where
-    by_set : IsMarked ms i ⊎ (j ≡ i) → IsMarked ms i ⊎ In (j ∷ is) i
-    by_set (inl k) = inl k
-    by_set (inr e) = inr (inl e)
-
-    by_case : IsMarked (slice_set ms j true) i ⊎ In is i → IsMarked ms i ⊎ In (j ∷ is) i
-    by_case (inl k) = by_set (set_only ms j i k)
-    by_case (inr k) = inr (inr k)
-
 module _ (p : Parts) where
   pub more_none : (a : Claims) → ConfirmsMore p a a
   more_none a = record { size = refl; parents = refl; stays = λ t m. m; sound = λ t m. inl m }
@@ -136,7 +125,7 @@ module _ (p : Parts) where
     size = ap length h.confirmed ∙ all_size a.confirmed.items (children a.parents.items parent is);
     parents = h.parents;
     stays = λ t m. subst (λ z. IsMarked z t) (sym h.confirmed) (all_stay a.confirmed.items (children a.parents.items parent is) t m);
-    sound = λ t m. by_case t (only a.confirmed.items (children a.parents.items parent is) t (subst (λ z. IsMarked z t) h.confirmed m));
+    sound = λ t m. by_case t (all_only a.confirmed.items (children a.parents.items parent is) t (subst (λ z. IsMarked z t) h.confirmed m));
   }
     where
       by_case : (t : ℕ) → IsMarked a.confirmed.items t ⊎ In (children a.parents.items parent is) t → IsMarked a.confirmed.items t ⊎ IsConfirmed p a.parents.items t
@@ -199,17 +188,12 @@ module _ (p : Parts) where
   set_every (true ∷ ms) f = set_every ms (λ i h. f (suc i) (omega arith))
   set_every (false ∷ ms) f = let e : IsMarked (false ∷ ms) 0 = f 0 (omega arith) in cc
 
-  get_within : {X : Type 0} (xs : List X) (n : ℕ) (x : X) → slice_get xs n ≡ Some x → n < length xs
-  get_within [] n x e = cc
-  get_within (y ∷ ys) zero x e = omega arith
-  get_within (y ∷ ys) (suc n) x e = omega (arith, get_within ys n x e)
-
   next_some : (i t : ℕ) → In (next_entries p i) t → i < length p.entries
   next_some i t k = by_get (slice_get p.entries i) refl k
     where
       by_get : (o : Option EntryAt) → slice_get p.entries i ≡ o → In (those (number_in_force p.entries) (option_map_or (λ e. targets p.classes p.bytes (entry_node e)) o [])) t → i < length p.entries
       by_get None q k = absurd k
-      by_get (Some e) q k = get_within p.entries i e q
+      by_get (Some e) q k = slice_get_within p.entries i e q
 
   pub children_ends : (ps : List Parent) (a b c : Claims) (all : Bool) → a.parents.items ≡ ps → a.confirmed.items ≡ replicate (length p.entries) false → ConfirmsEvents p (length (events_of p)) a b → ConfirmsEntries p (length p.entries) b c
       → all ≡ list_all (λ flag. flag) c.confirmed.items → AreConfirmed p ps all
@@ -227,7 +211,7 @@ module _ (p : Parts) where
       by_second t (inr o) = subst (λ y. IsConfirmed p y t) (e.more.parents ∙ q) o
 
       marked : (t : ℕ) (parent : Parent) → slice_get ps t ≡ Some parent → RefersTo p parent t → IsMarked c.confirmed.items t
-      marked t (OfEvent i) g r = f.more.stays t (e.all i t (get_within (events_of p) i r.0 r.1) (ap (λ y. slice_get y t) q ∙ g) r)
+      marked t (OfEvent i) g r = f.more.stays t (e.all i t (slice_get_within (events_of p) i r.0 r.1) (ap (λ y. slice_get y t) q ∙ g) r)
       marked t (OfEntry i) g r = f.all i t (next_some i t (contains_in (next_entries p i) t r)) (ap (λ y. slice_get y t) (e.more.parents ∙ q) ∙ g) r
 
       clash : (y : Bool) → y ≡ true → y ≡ false → ⊥

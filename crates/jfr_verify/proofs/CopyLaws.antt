@@ -20,6 +20,7 @@ use Rattle.jfr_laws.proofs.Entries.{copied_get}
 use Rattle.jfr_verify.specs.Checks.{AreAmong, MarksOfCopies, is_copy, copy_if, next_copy}
 use Rattle.jfr_verify.proofs.MarkLaws.{set_only, none_marked}
 
+-- If the second option has a value, so does the first.
 pub beside_right : {A B : Type 0} (R : A → B → Type 0) (x : Option A) (y : Option B) (b : B) → Both R x y → y ≡ Some b → (a : A) × (x ≡ Some a) × R a b
 beside_right R None None b r e = cc
 beside_right R (Some a) (Some c) b r e = let h : c ≡ b = cc in (a, refl, subst (λ z. R a z) h r)
@@ -52,11 +53,11 @@ copied_one p q [] (y ∷ fs) e f a c = absurd a
 copied_one p q (x ∷ es) [] e f a c = absurd a
 copied_one p q (x ∷ es) (y ∷ fs) e f a c = (a.0, copied_one p q es fs e f a.1 c)
 
-copied_size : (p q : Parts) (es fs : List EntryAt) → AreCopied p q es fs → length es ≡ length fs
-copied_size p q [] [] a = refl
-copied_size p q [] (f ∷ fs) a = absurd a
-copied_size p q (e ∷ es) [] a = absurd a
-copied_size p q (e ∷ es) (f ∷ fs) a = omega (arith, copied_size p q es fs a.1)
+pub copied_length : (p q : Parts) (es fs : List EntryAt) → AreCopied p q es fs → length es ≡ length fs
+copied_length p q [] [] a = refl
+copied_length p q [] (f ∷ fs) a = absurd a
+copied_length p q (e ∷ es) [] a = absurd a
+copied_length p q (e ∷ es) (f ∷ fs) a = omega (arith, copied_length p q es fs a.1)
 
 take_more : {X : Type 0} (xs : List X) (n : ℕ) (x : X) → slice_get xs n ≡ Some x → take (n + 1) xs ≡ take n xs ++ x ∷ []
 take_more xs n x e = (let q : n + 1 ≡ suc n = omega arith in ap (λ z. take z xs) q) ∙ by_list xs n x e

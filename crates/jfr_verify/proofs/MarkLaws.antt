@@ -41,6 +41,19 @@ all_here ms [] i h k = absurd k
 all_here ms (j ∷ is) i h (inl e) = all_stay (slice_set ms j true) is i (subst (IsMarked (slice_set ms j true)) e (set_here ms j (omega (arith, e))))
 all_here ms (j ∷ is) i h (inr k) = all_here (slice_set ms j true) is i (let l : length (slice_set ms j true) ≡ length ms = length-set ms j true in omega arith) k
 
+-- What is marked now was marked before, or is one of the numbers.
+pub all_only : (ms : List Bool) (is : List ℕ) (i : ℕ) → IsMarked (marked_at ms is) i → IsMarked ms i ⊎ In is i
+all_only ms [] i m = inl m
+all_only ms (j ∷ is) i m = by_case (all_only (slice_set ms j true) is i m)
+  where
+    by_set : IsMarked ms i ⊎ (j ≡ i) → IsMarked ms i ⊎ In (j ∷ is) i
+    by_set (inl k) = inl k
+    by_set (inr e) = inr (inl e)
+
+    by_case : IsMarked (slice_set ms j true) i ⊎ In is i → IsMarked ms i ⊎ In (j ∷ is) i
+    by_case (inl k) = by_set (set_only ms j i k)
+    by_case (inr k) = inr (inr k)
+
 pub all_append : (ms : List Bool) (is js : List ℕ) → marked_at ms (is ++ js) ≡ marked_at (marked_at ms is) js
 all_append ms [] js = refl
 all_append ms (i ∷ is) js = all_append (slice_set ms i true) is js

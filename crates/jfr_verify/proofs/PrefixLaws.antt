@@ -31,7 +31,7 @@ use Rattle.jfr_verify.specs.Prefix.{AllInForce, ReceiptPrefix}
 use Rattle.jfr_verify.specs.Reading.{got_in, if_count, lines_of_count}
 use Rattle.jfr_worklist.proofs.Counts.{count_set, count_le, count_none}
 use Rattle.jfr_worklist.proofs.WalkLaws.{all_size}
-use Rattle.jfr_verify.proofs.MarkLaws.{none_marked, set_only}
+use Rattle.jfr_verify.proofs.MarkLaws.{all_only, none_marked, set_only}
 
 line_free : PlaceFree line_format
 line_free = λ v s. λ b. λ n t. tt
@@ -105,18 +105,6 @@ count_full (true ∷ ms) e zero h = refl
 count_full (true ∷ ms) e (suc i) h = count_full ms (omega (arith, e)) i (omega arith)
 count_full (false ∷ ms) e i h = let c = count_le ms in absurd (omega (arith, e))
 
-only : (ms : List Bool) (is : List ℕ) (i : ℕ) → IsMarked (marked_at ms is) i → IsMarked ms i ⊎ In is i
-only ms [] i m = inl m
-only ms (j ∷ is) i m = by_case (only (slice_set ms j true) is i m)
-  where
-    by_set : IsMarked ms i ⊎ (j ≡ i) → IsMarked ms i ⊎ In (j ∷ is) i
-    by_set (inl k) = inl k
-    by_set (inr e) = inr (inl e)
-
-    by_case : IsMarked (slice_set ms j true) i ⊎ In is i → IsMarked ms i ⊎ In (j ∷ is) i
-    by_case (inl k) = by_set (set_only ms j i k)
-    by_case (inr k) = inr (inr k)
-
 each_ordered : (count : ℕ) (ls : List Line) → AreOrdered count [] ls → length ls ≡ count → (t : ℕ) → t < count → In (line_entries ls) t
 each_ordered count ls a l t h =
     let none : List Bool = replicate count false in
@@ -124,7 +112,7 @@ each_ordered count ls a l t h =
     let c = ordered_count count [] none ls s (λ i m. absurd (none_marked count i m)) a in
     let z : marked_count none ≡ 0 = count_none count in
     let w : length (marked_at none (line_entries ls)) ≡ length none = all_size none (line_entries ls) in
-    by_case (only none (line_entries ls) t (count_full (marked_at none (line_entries ls)) (omega arith) t (omega arith)))
+    by_case (all_only none (line_entries ls) t (count_full (marked_at none (line_entries ls)) (omega arith) t (omega arith)))
   where
     by_case : IsMarked (replicate count false) t ⊎ In (line_entries ls) t → In (line_entries ls) t
     by_case (inl m) = absurd (none_marked count t m)

@@ -1,12 +1,12 @@
 -- A receipt shows that each entry of the output is reached, so its entries are copies of those that remain.
-use Rattle.std.specs.Prelude.{◌≡◌, ℕ, ◌<◌, Bool, List, [], ◌∷◌, length, map, slice_get, Option, Some, None, Contains}
+use Rattle.std.specs.Prelude.{◌≡◌, ℕ, ◌<◌, Bool, List, [], ◌∷◌, length, map, slice_get, Some, Contains}
 use Rattle.std.specs.Option.{option_map_or}
 use Rattle.std.proofs.Common.{ap, arith, refl, sym, ◌∙◌, subst, inl, inr}
 use Rattle.std.proofs.lemmas.Option.{slice_get_within}
 use Rattle.std.proofs.lemmas.List.Elements.{All-contains, All-contains_itself}
 use Rattle.jfr_layout.specs.Classes.{Agree}
 use Rattle.jfr_value.specs.Values.{Value}
-use Rattle.jfr_value.specs.Nodes.{NodeAt, IsNode, Both, targets}
+use Rattle.jfr_value.specs.Nodes.{NodeAt, IsNode, targets}
 use Rattle.jfr_value.specs.Laws.{SameNode}
 use Rattle.jfr_value.proofs.ByteLaws.{node_agree}
 use Rattle.jfr_value.proofs.TargetLaws.{targets_are}
@@ -33,22 +33,10 @@ use Rattle.jfr_verify.specs.declared.line.Line.{Line}
 use Rattle.jfr_verify.specs.declared.line.Parent.TheVariants.{OfEvent, OfEntry}
 use Rattle.jfr_verify.specs.Receipts.{IsParent, IsValidLine, AreValidLines}
 use Rattle.jfr_verify.specs.Laws.{Passes, IsVerified}
+use Rattle.jfr_verify.proofs.CopyLaws.{beside_right, copied_length}
 use Rattle.jfr_verify.proofs.AgreeLaws.{agree_on_node}
 use Rattle.jfr_verify.proofs.RecordLaws.{contents_same, event_before}
 use Rattle.jfr_verify.proofs.RankLaws.{rank_once, rank_within, marked_same}
-
--- If the second option has a value, so does the first.
-beside_right : {A B : Type 0} (R : A → B → Type 0) (x : Option A) (y : Option B) (b : B) → Both R x y → y ≡ Some b → (a : A) × (x ≡ Some a) × R a b
-beside_right R None None b r e = cc
-beside_right R (Some a) (Some c) b r e = let h : c ≡ b = cc in (a, refl, subst (λ z. R a z) h r)
-beside_right R None (Some c) b r e = absurd r
-beside_right R (Some a) None b r e = absurd r
-
-copied_length : (p q : Parts) (es fs : List EntryAt) → AreCopied p q es fs → length es ≡ length fs
-copied_length p q [] [] a = refl
-copied_length p q [] (f ∷ fs) a = absurd a
-copied_length p q (e ∷ es) [] a = absurd a
-copied_length p q (e ∷ es) (f ∷ fs) a = omega (arith, copied_length p q es fs a.1)
 
 -- What one of the events refers to, the events refer to.
 event_in : (p : Parts) (es : List EventAt) (e : EventAt) (t : ℕ × ℕ) → In es e → In (targets p.classes p.bytes e.node) t → In (all_targets p (nodes_of es)) t
