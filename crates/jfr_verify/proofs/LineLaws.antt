@@ -23,20 +23,12 @@ use Rattle.jfr_worklist.specs.Worklists.{marked_count}
 use Rattle.jfr_verify.specs.Receipts.{IsParent, line_if, IsValidLine, AreValidLines, IsReceiptOf, receipt_format, new_lines, event_lines, lines_from, no_marks, lines_of, receipt_of}
 use Rattle.jfr_worklist.proofs.Counts.{count_set, count_le, count_none}
 use Rattle.jfr_worklist.proofs.WalkLaws.{all_size}
+use Rattle.jfr_verify.proofs.ParentLaws.{after, in_after}
 use Rattle.jfr_verify.proofs.MarkLaws.{set_here, set_stays, set_only, all_stay, all_here, all_append, set_old, none_marked, count_all}
 
 -- The entries of lines.
 abbrev pub entries : List Line → List ℕ
 entries ls = map (λ l. l.entry) ls
-
--- The entries that have lines after these.
-abbrev after : List ℕ → List Line → List ℕ
-after before [] = before
-after before (l ∷ ls) = after (l.entry ∷ before) ls
-
-in_after : (before : List ℕ) (ls : List Line) (i : ℕ) → In before i → In (after before ls) i
-in_after before [] i k = k
-in_after before (l ∷ ls) i k = in_after (l.entry ∷ before) ls i (inr k)
 
 after_append : (before : List ℕ) (xs ys : List Line) → after before (xs ++ ys) ≡ after (after before xs) ys
 after_append before [] ys = refl

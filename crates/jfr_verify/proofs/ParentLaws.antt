@@ -13,24 +13,24 @@ use Rattle.jfr_verify.specs.Parents.{IsBefore, IsOrdered, AreOrdered, AreParents
 use Rattle.jfr_verify.proofs.MarkLaws.{set_here, set_stays, set_only, none_marked}
 
 -- The entries that have lines after these.
-abbrev pub behind : List ℕ → List Line → List ℕ
-behind before [] = before
-behind before (l ∷ ls) = behind (l.entry ∷ before) ls
+abbrev pub after : List ℕ → List Line → List ℕ
+after before [] = before
+after before (l ∷ ls) = after (l.entry ∷ before) ls
 
-pub behind_one : (before : List ℕ) (ls : List Line) (l : Line) → behind before (ls ++ l ∷ []) ≡ l.entry ∷ behind before ls
-behind_one before [] l = refl
-behind_one before (m ∷ ls) l = behind_one (m.entry ∷ before) ls l
+pub after_one : (before : List ℕ) (ls : List Line) (l : Line) → after before (ls ++ l ∷ []) ≡ l.entry ∷ after before ls
+after_one before [] l = refl
+after_one before (m ∷ ls) l = after_one (m.entry ∷ before) ls l
 
-in_behind : (before : List ℕ) (ls : List Line) (i : ℕ) → In before i → In (behind before ls) i
-in_behind before [] i k = k
-in_behind before (l ∷ ls) i k = in_behind (l.entry ∷ before) ls i (inr k)
+pub in_after : (before : List ℕ) (ls : List Line) (i : ℕ) → In before i → In (after before ls) i
+in_after before [] i k = k
+in_after before (l ∷ ls) i k = in_after (l.entry ∷ before) ls i (inr k)
 
-pub member_behind : (before : List ℕ) (ls : List Line) (l : Line) → In ls l → In (behind before ls) l.entry
-member_behind before [] l i = absurd i
-member_behind before (m ∷ ls) l (inl e) = in_behind (m.entry ∷ before) ls l.entry (inl (ap (λ (z : Line). z.entry) e))
-member_behind before (m ∷ ls) l (inr i) = member_behind (m.entry ∷ before) ls l i
+pub member_after : (before : List ℕ) (ls : List Line) (l : Line) → In ls l → In (after before ls) l.entry
+member_after before [] l i = absurd i
+member_after before (m ∷ ls) l (inl e) = in_after (m.entry ∷ before) ls l.entry (inl (ap (λ (z : Line). z.entry) e))
+member_after before (m ∷ ls) l (inr i) = member_after (m.entry ∷ before) ls l i
 
-pub behind_member : (before : List ℕ) (ls : List Line) (i : ℕ) → In (behind before ls) i → In before i ⊎ ((l : Line) × In ls l × (l.entry ≡ i))
+pub behind_member : (before : List ℕ) (ls : List Line) (i : ℕ) → In (after before ls) i → In before i ⊎ ((l : Line) × In ls l × (l.entry ≡ i))
 behind_member before [] i k = inl k
 behind_member before (l ∷ ls) i k = by_case (behind_member (l.entry ∷ before) ls i k)
   where
@@ -69,11 +69,11 @@ take_more xs n x e = (let q : n + 1 ≡ suc n = omega arith in ap (λ z. take z 
     by_list (y ∷ ys) zero x e = let h : y ≡ x = cc in ap (λ z. z ∷ []) h
     by_list (y ∷ ys) (suc n) x e = ap (λ z. y ∷ z) (by_list ys n x e)
 
-ordered_one : (count : ℕ) (before : List ℕ) (ls : List Line) (l : Line) → AreOrdered count before ls → IsOrdered count (behind before ls) l → AreOrdered count before (ls ++ l ∷ [])
+ordered_one : (count : ℕ) (before : List ℕ) (ls : List Line) (l : Line) → AreOrdered count before ls → IsOrdered count (after before ls) l → AreOrdered count before (ls ++ l ∷ [])
 ordered_one count before [] l a i = (i, tt)
 ordered_one count before (m ∷ ls) l a i = (a.0, ordered_one count (m.entry ∷ before) ls l a.1 i)
 
-ordered_at : (count : ℕ) (before : List ℕ) (ls : List Line) (k : ℕ) (l : Line) → AreOrdered count before ls → slice_get ls k ≡ Some l → IsOrdered count (behind before (take k ls)) l
+ordered_at : (count : ℕ) (before : List ℕ) (ls : List Line) (k : ℕ) (l : Line) → AreOrdered count before ls → slice_get ls k ≡ Some l → IsOrdered count (after before (take k ls)) l
 ordered_at count before [] k l a e = cc
 ordered_at count before (m ∷ ls) zero l a e = let h : m ≡ l = cc in subst (IsOrdered count before) h a.0
 ordered_at count before (m ∷ ls) (suc k) l a e = ordered_at count (m.entry ∷ before) ls k l a.1 e
@@ -83,8 +83,8 @@ pub record InOwners (count : ℕ) (ls : List Line) (seen : List Bool) (parents :
   pub size : length seen ≡ count
   pub parents_size : length parents ≡ count
   pub ordered : AreOrdered count [] ls
-  pub marked_in : (i : ℕ) → IsMarked seen i → In (behind [] ls) i
-  pub in_marked : (i : ℕ) → In (behind [] ls) i → IsMarked seen i
+  pub marked_in : (i : ℕ) → IsMarked seen i → In (after [] ls) i
+  pub in_marked : (i : ℕ) → In (after [] ls) i → IsMarked seen i
   pub own : (l : Line) → In ls l → slice_get parents l.entry ≡ Some l.parent
 
 pub owners_start : (count : ℕ) (seen : List Bool) (parents : List Parent) (p : Parent) → seen ≡ replicate count false → parents ≡ replicate count p → InOwners count [] seen parents
@@ -98,34 +98,34 @@ owners_start count seen parents p a b = record {
 }
 
 module _ (count : ℕ) (ls : List Line) (seen : List Bool) (parents : List Parent) (h : InOwners count ls seen parents) (l : Line) where
-  before_is : (p : Parent) → is_before seen p ≡ true → IsBefore (behind [] ls) p
+  before_is : (p : Parent) → is_before seen p ≡ true → IsBefore (after [] ls) p
   before_is (OfEvent n) e = tt
-  before_is (OfEntry n) e = in_contains (behind [] ls) n (h.marked_in n e)
+  before_is (OfEntry n) e = in_contains (after [] ls) n (h.marked_in n e)
 
-  is_before_of : (p : Parent) → IsBefore (behind [] ls) p → is_before seen p ≡ true
+  is_before_of : (p : Parent) → IsBefore (after [] ls) p → is_before seen p ≡ true
   is_before_of (OfEvent n) e = refl
-  is_before_of (OfEntry n) e = h.in_marked n (contains_in (behind [] ls) n e)
+  is_before_of (OfEntry n) e = h.in_marked n (contains_in (after [] ls) n e)
 
   clash : (t : Bool) → t ≡ true → t ≡ false → ⊥
   clash t p q = cc
 
-  pub next_ordered : is_next seen l ≡ true → IsOrdered count (behind [] ls) l
+  pub next_ordered : is_next seen l ≡ true → IsOrdered count (after [] ls) l
   next_ordered e = by_flag (slice_get seen l.entry) refl e
     where
-      by_flag : (o : Option Bool) → slice_get seen l.entry ≡ o → option_map_or (λ flag. if flag then false else is_before seen l.parent) o false ≡ true → IsOrdered count (behind [] ls) l
+      by_flag : (o : Option Bool) → slice_get seen l.entry ≡ o → option_map_or (λ flag. if flag then false else is_before seen l.parent) o false ≡ true → IsOrdered count (after [] ls) l
       by_flag None q e = cc
       by_flag (Some true) q e = cc
       by_flag (Some false) q e =
           let w = slice_get_within seen l.entry false q in
-          record { below = omega (arith, w, h.size); fresh = λ k. clash (is_marked seen l.entry) (h.in_marked l.entry (contains_in (behind [] ls) l.entry k)) (get_index seen l.entry false q); parent = before_is l.parent e }
+          record { below = omega (arith, w, h.size); fresh = λ k. clash (is_marked seen l.entry) (h.in_marked l.entry (contains_in (after [] ls) l.entry k)) (get_index seen l.entry false q); parent = before_is l.parent e }
 
-  pub ordered_next : IsOrdered count (behind [] ls) l → is_next seen l ≡ true
+  pub ordered_next : IsOrdered count (after [] ls) l → is_next seen l ≡ true
   ordered_next i =
       let g = some_at seen l.entry (omega (arith, i.below, h.size)) in
       by_flag g.0 g.1
     where
       by_flag : (b : Bool) → slice_get seen l.entry ≡ Some b → is_next seen l ≡ true
-      by_flag true q = absurd (i.fresh (in_contains (behind [] ls) l.entry (h.marked_in l.entry (get_index seen l.entry true q))))
+      by_flag true q = absurd (i.fresh (in_contains (after [] ls) l.entry (h.marked_in l.entry (get_index seen l.entry true q))))
       by_flag false q = ap (λ o. option_map_or (λ flag. if flag then false else is_before seen l.parent) o false) q ∙ is_before_of l.parent i.parent
 
   in_one : (ms : List Line) (m : Line) → In (ms ++ l ∷ []) m → In ms m ⊎ (l ≡ m)
@@ -138,26 +138,26 @@ module _ (count : ℕ) (ls : List Line) (seen : List Bool) (parents : List Paren
       by_case (inl j) = inl (inr j)
       by_case (inr e) = inr e
 
-  owners_one : IsOrdered count (behind [] ls) l → InOwners count (ls ++ l ∷ []) (slice_set seen l.entry true) (slice_set parents l.entry l.parent)
+  owners_one : IsOrdered count (after [] ls) l → InOwners count (ls ++ l ∷ []) (slice_set seen l.entry true) (slice_set parents l.entry l.parent)
   owners_one i = record {
     size = length-set seen l.entry true ∙ h.size;
     parents_size = length-set parents l.entry l.parent ∙ h.parents_size;
     ordered = ordered_one count [] ls l h.ordered i;
-    marked_in = λ j m. subst (λ z. In z j) (sym (behind_one [] ls l)) (by_set j (set_only seen l.entry j m));
-    in_marked = λ j k. by_line j (subst (λ z. In z j) (behind_one [] ls l) k);
+    marked_in = λ j m. subst (λ z. In z j) (sym (after_one [] ls l)) (by_set j (set_only seen l.entry j m));
+    in_marked = λ j k. by_line j (subst (λ z. In z j) (after_one [] ls l) k);
     own = λ m k. by_own m (in_one ls m k);
   }
     where
-      by_set : (j : ℕ) → IsMarked seen j ⊎ (l.entry ≡ j) → In (l.entry ∷ behind [] ls) j
+      by_set : (j : ℕ) → IsMarked seen j ⊎ (l.entry ≡ j) → In (l.entry ∷ after [] ls) j
       by_set j (inl m) = inr (h.marked_in j m)
       by_set j (inr e) = inl e
 
-      by_line : (j : ℕ) → In (l.entry ∷ behind [] ls) j → IsMarked (slice_set seen l.entry true) j
+      by_line : (j : ℕ) → In (l.entry ∷ after [] ls) j → IsMarked (slice_set seen l.entry true) j
       by_line j (inl e) = subst (IsMarked (slice_set seen l.entry true)) e (set_here seen l.entry (omega (arith, i.below, h.size)))
       by_line j (inr k) = set_stays seen l.entry j (h.in_marked j k)
 
       by_own : (m : Line) → In ls m ⊎ (l ≡ m) → slice_get (slice_set parents l.entry l.parent) m.entry ≡ Some m.parent
-      by_own m (inl k) = get_other parents l.entry m.entry l.parent (λ e. i.fresh (in_contains (behind [] ls) l.entry (subst (In (behind [] ls)) e (member_behind [] ls m k)))) ∙ h.own m k
+      by_own m (inl k) = get_other parents l.entry m.entry l.parent (λ e. i.fresh (in_contains (after [] ls) l.entry (subst (In (after [] ls)) e (member_after [] ls m k)))) ∙ h.own m k
       by_own m (inr e) = subst (λ (z : Line). slice_get (slice_set parents l.entry l.parent) z.entry ≡ Some z.parent) e (get_same parents l.entry l.parent (omega (arith, i.below, h.parents_size)))
 
 pub owners_next : (count : ℕ) (all : List Line) (k : ℕ) (l : Line) (seen more : List Bool) (parents now : List Parent) → slice_get all k ≡ Some l → InOwners count (take k all) seen parents → is_next seen l ≡ true

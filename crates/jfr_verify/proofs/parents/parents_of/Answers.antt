@@ -2,7 +2,7 @@ use Rattle.std.proofs.Common.{◌≡◌, ◌<◌, length, take, slice_index_or, 
 use Rattle.jfr_verify.specs.declared.line.Line.{Line}
 use Rattle.jfr_verify.specs.declared.line.Parent.TheVariants.{OfEvent}
 use Rattle.jfr_verify.specs.Parents.{IsOrdered, is_next}
-use Rattle.jfr_verify.proofs.ParentLaws.{behind, get_here, next_ordered, owners_next, owners_stop, owners_end}
+use Rattle.jfr_verify.proofs.ParentLaws.{after, get_here, next_ordered, owners_next, owners_stop, owners_end}
 use Rattle.jfr_verify.proofs.parents.parents_of.Goals as goal
 
 abbrev none : Line
@@ -19,14 +19,14 @@ pub index_mut-requires : goal.index_mut-requires
 index_mut-requires c =
     let l : Line = slice_index_or c.args.lines.now c.loop-line.line-index none in
     let e : is_next c.loop-line.seen.items l ≡ true = ap (λ z. is_next z l) (sym c.deref.ensures.value) ∙ (sym c.can_follow.ensures ∙ c.if-not-can_follow.false) in
-    let i : IsOrdered c.args.count (behind _ (take c.loop-line.line-index c.args.lines.now)) l = next_ordered c.args.count (take c.loop-line.line-index c.args.lines.now) c.loop-line.seen.items c.loop-line.parents.items c.loop-line.invariant l e in
+    let i : IsOrdered c.args.count (after _ (take c.loop-line.line-index c.args.lines.now)) l = next_ordered c.args.count (take c.loop-line.line-index c.args.lines.now) c.loop-line.seen.items c.loop-line.parents.items c.loop-line.invariant l e in
     omega (arith, i.below, c.loop-line.invariant.size)
 
 pub index_mut-requires-in-loop-line : goal.index_mut-requires-in-loop-line
 index_mut-requires-in-loop-line c =
     let l : Line = slice_index_or c.args.lines.now c.loop-line.line-index none in
     let e : is_next c.loop-line.seen.items l ≡ true = ap (λ z. is_next z l) (sym c.deref.ensures.value) ∙ (sym c.can_follow.ensures ∙ c.if-not-can_follow.false) in
-    let i : IsOrdered c.args.count (behind _ (take c.loop-line.line-index c.args.lines.now)) l = next_ordered c.args.count (take c.loop-line.line-index c.args.lines.now) c.loop-line.seen.items c.loop-line.parents.items c.loop-line.invariant l e in
+    let i : IsOrdered c.args.count (after _ (take c.loop-line.line-index c.args.lines.now)) l = next_ordered c.args.count (take c.loop-line.line-index c.args.lines.now) c.loop-line.seen.items c.loop-line.parents.items c.loop-line.invariant l e in
     omega (arith, i.below, c.loop-line.invariant.parents_size)
 
 pub loop-line-preserved : goal.loop-line-preserved
