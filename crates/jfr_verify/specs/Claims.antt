@@ -1,0 +1,36 @@
+-- Claimed parents: a parent for each entry, which may or may not refer to it.
+use Rattle.std.specs.Prelude.{◌≡◌, ◌<◌, ℕ, Bool, true, false, List, length, filter, slice_get, Some, Contains, ◌==◌}
+use Rattle.std.specs.Option.{option_map_or}
+use Rattle.jfr_chunk.specs.Parts.{Parts, EventAt, events_of}
+use Rattle.jfr_chunk.specs.Reach.{node_entries, next_entries}
+use Rattle.jfr_verify.specs.declared.line.Parent.{Parent}
+use Rattle.jfr_verify.specs.declared.line.Parent.TheVariants.{OfEvent, OfEntry}
+
+-- The parent refers to entry t, which is in force.
+abbrev pub RefersTo : Parts → Parent → ℕ → Type 0
+RefersTo p (OfEvent i) t = (e : EventAt) × (slice_get (events_of p) i ≡ Some e) × Contains (node_entries p.entries p.classes p.bytes e.node) t
+RefersTo p (OfEntry i) t = Contains (next_entries p i) t
+
+-- Entry t has a claimed parent, which refers to it.
+abbrev pub IsConfirmed : Parts → List Parent → ℕ → Type 0
+IsConfirmed p parents t = (parent : Parent) × (slice_get parents t ≡ Some parent) × RefersTo p parent t
+
+-- Whether the claimed parent of each entry refers to it.
+abbrev pub AreConfirmed : Parts → List Parent → Bool → Type 0
+AreConfirmed p parents true = (t : ℕ) → t < length p.entries → IsConfirmed p parents t
+AreConfirmed p parents false = ((t : ℕ) → t < length p.entries → IsConfirmed p parents t) → ⊥
+
+-- Whether two parents are the same.
+abbrev pub is_same : Parent → Parent → Bool
+is_same (OfEvent a) (OfEvent b) = a == b
+is_same (OfEntry a) (OfEntry b) = a == b
+is_same (OfEvent a) (OfEntry b) = false
+is_same (OfEntry a) (OfEvent b) = false
+
+-- Whether this is the claimed parent of entry t.
+abbrev pub is_parent_of : List Parent → Parent → ℕ → Bool
+is_parent_of parents parent t = option_map_or (is_same parent) (slice_get parents t) false
+
+-- Those of these entries whose claimed parent is this.
+abbrev pub children : List Parent → Parent → List ℕ → List ℕ
+children parents parent is = filter (is_parent_of parents parent) is

@@ -1,0 +1,36 @@
+-- What is confirmed after parents are looked at.
+use Rattle.std.specs.Prelude.{◌≡◌, ◌⊎◌, ◌<◌, ℕ, List, length, slice_get, Some}
+use Rattle.jfr_worklist.specs.Marks.{IsMarked, marked_at}
+use Rattle.jfr_chunk.specs.Parts.{Parts}
+use Rattle.jfr_verify.specs.declared.claims.Claims.{Claims}
+use Rattle.jfr_verify.specs.declared.line.Parent.{Parent}
+use Rattle.jfr_verify.specs.declared.line.Parent.TheVariants.{OfEvent, OfEntry}
+use Rattle.jfr_verify.specs.Claims.{children, RefersTo, IsConfirmed}
+
+-- Of the entries with these numbers, those whose claimed parent is the one that is looked at are confirmed too.
+pub record Confirms (numbers : List ℕ) (old new : Claims) : Type 0 where
+  pub confirmed : new.confirmed.items ≡ marked_at old.confirmed.items (children old.parents.items old.parent numbers)
+  pub parents : new.parents.items ≡ old.parents.items
+  pub parent : new.parent ≡ old.parent
+
+-- The same for this parent, whichever was looked at before.
+pub record ConfirmsOf (parent : Parent) (numbers : List ℕ) (old new : Claims) : Type 0 where
+  pub confirmed : new.confirmed.items ≡ marked_at old.confirmed.items (children old.parents.items parent numbers)
+  pub parents : new.parents.items ≡ old.parents.items
+
+-- What was confirmed still is, and what is confirmed now was before, or its claimed parent refers to it.
+pub record ConfirmsMore (p : Parts) (old new : Claims) : Type 0 where
+  pub size : length new.confirmed.items ≡ length old.confirmed.items
+  pub parents : new.parents.items ≡ old.parents.items
+  pub stays : (t : ℕ) → IsMarked old.confirmed.items t → IsMarked new.confirmed.items t
+  pub sound : (t : ℕ) → IsMarked new.confirmed.items t → IsMarked old.confirmed.items t ⊎ IsConfirmed p old.parents.items t
+
+-- Each entry whose claimed parent is one of the first events and refers to it is confirmed too.
+pub record ConfirmsEvents (p : Parts) (count : ℕ) (old new : Claims) : Type 0 where
+  pub more : ConfirmsMore p old new
+  pub all : (i t : ℕ) → i < count → slice_get old.parents.items t ≡ Some (OfEvent i) → RefersTo p (OfEvent i) t → IsMarked new.confirmed.items t
+
+-- Each entry whose claimed parent is one of the first entries and refers to it is confirmed too.
+pub record ConfirmsEntries (p : Parts) (count : ℕ) (old new : Claims) : Type 0 where
+  pub more : ConfirmsMore p old new
+  pub all : (i t : ℕ) → i < count → slice_get old.parents.items t ≡ Some (OfEntry i) → RefersTo p (OfEntry i) t → IsMarked new.confirmed.items t

@@ -1,0 +1,14 @@
+pub mod Receipts
+pub mod Checks
+pub mod Laws
+pub mod Checked
+pub mod Streams
+pub mod Decided
+pub mod SameEvents
+pub mod Closed
+pub mod Added
+pub mod Reading
+pub mod Parents
+pub mod Claims
+pub mod Confirmed
+pub mod Prefix

@@ -1,0 +1,158 @@
+//! Whether the output lacks an entry that it needs: whether all entries in force to which kept events and
+//! marked entries refer are marked.
+ghost use Rattle.std.specs.Prelude.{◌≡◌, ◌<◌, ◌&&◌, [], length, if◌then◌else◌};
+ghost use Rattle.jfr_value.specs.Nodes.{IsValue, node_of};
+ghost use Rattle.jfr_worklist.specs.Marks.{is_marked};
+ghost use Rattle.jfr_chunk.specs.Parts.{events_of};
+ghost use Rattle.jfr_chunk.specs.Reach.{kept_by, next_entries, node_entries};
+ghost use Rattle.jfr_verify.specs.Closed.{ChecksMarks, are_marked, entries_closed, events_closed, kept_refs};
+
+use jfr_chunk::{Chunk, Kept};
+use jfr_layout::Classes;
+use jfr_pool::Pools;
+use jfr_value::{Node, Steps, Visit, visit_targets};
+use std::marker::Brand;
+use std::sync::ledger::{Blank, Ledger};
+
+/// Marks of entries, and whether all entries that were referred to so far are marked.
+#[derive(Drop)]
+pub(crate) struct ClosedCheck {
+    /// For each entry, whether it is marked.
+    pub marks: Vec<bool>,
+    /// Whether all that were referred to so far are marked.
+    pub closed: bool,
+}
+
+impl Visit<Pools> for ClosedCheck {
+    ghost use Rattle.std.specs.Prelude.{[], ◌∷◌};
+    ghost use Rattle.jfr_pool.specs.Entries.{number_in_force};
+    ghost use Rattle.jfr_worklist.specs.Marks.{those};
+    ghost use Rattle.jfr_verify.specs.Closed.{ChecksMarks};
+
+    ghost ready = { λ check pools. Unit {0} };
+
+    ghost takes = { λ pools target old new. ChecksMarks (those (number_in_force pools) (target ∷ [])) old new };
+
+    /// Checks that the entry in force for a class and key, if there is one, is marked.
+    #[inline]
+    fn visit(&mut self, pools: &Pools, class: u64, key: u64) {
+        if let Some(number) = pools.entry(class, key) {
+            if !is_marked(&self.marks, number) {
+                self.closed = false;
+            }
+        }
+    }
+}
+
+/// Whether all entries in force to which the kept events and the marked entries refer are marked.
+pub(crate) fn is_closed(chunk: &Chunk<'_>, kept: &Kept, marks: Vec<bool>) -> bool
+    requires kept { length kept.now ≡ length (events_of chunk.now) }
+    ensures { result ≡ (events_closed chunk.now marks.items (kept_by chunk.now kept.now) && entries_closed chunk.now marks.items (length chunk.now.entries)) }
+{
+    closed_by::<Brand>(chunk, kept, marks, Blank::new(1))
+}
+
+/// As `is_closed`, with a ledger for the steps.
+fn closed_by<L: Ledger>(chunk: &Chunk<'_>, kept: &Kept, marks: Vec<bool>, blank: Blank) -> bool
+    requires kept { length kept.now ≡ length (events_of chunk.now) }
+    requires name { blank.name ≡ L.name }
+    requires parts { blank.parts ≡ L.parts }
+    requires some { 0 < blank.parts }
+    ensures { result ≡ (events_closed chunk.now marks.items (kept_by chunk.now kept.now) && entries_closed chunk.now marks.items (length chunk.now.entries)) }
+{
+    let mut steps: Steps<L> = Steps::new(blank);
+    if !events_closed(chunk, kept, &marks) {
+        return false;
+    }
+    let mut check = ClosedCheck {
+        marks,
+        closed: true,
+    };
+    check_entries(&mut check, chunk, &mut steps);
+    check.closed
+}
+
+/// Whether all that the kept events refer to is marked.
+fn events_closed(chunk: &Chunk<'_>, kept: &Kept, marks: &[bool]) -> bool
+    requires { length kept.now ≡ length (events_of chunk.now) }
+    ensures { result ≡ events_closed chunk.now marks.now (kept_by chunk.now kept.now) }
+{
+    for number in 0..kept.len() {
+        if !event_closed(chunk, kept, marks, number) {
+            return false;
+        }
+    }
+    true
+}
+
+/// Whether all that event `number` refers to is marked, if the event is kept.
+fn event_closed(chunk: &Chunk<'_>, kept: &Kept, marks: &[bool], number: usize) -> bool
+    ensures { result ≡ are_marked marks.now (kept_refs chunk.now kept.now number) }
+{
+    match kept.get(number) {
+        Some(true) => match chunk.event_entries(number) {
+            Some(entries) => are_marked(marks, entries),
+            None => true,
+        },
+        _ => true,
+    }
+}
+
+/// Checks that all that the marked entries refer to is marked.
+fn check_entries<L: Ledger>(check: &mut ClosedCheck, chunk: &Chunk<'_>, steps: &mut Steps<L>)
+    ensures { check.new.closed ≡ (check.old.closed && entries_closed chunk.now check.old.marks.items (length chunk.now.entries)) }
+{
+    for number in 0..chunk.pools().len() {
+        check_entry(check, chunk, number, steps);
+    }
+}
+
+/// Checks that all that entry `number` refers to is marked, if the entry is marked.
+fn check_entry<L: Ledger>(
+    check: &mut ClosedCheck,
+    chunk: &Chunk<'_>,
+    number: usize,
+    steps: &mut Steps<L>,
+)
+    ensures { ChecksMarks (if is_marked check.old.marks.items number then next_entries chunk.now number else []) check.old check.new }
+{
+    if !is_marked(&check.marks, number) {
+        return;
+    }
+    if let Some(node) = chunk.entry_node(number) {
+        check_node(check, chunk.classes(), chunk.pools(), node, steps);
+    }
+}
+
+/// Checks that the entries in force to which a node refers are marked.
+fn check_node<L: Ledger>(
+    check: &mut ClosedCheck,
+    classes: &Classes,
+    pools: &Pools,
+    node: Node<'_>,
+    steps: &mut Steps<L>,
+)
+    requires value { IsValue classes.now node }
+    ensures { ChecksMarks (node_entries pools.now classes.now node.entry.bytes.now (node_of node.entry)) check.old check.new }
+{
+    visit_targets(classes, node, check, pools, steps);
+}
+
+/// Whether the entries with these numbers are marked.
+fn are_marked(marks: &[bool], numbers: &[u32]) -> bool
+    ensures { result ≡ are_marked marks.now numbers.now }
+{
+    numbers
+        .iter()
+        .all(|number| is_marked(marks, *number as usize))
+}
+
+/// Whether entry `number` is marked.
+fn is_marked(marks: &[bool], number: usize) -> bool
+    ensures { result ≡ is_marked marks.now number }
+{
+    match marks.get(number) {
+        Some(mark) => *mark,
+        None => false,
+    }
+}

@@ -1,0 +1,153 @@
+//! Confirming the claims of a receipt's lines: one pass over the events and the entries of the chunk.
+ghost use Rattle.std.specs.Prelude.{◌≡◌, ◌<◌, All, ℕ, List, length, Some, None, slice_get, IfOk};
+ghost use Rattle.std.specs.List.{list_all};
+ghost use Rattle.jfr_value.specs.Nodes.{IsValue, node_of};
+ghost use Rattle.jfr_chunk.specs.Parts.{EventAt, events_of};
+ghost use Rattle.jfr_chunk.specs.Reach.{next_entries, node_entries};
+ghost use Rattle.jfr_verify.specs.declared.line.Parent.TheVariants as kinds;
+ghost use Rattle.jfr_verify.specs.Claims.{AreConfirmed};
+ghost use Rattle.jfr_verify.specs.Confirmed.{Confirms, ConfirmsEntries, ConfirmsEvents, ConfirmsOf};
+
+use crate::Parent;
+use crate::claims::Claims;
+use jfr_base::NoMemory;
+use jfr_chunk::Chunk;
+use jfr_layout::Classes;
+use jfr_pool::Pools;
+use jfr_value::{Node, Steps, Visit, visit_targets};
+use std::alloc::Global;
+use std::marker::Brand;
+use std::sync::ledger::{Blank, Ledger};
+
+impl Visit<Pools> for Claims {
+    ghost use Rattle.std.specs.Prelude.{◌≡◌, [], ◌∷◌, length};
+    ghost use Rattle.jfr_pool.specs.Entries.{number_in_force};
+    ghost use Rattle.jfr_worklist.specs.Marks.{those};
+    ghost use Rattle.jfr_verify.specs.Confirmed.{Confirms};
+
+    ghost ready = { λ claims pools. length claims.confirmed.items ≡ length pools };
+
+    ghost takes = { λ pools target old new. Confirms (those (number_in_force pools) (target ∷ [])) old new };
+
+    /// Confirms the claim of the entry in force for a class and key, if there is one and the parent that is
+    /// looked at is its claimed parent.
+    #[inline]
+    fn visit(&mut self, pools: &Pools, class: u64, key: u64) {
+        if let Some(number) = pools.entry(class, key) {
+            self.put(number);
+        }
+    }
+}
+
+/// Whether the claimed parent of each entry refers to it. Each event and each entry of the chunk is looked at
+/// once, however many entries name it as their parent.
+pub(crate) fn are_confirmed(
+    alloc: Global,
+    chunk: &Chunk<'_>,
+    parents: Vec<Parent>,
+) -> Result<bool, NoMemory>
+    requires size { length parents.items ≡ length chunk.now.entries }
+    ensures { IfOk result (AreConfirmed chunk.now parents.items) }
+{
+    confirm_all::<Brand>(alloc, chunk, parents, Blank::new(1))
+}
+
+/// As `are_confirmed`, with a ledger for the steps.
+fn confirm_all<L: Ledger>(
+    alloc: Global,
+    chunk: &Chunk<'_>,
+    parents: Vec<Parent>,
+    blank: Blank,
+) -> Result<bool, NoMemory>
+    requires size { length parents.items ≡ length chunk.now.entries }
+    requires name { blank.name ≡ L.name }
+    requires parts { blank.parts ≡ L.parts }
+    requires some { 0 < blank.parts }
+    ensures { IfOk result (AreConfirmed chunk.now parents.items) }
+{
+    let mut claims = Claims::new(alloc, parents)?;
+    let mut steps: Steps<L> = Steps::new(blank);
+    confirm_events(&mut claims, chunk);
+    confirm_entries(&mut claims, chunk, &mut steps);
+    Ok(all_set(&claims.confirmed))
+}
+
+/// Confirms the claims that name an event, if the event refers to the entry.
+fn confirm_events(claims: &mut Claims, chunk: &Chunk<'_>)
+    requires size { length claims.old.confirmed.items ≡ length chunk.now.entries }
+    ensures { ConfirmsEvents chunk.now (length (events_of chunk.now)) claims.old claims.new }
+{
+    for number in 0..chunk.event_count() {
+        confirm_event(claims, chunk, number);
+    }
+}
+
+/// Confirms the claims that name event `number`, if it refers to the entry.
+fn confirm_event(claims: &mut Claims, chunk: &Chunk<'_>, number: usize)
+    requires size { length claims.old.confirmed.items ≡ length chunk.now.entries }
+    ensures { (e : EventAt) → slice_get (events_of chunk.now) number ≡ Some e → ConfirmsOf (kinds.OfEvent number) (node_entries chunk.now.entries chunk.now.classes chunk.now.bytes e.node) claims.old claims.new }
+{
+    if let Some(entries) = chunk.event_entries(number) {
+        claims.parent = Parent::OfEvent(number);
+        confirm_each(claims, entries);
+    }
+}
+
+/// Confirms the claims of the entries with these numbers, if they name the parent that is looked at.
+fn confirm_each(claims: &mut Claims, entries: &[u32])
+    requires { All (λ number. number < length claims.old.confirmed.items) entries.now }
+    ensures { Confirms entries.now claims.old claims.new }
+{
+    for number in entries {
+        claims.put(*number as usize);
+    }
+}
+
+/// Confirms the claims that name an entry, if the entry refers to the other.
+fn confirm_entries<L: Ledger>(claims: &mut Claims, chunk: &Chunk<'_>, steps: &mut Steps<L>)
+    requires size { length claims.old.confirmed.items ≡ length chunk.now.entries }
+    ensures { ConfirmsEntries chunk.now (length chunk.now.entries) claims.old claims.new }
+{
+    for number in 0..chunk.pools().len() {
+        confirm_entry(claims, chunk, number, steps);
+    }
+}
+
+/// Confirms the claims that name entry `number`, if it refers to the other entry.
+fn confirm_entry<L: Ledger>(
+    claims: &mut Claims,
+    chunk: &Chunk<'_>,
+    number: usize,
+    steps: &mut Steps<L>,
+)
+    requires size { length claims.old.confirmed.items ≡ length chunk.now.entries }
+    ensures { ConfirmsOf (kinds.OfEntry number) (next_entries chunk.now number) claims.old claims.new }
+{
+    claims.parent = Parent::OfEntry(number);
+    if let Some(node) = chunk.entry_node(number) {
+        confirm_node(claims, chunk.classes(), chunk.pools(), node, steps);
+    }
+}
+
+/// Confirms the claims of the entries in force to which a node refers, if they name the parent that is looked
+/// at.
+fn confirm_node<L: Ledger>(
+    claims: &mut Claims,
+    classes: &Classes,
+    pools: &Pools,
+    node: Node<'_>,
+    steps: &mut Steps<L>,
+)
+    requires size { length claims.old.confirmed.items ≡ length pools.now }
+    requires value { IsValue classes.now node }
+    ensures { Confirms (node_entries pools.now classes.now node.entry.bytes.now (node_of node.entry)) claims.old claims.new }
+{
+    visit_targets(classes, node, claims, pools, steps);
+}
+
+/// Whether every flag is set.
+fn all_set(flags: &[bool]) -> bool
+    ensures { result ≡ list_all (λ flag. flag) flags.now }
+{
+    flags.iter().all(|flag| *flag)
+}

@@ -1,0 +1,32 @@
+//! Doubts.
+
+/// Why the output of a scrub isn't accepted. The checker of a pair gives the last five; the first three are
+/// about whole files.
+#[derive(Clone, Copy, Debug, PartialEq, Eq)]
+pub enum Doubt {
+    /// The receipt is too long.
+    ReceiptLong,
+    /// A chunk of the output is refused.
+    OutRefused,
+    /// The input and the output have different numbers of chunks.
+    ChunksDiffer,
+    /// A class of the output isn't a class of the input.
+    ClassesDiffer,
+    /// The events of the output aren't the kept events of the input.
+    EventsDiffer,
+    /// The entries of the output aren't copies of entries in force of the input, in order.
+    EntriesDiffer,
+    /// The output lacks an entry to which a kept event or an entry of the output refers.
+    EntryMissing,
+    /// The bytes that are left don't start with a receipt of the output; or bytes are left at the end.
+    ReceiptBad,
+}
+
+/// Why a pair of chunks isn't accepted.
+#[derive(Clone, Copy, Debug, PartialEq, Eq)]
+pub enum CheckFault {
+    /// The pair fails a check.
+    Doubt(Doubt),
+    /// Memory ran out.
+    Memory,
+}

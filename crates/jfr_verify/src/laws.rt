@@ -1,0 +1,40 @@
+//! Laws of receipts and of their checker. The functions do nothing; their contracts are the laws.
+ghost use Rattle.std.specs.Prelude.{List, Bool, ℕ};
+ghost use Rattle.jfr_filter.specs.Filters.{Given};
+ghost use Rattle.jfr_chunk.specs.Parts.{AreParts, EventAt, Parts};
+ghost use Rattle.jfr_chunk.specs.Reach.{kept_by};
+ghost use Rattle.jfr_verify.specs.Checked.{HasAnswer, HasOneAnswer};
+ghost use Rattle.jfr_verify.specs.Laws.{IsKeptPassed, IsReceipted, IsVerified, Passes};
+ghost use Rattle.jfr_verify.specs.Streams.{IsComparison};
+
+/// If a pair of chunks passes the checks, the output means the same as the input, and its entries are copies
+/// of exactly the entries that the kept events reach, whoever made the output and the receipt.
+pub fn passed_is_verified()
+    ensures { (p q : Parts) (flags : List Bool) (receipt : List ℕ) → AreParts p → AreParts q → Passes p q (kept_by p flags) receipt → IsVerified p q (kept_by p flags) }
+{}
+
+/// If the events of a chunk reach each of its entries, `receipt_of` gives a receipt of the chunk.
+pub fn receipt_of_reached()
+    ensures { (p : Parts) → AreParts p → IsReceipted p }
+{}
+
+/// The output of a scrub passes the checks with its own receipt.
+pub fn kept_is_passed()
+    ensures { (p : Parts) (flags : List Bool) → AreParts p → IsKeptPassed p (kept_by p flags) }
+{}
+
+/// No two answers are right for a pair of chunks and the bytes that are left of the receipts.
+pub fn answer_is_unique()
+    ensures { (p q : Parts) (kept : List EventAt) (rest : List ℕ) → HasOneAnswer p q kept rest }
+{}
+
+/// An answer is right for each pair of chunks and all bytes that are left of the receipts.
+pub fn answer_exists()
+    ensures { (p q : Parts) (kept : List EventAt) (rest : List ℕ) → HasAnswer p q kept rest }
+{}
+
+/// Comparing two lists of chunks has exactly one outcome. If all pairs are verified, each output means the
+/// same as its input. The outputs of a scrub are verified with their own receipts, joined.
+pub fn streams_are_compared()
+    ensures { (g : Given) (ps qs : List Parts) (rest : List ℕ) (n : ℕ) → IsComparison g ps qs rest n }
+{}

@@ -1,0 +1,70 @@
+//! The lines of a receipt while they are made.
+ghost use Rattle.std.specs.Prelude.{◌≡◌, ◌+◌, ◌<◌, ◌≤◌, [], ◌∷◌, ◌++◌, false, true, length, replicate, slice_set, vec_len, vec_capacity, IfOk};
+ghost use Rattle.jfr_worklist.specs.Worklists.{marked_count};
+ghost use Rattle.jfr_verify.specs.Receipts.{new_lines};
+
+use crate::{Line, Parent};
+use jfr_base::NoMemory;
+use std::alloc::Global;
+
+/// The lines made so far, at most one for each entry. The memory for all of them is allocated at the start.
+#[derive(Drop)]
+pub(crate) struct Lines {
+    /// For each entry, whether it has a line.
+    pub flags: Vec<bool>,
+    /// The lines, in the order in which they were made.
+    pub items: Vec<Line>,
+    /// The parent of the next lines.
+    pub parent: Parent,
+    ghost room: { length flags.items ≤ vec_capacity items },
+    ghost each: { vec_len items ≡ marked_count flags.items },
+}
+
+impl Lines {
+    /// No lines, for a chunk with this number of entries. Allocates all the memory that `put` needs.
+    pub fn new(alloc: Global, count: usize) -> Result<Lines, NoMemory>
+        ensures flags { IfOk result (λ lines. lines.flags.items ≡ replicate count false) }
+        ensures none { IfOk result (λ lines. lines.items.items ≡ []) }
+    {
+        let items = Vec::with_capacity(alloc, count)?;
+        let mut flags = Vec::new(alloc);
+        flags.resize(count, false)?;
+        Ok(Lines {
+            flags,
+            items,
+            parent: Parent::OfEvent(0),
+        })
+    }
+
+    /// Adds a line for entry `number` with the current parent, unless the entry has a line.
+    pub fn put(&mut self, number: usize)
+        requires { number < length self.old.flags.items }
+        ensures flags { self.new.flags.items ≡ slice_set self.old.flags.items number true }
+        ensures lines { self.new.items.items ≡ self.old.items.items ++ new_lines self.old.flags.items self.old.parent (number ∷ []) }
+        ensures parent { self.new.parent ≡ self.old.parent }
+    {
+        if !self.flags[number] {
+            self.flags[number] = true;
+            push_within(
+                &mut self.items,
+                Line {
+                    entry: number,
+                    parent: self.parent,
+                },
+            );
+        }
+    }
+}
+
+/// Appends a line to a list that has room for it, so that nothing is allocated.
+fn push_within(list: &mut Vec<Line>, line: Line)
+    requires { vec_len list.old < vec_capacity list.old }
+    ensures items { list.new.items ≡ list.old.items ++ line ∷ [] }
+    ensures len { vec_len list.new ≡ vec_len list.old + 1 }
+    ensures capacity { vec_capacity list.old ≤ vec_capacity list.new }
+{
+    match list.push(line) {
+        Ok(()) => {}
+        Err(_) => unreachable!(),
+    }
+}

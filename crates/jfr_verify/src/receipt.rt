@@ -1,0 +1,85 @@
+//! Receipts.
+ghost use Rattle.std.specs.Prelude.{◌≡◌, ◌∷◌, ◌++◌, length, OnOk, IfOk};
+ghost use Rattle.std.specs.List.{flat_map};
+ghost use Rattle.jfr_base.specs.Integer.{spell};
+ghost use Rattle.jfr_verify.specs.Receipts.{line_bytes, parent_kind, parent_number, receipt_of};
+
+use crate::walk::lines_in;
+use crate::{Line, Parent};
+use jfr_base::{NoMemory, write_var};
+use jfr_chunk::Chunk;
+use std::alloc::{AllocError, Global};
+use std::marker::{Brand, Model};
+use std::sync::ledger::Blank;
+
+/// A receipt of a chunk. Contracts see its bytes.
+#[derive(Drop)]
+pub struct Receipt {
+    bytes: Vec<u8>,
+}
+
+impl Model for Receipt {
+    ghost use Rattle.std.specs.Prelude.{List, ℕ};
+
+    ghost Value = { List ℕ };
+
+    ghost view = { λ r. r.bytes.items };
+}
+
+impl Receipt {
+    /// The bytes of the receipt. Allocates nothing.
+    pub fn bytes(&self) -> &[u8]
+        ensures { result.now ≡ self.now }
+    {
+        self.bytes.as_slice()
+    }
+}
+
+/// The receipt of a chunk: the number of lines, then for each entry that events reach, directly or through
+/// other entries, a line with the first parent that refers to it. Each integer has its shortest form.
+pub fn receipt_of(alloc: Global, chunk: &Chunk<'_>) -> Result<Receipt, NoMemory>
+    ensures ok { IfOk result (λ receipt. receipt ≡ receipt_of chunk.now) }
+{
+    let lines = lines_in::<Brand>(alloc, chunk, Blank::new(1))?;
+    let mut bytes = Vec::new(alloc);
+    push_integer(&mut bytes, lines.items.len() as u64)?;
+    push_lines(&mut bytes, &lines.items)?;
+    Ok(Receipt { bytes })
+}
+
+/// Appends lines.
+fn push_lines(out: &mut Vec<u8>, lines: &[Line]) -> Result<(), AllocError>
+    ensures ok { OnOk result (out.new.items ≡ out.old.items ++ flat_map line_bytes lines.now) }
+{
+    for line in lines {
+        push_integer(out, line.entry as u64)?;
+        push_parent(out, line.parent)?;
+    }
+    Ok(())
+}
+
+/// Appends a parent: the byte of its kind and its number.
+fn push_parent(out: &mut Vec<u8>, parent: Parent) -> Result<(), AllocError>
+    ensures ok { OnOk result (out.new.items ≡ out.old.items ++ parent_kind parent ∷ spell (parent_number parent)) }
+{
+    match parent {
+        Parent::OfEvent(number) => {
+            out.push(0)?;
+            push_integer(out, number as u64)
+        }
+        Parent::OfEntry(number) => {
+            out.push(1)?;
+            push_integer(out, number as u64)
+        }
+    }
+}
+
+/// Appends a compressed integer in its shortest form.
+fn push_integer(out: &mut Vec<u8>, value: u64) -> Result<(), AllocError>
+    ensures ok { OnOk result (out.new.items ≡ out.old.items ++ spell value) }
+{
+    let mut spelled = [0; 9];
+    let len = write_var(value, &mut spelled);
+    out.extend_from_slice(&spelled[..len])?;
+    Ok(())
+}

@@ -1,0 +1,131 @@
+//! The walk that makes the lines of a chunk's receipt: it starts at the events and follows references from
+//! entry to entry.
+ghost use Rattle.std.specs.Prelude.{◌≡◌, ◌<◌, [], All, length, Some, None, slice_get, IfOk};
+ghost use Rattle.jfr_value.specs.Nodes.{IsValue, node_of};
+ghost use Rattle.jfr_worklist.specs.Marks.{marked_at};
+ghost use Rattle.jfr_chunk.specs.Parts.{EventAt, events_of};
+ghost use Rattle.jfr_chunk.specs.Reach.{next_entries, node_entries, roots};
+ghost use Rattle.jfr_verify.specs.declared.line.Parent.TheVariants as kinds;
+ghost use Rattle.jfr_verify.specs.Added.{Adds, AddsOf};
+ghost use Rattle.jfr_verify.specs.Receipts.{event_lines, lines_from, lines_of, no_marks};
+
+use crate::Parent;
+use crate::lines::Lines;
+use jfr_base::NoMemory;
+use jfr_chunk::Chunk;
+use jfr_layout::Classes;
+use jfr_pool::Pools;
+use jfr_value::{Node, Steps, Visit, visit_targets};
+use std::alloc::Global;
+use std::sync::ledger::{Blank, Ledger};
+
+impl Visit<Pools> for Lines {
+    ghost use Rattle.std.specs.Prelude.{◌≡◌, [], ◌∷◌, length};
+    ghost use Rattle.jfr_pool.specs.Entries.{number_in_force};
+    ghost use Rattle.jfr_worklist.specs.Marks.{those};
+    ghost use Rattle.jfr_verify.specs.Added.{Adds};
+
+    ghost ready = { λ lines pools. length lines.flags.items ≡ length pools };
+
+    ghost takes = { λ pools target old new. Adds (those (number_in_force pools) (target ∷ [])) old new };
+
+    /// Adds a line for the entry in force for a class and key, if there is one and it has no line.
+    #[inline]
+    fn visit(&mut self, pools: &Pools, class: u64, key: u64) {
+        if let Some(number) = pools.entry(class, key) {
+            self.put(number);
+        }
+    }
+}
+
+/// The lines of a chunk's receipt: first for what the events refer to, then, line by line, for what the
+/// entries of the lines refer to.
+pub(crate) fn lines_in<L: Ledger>(
+    alloc: Global,
+    chunk: &Chunk<'_>,
+    blank: Blank,
+) -> Result<Lines, NoMemory>
+    requires name { blank.name ≡ L.name }
+    requires parts { blank.parts ≡ L.parts }
+    requires some { 0 < blank.parts }
+    ensures { IfOk result (λ lines. lines.items.items ≡ lines_of chunk.now) }
+{
+    let mut lines = Lines::new(alloc, chunk.pools().len())?;
+    let mut steps: Steps<L> = Steps::new(blank);
+    add_events(&mut lines, chunk);
+    add_entries(&mut lines, chunk, &mut steps);
+    Ok(lines)
+}
+
+/// Adds lines for what the events refer to, one event after another.
+fn add_events(lines: &mut Lines, chunk: &Chunk<'_>)
+    requires marks { lines.old.flags.items ≡ no_marks chunk.now }
+    requires none { lines.old.items.items ≡ [] }
+    ensures marks { lines.new.flags.items ≡ marked_at (no_marks chunk.now) (roots chunk.now (events_of chunk.now)) }
+    ensures lines { lines.new.items.items ≡ event_lines chunk.now (no_marks chunk.now) 0 (events_of chunk.now) }
+{
+    for number in 0..chunk.event_count() {
+        add_event(lines, chunk, number);
+    }
+}
+
+/// Adds lines for what event `number` refers to.
+fn add_event(lines: &mut Lines, chunk: &Chunk<'_>, number: usize)
+    requires size { length lines.old.flags.items ≡ length chunk.now.entries }
+    ensures adds { (e : EventAt) → slice_get (events_of chunk.now) number ≡ Some e → AddsOf (kinds.OfEvent number) (node_entries chunk.now.entries chunk.now.classes chunk.now.bytes e.node) lines.old lines.new }
+    ensures none { slice_get (events_of chunk.now) number ≡ None → lines.new ≡ lines.old }
+{
+    if let Some(entries) = chunk.event_entries(number) {
+        lines.parent = Parent::OfEvent(number);
+        add_each(lines, entries);
+    }
+}
+
+/// Adds lines for the entries with these numbers.
+fn add_each(lines: &mut Lines, entries: &[u32])
+    requires { All (λ number. number < length lines.old.flags.items) entries.now }
+    ensures { Adds entries.now lines.old lines.new }
+{
+    for number in entries {
+        lines.put(*number as usize);
+    }
+}
+
+/// Adds lines for what the entries of the lines refer to, line by line, the added lines included.
+fn add_entries<L: Ledger>(lines: &mut Lines, chunk: &Chunk<'_>, steps: &mut Steps<L>)
+    requires size { length lines.old.flags.items ≡ length chunk.now.entries }
+    ensures { lines.new.items.items ≡ lines_from (length chunk.now.entries) chunk.now lines.old.flags.items lines.old.items.items }
+{
+    let mut next: usize = 0;
+    while next < lines.items.len() {
+        let number = lines.items[next].entry;
+        add_entry(lines, chunk, number, steps);
+        next += 1;
+    }
+}
+
+/// Adds lines for what entry `number` refers to.
+fn add_entry<L: Ledger>(lines: &mut Lines, chunk: &Chunk<'_>, number: usize, steps: &mut Steps<L>)
+    requires size { length lines.old.flags.items ≡ length chunk.now.entries }
+    ensures { AddsOf (kinds.OfEntry number) (next_entries chunk.now number) lines.old lines.new }
+{
+    lines.parent = Parent::OfEntry(number);
+    if let Some(node) = chunk.entry_node(number) {
+        add_node(lines, chunk.classes(), chunk.pools(), node, steps);
+    }
+}
+
+/// Adds lines for the entries in force to which a node refers.
+fn add_node<L: Ledger>(
+    lines: &mut Lines,
+    classes: &Classes,
+    pools: &Pools,
+    node: Node<'_>,
+    steps: &mut Steps<L>,
+)
+    requires size { length lines.old.flags.items ≡ length pools.now }
+    requires value { IsValue classes.now node }
+    ensures { Adds (node_entries pools.now classes.now node.entry.bytes.now (node_of node.entry)) lines.old lines.new }
+{
+    visit_targets(classes, node, lines, pools, steps);
+}
