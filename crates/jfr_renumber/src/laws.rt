@@ -1,0 +1,52 @@
+//! Laws of renumbering. The functions do nothing; their contracts are the laws.
+ghost use Rattle.std.specs.Prelude.{[], ◌∷◌, ◌++◌, if◌then◌else◌, ◌≡◌, ◌↔◌, ℕ, ◌≤◌, Bool, List, IsSome};
+ghost use Rattle.std.specs.List.{list_any};
+ghost use Rattle.jfr_pool.specs.declared.entry.EntryAt.{EntryAt};
+ghost use Rattle.jfr_layout.specs.Classes.{Classes, Sound};
+ghost use Rattle.jfr_value.specs.Values.{Value, Fits};
+ghost use Rattle.jfr_pool.specs.Entries.{in_force};
+ghost use Rattle.jfr_header.specs.Fronts.{Whole};
+ghost use Rattle.jfr_chunk.specs.Laws.{AreEvents};
+ghost use Rattle.jfr_chunk.specs.Reach.{kept_by};
+ghost use Rattle.jfr_chunk.specs.Parts.{AreParts, EventAt, Parts};
+ghost use Rattle.jfr_renumber.specs.Laws.{AgreeOnUsed, KeepsMeaning, RenamedRecords};
+ghost use Rattle.jfr_renumber.specs.Meaning.{AreNewKeys, AreRenamed, IsRenumbered, RenamedMeaning};
+ghost use Rattle.jfr_renumber.specs.Rekeyed.{moved};
+ghost use Rattle.jfr_renumber.specs.Renumber.{Used, firsts, firsts_of, new_key, pair_of, together};
+
+/// A value with new keys is read by its format. It has the same shape and the same leaves, except for the
+/// keys.
+#[tactic(auto, using(crate::proofs::LawLaws::keeps_meaning))]
+pub fn rekeyed_values_are_read()
+    ensures { (new : ℕ × ℕ → ℕ) (k : Classes) (v : Value) → Sound k → Fits k v → KeepsMeaning new k v }
+{}
+
+/// No new key is larger than the old one, those of a class are dense, and two are equal exactly if the keys
+/// are together.
+#[tactic(auto, using(crate::proofs::LawLaws::new_keys_are))]
+pub fn keys_are_numbered()
+    ensures { (p : Parts) (kept : List EventAt) → AreParts p → AreEvents p kept → AreNewKeys p kept (new_key p kept) }
+{}
+
+/// The law of paths with new keys. Let the events of a second chunk be the kept ones with new keys in their
+/// fields, and its entries the first of each group with new keys. Then each path leads to the same in both,
+/// except for the keys.
+#[tactic(auto, using(crate::proofs::LawLaws::renamed_the_same, crate::proofs::LawLaws::same_missing))]
+pub fn renamed_paths()
+    ensures paths { (p q : Parts) (kept others : List EventAt) (new : ℕ × ℕ → ℕ) → AreParts p → AreEvents p kept → AreParts q → AreEvents q others → AreNewKeys p kept new → AgreeOnUsed p q kept → AreRenamed new p q (firsts p kept) q.entries → RenamedRecords new p q kept others → RenamedMeaning new p q kept others }
+    ensures missing { (p q : Parts) (kept : List EventAt) (new : ℕ × ℕ → ℕ) → AreParts p → AreEvents p kept → AreParts q → AreNewKeys p kept new → AgreeOnUsed p q kept → AreRenamed new p q (firsts p kept) q.entries → (t : ℕ × ℕ) → Used p kept t → IsSome (in_force p.entries t) ↔ IsSome (in_force q.entries (moved new t)) }
+{}
+
+/// The output of an accepted chunk with new keys is accepted, for every choice of the events that are kept. It
+/// has exactly these events and, of the constants that they reach, one for each value, and means the same
+/// except for the keys.
+pub fn renumbered_means_the_same()
+    ensures { (p : Parts) (flags : List Bool) → Whole p.bytes → AreParts p → IsRenumbered p (kept_by p flags) }
+{}
+
+/// The first entries of groups, one entry after another: an entry is added unless one before it is together
+/// with it.
+#[tactic(auto, using(crate::proofs::FirstsLaws::first_next))]
+pub fn firsts_one_by_one()
+    ensures { (p : Parts) (es : List EntryAt) (e : EntryAt) → firsts_of p (es ++ e ∷ []) ≡ firsts_of p es ++ (if list_any (λ f. together p (pair_of f) (pair_of e)) es then [] else e ∷ []) }
+{}

@@ -1,0 +1,17 @@
+//! Constants with new keys: a scrubbed chunk in which equal values of a class have the same key.
+//!
+//! Keys of a class that the kept events use fall into groups: equal values are in the same group. The groups
+//! of a class are numbered from 0, by their smallest keys, and the number is the new key. `laws` says what
+//! the output keeps. Read `specs/Renumber.antt` (the new keys and the bytes of the output) and
+//! `specs/Meaning.antt` (what the output means) first.
+#![tactic(auto)]
+
+pub mod checkpoints;
+pub mod finding;
+pub mod laws;
+pub mod numbered;
+pub mod numbering;
+pub mod records;
+pub mod rewriting;
+pub mod used;
+pub mod values;
