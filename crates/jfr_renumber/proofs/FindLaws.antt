@@ -1,17 +1,13 @@
--- Where a used key doesn't stand.
-use Rattle.std.specs.Prelude.{◌≡◌, ◌⊎◌, ℕ, ◌+◌, ◌-◌, ◌/◌, ◌<◌, ◌≤◌, List, length, map, slice_get, Some, Contains, IfSome}
-use Rattle.std.proofs.Common.{Ordering, Less, Greater, ap, arith, refl, sym, ◌∙◌, subst, inl, inr}
-use Rattle.std.proofs.lemmas.Option.{slice_get_within}
-use Rattle.jfr_worklist.proofs.Members.{In, contains_in}
-use Rattle.jfr_renumber.specs.declared.numbering.UsedKey.{UsedKey}
-use Rattle.jfr_renumber.specs.Missing.{Earlier, pair_cmp}
-use Rattle.jfr_renumber.specs.Numbering.{Before, RisingPairs, pair_at}
-use Rattle.jfr_renumber.proofs.ClassLaws.{pairs_at, some_at}
+-- A search among rising classes and keys.
+use Rattle.std.specs.Prelude.{◌≡◌, ◌⊎◌, ℕ, zero, suc, ◌+◌, ◌<◌, ◌≤◌, List, [], ◌∷◌, length, slice_get, Some, Contains, IfSome}
+use Rattle.std.proofs.Common.{Ordering, Less, Equal, Greater, ap, arith, refl, sym, ◌∙◌, subst, inl, inr}
+use Rattle.jfr_worklist.proofs.Members.{contains_in}
+use Rattle.jfr_chunk.proofs.AllLaws.{all_get}
+use Rattle.jfr_renumber.specs.Missing.{Earlier, IsRising, pair_cmp}
 use Rattle.jfr_renumber.proofs.NumberingLaws.{in_get}
-use Rattle.jfr_renumber.proofs.OrderLaws.{earlier, not_earlier}
-use Rattle.jfr_renumber.proofs.UsedLaws.{in_map}
+use Rattle.jfr_renumber.proofs.OrderLaws.{as_early, earlier, not_earlier}
 
-never : (t : ℕ × ℕ) → Earlier t t → ⊥
+pub never : (t : ℕ × ℕ) → Earlier t t → ⊥
 never t (inl a) = absurd (omega (arith, a))
 never t (inr a) = absurd (omega (arith, a.1))
 
@@ -24,48 +20,58 @@ on t u v (inr a) (inr b) = inr (a.0 ∙ b.0, omega (arith, a.1, b.1))
 split : (i m : ℕ) → (i < m) ⊎ ((i ≡ m) ⊎ (m < i))
 split i m = grind arith
 
-pub not_below : (ks : List UsedKey) (t : ℕ × ℕ) (m : ℕ) (o : Ordering) → RisingPairs ks → m < length ks → IfSome (slice_get ks m) (λ k. o ≡ pair_cmp (pair_at k) t) → o ≡ Less
-    → (i : ℕ) (k : UsedKey) → i < m + 1 → slice_get ks i ≡ Some k → pair_at k ≡ t → ⊥
-not_below ks t m o r w s e i k h g q =
-    let f = some_at ks m w in
-    let c : o ≡ pair_cmp (pair_at f.0) t = subst (λ z. IfSome z (λ k. o ≡ pair_cmp (pair_at k) t)) f.1 s in
-    by_place (earlier (pair_at f.0) t (sym c ∙ e)) (split i m)
-  where
-    by_place : Earlier (pair_at (some_at ks m w).0) t → (i < m) ⊎ ((i ≡ m) ⊎ (m < i)) → ⊥
-    by_place b (inl a) =
-        let f = some_at ks m w in
-        never t (on t (pair_at f.0) t (subst (λ z. Earlier z (pair_at f.0)) q (pairs_at ks i m k f.0 r a g f.1)) b)
-    by_place b (inr (inl a)) =
-        let f = some_at ks m w in
-        let same : f.0 ≡ k = (let y : slice_get ks m ≡ Some k = subst (λ z. slice_get ks z ≡ Some k) a g in let x : Some f.0 ≡ Some k = sym f.1 ∙ y in cc) in
-        never t (subst (λ z. Earlier z t) (ap pair_at same ∙ q) b)
-    by_place b (inr (inr a)) = absurd (omega (arith, a, h))
+there_at : (ps : List (ℕ × ℕ)) (i : ℕ) → i < length ps → (u : ℕ × ℕ) × (slice_get ps i ≡ Some u)
+there_at [] i h = absurd (omega (arith, h))
+there_at (u ∷ ps) zero h = (u, refl)
+there_at (u ∷ ps) (suc i) h = there_at ps i (omega (arith, h))
 
-pub not_above : (ks : List UsedKey) (t : ℕ × ℕ) (m : ℕ) (o : Ordering) → RisingPairs ks → m < length ks → IfSome (slice_get ks m) (λ k. o ≡ pair_cmp (pair_at k) t) → o ≡ Greater
-    → (i : ℕ) (k : UsedKey) → m ≤ i → slice_get ks i ≡ Some k → pair_at k ≡ t → ⊥
-not_above ks t m o r w s e i k h g q =
-    let f = some_at ks m w in
-    let c : o ≡ pair_cmp (pair_at f.0) t = subst (λ z. IfSome z (λ k. o ≡ pair_cmp (pair_at k) t)) f.1 s in
-    by_place (not_earlier (pair_at f.0) t (sym c ∙ e)) (split i m)
-  where
-    by_place : Earlier t (pair_at (some_at ks m w).0) → (i < m) ⊎ ((i ≡ m) ⊎ (m < i)) → ⊥
-    by_place b (inl a) = absurd (omega (arith, a, h))
-    by_place b (inr (inl a)) =
-        let f = some_at ks m w in
-        let same : f.0 ≡ k = (let y : slice_get ks m ≡ Some k = subst (λ z. slice_get ks z ≡ Some k) a g in let x : Some f.0 ≡ Some k = sym f.1 ∙ y in cc) in
-        never t (subst (Earlier t) (ap pair_at same ∙ q) b)
-    by_place b (inr (inr a)) =
-        let f = some_at ks m w in
-        never t (on t (pair_at f.0) t b (subst (Earlier (pair_at f.0)) q (pairs_at ks m i f.0 k r a f.1 g)))
+-- Each pair is before all later ones.
+pub rising_at : (ps : List (ℕ × ℕ)) (i j : ℕ) (t u : ℕ × ℕ) → IsRising ps → i < j → slice_get ps i ≡ Some t → slice_get ps j ≡ Some u → Earlier t u
+rising_at [] i j t u r h e f = cc
+rising_at (v ∷ ps) zero zero t u r h e f = absurd (omega (arith, h))
+rising_at (v ∷ ps) zero (suc j) t u r h e f = let q : v ≡ t = cc in subst (λ z. Earlier z u) q (all_get (Earlier v) ps j u r.0 f)
+rising_at (v ∷ ps) (suc i) zero t u r h e f = absurd (omega (arith, h))
+rising_at (v ∷ ps) (suc i) (suc j) t u r h e f = rising_at ps i j t u r.1 (omega (arith, h)) e f
 
-pub nowhere : (ks : List UsedKey) (t : ℕ × ℕ) (low high : ℕ) → high ≤ low → ((i : ℕ) (k : UsedKey) → i < low → slice_get ks i ≡ Some k → pair_at k ≡ t → ⊥) → ((i : ℕ) (k : UsedKey) → high ≤ i → slice_get ks i ≡ Some k → pair_at k ≡ t → ⊥)
-    → Contains (map pair_at ks) t → ⊥
-nowhere ks t low high h below above c =
-    let r = in_map pair_at ks t (contains_in (map pair_at ks) t c) in
-    let g = in_get ks r.0 r.1 in
-    by_place g.0 g.1 (split g.0 low)
+module _ (ps : List (ℕ × ℕ)) (t : ℕ × ℕ) (m : ℕ) (o : Ordering) (r : IsRising ps) (w : m < length ps) (s : IfSome (slice_get ps m) (λ u. o ≡ pair_cmp u t)) where
+  abbrev here : (u : ℕ × ℕ) × (slice_get ps m ≡ Some u)
+  here = there_at ps m w
+
+  compared : o ≡ pair_cmp here.0 t
+  compared = subst (λ z. IfSome z (λ u. o ≡ pair_cmp u t)) here.1 s
+
+  at_middle : (i : ℕ) → i ≡ m → slice_get ps i ≡ Some t → here.0 ≡ t
+  at_middle i a g =
+      let y : slice_get ps m ≡ Some t = subst (λ z. slice_get ps z ≡ Some t) a g in
+      let x : Some here.0 ≡ Some t = sym here.1 ∙ y in
+      cc
+
+  -- The pair isn't below a smaller one.
+  pub not_below : o ≡ Less → (i : ℕ) → i < m + 1 → slice_get ps i ≡ Some t → ⊥
+  not_below e i h g = by_place (earlier here.0 t (sym compared ∙ e)) (split i m)
+    where
+      by_place : Earlier here.0 t → (i < m) ⊎ ((i ≡ m) ⊎ (m < i)) → ⊥
+      by_place b (inl a) = never t (on t here.0 t (rising_at ps i m t here.0 r a g here.1) b)
+      by_place b (inr (inl a)) = never t (subst (λ z. Earlier z t) (at_middle i a g) b)
+      by_place b (inr (inr a)) = absurd (omega (arith, a, h))
+
+  -- It isn't above a larger one.
+  pub not_above : o ≡ Greater → (i : ℕ) → m ≤ i → slice_get ps i ≡ Some t → ⊥
+  not_above e i h g = by_place (not_earlier here.0 t (sym compared ∙ e)) (split i m)
+    where
+      by_place : Earlier t here.0 → (i < m) ⊎ ((i ≡ m) ⊎ (m < i)) → ⊥
+      by_place b (inl a) = absurd (omega (arith, a, h))
+      by_place b (inr (inl a)) = never t (subst (Earlier t) (at_middle i a g) b)
+      by_place b (inr (inr a)) = never t (on t here.0 t b (rising_at ps m i here.0 t r a here.1 g))
+
+  -- It is there.
+  pub found_at : o ≡ Equal → slice_get ps m ≡ Some t
+  found_at e = here.1 ∙ ap (λ z. Some z) (as_early here.0 t (sym compared ∙ e))
+
+pub nowhere : (ps : List (ℕ × ℕ)) (t : ℕ × ℕ) (low high : ℕ) → high ≤ low → ((i : ℕ) → i < low → slice_get ps i ≡ Some t → ⊥) → ((i : ℕ) → high ≤ i → slice_get ps i ≡ Some t → ⊥) → Contains ps t → ⊥
+nowhere ps t low high h below above c = let g = in_get ps t (contains_in ps t c) in by_place g.0 g.1 (split g.0 low)
   where
-    by_place : (i : ℕ) → slice_get ks i ≡ Some (in_map pair_at ks t (contains_in (map pair_at ks) t c)).0 → (i < low) ⊎ ((i ≡ low) ⊎ (low < i)) → ⊥
-    by_place i g (inl a) = let r = in_map pair_at ks t (contains_in (map pair_at ks) t c) in below i r.0 a g r.2
-    by_place i g (inr (inl a)) = let r = in_map pair_at ks t (contains_in (map pair_at ks) t c) in above i r.0 (omega (arith, a, h)) g r.2
-    by_place i g (inr (inr a)) = let r = in_map pair_at ks t (contains_in (map pair_at ks) t c) in above i r.0 (omega (arith, a, h)) g r.2
+    by_place : (i : ℕ) → slice_get ps i ≡ Some t → (i < low) ⊎ ((i ≡ low) ⊎ (low < i)) → ⊥
+    by_place i g (inl a) = below i a g
+    by_place i g (inr (inl a)) = above i (omega (arith, a, h)) g
+    by_place i g (inr (inr a)) = above i (omega (arith, a, h)) g

@@ -1,9 +1,9 @@
 -- The used keys in order, each with its value, and the numbers of their groups.
 use Rattle.std.specs.Prelude.{◌≡◌, ◌↔◌, ◌⊎◌, ℕ, zero, suc, IfSome, ◌<◌, ◌≤◌, Bool, true, false, not, is_some, List, [], ◌∷◌, ◌++◌, map, filter, slice_get, take, length, cond, option_to_list, if◌then◌else◌, Contains, ◌+◌, Option, Some, None}
 use Rattle.std.specs.Option.{option_map}
-use Rattle.std.specs.List.{AllByRecursion}
+use Rattle.std.specs.List.{AllByRecursion, list_any}
 use Rattle.std.proofs.Common.{ap, arith, refl, sym, ◌∙◌, subst, inl, inr, append_assoc}
-use Rattle.std.proofs.lemmas.List.{map-append, take_all}
+use Rattle.std.proofs.lemmas.List.{length-map, map-append, take_all}
 use Rattle.jfr_value.specs.Values.{Value}
 use Rattle.jfr_value.specs.Nodes.{IsNode, node_bytes}
 use Rattle.jfr_pool.specs.declared.entry.EntryAt.{EntryAt}
@@ -22,7 +22,11 @@ use Rattle.jfr_chunk.proofs.PathLaws.{Standing}
 use Rattle.jfr_renumber.specs.declared.numbering.UsedKey.{UsedKey}
 use Rattle.jfr_renumber.specs.Missing.{Earlier, IsRising, flagged, is_missing}
 use Rattle.jfr_renumber.specs.Numbering.{ArePairsOf, Before, HasValue, RisingPairs, SameValue, pair_at, value_of_key, pair_numbers}
-use Rattle.jfr_renumber.specs.Renumber.{Used, new_key, pair_of, together, used_keys}
+use Rattle.jfr_renumber.specs.Keys.{Together}
+use Rattle.jfr_renumber.specs.Numbers.{number_at, number_of}
+use Rattle.jfr_renumber.specs.Renumber.{Used, new_key, new_key_of, pair_of, together, used_keys}
+use Rattle.jfr_renumber.proofs.NumberLaws.{any_same, number_given}
+use Rattle.jfr_renumber.proofs.OrderLaws.{pair_same}
 use Rattle.jfr_renumber.proofs.LawLaws.{kept_nodes}
 use Rattle.jfr_renumber.proofs.MissingLaws.{flag_there, flagged_is, flagged_not, marked_up}
 use Rattle.jfr_renumber.proofs.TogetherLaws.{Twins, Alike, alike_together, together_alike, together_is}
@@ -135,6 +139,15 @@ reached_next p marks n old these next e keep w m g h i =
 pub all_reached : (p : Parts) (marks : List Bool) (n : ℕ) (old these : List (ℕ × ℕ)) → length marks ≤ n → these ≡ old ++ map pair_of (marked (take n marks) p.entries) → these ≡ old ++ map pair_of (marked marks p.entries)
 all_reached p marks n old these w h = h ∙ ap (λ z. old ++ map pair_of (marked z p.entries)) (take_all n marks w)
 
+map_map : {A B C : Type 0} (f : B → C) (g : A → B) (xs : List A) → map f (map g xs) ≡ map (λ x. f (g x)) xs
+map_map f g [] = refl
+map_map f g (x ∷ xs) = ap (λ z. f (g x) ∷ z) (map_map f g xs)
+
+-- The pairs have their new keys as numbers, and all others have none.
+pub record IsNumbered (p : Parts) (kept : List EventAt) (ps : List (ℕ × ℕ)) (ns : List ℕ) : Type 0 where
+  pub each : (t : ℕ × ℕ) → number_at ps ns t ≡ new_key_of p kept t
+  pub count : length ns ≡ length ps
+
 module _ (p : Parts) (a : AreParts p) (flags marks : List Bool) (m : marks ≡ reached_marks p (kept_by p flags)) where
   abbrev kept : List EventAt
   kept = kept_by p flags
@@ -166,6 +179,26 @@ module _ (p : Parts) (a : AreParts p) (flags marks : List Bool) (m : marks ≡ r
   pub numbers_by : (js ks : List UsedKey) (ns : List ℕ) → js ≡ ks → ns ≡ pair_numbers (together p) (used_keys p kept) js → ns ≡ map (λ k. new_key p kept (pair_at k)) ks
   numbers_by js ks ns j e = e ∙ (numbers_are p kept js ∙ ap (map (λ k. new_key p kept (pair_at k))) j)
 
+  -- So the numbers of the pairs are the new keys of all that is used.
+  pub all_numbered : (ms l ps qs : List (ℕ × ℕ)) (ks js : List UsedKey) (ns : List ℕ) → ms ≡ filter (is_missing p.entries) (used_keys p kept) → l ≡ ms ++ map pair_of (marked marks p.entries) → IsRising ps → ((t : ℕ × ℕ) → Contains l t → Contains ps t) → ((t : ℕ × ℕ) → Contains ps t → Contains l t)
+      → qs ≡ ps → map pair_at ks ≡ qs → AllByRecursion (HasValue p) ks → js ≡ ks
+      → ((test : ℕ × ℕ → ℕ × ℕ → Bool) (us : List (ℕ × ℕ)) → Together test → ArePairsOf test us js → ns ≡ pair_numbers test us js)
+      → IsNumbered p kept ps ns
+  all_numbered ms l ps qs ks js ns e f r on off q b v j given =
+      let are = they_are ms l ps qs ks js e f r on off q b v j in
+      let pairs : map pair_at js ≡ ps = ap (map pair_at) j ∙ (b ∙ q) in
+      let numbers : ns ≡ map (new_key p kept) ps =
+      given (together p) (used_keys p kept) (together_is p) are ∙ (numbers_are p kept js ∙ (sym (map_map (new_key p kept) pair_at js) ∙ ap (map (new_key p kept)) pairs)) in
+      let same = used_by js js are refl in
+      record {
+        each = λ t. (let x : number_at ps ns t ≡ (if list_any (λ u. pair_same u t) ps then Some (new_key p kept t) else None) = ap (λ z. number_at ps z t) numbers ∙ number_given (new_key p kept) ps t in
+            x ∙ ap (λ o. if o then Some (new_key p kept t) else None)
+            (any_same ps (used_keys p kept) t
+            (λ i. used_in p (standing p a) kept (kept_nodes p a kept (chosen_events p flags)) t ((same t).0 (in_contains (map pair_at js) t (subst (λ z. In z t) (sym pairs) i))))
+            (λ i. subst (λ z. In z t) pairs (contains_in (map pair_at js) t ((same t).1 (in_used p (standing p a) kept (kept_nodes p a kept (chosen_events p flags)) t i))))));
+        count = ap length numbers ∙ length-map ps (new_key p kept);
+      }
+
 entry_there : (es : List EntryAt) (n : ℕ) → n < length es → (e : EntryAt) × (slice_get es n ≡ Some e)
 entry_there [] n h = absurd (omega (arith, h))
 entry_there (e ∷ es) zero h = (e, refl)
@@ -178,3 +211,7 @@ next_reached p es marks n old these next t keep q w l m s h i =
     let u : t ≡ pair_of e.0 = subst (λ o. IfSome o (λ e. t ≡ pair_of e)) e.1 s in
     let len : length es ≡ length p.entries = ap length q in
     reached_next p marks n old these next e.0 keep (omega (arith, w, l, len)) (sym m) (sym (ap (λ z. slice_get z n) q) ∙ e.1) h (i ∙ ap (λ z. these ++ (if keep then z ∷ [] else [])) u)
+
+pub numbered_of : (p : Parts) (these : List EventAt) (ps : List (ℕ × ℕ)) (ns : List ℕ) → IsNumbered p these ps ns → (t : ℕ × ℕ) → number_of (record { pairs = ps; numbers = ns }) t ≡ new_key_of p these t
+unfolding number_of
+numbered_of p these ps ns n t = n.each t

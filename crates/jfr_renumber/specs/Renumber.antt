@@ -54,10 +54,14 @@ new_key p kept t = group_number (together p) (used_keys p kept) t
 abbrev pub new_key_of : Parts → List EventAt → ℕ × ℕ → Option ℕ
 new_key_of p kept t = if list_any (λ u. (u.0 == t.0) && (u.1 == t.1)) (used_keys p kept) then Some (new_key p kept t) else None
 
+-- Of these entries, the first of those that are the same by this test, each time.
+abbrev pub firsts_with : (EntryAt → EntryAt → Bool) → List EntryAt → List EntryAt
+firsts_with same [] = []
+firsts_with same (e ∷ es) = e ∷ filter (λ f. not (same e f)) (firsts_with same es)
+
 -- Of these entries, the first of each group.
 abbrev pub firsts_of : Parts → List EntryAt → List EntryAt
-firsts_of p [] = []
-firsts_of p (e ∷ es) = e ∷ filter (λ f. not (together p (pair_of e) (pair_of f))) (firsts_of p es)
+firsts_of p es = firsts_with (λ e f. together p (pair_of e) (pair_of f)) es
 
 -- The entries of the output: of those that remain, the first of each group.
 unfoldable pub firsts : Parts → List EventAt → List EntryAt

@@ -16,7 +16,15 @@ use jfr_pool::{EntryAt, Link};
 use jfr_value::{Node, Steps};
 use std::sync::ledger::Ledger;
 
-// Writes an entry: its new key, and its value with new keys.
+/// A chained checkpoint of the output: the chunk's one, its delta, and the entries that are left of it.
+#[derive(Clone, Copy, Debug)]
+pub struct OutputCheckpoint<'e> {
+    pub link: Link,
+    pub delta: u64,
+    pub entries: &'e [EntryAt],
+}
+
+// Appends an entry: its new key, and its value with new keys.
 fn put_entry<N: NewKeys, L: Ledger>(
     out: &mut Vec<u8>,
     chunk: &Chunk<'_>,
@@ -38,7 +46,7 @@ fn put_entry<N: NewKeys, L: Ledger>(
     put_rekeyed(out, chunk.classes(), node, new, steps)
 }
 
-// Writes the entries of a pool.
+// Appends the entries of a pool.
 fn put_entries<N: NewKeys, L: Ledger>(
     out: &mut Vec<u8>,
     chunk: &Chunk<'_>,
@@ -55,7 +63,7 @@ fn put_entries<N: NewKeys, L: Ledger>(
     Ok(())
 }
 
-// Writes the pools of a checkpoint that have one of these entries.
+// Appends the pools of a checkpoint that have one of these entries.
 fn put_pools<N: NewKeys, L: Ledger>(
     out: &mut Vec<u8>,
     chunk: &Chunk<'_>,
@@ -77,29 +85,28 @@ fn put_pools<N: NewKeys, L: Ledger>(
     Ok(())
 }
 
-/// Writes a checkpoint with this delta and these entries. Its size has as many bytes as before.
+/// Appends a checkpoint with its delta and its entries. Its size has as many bytes as before.
 pub fn put_checkpoint<N: NewKeys, L: Ledger>(
     out: &mut Vec<u8>,
     chunk: &Chunk<'_>,
-    link: &Link,
-    delta: u64,
-    entries: &[EntryAt],
+    checkpoint: OutputCheckpoint<'_>,
     new: &N,
     steps: &mut Steps<L>,
 ) -> Result<(), NoMemory>
-    requires link { LinkStands chunk.now.bytes link.now }
-    requires stand { AllByRecursion (EntryStands chunk.now.bytes chunk.now.classes) entries.now }
-    requires room { (link.now.frame.type_at - link.now.frame.at) + length (checkpoint_tail (N.keys new.now) chunk.now link.now delta (by_pool entries.now)) ≤ link.now.frame.size }
-    ensures ok { OnOk result (out.new.items ≡ out.old.items ++ sized (link.now.frame.type_at - link.now.frame.at) (checkpoint_tail (N.keys new.now) chunk.now link.now delta (by_pool entries.now))) }
+    requires link { LinkStands chunk.now.bytes checkpoint.link }
+    requires stand { AllByRecursion (EntryStands chunk.now.bytes chunk.now.classes) checkpoint.entries.now }
+    requires room { (checkpoint.link.frame.type_at - checkpoint.link.frame.at) + length (checkpoint_tail (N.keys new.now) chunk.now checkpoint.link checkpoint.delta (by_pool checkpoint.entries.now)) ≤ checkpoint.link.frame.size }
+    ensures ok { OnOk result (out.new.items ≡ out.old.items ++ sized (checkpoint.entry.link.frame.type_at - checkpoint.entry.link.frame.at) (checkpoint_tail (N.keys new.now) chunk.now checkpoint.entry.link checkpoint.entry.delta (by_pool checkpoint.entry.entries.now))) }
 {
     let bytes = chunk.bytes();
+    let link = checkpoint.link;
     let frame = link.frame;
     let from = out.len();
     out.extend_from_slice(&bytes[frame.at..link.delta_at])?;
-    put_integer(out, delta)?;
+    put_integer(out, checkpoint.delta)?;
     out.extend_from_slice(&bytes[link.delta_end..link.delta_end + 1])?;
-    put_integer(out, pool_count(entries) as u64)?;
-    put_pools(out, chunk, entries, new, steps)?;
+    put_integer(out, pool_count(checkpoint.entries) as u64)?;
+    put_pools(out, chunk, checkpoint.entries, new, steps)?;
     put_size(out, from, frame.type_at - frame.at);
     Ok(())
 }

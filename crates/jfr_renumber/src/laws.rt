@@ -12,7 +12,7 @@ ghost use Rattle.jfr_chunk.specs.Parts.{AreParts, EventAt, Parts};
 ghost use Rattle.jfr_renumber.specs.Laws.{AgreeOnUsed, KeepsMeaning, RenamedRecords};
 ghost use Rattle.jfr_renumber.specs.Meaning.{AreNewKeys, AreRenamed, IsRenumbered, RenamedMeaning};
 ghost use Rattle.jfr_renumber.specs.Rekeyed.{moved};
-ghost use Rattle.jfr_renumber.specs.Renumber.{Used, firsts, firsts_of, new_key, pair_of, together};
+ghost use Rattle.jfr_renumber.specs.Renumber.{Used, firsts, firsts_with, new_key};
 
 /// A value with new keys is read by its format. It has the same shape and the same leaves, except for the
 /// keys.
@@ -44,9 +44,9 @@ pub fn renumbered_means_the_same()
     ensures { (p : Parts) (flags : List Bool) → Whole p.bytes → AreParts p → IsRenumbered p (kept_by p flags) }
 {}
 
-/// The first entries of groups, one entry after another: an entry is added unless one before it is together
-/// with it.
+/// The first entries, one entry after another: an entry is added unless one before it is the same by the
+/// test.
 #[tactic(auto, using(crate::proofs::FirstsLaws::first_next))]
 pub fn firsts_one_by_one()
-    ensures { (p : Parts) (es : List EntryAt) (e : EntryAt) → firsts_of p (es ++ e ∷ []) ≡ firsts_of p es ++ (if list_any (λ f. together p (pair_of f) (pair_of e)) es then [] else e ∷ []) }
+    ensures { (same : EntryAt → EntryAt → Bool) (es : List EntryAt) (e : EntryAt) → firsts_with same (es ++ e ∷ []) ≡ firsts_with same es ++ (if list_any (λ f. same f e) es then [] else e ∷ []) }
 {}

@@ -8,10 +8,16 @@
 
 pub mod checkpoints;
 pub mod finding;
-pub mod laws;
+pub mod firsts;
+mod laws;
 pub mod numbered;
 pub mod numbering;
 pub mod records;
 pub mod rewriting;
 pub mod used;
 pub mod values;
+
+pub use laws::{
+    firsts_one_by_one, keys_are_numbered, rekeyed_values_are_read, renamed_paths,
+    renumbered_means_the_same,
+};

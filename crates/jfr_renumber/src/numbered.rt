@@ -1,12 +1,13 @@
 //! The new keys of all that is used.
-ghost use Rattle.std.specs.Prelude.{◌≡◌, ◌↔◌, ℕ, ◌++◌, None, length, map, take, ◌<◌, [], ◌∷◌, slice_get, if◌then◌else◌, Contains, IfOk, IfSome, OnOk};
+ghost use Rattle.std.specs.Prelude.{◌≡◌, ℕ, ◌++◌, ◌<◌, [], ◌∷◌, length, map, slice_get, if◌then◌else◌, IfOk, IfSome, OnOk};
 ghost use Rattle.jfr_chunk.specs.Parts.{events_of};
 ghost use Rattle.jfr_chunk.specs.Reach.{kept_by, marked, reached_marks};
-ghost use Rattle.jfr_renumber.specs.Numbering.{RisingPairs, pair_at};
-ghost use Rattle.jfr_renumber.specs.Renumber.{Used, new_key, pair_of};
+ghost use Rattle.jfr_renumber.specs.Numbers.{number_of, numbers_of};
+ghost use Rattle.jfr_renumber.specs.Renumber.{new_key_of, pair_of};
 
 use crate::finding::find;
-use crate::numbering::{UsedKey, number_all};
+use crate::numbering::number_all;
+use crate::rewriting::NewKeys;
 use crate::used::{missing_keys, put_in_order};
 use crate::values::with_values;
 use jfr_base::NoMemory;
@@ -15,49 +16,69 @@ use jfr_pool::EntryAt;
 use jfr_reach::Marks;
 use jfr_value::Steps;
 use std::alloc::Global;
+use std::marker::Model;
 use std::sync::ledger::Ledger;
 
-/// The classes and keys that are used, in order, and the new key of each.
+/// The new keys of all classes and keys that are used.
 #[derive(Drop)]
-pub struct Numbered<'a> {
-    pub keys: Vec<UsedKey<'a>>,
-    pub numbers: Vec<u64>,
+pub struct NumberedKeys {
+    pairs: Vec<(u64, u64)>,
+    numbers: Vec<u64>,
 }
 
-/// Gives new keys to all that the kept events, and the entries that they reach, refer to.
-pub fn number_used<'a, L: Ledger>(
-    alloc: Global,
-    chunk: &Chunk<'a>,
-    kept: &Kept,
-    marks: &Marks,
-    steps: &mut Steps<L>,
-) -> Result<Numbered<'a>, NoMemory>
-    requires kept { length kept.now ≡ length (events_of chunk.now) }
-    requires marks { marks.now ≡ reached_marks chunk.now (kept_by chunk.now kept.now) }
-    requires size { length marks.now ≡ length chunk.now.entries }
-    ensures used { IfOk result (λ n. (t : ℕ × ℕ) → Contains (map pair_at n.keys.items) t ↔ Used chunk.now (kept_by chunk.now kept.now) t) }
-    ensures rising { IfOk result (λ n. RisingPairs n.keys.items) }
-    ensures numbers { IfOk result (λ n. n.numbers.items ≡ map (λ k. new_key chunk.now (kept_by chunk.now kept.now) (pair_at k)) n.keys.items) }
-{
-    chunk.parts_stand();
-    let mut pairs = missing_keys(alloc, chunk, kept, marks, steps)?;
-    push_reached(&mut pairs, chunk, marks)?;
-    put_in_order(&mut pairs);
-    let keys = with_values(alloc, chunk, &pairs)?;
-    let numbers = number_all(alloc, &keys)?;
-    Ok(Numbered { keys, numbers })
+impl Model for NumberedKeys {
+    ghost use Rattle.std.specs.Prelude.{◌≡◌, length};
+    ghost use Rattle.jfr_renumber.specs.Missing.{IsRising};
+    ghost use Rattle.jfr_renumber.specs.Numbers.{NumberedPairs};
+
+    ghost Value = { NumberedPairs };
+
+    ghost view = { λ k. record { pairs = k.pairs.items; numbers = k.numbers.items } };
+
+    ghost invariant = { λ k. IsRising k.pairs.items × (length k.numbers.items ≡ length k.pairs.items) };
 }
 
-/// The new key of a class and a key; `None` exactly if they aren't used. Allocates nothing.
-pub fn new_key_of(numbered: &Numbered<'_>, class: u64, key: u64) -> Option<u64>
-    requires rising { RisingPairs numbered.now.keys.items }
-    requires each { length numbered.now.numbers.items ≡ length numbered.now.keys.items }
-    ensures some { IfSome result (λ n. (new : ℕ × ℕ → ℕ) → numbered.now.numbers.items ≡ map (λ k. new (pair_at k)) numbered.now.keys.items → n ≡ new (class, key)) }
-    ensures used { IfSome result (λ n. Contains (map pair_at numbered.now.keys.items) (class, key)) }
-    ensures none { result ≡ None → Contains (map pair_at numbered.now.keys.items) (class, key) → ⊥ }
-{
-    let at = find(&numbered.keys, class, key)?;
-    Some(numbered.numbers[at])
+impl NumberedKeys {
+    /// Gives new keys to all that the kept events, and the entries that they reach, refer to.
+    pub fn make<L: Ledger>(
+        alloc: Global,
+        chunk: &Chunk<'_>,
+        kept: &Kept,
+        marks: &Marks,
+        steps: &mut Steps<L>,
+    ) -> Result<NumberedKeys, NoMemory>
+        requires kept { length kept.now ≡ length (events_of chunk.now) }
+        requires marks { marks.now ≡ reached_marks chunk.now (kept_by chunk.now kept.now) }
+        requires size { length marks.now ≡ length chunk.now.entries }
+        ensures { IfOk result (λ k. (t : ℕ × ℕ) → number_of k t ≡ new_key_of chunk.now (kept_by chunk.now kept.now) t) }
+    {
+        chunk.parts_stand();
+        let mut pairs = missing_keys(alloc, chunk, kept, marks, steps)?;
+        push_reached(&mut pairs, chunk, marks)?;
+        put_in_order(&mut pairs);
+        let keys = with_values(alloc, chunk, &pairs)?;
+        let numbers = number_all(alloc, &keys)?;
+        Ok(NumberedKeys { pairs, numbers })
+    }
+
+    /// The new key of a class and a key; `None` exactly if they aren't used. Allocates nothing.
+    pub fn get(&self, class: u64, key: u64) -> Option<u64>
+        ensures { result ≡ number_of self.now (class, key) }
+    {
+        let at = find(&self.pairs, class, key)?;
+        Some(self.numbers[at])
+    }
+}
+
+impl NewKeys for NumberedKeys {
+    ghost use Rattle.jfr_renumber.specs.Numbers.{numbers_of};
+
+    ghost keys = { numbers_of };
+
+    /// The new key of a class and a key, or 0 if they aren't used.
+    fn new_key(&self, class: u64, key: u64) -> u64 {
+        self.get(class, key).unwrap_or(0)
+    }
 }
 
 // Adds the classes and keys of the entries that are reached.

@@ -42,7 +42,7 @@ pub fn put_event<N: NewKeys, L: Ledger>(
 }
 
 /// Writes the number of bytes from this offset on into the first `count` of them.
-pub(crate) fn put_size(out: &mut Vec<u8>, from: usize, count: usize)
+pub fn put_size(out: &mut Vec<u8>, from: usize, count: usize)
     requires count { (1 ≤ count) × (count ≤ 9) }
     requires within { from + count ≤ length out.old.items }
     requires fits { FitsIn (length out.old.items - from) count }

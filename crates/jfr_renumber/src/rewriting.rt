@@ -77,7 +77,7 @@ fn put_string<N: NewKeys>(out: &mut Vec<u8>, leaf: Leaf<'_>, new: &N) -> Result<
 }
 
 /// Appends an integer in its shortest spelling.
-pub(crate) fn put_integer(out: &mut Vec<u8>, value: u64) -> Result<(), AllocError>
+pub fn put_integer(out: &mut Vec<u8>, value: u64) -> Result<(), AllocError>
     ensures ok { OnOk result (out.new.items ≡ out.old.items ++ spell value) }
 {
     let mut spelled = [0; 9];
