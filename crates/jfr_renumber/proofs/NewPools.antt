@@ -41,7 +41,7 @@ flat_map_map : {X Y A : Type 0} (f : X → Y) (g : Y → List A) (xs : List X) �
 flat_map_map f g [] = refl
 flat_map_map f g (x ∷ xs) = ap (λ z. g (f x) ++ z) (flat_map_map f g xs)
 
-all_parts : {X : Type 0} (P : X → Type 0) (xs ys : List X) → AllByRecursion P (xs ++ ys) → AllByRecursion P xs × AllByRecursion P ys
+pub all_parts : {X : Type 0} (P : X → Type 0) (xs ys : List X) → AllByRecursion P (xs ++ ys) → AllByRecursion P xs × AllByRecursion P ys
 all_parts P [] ys a = (tt, a)
 all_parts P (x ∷ xs) ys a = let i = all_parts P xs ys a.1 in ((a.0, i.0), i.1)
 

@@ -155,11 +155,11 @@ module _ (p : Parts) (s : Standing p) (kept : List EventAt) (nodes : (e : EventA
       by_node : (n : NodeAt) × In (nodes_of kept ++ map entry_node (remain p kept)) n × In (targets p.classes p.bytes n) t → Used p kept t
       by_node (n, k, j) = by_case n j (in_cases (nodes_of kept) (map entry_node (remain p kept)) n k)
 
-  event_used : (e : EventAt) (t : ℕ × ℕ) → In kept e → In (targets p.classes p.bytes e.node) t → In (used_keys p kept) t
+  pub event_used : (e : EventAt) (t : ℕ × ℕ) → In kept e → In (targets p.classes p.bytes e.node) t → In (used_keys p kept) t
   unfolding used_keys
   event_used e t i j = node_in p (nodes_of kept ++ map entry_node (remain p kept)) e.node t (in_left (nodes_of kept) (map entry_node (remain p kept)) e.node (event_in kept e i)) j
 
-  entry_used : (e : EntryAt) (t : ℕ × ℕ) → In (remain p kept) e → In (targets p.classes p.bytes (entry_node e)) t → In (used_keys p kept) t
+  pub entry_used : (e : EntryAt) (t : ℕ × ℕ) → In (remain p kept) e → In (targets p.classes p.bytes (entry_node e)) t → In (used_keys p kept) t
   unfolding used_keys
   entry_used e t i j =
       node_in p (nodes_of kept ++ map entry_node (remain p kept)) (entry_node e) t (in_right (nodes_of kept) (map entry_node (remain p kept)) (entry_node e) (map_in entry_node (remain p kept) e i)) j

@@ -8,11 +8,12 @@ ghost use Rattle.jfr_pool.specs.Entries.{in_force};
 ghost use Rattle.jfr_header.specs.Fronts.{Whole};
 ghost use Rattle.jfr_chunk.specs.Laws.{AreEvents};
 ghost use Rattle.jfr_chunk.specs.Reach.{kept_by};
+ghost use Rattle.jfr_chunk.specs.Scrub.{output_records};
 ghost use Rattle.jfr_chunk.specs.Parts.{AreParts, EventAt, Parts};
 ghost use Rattle.jfr_renumber.specs.Laws.{AgreeOnUsed, KeepsMeaning, RenamedRecords};
 ghost use Rattle.jfr_renumber.specs.Meaning.{AreNewKeys, AreRenamed, IsRenumbered, RenamedMeaning};
 ghost use Rattle.jfr_renumber.specs.Rekeyed.{moved};
-ghost use Rattle.jfr_renumber.specs.Renumber.{Used, firsts, firsts_with, new_key};
+ghost use Rattle.jfr_renumber.specs.Renumber.{Used, assembled_by, firsts, firsts_with, new_bytes, new_key, renumber_of};
 
 /// A value with new keys is read by its format. It has the same shape and the same leaves, except for the
 /// keys.
@@ -49,4 +50,10 @@ pub fn renumbered_means_the_same()
 #[tactic(auto, using(crate::proofs::FirstsLaws::first_next))]
 pub fn firsts_one_by_one()
     ensures { (same : EntryAt → EntryAt → Bool) (es : List EntryAt) (e : EntryAt) → firsts_with same (es ++ e ∷ []) ≡ firsts_with same es ++ (if list_any (λ f. same f e) es then [] else e ∷ []) }
+{}
+
+/// Keys that agree with the new ones on all that is used give the same output.
+#[tactic(auto, using(crate::proofs::AgreeLaws::output_same))]
+pub fn only_used_keys_matter()
+    ensures { (p : Parts) (flags : List Bool) (new : ℕ × ℕ → ℕ) → AreParts p → ((t : ℕ × ℕ) → Used p (kept_by p flags) t → new t ≡ new_key p (kept_by p flags) t) → assembled_by p (new_bytes new p (kept_by p flags) (firsts p (kept_by p flags))) (output_records p (kept_by p flags)) ≡ renumber_of p (kept_by p flags) }
 {}

@@ -13,11 +13,13 @@ mod laws;
 pub mod numbered;
 pub mod numbering;
 pub mod records;
+mod renumberer;
 pub mod rewriting;
 pub mod used;
 pub mod values;
 
 pub use laws::{
-    firsts_one_by_one, keys_are_numbered, rekeyed_values_are_read, renamed_paths,
-    renumbered_means_the_same,
+    firsts_one_by_one, keys_are_numbered, only_used_keys_matter, rekeyed_values_are_read,
+    renamed_paths, renumbered_means_the_same,
 };
+pub use renumberer::Renumberer;
