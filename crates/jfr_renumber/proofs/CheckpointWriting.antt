@@ -24,7 +24,7 @@ use Rattle.jfr_renumber.proofs.EventWriting.{front_taken, both_dropped}
 use Rattle.jfr_renumber.proofs.PoolRuns.{by_first_of, rest_smaller}
 use Rattle.jfr_renumber.proofs.Widths.{size_fits, size_width}
 
--- An entry that stands is a node.
+-- An entry is a node.
 pub entry_is : (k : Classes) (c : List ℕ) (e : EntryAt) → (s : EntryStands c k e) → IsNode k c (entry_node e) s.value
 entry_is k c e s =
     let o : e.value_at ≤ e.end = s.order in

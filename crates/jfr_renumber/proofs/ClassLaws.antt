@@ -1,4 +1,4 @@
--- The used keys of a class stand one behind another, and each class has its numbers.
+-- The used keys of a class are next to each other, and each class has its own numbers.
 use Rattle.std.specs.Prelude.{◌≡◌, ◌↔◌, ◌⊎◌, ℕ, zero, suc, ◌+◌, ◌-◌, ◌≤◌, ◌<◌, Bool, true, List, [], ◌∷◌, ◌++◌, length, map, take, drop, slice_get, slice_range, Option, Some, None, Contains}
 use Rattle.std.proofs.Common.{ap, arith, refl, sym, ◌∙◌, subst, inl, inr}
 use Rattle.std.proofs.lemmas.List.{map-append, take_all}
@@ -50,7 +50,7 @@ take_range (x ∷ xs) (suc from) (suc to) h =
     let e : to - from ≡ suc to - suc from = omega arith in
     ap (λ z. x ∷ z) (take_range xs from to (omega (arith, h))) ∙ ap (λ n. x ∷ (take from xs ++ take n (drop from xs))) e
 
--- Of rising pairs, each stands before all later ones.
+-- Of rising pairs, each is before all later ones.
 before_on : (k l m : UsedKey) → Before k l → Before l m → Before k m
 before_on k l m (inl a) (inl b) = inl (omega (arith, a, b))
 before_on k l m (inl a) (inr b) = inl (omega (arith, a, b.0))
@@ -81,7 +81,7 @@ before_key : (k l : UsedKey) → k.class ≡ l.class → Before k l → k.key < 
 before_key k l e (inl a) = absurd (omega (arith, a, e))
 before_key k l e (inr a) = a.1
 
--- Keys that rise one by one rise.
+-- Keys rise if each is below the next.
 rising_by : (ks : List UsedKey) → ((i : ℕ) (k l : UsedKey) → slice_get ks i ≡ Some k → slice_get ks (suc i) ≡ Some l → k.key < l.key) → RisingKeys ks
 rising_by [] f = tt
 rising_by (k ∷ []) f = tt
@@ -93,11 +93,11 @@ some_at [] i h = absurd (omega (arith, h))
 some_at (k ∷ ks) zero h = (k, refl)
 some_at (k ∷ ks) (suc i) h = some_at ks i (omega (arith, h))
 
--- No class stands on both sides of a place.
+-- No class is on both sides of a place.
 abbrev pub Cut : List UsedKey → ℕ → Type 0
 Cut ks at = (i j : ℕ) (k l : UsedKey) → i < at → at ≤ j → slice_get ks i ≡ Some k → slice_get ks j ≡ Some l → k.class ≡ l.class → ⊥
 
--- The keys of a class that begins at one place and ends at another.
+-- The keys of a class lie between these two places.
 pub record ClassStands (ks : List UsedKey) (from to : ℕ) : Type 0 where
   pub order : from < to
   pub within : to ≤ length ks

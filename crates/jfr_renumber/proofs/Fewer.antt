@@ -200,7 +200,7 @@ module _ (p : Parts) (sound : Sound p.classes) (new : ℕ × ℕ → ℕ) (most 
           differ : number ≡ i → (number == i) ≡ false → ⊥
           differ q e = let f : (number == i) ≡ true = is_eq number i q in cc
 
-  -- The entries of groups that stand.
+  -- The entries of these groups.
   pub entries_stand : (gs : List Group) → AllByRecursion (GroupStands p.bytes p.classes) gs → AllByRecursion (EntryStands p.bytes p.classes) (flat_map (λ g. g.entries) gs)
   entries_stand [] a = tt
   entries_stand (g ∷ gs) a = join (entries_stand gs a.1) g.entries a.0.1
@@ -209,7 +209,7 @@ module _ (p : Parts) (sound : Sound p.classes) (new : ℕ × ℕ → ℕ) (most 
       join r [] b = r
       join r (e ∷ es) b = (b.0.0, join r es b.1)
 
-  -- A delta is no longer, where neither or both have an older checkpoint.
+  -- A delta is no longer if neither or both have an older checkpoint.
   delta_short : (at other : ℕ) (older elder : Option ℕ) → is_some older ≡ is_some elder → other < 2 ^ 63 → length (spell (distance at older)) ≤ length (spell (distance other elder))
   delta_short at other None None e h = omega arith
   delta_short at other None (Some y) e h = cc

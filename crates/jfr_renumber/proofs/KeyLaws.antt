@@ -43,14 +43,14 @@ module _ (test : ℕ → Bool) where
   unfolding count_below
   count_this m e = ap (λ b. if b then suc (count_below m test) else count_below m test) e
 
-  -- One that passes is counted behind it.
+  -- One that passes is counted after it.
   pub count_passes : (m n : ℕ) → test m ≡ true → m < n → count_below m test < count_below n test
   count_passes m n e h =
       let a : count_below (suc m) test ≡ suc (count_below m test) = count_this m e in
       let b : count_below (suc m) test ≤ count_below n test = count_grows (suc m) n (omega arith) in
       omega arith
 
-  -- Where none passes from one number up to another, there are as many below both.
+  -- If none passes from one number up to another, as many pass below both.
   pub count_flat : (m n : ℕ) → m ≤ n → ((x : ℕ) → m ≤ x → x < n → test x ≡ false) → count_below n test ≡ count_below m test
   unfolding count_below
   count_flat m zero h f = let e : m ≡ 0 = omega arith in ap (λ z. count_below z test) (sym e)

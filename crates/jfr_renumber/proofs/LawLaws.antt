@@ -95,6 +95,6 @@ module _ (p : Parts) (a : AreParts p) (kept : List EventAt) (are : AreEvents p k
         (events_paired kept others kept_event (λ f i. event_is q b f (contains_in (events_of q) f (All-contains (Contains (events_of q)) others f those (in_contains others f i)))) records)
         (entries_paired p q (standing p a) (standing q b) new kept kept_nodes keys entries (over_used agree))
 
-    -- What is used has an entry in force exactly where its new key has one.
+    -- What is used has an entry in force exactly if its new key has one.
     pub same_missing : AreNewKeys p kept new → AgreeOnUsed p q kept → AreRenamed new p q (firsts p kept) q.entries → (t : ℕ × ℕ) → Used p kept t → IsSome (in_force p.entries t) ↔ IsSome (in_force q.entries (moved new t))
     same_missing keys agree entries t u = both_there _ (in_force p.entries t) (in_force q.entries (moved new t)) (entries_paired p q (standing p a) (standing q b) new kept kept_nodes keys entries (over_used agree) t u)

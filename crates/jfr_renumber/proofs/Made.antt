@@ -1,4 +1,4 @@
--- Output records that are written one behind another, by whatever bytes: where each stands, all do.
+-- Output records that are written one after another, given the bytes of each: if each is read back, all are.
 use Rattle.std.specs.Prelude.{◌≡◌, ℕ, ◌+◌, ◌^◌, ◌<◌, ◌≤◌, ◌==◌, Bool, true, false, List, [], ◌∷◌, ◌++◌, length, map, filter, Option, Some, None, is_some, Contains, ⊤}
 use Rattle.std.specs.List.{flat_map, AllByRecursion, cons_option, enumerate_from}
 use Rattle.std.proofs.Common.{ap, arith, refl, sym, ◌∙◌, subst, inl, inr, append_assoc, length-append}
@@ -142,13 +142,13 @@ module _ (k : Classes) (bytes : OutputRecord → ℕ → Option ℕ → List ℕ
       none x xs e = cc
 
   module _ (b : List ℕ) where
-    -- A checkpoint stands as a record, a link and its pools.
+    -- A checkpoint is read as a record, a link and its pools.
     pub record ChainedStands (i : ℕ) (l : Link) (at : ℕ) (older : Option ℕ) : Type 0 where
       pub record_stands : IsRecord b (link_at at older i l).frame
       pub head : Reads head_format b (record_end (link_at at older i l).frame) (link_at at older i l).frame.body (record { at = (link_at at older i l).delta_at; end = (link_at at older i l).delta_end; value = (link_at at older i l).delta }) (link_at at older i l).delta_end
       pub pools_stand : Reads (checkpoint_format k) b (record_end (link_at at older i l).frame) (link_at at older i l).frame.body (pools at older i l) (record_end (link_at at older i l).frame)
 
-    -- An output record stands where its bytes do.
+    -- An output record is read where its bytes are.
     abbrev pub Stands : OutputRecord → Type 0
     Stands (Whole r) = (at : ℕ) (older : Option ℕ) → Holds b (length b) at (bytes (Whole r) at older) → IsRecord b (moved_frame at r (length (bytes (Whole r) at older)))
     Stands (Rebuilt r x) = (at : ℕ) (older : Option ℕ) → Holds b (length b) at (bytes (Rebuilt r x) at older) → IsRecord b (moved_frame at (own_frame x) (length (bytes (Rebuilt r x) at older)))

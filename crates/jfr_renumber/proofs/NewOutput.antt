@@ -1,4 +1,4 @@
--- What is written with new keys stands: each record, and so all of them.
+-- What is written with new keys is read back: each record, and so all of them.
 use Rattle.std.specs.Prelude.{◌≡◌, ℕ, ◌+◌, ◌-◌, ◌^◌, ◌<◌, ◌≤◌, ◌==◌, ◌&&◌, ◌||◌, Bool, true, false, List, [], ◌∷◌, ◌++◌, length, map, filter, find, slice_range, Option, Some, None, is_some, cond, if◌then◌else◌, ⊤}
 use Rattle.std.specs.Int.{cast_signed, w64}
 use Rattle.std.specs.List.{flat_map, AllByRecursion, cons_option, list_any, enumerate_from}
@@ -188,7 +188,7 @@ module _ (p : Parts) (a : AreParts p) (flags : List Bool) (n : Anew p a (kept_by
       by_any true e h = cc
       by_any false e h = h
 
-  -- It stands, and has its fields if it is an event.
+  -- It is a record, and has its fields if it is an event.
   record WholeStands (b : List ℕ) (r : Framed) (at : ℕ) (size : ℕ) : Type 0 where
     stands : IsRecord b (moved_frame at r size)
     fields : is_event_class m r.type_id ≡ true → HasFields b m (moved_frame at r size)
@@ -216,7 +216,7 @@ module _ (p : Parts) (a : AreParts p) (flags : List Bool) (n : Anew p a (kept_by
       subst (λ (z : Framed). length x ≤ z.size) f.1 st.short
   whole_short r s None q = let l = record_length p.bytes r s in omega arith
 
-  -- All that is written stands, and takes no more room than before.
+  -- All that is written is read back, and takes no more room than before.
   abbrev pub ss : List OutputRecord
   ss = output_records p kept
 

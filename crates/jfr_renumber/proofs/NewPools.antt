@@ -52,7 +52,7 @@ module _ (p : Parts) (sound : Sound p.classes) (new : ℕ × ℕ → ℕ) (most 
   abbrev pub spelled_pool : Group → SpelledPool
   spelled_pool g = record { class = g.class; entries = map spelled g.entries }
 
-  -- An entry that stands is a node.
+  -- An entry is a node.
   entry_is : (e : EntryAt) → (s : EntryStands p.bytes p.classes e) → IsNode p.classes p.bytes (entry_node e) s.value
   entry_is e s =
       let o : e.value_at ≤ e.end = s.order in
@@ -166,7 +166,7 @@ module _ (p : Parts) (sound : Sound p.classes) (new : ℕ × ℕ → ℕ) (most 
       let y = groups_short gs a.1 in
       omega (arith, length-append (bytes_of_pool (spelled_pool g)) (flat_map bytes_of_pool (map spelled_pool gs)), length-append (old.group_bytes p.bytes g) (flat_map (old.group_bytes p.bytes) gs))
 
-  -- A checkpoint behind its size.
+  -- A checkpoint after its size.
   pub tail_spelled : (l : Link) (delta : ℕ) (gs : List Group) → AllByRecursion (GroupStands p.bytes p.classes) gs → old.sized (l.frame.type_at - l.frame.at) (checkpoint_tail new p l delta gs) ≡ whole_of p.bytes l delta (map spelled_pool gs)
   tail_spelled l delta gs a =
       let tail : ℕ → List ℕ → List ℕ = λ n items. slice_range p.bytes l.frame.type_at l.frame.body ++ (slice_range p.bytes l.frame.body l.delta_at ++ (spell delta ++ (slice_range p.bytes l.delta_end (l.delta_end + 1) ++ (spell n ++ items)))) in

@@ -48,7 +48,7 @@ rising_at (m ∷ ks) zero (suc j) k l r h e f = let q : m ≡ k = cc in subst (�
 rising_at (m ∷ ks) (suc i) zero k l r h e f = absurd (omega arith)
 rising_at (m ∷ ks) (suc i) (suc j) k l r h e f = rising_at ks i j k l (rising_tail m ks r) (omega arith) e f
 
--- A smaller key stands before.
+-- A smaller key comes before.
 stands_before : (ks : List UsedKey) (i j : ℕ) (k l : UsedKey) → RisingKeys ks → k.key < l.key → slice_get ks i ≡ Some k → slice_get ks j ≡ Some l → i < j
 stands_before ks i j k l r h e f = by_order (order i j)
   where
@@ -109,7 +109,7 @@ module _ (together : ℕ × ℕ → ℕ × ℕ → Bool) (same : Together togeth
       by_key : (j : ℕ) × (m : UsedKey) × (slice_get ks j ≡ Some m) × (m.key ≡ x) → ⊥
       by_key (j, m, g, q) = let d = stands_before ks j 0 m l are.rising (omega arith) g f in omega arith
 
-  -- What holds when so many keys have their numbers.
+  -- What holds when this many keys have their numbers.
   pub record SoFar (i : ℕ) (firsts : Firsts) (next : ℕ) (numbers : List ℕ) : Type 0 where
     pub numbers_are : numbers ≡ map number (take i ks)
     pub next_is : (k : UsedKey) → slice_get ks i ≡ Some k → next ≡ count_below k.key test
@@ -132,7 +132,7 @@ module _ (together : ℕ × ℕ → ℕ × ℕ → Bool) (same : Together togeth
       let o = rising_at ks j i l k are.rising h f e in
       (sym n, false_if (test k.key) (λ u. (let z : smallest together us (class, k.key) ≡ k.key = exact_unsigned_eq (smallest together us (class, k.key)) k.key (second_so _ _ u) in omega arith)))
 
-  -- A key of which no earlier one has the value begins a group, and its number is how many begin below it.
+  -- A key whose value no earlier one has begins a group, and its number is the number of groups that begin below it.
   pub number_new : (i : ℕ) (k : UsedKey) → slice_get ks i ≡ Some k → ((j : ℕ) (l : UsedKey) (q : List ℕ) → j < i → slice_get ks j ≡ Some l → value_of_key l ≡ Some q → value_of_key k ≡ Some q → ⊥)
       → (smallest together us (class, k.key) ≡ k.key)
   number_new i k e none =
@@ -171,7 +171,7 @@ module _ (together : ℕ × ℕ → ℕ × ℕ → Bool) (same : Together togeth
   unfolding group_number
   new_begins i k e q = (subst (λ z. test z ≡ true) q (group_begins together same us (class, k.key) (used_member i k e)), ap (λ m. count_below m test) q)
 
-  -- Behind a key, up to the next.
+  -- After a key, up to the next.
   behind : (i : ℕ) (k l : UsedKey) (x : ℕ) → slice_get ks i ≡ Some k → slice_get ks (i + 1) ≡ Some l → k.key < x → x < l.key → test x ≡ false
   behind i k l x e f a b = let q : i + 1 ≡ suc i = omega arith in none_between i k l x e (subst (λ z. slice_get ks z ≡ Some l) q f) a b
 

@@ -1,4 +1,4 @@
--- The parts of what is written with new keys stand in it.
+-- The parts of the output with new keys are those of its bytes.
 use Rattle.std.specs.Prelude.{◌≡◌, ℕ, ◌+◌, ◌-◌, ◌^◌, ◌<◌, ◌≤◌, ◌==◌, ◌&&◌, ◌||◌, Bool, true, false, List, [], ◌∷◌, ◌++◌, length, map, filter, find, reverse, slice_range, Option, Some, None, Ok, Err, is_some, cond, Contains, All}
 use Rattle.std.specs.List.{flat_map, AllByRecursion, enumerate_from, filter_map}
 use Rattle.std.proofs.Common.{ap, arith, refl, sym, ◌∙◌, subst, inl, inr, length-append}
@@ -253,7 +253,7 @@ module _ (p : Parts) (a : AreParts p) (flags : List Bool) (n : Anew p a (kept_by
     pub out_whole : fronts.Whole out
     out_whole = made_whole p.bytes body_of (68 + length body_of) last_of metadata_of whole (sym out_size) (omega (arith, body_fits, small))
 
-  -- Where what is written stands behind a header that leads to it.
+  -- The output is in bytes after a header that leads to it.
   module _ (b : List ℕ) (l : Leading b) (tiny : length b < 2 ^ 63) where
     abbrev rs : List Framed
     rs = map (frame_of m write pooled) ws
@@ -308,7 +308,7 @@ module _ (p : Parts) (a : AreParts p) (flags : List Bool) (n : Anew p a (kept_by
     abbrev pub parts : Parts
     parts = record { bytes = b; records = rs; chain = reverse ls; body = metadata_read.0; classes = m; entries = es }
 
-    -- They stand.
+    -- These are the parts of the output.
     pub stand : AreParts parts
     stand = record {
       records = tiles;

@@ -1,5 +1,5 @@
 -- A chunk whose entries are the first of each group with new keys, and whose events have new keys in their
--- fields, means the same, keys apart.
+-- fields, means the same, except for the keys.
 use Rattle.std.specs.Prelude.{◌≡◌, ◌↔◌, ◌⊎◌, ℕ, ◌+◌, ◌≤◌, ◌&&◌, ◌==◌, Bool, true, false, if◌then◌else◌, option_and_then, List, [], ◌∷◌, length, slice_get, slice_range, Contains, Option, Some, None, IsSome, ⊤}
 use Rattle.std.specs.Option.{option_map_or}
 use Rattle.std.proofs.Common.{ap, refl, sym, ◌∙◌, subst, inl, inr}
@@ -75,7 +75,7 @@ unfolding number_in_force
 no_number es t None a b = a
 no_number es t (Some n) a b = let f = forced es t n a in let g = f.there in cc
 
--- Where an entry has a class and a key, one is in force for them.
+-- If an entry has a class and a key, one is in force for them.
 module _ (es : List EntryAt) where
   record Found (t : ℕ × ℕ) : Type 0 where
     entry : EntryAt
@@ -108,16 +108,16 @@ module _ (p q : Parts) (s : Standing p) (r : Standing q) (new : ℕ × ℕ → �
   abbrev pub Pair : NodeAt → NodeAt → Type 0
   Pair n o = Paired p q (IsRekeyed new) n o
 
-  -- Nodes of paired values are the same, keys apart.
+  -- Nodes of paired values are the same, except for the keys.
   pub pair_same : (n o : NodeAt) → Pair n o → SameButKeys new p.classes q.classes p.bytes q.bytes n o
   pair_same n o x = node_rekeyed new p.classes q.classes p.bytes q.bytes n o x.value s.sound r.sound x.left (subst (IsNode q.classes q.bytes o) x.related x.right)
 
-  -- From paired nodes every path leads to the same, keys apart.
+  -- From paired nodes each path leads to the same, except for the keys.
   pub renamed_paths : (n o : NodeAt) → Pair n o → MeetsPaired p q (IsRekeyed new) new n o → RenamedPaths new p q n o
   renamed_paths n o x h path =
       both_weaker (λ m k y. pair_same m k y) (leads p n path) (leads q o path) (paths_paired p q s.sound r.sound (IsRekeyed new) new (rekeyed_pairs p.classes new) path n o x h)
 
-  -- Events of one class, with the same bytes behind their fields, of which these are paired.
+  -- Events of the same class, with the same bytes after their fields, and paired fields.
   pub record PairedEvent (e f : EventAt) : Type 0 where
     pub class : e.record_of.type_id ≡ f.record_of.type_id
     pub rest : slice_range p.bytes e.node.end (record_end e.record_of) ≡ slice_range q.bytes f.node.end (record_end f.record_of)
@@ -136,7 +136,7 @@ module _ (p q : Parts) (s : Standing p) (r : Standing q) (new : ℕ × ℕ → �
   events_renamed (e ∷ es) (f ∷ fs) h m =
       (record { class = h.0.class; rest = h.0.rest; paths = renamed_paths e.node f.node h.0.fields (m e f (inl refl)) }, events_renamed es fs h.1 (λ d g i. m d g (inr i)))
 
-  -- Where the events are paired, and the entries in force of all that is used, the chunks mean the same.
+  -- If the events are paired, and the entries in force of all that is used, the chunks mean the same.
   pub renamed_meaning : (kept others : List EventAt) → PairedEvents kept others → ((t : ℕ × ℕ) → Used p kept t → PairedEntries p q (IsRekeyed new) new t) → RenamedMeaning new p q kept others
   renamed_meaning kept others h m =
       events_renamed kept others h (λ e f i path n k t l g x z. m t (record { event = e; is_kept = in_contains kept e i; path = path; node = n; leads_there = l; refers = z }))
@@ -162,7 +162,7 @@ module _ (p q : Parts) (s : Standing p) (r : Standing q) (new : ℕ × ℕ → �
             let k : new (pair_of e) ≡ new t = n.key ∙ ap (λ (z : ℕ × ℕ). z.1) h in
             (e, m, n, (keys.groups (pair_of e) t m.used u c).0 k)
 
-    -- Where the first chunk has no entry in force, the second has none.
+    -- If the first chunk has no entry in force, the second has none.
     none_there : (t : ℕ × ℕ) → Used p kept t → in_force p.entries t ≡ None → in_force q.entries (moved new t) ≡ None
     none_there t u h = by_force (in_force q.entries (moved new t)) refl
       where
@@ -201,7 +201,7 @@ module _ (p q : Parts) (s : Standing p) (r : Standing q) (new : ℕ × ℕ → �
         (sym l.shape ∙ (ap inline (sym n.class ∙ c) ∙ (i.shape ∙ sym (rekeyed_shape new v))))
         (sym l.bytes ∙ (sym n.value ∙ (value ∙ ap (λ z. bytes_of (rekeyed new z)) same)))
 
-    -- Where it has one, the second has one with new keys in its value.
+    -- If it has one, the second has one with new keys in its value.
     entry_value : (t : ℕ × ℕ) (e d f : EntryAt) → Used p kept t → in_force p.entries t ≡ Some e → Remaining p s kept nodes d → IsRenamed new p q d f → in_force q.entries (moved new t) ≡ Some f → Alike p (pair_of d) t → Pair (entry_node e) (entry_node f)
     entry_value t e d f u h m n g a =
         let v = s.entries t e h in

@@ -1,4 +1,4 @@
--- What a chunk becomes with new keys is a chunk of the same meaning, keys apart.
+-- The output of a chunk with new keys is a chunk that means the same, except for the keys.
 use Rattle.std.specs.Prelude.{◌≡◌, ℕ, zero, suc, ◌^◌, ◌<◌, ◌≤◌, Bool, true, false, not, List, [], ◌∷◌, length, map, filter, Some, None, cond}
 use Rattle.std.specs.List.{AllByRecursion}
 use Rattle.std.proofs.Common.{ap, arith, refl, sym, ◌∙◌, subst}

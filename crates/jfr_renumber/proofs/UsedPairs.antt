@@ -136,9 +136,6 @@ reached_next p marks n old these next e keep w m g h i =
     by_keep true f = ap (map pair_of) (flagged_is marks p.entries n e f g)
     by_keep false f = ap (map pair_of) (flagged_not marks p.entries n f)
 
-pub all_reached : (p : Parts) (marks : List Bool) (n : ℕ) (old these : List (ℕ × ℕ)) → length marks ≤ n → these ≡ old ++ map pair_of (marked (take n marks) p.entries) → these ≡ old ++ map pair_of (marked marks p.entries)
-all_reached p marks n old these w h = h ∙ ap (λ z. old ++ map pair_of (marked z p.entries)) (take_all n marks w)
-
 map_map : {A B C : Type 0} (f : B → C) (g : A → B) (xs : List A) → map f (map g xs) ≡ map (λ x. f (g x)) xs
 map_map f g [] = refl
 map_map f g (x ∷ xs) = ap (λ z. f (g x) ∷ z) (map_map f g xs)
@@ -175,9 +172,6 @@ module _ (p : Parts) (a : AreParts p) (flags marks : List Bool) (m : marks ≡ r
       back u =
           let r = are.all t (in_contains (used_keys p kept) t (used_in p (standing p a) kept (kept_nodes p a kept (chosen_events p flags)) t u)) in
           in_contains (map pair_at js) t (subst (In (map pair_at js)) r.2 (map_in pair_at js r.0 (contains_in js r.0 r.1)))
-
-  pub numbers_by : (js ks : List UsedKey) (ns : List ℕ) → js ≡ ks → ns ≡ pair_numbers (together p) (used_keys p kept) js → ns ≡ map (λ k. new_key p kept (pair_at k)) ks
-  numbers_by js ks ns j e = e ∙ (numbers_are p kept js ∙ ap (map (λ k. new_key p kept (pair_at k))) j)
 
   -- So the numbers of the pairs are the new keys of all that is used.
   pub all_numbered : (ms l ps qs : List (ℕ × ℕ)) (ks js : List UsedKey) (ns : List ℕ) → ms ≡ filter (is_missing p.entries) (used_keys p kept) → l ≡ ms ++ map pair_of (marked marks p.entries) → IsRising ps → ((t : ℕ × ℕ) → Contains l t → Contains ps t) → ((t : ℕ × ℕ) → Contains ps t → Contains l t)

@@ -14,7 +14,3 @@ KeyStands l = l.kind ≡ leaf_kinds.Base kinds.Text → (rest : List ℕ) → l.
 -- The bytes of a leaf with its new key, if it has a key.
 abbrev pub leaf_with : (ℕ × ℕ → ℕ) → LeafAt → List ℕ
 leaf_with new l = (rekeyed_leaf new l).spelled
-
--- The bytes of these leaves with new keys, one after another.
-abbrev pub leaves_with : (ℕ × ℕ → ℕ) → List LeafAt → List ℕ
-leaves_with new ls = flat_map (leaf_with new) ls

@@ -1,8 +1,8 @@
 use Rattle.std.proofs.Common.{◌≡◌, ◌++◌, [], append-nil, ap, sym, ◌∙◌, subst}
 use Rattle.std.specs.List.{AllByRecursion}
 use Rattle.jfr_value.specs.Nodes.{node_of}
-use Rattle.jfr_renumber.specs.Rewriting.{KeyStands, leaves_with}
-use Rattle.jfr_renumber.proofs.LeafBytes.{node_by_leaf, node_keys_stand}
+use Rattle.jfr_renumber.specs.Rewriting.{KeyStands}
+use Rattle.jfr_renumber.proofs.LeafBytes.{leaves_with, node_by_leaf, node_keys_stand}
 use Rattle.jfr_renumber.proofs.rewriting.put_rekeyed.Goals as goal
 
 pub loop-leaf-init : goal.loop-leaf-init
