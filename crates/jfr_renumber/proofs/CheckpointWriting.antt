@@ -1,6 +1,6 @@
 -- A checkpoint that is written with new keys.
-use Rattle.std.specs.Prelude.{◌≡◌, ℕ, suc, ◌+◌, ◌-◌, ◌<◌, ◌≤◌, List, [], ◌∷◌, ◌++◌, length, take, drop, slice_get, slice_range, Some}
-use Rattle.std.specs.List.{flat_map, AllByRecursion}
+use Rattle.std.specs.Prelude.{◌≡◌, ℕ, suc, ◌+◌, ◌-◌, ◌≤◌, List, ◌∷◌, ◌++◌, length, take, drop, slice_get, slice_range, Some}
+use Rattle.std.specs.List.{flat_map}
 use Rattle.std.proofs.Common.{ap, arith, refl, sym, ◌∙◌, subst, append_assoc, length-append}
 use Rattle.jfr_base.specs.Integer.{FitsIn, spell, spell_in}
 use Rattle.jfr_base.specs.Formats.{Reads}
@@ -15,14 +15,14 @@ use Rattle.jfr_pool.specs.declared.entry.EntryAt.{EntryAt}
 use Rattle.jfr_pool.specs.declared.link.Link.{Link}
 use Rattle.jfr_pool.specs.Entries.{inline, entry_node}
 use Rattle.jfr_chunk.specs.Parts.{Parts}
-use Rattle.jfr_chunk.specs.Written.{Group, by_pool, sized}
+use Rattle.jfr_chunk.specs.Written.{by_pool, sized}
 use Rattle.jfr_laws.proofs.Standing.{EntryStands, LinkStands}
 use Rattle.jfr_laws.proofs.Values.{exact_reads}
 use Rattle.jfr_renumber.specs.Pools.{leading}
 use Rattle.jfr_renumber.specs.Renumber.{checkpoint_tail, entry_bytes, group_bytes}
 use Rattle.jfr_renumber.proofs.EventWriting.{front_taken, both_dropped}
-use Rattle.jfr_renumber.proofs.PoolRuns.{by_first_of, rest_smaller}
-use Rattle.jfr_renumber.proofs.Widths.{size_fits, size_width}
+use Rattle.jfr_renumber.proofs.PoolRuns.{by_first_of}
+use Rattle.jfr_renumber.proofs.Widths.{size_fits}
 
 -- An entry is a node.
 pub entry_is : (k : Classes) (c : List ℕ) (e : EntryAt) → (s : EntryStands c k e) → IsNode k c (entry_node e) s.value

@@ -1,12 +1,12 @@
 -- The used keys of a class are next to each other, and each class has its own numbers.
-use Rattle.std.specs.Prelude.{◌≡◌, ◌↔◌, ◌⊎◌, ℕ, zero, suc, ◌+◌, ◌-◌, ◌≤◌, ◌<◌, Bool, true, List, [], ◌∷◌, ◌++◌, length, map, take, drop, slice_get, slice_range, Option, Some, None, Contains}
+use Rattle.std.specs.Prelude.{◌≡◌, ◌⊎◌, ℕ, zero, suc, ◌+◌, ◌-◌, ◌≤◌, ◌<◌, Bool, true, List, [], ◌∷◌, ◌++◌, length, map, take, drop, slice_get, slice_range, Some, Contains}
 use Rattle.std.proofs.Common.{ap, arith, refl, sym, ◌∙◌, subst, inl, inr}
-use Rattle.std.proofs.lemmas.List.{map-append, take_all}
+use Rattle.std.proofs.lemmas.List.{map-append}
 use Rattle.std.proofs.lemmas.Option.{slice_get_within}
 use Rattle.jfr_worklist.proofs.Members.{In, contains_in, in_contains, get_in}
 use Rattle.jfr_renumber.specs.declared.numbering.UsedKey.{UsedKey}
-use Rattle.jfr_renumber.specs.Keys.{group_number, Together}
-use Rattle.jfr_renumber.specs.Numbering.{RisingKeys, RisingPairs, Before, pair_at, pair_numbers, SameValue, AreKeysOf, ArePairsOf, group_numbers}
+use Rattle.jfr_renumber.specs.Keys.{group_number}
+use Rattle.jfr_renumber.specs.Numbering.{RisingKeys, RisingPairs, Before, pair_at, AreKeysOf, ArePairsOf, group_numbers}
 use Rattle.jfr_renumber.proofs.NumberingLaws.{in_get}
 
 -- Members of a part.

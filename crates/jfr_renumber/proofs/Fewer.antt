@@ -2,30 +2,27 @@
 -- checkpoint by checkpoint.
 use Rattle.std.specs.Prelude.{◌≡◌, ℕ, zero, suc, ◌+◌, ◌-◌, ◌^◌, ◌<◌, ◌≤◌, ◌==◌, Bool, true, false, List, [], ◌∷◌, ◌++◌, length, map, drop, filter, slice_range, Option, Some, None, is_some, ⊤}
 use Rattle.std.specs.List.{flat_map, AllByRecursion}
-use Rattle.std.proofs.Common.{ap, arith, refl, sym, ◌∙◌, subst, length-append, append-nil}
-use Rattle.std.proofs.lemmas.List.{length-map}
+use Rattle.std.proofs.Common.{ap, arith, refl, sym, ◌∙◌, subst, length-append}
 use Rattle.std.proofs.lemmas.List.Elements.{filter-append}
 use Rattle.std.proofs.lemmas.Map.Views.{exact_unsigned_eq}
 use Rattle.jfr_base.specs.Integer.{spell, spell_as, spell_in}
 use Rattle.jfr_base.proofs.Spelling.{spell_most, spell_short, spell_spells, nine_bytes}
-use Rattle.jfr_layout.specs.Classes.{Classes, Sound}
+use Rattle.jfr_layout.specs.Classes.{Sound}
 use Rattle.jfr_pool.specs.declared.link.Link.{Link}
 use Rattle.jfr_pool.specs.declared.entry.EntryAt.{EntryAt}
-use Rattle.jfr_pool.specs.Entries.{Constant, PoolAt, entry_of, entries_from, AreEntries}
+use Rattle.jfr_pool.specs.Entries.{PoolAt, entry_of, entries_from, AreEntries}
 use Rattle.jfr_chunk.specs.Parts.{Parts}
 use Rattle.jfr_chunk.specs.Reach.{marked}
 use Rattle.jfr_chunk.specs.Written.{Group, by_pool, distance, sized}
 use Rattle.jfr_chunk.specs.Written as old
-use Rattle.jfr_chunk.specs.Scrub.{groups_of}
 use Rattle.jfr_chunk.proofs.TestLaws.{is_eq}
 use Rattle.jfr_laws.proofs.Marks.{all_marked, marked_append}
 use Rattle.jfr_laws.proofs.Standing.{EntryStands, GroupStands}
-use Rattle.jfr_laws.proofs.Groups.{apart, in_front, by_front, groups_hold}
+use Rattle.jfr_laws.proofs.Groups.{apart, in_front, by_front}
 use Rattle.jfr_laws.proofs.Room.{of_pool, later_pools}
 use Rattle.jfr_laws.proofs.Checkpoints.{Of, NotOf, others, of_number, later_numbers, block_only}
 use Rattle.jfr_renumber.specs.Renumber.{entry_bytes, group_bytes, checkpoint_tail}
-use Rattle.jfr_renumber.proofs.SpelledBack.{bytes_of_entry}
-use Rattle.jfr_renumber.proofs.NewPools.{entry_short, entry_spelled, spelled}
+use Rattle.jfr_renumber.proofs.NewPools.{entry_short, entry_spelled}
 
 -- Each that is marked is marked there too.
 abbrev pub Under : List Bool → List Bool → Type 0

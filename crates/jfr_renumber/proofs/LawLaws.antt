@@ -1,5 +1,5 @@
 -- The laws, as they are promised.
-use Rattle.std.specs.Prelude.{◌≡◌, ◌↔◌, ℕ, ◌≤◌, List, [], ◌∷◌, ◌++◌, length, map, slice_range, Contains, All, Option, Some, None, IsSome}
+use Rattle.std.specs.Prelude.{◌≡◌, ◌↔◌, ℕ, List, [], ◌∷◌, ◌++◌, map, Contains, Option, Some, None, IsSome}
 use Rattle.std.specs.Option.{option_map_or}
 use Rattle.std.proofs.Common.{ap, refl, sym, ◌∙◌, subst, inl, inr}
 use Rattle.std.proofs.lemmas.List.{map-append}
@@ -13,8 +13,7 @@ use Rattle.jfr_value.specs.Nodes.{IsNode, Both}
 use Rattle.jfr_value.proofs.DepthLaws.{fits_good}
 use Rattle.jfr_value.proofs.InsideLaws.{fits_agree}
 use Rattle.jfr_value.proofs.NodeLaws.{value_is}
-use Rattle.jfr_pool.specs.declared.entry.EntryAt.{EntryAt}
-use Rattle.jfr_pool.specs.Entries.{in_force, inline, entry_node}
+use Rattle.jfr_pool.specs.Entries.{in_force, inline}
 use Rattle.jfr_chunk.specs.Parts.{Parts, EventAt, AreParts, events_of}
 use Rattle.jfr_chunk.specs.Laws.{AreEvents}
 use Rattle.jfr_worklist.proofs.Members.{In, contains_in, in_contains}
@@ -24,8 +23,7 @@ use Rattle.jfr_renumber.specs.Renumber.{Used, new_key, firsts}
 use Rattle.jfr_renumber.specs.Meaning.{AreNewKeys, AreRenamed, RenamedMeaning}
 use Rattle.jfr_renumber.specs.Laws.{KeepsMeaning, RenamedRecord, RenamedRecords, AgreeOnUsed}
 use Rattle.jfr_renumber.proofs.RekeyedLaws.{rekeyed_fits, rekeyed_shape, rekeyed_leaves, rekeyed_short}
-use Rattle.jfr_renumber.proofs.ValueLaws.{fits_once, IsRekeyed}
-use Rattle.jfr_renumber.proofs.PathLaws.{Paired, PairedEntries}
+use Rattle.jfr_renumber.proofs.ValueLaws.{fits_once}
 use Rattle.jfr_renumber.proofs.UsedLaws.{new_keys}
 use Rattle.jfr_renumber.proofs.RenamedLaws.{PairedEvent, PairedEvents, renamed_meaning, entries_paired}
 

@@ -1,6 +1,6 @@
 -- Output records that are written one after another, given the bytes of each: if each is read back, all are.
-use Rattle.std.specs.Prelude.{◌≡◌, ℕ, ◌+◌, ◌^◌, ◌<◌, ◌≤◌, ◌==◌, Bool, true, false, List, [], ◌∷◌, ◌++◌, length, map, filter, Option, Some, None, is_some, Contains, ⊤}
-use Rattle.std.specs.List.{flat_map, AllByRecursion, cons_option, enumerate_from}
+use Rattle.std.specs.Prelude.{◌≡◌, ℕ, ◌+◌, ◌^◌, ◌<◌, ◌≤◌, ◌==◌, Bool, true, false, List, [], ◌∷◌, ◌++◌, length, map, Option, Some, None, is_some, Contains, ⊤}
+use Rattle.std.specs.List.{flat_map, AllByRecursion, cons_option}
 use Rattle.std.proofs.Common.{ap, arith, refl, sym, ◌∙◌, subst, inl, inr, append_assoc, length-append}
 use Rattle.std.proofs.lemmas.Bool.Decides.{nat_tests}
 use Rattle.jfr_base.proofs.HoldLaws.{Holds, holds_parts}

@@ -1,7 +1,7 @@
 -- The events of what is written with new keys: the kept ones, in order, with new keys in their fields.
-use Rattle.std.specs.Prelude.{◌≡◌, ℕ, ◌+◌, ◌-◌, ◌≤◌, ◌==◌, ◌&&◌, ◌||◌, Bool, true, false, List, [], ◌∷◌, ◌++◌, length, map, filter, find, slice_range, Option, Some, None, is_some, cond, if◌then◌else◌}
+use Rattle.std.specs.Prelude.{◌≡◌, ℕ, ◌+◌, ◌≤◌, ◌==◌, ◌&&◌, ◌||◌, Bool, true, false, List, [], ◌∷◌, length, map, filter, find, Option, Some, None, cond, if◌then◌else◌}
 use Rattle.std.specs.List.{AllByRecursion, cons_option, list_any}
-use Rattle.std.proofs.Common.{ap, arith, refl, sym, ◌∙◌, subst, inl, inr}
+use Rattle.std.proofs.Common.{ap, refl, sym, ◌∙◌, subst}
 use Rattle.jfr_base.proofs.AlikeLaws.{Each}
 use Rattle.jfr_base.proofs.HoldLaws.{Holds, holds_parts}
 use Rattle.jfr_layout.specs.Classes.{Agree, Classes, is_event_class}
@@ -9,7 +9,6 @@ use Rattle.jfr_frame.specs.declared.framed.Framed.{Framed}
 use Rattle.jfr_frame.specs.Records.{IsRecord}
 use Rattle.jfr_chunk.specs.Parts.{Parts, EventAt, AreParts, metadata_at}
 use Rattle.jfr_chunk.specs.Reach.{kept_by, marked}
-use Rattle.jfr_pool.specs.declared.entry.EntryAt.{EntryAt}
 use Rattle.jfr_chunk.specs.Scrub.{OutputRecord, Whole, Chained, Rebuilt, Written, output_records_whole, output_record_by, written_anew}
 use Rattle.jfr_worklist.proofs.Members.{In}
 use Rattle.jfr_laws.proofs.ReadBack.{moved_frame}

@@ -1,5 +1,5 @@
 -- What is written with new keys is read back: each record, and so all of them.
-use Rattle.std.specs.Prelude.{◌≡◌, ℕ, ◌+◌, ◌-◌, ◌^◌, ◌<◌, ◌≤◌, ◌==◌, ◌&&◌, ◌||◌, Bool, true, false, List, [], ◌∷◌, ◌++◌, length, map, filter, find, slice_range, Option, Some, None, is_some, cond, if◌then◌else◌, ⊤}
+use Rattle.std.specs.Prelude.{◌≡◌, ℕ, ◌+◌, ◌-◌, ◌<◌, ◌≤◌, ◌==◌, ◌||◌, Bool, true, false, List, [], ◌∷◌, length, map, filter, find, Option, Some, None, is_some, cond, ⊤}
 use Rattle.std.specs.Int.{cast_signed, w64}
 use Rattle.std.specs.List.{flat_map, AllByRecursion, cons_option, list_any, enumerate_from}
 use Rattle.std.proofs.Common.{ap, arith, refl, sym, ◌∙◌, subst, inl, inr}
@@ -12,9 +12,9 @@ use Rattle.jfr_base.proofs.AlikeLaws.{Each}
 use Rattle.jfr_base.proofs.HoldLaws.{Holds, holds_parts, holds_behind, placed_each}
 use Rattle.jfr_layout.specs.Classes.{Agree, Classes, Sound, is_event_class}
 use Rattle.jfr_frame.specs.declared.framed.Framed.{Framed}
-use Rattle.jfr_frame.specs.Records.{IsRecord, record_bytes, record_end}
+use Rattle.jfr_frame.specs.Records.{IsRecord}
 use Rattle.jfr_frame.proofs.RecordLaws.{record_one}
-use Rattle.jfr_value.specs.Values.{Value, bytes_of}
+use Rattle.jfr_value.specs.Values.{Value}
 use Rattle.jfr_value.specs.Reading.{value_format}
 use Rattle.jfr_value.proofs.AgreeLaws.{value_agree}
 use Rattle.jfr_pool.specs.declared.link.Link.{Link}
@@ -22,32 +22,31 @@ use Rattle.jfr_pool.specs.declared.entry.EntryAt.{EntryAt}
 use Rattle.jfr_pool.specs.Chains.{head_format}
 use Rattle.jfr_pool.specs.Entries.{PoolAt, checkpoint_format, entries_from, inline}
 use Rattle.jfr_base.specs.Formats.{Format, Reads}
-use Rattle.jfr_chunk.specs.Parts.{Parts, EventAt, AreParts, HasFields, metadata_at, events_of}
+use Rattle.jfr_chunk.specs.Parts.{Parts, EventAt, AreParts, HasFields, metadata_at}
 use Rattle.jfr_chunk.specs.Reach.{marked, kept_by}
 use Rattle.jfr_chunk.specs.Written.{Group, distance}
-use Rattle.jfr_chunk.specs.Scrub.{OutputRecord, Whole, Chained, Rebuilt, Written, groups_of, output_records_whole, output_records, output_record_by, written_anew}
-use Rattle.jfr_worklist.proofs.Members.{In, contains_in, in_contains}
+use Rattle.jfr_chunk.specs.Scrub.{OutputRecord, Whole, Chained, Rebuilt, groups_of, output_records_whole, output_records, output_record_by, written_anew}
+use Rattle.jfr_worklist.proofs.Members.{In}
 use Rattle.jfr_chunk.proofs.AllLaws.{all_in, filter_all}
 use Rattle.jfr_chunk.proofs.StandingLaws.{IsEvent, standing}
-use Rattle.jfr_laws.proofs.Standing.{GroupStands, LinkStands}
+use Rattle.jfr_laws.proofs.Standing.{LinkStands}
 use Rattle.jfr_laws.proofs.ReadBack.{moved_frame, pools_place}
 use Rattle.jfr_laws.proofs.Copied.{record_copied, record_length}
 use Rattle.jfr_laws.proofs.Order.{Numbered, numbered_at, output_records_in, chained_of}
-use Rattle.jfr_laws.proofs.OutputRecords.{Deltas, OutputRecordStands, own_frame}
+use Rattle.jfr_laws.proofs.OutputRecords.{Deltas, OutputRecordStands}
 use Rattle.jfr_laws.proofs.Suits.{records_too}
 use Rattle.jfr_laws.proofs.Anew.{anew_stands}
 use Rattle.jfr_laws.proofs.Anews.{Anew}
 use Rattle.jfr_laws.proofs.AnewLaws.{good_anew}
-use Rattle.jfr_laws.proofs.Premises.{GoodAnew, all_links, Ready, recorded, metadata_stands, ready}
+use Rattle.jfr_laws.proofs.Premises.{all_links, Ready, recorded, metadata_stands, ready}
 use Rattle.jfr_laws.proofs.Passing.{IfPasses, passes_all, clash}
 use Rattle.jfr_laws.proofs.Quiet.{no_checkpoint_event, no_metadata_event}
-use Rattle.jfr_laws.proofs.Chosen.{is_kept}
 use Rattle.jfr_laws.proofs.Groups.{groups_hold}
 use Rattle.jfr_laws.proofs.Checkpoints.{have_number}
 use Rattle.jfr_laws.proofs.Entries.{each_append}
 use Rattle.jfr_laws.proofs.Output.{entries_by_number}
 use Rattle.jfr_laws.proofs.Same.{chosen_events, event_of_chunk}
-use Rattle.jfr_renumber.specs.Renumber.{event_bytes, whole_bytes, new_bytes, written_by, bytes_by}
+use Rattle.jfr_renumber.specs.Renumber.{event_bytes, whole_bytes, new_bytes, written_by}
 use Rattle.jfr_renumber.proofs.RekeyedLaws.{rekeyed_short}
 use Rattle.jfr_renumber.proofs.RecordBack.{Rewritten, event_rewritten}
 use Rattle.jfr_renumber.proofs.SpelledBack.{SpelledPool, bytes_of_pool, placed_pool}

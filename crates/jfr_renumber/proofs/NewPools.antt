@@ -1,6 +1,6 @@
 -- The pools that are written with new keys: they are read as entries with the new keys and values, and take no
 -- more room than the old ones.
-use Rattle.std.specs.Prelude.{◌≡◌, ℕ, ◌+◌, ◌-◌, ◌≤◌, List, [], ◌∷◌, ◌++◌, length, map, slice_range, Option, Some, None}
+use Rattle.std.specs.Prelude.{◌≡◌, ℕ, ◌+◌, ◌-◌, ◌≤◌, List, [], ◌∷◌, ◌++◌, length, map, slice_range}
 use Rattle.std.specs.Option.{option_map_or}
 use Rattle.std.specs.List.{flat_map, AllByRecursion}
 use Rattle.std.proofs.Common.{ap, arith, refl, sym, ◌∙◌, subst, length-append}
@@ -20,7 +20,7 @@ use Rattle.jfr_value.proofs.DepthLaws.{fits_good}
 use Rattle.jfr_value.proofs.NodeLaws.{read_node, value_is}
 use Rattle.jfr_pool.specs.declared.link.Link.{Link}
 use Rattle.jfr_pool.specs.declared.entry.EntryAt.{EntryAt}
-use Rattle.jfr_pool.specs.Entries.{inline, Constant, PoolAt, entry_of, entries_from, entry_node}
+use Rattle.jfr_pool.specs.Entries.{inline, entry_of, entries_from, entry_node}
 use Rattle.jfr_chunk.specs.Parts.{Parts}
 use Rattle.jfr_chunk.specs.Written.{Group}
 use Rattle.jfr_chunk.specs.Written as old

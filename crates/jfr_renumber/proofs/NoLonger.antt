@@ -1,7 +1,7 @@
 -- What a chunk becomes with new keys is no longer than what it becomes without them.
-use Rattle.std.specs.Prelude.{◌≡◌, ℕ, ◌+◌, ◌^◌, ◌<◌, ◌≤◌, ◌==◌, Bool, List, [], ◌∷◌, ◌++◌, length, filter, reverse, Option, Some, None, is_some}
-use Rattle.std.specs.List.{flat_map, AllByRecursion}
-use Rattle.std.proofs.Common.{ap, arith, refl, sym, ◌∙◌, subst, length-append}
+use Rattle.std.specs.Prelude.{◌≡◌, ℕ, ◌+◌, ◌^◌, ◌<◌, ◌≤◌, ◌==◌, Bool, List, [], ◌∷◌, length, filter, reverse, Option, Some, None, is_some}
+use Rattle.std.specs.List.{AllByRecursion}
+use Rattle.std.proofs.Common.{arith, refl, subst, length-append}
 use Rattle.jfr_layout.specs.Classes.{Agree, Sound}
 use Rattle.jfr_header.specs.Fronts as fronts
 use Rattle.jfr_frame.specs.Records.{record_bytes}
@@ -20,10 +20,10 @@ use Rattle.jfr_laws.proofs.OutputRecords as before
 use Rattle.jfr_laws.proofs.Premises.{Ready, ready}
 use Rattle.jfr_laws.proofs.Standing.{EntryStands, GroupStands}
 use Rattle.jfr_laws.proofs.Whole.{out_shorter}
-use Rattle.jfr_renumber.specs.Renumber.{new_bytes, written_by}
+use Rattle.jfr_renumber.specs.Renumber.{written_by}
 use Rattle.jfr_renumber.proofs.Fewer.{Under, Shorter, numbers_short, entries_stand, checkpoint_short}
 use Rattle.jfr_renumber.proofs.Made.{Small, bytes_from}
-use Rattle.jfr_renumber.proofs.NewOutput.{bytes, pools, ss, all_small}
+use Rattle.jfr_renumber.proofs.NewOutput.{bytes, pools, all_small}
 use Rattle.jfr_renumber.proofs.Rebuilt.{out}
 
 module _ (p : Parts) (a : AreParts p) (flags : List Bool) (n : Anew p a (kept_by p flags)) (new : ℕ × ℕ → ℕ) (most : (t : ℕ × ℕ) → new t ≤ t.1) (fm : List Bool) (agree : AllByRecursion (λ x. Agree p.classes n.classes x.class) (marked fm p.entries)) (ms : List Bool) (u : Under fm ms) where

@@ -1,14 +1,14 @@
 -- The numbers of classes and keys.
-use Rattle.std.specs.Prelude.{◌≡◌, ◌<◌, ℕ, zero, suc, Bool, true, false, ◌&&◌, ◌||◌, ◌==◌, List, [], ◌∷◌, length, map, slice_get, Option, Some, None, Contains, IfSome, if◌then◌else◌}
+use Rattle.std.specs.Prelude.{◌≡◌, ◌<◌, ℕ, zero, suc, Bool, true, false, ◌||◌, List, [], ◌∷◌, length, map, slice_get, Some, None, Contains, if◌then◌else◌}
 use Rattle.std.specs.List.{list_any}
 use Rattle.std.proofs.Common.{ap, arith, refl, sym, ◌∙◌, subst, inl, inr}
 use Rattle.std.proofs.lemmas.Option.{slice_get_within}
-use Rattle.jfr_worklist.proofs.Members.{In, contains_in, in_contains}
+use Rattle.jfr_worklist.proofs.Members.{In, in_contains}
 use Rattle.jfr_chunk.proofs.AllLaws.{all_get}
 use Rattle.jfr_renumber.specs.Missing.{Earlier, IsRising}
 use Rattle.jfr_renumber.specs.Numbers.{NumberedPairs, number_at, number_of}
 use Rattle.jfr_renumber.proofs.FindLaws.{never}
-use Rattle.jfr_renumber.proofs.OrderLaws.{pair_exact, pair_equiv, pair_same}
+use Rattle.jfr_renumber.proofs.OrderLaws.{pair_exact, pair_same}
 
 same_self : (t : ℕ × ℕ) → pair_same t t ≡ true
 same_self t = grind arith

@@ -1,7 +1,6 @@
 -- Key by key, the numbers of the groups so far.
-use Rattle.std.specs.Prelude.{◌≡◌, ◌↔◌, ◌⊎◌, ℕ, zero, suc, ◌+◌, ◌≤◌, ◌<◌, Bool, true, false, ◌&&◌, ◌==◌, List, [], ◌∷◌, ◌++◌, length, map, take, slice_get, Option, Some, None, IfSome, Contains, option_and_then, if◌then◌else◌}
+use Rattle.std.specs.Prelude.{◌≡◌, ◌⊎◌, ℕ, zero, suc, ◌+◌, ◌≤◌, ◌<◌, Bool, true, false, List, [], ◌∷◌, ◌++◌, length, map, take, slice_get, Option, Some, None, IfSome, Contains, option_and_then, if◌then◌else◌}
 use Rattle.std.specs.Option.{option_map}
-use Rattle.std.specs.List.{list_any}
 use Rattle.std.specs.Str.{bytes_eq}
 use Rattle.std.specs.Borrow.{Bor}
 use Rattle.std.specs.BTreeMap.{BTreeMap}
@@ -9,7 +8,7 @@ use Rattle.std.specs.BTreeMap as tree
 use Rattle.std.specs.Cmp.Lexicographic.{slice_cmp}
 use Rattle.std.specs.Ordering.{nat_cmp}
 use Rattle.std.specs.Map.{lookup}
-use Rattle.std.specs.Cmp.{unsigned_Decides, first_so, second_so}
+use Rattle.std.specs.Cmp.{first_so, second_so}
 use Rattle.std.proofs.Common.{ap, arith, refl, sym, ◌∙◌, subst, inl, inr}
 use Rattle.std.proofs.lemmas.Slice.Eq.{bytes_eq-Decides}
 use Rattle.std.proofs.lemmas.List.{take_all}
@@ -18,7 +17,7 @@ use Rattle.jfr_worklist.proofs.Members.{In, contains_in, in_contains, get_in}
 use Rattle.jfr_renumber.specs.declared.numbering.UsedKey.{UsedKey}
 use Rattle.jfr_renumber.specs.Keys.{count_below, smallest, begins, group_number, Together}
 use Rattle.jfr_renumber.specs.Numbering.{number_under, value_of_key, RisingKeys, SameValue, AreKeysOf, group_numbers}
-use Rattle.jfr_renumber.proofs.KeyLaws.{count_flat, count_this, smallest_least, smallest_most, number_same, group_begins, first_of_group, any_in, Least, least_is}
+use Rattle.jfr_renumber.proofs.KeyLaws.{count_flat, count_this, smallest_least, smallest_most, number_same, group_begins, any_in, Least, least_is}
 
 abbrev Firsts : Type 0
 Firsts = BTreeMap (Bor (List ℕ)) ℕ

@@ -1,9 +1,9 @@
 -- The parts of the output with new keys are those of its bytes.
-use Rattle.std.specs.Prelude.{◌≡◌, ℕ, ◌+◌, ◌-◌, ◌^◌, ◌<◌, ◌≤◌, ◌==◌, ◌&&◌, ◌||◌, Bool, true, false, List, [], ◌∷◌, ◌++◌, length, map, filter, find, reverse, slice_range, Option, Some, None, Ok, Err, is_some, cond, Contains, All}
-use Rattle.std.specs.List.{flat_map, AllByRecursion, enumerate_from, filter_map}
+use Rattle.std.specs.Prelude.{◌≡◌, ℕ, ◌+◌, ◌-◌, ◌^◌, ◌<◌, ◌≤◌, ◌==◌, ◌||◌, Bool, true, false, List, [], ◌∷◌, ◌++◌, length, map, filter, find, reverse, slice_range, Option, Some, None, Ok, Err, cond, Contains}
+use Rattle.std.specs.List.{AllByRecursion, enumerate_from}
 use Rattle.std.proofs.Common.{ap, arith, refl, sym, ◌∙◌, subst, inl, inr, length-append}
 use Rattle.std.proofs.lemmas.List.{length-reverse, reverse-reverse}
-use Rattle.std.proofs.lemmas.List.Elements.{All-from_recursion, All-contains_itself, All-contains}
+use Rattle.std.proofs.lemmas.List.Elements.{All-from_recursion, All-contains}
 use Rattle.jfr_base.specs.Formats.{Answer, Reads, run}
 use Rattle.jfr_base.proofs.AlikeLaws.{Each}
 use Rattle.jfr_base.proofs.HoldLaws.{Holds, holds_at, holds_behind}
@@ -11,13 +11,12 @@ use Rattle.jfr_base.proofs.OneAnswer.{has_one_answer}
 use Rattle.jfr_layout.specs.Classes.{Agree, Classes, is_event_class}
 use Rattle.jfr_header.specs.Fronts as fronts
 use Rattle.jfr_frame.specs.declared.framed.Framed.{Framed}
-use Rattle.jfr_frame.specs.Records.{IsRecord, Rising, Tiles, record_bytes, record_end}
+use Rattle.jfr_frame.specs.Records.{IsRecord, Rising, Tiles, record_end}
 use Rattle.jfr_frame.proofs.RecordLaws.{record_one, rising_of}
 use Rattle.jfr_meta.specs.Body.{Body}
 use Rattle.jfr_meta.specs.Described.{IsMetadata}
 use Rattle.jfr_value.specs.Values.{Value, bytes_of}
 use Rattle.jfr_value.specs.Reading.{value_format}
-use Rattle.jfr_value.specs.Nodes.{node_bytes}
 use Rattle.jfr_pool.specs.declared.link.Link.{Link}
 use Rattle.jfr_pool.specs.declared.entry.EntryAt.{EntryAt}
 use Rattle.jfr_pool.specs.Chains.{IsChain}
@@ -28,7 +27,7 @@ use Rattle.jfr_chunk.specs.Scrub.{OutputRecord, Written, last_at, moved, header_
 use Rattle.jfr_worklist.proofs.Members.{In, contains_in, in_contains}
 use Rattle.jfr_chunk.proofs.AllLaws.{in_filter_map}
 use Rattle.jfr_chunk.proofs.TestLaws.{is_eq}
-use Rattle.jfr_chunk.proofs.StandingLaws.{IsEvent, standing, event_is}
+use Rattle.jfr_chunk.proofs.StandingLaws.{standing, event_is}
 use Rattle.jfr_laws.proofs.Chains.{Linked, linked_chain}
 use Rattle.jfr_laws.proofs.OutputRecords.{frame_by}
 use Rattle.jfr_laws.proofs.Found.{shown, shown_bytes, shown_frame}
@@ -50,7 +49,7 @@ use Rattle.jfr_laws.proofs.Checkpoints.{all_numbers}
 use Rattle.jfr_laws.proofs.Output.{entries_by_number}
 use Rattle.jfr_renumber.specs.Rekeyed.{rekeyed}
 use Rattle.jfr_renumber.specs.Renumber.{event_bytes, whole_bytes, written_by, assembled_by}
-use Rattle.jfr_renumber.specs.Meaning.{IsRenamed, AreRenamed}
+use Rattle.jfr_renumber.specs.Meaning.{AreRenamed}
 use Rattle.jfr_renumber.specs.Laws.{RenamedRecord, RenamedRecords}
 use Rattle.jfr_renumber.proofs.Made.{Found, bytes_from, frame_of, links_from, entries_at, found_made, last_inside, last_made, length_made, linked_made, no_links, tiles_made, entries_made}
 use Rattle.jfr_renumber.proofs.NewPools.{Renamed}

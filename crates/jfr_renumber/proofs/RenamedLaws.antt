@@ -1,14 +1,12 @@
 -- A chunk whose entries are the first of each group with new keys, and whose events have new keys in their
 -- fields, means the same, except for the keys.
-use Rattle.std.specs.Prelude.{◌≡◌, ◌↔◌, ◌⊎◌, ℕ, ◌+◌, ◌≤◌, ◌&&◌, ◌==◌, Bool, true, false, if◌then◌else◌, option_and_then, List, [], ◌∷◌, length, slice_get, slice_range, Contains, Option, Some, None, IsSome, ⊤}
+use Rattle.std.specs.Prelude.{◌≡◌, ◌⊎◌, ℕ, ◌+◌, ◌&&◌, ◌==◌, Bool, true, false, if◌then◌else◌, option_and_then, List, [], ◌∷◌, slice_get, slice_range, Option, Some, None, ⊤}
 use Rattle.std.specs.Option.{option_map_or}
 use Rattle.std.proofs.Common.{ap, refl, sym, ◌∙◌, subst, inl, inr}
-use Rattle.jfr_layout.specs.Classes.{Classes, Agree, Sound}
 use Rattle.jfr_layout.specs.declared.shape.Shape.{Shape}
 use Rattle.jfr_frame.specs.Records.{record_end}
-use Rattle.jfr_value.specs.declared.node.Step.{Step}
 use Rattle.jfr_value.specs.Values.{Value, shape_of, bytes_of, Fits}
-use Rattle.jfr_value.specs.Nodes.{NodeAt, IsNode, node_bytes, Both, target, value_of}
+use Rattle.jfr_value.specs.Nodes.{NodeAt, IsNode, node_bytes, Both}
 use Rattle.jfr_value.proofs.NodeLaws.{value_is}
 use Rattle.jfr_pool.specs.declared.entry.EntryAt.{EntryAt}
 use Rattle.jfr_pool.specs.Entries.{number_in_force, in_force, inline, entry_node, last_from, or_later}
@@ -19,16 +17,16 @@ use Rattle.jfr_pool.proofs.OneLaws.{last_is}
 use Rattle.jfr_chunk.specs.Parts.{Parts, EventAt}
 use Rattle.jfr_chunk.specs.Paths.{leads}
 use Rattle.jfr_chunk.specs.Reach.{remain}
-use Rattle.jfr_worklist.proofs.Members.{In, contains_in, in_contains, get_in}
+use Rattle.jfr_worklist.proofs.Members.{In, in_contains, get_in}
 use Rattle.jfr_pool.proofs.ForceLaws.{forced, numbered}
 use Rattle.jfr_chunk.proofs.PathLaws.{Standing}
 use Rattle.jfr_renumber.specs.Rekeyed.{SameButKeys, rekeyed, rekeyed_bytes, moved}
-use Rattle.jfr_renumber.specs.Renumber.{Used, together, firsts, firsts_of, pair_of}
-use Rattle.jfr_renumber.specs.Meaning.{RenamedPaths, RenamedEvent, RenamedMeaning, AreNewKeys, IsRenamed, AreRenamed}
+use Rattle.jfr_renumber.specs.Renumber.{Used, together, firsts, pair_of}
+use Rattle.jfr_renumber.specs.Meaning.{RenamedPaths, RenamedMeaning, AreNewKeys, IsRenamed, AreRenamed}
 use Rattle.jfr_renumber.proofs.RekeyedLaws.{node_rekeyed, rekeyed_fits, rekeyed_shape}
 use Rattle.jfr_renumber.proofs.ValueLaws.{IsRekeyed, rekeyed_pairs, fits_once}
 use Rattle.jfr_renumber.proofs.PathLaws.{Paired, PairedEntries, MeetsPaired, paths_paired}
-use Rattle.jfr_renumber.proofs.TogetherLaws.{Alike, Twins, together_alike, together_is, first_among, first_with}
+use Rattle.jfr_renumber.proofs.TogetherLaws.{Alike, together_alike, together_is, first_among, first_with}
 use Rattle.jfr_renumber.proofs.UsedLaws.{Remaining, used_remains, remains_used}
 
 pair_is : (t u : ℕ × ℕ) → t.0 ≡ u.0 → t.1 ≡ u.1 → t ≡ u

@@ -1,18 +1,16 @@
 -- The keys that are used are those of the computed list, and the new keys are what they should be.
-use Rattle.std.specs.Prelude.{◌≡◌, ◌↔◌, ◌⊎◌, ℕ, zero, suc, ◌<◌, ◌≤◌, Bool, true, false, List, [], ◌∷◌, ◌++◌, length, map, slice_get, Contains, Option, Some, None, option_and_then}
-use Rattle.std.specs.Option.{option_map_or}
+use Rattle.std.specs.Prelude.{◌≡◌, ◌↔◌, ◌⊎◌, ℕ, zero, suc, Bool, true, false, List, [], ◌∷◌, ◌++◌, map, slice_get, Some, option_and_then}
 use Rattle.std.proofs.Common.{ap, refl, sym, ◌∙◌, subst, inl, inr}
-use Rattle.jfr_value.specs.declared.node.Step.{Step}
 use Rattle.jfr_value.specs.declared.node.Step.TheVariants as steps
 use Rattle.jfr_value.specs.Values.{Value}
-use Rattle.jfr_value.specs.Nodes.{NodeAt, IsNode, target, targets}
+use Rattle.jfr_value.specs.Nodes.{NodeAt, IsNode, targets}
 use Rattle.jfr_pool.specs.declared.entry.EntryAt.{EntryAt}
-use Rattle.jfr_pool.specs.Entries.{number_in_force, in_force, entry_node}
+use Rattle.jfr_pool.specs.Entries.{in_force, entry_node}
 use Rattle.jfr_pool.specs.Laws.{IsLast}
 use Rattle.jfr_pool.proofs.OneLaws.{last_is}
 use Rattle.jfr_chunk.specs.Parts.{Parts, EventAt}
 use Rattle.jfr_chunk.specs.Paths.{leads}
-use Rattle.jfr_worklist.specs.Marks.{IsMarked, is_marked}
+use Rattle.jfr_worklist.specs.Marks.{IsMarked}
 use Rattle.jfr_chunk.specs.Reach.{Reached, all_targets, nodes_of, reached_marks, marked, remain}
 use Rattle.jfr_worklist.proofs.Members.{In, contains_in, in_contains, in_left, in_right, in_cases}
 use Rattle.jfr_pool.proofs.ForceLaws.{Forced, forced, numbered}

@@ -1,14 +1,13 @@
 -- The used keys in order, each with its value, and the numbers of their groups.
-use Rattle.std.specs.Prelude.{◌≡◌, ◌↔◌, ◌⊎◌, ℕ, zero, suc, IfSome, ◌<◌, ◌≤◌, Bool, true, false, not, is_some, List, [], ◌∷◌, ◌++◌, map, filter, slice_get, take, length, cond, option_to_list, if◌then◌else◌, Contains, ◌+◌, Option, Some, None}
+use Rattle.std.specs.Prelude.{◌≡◌, ◌↔◌, ◌⊎◌, ℕ, zero, suc, IfSome, ◌<◌, Bool, true, false, not, is_some, List, [], ◌∷◌, ◌++◌, map, filter, slice_get, take, length, cond, option_to_list, if◌then◌else◌, Contains, ◌+◌, Option, Some, None}
 use Rattle.std.specs.Option.{option_map}
 use Rattle.std.specs.List.{AllByRecursion, list_any}
 use Rattle.std.proofs.Common.{ap, arith, refl, sym, ◌∙◌, subst, inl, inr, append_assoc}
-use Rattle.std.proofs.lemmas.List.{length-map, map-append, take_all}
+use Rattle.std.proofs.lemmas.List.{length-map, map-append}
 use Rattle.jfr_value.specs.Values.{Value}
 use Rattle.jfr_value.specs.Nodes.{IsNode, node_bytes}
 use Rattle.jfr_pool.specs.declared.entry.EntryAt.{EntryAt}
 use Rattle.jfr_pool.specs.Entries.{number_in_force, in_force, entry_node}
-use Rattle.jfr_pool.specs.Laws.{IsLast}
 use Rattle.jfr_pool.proofs.OneLaws.{last_is}
 use Rattle.jfr_chunk.specs.Parts.{Parts, EventAt, AreParts}
 use Rattle.jfr_worklist.specs.Marks.{is_marked}
@@ -16,12 +15,12 @@ use Rattle.jfr_chunk.specs.Reach.{kept_by, marked, reached_marks, remain}
 use Rattle.jfr_chunk.proofs.StandingLaws.{standing}
 use Rattle.jfr_laws.proofs.Same.{chosen_events}
 use Rattle.jfr_chunk.proofs.AllLaws.{all_in, in_filter}
-use Rattle.jfr_pool.proofs.ForceLaws.{Forced, forced}
+use Rattle.jfr_pool.proofs.ForceLaws.{forced}
 use Rattle.jfr_worklist.proofs.Members.{In, contains_in, in_contains, in_left, in_right, in_cases}
 use Rattle.jfr_chunk.proofs.PathLaws.{Standing}
 use Rattle.jfr_renumber.specs.declared.numbering.UsedKey.{UsedKey}
-use Rattle.jfr_renumber.specs.Missing.{Earlier, IsRising, flagged, is_missing}
-use Rattle.jfr_renumber.specs.Numbering.{ArePairsOf, Before, HasValue, RisingPairs, SameValue, pair_at, value_of_key, pair_numbers}
+use Rattle.jfr_renumber.specs.Missing.{IsRising, flagged, is_missing}
+use Rattle.jfr_renumber.specs.Numbering.{ArePairsOf, HasValue, RisingPairs, SameValue, pair_at, pair_numbers}
 use Rattle.jfr_renumber.specs.Keys.{Together}
 use Rattle.jfr_renumber.specs.Numbers.{number_at, number_of}
 use Rattle.jfr_renumber.specs.Renumber.{Used, new_key, new_key_of, pair_of, together, used_keys}
@@ -29,7 +28,7 @@ use Rattle.jfr_renumber.proofs.NumberLaws.{any_same, number_given}
 use Rattle.jfr_renumber.proofs.OrderLaws.{pair_same}
 use Rattle.jfr_renumber.proofs.LawLaws.{kept_nodes}
 use Rattle.jfr_renumber.proofs.MissingLaws.{flag_there, flagged_is, flagged_not, marked_up}
-use Rattle.jfr_renumber.proofs.TogetherLaws.{Twins, Alike, alike_together, together_alike, together_is}
+use Rattle.jfr_renumber.proofs.TogetherLaws.{Twins, alike_together, together_alike, together_is}
 use Rattle.jfr_renumber.proofs.UsedLaws.{in_map, in_used, map_in, remains_used, used_in, used_remains}
 
 filtered_in : {X : Type 0} (test : X → Bool) (xs : List X) (x : X) → In xs x → test x ≡ true → In (filter test xs) x

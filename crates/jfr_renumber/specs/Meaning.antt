@@ -1,6 +1,6 @@
 -- What a renumbered chunk keeps: for each event and each path the same shape and the same leaves, except for
 -- the keys.
-use Rattle.std.specs.Prelude.{◌≡◌, ◌≢◌, ◌↔◌, ◌≤◌, ◌<◌, ℕ, true, List, [], ◌∷◌, length, Option, Some, None, IsSome, slice_range, ⊤}
+use Rattle.std.specs.Prelude.{◌≡◌, ◌↔◌, ◌≤◌, ◌<◌, ℕ, true, List, [], ◌∷◌, length, IsSome, slice_range, ⊤}
 use Rattle.jfr_header.specs.Fronts.{Whole}
 use Rattle.jfr_frame.specs.Records.{record_end}
 use Rattle.jfr_value.specs.declared.node.Step.{Step}

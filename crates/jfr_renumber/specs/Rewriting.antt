@@ -1,6 +1,5 @@
 -- A value with new keys, leaf by leaf.
 use Rattle.std.specs.Prelude.{◌≡◌, ℕ, List, ◌∷◌}
-use Rattle.std.specs.List.{flat_map}
 use Rattle.jfr_base.specs.Integer.{Spells}
 use Rattle.jfr_layout.specs.declared.kind.Kind.TheVariants as kinds
 use Rattle.jfr_value.specs.declared.leaf.LeafKind.TheVariants as leaf_kinds

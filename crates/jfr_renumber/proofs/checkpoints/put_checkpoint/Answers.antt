@@ -1,4 +1,4 @@
-use Rattle.std.proofs.Common.{◌≡◌, ◌++◌, ◌+◌, ◌-◌, ap, sym, ◌∙◌}
+use Rattle.std.proofs.Common.{◌++◌, ◌+◌, ◌-◌, ap, ◌∙◌}
 use Rattle.std.specs.List.{slice_range}
 use Rattle.jfr_chunk.specs.Written.{by_pool}
 use Rattle.jfr_renumber.specs.Renumber.{checkpoint_tail}

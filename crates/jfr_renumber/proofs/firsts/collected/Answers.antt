@@ -1,4 +1,4 @@
-use Rattle.std.proofs.Common.{◌≡◌, ◌<◌, ap, arith, length, sym, ◌∙◌, subst}
+use Rattle.std.proofs.Common.{◌<◌, ap, arith, length, sym, ◌∙◌, subst}
 use Rattle.std.specs.Prelude.{slice_get}
 use Rattle.std.proofs.lemmas.Option.{slice_get-get_or}
 use Rattle.jfr_renumber.proofs.FirstsLaws.{so_far_at}

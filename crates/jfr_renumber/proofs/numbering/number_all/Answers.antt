@@ -1,4 +1,4 @@
-use Rattle.std.proofs.Common.{◌≡◌, ◌++◌, ap, arith, sym, ◌∙◌}
+use Rattle.std.proofs.Common.{◌++◌, ap, arith, ◌∙◌}
 use Rattle.jfr_renumber.proofs.ClassLaws.{ClassStands, some_at, cut_next, class_next, class_keys}
 use Rattle.jfr_renumber.proofs.numbering.number_all.Goals as goal
 

@@ -1,8 +1,5 @@
-use Rattle.std.proofs.Common.{◌≡◌, ◌++◌, ap, arith, sym, ◌∙◌, subst}
+use Rattle.std.proofs.Common.{◌∙◌}
 use Rattle.jfr_value.specs.Nodes.{node_of}
-use Rattle.jfr_chunk.specs.Seen.{event_at}
-use Rattle.jfr_chunk.specs.Parts.{Parts}
-use Rattle.jfr_renumber.specs.Renumber.{event_bytes}
 use Rattle.jfr_renumber.proofs.EventWriting.{fits_of, width_is, patched_of, in_parts}
 use Rattle.jfr_renumber.proofs.records.put_event.Goals as goal
 

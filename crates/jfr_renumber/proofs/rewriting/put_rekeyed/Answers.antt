@@ -1,4 +1,4 @@
-use Rattle.std.proofs.Common.{◌≡◌, ◌++◌, [], append-nil, ap, sym, ◌∙◌, subst}
+use Rattle.std.proofs.Common.{◌++◌, append-nil, ap, sym, ◌∙◌, subst}
 use Rattle.std.specs.List.{AllByRecursion}
 use Rattle.jfr_value.specs.Nodes.{node_of}
 use Rattle.jfr_renumber.specs.Rewriting.{KeyStands}

@@ -1,9 +1,8 @@
-use Rattle.std.proofs.Common.{◌≡◌, ◌++◌, [], ◌∷◌, ap, arith, sym, ◌∙◌}
+use Rattle.std.proofs.Common.{◌++◌, [], ◌∷◌, ap, arith, sym, ◌∙◌}
 use Rattle.jfr_base.specs.Integer.{spell}
 use Rattle.jfr_value.specs.Leaves.{leaf_of}
 use Rattle.std.proofs.lemmas.List.{append_assoc}
 use Rattle.std.proofs.lemmas.Result.{on_ok_weaker}
-use Rattle.jfr_renumber.specs.Rewriting.{leaf_with}
 use Rattle.jfr_renumber.proofs.RewritingLaws.{string_with}
 use Rattle.jfr_renumber.proofs.rewriting.put_string.Goals as goal
 

@@ -1,4 +1,4 @@
-use Rattle.std.proofs.Common.{◌≡◌, ◌<◌, ℕ, ap, sym, ◌∙◌, subst, Some}
+use Rattle.std.proofs.Common.{◌<◌, ℕ, ap, sym, ◌∙◌, subst, Some}
 use Rattle.std.specs.Prelude.{slice_get, Contains}
 use Rattle.std.proofs.lemmas.Option.{slice_get-get_or}
 use Rattle.jfr_renumber.specs.Numbers.{NumberedPairs, number_of}
