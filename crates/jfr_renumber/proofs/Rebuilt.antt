@@ -1,0 +1,397 @@
+-- The parts of the output with new keys are those of its bytes.
+use Rattle.std.specs.Prelude.{◌≡◌, ℕ, ◌+◌, ◌-◌, ◌^◌, ◌<◌, ◌≤◌, ◌==◌, ◌||◌, Bool, true, false, List, [], ◌∷◌, ◌++◌, length, map, filter, find, reverse, slice_range, Option, Some, None, Ok, Err, cond, Contains}
+use Rattle.std.specs.List.{AllByRecursion, enumerate_from}
+use Rattle.std.proofs.Common.{ap, arith, refl, sym, ◌∙◌, subst, inl, inr, length-append}
+use Rattle.std.proofs.lemmas.List.{length-reverse, reverse-reverse}
+use Rattle.std.proofs.lemmas.List.Elements.{All-from_recursion, All-contains}
+use Rattle.jfr_base.specs.Formats.{Answer, Reads, run}
+use Rattle.jfr_base.proofs.AlikeLaws.{Each}
+use Rattle.jfr_base.proofs.HoldLaws.{Holds, holds_at, holds_behind}
+use Rattle.jfr_base.proofs.OneAnswer.{has_one_answer}
+use Rattle.jfr_layout.specs.Classes.{Agree, Classes, is_event_class}
+use Rattle.jfr_header.specs.Fronts as fronts
+use Rattle.jfr_frame.specs.declared.framed.Framed.{Framed}
+use Rattle.jfr_frame.specs.Records.{IsRecord, Rising, Tiles, record_end}
+use Rattle.jfr_frame.proofs.RecordLaws.{record_one, rising_of}
+use Rattle.jfr_meta.specs.Body.{Body}
+use Rattle.jfr_meta.specs.Described.{IsMetadata}
+use Rattle.jfr_value.specs.Values.{Value, bytes_of}
+use Rattle.jfr_value.specs.Reading.{value_format}
+use Rattle.jfr_pool.specs.declared.link.Link.{Link}
+use Rattle.jfr_pool.specs.declared.entry.EntryAt.{EntryAt}
+use Rattle.jfr_pool.specs.Chains.{IsChain}
+use Rattle.jfr_pool.specs.Entries.{AreEntries, PoolAt, inline}
+use Rattle.jfr_chunk.specs.Parts.{Parts, EventAt, HasFields, event_by, event_of, event_records, events_of, AreParts, StartsAt, pools_at, metadata_at}
+use Rattle.jfr_chunk.specs.Reach.{kept_by, marked}
+use Rattle.jfr_chunk.specs.Scrub.{OutputRecord, Written, last_at, moved, header_with, output_records_whole, written_anew}
+use Rattle.jfr_worklist.proofs.Members.{In, contains_in, in_contains}
+use Rattle.jfr_chunk.proofs.AllLaws.{in_filter_map}
+use Rattle.jfr_chunk.proofs.TestLaws.{is_eq}
+use Rattle.jfr_chunk.proofs.StandingLaws.{standing, event_is}
+use Rattle.jfr_laws.proofs.Chains.{Linked, linked_chain}
+use Rattle.jfr_laws.proofs.OutputRecords.{frame_by}
+use Rattle.jfr_laws.proofs.Found.{shown, shown_bytes, shown_frame}
+use Rattle.jfr_laws.proofs.Whole.{metadata_new}
+use Rattle.jfr_laws.proofs.Anews.{Anew}
+use Rattle.jfr_laws.proofs.Listed.{any_in}
+use Rattle.jfr_chunk.proofs.AllLaws.{all_in}
+use Rattle.std.proofs.lemmas.Bool.Decides.{nat_tests}
+use Rattle.jfr_laws.proofs.ReadBack.{moved_frame}
+use Rattle.jfr_laws.proofs.Lengths.{last_from, sizes_within}
+use Rattle.jfr_laws.proofs.Order.{Numbered, numbered_at, found_numbered}
+use Rattle.jfr_laws.proofs.Header.{whole_small, header_length, made_pools, made_metadata, made_whole}
+use Rattle.jfr_laws.proofs.Premises.{all_links, IsCheckpoint, recorded, metadata_stands, chained_checkpoints}
+use Rattle.jfr_laws.proofs.Quiet.{no_metadata_event, quiet_records}
+use Rattle.jfr_laws.proofs.Passing.{clash, filter_both}
+use Rattle.jfr_laws.proofs.Chosen.{is_kept, records_of, chosen_records, rising_filter}
+use Rattle.jfr_laws.proofs.Same.{event_records_of, chosen_events}
+use Rattle.jfr_laws.proofs.Checkpoints.{all_numbers}
+use Rattle.jfr_laws.proofs.Output.{entries_by_number}
+use Rattle.jfr_renumber.specs.Rekeyed.{rekeyed}
+use Rattle.jfr_renumber.specs.Renumber.{event_bytes, whole_bytes, written_by, assembled_by}
+use Rattle.jfr_renumber.specs.Meaning.{AreRenamed}
+use Rattle.jfr_renumber.specs.Laws.{RenamedRecord, RenamedRecords}
+use Rattle.jfr_renumber.proofs.Made.{Found, bytes_from, frame_of, links_from, entries_at, found_made, last_inside, last_made, length_made, linked_made, no_links, tiles_made, entries_made}
+use Rattle.jfr_renumber.proofs.NewPools.{Renamed}
+use Rattle.jfr_renumber.proofs.NewOutput.{kept, left, bytes, pools, ss, order, deltas, all_stand, all_small, all_fields, all_entries, event_here, event_record, event_stands, found_event, read_under}
+use Rattle.jfr_renumber.proofs.NewEvents.{NewEvent, events_each}
+use Rattle.jfr_renumber.proofs.RecordBack.{fields_are}
+
+pub or_second : (x y : Bool) → y ≡ true → (x || y) ≡ true
+or_second true y h = refl
+or_second false y h = h
+
+pub no_link_at : (c : List ℕ) (all : List Numbered) (f : Framed) → AllByRecursion (IsCheckpoint c) all → IsRecord c f → f.type_id ≡ 0 → numbered_at all f.at ≡ None
+no_link_at c all f a s t = by_find (numbered_at all f.at) refl
+  where
+    by_find : (o : Option Numbered) → numbered_at all f.at ≡ o → o ≡ None
+    by_find None g = refl
+    by_find (Some x) g =
+        let h = found_numbered (IsCheckpoint c) all f.at x a g in
+        let j : x.1.frame ≡ f = record_one c x.1.frame f h.0.0 s h.1 in
+        let n : x.1.frame.type_id ≡ f.type_id = ap (λ (z : Framed). z.type_id) j in
+        let o : x.1.frame.type_id ≡ 1 = h.0.1 in
+        absurd (omega arith)
+
+only_records : (c : List ℕ) (ts : List Numbered) → AllByRecursion (IsCheckpoint c) ts → AllByRecursion (λ m. IsRecord c m.1.frame) ts
+only_records c [] a = tt
+only_records c (t ∷ ts) a = (a.0.0, only_records c ts a.1)
+
+none_numbered : (xs : List Link) → enumerate_from 0 xs ≡ [] → xs ≡ []
+none_numbered [] e = refl
+none_numbered (x ∷ xs) e = cc
+
+some_chain : (c : List ℕ) (rs : List Framed) (at : ℕ) (ls : List Link) → IsChain c rs at ls → reverse ls ≡ [] → ⊥
+some_chain c rs at [] h e = h
+some_chain c rs at (l ∷ ls) h e = let i : length (reverse (l ∷ ls)) ≡ length (l ∷ ls) = length-reverse (l ∷ ls) in let j : length (reverse (l ∷ ls)) ≡ 0 = ap length e in omega arith
+
+chain_new : (c : List ℕ) (rs : List Framed) (ls : List Link) → (ls ≡ [] → ⊥) → Linked c rs None ls → IsChain c rs (last_from None ls) (reverse ls)
+chain_new c rs [] n h = absurd (n refl)
+chain_new c rs (l ∷ ls) n h = linked_chain c rs l ls h
+
+-- An event is that of its record, which is of an event class.
+passes : {X : Type 0} (test : X → Bool) (xs : List X) (x : X) → In (filter test xs) x → test x ≡ true
+passes test [] x i = absurd i
+passes {X = X} test (y ∷ xs) x i = by_test (test y) refl i (passes test xs x)
+  where
+    by_test : (t : Bool) → test y ≡ t → In (cond t (y ∷ filter test xs) (filter test xs)) x → (In (filter test xs) x → test x ≡ true) → test x ≡ true
+    by_test true q (inl e) f = ap test (sym e) ∙ q
+    by_test true q (inr j) f = f j
+    by_test false q j f = f j
+
+-- Those that pass two tests, one of which can be changed.
+same_both : (test one two : Framed → Bool) (rs : List Framed) → ((r : Framed) → In rs r → test r ≡ true → (one r ≡ true) × (two r ≡ true)) → filter test (filter one rs) ≡ filter test (filter two rs)
+same_both test one two [] f = refl
+same_both test one two (r ∷ rs) f = by_tests (test r) refl (one r) refl (two r) refl (same_both test one two rs (λ x i t. f x (inr i) t)) (f r (inl refl))
+  where
+    by_tests : (t : Bool) → test r ≡ t → (u : Bool) → one r ≡ u → (v : Bool) → two r ≡ v → filter test (filter one rs) ≡ filter test (filter two rs) → (test r ≡ true → (one r ≡ true) × (two r ≡ true))
+        → filter test (cond u (r ∷ filter one rs) (filter one rs)) ≡ filter test (cond v (r ∷ filter two rs) (filter two rs))
+    by_tests t e true g true h i f = by_first (test r)
+      where
+        by_first : (t : Bool) → cond t (r ∷ filter test (filter one rs)) (filter test (filter one rs)) ≡ cond t (r ∷ filter test (filter two rs)) (filter test (filter two rs))
+        by_first true = ap (λ z. r ∷ z) i
+        by_first false = i
+    by_tests t e false g false h i f = i
+    by_tests true e true g false h i f = let z : true ≡ false = sym (f e).1 ∙ h in cc
+    by_tests true e false g true h i f = let z : true ≡ false = sym (f e).0 ∙ g in cc
+    by_tests false e true g false h i f = rw e i
+    by_tests false e false g true h i f = rw e i
+
+pub record Computed (p : Parts) (e : EventAt) : Type 0 where
+  pub class : is_event_class p.classes e.record_of.type_id ≡ true
+  pub is : event_of p.bytes p.classes e.record_of ≡ Some e
+
+pub computed : (p : Parts) (e : EventAt) → In (events_of p) e → Computed p e
+unfolding events_of
+computed p e i =
+    let r = in_filter_map (event_of p.bytes p.classes) (event_records p.classes p.records) e i in
+    by_answer r.0 (passes (λ r. is_event_class p.classes r.type_id) p.records r.0 r.1) (run (value_format p.classes (inline r.0.type_id)) p.bytes (record_end r.0) r.0.body) refl r.2
+  where
+    by_answer : (r : Framed) → is_event_class p.classes r.type_id ≡ true → (o : Answer Value) → run (value_format p.classes (inline r.type_id)) p.bytes (record_end r) r.body ≡ o → event_by r o ≡ Some e → Computed p e
+    by_answer r t (Err f) q h = cc
+    by_answer r t (Ok g) q h =
+        let made : EventAt = record { record_of = r; node = record { shape = inline r.type_id; at = r.body; end = g.place } } in
+        let f : made ≡ e = (let z : Some made ≡ Some e = h in cc) in
+        let own : r ≡ e.record_of = ap (λ (z : EventAt). z.record_of) f in
+        let there : event_of p.bytes p.classes r ≡ Some e = ap (event_by r) q ∙ h in
+        record { class = subst (λ (z : Framed). is_event_class p.classes z.type_id ≡ true) own t; is = subst (λ z. event_of p.bytes p.classes z ≡ Some e) own there }
+
+module _ (p : Parts) (a : AreParts p) (flags : List Bool) (n : Anew p a (kept_by p flags)) (new : ℕ × ℕ → ℕ) (most : (t : ℕ × ℕ) → new t ≤ t.1) (fm : List Bool) (agree : AllByRecursion (λ x. Agree p.classes n.classes x.class) (marked fm p.entries)) where
+  abbrev pub these : List EventAt
+  these = kept p a flags n new most fm agree
+
+  abbrev m : Classes
+  m = n.classes
+
+  abbrev pub write : OutputRecord → ℕ → Option ℕ → List ℕ
+  write = bytes p a flags n new most fm agree
+
+  abbrev pub pooled : ℕ → Option ℕ → ℕ → Link → List PoolAt
+  pooled = pools p a flags n new most fm agree
+
+  abbrev pub outs : List OutputRecord
+  outs = ss p a flags n new most fm agree
+
+  abbrev pub ws : List Written
+  ws = written_by write 68 None outs
+
+  abbrev pub body_of : List ℕ
+  body_of = bytes_from m write pooled 68 None outs
+
+  abbrev pub last_of : ℕ
+  last_of = last_at None ws
+
+  abbrev pub metadata_of : ℕ
+  metadata_of = moved ws (metadata_at p.bytes)
+
+  abbrev pub out : List ℕ
+  out = assembled_by p write outs
+
+  event_in : (e : EventAt) → In these e → In (events_of p) e
+  event_in e i = contains_in (events_of p) e (All-contains (Contains (events_of p)) these e (chosen_events p flags) (in_contains these e i))
+
+  -- What is built anew of the metadata record, if anything is.
+  abbrev metadata_anew : Option (List ℕ)
+  metadata_anew = metadata_new p these a
+
+  -- It is no event, so what is written of it is what a scrub writes.
+  no_event_there : find (λ e. e.record_of.at == a.metadata_record.at) these ≡ None
+  no_event_there = by_find (find (λ e. e.record_of.at == a.metadata_record.at) these) refl
+    where
+      by_find : (o : Option EventAt) → find (λ e. e.record_of.at == a.metadata_record.at) these ≡ o → o ≡ None
+      by_find None q = refl
+      by_find (Some e) q =
+          let f = found_event p a flags n new most fm agree a.metadata_record e (metadata_stands p a) q in
+          let c = computed p e (event_in e f.0) in
+          let d : is_event_class p.classes e.record_of.type_id ≡ false = ap (λ (z : Framed). is_event_class p.classes z.type_id) f.1 ∙ (ap (is_event_class p.classes) a.metadata_there.type_is ∙ no_metadata_event p.classes) in
+          absurd (clash (is_event_class p.classes e.record_of.type_id) c.class d)
+
+  metadata_written : (w : Option (List ℕ)) (at : ℕ) (older : Option ℕ) → write (shown w a.metadata_record) at older ≡ shown_bytes p.bytes w a.metadata_record
+  metadata_written None at older = ap (whole_bytes new p a.metadata_record) no_event_there
+  metadata_written (Some x) at older = refl
+
+  metadata_framed : (w : Option (List ℕ)) (at : ℕ) → frame_by (shown w a.metadata_record) at (length (shown_bytes p.bytes w a.metadata_record)) ≡ shown_frame p.bytes w a.metadata_record at
+  metadata_framed None at = refl
+  metadata_framed (Some x) at = refl
+
+  pub record Leading (b : List ℕ) : Type 0 where
+    pub held : Holds b (length b) 68 body_of
+    pub size : length b ≡ 68 + length body_of
+    pub pools_place : pools_at b ≡ last_of
+    pub metadata_place : metadata_at b ≡ metadata_of
+
+  module _ (b : List ℕ) (h : Holds b (length b) 68 body_of) where
+    abbrev found : Found m write pooled b a.metadata_record metadata_anew 68 ws
+    found =
+        found_made m write pooled b p.bytes (all_links p) (output_records_whole p these) (written_anew p these) a.metadata_record (metadata_stands p a)
+        (no_link_at p.bytes (all_links p) a.metadata_record (chained_checkpoints p a) (metadata_stands p a) a.metadata_there.type_is)
+        (or_second (is_kept these a.metadata_record) (a.metadata_record.at == metadata_at p.bytes) (is_eq a.metadata_record.at (metadata_at p.bytes) a.metadata_there.place))
+        p.records 68 None (recorded p a) (contains_in p.records a.metadata_record a.metadata_there.listed) h
+
+    metadata_held : Holds b (length b) found.place (shown_bytes p.bytes metadata_anew a.metadata_record)
+    metadata_held = subst (Holds b (length b) found.place) (metadata_written metadata_anew found.place found.older) found.held
+
+  abbrev header : List ℕ
+  header = header_with p.bytes (68 + length body_of) last_of metadata_of
+
+  header_is_long : length header ≡ 68
+  header_is_long = header_length p.bytes (68 + length body_of) last_of metadata_of
+
+  out_size : length out ≡ 68 + length body_of
+  out_size = let l : length (header ++ body_of) ≡ length header + length body_of = length-append header body_of in omega (arith, header_is_long)
+
+  out_held : Holds out (length out) 68 body_of
+  out_held = holds_at out (length out) (length header) 68 body_of header_is_long (holds_behind header body_of)
+
+  body_fits : 68 + length body_of ≤ length p.bytes
+  body_fits =
+      let l = length_made m write pooled outs 68 None (all_small p a flags n new most fm agree) (deltas p a flags n new most fm agree) in
+      let s = sizes_within p.bytes (all_links p) (output_records_whole p these) (written_anew p these) (only_records p.bytes (all_links p) (chained_checkpoints p a)) p.records 68 (length p.bytes) a.records in
+      omega (arith, l, s)
+
+  pub out_shorter : length out ≤ length p.bytes
+  out_shorter = omega (arith, body_fits, out_size)
+
+  module _ (whole : fronts.Whole p.bytes) where
+    small : length p.bytes < 2 ^ 30
+    small = whole_small p.bytes whole
+
+    pub out_leading : Leading out
+    out_leading =
+        let f = found out out_held in
+        let g : metadata_of ≡ f.place = ap (moved ws) (sym a.metadata_there.place) ∙ f.leads in
+        let w : f.place + length (shown_bytes p.bytes metadata_anew a.metadata_record) ≤ length out = (metadata_held out out_held).within in
+        let l = last_inside m write pooled outs 68 None tt in
+        record {
+          held = out_held;
+          size = out_size;
+          pools_place = made_pools p.bytes body_of (68 + length body_of) last_of metadata_of (omega (arith, l, body_fits, small));
+          metadata_place = made_metadata p.bytes body_of (68 + length body_of) last_of metadata_of (omega (arith, g, w, out_shorter, small));
+        }
+
+    pub out_whole : fronts.Whole out
+    out_whole = made_whole p.bytes body_of (68 + length body_of) last_of metadata_of whole (sym out_size) (omega (arith, body_fits, small))
+
+  -- The output is in bytes after a header that leads to it.
+  module _ (b : List ℕ) (l : Leading b) (tiny : length b < 2 ^ 63) where
+    abbrev rs : List Framed
+    rs = map (frame_of m write pooled) ws
+
+    abbrev ls : List Link
+    ls = links_from m write pooled 68 None outs
+
+    abbrev es : List EntryAt
+    es = entries_at m write pooled 0 68 None outs
+
+    tiles : Tiles b 68 rs (length b)
+    tiles = subst (Tiles b 68 rs) (sym l.size) (tiles_made m write pooled b outs 68 None (all_stand p a flags n new most fm agree b) (deltas p a flags n new most fm agree) l.held)
+
+    some_links : ls ≡ [] → ⊥
+    some_links e = some_chain p.bytes p.records (pools_at p.bytes) p.chain a.chain (none_numbered (reverse p.chain) (sym (order p a flags n new most fm agree) ∙ no_links m write pooled outs 68 None e))
+
+    chain : IsChain b rs (pools_at b) (reverse ls)
+    chain =
+        let k = linked_made m write pooled b rs tiny outs [] 68 None (all_stand p a flags n new most fm agree b) (deltas p a flags n new most fm agree) tt l.held refl in
+        let e : last_from None ls ≡ pools_at b = sym (last_made m write pooled outs 68 None) ∙ sym l.pools_place in
+        subst (λ z. IsChain b rs z (reverse ls)) e (chain_new b rs ls some_links k)
+
+    abbrev place : ℕ
+    place = (found b l.held).place
+
+    abbrev metadata_frame : Framed
+    metadata_frame = shown_frame p.bytes metadata_anew a.metadata_record place
+
+    frame_at : (w : Option (List ℕ)) (at : ℕ) → (shown_frame p.bytes w a.metadata_record at).at ≡ at
+    frame_at None at = refl
+    frame_at (Some x) at = refl
+
+    frame_type : (w : Option (List ℕ)) (at : ℕ) → (shown_frame p.bytes w a.metadata_record at).type_id ≡ 0
+    frame_type None at = a.metadata_there.type_is
+    frame_type (Some x) at = refl
+
+    metadata_there : StartsAt rs (metadata_at b) 0 metadata_frame
+    metadata_there =
+        let f = found b l.held in
+        let e : f.place ≡ metadata_at b = sym (l.metadata_place ∙ (ap (moved ws) (sym a.metadata_there.place) ∙ f.leads)) in
+        let i : In rs metadata_frame = subst (In rs) (ap (λ z. frame_by (shown metadata_anew a.metadata_record) f.place (length z)) (metadata_written metadata_anew f.place f.older) ∙ metadata_framed metadata_anew f.place) f.listed in
+        record { listed = in_contains rs metadata_frame i; place = frame_at metadata_anew f.place ∙ e; type_is = frame_type metadata_anew f.place }
+
+    pub metadata_read : (body : Body) × IsMetadata b metadata_frame body m
+    metadata_read = let r = n.reads b place (metadata_held b l.held) in (r.0, r.1)
+
+    are_entries : AreEntries b m 0 (reverse (reverse ls)) es
+    are_entries =
+        subst (λ z. AreEntries b m 0 z es) (sym (reverse-reverse ls)) (entries_made m write pooled b outs 0 68 None (all_stand p a flags n new most fm agree b) (deltas p a flags n new most fm agree) l.held)
+
+    -- Its parts.
+    abbrev pub parts : Parts
+    parts = record { bytes = b; records = rs; chain = reverse ls; body = metadata_read.0; classes = m; entries = es }
+
+    -- These are the parts of the output.
+    pub stand : AreParts parts
+    stand = record {
+      records = tiles;
+      chain = chain;
+      metadata_record = metadata_frame;
+      metadata_there = metadata_there;
+      metadata = metadata_read.1;
+      entries = are_entries;
+      events = All-from_recursion (HasFields b m) (event_records m rs) (all_fields p a flags n new most fm agree b l.held);
+    }
+
+    -- Its entries are those that are left, with new keys.
+    each_renamed : (xs ys : List EntryAt) → Each (Renamed p (standing p a).sound new most b) xs ys → AreRenamed new p parts xs ys
+    each_renamed [] [] e = tt
+    each_renamed [] (y ∷ ys) e = absurd e
+    each_renamed (x ∷ xs) [] e = absurd e
+    each_renamed (x ∷ xs) (y ∷ ys) e = (record { class = e.0.class; key = e.0.key; checkpoint = e.0.checkpoint; value = e.0.value }, each_renamed xs ys e.1)
+
+    pub entries_renamed : AreRenamed new p parts (left p a flags n new most fm agree) es
+    entries_renamed =
+        let remaining : List EntryAt = left p a flags n new most fm agree in
+        let each = all_entries p a flags n new most fm agree b (reverse p.chain) l.held (order p a flags n new most fm agree) in
+        let e : entries_by_number remaining _ ≡ remaining = ap (entries_by_number remaining) (order p a flags n new most fm agree) ∙ all_numbers p.bytes p.classes fm (reverse p.chain) p.entries a.entries in
+        each_renamed remaining es (subst (λ z. Each (Renamed p (standing p a).sound new most b) z es) e each)
+
+    -- Its events are the kept ones, with new keys in their fields.
+    one_event : (e d : EventAt) → In (events_of p) e → In (events_of p) d → d.record_of ≡ e.record_of → d ≡ e
+    one_event e d i j q =
+        let x = (computed p e i).is in
+        let y : event_of p.bytes p.classes e.record_of ≡ Some d = subst (λ z. event_of p.bytes p.classes z ≡ Some d) q (computed p d j).is in
+        cc
+
+    renamed_record : (e f : EventAt) → In these e → In (events_of parts) f → NewEvent p a flags n new most fm agree b e.record_of f.record_of → RenamedRecord new p parts e f
+    renamed_record e f i j w =
+        let same : w.event ≡ e = one_event e w.event (event_in e i) (event_in w.event w.is_kept) w.of in
+        by_event (subst (In these) same w.is_kept) (subst (λ (z : EventAt). f.record_of ≡ moved_frame w.at e.record_of (length (event_bytes new p z))) same w.frame) (subst (λ z. Holds b (length b) w.at (event_bytes new p z)) same w.held)
+      where
+        by_event : In these e → f.record_of ≡ moved_frame w.at e.record_of (length (event_bytes new p e)) → Holds b (length b) w.at (event_bytes new p e) → RenamedRecord new p parts e f
+        by_event k g h =
+            let id : ℕ = e.record_of.type_id in
+            let st = event_stands p a flags n new most fm agree b e k w.at h in
+            let x = event_is parts stand f j in
+            let at : ℕ = w.at + (e.record_of.body - e.record_of.at) in
+            let end : ℕ = w.at + length (event_bytes new p e) in
+            let type : f.record_of.type_id ≡ id = ap (λ (z : Framed). z.type_id) g in
+            let v : Value = rekeyed new (event_here p a flags n new most fm agree e k).value in
+            let to : ℕ = at + length (bytes_of v) in
+            let read : Reads (value_format m (inline id)) b end at x.value f.node.end =
+            subst (λ (z : Framed). Reads (value_format m (inline z.type_id)) b (record_end z) z.body x.value f.node.end) g x.reads in
+            let ours : Reads (value_format m (inline id)) b end at v to = read_under p a flags n new most fm agree id b end at v to (n.suits.event e k) st.fields in
+            let inside : end ≤ length b = h.within in
+            let order : at ≤ end = (let y = st.fields_held.within in omega arith) in
+            let one = (has_one_answer (value_format m (inline id)) b end at order inside).one_reading x.value v f.node.end to read ours in
+            let start : f.node.at ≡ at = x.at ∙ ap (λ (z : Framed). z.body) g in
+            let last : record_end f.record_of ≡ end = ap record_end g in
+            record {
+              class = sym type;
+              fields = fields_are p (standing p a).sound new e (event_here p a flags n new most fm agree e k) (event_record p a flags n new most fm agree e k) ∙ (sym st.fields_held.bytes ∙ (ap (λ z. slice_range b z to) (sym start) ∙ ap (slice_range b f.node.at) (sym one.1)));
+              rest = sym st.rest_held.bytes ∙ (ap (λ z. slice_range b z (to + length (slice_range p.bytes e.node.end (record_end e.record_of)))) (sym one.1) ∙ ap (slice_range b f.node.end) (st.ends ∙ sym last));
+              agree = n.suits.agree id (n.suits.event e k);
+            }
+
+    renamed_records : (xs ys : List EventAt) → ((e : EventAt) → In xs e → In these e) → ((f : EventAt) → In ys f → In (events_of parts) f) → Each (NewEvent p a flags n new most fm agree b) (records_of xs) (records_of ys) → RenamedRecords new p parts xs ys
+    renamed_records [] [] i j e = tt
+    renamed_records [] (y ∷ ys) i j e = absurd e
+    renamed_records (x ∷ xs) [] i j e = absurd e
+    renamed_records (x ∷ xs) (y ∷ ys) i j e = (renamed_record x y (i x (inl refl)) (j y (inl refl)) e.0, renamed_records xs ys (λ z k. i z (inr k)) (λ z k. j z (inr k)) e.1)
+
+    -- A record at the offset of a kept event is that event's, under either list of classes.
+    kept_is_event : (r : Framed) → In p.records r → is_kept these r ≡ true → (is_event_class m r.type_id ≡ true) × (is_event_class p.classes r.type_id ≡ true)
+    kept_is_event r i t =
+        let e = any_in (λ (e : EventAt). e.record_of.at == r.at) these t in
+        let q : e.0.record_of.at ≡ r.at = (let u : (e.0.record_of.at == r.at) ≡ true = e.2 in grind (arith, nat_tests)) in
+        let g : e.0.record_of ≡ r = record_one p.bytes e.0.record_of r (event_record p a flags n new most fm agree e.0 e.1) (all_in (IsRecord p.bytes) p.records r (recorded p a) i) q in
+        let h : is_event_class m r.type_id ≡ true = subst (λ (z : Framed). is_event_class m z.type_id ≡ true) g (n.suits.event e.0 e.1) in
+        (h, n.suits.before r.type_id h)
+
+    pub events_renamed : RenamedRecords new p parts these (events_of parts)
+    events_renamed =
+        let rising : Rising 68 (event_records p.classes p.records) = rising_filter (λ r. is_event_class p.classes r.type_id) 68 p.records (rising_of p.bytes 68 68 (length p.bytes) p.records (omega arith) a.records) in
+        let chosen : filter (is_kept these) (event_records p.classes p.records) ≡ records_of these = chosen_records flags (events_of p) (event_records p.classes p.records) 68 (event_records_of p a) rising in
+        let news : event_records m rs ≡ records_of (events_of parts) = sym (event_records_of parts stand) in
+        let each = events_each p a flags n new most fm agree b p.records 68 None (quiet_records p a m) (recorded p a) l.held in
+        let same = same_both (is_kept these) (λ r. is_event_class m r.type_id) (λ r. is_event_class p.classes r.type_id) p.records kept_is_event in
+        renamed_records these (events_of parts) (λ e i. i) (λ f i. i)
+        (subst (λ z. Each (NewEvent p a flags n new most fm agree b) z (records_of (events_of parts))) (filter_both (λ r. is_event_class m r.type_id) (is_kept these) p.records ∙ (same ∙ chosen))
+        (subst (Each (NewEvent p a flags n new most fm agree b) _) news each))

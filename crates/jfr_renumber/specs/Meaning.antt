@@ -1,0 +1,71 @@
+-- What a renumbered chunk keeps: for each event and each path the same shape and the same leaves, except for
+-- the keys.
+use Rattle.std.specs.Prelude.{◌≡◌, ◌↔◌, ◌≤◌, ◌<◌, ℕ, true, List, [], ◌∷◌, length, IsSome, slice_range, ⊤}
+use Rattle.jfr_header.specs.Fronts.{Whole}
+use Rattle.jfr_frame.specs.Records.{record_end}
+use Rattle.jfr_value.specs.declared.node.Step.{Step}
+use Rattle.jfr_value.specs.Nodes.{NodeAt, Both, node_bytes}
+use Rattle.jfr_pool.specs.declared.entry.EntryAt.{EntryAt}
+use Rattle.jfr_pool.specs.Entries.{in_force, entry_node}
+use Rattle.jfr_chunk.specs.Parts.{Parts, EventAt, AreParts, events_of}
+use Rattle.jfr_chunk.specs.Scrub.{scrub_of}
+use Rattle.jfr_chunk.specs.Metas.{classes_left}
+use Rattle.jfr_chunk.specs.Paths.{leads}
+use Rattle.jfr_renumber.specs.Rekeyed.{SameButKeys, rekeyed_bytes, moved}
+use Rattle.jfr_renumber.specs.Renumber.{Used, together, new_key, firsts, pair_of, renumber_of}
+
+-- Each path leads from both to nodes of the same shape and leaves, except for the keys, or from both nowhere.
+abbrev pub RenamedPaths : (ℕ × ℕ → ℕ) → Parts → Parts → NodeAt → NodeAt → Type 0
+RenamedPaths new p q n o = (path : List Step) → Both (SameButKeys new p.classes q.classes p.bytes q.bytes) (leads p n path) (leads q o path)
+
+-- Two events have the same class and the same bytes after their fields, and each path leads from both to the
+-- same, except for the keys.
+pub record RenamedEvent (new : ℕ × ℕ → ℕ) (p q : Parts) (e f : EventAt) : Type 0 where
+  pub class : e.record_of.type_id ≡ f.record_of.type_id
+  pub rest : slice_range p.bytes e.node.end (record_end e.record_of) ≡ slice_range q.bytes f.node.end (record_end f.record_of)
+  pub paths : RenamedPaths new p q e.node f.node
+
+-- The events correspond one to one, in order, and each pair is so.
+abbrev pub RenamedMeaning : (ℕ × ℕ → ℕ) → Parts → Parts → List EventAt → List EventAt → Type 0
+RenamedMeaning new p q [] [] = ⊤
+RenamedMeaning new p q (e ∷ es) (f ∷ fs) = RenamedEvent new p q e f × RenamedMeaning new p q es fs
+RenamedMeaning new p q [] (f ∷ fs) = ⊥
+RenamedMeaning new p q (e ∷ es) [] = ⊥
+
+-- These are new keys: none is larger than the old one, those of a class are dense, and two are equal exactly if
+-- the keys are together.
+pub record AreNewKeys (p : Parts) (kept : List EventAt) (new : ℕ × ℕ → ℕ) : Type 0 where
+  pub most : (t : ℕ × ℕ) → new t ≤ t.1
+  pub groups : (t u : ℕ × ℕ) → Used p kept t → Used p kept u → t.0 ≡ u.0 → (new t ≡ new u) ↔ (together p t u ≡ true)
+  pub dense : (t : ℕ × ℕ) (n : ℕ) → Used p kept t → n < new t → (u : ℕ × ℕ) × Used p kept u × (u.0 ≡ t.0) × (new u ≡ n)
+
+-- The second entry is the first one with its new key, and with new keys in its value.
+pub record IsRenamed (new : ℕ × ℕ → ℕ) (p q : Parts) (e f : EntryAt) : Type 0 where
+  pub class : e.class ≡ f.class
+  pub key : new (pair_of e) ≡ f.key
+  pub checkpoint : e.checkpoint ≡ f.checkpoint
+  pub value : rekeyed_bytes new p.classes p.bytes (entry_node e) ≡ node_bytes q.bytes (entry_node f)
+
+-- The entries correspond one to one, in order, and each pair is so.
+abbrev pub AreRenamed : (ℕ × ℕ → ℕ) → Parts → Parts → List EntryAt → List EntryAt → Type 0
+AreRenamed new p q [] [] = ⊤
+AreRenamed new p q (e ∷ es) (f ∷ fs) = IsRenamed new p q e f × AreRenamed new p q es fs
+AreRenamed new p q [] (f ∷ fs) = ⊥
+AreRenamed new p q (e ∷ es) [] = ⊥
+
+-- The output of a chunk with new keys if these events are kept: it is whole, accepted, and no longer than the
+-- chunk or than its output without new keys. Its classes are those of the output without new keys, its entries
+-- the first of each group, and its events the kept ones; it means the same except for the keys. A key that is
+-- used has an entry in force exactly if its new key has one.
+pub record IsRenumbered (p : Parts) (kept : List EventAt) : Type 0 where
+  pub keys : AreNewKeys p kept (new_key p kept)
+  pub parts : Parts
+  pub classes : parts.classes ≡ classes_left p kept
+  pub bytes : parts.bytes ≡ renumber_of p kept
+  pub whole : Whole (renumber_of p kept)
+  pub stand : AreParts parts
+  pub size : length (renumber_of p kept) ≤ length p.bytes
+  pub no_longer : length (renumber_of p kept) ≤ length (scrub_of p kept)
+  pub entries : AreRenamed (new_key p kept) p parts (firsts p kept) parts.entries
+  pub missing : (t : ℕ × ℕ) → Used p kept t → IsSome (in_force p.entries t) ↔ IsSome (in_force parts.entries (moved (new_key p kept) t))
+  pub meaning : RenamedMeaning (new_key p kept) p parts kept (events_of parts)

@@ -1,0 +1,34 @@
+-- The classes and keys that are referred to and have no entry in force.
+use Rattle.std.specs.Prelude.{◌≡◌, ◌⊎◌, ◌<◌, ⊤, ℕ, Bool, false, List, [], ◌∷◌, ◌++◌, filter, Option, None, not, is_some, slice_get, option_and_then, if◌then◌else◌}
+use Rattle.std.specs.List.{AllByRecursion}
+use Rattle.std.specs.declared.cmp.Ordering.{Ordering}
+use Rattle.std.specs.Ordering.{nat_cmp, ordering_then}
+use Rattle.jfr_pool.specs.declared.entry.EntryAt.{EntryAt}
+use Rattle.jfr_pool.specs.Entries.{number_in_force}
+use Rattle.jfr_renumber.specs.declared.used.Missing.{Missing}
+
+-- Whether no entry is in force for the class and the key.
+abbrev pub is_missing : List EntryAt → ℕ × ℕ → Bool
+is_missing es t = not (is_some (number_in_force es t))
+
+-- The member with this index, if the flag with this index is set.
+abbrev pub flagged : {X : Type 0} → List Bool → List X → ℕ → Option X
+flagged flags xs i = option_and_then (λ keep. if keep then slice_get xs i else None) (slice_get flags i)
+
+-- Unless memory ran out, those of these without an entry in force have been added to the list.
+pub record Lists (es : List EntryAt) (ts : List (ℕ × ℕ)) (old new : Missing) : Type 0 where
+  pub went : new.failed ≡ false → old.failed ≡ false
+  pub joined : new.failed ≡ false → new.keys.items ≡ old.keys.items ++ filter (is_missing es) ts
+
+-- A class and a key are before others: the class is smaller, or it is the same and the key is smaller.
+abbrev pub Earlier : ℕ × ℕ → ℕ × ℕ → Type 0
+Earlier t u = (t.0 < u.0) ⊎ ((t.0 ≡ u.0) × (t.1 < u.1))
+
+-- Each is before all later ones.
+abbrev pub IsRising : List (ℕ × ℕ) → Type 0
+IsRising [] = ⊤
+IsRising (t ∷ ts) = AllByRecursion (Earlier t) ts × IsRising ts
+
+-- How classes and keys compare.
+abbrev pub pair_cmp : ℕ × ℕ → ℕ × ℕ → Ordering
+pair_cmp x y = ordering_then (nat_cmp x.0 y.0) (nat_cmp x.1 y.1)

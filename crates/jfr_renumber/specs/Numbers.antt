@@ -1,0 +1,21 @@
+-- The new keys of all that is used.
+use Rattle.std.specs.Prelude.{ℕ, ◌&&◌, ◌==◌, List, [], ◌∷◌, Option, Some, None, unwrap_or, if◌then◌else◌}
+
+-- Classes and keys, with the number of each.
+pub record NumberedPairs : Type 0 where
+  pub pairs : List (ℕ × ℕ)
+  pub numbers : List ℕ
+
+-- The number at the place of a class and a key, if they are there.
+abbrev pub number_at : List (ℕ × ℕ) → List ℕ → ℕ × ℕ → Option ℕ
+number_at [] ns t = None
+number_at (u ∷ us) [] t = None
+number_at (u ∷ us) (n ∷ ns) t = if (u.0 == t.0) && (u.1 == t.1) then Some n else number_at us ns t
+
+-- The number of a class and a key, if they have one.
+unfoldable pub number_of : NumberedPairs → ℕ × ℕ → Option ℕ
+number_of k t = number_at k.pairs k.numbers t
+
+-- The same for all classes and keys: those without a number get 0.
+abbrev pub numbers_of : NumberedPairs → ℕ × ℕ → ℕ
+numbers_of k t = unwrap_or (number_of k t) 0

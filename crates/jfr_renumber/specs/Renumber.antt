@@ -1,0 +1,125 @@
+-- Which keys are used, their new keys, and the output of a chunk with them.
+use Rattle.std.specs.Prelude.{ℕ, ◌+◌, ◌-◌, Bool, false, not, ◌&&◌, ◌||◌, ◌==◌, ◌≡◌, List, [], ◌∷◌, ◌++◌, length, map, filter, find, Option, Some, None, Contains, slice_range, if◌then◌else◌}
+use Rattle.std.specs.List.{list_any, flat_map}
+use Rattle.std.specs.Str.{bytes_eq}
+use Rattle.jfr_base.specs.Integer.{spell}
+use Rattle.jfr_frame.specs.declared.framed.Framed.{Framed}
+use Rattle.jfr_frame.specs.Records.{record_bytes, record_end}
+use Rattle.jfr_value.specs.declared.node.Step.{Step}
+use Rattle.jfr_value.specs.Nodes.{NodeAt, node_bytes, target}
+use Rattle.jfr_pool.specs.declared.link.Link.{Link}
+use Rattle.jfr_pool.specs.declared.entry.EntryAt.{EntryAt}
+use Rattle.jfr_pool.specs.Entries.{in_force, entry_node}
+use Rattle.jfr_chunk.specs.Parts.{Parts, EventAt, metadata_at}
+use Rattle.jfr_chunk.specs.Paths.{leads}
+use Rattle.jfr_chunk.specs.Reach.{all_targets, nodes_of, remain}
+use Rattle.jfr_chunk.specs.Written.{Group, distance, sized}
+use Rattle.jfr_chunk.specs.Scrub.{OutputRecord, Whole, Chained, Rebuilt, Written, groups_of, header_with, last_at, moved, older_after, output_records}
+use Rattle.jfr_renumber.specs.Keys.{group_number}
+use Rattle.jfr_renumber.specs.Rekeyed.{rekeyed_bytes}
+
+-- A path of a kept event leads to a node that refers to this class and key.
+pub record Used (p : Parts) (kept : List EventAt) (t : ℕ × ℕ) : Type 0 where
+  pub event : EventAt
+  pub is_kept : Contains kept event
+  pub path : List Step
+  pub node : NodeAt
+  pub leads_there : leads p event.node path ≡ Some node
+  pub refers : target p.classes p.bytes node ≡ Some t
+
+-- The same by a computation: what the kept events and the entries that remain refer to.
+unfoldable pub used_keys : Parts → List EventAt → List (ℕ × ℕ)
+used_keys p kept = all_targets p (nodes_of kept ++ map entry_node (remain p kept))
+
+-- The class and the key of an entry.
+abbrev pub pair_of : EntryAt → ℕ × ℕ
+pair_of e = (e.class, e.key)
+
+-- Whether there are two entries, with equal bytes of the value.
+abbrev pub equal_values : List ℕ → Option EntryAt → Option EntryAt → Bool
+equal_values c None other = false
+equal_values c (Some e) None = false
+equal_values c (Some e) (Some f) = bytes_eq (node_bytes c (entry_node e)) (node_bytes c (entry_node f))
+
+-- Whether two keys of a class are together: they are equal, or both have entries in force, with equal bytes of
+-- the value.
+unfoldable pub together : Parts → ℕ × ℕ → ℕ × ℕ → Bool
+together p t u = (t.0 == u.0) && ((t.1 == u.1) || equal_values p.bytes (in_force p.entries t) (in_force p.entries u))
+
+-- The new key of a class and a key.
+unfoldable pub new_key : Parts → List EventAt → ℕ × ℕ → ℕ
+new_key p kept t = group_number (together p) (used_keys p kept) t
+
+-- The new key of a class and a key, if they are used.
+abbrev pub new_key_of : Parts → List EventAt → ℕ × ℕ → Option ℕ
+new_key_of p kept t = if list_any (λ u. (u.0 == t.0) && (u.1 == t.1)) (used_keys p kept) then Some (new_key p kept t) else None
+
+-- Of these entries, the first of those that are the same by this test, each time.
+abbrev pub firsts_with : (EntryAt → EntryAt → Bool) → List EntryAt → List EntryAt
+firsts_with same [] = []
+firsts_with same (e ∷ es) = e ∷ filter (λ f. not (same e f)) (firsts_with same es)
+
+-- Of these entries, the first of each group.
+abbrev pub firsts_of : Parts → List EntryAt → List EntryAt
+firsts_of p es = firsts_with (λ e f. together p (pair_of e) (pair_of f)) es
+
+-- The entries of the output: of those that remain, the first of each group.
+unfoldable pub firsts : Parts → List EventAt → List EntryAt
+firsts p kept = firsts_of p (remain p kept)
+
+-- What follows the size of a kept event: its type unchanged, its fields with new keys, and the bytes after them
+-- unchanged.
+abbrev pub event_tail : (ℕ × ℕ → ℕ) → Parts → EventAt → List ℕ
+event_tail new p e =
+    slice_range p.bytes e.record_of.type_at e.record_of.body ++ (rekeyed_bytes new p.classes p.bytes e.node ++ slice_range p.bytes e.node.end (record_end e.record_of))
+
+-- The event, with its new size spelled in the same number of bytes as before.
+abbrev pub event_bytes : (ℕ × ℕ → ℕ) → Parts → EventAt → List ℕ
+event_bytes new p e = sized (e.record_of.type_at - e.record_of.at) (event_tail new p e)
+
+-- An entry's bytes: its new key, and its value with new keys.
+abbrev pub entry_bytes : (ℕ × ℕ → ℕ) → Parts → EntryAt → List ℕ
+entry_bytes new p e = spell (new (pair_of e)) ++ rekeyed_bytes new p.classes p.bytes (entry_node e)
+
+-- A pool: its class and the number of its entries, each in its shortest spelling, then the entries.
+abbrev pub group_bytes : (ℕ × ℕ → ℕ) → Parts → Group → List ℕ
+group_bytes new p g = spell g.class ++ (spell (length g.entries) ++ flat_map (entry_bytes new p) g.entries)
+
+-- What follows the size of a chained checkpoint: type, start and duration unchanged, the delta, the type byte
+-- unchanged, the number of pools, and the pools.
+abbrev pub checkpoint_tail : (ℕ × ℕ → ℕ) → Parts → Link → ℕ → List Group → List ℕ
+checkpoint_tail new p l delta gs =
+    slice_range p.bytes l.frame.type_at l.frame.body ++ (slice_range p.bytes l.frame.body l.delta_at ++ (spell delta ++ (slice_range p.bytes l.delta_end (l.delta_end + 1)
+    ++ (spell (length gs) ++ flat_map (group_bytes new p) gs))))
+
+-- The bytes of a record that isn't a chained checkpoint: an event with new keys, or the record unchanged.
+abbrev pub whole_bytes : (ℕ × ℕ → ℕ) → Parts → Framed → Option EventAt → List ℕ
+whole_bytes new p r (Some e) = event_bytes new p e
+whole_bytes new p r None = record_bytes p.bytes r
+
+-- The bytes of an output record at this offset in the output, with the older checkpoint at `older`, if there is
+-- one. These entries are left.
+abbrev pub new_bytes : (ℕ × ℕ → ℕ) → Parts → List EventAt → List EntryAt → OutputRecord → ℕ → Option ℕ → List ℕ
+new_bytes new p kept left (Whole r) at older = whole_bytes new p r (find (λ e. e.record_of.at == r.at) kept)
+new_bytes new p kept left (Rebuilt r x) at older = x
+new_bytes new p kept left (Chained number l) at older = sized (l.frame.type_at - l.frame.at) (checkpoint_tail new p l (distance at older) (groups_of left number))
+
+-- The output records with their offsets, one after another, given the bytes of each.
+abbrev pub written_by : (OutputRecord → ℕ → Option ℕ → List ℕ) → ℕ → Option ℕ → List OutputRecord → List Written
+written_by bytes at older [] = []
+written_by bytes at older (s ∷ ss) = record { output_record = s; at = at; older = older } ∷ written_by bytes (at + length (bytes s at older)) (older_after s at older) ss
+
+-- The bytes of an output record at its own offset in the output.
+abbrev pub bytes_by : (OutputRecord → ℕ → Option ℕ → List ℕ) → Written → List ℕ
+bytes_by bytes w = bytes w.output_record w.at w.older
+
+-- The output chunk with these output records, given the bytes of each.
+abbrev pub assembled_by : Parts → (OutputRecord → ℕ → Option ℕ → List ℕ) → List OutputRecord → List ℕ
+assembled_by p bytes ss =
+    let ws = written_by bytes 68 None ss in
+    let body = flat_map (bytes_by bytes) ws in
+    header_with p.bytes (68 + length body) (last_at None ws) (moved ws (metadata_at p.bytes)) ++ body
+
+-- The output chunk with new keys if these events are kept.
+unfoldable pub renumber_of : Parts → List EventAt → List ℕ
+renumber_of p kept = assembled_by p (new_bytes (new_key p kept) p kept (firsts p kept)) (output_records p kept)

@@ -1,0 +1,149 @@
+//! Chained checkpoints with new keys.
+ghost use Rattle.std.specs.Prelude.{◌≡◌, ◌<◌, ◌≤◌, ◌+◌, ◌-◌, ◌^◌, ℕ, ◌++◌, length, OnOk};
+ghost use Rattle.std.specs.List.{AllByRecursion, flat_map};
+ghost use Rattle.jfr_frame.specs.Records.{IsRecord};
+ghost use Rattle.jfr_chunk.specs.Written.{by_pool, sized};
+ghost use Rattle.jfr_laws.proofs.Standing.{EntryStands, LinkStands};
+ghost use Rattle.jfr_renumber.specs.Pools.{leading, same_pool};
+ghost use Rattle.jfr_renumber.specs.Renumber.{checkpoint_tail, entry_bytes, group_bytes};
+
+use crate::records::put_size;
+use crate::rewriting::{NewKeys, put_integer, put_rekeyed};
+use jfr_base::NoMemory;
+use jfr_chunk::Chunk;
+use jfr_layout::Shape;
+use jfr_pool::{EntryAt, Link};
+use jfr_value::{Node, Steps};
+use std::sync::ledger::Ledger;
+
+/// A chained checkpoint of the output: the chunk's one, its delta, and the entries that are left of it.
+#[derive(Clone, Copy, Debug)]
+pub struct OutputCheckpoint<'e> {
+    pub link: Link,
+    pub delta: u64,
+    pub entries: &'e [EntryAt],
+}
+
+// Appends an entry: its new key, and its value with new keys.
+fn put_entry<N: NewKeys, L: Ledger>(
+    out: &mut Vec<u8>,
+    chunk: &Chunk<'_>,
+    entry: &EntryAt,
+    new: &N,
+    steps: &mut Steps<L>,
+) -> Result<(), NoMemory>
+    requires stands { EntryStands chunk.now.bytes chunk.now.classes entry.now }
+    ensures ok { OnOk result (out.new.items ≡ out.old.items ++ entry_bytes (N.keys new.now) chunk.now entry.now) }
+{
+    chunk.parts_stand();
+    let node = Node {
+        shape: Shape::inline(entry.class),
+        bytes: chunk.bytes(),
+        at: entry.value_at,
+        end: entry.end,
+    };
+    put_integer(out, new.new_key(entry.class, entry.key))?;
+    put_rekeyed(out, chunk.classes(), node, new, steps)
+}
+
+// Appends the entries of a pool.
+fn put_entries<N: NewKeys, L: Ledger>(
+    out: &mut Vec<u8>,
+    chunk: &Chunk<'_>,
+    entries: &[EntryAt],
+    new: &N,
+    steps: &mut Steps<L>,
+) -> Result<(), NoMemory>
+    requires stand { AllByRecursion (EntryStands chunk.now.bytes chunk.now.classes) entries.now }
+    ensures ok { OnOk result (out.new.items ≡ out.old.items ++ flat_map (entry_bytes (N.keys new.now) chunk.now) entries.now) }
+{
+    for entry in entries {
+        put_entry(out, chunk, entry, new, steps)?;
+    }
+    Ok(())
+}
+
+// Appends the pools of a checkpoint that have one of these entries.
+fn put_pools<N: NewKeys, L: Ledger>(
+    out: &mut Vec<u8>,
+    chunk: &Chunk<'_>,
+    entries: &[EntryAt],
+    new: &N,
+    steps: &mut Steps<L>,
+) -> Result<(), NoMemory>
+    requires stand { AllByRecursion (EntryStands chunk.now.bytes chunk.now.classes) entries.now }
+    ensures ok { OnOk result (out.new.items ≡ out.old.items ++ flat_map (group_bytes (N.keys new.now) chunk.now) (by_pool entries.now)) }
+{
+    let mut rest = entries;
+    'pools: while let Some(first) = rest.first() {
+        let (pool, others) = rest.split_at(pool_len(first, rest));
+        put_integer(out, first.class)?;
+        put_integer(out, pool.len() as u64)?;
+        put_entries(out, chunk, pool, new, steps)?;
+        rest = others;
+    }
+    Ok(())
+}
+
+/// Appends a checkpoint with its delta and its entries. Its size has as many bytes as before.
+pub fn put_checkpoint<N: NewKeys, L: Ledger>(
+    out: &mut Vec<u8>,
+    chunk: &Chunk<'_>,
+    checkpoint: OutputCheckpoint<'_>,
+    new: &N,
+    steps: &mut Steps<L>,
+) -> Result<(), NoMemory>
+    requires link { LinkStands chunk.now.bytes checkpoint.link }
+    requires stand { AllByRecursion (EntryStands chunk.now.bytes chunk.now.classes) checkpoint.entries.now }
+    requires room { (checkpoint.link.frame.type_at - checkpoint.link.frame.at) + length (checkpoint_tail (N.keys new.now) chunk.now checkpoint.link checkpoint.delta (by_pool checkpoint.entries.now)) ≤ checkpoint.link.frame.size }
+    ensures ok { OnOk result (out.new.items ≡ out.old.items ++ sized (checkpoint.entry.link.frame.type_at - checkpoint.entry.link.frame.at) (checkpoint_tail (N.keys new.now) chunk.now checkpoint.entry.link checkpoint.entry.delta (by_pool checkpoint.entry.entries.now))) }
+{
+    let bytes = chunk.bytes();
+    let link = checkpoint.link;
+    let frame = link.frame;
+    let from = out.len();
+    out.extend_from_slice(&bytes[frame.at..link.delta_at])?;
+    put_integer(out, checkpoint.delta)?;
+    out.extend_from_slice(&bytes[link.delta_end..link.delta_end + 1])?;
+    put_integer(out, pool_count(checkpoint.entries) as u64)?;
+    put_pools(out, chunk, checkpoint.entries, new, steps)?;
+    put_size(out, from, frame.type_at - frame.at);
+    Ok(())
+}
+
+// Whether two entries of a checkpoint are in the same pool.
+fn same_pool(one: &EntryAt, other: &EntryAt) -> bool
+    ensures { result ≡ same_pool one.now other.now }
+{
+    if one.pool != other.pool {
+        return false;
+    }
+    one.class == other.class
+}
+
+// The number of entries at the start of the list that are in the same pool as this one.
+fn pool_len(first: &EntryAt, entries: &[EntryAt]) -> usize
+    ensures exact { result ≡ leading first.now entries.now }
+    ensures within { result ≤ length entries.now }
+{
+    for (number, entry) in entries.iter().enumerate() {
+        if !same_pool(first, entry) {
+            return number;
+        }
+    }
+    entries.len()
+}
+
+// The number of pools that a checkpoint's entries are in.
+fn pool_count(entries: &[EntryAt]) -> usize
+    ensures { result ≡ length (by_pool entries.now) }
+{
+    let mut count = 0;
+    let mut rest = entries;
+    'pools: while let Some(first) = rest.first() {
+        let (_, others) = rest.split_at(pool_len(first, rest));
+        count += 1;
+        rest = others;
+    }
+    count
+}

@@ -1,0 +1,59 @@
+//! Laws of renumbering. The functions do nothing; their contracts are the laws.
+ghost use Rattle.std.specs.Prelude.{[], ◌∷◌, ◌++◌, if◌then◌else◌, ◌≡◌, ◌↔◌, ℕ, ◌≤◌, Bool, List, IsSome};
+ghost use Rattle.std.specs.List.{list_any};
+ghost use Rattle.jfr_pool.specs.declared.entry.EntryAt.{EntryAt};
+ghost use Rattle.jfr_layout.specs.Classes.{Classes, Sound};
+ghost use Rattle.jfr_value.specs.Values.{Value, Fits};
+ghost use Rattle.jfr_pool.specs.Entries.{in_force};
+ghost use Rattle.jfr_header.specs.Fronts.{Whole};
+ghost use Rattle.jfr_chunk.specs.Laws.{AreEvents};
+ghost use Rattle.jfr_chunk.specs.Reach.{kept_by};
+ghost use Rattle.jfr_chunk.specs.Scrub.{output_records};
+ghost use Rattle.jfr_chunk.specs.Parts.{AreParts, EventAt, Parts};
+ghost use Rattle.jfr_renumber.specs.Laws.{AgreeOnUsed, KeepsMeaning, RenamedRecords};
+ghost use Rattle.jfr_renumber.specs.Meaning.{AreNewKeys, AreRenamed, IsRenumbered, RenamedMeaning};
+ghost use Rattle.jfr_renumber.specs.Rekeyed.{moved};
+ghost use Rattle.jfr_renumber.specs.Renumber.{Used, assembled_by, firsts, firsts_with, new_bytes, new_key, renumber_of};
+
+/// A value with new keys is read by its format. It has the same shape and the same leaves, except for the
+/// keys.
+#[tactic(auto, using(crate::proofs::LawLaws::keeps_meaning))]
+pub fn rekeyed_values_are_read()
+    ensures { (new : ℕ × ℕ → ℕ) (k : Classes) (v : Value) → Sound k → Fits k v → KeepsMeaning new k v }
+{}
+
+/// No new key is larger than the old one, those of a class are dense, and two are equal exactly if the keys
+/// are together.
+#[tactic(auto, using(crate::proofs::LawLaws::new_keys_are))]
+pub fn keys_are_numbered()
+    ensures { (p : Parts) (kept : List EventAt) → AreParts p → AreEvents p kept → AreNewKeys p kept (new_key p kept) }
+{}
+
+/// The law of paths with new keys. Let the events of a second chunk be the kept ones with new keys in their
+/// fields, and its entries the first of each group with new keys. Then each path leads to the same in both,
+/// except for the keys.
+#[tactic(auto, using(crate::proofs::LawLaws::renamed_the_same, crate::proofs::LawLaws::same_missing))]
+pub fn renamed_paths()
+    ensures paths { (p q : Parts) (kept others : List EventAt) (new : ℕ × ℕ → ℕ) → AreParts p → AreEvents p kept → AreParts q → AreEvents q others → AreNewKeys p kept new → AgreeOnUsed p q kept → AreRenamed new p q (firsts p kept) q.entries → RenamedRecords new p q kept others → RenamedMeaning new p q kept others }
+    ensures missing { (p q : Parts) (kept : List EventAt) (new : ℕ × ℕ → ℕ) → AreParts p → AreEvents p kept → AreParts q → AreNewKeys p kept new → AgreeOnUsed p q kept → AreRenamed new p q (firsts p kept) q.entries → (t : ℕ × ℕ) → Used p kept t → IsSome (in_force p.entries t) ↔ IsSome (in_force q.entries (moved new t)) }
+{}
+
+/// The output of an accepted chunk with new keys is accepted, for every choice of the events that are kept. It
+/// has exactly these events and, of the constants that they reach, one for each value, and means the same
+/// except for the keys.
+pub fn renumbered_means_the_same()
+    ensures { (p : Parts) (flags : List Bool) → Whole p.bytes → AreParts p → IsRenumbered p (kept_by p flags) }
+{}
+
+/// The first entries, one entry after another: an entry is added unless one before it is the same by the
+/// test.
+#[tactic(auto, using(crate::proofs::FirstsLaws::first_next))]
+pub fn firsts_one_by_one()
+    ensures { (same : EntryAt → EntryAt → Bool) (es : List EntryAt) (e : EntryAt) → firsts_with same (es ++ e ∷ []) ≡ firsts_with same es ++ (if list_any (λ f. same f e) es then [] else e ∷ []) }
+{}
+
+/// Keys that agree with the new ones on all that is used give the same output.
+#[tactic(auto, using(crate::proofs::AgreeLaws::output_same))]
+pub fn only_used_keys_matter()
+    ensures { (p : Parts) (flags : List Bool) (new : ℕ × ℕ → ℕ) → AreParts p → ((t : ℕ × ℕ) → Used p (kept_by p flags) t → new t ≡ new_key p (kept_by p flags) t) → assembled_by p (new_bytes new p (kept_by p flags) (firsts p (kept_by p flags))) (output_records p (kept_by p flags)) ≡ renumber_of p (kept_by p flags) }
+{}

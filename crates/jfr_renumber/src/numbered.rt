@@ -1,0 +1,116 @@
+//! The new keys of all that is used.
+ghost use Rattle.std.specs.Prelude.{◌≡◌, ℕ, ◌++◌, ◌<◌, [], ◌∷◌, length, map, slice_get, if◌then◌else◌, IfOk, IfSome, OnOk};
+ghost use Rattle.jfr_chunk.specs.Parts.{events_of};
+ghost use Rattle.jfr_chunk.specs.Reach.{kept_by, marked, reached_marks};
+ghost use Rattle.jfr_renumber.specs.Numbers.{number_of, numbers_of};
+ghost use Rattle.jfr_renumber.specs.Renumber.{new_key_of, pair_of};
+
+use crate::finding::find;
+use crate::numbering::number_all;
+use crate::rewriting::NewKeys;
+use crate::used::{missing_keys, put_in_order};
+use crate::values::with_values;
+use jfr_base::NoMemory;
+use jfr_chunk::{Chunk, Kept};
+use jfr_pool::EntryAt;
+use jfr_reach::Marks;
+use jfr_value::Steps;
+use std::alloc::Global;
+use std::marker::Model;
+use std::sync::ledger::Ledger;
+
+/// The new keys of all classes and keys that are used.
+#[derive(Drop)]
+pub struct NumberedKeys {
+    pairs: Vec<(u64, u64)>,
+    numbers: Vec<u64>,
+}
+
+impl Model for NumberedKeys {
+    ghost use Rattle.std.specs.Prelude.{◌≡◌, length};
+    ghost use Rattle.jfr_renumber.specs.Missing.{IsRising};
+    ghost use Rattle.jfr_renumber.specs.Numbers.{NumberedPairs};
+
+    ghost Value = { NumberedPairs };
+
+    ghost view = { λ k. record { pairs = k.pairs.items; numbers = k.numbers.items } };
+
+    ghost invariant = { λ k. IsRising k.pairs.items × (length k.numbers.items ≡ length k.pairs.items) };
+}
+
+impl NumberedKeys {
+    /// Gives new keys to all that the kept events, and the entries that they reach, refer to.
+    pub fn make<L: Ledger>(
+        alloc: Global,
+        chunk: &Chunk<'_>,
+        kept: &Kept,
+        marks: &Marks,
+        steps: &mut Steps<L>,
+    ) -> Result<NumberedKeys, NoMemory>
+        requires kept { length kept.now ≡ length (events_of chunk.now) }
+        requires marks { marks.now ≡ reached_marks chunk.now (kept_by chunk.now kept.now) }
+        requires size { length marks.now ≡ length chunk.now.entries }
+        ensures { IfOk result (λ k. (t : ℕ × ℕ) → number_of k t ≡ new_key_of chunk.now (kept_by chunk.now kept.now) t) }
+    {
+        chunk.parts_stand();
+        let mut pairs = missing_keys(alloc, chunk, kept, marks, steps)?;
+        push_reached(&mut pairs, chunk, marks)?;
+        put_in_order(&mut pairs);
+        let keys = with_values(alloc, chunk, &pairs)?;
+        let numbers = number_all(alloc, &keys)?;
+        Ok(NumberedKeys { pairs, numbers })
+    }
+
+    /// The new key of a class and a key; `None` exactly if they aren't used. Allocates nothing.
+    pub fn get(&self, class: u64, key: u64) -> Option<u64>
+        ensures { result ≡ number_of self.now (class, key) }
+    {
+        let at = find(&self.pairs, class, key)?;
+        Some(self.numbers[at])
+    }
+}
+
+impl NewKeys for NumberedKeys {
+    ghost use Rattle.jfr_renumber.specs.Numbers.{numbers_of};
+
+    ghost keys = { numbers_of };
+
+    /// The new key of a class and a key, or 0 if they aren't used.
+    fn new_key(&self, class: u64, key: u64) -> u64 {
+        self.get(class, key).unwrap_or(0)
+    }
+}
+
+// Adds the classes and keys of the entries that are reached.
+fn push_reached(
+    pairs: &mut Vec<(u64, u64)>,
+    chunk: &Chunk<'_>,
+    marks: &Marks,
+) -> Result<(), NoMemory>
+    requires { length marks.now ≡ length chunk.now.entries }
+    ensures ok { OnOk result (pairs.new.items ≡ pairs.old.items ++ map pair_of (marked marks.now chunk.now.entries)) }
+{
+    let entries = chunk.pools().as_slice();
+    for at in 0..entries.len() {
+        push_if(pairs, pair_at(entries, at), marks.is_reached(at))?;
+    }
+    Ok(())
+}
+
+// The class and the key of the entry with this number.
+fn pair_at(entries: &[EntryAt], at: usize) -> (u64, u64)
+    requires { at < length entries.now }
+    ensures { IfSome (slice_get entries.now at) (λ e. result ≡ pair_of e) }
+{
+    (entries[at].class, entries[at].key)
+}
+
+// Adds a class and a key if they are kept.
+fn push_if(pairs: &mut Vec<(u64, u64)>, pair: (u64, u64), keep: bool) -> Result<(), NoMemory>
+    ensures ok { OnOk result (pairs.new.items ≡ pairs.old.items ++ (if keep then pair ∷ [] else [])) }
+{
+    if keep {
+        pairs.push(pair)?;
+    }
+    Ok(())
+}

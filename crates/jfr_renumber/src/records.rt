@@ -1,0 +1,72 @@
+//! Events with new keys.
+ghost use Rattle.std.specs.Prelude.{◌≡◌, ◌<◌, ◌≤◌, ◌+◌, ◌-◌, ◌^◌, ℕ, ◌++◌, length, take, drop, slice_get, IfSome, OnOk};
+ghost use Rattle.jfr_base.specs.Integer.{FitsIn, spell_in};
+ghost use Rattle.jfr_frame.specs.Records.{IsRecord, record_end};
+ghost use Rattle.jfr_layout.specs.Classes.{Sound};
+ghost use Rattle.jfr_value.specs.Nodes.{IsValue};
+ghost use Rattle.jfr_chunk.specs.Parts.{Parts, events_of};
+ghost use Rattle.jfr_chunk.specs.Seen.{event_at};
+ghost use Rattle.jfr_renumber.specs.Renumber.{event_bytes};
+
+use crate::rewriting::{NewKeys, put_rekeyed};
+use jfr_base::{NoMemory, write_in};
+use jfr_chunk::{Chunk, Event};
+use jfr_layout::Classes;
+use jfr_value::Steps;
+use std::sync::ledger::Ledger;
+
+/// Appends an event with new keys. Its size has as many bytes as before.
+pub fn put_event<N: NewKeys, L: Ledger>(
+    out: &mut Vec<u8>,
+    classes: &Classes,
+    event: Event<'_>,
+    new: &N,
+    steps: &mut Steps<L>,
+) -> Result<(), NoMemory>
+    requires sound { Sound classes.now }
+    requires record { IsRecord event.node.bytes.now event.frame }
+    requires value { IsValue classes.now event.node }
+    requires place { event.node.at ≡ event.frame.body }
+    requires within { event.node.end ≤ record_end event.frame }
+    requires below { (t : ℕ × ℕ) → N.keys new.now t ≤ t.1 }
+    ensures ok { OnOk result ((p : Parts) → p.classes ≡ classes.now → p.bytes ≡ event.entry.node.bytes.now → out.new.items ≡ out.old.items ++ event_bytes (N.keys new.now) p (event_at event.entry)) }
+{
+    let bytes = event.node.bytes;
+    let frame = event.frame;
+    let from = out.len();
+    out.extend_from_slice(&bytes[frame.at..frame.body])?;
+    put_rekeyed(out, classes, event.node, new, steps)?;
+    out.extend_from_slice(&bytes[event.node.end..frame.end()])?;
+    put_size(out, from, frame.type_at - frame.at);
+    Ok(())
+}
+
+/// Appends the event of the chunk with this number, with new keys. Its size has as many bytes as before.
+pub fn put_chunk_event<N: NewKeys, L: Ledger>(
+    out: &mut Vec<u8>,
+    chunk: &Chunk<'_>,
+    number: usize,
+    new: &N,
+    steps: &mut Steps<L>,
+) -> Result<(), NoMemory>
+    requires below { (t : ℕ × ℕ) → N.keys new.now t ≤ t.1 }
+    ensures ok { OnOk result (IfSome (slice_get (events_of chunk.now) number) (λ e. out.new.items ≡ out.old.items ++ event_bytes (N.keys new.now) chunk.now e)) }
+{
+    chunk.parts_stand();
+    match chunk.event(number) {
+        Some(event) => put_event(out, chunk.classes(), event, new, steps),
+        None => Ok(()),
+    }
+}
+
+/// Writes the number of bytes from this offset on into the first `count` of them.
+pub fn put_size(out: &mut Vec<u8>, from: usize, count: usize)
+    requires count { (1 ≤ count) × (count ≤ 9) }
+    requires within { from + count ≤ length out.old.items }
+    requires fits { FitsIn (length out.old.items - from) count }
+    ensures { out.new.items ≡ take from out.old.items ++ (spell_in count (length out.old.items - from) ++ drop (from + count) out.old.items) }
+{
+    let mut spelled = [0; 9];
+    write_in((out.len() - from) as u64, count, &mut spelled);
+    out[from..from + count].copy_from_slice(&spelled[..count]);
+}

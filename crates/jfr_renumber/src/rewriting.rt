@@ -1,0 +1,86 @@
+//! Values with new keys.
+ghost use Rattle.std.specs.Prelude.{◌≡◌, ℕ, ◌++◌, OnOk};
+ghost use Rattle.jfr_base.specs.Integer.{spell};
+ghost use Rattle.jfr_layout.specs.Classes.{Sound};
+ghost use Rattle.jfr_layout.specs.declared.kind.Kind.TheVariants as kinds;
+ghost use Rattle.jfr_value.specs.declared.leaf.LeafKind.TheVariants as leaf_kinds;
+ghost use Rattle.jfr_value.specs.Leaves.{leaf_of};
+ghost use Rattle.jfr_value.specs.Nodes.{IsValue, node_of};
+ghost use Rattle.jfr_renumber.specs.Rekeyed.{rekeyed_bytes};
+ghost use Rattle.jfr_renumber.specs.Rewriting.{KeyStands, leaf_with};
+
+use jfr_base::{NoMemory, read_within, write_var};
+use jfr_layout::{Classes, Kind};
+use jfr_value::{Leaf, LeafKind, Leaves, Node, Steps};
+use std::alloc::AllocError;
+use std::sync::ledger::Ledger;
+
+// The kind byte of a string that is a key.
+const KEY: u8 = 2;
+
+/// The new key of each class and key.
+pub trait NewKeys {
+    // The new keys.
+    ghost keys: { Self → ℕ × ℕ → ℕ };
+
+    /// The new key of a class and a key.
+    fn new_key(&self, class: u64, key: u64) -> u64
+        ensures { result ≡ keys self.now (class, key) };
+}
+
+/// Appends a value with new keys.
+pub fn put_rekeyed<N: NewKeys, L: Ledger>(
+    out: &mut Vec<u8>,
+    classes: &Classes,
+    node: Node<'_>,
+    new: &N,
+    steps: &mut Steps<L>,
+) -> Result<(), NoMemory>
+    requires sound { Sound classes.now }
+    requires value { IsValue classes.now node }
+    ensures ok { OnOk result (out.new.items ≡ out.old.items ++ rekeyed_bytes (N.keys new.now) classes.now node.entry.bytes.now (node_of node.entry)) }
+{
+    let mut leaves = Leaves::new(classes, node);
+    while let Some(leaf) = leaves.next_leaf(steps) {
+        put_leaf(out, leaf, new)?;
+    }
+    Ok(())
+}
+
+// Appends a leaf, with its new key if it has a key.
+fn put_leaf<N: NewKeys>(out: &mut Vec<u8>, leaf: Leaf<'_>, new: &N) -> Result<(), AllocError>
+    requires stands { KeyStands (leaf_of leaf) }
+    ensures ok { OnOk result (out.new.items ≡ out.old.items ++ leaf_with (N.keys new.now) (leaf_of leaf.entry)) }
+{
+    match leaf.kind {
+        LeafKind::Key(key) => put_integer(out, new.new_key(leaf.class, key)),
+        LeafKind::Base(Kind::Text) => put_string(out, leaf, new),
+        _ => out.extend_from_slice(leaf.spelled),
+    }
+}
+
+// Appends a string, with its new key if it is a key.
+#[tactic(auto, using(crate::proofs::RewritingLaws::string_with, crate::proofs::RewritingLaws::other_with))]
+fn put_string<N: NewKeys>(out: &mut Vec<u8>, leaf: Leaf<'_>, new: &N) -> Result<(), AllocError>
+    requires text { leaf.kind ≡ leaf_kinds.Base kinds.Text }
+    requires stands { KeyStands (leaf_of leaf) }
+    ensures ok { OnOk result (out.new.items ≡ out.old.items ++ leaf_with (N.keys new.now) (leaf_of leaf.entry)) }
+{
+    if leaf.spelled.is_empty() || leaf.spelled[0] != KEY {
+        return out.extend_from_slice(leaf.spelled);
+    }
+    let Ok(key) = read_within(leaf.spelled, 1, leaf.spelled.len()) else {
+        unreachable!()
+    };
+    out.push(KEY)?;
+    put_integer(out, new.new_key(leaf.class, key.value))
+}
+
+/// Appends an integer in its shortest spelling.
+pub fn put_integer(out: &mut Vec<u8>, value: u64) -> Result<(), AllocError>
+    ensures ok { OnOk result (out.new.items ≡ out.old.items ++ spell value) }
+{
+    let mut spelled = [0; 9];
+    let len = write_var(value, &mut spelled);
+    out.extend_from_slice(&spelled[..len])
+}

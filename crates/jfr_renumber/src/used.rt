@@ -1,0 +1,120 @@
+//! The classes and keys that are used.
+ghost use Rattle.std.specs.Prelude.{◌≡◌, ◌<◌, ℕ, length, map, filter, false, option_to_list, Contains, IfOk};
+ghost use Rattle.jfr_pool.specs.Entries.{entry_node};
+ghost use Rattle.jfr_chunk.specs.Parts.{events_of};
+ghost use Rattle.jfr_chunk.specs.Reach.{all_targets, kept_by, nodes_of, reached_marks};
+ghost use Rattle.jfr_renumber.specs.Missing.{IsRising, Lists, flagged, is_missing};
+ghost use Rattle.jfr_renumber.specs.Renumber.{used_keys};
+
+use jfr_base::NoMemory;
+use jfr_chunk::{Chunk, Kept};
+use jfr_pool::Pools;
+use jfr_reach::Marks;
+use jfr_value::{Steps, Visit, visit_targets};
+use std::alloc::Global;
+use std::sync::ledger::Ledger;
+
+/// The classes and keys that are referred to and have no entry in force. Once it runs out of memory the list
+/// has failed.
+#[derive(Drop)]
+pub struct Missing {
+    keys: Vec<(u64, u64)>,
+    failed: bool,
+}
+
+impl Visit<Pools> for Missing {
+    ghost use Rattle.std.specs.Prelude.{[], ◌∷◌, ⊤};
+    ghost use Rattle.jfr_renumber.specs.Missing.{Lists};
+
+    ghost ready = { λ list pools. ⊤ };
+
+    ghost takes = { λ pools target old new. Lists pools (target ∷ []) old new };
+
+    /// Adds a class and a key that have no entry in force.
+    fn visit(&mut self, pools: &Pools, class: u64, key: u64) {
+        if pools.entry(class, key).is_some() {
+            return;
+        }
+        if self.keys.push((class, key)).is_err() {
+            self.failed = true;
+        }
+    }
+}
+
+/// The classes and keys without an entry in force to which the kept events, and the entries that they reach,
+/// refer, one for each reference.
+pub fn missing_keys<L: Ledger>(
+    alloc: Global,
+    chunk: &Chunk<'_>,
+    kept: &Kept,
+    marks: &Marks,
+    steps: &mut Steps<L>,
+) -> Result<Vec<(u64, u64)>, NoMemory>
+    requires kept { length kept.now ≡ length (events_of chunk.now) }
+    requires marks { marks.now ≡ reached_marks chunk.now (kept_by chunk.now kept.now) }
+    requires size { length marks.now ≡ length chunk.now.entries }
+    ensures ok { IfOk result (λ keys. keys.items ≡ filter (is_missing chunk.now.entries) (used_keys chunk.now (kept_by chunk.now kept.now))) }
+{
+    let mut list = Missing {
+        keys: Vec::new(alloc),
+        failed: false,
+    };
+    for number in 0..kept.len() {
+        list_event(&mut list, chunk, kept, number, steps);
+    }
+    for entry in 0..chunk.pools().len() {
+        list_entry(&mut list, chunk, marks, entry, steps);
+    }
+    if list.failed {
+        return Err(NoMemory);
+    }
+    Ok(list.keys)
+}
+
+// Lists what the event with this number refers to, if it is kept.
+fn list_event<L: Ledger>(
+    list: &mut Missing,
+    chunk: &Chunk<'_>,
+    kept: &Kept,
+    number: usize,
+    steps: &mut Steps<L>,
+)
+    ensures { Lists chunk.now.entries (all_targets chunk.now (nodes_of (option_to_list (flagged kept.now (events_of chunk.now) number)))) list.old list.new }
+{
+    match kept.get(number) {
+        Some(true) => {}
+        _ => return,
+    }
+    if let Some(event) = chunk.event(number) {
+        visit_targets(chunk.classes(), event.node, list, chunk.pools(), steps);
+    }
+}
+
+// Lists what the entry with this number refers to, if it is reached.
+fn list_entry<L: Ledger>(
+    list: &mut Missing,
+    chunk: &Chunk<'_>,
+    marks: &Marks,
+    number: usize,
+    steps: &mut Steps<L>,
+)
+    requires { number < length marks.now }
+    ensures { Lists chunk.now.entries (all_targets chunk.now (map entry_node (option_to_list (flagged marks.now chunk.now.entries number)))) list.old list.new }
+{
+    if !marks.is_reached(number) {
+        return;
+    }
+    if let Some(node) = chunk.entry_node(number) {
+        visit_targets(chunk.classes(), node, list, chunk.pools(), steps);
+    }
+}
+
+/// Sorts classes and keys, and leaves out repeated ones.
+pub fn put_in_order(pairs: &mut Vec<(u64, u64)>)
+    ensures rising { IsRising pairs.new.items }
+    ensures kept { (t : ℕ × ℕ) → Contains pairs.old.items t → Contains pairs.new.items t }
+    ensures none_added { (t : ℕ × ℕ) → Contains pairs.new.items t → Contains pairs.old.items t }
+{
+    pairs.sort_unstable();
+    pairs.dedup();
+}
