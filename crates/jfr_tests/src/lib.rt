@@ -15,3 +15,5 @@ mod parts;
 mod runs;
 #[cfg(test)]
 mod scrubs;
+#[cfg(test)]
+mod stacks;
