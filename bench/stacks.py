@@ -1,0 +1,70 @@
+#!/usr/bin/env python3
+"""Compares `jfr stacks` with the stacks that the JDK prints: stacks.py PROGRAM RECORDING [EVENT]
+
+EVENT is the name of an event, jdk.ExecutionSample if it isn't given. PROGRAM is this project's program, and
+the JDK's `jfr` is the one on the PATH. The JDK's stacks are folded here from `jfr print --json` with all of
+their frames. It writes dots where class names in a recording have slashes, so slashes are compared as dots.
+
+Prints how many stacks and events were compared, and the first stacks with different counts; ends with 1 if
+there are any.
+"""
+import json
+import re
+import subprocess
+import sys
+from collections import Counter
+
+SHOWN = 5
+
+
+def folded(program, recording, event):
+    """The counts that `jfr stacks` writes, by stack."""
+    text = subprocess.run([program, "stacks", "--events", event, recording],
+                          capture_output=True, check=True).stdout.decode()
+    counts = Counter()
+    for line in text.splitlines():
+        stack, count = line.rsplit(" ", 1)
+        counts[stack.replace("/", ".")] += int(count)
+    return counts
+
+
+def escaped(name):
+    return re.sub(r"[\x00-\x20;\\\x7f]", lambda c: "\\u%04x" % ord(c[0]), name)
+
+
+def frame(value):
+    """The text of a frame as the JDK prints it."""
+    method = value["method"] or {}
+    holder = (method.get("type") or {}).get("name")
+    name = method.get("name")
+    parts = ["?" if part is None else escaped(part) for part in (holder, name)]
+    return ".".join(parts).replace("/", ".")
+
+
+def printed(recording, event):
+    """The counts of the stacks that the JDK prints."""
+    text = subprocess.run(["jfr", "print", "--json", "--stack-depth", "4096", "--events", event, recording],
+                          capture_output=True, check=True).stdout
+    counts = Counter()
+    for found in json.loads(text)["recording"]["events"]:
+        trace = found["values"].get("stackTrace")
+        if trace is None:
+            continue
+        frames = [frame(value) for value in reversed(trace["frames"])]
+        counts[";".join(frames) or "(empty)"] += 1
+    return counts
+
+
+def main():
+    program, recording = sys.argv[1:3]
+    event = sys.argv[3] if len(sys.argv) > 3 else "jdk.ExecutionSample"
+    ours, theirs = folded(program, recording, event), printed(recording, event)
+    differ = [stack for stack in ours.keys() | theirs.keys() if ours[stack] != theirs[stack]]
+    print(f"{event}: {len(theirs)} stacks, {sum(theirs.values())} events; {len(differ)} stacks differ")
+    for stack in sorted(differ)[:SHOWN]:
+        print(f"  ours {ours[stack]}, the JDK's {theirs[stack]}: {stack}")
+    return 1 if differ else 0
+
+
+if __name__ == "__main__":
+    sys.exit(main())
