@@ -29,6 +29,9 @@ _jfr() {
             names=(file)
             ;;
         assemble) names=(folder file) ;;
+        sample) ;;
+        # A command of the JDK's: names of files, by default.
+        *) return ;;
     esac
 
     # The words before this one: options, each with its value, and then names, behind which no option stands.
