@@ -31,6 +31,7 @@ public class Secrets {
         processes(folder);
         messages();
         security();
+        sameName();
         code(folder);
         flags(folder);
         System.load(folder.resolve("xqnativelibraryqx.so").toString());
@@ -160,6 +161,13 @@ public class Secrets {
         Security.getProperty("networkaddress.cache.ttl");
     }
 
+    // From this thread, since every recipe that keeps the event keeps its thread and stack.
+    static void sameName() {
+        var same = new SameEvent();
+        same.text = "xqsamevalueqx";
+        same.commit();
+    }
+
     // A class of a module, and one with a finalizer from a folder and by a loader of their own names.
     static void code(Path folder) throws Exception {
         Class.forName("xqpackageqx.InModule").getMethod("call").invoke(null);
@@ -229,9 +237,6 @@ class Work implements Runnable {
         var alike = new JdkEvent();
         alike.text = "xqjdkvalueqx";
         alike.commit();
-        var same = new SameEvent();
-        same.text = "xqsamevalueqx";
-        same.commit();
     }
 }
 
