@@ -88,3 +88,13 @@ _jfr() {
 }
 
 complete -o default -F _jfr jfr
+
+# The first words of recipes/many; all other words of recipes are names of files, which bash completes by default.
+_jfr_many() {
+    COMPREPLY=()
+    if ((COMP_CWORD == 1)) && [[ $1 == *recipes/many ]]; then
+        mapfile -t COMPREPLY < <(compgen -W '--resume --jobs --sshloginfile vendor strict tenant' -- "${COMP_WORDS[1]}")
+    fi
+}
+
+complete -o default -F _jfr_many many
