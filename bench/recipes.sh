@@ -84,7 +84,7 @@ check 'blanks and newlines' 0 'events are left' <<<$'test -s "of \n.jfr"'
 cp -- "$file" ./-d.jfr
 run vendor ./-d.jfr ./-o.jfr
 check 'a leading -' 0 'events are left' <<<'test -s ./-o.jfr'
-echo word >words
+echo xqwordqx >words
 run left $'of \n.jfr' words
 check 'left, a newline' 0 'of 1 words found' <<<'test ! -s said.out'
 run strangers ./-o.jfr
