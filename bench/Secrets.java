@@ -19,7 +19,7 @@ public class Secrets {
     static final List<Object> kept = new ArrayList<>();
 
     public static void main(String[] words) throws Exception {
-        FlightRecorder.register(OwnEvent.class);
+        for (var type : List.of(OwnEvent.class, JdkEvent.class, SameEvent.class)) FlightRecorder.register(type);
         Path folder = Path.of(words[1]);
         if (words[0].equals("settings")) {
             settings(folder);
@@ -31,6 +31,7 @@ public class Secrets {
         processes(folder);
         messages();
         security();
+        sameName();
         code(folder);
         flags(folder);
         System.load(folder.resolve("xqnativelibraryqx.so").toString());
@@ -160,6 +161,13 @@ public class Secrets {
         Security.getProperty("networkaddress.cache.ttl");
     }
 
+    // From this thread, since every recipe that keeps the event keeps its thread and stack.
+    static void sameName() {
+        var same = new SameEvent();
+        same.text = "xqsamevalueqx";
+        same.commit();
+    }
+
     // A class of a module, and one with a finalizer from a folder and by a loader of their own names.
     static void code(Path folder) throws Exception {
         Class.forName("xqpackageqx.InModule").getMethod("call").invoke(null);
@@ -174,15 +182,18 @@ public class Secrets {
         bean.dumpHeap(folder.resolve("xqheapdumpqx.hprof").toString(), true);
     }
 
-    // Threads of a tenant, which own and wait for a lock, notify and start others, burn time, allocate and ask for
+    // Threads whose names hold an address and a request, and threads of a tenant, which own and wait for a lock, notify and start others, burn time, allocate and ask for
     // a collection; one more thread meets them at the lock.
     static void threads() throws Exception {
         var group = new ThreadGroup("xqgroupqx");
         var other = new Thread(group, new Work(0), "xqthreadqx");
         var first = new Thread(group, new Work(1), "xqtenantqx-1");
         var second = new Thread(group, new Work(2), "xqtenantqx-2");
-        for (var thread : List.of(other, first, second)) thread.start();
-        for (var thread : List.of(other, first, second)) thread.join();
+        var address = new Thread(group, new Work(3), "RMI TCP Connection(7)-127.66.55.44");
+        var request = new Thread(group, new Work(4), "http GET /orders?token=xqtokenqx 245");
+        var all = List.of(other, first, second, address, request);
+        for (var thread : all) thread.start();
+        for (var thread : all) thread.join();
     }
 }
 
@@ -223,6 +234,9 @@ class Work implements Runnable {
         var event = new OwnEvent();
         event.xqfieldqx = "xqownvalueqx";
         event.commit();
+        var alike = new JdkEvent();
+        alike.text = "xqjdkvalueqx";
+        alike.commit();
     }
 }
 
@@ -244,6 +258,18 @@ class OwnEvent extends Event {
     boolean setting(xqsettingclassqx setting) {
         return true;
     }
+}
+
+// A type of the program's own that is named as the JDK's are.
+@Name("jdk.GCxqjdknameqx")
+class JdkEvent extends Event {
+    String text;
+}
+
+// A type of the program's own with the name of a JDK type.
+@Name("jdk.CPULoad")
+class SameEvent extends Event {
+    String text;
 }
 
 class xqsettingclassqx extends SettingControl {

@@ -6,8 +6,10 @@
 # recipe scrubs the recording. Then each string is looked for in the bytes, and in what the JDK's own
 # `jfr print --json` prints. Prints a line for each recipe: how many strings are left, which of them the recipe says
 # that it leaves, and which it says that it takes away; those make the status 1. So do a recipe that doesn't end
-# with 0, a second scrub that gives other bytes, and an output that the JDK doesn't print. Says what it skipped.
-set -u
+# with 0, a second scrub that gives other bytes, an output that the JDK doesn't print, a string that is left and that
+# recipes/left doesn't find, a planted event type that recipes/strangers doesn't find, and an event type of the JDK that
+# recipes/types doesn't have. Says what it skipped.
+set -uf
 here=$(dirname "$(readlink -f "$0")")
 recipes=$here/../recipes
 work=$(mktemp -d)
@@ -25,16 +27,20 @@ secret="
     xqfilereadqx xqfilewriteqx xqfileforceqx xqheapdumpqx xqcodesourceqx
     xqhostqx 127.77.66.55 xqtlshostqx xqcertificatenameqx xqcertificateunitqx
     xqsecuritynameqx xqsecurityvalueqx xqfirstsecuritynameqx xqfirstsecurityvalueqx xqproviderqx xqalgorithmqx
-    xqexceptionqx xqerrorqx xqfilterqx xqownvalueqx"
+    xqexceptionqx xqerrorqx xqfilterqx xqownvalueqx xqjdkvalueqx
+    xqbracket[2026]\$qx -xqdashqx xqstar*?qx xqcomma,qx"
+# No recipe can remove the events of a type that has the name of a JDK type that it keeps.
+same="xqsamevalueqx"
 # recipes/vendor and recipes/tenant leave names of code and of modules, with the folder that these come from.
 code="xqclassqx xqmethodqx xqpackageqx xqloaderqx xqfinalizedqx xqmodulenameqx xqmoduleversionqx xqmodulefolderqx"
 # recipes/vendor leaves names of threads; recipes/tenant those that it isn't given.
 threads="xqthreadqx xqgroupqx"
+addresses="127.66.55.44 xqtokenqx"
 tenant="xqtenantqx"
 # No recipe promises to remove what the metadata says. The descriptions of event types leave with their last event;
 # those of annotations and settings stay.
 metadata="
-    xqeventnameqx xqfieldqx xqlabelqx xqdescriptionqx xqcategoryqx xqannotationqx xqsettingnameqx xqsettingclassqx"
+    xqeventnameqx xqjdknameqx xqfieldqx xqlabelqx xqdescriptionqx xqcategoryqx xqannotationqx xqsettingnameqx xqsettingclassqx"
 
 # What the recording needs beside the program: keys, an agent, a module, a class by a loader of its own, a native library.
 prepare() {
@@ -60,6 +66,7 @@ record() {
     local jdk=$1 to=$2
     env -i PATH="$PATH" xqenvironmentnameqx=xqenvironmentvalueqx "$jdk/bin/java" \
         -Dxqpropertynameqx=xqpropertyvalueqx -Djavax.net.ssl.keyStorePassword=xqpropertypasswordqx \
+        '-Dpattern=xqbracket[2026]$qx' -Ddash=-xqdashqx '-Dstar=xqstar*?qx' -Dcomma=xqcomma,qx \
         -Djava.security.properties="$to/xqoptionfileqx" \
         "-XX:OnOutOfMemoryError=true xqonerrorqx" -XX:HeapDumpPath="$to/xqdumppathqx" -XX:ErrorFile="$to/xqerrorfileqx" \
         -Xlog:gc:file="$to/xqlogfileqx" \
@@ -84,20 +91,39 @@ left_in() {
 both() { grep -xFf <(printf '%s\n' $2) <(printf '%s\n' $1) | tr '\n' ' '; }
 only() { grep -vxFf <(printf '%s\n' $2) <(printf '%s\n' $1) | tr '\n' ' '; }
 
+# The words that recipes/left finds in a recording.
+found_by_left() {
+    local recording=$1
+    shift
+    printf '%s\n' "$@" >"$work/words"
+    "$recipes/left" "$recording" "$work/words" 2>"$work/said" >"$work/finds"
+    [ $? -le 1 ] || { cat "$work/said" >&2; return 1; }
+    sed -n 's/^line \([0-9]*\): .*/\1p/p' "$work/finds" | sort -u | sed -n -f - "$work/words"
+}
+
+# The event types that a JDK has and recipes/types doesn't.
+unlisted() {
+    "$1/bin/jfr" metadata | awk '
+        /^@Name\("/ { name = $0; gsub(/^@Name\("|"\)$/, "", name) }
+        / extends jdk\.jfr\.Event \{$/ { print name }' | grep -vxFf <(grep -v '^#' "$recipes/types" | cut -d' ' -f1)
+}
+
 # Scrubs by a recipe, looks at what is left of the planted words, and says it: try JDK RECORDING LEAVES RECIPE WORD..
 try() {
-    local jdk=$1 recording=$2 leaves=$3 out=$work/out.jfr again=$work/again.jfr found
+    local jdk=$1 recording=$2 leaves=$3 out=$work/out.jfr again=$work/again.jfr found not_found
     shift 3
     rm -f "$out" "$again"
-    "$recipes/$1" "${@:2}" "$recording" "$out" || { echo "$1: status $?"; bad=1; return; }
-    "$recipes/$1" "${@:2}" "$out" "$again" && cmp -s "$out" "$again" || { echo "$1: a second scrub differs"; bad=1; }
+    "$recipes/$1" "${@:2}" "$recording" "$out" 2>"$work/said" || { echo "$1: status $?"; cat "$work/said"; bad=1; return; }
+    "$recipes/$1" "${@:2}" "$out" "$again" 2>/dev/null && cmp -s "$out" "$again" || { echo "$1: a second scrub differs"; bad=1; }
     found=$(left_in "$out" "$jdk" $planted) || { echo "$1: the JDK doesn't print the output"; bad=1; return; }
+    not_found=$(only "$found" "$(found_by_left "$out" $planted)")
+    [ -z "$not_found" ] || { echo "$1: recipes/left doesn't find $not_found"; bad=1; }
     echo "$1: $(wc -w <<<"$found") of $(wc -w <<<"$planted") are left; it says that it leaves $(both "$found" "$leaves")"
     found=$(only "$found" "$leaves")
     [ -z "$found" ] || { echo "$1: LEFT, though it says that it takes them away: $found"; bad=1; }
 }
 
-[ $# -gt 0 ] || mapfile -t jdks < <(readlink -f /usr/lib/jvm/*/bin/java | sort -u | xargs -r -n1 dirname | xargs -r -n1 dirname)
+[ $# -gt 0 ] || mapfile -t jdks < <(set +f; readlink -f /usr/lib/jvm/*/bin/java | sort -u | xargs -r -n1 dirname | xargs -r -n1 dirname)
 for jdk in "${@:-${jdks[@]}}"; do
     name=$(basename "$jdk")
     if [ ! -x "$jdk/bin/javac" ] || [ ! -x "$jdk/bin/jfr" ]; then
@@ -111,12 +137,20 @@ for jdk in "${@:-${jdks[@]}}"; do
         continue
     fi
     recording=$to/xqrecordingfileqx.jfr
-    planted=$(left_in "$recording" "$jdk" $secret $code $threads $tenant $metadata) || exit 1
-    missing=$(only "$secret $code $threads $tenant $metadata" "$planted")
+    words="$secret $same $code $threads $addresses $tenant $metadata"
+    planted=$(left_in "$recording" "$jdk" $words) || exit 1
+    missing=$(only "$words" "$planted")
+    strange=$("$recipes/strangers" "$recording")
+    for type in 'bench\.xqeventnameqx' 'jdk\.GCxqjdknameqx' 'jdk\.CPULoad (two'; do
+        grep -q "$type" <<<"$strange" || { echo "$name: recipes/strangers doesn't find $type"; bad=1; }
+    done
+    unlisted=$(unlisted "$jdk")
+    [ -z "$unlisted" ] || { echo "$name: types that recipes/types doesn't have: $unlisted"; bad=1; }
     echo "$name: $(stat -c %s "$recording") bytes, $(wc -w <<<"$planted") strings planted${missing:+; not in its recordings: $missing}"
-    try "$jdk" "$recording" "$code $threads $tenant $metadata" vendor
-    try "$jdk" "$recording" "$metadata" strict
-    try "$jdk" "$recording" "$code $threads $metadata" tenant 'xqtenantqx*'
+    try "$jdk" "$recording" "$same $code $threads $addresses $tenant $metadata" vendor
+    try "$jdk" "$recording" "$same $metadata" strict
+    try "$jdk" "$recording" "$same $code $threads $addresses $metadata" tenant 'xqtenantqx*'
+    try "$jdk" "$recording" "$same $code $threads $tenant $metadata" tenant --addresses
 done
 [ -n "${planted-}" ] || echo "skipped: there is no JDK in /usr/lib/jvm that makes recordings"
 exit $bad

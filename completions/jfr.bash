@@ -29,6 +29,9 @@ _jfr() {
             names=(file)
             ;;
         assemble) names=(folder file) ;;
+        sample) ;;
+        # A command of the JDK's: names of files, by default.
+        *) return ;;
     esac
 
     # The words before this one: options, each with its value, and then names, behind which no option stands.
@@ -85,3 +88,13 @@ _jfr() {
 }
 
 complete -o default -F _jfr jfr
+
+# The first words of recipes/many; all other words of recipes are names of files, which bash completes by default.
+_jfr_many() {
+    COMPREPLY=()
+    if ((COMP_CWORD == 1)) && [[ $1 == *recipes/many ]]; then
+        mapfile -t COMPREPLY < <(compgen -W '--resume --jobs --sshloginfile vendor strict tenant' -- "${COMP_WORDS[1]}")
+    fi
+}
+
+complete -o default -F _jfr_many many

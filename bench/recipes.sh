@@ -1,0 +1,169 @@
+#!/usr/bin/env bash
+# Tries the recipes with bad files and names: bench/recipes.sh PROGRAM FILE
+#
+# FILE is a recording of JDK 17 or later. The recipes run in a copy beside PROGRAM. Each case has a status, a text that
+# the error stream has, and conditions on the files afterwards. Prints a line for each case that is wrong, and at the
+# end how many there were; the status is 0 if none was wrong. The full disk is a file system of its own, which only
+# root can make: otherwise that case is skipped.
+set -u
+program=$(readlink -f -- "$1")
+file=$(readlink -f -- "$2")
+here=$(dirname "$(readlink -f -- "$0")")
+work=$(mktemp -d)
+mounted=
+trap '[ -z "$mounted" ] || umount "$mounted"; rm -rf -- "$work"' EXIT
+cd "$work" || exit 1
+mkdir send
+cp -- "$program" send/jfr
+cp -r -- "$here/../recipes" send/
+r=send/recipes
+cases=0
+wrong=0
+
+# run WORD..: a recipe, with its words.
+run() {
+    "$r/$1" "${@:2}" >said.out 2>said.err
+    status=$?
+}
+
+# check NAME STATUS TEXT: of the last run; the conditions are commands on standard input.
+check() {
+    cases=$((cases + 1))
+    if [ "$status" != "$2" ]; then
+        echo "$1: status $status, expected $2: $(head -n 3 said.err)"
+    elif [ -n "$3" ] && ! grep -qF -- "$3" said.err; then
+        echo "$1: the error stream hasn't '$3': $(head -n 3 said.err)"
+    elif ! bash -c "set -e; $(cat)"; then
+        echo "$1: the files afterwards are wrong"
+    else
+        return
+    fi
+    wrong=$((wrong + 1))
+}
+
+for recipe in vendor strict 'tenant --addresses' "tenant nobody-*,?"; do
+    read -ra words <<<"$recipe"
+    rm -f o.jfr
+    run "${words[@]}" "$file" o.jfr
+    check "$recipe" 0 'events are left' <<<'test -s o.jfr; test ! -s said.out'
+    run "${words[@]}" "$file" o.jfr
+    check "$recipe, an output that exists" 4 'exists already' <<<'test -s o.jfr'
+    run "${words[@]}" "$file" none/o.jfr
+    check "$recipe, no folder" 4 "folder none doesn't exist" <<<'test ! -e none'
+    run "${words[@]}" none.jfr new.jfr
+    check "$recipe, no input" 3 "none.jfr doesn't exist" <<<'test ! -e new.jfr'
+    run "${words[@]}" . new.jfr
+    check "$recipe, a folder" 3 'is a folder' <<<'test ! -e new.jfr'
+    run "${words[@]}" -- "$file"
+    check "$recipe, a name with -" 1 'write ./--' <<<':'
+    run "${words[@]}" "$file"
+    check "$recipe, too few words" 1 'usage: recipes/' <<<':'
+    head -c 5000 "$file" >cut.jfr
+    if [ "$recipe" = 'tenant --addresses' ]; then
+        run "${words[@]}" cut.jfr cut.out
+        check "$recipe, a cut recording" 2 "can't be searched" <<<'test ! -e cut.out'
+        continue
+    fi
+    run "${words[@]}" cut.jfr cut.out
+    check "$recipe, a cut recording" 2 'is cut short' <<<':'
+    run "${words[@]}" cut.jfr cut.out
+    check "$recipe, a cut recording again" 4 'exists already' <<<':'
+    rm -f cut.out
+done
+run tenant '' "$file" new.jfr
+check 'an empty pattern' 1 'a pattern is empty' <<<'test ! -e new.jfr'
+run tenant 'a, b' "$file" new.jfr
+check 'a blank after a comma' 1 'belongs to the pattern' <<<'test ! -e new.jfr'
+run tenant 'nobody-*' "$file" new.jfr
+check 'a pattern that matches nothing' 0 'matches no thread' <<<'test -s new.jfr; rm new.jfr'
+
+# Names.
+cp -- "$file" $' two\nlines "ä".jfr'
+run vendor $' two\nlines "ä".jfr' $'of \n.jfr'
+check 'blanks and newlines' 0 'events are left' <<<$'test -s "of \n.jfr"'
+cp -- "$file" ./-d.jfr
+run vendor ./-d.jfr ./-o.jfr
+check 'a leading -' 0 'events are left' <<<'test -s ./-o.jfr'
+echo xqwordqx >words
+run left $'of \n.jfr' words
+check 'left, a newline' 0 'of 1 words found' <<<'test ! -s said.out'
+run strangers ./-o.jfr
+check 'strangers, no stranger' 0 '' <<<'test ! -s said.out'
+run threads ./-o.jfr
+check 'threads, a leading -' 0 '' <<<'test -s said.out'
+for recipe in left strangers threads; do
+    run "$recipe" none.jfr
+    check "$recipe, no input" 2 '' <<<':'
+    run "$recipe" -d.jfr
+    check "$recipe, a name with -" 2 'usage' <<<':'
+    run "$recipe" words
+    check "$recipe, no recording" 2 '' <<<':'
+done
+: >empty
+run left o.jfr empty
+check 'left, no words' 2 "isn't a text with words" <<<':'
+printf '\xff\xfew\0' >utf16
+run left o.jfr utf16
+check 'left, words in UTF-16' 2 "can't decode" <<<':'
+
+# Folders.
+mkdir -p in/a in/b in/-c in/folder.jfr
+cp -- "$file" in/a/x.jfr
+cp -- "$file" in/b/x.jfr
+cp -- "$file" $'in/-c/-two\nlines {} $x.jfr'
+cp cut.jfr in/cut.jfr
+ln -s none in/link.jfr
+run many vendor in out
+check 'many, one that is refused' 2 'cut.jfr: status 2' <<<'test -s out/a/x.jfr; cmp out/a/x.jfr out/b/x.jfr; test ! -e out/cut.jfr; test ! -e out/.many; grep -q "^2.*cut.jfr" out.log'
+run many vendor in out
+check 'many, a second time' 4 'add --resume' <<<':'
+run many --resume strict in out
+check 'many, another recipe' 4 'of another recipe' <<<':'
+rm in/cut.jfr
+cp -- "$file" in/new.jfr
+run many --resume vendor in out
+check 'many, resumed' 0 '1 of 4 recordings were scrubbed, 3 before' <<<'test -s out/new.jfr'
+run many vendor none out2
+check 'many, no folder' 3 "doesn't exist" <<<'test ! -e out2'
+run many vendor in in/out
+check 'many, in the folder' 4 'must not be IN_FOLDER or in it' <<<':'
+run many vendor in none/out
+check 'many, no folder for outputs' 4 "can't be made" <<<'test ! -e none'
+mkdir nothing
+run many vendor nothing out3
+check 'many, no recording' 2 'has no file' <<<':'
+run many many in out4
+check 'many, no recipe' 1 'usage' <<<'test ! -e out4'
+mkdir bin
+printf '#!/bin/sh\nexit 127\n' >bin/parallel
+chmod +x bin/parallel
+PATH=$work/bin:$PATH run many --jobs 2 strict in out5
+check 'many, without parallel' 0 '4 of 4 recordings' <<<'cmp out5/a/x.jfr out5/b/x.jfr; test -s out5/new.jfr'
+
+# Flame graphs.
+printf 'main;a 1\nmain;b<"&\\u003b 2\n' >folded
+run flame folded f.svg
+check 'flame' 0 '' <<<'python3 -c "import xml.dom.minidom as d; d.parse(\"f.svg\")"'
+run flame folded f.svg
+check 'flame, an output that exists' 4 'exists already' <<<':'
+run flame none g.svg
+check 'flame, no input' 3 "can't be read" <<<'test ! -e g.svg'
+run flame folded none/g.svg
+check 'flame, no folder' 4 "can't be written" <<<':'
+run flame words g.svg
+check 'flame, no stacks' 2 "isn't a folded stack" <<<'test ! -e g.svg'
+
+# A full disk.
+mkdir disk
+if mount -t tmpfs -o size=64k tmpfs disk 2>/dev/null; then
+    mounted=$work/disk
+    run vendor "$file" disk/o.jfr
+    check 'a full disk' 4 'is incomplete' <<<':'
+    rm -f disk/o.jfr
+    run many vendor in disk/out
+    check 'many, a full disk' 2 'were refused' <<<"test -z \"\$(find disk/out -type f)\""
+else
+    echo 'skipped: a full disk'
+fi
+echo "$cases cases, $wrong wrong"
+[ "$wrong" = 0 ]
