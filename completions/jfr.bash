@@ -8,14 +8,18 @@ _jfr() {
 
     if ((COMP_CWORD == 1)); then
         compopt +o default 2>/dev/null
-        mapfile -t COMPREPLY < <(compgen -W 'print summary metadata scrub disassemble assemble sample' -- "$current")
+        mapfile -t COMPREPLY < <(compgen -W 'print summary metadata scrub disassemble assemble sample stacks' -- "$current")
         return
     fi
 
-    # What stands where the names do: a file, a folder, or nothing that can be offered.
+    # The options, and what each name is: a file, a folder, or nothing that can be offered.
     case ${COMP_WORDS[1]} in
         print)
             options='--events --categories --depth --json'
+            names=(file)
+            ;;
+        stacks)
+            options='--events --categories'
             names=(file)
             ;;
         summary | metadata) names=(file) ;;
@@ -34,7 +38,7 @@ _jfr() {
         *) return ;;
     esac
 
-    # The words before this one: options, each with its value, and then names, behind which no option stands.
+    # The words before this one: options, each with its value, and then names, after which no option is taken.
     local at=2 given=0 option=''
     while ((at < COMP_CWORD)); do
         word=${COMP_WORDS[at]}
