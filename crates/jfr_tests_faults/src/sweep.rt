@@ -42,7 +42,7 @@ const WHOLE: &[Left] = &[Left::Chunks(2)];
 const TEXT: &[Left] = &[Left::PartOf(2)];
 
 #[rattlefmt::skip]
-static CASES: [Case; 9] = [
+static CASES: [Case; 10] = [
     Case {
         command: Command { words: &["print", "a.jfr"], at_end: false },
         reads: &[OF_BOTH], calls: [ONCE, &[], &[], &[], &[]], writes: EACH,
@@ -82,6 +82,10 @@ static CASES: [Case; 9] = [
     Case {
         command: Command { words: &["sample", "3", "5"], at_end: true },
         reads: &[], calls: [&[], &[], &[], &[], &[]], writes: TEXT,
+    },
+    Case {
+        command: Command { words: &["stacks", "a.jfr"], at_end: true },
+        reads: &[OF_BOTH], calls: [ONCE, &[], &[], &[], &[]], writes: TEXT,
     },
 ];
 

@@ -74,6 +74,16 @@ const LINES: &[(&str, &str)] = &[
     ("sample 1 1 1", "Usage"),
     ("sample 4294967295 1000000", "sample 4294967295 1000000"),
     ("sample 0 1", "sample 0 1"),
+    ("stacks", "Usage"),
+    ("stacks --depth 1 a", "Usage"),
+    ("stacks --exclude-events A a", "Usage"),
+    ("stacks --events A --events A a", "Usage"),
+    ("stacks a b", "Usage"),
+    ("stacks a", "stacks 000000 of a"),
+    (
+        "stacks --categories --events --events A a",
+        "stacks 101000 of a",
+    ),
 ];
 
 // The words of a line; none of the empty one.
@@ -154,6 +164,11 @@ fn text_of(alloc: Global, order: &Order) -> Result<String, Fail> {
             Ok(format!(in alloc; "assemble {} to {}", folder.as_str(), output.as_str())?)
         }
         Order::Sample { seed, events } => Ok(format!(in alloc; "sample {} {}", seed, events)?),
+        Order::Stacks { filter, file } => {
+            let options = options_of(alloc, filter)?;
+            let text = format!(in alloc; "stacks {} of {}", options.as_str(), file.as_str())?;
+            Ok(text)
+        }
     }
 }
 
