@@ -37,6 +37,6 @@ RenamedRecords new p q (e ∷ es) (f ∷ fs) = RenamedRecord new p q e f × Rena
 RenamedRecords new p q [] (f ∷ fs) = ⊥
 RenamedRecords new p q (e ∷ es) [] = ⊥
 
--- The class lists agree on the class of each class and key that are used.
+-- The class lists agree on the class of each used class and key.
 abbrev pub AgreeOnUsed : Parts → Parts → List EventAt → Type 0
 AgreeOnUsed p q kept = (t : ℕ × ℕ) → Used p kept t → Agree p.classes q.classes t.0

@@ -32,7 +32,7 @@ RenamedMeaning new p q (e ∷ es) (f ∷ fs) = RenamedEvent new p q e f × Renam
 RenamedMeaning new p q [] (f ∷ fs) = ⊥
 RenamedMeaning new p q (e ∷ es) [] = ⊥
 
--- These are new keys: none is larger than the old one, those of a class are dense, and two are equal exactly if
+-- These are new keys: none is larger than the old one, those of a class have no gaps, and two are equal exactly if
 -- the keys are together.
 pub record AreNewKeys (p : Parts) (kept : List EventAt) (new : ℕ × ℕ → ℕ) : Type 0 where
   pub most : (t : ℕ × ℕ) → new t ≤ t.1

@@ -15,7 +15,7 @@ is_missing es t = not (is_some (number_in_force es t))
 abbrev pub flagged : {X : Type 0} → List Bool → List X → ℕ → Option X
 flagged flags xs i = option_and_then (λ keep. if keep then slice_get xs i else None) (slice_get flags i)
 
--- Unless memory ran out, those of these without an entry in force have been added to the list.
+-- Unless memory ran out, the listed ones without an entry in force have been added.
 pub record Lists (es : List EntryAt) (ts : List (ℕ × ℕ)) (old new : Missing) : Type 0 where
   pub went : new.failed ≡ false → old.failed ≡ false
   pub joined : new.failed ≡ false → new.keys.items ≡ old.keys.items ++ filter (is_missing es) ts

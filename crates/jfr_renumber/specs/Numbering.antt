@@ -11,7 +11,7 @@ use Rattle.jfr_chunk.specs.Parts.{Parts}
 use Rattle.jfr_renumber.specs.declared.numbering.UsedKey.{UsedKey}
 use Rattle.jfr_renumber.specs.Keys.{group_number}
 
--- The number of the bytes of a value, if they have one.
+-- The number that was given to the bytes of a value, if they have one.
 abbrev pub number_under : BTreeMap (Bor (List ℕ)) ℕ → List ℕ → Option ℕ
 number_under firsts value = get_by (λ k. slice_cmp nat_cmp value k.now) firsts
 
@@ -39,7 +39,7 @@ pub record AreKeysOf (together : ℕ × ℕ → ℕ × ℕ → Bool) (us : List 
   pub all : (key : ℕ) → Contains us (class, key) → (k : UsedKey) × Contains ks k × (k.key ≡ key)
   pub alike : (k l : UsedKey) → Contains ks k → Contains ks l → (together (class, k.key) (class, l.key) ≡ true) ↔ ((k.key ≡ l.key) ⊎ SameValue k l)
 
--- The numbers of their groups.
+-- The numbers of the groups of these keys.
 abbrev pub group_numbers : (ℕ × ℕ → ℕ × ℕ → Bool) → List (ℕ × ℕ) → ℕ → List UsedKey → List ℕ
 group_numbers together us class ks = map (λ k. group_number together us (class, k.key)) ks
 
@@ -56,7 +56,7 @@ RisingPairs (k ∷ l ∷ ks) = Before k l × RisingPairs (l ∷ ks)
 abbrev pub pair_at : UsedKey → ℕ × ℕ
 pair_at k = (k.class, k.key)
 
--- These are all classes and keys, in order. Two are together exactly if they have the same class, and the same
+-- These are all the used classes and keys, in order. Two are together exactly if they have the same class, and the same
 -- key or the same value.
 pub record ArePairsOf (together : ℕ × ℕ → ℕ × ℕ → Bool) (us : List (ℕ × ℕ)) (ks : List UsedKey) : Type 0 where
   pub rising : RisingPairs ks
@@ -64,7 +64,7 @@ pub record ArePairsOf (together : ℕ × ℕ → ℕ × ℕ → Bool) (us : List
   pub all : (t : ℕ × ℕ) → Contains us t → (k : UsedKey) × Contains ks k × (pair_at k ≡ t)
   pub alike : (k l : UsedKey) → Contains ks k → Contains ks l → (together (pair_at k) (pair_at l) ≡ true) ↔ ((k.class ≡ l.class) × ((k.key ≡ l.key) ⊎ SameValue k l))
 
--- The numbers of the groups of all.
+-- The numbers of the groups of all of them.
 abbrev pub pair_numbers : (ℕ × ℕ → ℕ × ℕ → Bool) → List (ℕ × ℕ) → List UsedKey → List ℕ
 pair_numbers together us ks = map (λ k. group_number together us (pair_at k)) ks
 

@@ -6,7 +6,7 @@ pub record NumberedPairs : Type 0 where
   pub pairs : List (ℕ × ℕ)
   pub numbers : List ℕ
 
--- The number at the place of a class and a key, if they are there.
+-- The number at the position of a class and a key, if they are there.
 abbrev pub number_at : List (ℕ × ℕ) → List ℕ → ℕ × ℕ → Option ℕ
 number_at [] ns t = None
 number_at (u ∷ us) [] t = None

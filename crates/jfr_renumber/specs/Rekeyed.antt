@@ -40,7 +40,7 @@ moved new t = (t.0, new t)
 abbrev pub rekeyed_bytes : (ℕ × ℕ → ℕ) → Classes → List ℕ → NodeAt → List ℕ
 rekeyed_bytes new k c n = option_map_or (λ v. bytes_of (rekeyed new v)) (value_of k c n) []
 
--- A leaf without its place.
+-- A leaf without its offset.
 pub record Content : Type 0 where
   pub kind : LeafKind
   pub class : ℕ

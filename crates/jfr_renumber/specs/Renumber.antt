@@ -54,7 +54,7 @@ new_key p kept t = group_number (together p) (used_keys p kept) t
 abbrev pub new_key_of : Parts → List EventAt → ℕ × ℕ → Option ℕ
 new_key_of p kept t = if list_any (λ u. (u.0 == t.0) && (u.1 == t.1)) (used_keys p kept) then Some (new_key p kept t) else None
 
--- Of these entries, the first of those that are the same by this test, each time.
+-- Of each set of entries that are the same by this test, the first.
 abbrev pub firsts_with : (EntryAt → EntryAt → Bool) → List EntryAt → List EntryAt
 firsts_with same [] = []
 firsts_with same (e ∷ es) = e ∷ filter (λ f. not (same e f)) (firsts_with same es)

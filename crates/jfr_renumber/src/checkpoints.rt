@@ -16,7 +16,8 @@ use jfr_pool::{EntryAt, Link};
 use jfr_value::{Node, Steps};
 use std::sync::ledger::Ledger;
 
-/// A chained checkpoint of the output: the chunk's one, its delta, and the entries that are left of it.
+/// A chained checkpoint of the output: the checkpoint that it comes from, its delta in the output, and those of
+/// its entries that remain.
 #[derive(Clone, Copy, Debug)]
 pub struct OutputCheckpoint<'e> {
     pub link: Link,
@@ -85,7 +86,8 @@ fn put_pools<N: NewKeys, L: Ledger>(
     Ok(())
 }
 
-/// Appends a checkpoint with its delta and its entries. Its size has as many bytes as before.
+/// Appends a checkpoint with its delta and its entries. Its size takes the same number of bytes
+/// as before.
 pub fn put_checkpoint<N: NewKeys, L: Ledger>(
     out: &mut Vec<u8>,
     chunk: &Chunk<'_>,

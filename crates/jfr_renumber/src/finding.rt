@@ -4,7 +4,7 @@ ghost use Rattle.jfr_renumber.specs.Missing.{IsRising, pair_cmp};
 
 use std::cmp::Ordering;
 
-/// The index of a class and a key among rising ones; `None` exactly if they aren't among them. Allocates
+/// The index of a class and a key in a rising list; `None` exactly if they aren't among them. Allocates
 /// nothing.
 pub fn find(pairs: &[(u64, u64)], class: u64, key: u64) -> Option<usize>
     requires { IsRising pairs.now }

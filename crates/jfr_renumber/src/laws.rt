@@ -45,8 +45,7 @@ pub fn renumbered_means_the_same()
     ensures { (p : Parts) (flags : List Bool) → Whole p.bytes → AreParts p → IsRenumbered p (kept_by p flags) }
 {}
 
-/// The first entries, one entry after another: an entry is added unless one before it is the same by the
-/// test.
+/// How the first entries grow: an entry joins them unless an earlier one is the same by the test.
 #[tactic(auto, using(crate::proofs::FirstsLaws::first_next))]
 pub fn firsts_one_by_one()
     ensures { (same : EntryAt → EntryAt → Bool) (es : List EntryAt) (e : EntryAt) → firsts_with same (es ++ e ∷ []) ≡ firsts_with same es ++ (if list_any (λ f. same f e) es then [] else e ∷ []) }

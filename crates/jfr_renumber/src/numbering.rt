@@ -17,8 +17,8 @@ pub struct UsedKey<'a> {
     pub value: Option<&'a [u8]>,
 }
 
-/// The numbers of the groups of a class's keys, in the order of the keys. A key whose value was there before
-/// gets the number that this value got; each other key gets the next number.
+/// The numbers of the groups of a class's keys, in the order of the keys. A key whose value came earlier gets
+/// that value's number; any other key gets the next number.
 pub fn number_class<'a>(alloc: Global, keys: &[UsedKey<'a>]) -> Result<Vec<u64>, NoMemory>
     ensures ok { IfOk result (λ numbers. (together : ℕ × ℕ → ℕ × ℕ → Bool) (us : List (ℕ × ℕ)) (class : ℕ) → Together together → AreKeysOf together us class keys.now → numbers.items ≡ group_numbers together us class keys.now) }
 {

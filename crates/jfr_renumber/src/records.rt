@@ -15,7 +15,7 @@ use jfr_layout::Classes;
 use jfr_value::Steps;
 use std::sync::ledger::Ledger;
 
-/// Appends an event with new keys. Its size has as many bytes as before.
+/// Appends an event with new keys. Its size takes the same number of bytes as before.
 pub fn put_event<N: NewKeys, L: Ledger>(
     out: &mut Vec<u8>,
     classes: &Classes,
@@ -41,7 +41,8 @@ pub fn put_event<N: NewKeys, L: Ledger>(
     Ok(())
 }
 
-/// Appends the event of the chunk with this number, with new keys. Its size has as many bytes as before.
+/// Appends the event of the chunk with this number, with new keys. Its size takes the same number of bytes as
+/// before.
 pub fn put_chunk_event<N: NewKeys, L: Ledger>(
     out: &mut Vec<u8>,
     chunk: &Chunk<'_>,
@@ -59,7 +60,7 @@ pub fn put_chunk_event<N: NewKeys, L: Ledger>(
     }
 }
 
-/// Writes the number of bytes from this offset on into the first `count` of them.
+/// Writes the number of bytes after offset `from` into the first `count` of them.
 pub fn put_size(out: &mut Vec<u8>, from: usize, count: usize)
     requires count { (1 ≤ count) × (count ≤ 9) }
     requires within { from + count ≤ length out.old.items }

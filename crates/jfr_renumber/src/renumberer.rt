@@ -33,7 +33,7 @@ impl Model for Renumberer {
 }
 
 impl Renumberer {
-    /// Gives new keys to all that the events which the filter keeps refer to, directly or through constants.
+    /// Gives a new key to everything to which the kept events refer, directly or through constants.
     pub fn prepare(
         alloc: Global,
         chunk: &Chunk<'_>,

@@ -6,7 +6,7 @@ use Rattle.std.specs.FinMap as fin
 use Rattle.jfr_chunk.specs.Parts.{EventAt, Parts, events_of}
 use Rattle.jfr_stacks.specs.Folded.{Counts, count_of}
 
--- A count, with n events more. Without events nothing is added.
+-- A count after n more events; unchanged if n is 0.
 abbrev pub plus : Option ℕ → ℕ → Option ℕ
 plus kept n = if n == 0 then kept else Some (unwrap_or kept 0 + n)
 
@@ -18,7 +18,7 @@ is_text q text = option_map_or (λ t. bytes_eq t q) text false
 pub record AddsText (old : Counts) (text : Option (List ℕ)) (n : ℕ) (new : Counts) : Type 0 where
   pub each : (q : List ℕ) → fin.get new q ≡ (if is_text q text then plus (fin.get old q) n else fin.get old q)
 
--- For each of the texts an event is added.
+-- One event is added for each text.
 pub record AddsTexts (old : Counts) (ts : List (List ℕ)) (new : Counts) : Type 0 where
   pub each : (q : List ℕ) → fin.get new q ≡ plus (fin.get old q) (count_of q ts)
 
@@ -28,8 +28,7 @@ abbrev pub owed : (ℕ → Option (List ℕ)) → List ℕ → ℕ → List ℕ 
 owed text q number [] = 0
 owed text q number (n ∷ ns) = (if is_text q (text number) then n else 0) + owed text q (number + 1) ns
 
--- Once the events that are counted by entries are added to the counts `now`, an event is added to `old` for
--- each of the texts.
+-- The counts `now`, with the events that are still counted by entries, are `old` with one event for each text.
 pub record Owes (text : ℕ → Option (List ℕ)) (old : Counts) (ts : List (List ℕ)) (now : Counts) (number : ℕ) (ns : List ℕ) : Type 0 where
   pub each : (q : List ℕ) → plus (fin.get now q) (owed text q number ns) ≡ plus (fin.get old q) (count_of q ts)
 

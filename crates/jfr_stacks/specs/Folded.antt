@@ -14,7 +14,7 @@ use Rattle.jfr_stacks.specs.Texts.{stack_of}
 abbrev pub Counts : Type 0
 Counts = fin.FinMap (slice_cmp nat_cmp) ℕ
 
--- The number of texts that are this one.
+-- How often this text is in the list.
 abbrev pub count_of : List ℕ → List (List ℕ) → ℕ
 count_of text ts = count_by (λ t. bytes_eq t text) ts
 

@@ -59,7 +59,7 @@ trace_text p n = option_map (stack_text p) (frames_in p n)
 unfoldable pub entry_text : Parts → ℕ → Option (List ℕ)
 entry_text p number = option_and_then (λ e. trace_text p (behind 15 p (entry_node e))) (slice_get p.entries number)
 
--- The value is a reference to the entry with this number, so both have the same stack.
+-- The entry with this number exists, and has the same stack as this value.
 pub record LeadsTo (p : Parts) (n : NodeAt) (number : ℕ) : Type 0 where
   pub within : number < length p.entries
   pub same : trace_text p (behind 16 p n) ≡ entry_text p number

@@ -24,7 +24,7 @@ use std::alloc::Global;
 
 /// Adds the events of a chunk that the filter keeps. They are first counted by the entry that is their stack
 /// trace, so the text of a stack is written only once for each entry. If memory runs out, some of the events
-/// have been added.
+/// may have been added.
 pub(crate) fn add_events(
     alloc: Global,
     chunk: &Chunk<'_>,
@@ -35,7 +35,7 @@ pub(crate) fn add_events(
     ensures ok { OnOk result (AddsTexts (counts_in counts.old) (texts_of filter.now chunk.now) (counts_in counts.new)) }
     ensures below { (most : ℕ) → AreBelow most (counts_in counts.old) → AreBelow (most + 1073741823) (counts_in counts.new) }
 {
-    // The clauses of this call bound the number of events.
+    // By the clauses of this call, a chunk has fewer than 2^30 events.
     let _ = chunk.bytes();
     let kept = choose(alloc, chunk, filter)?;
     let mut writer = StackWriter::new(alloc)?;

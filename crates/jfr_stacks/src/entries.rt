@@ -12,7 +12,7 @@ use crate::writer::StackWriter;
 use jfr_base::NoMemory;
 use jfr_chunk::Chunk;
 
-/// The most references that are followed from an entry: one was followed to the entry.
+/// The most references that are followed from an entry. One has been followed to reach it.
 const MOST_FOLLOWED: u32 = 15;
 
 /// Adds the events that were counted by entries to the counts.

@@ -71,7 +71,7 @@ fn items_of<'a>(
     Ok(items)
 }
 
-/// Where the item with this shape ends that starts at `at` and ends by `limit`.
+/// The end of the item with this shape at `at`, which is at most `limit`.
 fn item_end(chunk: &Chunk<'_>, shape: Shape, at: usize, limit: usize) -> usize
     requires sound { Sound chunk.now.classes }
     requires item { shape.array ≡ false }
@@ -89,7 +89,7 @@ fn item_end(chunk: &Chunk<'_>, shape: Shape, at: usize, limit: usize) -> usize
     }
 }
 
-/// Where the reference ends that starts at `at` and ends by `limit`.
+/// The end of the reference at `at`, which is at most `limit`.
 fn key_end(chunk: &Chunk<'_>, shape: Shape, at: usize, limit: usize) -> usize
     requires item { shape.array ≡ false }
     requires reference { shape.constant ≡ true }
@@ -101,7 +101,7 @@ fn key_end(chunk: &Chunk<'_>, shape: Shape, at: usize, limit: usize) -> usize
     integer_at(chunk, at, limit).end
 }
 
-/// The integer that starts at `at` and ends by `limit`.
+/// The integer at `at`, which ends at `limit` or before.
 fn integer_at(chunk: &Chunk<'_>, at: usize, limit: usize) -> Var
     requires order { at ≤ limit }
     requires within { limit ≤ length chunk.now.bytes }

@@ -35,7 +35,7 @@ pub(crate) fn method_names(alloc: Global) -> Result<Words, NoMemory>
     Ok(names)
 }
 
-/// Adds the name to which the names of fields lead from a frame.
+/// Adds the name at these fields of a frame, escaped, or `?` if there is none.
 #[tactic(auto, unfolding(crate::specs::Texts::name_text))]
 pub(crate) fn push_name(
     alloc: Global,
@@ -57,7 +57,7 @@ pub(crate) fn push_name(
     }
 }
 
-/// The text to which the names of fields lead from a frame, if there is one.
+/// The text at these fields of a frame, if there is one.
 fn named_text(
     alloc: Global,
     chunk: &Chunk<'_>,

@@ -52,7 +52,7 @@ impl Stacks {
         }
     }
 
-    /// Adds the events of a chunk that the filter keeps. After memory runs out nothing is promised about the
+    /// Adds the events of a chunk that the filter keeps. If memory runs out, nothing is known about the
     /// counts.
     pub fn add(&mut self, chunk: &Chunk<'_>, filter: &Filter) -> Result<(), NoMemory>
         requires { self.old.chunks < 2 ^ 34 }
@@ -71,7 +71,7 @@ impl Stacks {
     }
 
     /// A line for each stack, in the order of the texts' bytes: the text, a space, the number of events, and
-    /// the end of the line.
+    /// a newline.
     pub fn text(&self, alloc: Global) -> Result<Text, NoMemory>
         ensures ok { IfOk result (λ text. text ≡ chars (lines_of self.now.stacks)) }
         ensures bytes { IfOk result (λ text. encode_utf8_all text ≡ lines_of self.now.stacks) }

@@ -1,4 +1,4 @@
-//! Steps from value to value: the fields of a name, and the constants that references lead to.
+//! Steps from value to value: to the field with a name, and to the constant that a reference leads to.
 ghost use Rattle.std.specs.Prelude.{◌≡◌, IfSome, option_map};
 ghost use Rattle.std.specs.Str.{chars};
 ghost use Rattle.jfr_chunk.specs.Paths.{follow, is_reference, named_field};

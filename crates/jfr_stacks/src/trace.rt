@@ -8,7 +8,7 @@ use crate::steps::{MOST_FOLLOWED, behind, entry_of, is_reference, named_field};
 use jfr_chunk::Chunk;
 use jfr_value::Node;
 
-/// The field with the stack trace, in an event with these fields; `None` exactly if there is no such field.
+/// The field `stackTrace` of an event with these fields; `None` exactly if there is no such field.
 pub(crate) fn trace_of<'a>(chunk: &Chunk<'a>, fields: &Node<'a>) -> Option<Node<'a>>
     requires value { IsValue chunk.now.classes fields.now }
     requires of_chunk { fields.now.bytes.now ≡ chunk.now.bytes }

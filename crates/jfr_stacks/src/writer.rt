@@ -58,7 +58,7 @@ impl StackWriter {
         self.text.as_str()
     }
 
-    /// Writes the text of the stack of a stack trace. False exactly if it has no stack.
+    /// Writes the text of a stack trace. False exactly if its frames aren't an array.
     #[tactic(auto, unfolding(crate::specs::Texts::trace_text))]
     pub(crate) fn write<'a>(
         &mut self,

@@ -39,11 +39,11 @@ is_copy p q e f = (e.checkpoint == f.checkpoint) && bytes_eq (node_bytes p.bytes
 abbrev pub copy_if : Parts → Parts → ℕ → EntryAt → ℕ → Option ℕ
 copy_if p q from f n = if nat_lt n from then None else option_and_then (λ e. if is_copy p q e f then Some n else None) (slice_get p.entries n)
 
--- The number, from `from` on, of the entry in force of the input that this entry of the output is a copy of.
+-- The number, not below `from`, of the input's entry in force of which this entry of the output is a copy.
 abbrev pub next_copy : Parts → Parts → ℕ → ℕ → Option ℕ
 next_copy p q number from = option_and_then (λ f. option_and_then (copy_if p q from f) (number_in_force p.entries (f.class, f.key))) (slice_get q.entries number)
 
--- The marks of the entries that the entries of the output are copies of, or there are no such marks.
+-- Marks on the input's entries that the output copies; or no marks are right.
 abbrev pub MarksOfCopies : Parts → Parts → Option (Vec Bool Global) → Type 0
 MarksOfCopies p q (Some marks) = AreAmong p q marks.items × (length marks.items ≡ length p.entries)
 MarksOfCopies p q None = (marks : List Bool) → AreAmong p q marks → ⊥

@@ -31,6 +31,6 @@ is_same (OfEntry a) (OfEvent b) = false
 abbrev pub is_parent_of : List Parent → Parent → ℕ → Bool
 is_parent_of parents parent t = option_map_or (is_same parent) (slice_get parents t) false
 
--- Those of these entries whose claimed parent is this.
+-- The entries of the list whose claimed parent is this one.
 abbrev pub children : List Parent → Parent → List ℕ → List ℕ
 children parents parent is = filter (is_parent_of parents parent) is

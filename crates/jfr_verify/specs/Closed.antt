@@ -1,4 +1,4 @@
--- Whether all that is referred to is marked, as it is computed.
+-- How it is computed whether all that is referred to is marked.
 use Rattle.std.specs.Prelude.{◌≡◌, ℕ, zero, suc, Bool, true, ◌&&◌, List, [], slice_get, if◌then◌else◌}
 use Rattle.std.specs.Option.{option_map_or}
 use Rattle.std.specs.List.{list_all}
@@ -28,7 +28,7 @@ kept_refs p flags n = option_map_or (λ flag. if flag then option_map_or (λ e. 
 abbrev pub marked_refs : Parts → List Bool → ℕ → List ℕ
 marked_refs p marks n = if is_marked marks n then next_entries p n else []
 
--- Whether all that the marked ones of the first n entries refer to is marked.
+-- Whether the marked entries among the first n refer only to marked ones.
 abbrev pub entries_closed : Parts → List Bool → ℕ → Bool
 entries_closed p marks zero = true
 entries_closed p marks (suc n) = entries_closed p marks n && are_marked marks (marked_refs p marks n)

@@ -1,4 +1,4 @@
--- What is confirmed after parents are looked at.
+-- Which claims are confirmed once parents have been visited.
 use Rattle.std.specs.Prelude.{◌≡◌, ◌⊎◌, ◌<◌, ℕ, List, length, slice_get, Some}
 use Rattle.jfr_worklist.specs.Marks.{IsMarked, marked_at}
 use Rattle.jfr_chunk.specs.Parts.{Parts}
@@ -18,7 +18,7 @@ pub record ConfirmsOf (parent : Parent) (numbers : List ℕ) (old new : Claims) 
   pub confirmed : new.confirmed.items ≡ marked_at old.confirmed.items (children old.parents.items parent numbers)
   pub parents : new.parents.items ≡ old.parents.items
 
--- What was confirmed still is, and what is confirmed now was before, or its claimed parent refers to it.
+-- Confirmed claims stay so. Of each new one, the claimed parent refers to the entry.
 pub record ConfirmsMore (p : Parts) (old new : Claims) : Type 0 where
   pub size : length new.confirmed.items ≡ length old.confirmed.items
   pub parents : new.parents.items ≡ old.parents.items

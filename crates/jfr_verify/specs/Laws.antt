@@ -25,7 +25,7 @@ pub record IsVerified (p q : Parts) (kept : List EventAt) : Type 0 where
 abbrev pub AllReached : Parts → Type 0
 AllReached p = (number : ℕ) → number < length p.entries → Reached p (events_of p) number
 
--- If they do, the receipt that is written for the chunk is a receipt of it.
+-- If the events reach each entry, the receipt that is written for the chunk is a receipt of it.
 abbrev pub IsReceipted : Parts → Type 0
 IsReceipted p = AllReached p → IsReceiptOf (receipt_of p) p
 

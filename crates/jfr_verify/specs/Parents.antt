@@ -1,4 +1,4 @@
--- Lines in order: each is for another entry, and its parent comes before it.
+-- Lines in order: each is for a different entry, and its parent comes before it.
 use Rattle.std.specs.Prelude.{◌≡◌, ◌<◌, ℕ, Bool, true, false, List, [], ◌∷◌, length, slice_get, Option, Some, None, Contains, if◌then◌else◌, ⊤}
 use Rattle.std.specs.List.{AllByRecursion}
 use Rattle.std.specs.Option.{option_map_or}
@@ -26,7 +26,7 @@ abbrev pub AreOrdered : ℕ → List ℕ → List Line → Type 0
 AreOrdered count before [] = ⊤
 AreOrdered count before (l ∷ ls) = IsOrdered count before l × AreOrdered count (l.entry ∷ before) ls
 
--- By entry, these are the parents of the lines.
+-- The parent listed for each line's entry is the line's.
 abbrev pub AreParentsOf : List Parent → List Line → Type 0
 AreParentsOf parents ls = AllByRecursion (λ l. slice_get parents l.entry ≡ Some l.parent) ls
 

@@ -20,7 +20,7 @@ abbrev pub parent_of : ℕ → ℕ → Parent
 parent_of zero n = OfEvent n
 parent_of (suc kind) n = OfEntry n
 
--- A parent's kind is 0 or 1. Nothing reports the reason.
+-- A parent's kind is 0 or 1. The reason is never reported.
 abbrev pub kind_check : ℕ → Option Reason
 kind_check kind = if nat_lt kind 2 then None else Some Short
 
@@ -61,7 +61,7 @@ pub record IsReceiptOf (receipt : List ℕ) (p : Parts) : Type 0 where
   pub each : (number : ℕ) → number < length p.entries → Contains (map (λ l. l.entry) lines) number
   pub valid : AreValidLines p [] lines
 
--- The list with this line in front, unless its entry is marked.
+-- The line followed by the list, or only the list if the line's entry is marked.
 abbrev pub line_if : Bool → Line → List Line → List Line
 line_if true l ls = ls
 line_if false l ls = l ∷ ls

@@ -1,4 +1,4 @@
--- Whether two chunks have the same events, as it is computed.
+-- How it is computed whether two chunks have the same events.
 use Rattle.std.specs.Prelude.{◌≡◌, ℕ, ◌+◌, Bool, true, false, ◌&&◌, ◌==◌, List, slice_get, Option, Some, None, option_map, if◌then◌else◌}
 use Rattle.std.specs.Option.{option_map_or}
 use Rattle.std.specs.Str.{bytes_eq}
@@ -14,7 +14,7 @@ content p e = (e.record_of.type_id, record_bytes p.bytes e.record_of)
 abbrev pub is_same : ℕ × List ℕ → ℕ × List ℕ → Bool
 is_same x y = (x.0 == y.0) && bytes_eq x.1 y.1
 
--- Whether both are there and equal.
+-- Whether both exist and are equal.
 abbrev pub both_same : Option (ℕ × List ℕ) → Option (ℕ × List ℕ) → Bool
 both_same (Some x) (Some y) = is_same x y
 both_same (Some x) None = false

@@ -15,7 +15,7 @@ pub(crate) struct Claims {
     pub parents: Vec<Parent>,
     /// For each entry, whether its claimed parent is known to refer to it.
     pub confirmed: Vec<bool>,
-    /// The parent that is looked at.
+    /// The parent whose references are being visited.
     pub parent: Parent,
 }
 

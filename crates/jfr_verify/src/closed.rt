@@ -1,4 +1,4 @@
-//! Whether the output lacks an entry that it needs: whether all entries in force to which kept events and
+//! Whether the output has every entry that it needs: whether all entries in force to which kept events and
 //! marked entries refer are marked.
 ghost use Rattle.std.specs.Prelude.{◌≡◌, ◌<◌, ◌&&◌, [], length, if◌then◌else◌};
 ghost use Rattle.jfr_value.specs.Nodes.{IsValue, node_of};
@@ -19,7 +19,7 @@ use std::sync::ledger::{Blank, Ledger};
 pub(crate) struct ClosedCheck {
     /// For each entry, whether it is marked.
     pub marks: Vec<bool>,
-    /// Whether all that were referred to so far are marked.
+    /// Whether all entries referred to so far are marked.
     pub closed: bool,
 }
 

@@ -103,7 +103,7 @@ fn confirm_each(claims: &mut Claims, entries: &[u32])
     }
 }
 
-/// Confirms the claims that name an entry, if the entry refers to the other.
+/// Confirms the claims that name an entry as parent, if it refers to the claiming entry.
 fn confirm_entries<L: Ledger>(claims: &mut Claims, chunk: &Chunk<'_>, steps: &mut Steps<L>)
     requires size { length claims.old.confirmed.items ≡ length chunk.now.entries }
     ensures { ConfirmsEntries chunk.now (length chunk.now.entries) claims.old claims.new }
@@ -113,7 +113,7 @@ fn confirm_entries<L: Ledger>(claims: &mut Claims, chunk: &Chunk<'_>, steps: &mu
     }
 }
 
-/// Confirms the claims that name entry `number`, if it refers to the other entry.
+/// Confirms the claims that name entry `number` as parent, if it refers to the claiming entry.
 fn confirm_entry<L: Ledger>(
     claims: &mut Claims,
     chunk: &Chunk<'_>,

@@ -9,7 +9,7 @@ use jfr_chunk::Chunk;
 use jfr_value::Node;
 use std::alloc::Global;
 
-/// Marks of the entries of the input that the entries of the output are copies of, in order; `None` exactly
+/// Marks on the entries of the input that have copies in the output, in order; `None` exactly
 /// if the entries of the output aren't copies of entries in force of the input, in order.
 pub(crate) fn marks_of_copies(
     alloc: Global,

@@ -4,7 +4,7 @@
 /// about whole files.
 #[derive(Clone, Copy, Debug, PartialEq, Eq)]
 pub enum Doubt {
-    /// The receipt is too long.
+    /// The file of receipts has 2^40 bytes or more.
     ReceiptLong,
     /// A chunk of the output is refused.
     OutRefused,

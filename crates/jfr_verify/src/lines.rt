@@ -14,7 +14,7 @@ pub(crate) struct Lines {
     pub flags: Vec<bool>,
     /// The lines, in the order in which they were made.
     pub items: Vec<Line>,
-    /// The parent of the next lines.
+    /// The parent that the next lines will name.
     pub parent: Parent,
     ghost room: { length flags.items ≤ vec_capacity items },
     ghost each: { vec_len items ≡ marked_count flags.items },

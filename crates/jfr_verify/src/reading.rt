@@ -22,7 +22,7 @@ pub(crate) struct LinesRead {
 }
 
 /// The lines of a receipt for this number of entries; `None` exactly if the bytes don't start with this
-/// number and as many lines. A wrong number is seen before any memory is allocated for the lines.
+/// number and that number of lines. A wrong number is found before memory is allocated for the lines.
 pub(crate) fn read_lines(
     alloc: Global,
     receipt: &[u8],
