@@ -1,6 +1,8 @@
 pub mod Lines
 pub mod Orders
+pub mod Leaving
 pub mod Counting
 mod Rows
 pub mod Sampling
+pub mod Checking
 pub mod Clauses

@@ -8,6 +8,10 @@ use Rattle.jfr_outside.specs.Counts.{Rose}
 use Rattle.jfr_header.specs.declared.ending.Ending.{Ending}
 use Rattle.jfr_header.specs.declared.ending.Ending.TheVariants.{Done, Refused, ReadFault, WriteFault, TooManyParts, Memory}
 use Rattle.jfr_show.specs.Texts.{newline}
+use Rattle.jfr_verify.specs.declared.doubt.Doubt.{Doubt}
+use Rattle.jfr_verify.specs.Doubts.{doubt_name}
+use Rattle.jfr_cli.specs.declared.answer.Answer.{Answer}
+use Rattle.jfr_cli.specs.declared.answer.Answer.TheVariants as answers
 
 -- The status of a command's ending.
 abbrev pub status_of : Ending → ℕ
@@ -20,11 +24,15 @@ status_of TooManyParts = 6
 
 -- The line if the words aren't an order.
 abbrev pub usage_line : List ℕ
-usage_line = codes "usage: jfr print|summary|metadata|scrub|disassemble|assemble|sample|stacks" ++ newline
+usage_line = codes "usage: jfr print|summary|metadata|scrub|disassemble|assemble|sample|receipt|verify|stacks" ++ newline
 
 -- The line of a refused recording: the number of the chunk, the offset in it, and the name of the reason.
 abbrev pub refusal_line : Refusal → List ℕ
 refusal_line r = codes "chunk " ++ (decimal r.chunk ++ (codes " offset " ++ (decimal r.offset ++ (codes ": " ++ (reason_name r.reason ++ newline)))))
+
+-- The line of a doubt: the number of the chunk, and the name of the doubt.
+abbrev pub doubt_line : ℕ → Doubt → List ℕ
+doubt_line chunk doubt = codes "chunk " ++ (decimal chunk ++ (codes ": " ++ (doubt_name doubt ++ newline)))
 
 -- The line of a read fault.
 abbrev pub read_line : List ℕ
@@ -51,14 +59,16 @@ line_of WriteFault = Some write_line
 line_of Memory = Some memory_line
 line_of TooManyParts = Some parts_line
 
--- The status and the line of words, which may not be an order.
-abbrev pub answer_status : Option Ending → ℕ
-answer_status None = 1
-answer_status (Some e) = status_of e
+-- The status and the line of an answer.
+abbrev pub answer_status : Answer → ℕ
+answer_status answers.Usage = 1
+answer_status (answers.Ended e) = status_of e
+answer_status (answers.Doubted chunk doubt) = 7
 
-abbrev pub answer_line : Option Ending → Option (List ℕ)
-answer_line None = Some usage_line
-answer_line (Some e) = line_of e
+abbrev pub answer_line : Answer → Option (List ℕ)
+answer_line answers.Usage = Some usage_line
+answer_line (answers.Ended e) = line_of e
+answer_line (answers.Doubted chunk doubt) = Some (doubt_line chunk doubt)
 
 -- The line was written to the sink. If the sink's count of faults rose, perhaps only a prefix of it was.
 pub data IsSaid (line : List ℕ) (a b : SinkState) : Type 0 where

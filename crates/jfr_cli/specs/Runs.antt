@@ -1,22 +1,32 @@
 -- What the program does and returns.
-use Rattle.std.specs.Prelude.{◌≡◌, ◌≢◌, ℕ, List, Option, None, Some, ⊤}
+use Rattle.std.specs.Prelude.{◌≡◌, ◌≢◌, ℕ, List, Option, None, Some, IfSome, ⊤}
 use Rattle.jfr_base.specs.declared.flaw.Refusal.{Refusal}
 use Rattle.jfr_outside.specs.World.{State, SinkState, Told}
 use Rattle.jfr_outside.specs.Counts.{Rose}
 use Rattle.jfr_header.specs.declared.ending.Ending.{Ending}
 use Rattle.jfr_header.specs.declared.ending.Ending.TheVariants as ending
-use Rattle.jfr_plan.specs.Ends.{End, Fine, Refused, TooMany, way_of}
-use Rattle.jfr_plan.specs.Effects.{Outside, effects}
-use Rattle.jfr_plan.specs.Outcomes.{AllDone, SomeDone, Breaks, Kept, Rises, Counted, Tallied}
+use Rattle.jfr_filter.specs.Filters.{Given}
+use Rattle.jfr_plan.specs.Ends.{End, Fine, Refused, TooMany, Ends, NotRead, NotWritten, NoRoom, way_of}
+use Rattle.jfr_plan.specs.Effects.{Outside}
+use Rattle.jfr_plan.specs.Walks.{plan_in}
+use Rattle.jfr_plan.specs.Outcomes.{Kept, Rises, Counted, Tallied}
 use Rattle.jfr_plan.specs.Clauses.{write_count}
 use Rattle.jfr_scrub.specs.Headline.{IsByPlan, Scrubs}
 use Rattle.jfr_words.specs.declared.order.Order.{Order}
 use Rattle.jfr_words.specs.declared.order.Order.TheVariants as orders
 use Rattle.jfr_words.specs.Words.{order_of, file_name}
-use Rattle.jfr_cli.specs.Works.{Work, work_of, plan_of, target_of, HaltsAs, Stands, Leaves, KeepsSink, KeepsPlace, CanReadAll, CanCreateFor}
-use Rattle.jfr_cli.specs.Answers.{refusal_line, IsSaid}
+use Rattle.jfr_split.specs.Joins.{assembling}
+use Rattle.jfr_verify.specs.declared.doubt.Doubt.{Doubt}
+use Rattle.jfr_verify.specs.declared.verdict.Verdict.{Verdict}
+use Rattle.jfr_verify.specs.declared.verdict.Verdict.TheVariants as verdicts
+use Rattle.jfr_verify.specs.Verdicts.{AllVerified, Three, VerdictOf, three}
+use Rattle.jfr_cli.specs.Works.{Work, Over, Joins, Alone, Checks, work_of, target_of, Stands, Leaves, KeepsSink, KeepsPlace, CanReadAll, CanCreateFor}
+use Rattle.jfr_cli.specs.declared.answer.Answer.{Answer}
+use Rattle.jfr_cli.specs.declared.answer.Answer.TheVariants as answers
+use Rattle.jfr_cli.specs.Answers.{doubt_line, refusal_line, IsSaid}
 
--- If a scrub ends as its plan does, the output is the scrub of the input.
+-- If a scrub ends as its plan does, the output is the scrub of the input. If a check ends well, each chunk of
+-- the output is verified.
 abbrev pub Wrote : Order → Ending → State → State → Type 0
 Wrote (orders.Scrub g input output) e a b = IsByPlan e → Told a.told b.told (Scrubs g (file_name input) (file_name output))
 Wrote (orders.Print g depth json file) e a b = ⊤
@@ -25,7 +35,26 @@ Wrote (orders.Metadata file) e a b = ⊤
 Wrote (orders.Disassemble file rule) e a b = ⊤
 Wrote (orders.Assemble folder output) e a b = ⊤
 Wrote (orders.Sample seed events) e a b = ⊤
+Wrote (orders.Receipt g input receipt) e a b = ⊤
+Wrote (orders.Verify g input output receipt) e a b = e ≡ ending.Done → IfSome a.told (λ w. (count : ℕ) × AllVerified g (three (file_name input) (file_name output) (file_name receipt) w) count)
 Wrote (orders.Stacks g file) e a b = ⊤
+
+-- The verdict of the check is a doubt about a chunk.
+abbrev pub IsInDoubt : Work → ℕ → Doubt → World → Type 0
+IsInDoubt (Checks g input output receipt) chunk doubt w = VerdictOf g (three input output receipt w) (verdicts.Doubted chunk doubt)
+IsInDoubt _ chunk doubt w = ⊥
+
+-- The work is a check.
+abbrev pub IsCheck : Work → Type 0
+IsCheck (Checks g input output receipt) = ⊤
+IsCheck _ = ⊥
+
+-- A check has a doubt about a chunk. The files, the open output and the text written are as before, and no
+-- fault was counted.
+pub record Doubts (k : Work) (chunk : ℕ) (doubt : Doubt) (a b : Outside) : Type 0 where
+  pub check : IsCheck k
+  pub verdict : Stands k a b (λ w v s t. IsInDoubt k chunk doubt w × (t ≡ s))
+  pub counts : Counted Kept Kept Kept a b
 
 -- The state and the counts of faults after an order, for each ending.
 pub record Carries (o : Order) (e : Ending) (a b : Outside) : Type 0 where
@@ -37,12 +66,18 @@ pub record Carries (o : Order) (e : Ending) (a b : Outside) : Type 0 where
   pub can_read : CanReadAll (work_of o) a.place → e ≢ ending.ReadFault
   pub can_create : CanCreateFor o a.place → e ≢ ending.WriteFault
 
+-- The state and the counts after an order with this answer.
+abbrev pub CarriesTo : Order → Answer → Outside → Outside → Type 0
+CarriesTo o answers.Usage a b = ⊥
+CarriesTo o (answers.Ended end) a b = Carries o end a b
+CarriesTo o (answers.Doubted chunk doubt) a b = Doubts (work_of o) chunk doubt a b
+
 -- The words aren't an order and nothing is done; or memory ran out while they were read, and nothing is done;
 -- or they are an order, which is carried out.
-pub data Obeys (words : List (List ℕ)) (ended : Option Ending) (a b : Outside) : Type 0 where
-  NoOrder : order_of words ≡ None → ended ≡ None → b ≡ a → Obeys words ended a b
-  NotRead : ended ≡ Some ending.Memory → b ≡ a → Obeys words ended a b
-  CarriedOut : (o : Order) → order_of words ≡ Some o → (end : Ending) → ended ≡ Some end → Carries o end a b → Obeys words ended a b
+pub data Obeys (words : List (List ℕ)) (answer : Answer) (a b : Outside) : Type 0 where
+  NoOrder : order_of words ≡ None → answer ≡ answers.Usage → b ≡ a → Obeys words answer a b
+  NotRead : answer ≡ answers.Ended ending.Memory → b ≡ a → Obeys words answer a b
+  CarriedOut : (o : Order) → order_of words ≡ Some o → CarriesTo o answer a b → Obeys words answer a b
 
 -- The words are an order, and this holds of it.
 abbrev pub Under : List (List ℕ) → (Order → Type 0) → Type 0
@@ -50,20 +85,20 @@ Under words P = (o : Order) × (order_of words ≡ Some o) × P o
 
 -- The plan has this end, and all its effects are done.
 abbrev pub Ended : Work → End → Outside → Outside → Type 0
-Ended k e a b = Stands k a b (λ w v s t. AllDone (plan_of k w) e s t)
+Ended k e a b = Leaves k (Ends e) a b
 
 -- A read failed. For one recording exactly the effects whose needs were met are done; for a folder's files
 -- the first effects are.
 abbrev pub Halted : Work → Outside → Outside → Type 0
-Halted k a b = Stands k a b (λ w v s t. HaltsAs a.place.steady k w v s t)
+Halted k a b = Leaves k NotRead a b
 
 -- The first effects are done, and of the next, which failed, a prefix of its bytes.
 abbrev pub Broken : Work → Outside → Outside → Type 0
-Broken k a b = Stands k a b (λ w v s t. Breaks a.place.steady (effects (plan_of k w).steps) s t)
+Broken k a b = Leaves k NotWritten a b
 
 -- The first effects are done.
 abbrev pub Partly : Work → Outside → Outside → Type 0
-Partly k a b = Stands k a b (λ w v s t. SomeDone (effects (plan_of k w).steps) s t)
+Partly k a b = Leaves k NoRoom a b
 
 -- The state after memory ran out: the first effects are done; or all of them; or those that are done after a
 -- read fault; or, if the count of write faults rose, the first ones and a prefix of the next one's bytes.
@@ -91,6 +126,33 @@ status_of_end TooMany = 6
 pub data IsPlannedStatus (end : Option End) (answer : ℕ) : Type 0 where
   ByEnd : (e : End) → end ≡ Some e → answer ≡ status_of_end e → IsPlannedStatus end answer
   ByMemory : answer ≡ 5 → IsPlannedStatus end answer
+
+-- The status of a verdict.
+abbrev pub status_of_verdict : Verdict → ℕ
+status_of_verdict (verdicts.Verified count) = 0
+status_of_verdict (verdicts.Doubted chunk doubt) = 7
+status_of_verdict (verdicts.Refused r) = 2
+status_of_verdict verdicts.ReadFault = 3
+status_of_verdict verdicts.Memory = 5
+
+-- The status is that of the verdict on these files, or memory ran out.
+pub data IsVerdictStatus (g : Given) (t : Three) (answer : ℕ) : Type 0 where
+  ByVerdict : (x : Verdict) → VerdictOf g t x → answer ≡ status_of_verdict x → IsVerdictStatus g t answer
+  ForMemory : answer ≡ 5 → IsVerdictStatus g t answer
+
+-- The status is the one with which the work ends if nothing fails, or memory ran out.
+abbrev pub HasStatus : Work → ℕ → World → Type 0
+HasStatus (Over r input) answer w = IsPlannedStatus (plan_in r input w).end answer
+HasStatus (Joins folder output) answer w = IsPlannedStatus (assembling folder output w.files).end answer
+HasStatus (Alone p) answer w = IsPlannedStatus p.end answer
+HasStatus (Checks g input output receipt) answer w = IsVerdictStatus g (three input output receipt w) answer
+
+-- The check has a doubt, and the line says so.
+pub record IsDoubted (k : Work) (a b : Outside) (e f : SinkState) : Type 0 where
+  pub chunk : ℕ
+  pub doubt : Doubt
+  pub doubts : Doubts k chunk doubt a b
+  pub said : IsSaid (doubt_line chunk doubt) e f
 
 -- A chunk of the recording is refused: this is the plan's end, all its effects are done, and the line says
 -- so.

@@ -1,31 +1,51 @@
 -- What each order asks to be done.
-use Rattle.std.specs.Prelude.{◌≡◌, ℕ, List, [], ◌∷◌, Bool, IsTrue, IsSome, Option, None, Some, ⊤, encode_utf8_all}
+use Rattle.std.specs.Prelude.{◌≡◌, ℕ, List, [], ◌∷◌, ◌++◌, Bool, IsTrue, IsSome, Option, None, Some, ⊤, codes, encode_utf8_all}
+use Rattle.std.specs.Fmt.{decimal}
 use Rattle.jfr_outside.specs.World.{World, State, SinkState, Told, file}
-use Rattle.jfr_plan.specs.Ends.{Fine, Way}
-use Rattle.jfr_plan.specs.Effects.{Outside, Write, Nothing, Plan, Stand, stand, effects, needing}
+use Rattle.jfr_filter.specs.Filters.{Given}
+use Rattle.jfr_plan.specs.Ends.{Fine, Refused, Way, Ends, NotRead, NotWritten, NoRoom}
+use Rattle.jfr_plan.specs.Effects.{Outside, Write, Nothing, AtEnd, Plan, Stand, stand, effects, needing}
 use Rattle.jfr_plan.specs.Walks.{Rule, Target, File, Parts, Text, plan_in}
-use Rattle.jfr_plan.specs.Outcomes.{Outcome, HaltedIn}
+use Rattle.jfr_plan.specs.Outcomes.{AllDone, Breaks, HaltedIn, SomeDone}
 use Rattle.jfr_plan.specs.Clauses.{CanRead, CanCreate}
 use Rattle.jfr_scrub.specs.Scrubs.{scrubbing}
 use Rattle.jfr_split.specs.Splits.{splitting}
 use Rattle.jfr_split.specs.Joins.{assembling}
 use Rattle.jfr_split.specs.Clauses.{Unfinished, CanCreateAll}
+use Rattle.jfr_show.specs.Texts.{newline}
+use Rattle.jfr_verify.specs.declared.verdict.Verdict.{Verdict}
+use Rattle.jfr_verify.specs.declared.verdict.Verdict.TheVariants.{Verified}
+use Rattle.jfr_verify.specs.declared.verdict.Verdict.TheVariants as verdicts
+use Rattle.jfr_verify.specs.Verdicts.{LacksOne, VerdictOf, three}
+use Rattle.jfr_receipt.specs.Receipting.{receipting}
 use Rattle.jfr_report.specs.Reports.{printing, summing, describing, folding}
 use Rattle.jfr_demo.specs.Demo.{sampled}
 use Rattle.jfr_words.specs.declared.order.Order.{Order}
 use Rattle.jfr_words.specs.declared.order.Order.TheVariants as orders
 use Rattle.jfr_words.specs.Words.{file_name}
 
--- The work of an order: a rule over one recording, the files of a folder joined to an output, or a plan that
--- needs no file.
+-- The work of an order: a rule over one recording, the files of a folder joined to an output, a plan that
+-- needs no file, or a check of three files with a filter: the input, the output and its receipts.
 pub data Work : Type 0 where
   Over : Rule → List ℕ → Work
   Joins : List ℕ → List ℕ → Work
   Alone : Plan → Work
+  Checks : Given → List ℕ → List ℕ → List ℕ → Work
 
 -- The sample's text is written.
 abbrev pub sample_plan : List ℕ → Plan
 sample_plan text = record { steps = needing Nothing (Write (encode_utf8_all text) ∷ []); end = Some Fine }
+
+-- The line if all chunks of an output are verified.
+abbrev pub verified_line : ℕ → List ℕ
+verified_line count = codes "verified " ++ (decimal count ++ newline)
+
+-- The plan of a check with this verdict: if all chunks are verified, their number is written. The plan of a
+-- doubt has no end; the doubt is the answer.
+abbrev pub verdict_plan : Verdict → Plan
+verdict_plan (Verified count) = record { steps = needing AtEnd (Write (verified_line count) ∷ []); end = Some Fine }
+verdict_plan (verdicts.Refused r) = record { steps = []; end = Some (Refused r) }
+verdict_plan _ = record { steps = []; end = None }
 
 -- The work of an order.
 abbrev pub work_of : Order → Work
@@ -36,25 +56,38 @@ work_of (orders.Scrub g input output) = Over (scrubbing g (file_name output)) (f
 work_of (orders.Disassemble file rule) = Over (splitting rule (file_name file)) (file_name file)
 work_of (orders.Assemble folder output) = Joins (file_name folder) (file_name output)
 work_of (orders.Sample seed events) = Alone (sample_plan (sampled seed events))
+work_of (orders.Receipt g input receipt) = Over (receipting g (file_name receipt)) (file_name input)
+work_of (orders.Verify g input output receipt) = Checks g (file_name input) (file_name output) (file_name receipt)
 work_of (orders.Stacks g file) = Over (folding g) (file_name file)
 
--- The plan of the work, given the files of a place.
-abbrev pub plan_of : Work → World → Plan
-plan_of (Over r input) w = plan_in r input w
-plan_of (Joins folder output) w = assembling folder output w.files
-plan_of (Alone p) w = p
+-- The claim holds of the plan of the work, given the files of a place. A check has the plan of its verdict, of
+-- which there is at most one.
+abbrev pub Plans : Work → World → (Plan → Type 0) → Type 0
+Plans (Over r input) w P = P (plan_in r input w)
+Plans (Joins folder output) w P = P (assembling folder output w.files)
+Plans (Alone p) w P = P p
+Plans (Checks g input output receipt) w P = (x : Verdict) × VerdictOf g (three input output receipt w) x × P (verdict_plan x)
 
 -- The target of the work: a file, parts, or text.
 abbrev pub target_of : Work → Target
 target_of (Over r input) = r.target
 target_of (Joins folder output) = File
 target_of (Alone p) = Text
+target_of (Checks g input output receipt) = Text
 
--- The state after a read fault, which can't happen if no file is read.
+-- The state after a read fault. It can't happen if no file is read, and changes nothing in a check.
 abbrev pub HaltsAs : Bool → Work → World → World → Stand → Stand → Type 0
 HaltsAs steady (Over r input) w v s t = HaltedIn steady r [] (file w input) v.input s t
 HaltsAs steady (Joins folder output) w v s t = Unfinished steady (effects (assembling folder output w.files).steps) s t
 HaltsAs steady (Alone p) w v s t = ⊥
+HaltsAs steady (Checks g input output receipt) w v s t = (t ≡ s) × (IsTrue steady → LacksOne (three input output receipt w))
+
+-- The state after memory ran out: the first effects are done. A check has only one, which is its last step.
+abbrev pub StopsAs : Work → World → Stand → Stand → Type 0
+StopsAs (Over r input) w s t = SomeDone (effects (plan_in r input w).steps) s t
+StopsAs (Joins folder output) w s t = SomeDone (effects (assembling folder output w.files).steps) s t
+StopsAs (Alone p) w s t = SomeDone (effects p.steps) s t
+StopsAs (Checks g input output receipt) w s t = t ≡ s
 
 -- The text on the output sink, for work that writes text.
 abbrev pub text_on : Target → SinkState → Option (List ℕ)
@@ -66,9 +99,15 @@ text_on Parts s = None
 abbrev pub Stands : Work → Outside → Outside → (World → World → Stand → Stand → Type 0) → Type 0
 Stands k a b P = Told a.place.told b.place.told (λ w v. P w v (stand w (text_on (target_of k) a.sink)) (stand v (text_on (target_of k) b.sink)))
 
--- The state after the work, for each end.
+-- The state after the work, for each way in which it ended.
+abbrev pub LeftBy : Bool → Work → Way → World → World → Stand → Stand → Type 0
+LeftBy steady k (Ends e) w v s t = Plans k w (λ p. AllDone p e s t)
+LeftBy steady k NotRead w v s t = HaltsAs steady k w v s t
+LeftBy steady k NotWritten w v s t = Plans k w (λ p. Breaks steady (effects p.steps) s t)
+LeftBy steady k NoRoom w v s t = StopsAs k w s t
+
 abbrev pub Leaves : Work → Way → Outside → Outside → Type 0
-Leaves k way a b = Stands k a b (λ w v s t. Outcome a.place.steady (plan_of k w) (HaltsAs a.place.steady k w v) way s t)
+Leaves k way a b = Stands k a b (LeftBy a.place.steady k way)
 
 -- Only work that writes text writes to the output sink.
 abbrev pub KeepsSink : Target → SinkState → SinkState → Type 0
@@ -81,12 +120,23 @@ abbrev pub KeepsPlace : Work → State → State → Type 0
 KeepsPlace (Over r input) a b = ⊤
 KeepsPlace (Joins folder output) a b = ⊤
 KeepsPlace (Alone p) a b = b ≡ a
+KeepsPlace (Checks g input output receipt) a b = ⊤
 
--- The place is steady, and the file that the work reads exists. In a folder it reads only files that exist.
+-- The place is steady, and the three files of a check exist.
+pub record CanCheck (input output receipt : List ℕ) (s : State) : Type 0 where
+  pub steady : IsTrue s.steady
+  pub world : World
+  pub told : s.told ≡ Some world
+  pub has_input : IsSome (file world input)
+  pub has_output : IsSome (file world output)
+  pub has_receipt : IsSome (file world receipt)
+
+-- The place is steady, and the files that the work reads exist. In a folder it reads only files that exist.
 abbrev pub CanReadAll : Work → State → Type 0
 CanReadAll (Over r input) a = CanRead input a
 CanReadAll (Joins folder output) a = IsTrue a.steady × IsSome a.told
 CanReadAll (Alone p) a = ⊤
+CanReadAll (Checks g input output receipt) a = CanCheck input output receipt a
 
 -- The place is steady, no output is open, and the names that the order creates are new. Never true for an
 -- order that writes text, whose write faults are those of the output stream.
@@ -98,4 +148,6 @@ CanCreateFor (orders.Print g depth json file) a = ⊥
 CanCreateFor (orders.Summary file) a = ⊥
 CanCreateFor (orders.Metadata file) a = ⊥
 CanCreateFor (orders.Sample seed events) a = ⊥
+CanCreateFor (orders.Receipt g input receipt) a = CanCreate (file_name receipt) a
+CanCreateFor (orders.Verify g input output receipt) a = ⊥
 CanCreateFor (orders.Stacks g file) a = ⊥

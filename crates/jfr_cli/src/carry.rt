@@ -5,15 +5,20 @@ ghost use Rattle.jfr_words.specs.Words.{IsUsableOrder};
 ghost use Rattle.jfr_words.specs.declared.order.Order.TheVariants as orders;
 ghost use Rattle.std.specs.Prelude.{◌≤◌};
 ghost use Rattle.jfr_split.specs.Parts.{IsUsable};
-ghost use Rattle.jfr_cli.specs.Runs.{Carries};
+ghost use Rattle.jfr_cli.specs.Runs.{Carries, CarriesTo};
+ghost use Rattle.jfr_cli.specs.Texts.{IsWritten};
+ghost use Rattle.jfr_cli.specs.Works.{verified_line};
 
+use crate::answer::Answer;
 use jfr_demo::sample_text;
 use jfr_filter::Filter;
 use jfr_header::Ending;
 use jfr_outside::{NoMemory, Place, Sink, Text};
+use jfr_receipt::receipt_stream;
 use jfr_report::{metadata_stream, print_stream, stacks_stream, summary_stream};
 use jfr_scrub::scrub_stream;
 use jfr_split::{SplitRule, assemble, disassemble};
+use jfr_verify::{Verdict, verify_stream};
 use jfr_words::Order;
 use std::alloc::Global;
 
@@ -23,9 +28,9 @@ pub(crate) fn carry_out<P: Place, O: Sink>(
     place: &mut P,
     out: &mut O,
     order: &Order,
-) -> Ending
+) -> Answer
     requires usable { IsUsableOrder order.now }
-    ensures { Carries order.now result (outside (P.state place.old) (O.state out.old)) (outside (P.state place.new) (O.state out.new)) }
+    ensures { CarriesTo order.now result (outside (P.state place.old) (O.state out.old)) (outside (P.state place.new) (O.state out.new)) }
 {
     match order {
         Order::Print {
@@ -33,18 +38,38 @@ pub(crate) fn carry_out<P: Place, O: Sink>(
             depth,
             json,
             file,
-        } => print(alloc, place, out, filter, *depth, *json, file),
-        Order::Summary { file } => summary(alloc, place, out, file),
-        Order::Metadata { file } => metadata(alloc, place, out, file),
+        } => Answer::Ended(print(alloc, place, out, filter, *depth, *json, file)),
+        Order::Summary { file } => Answer::Ended(summary(alloc, place, out, file)),
+        Order::Metadata { file } => Answer::Ended(metadata(alloc, place, out, file)),
         Order::Scrub {
             filter,
             input,
             output,
-        } => scrub(alloc, place, out, filter, input, output),
-        Order::Disassemble { file, rule } => split(alloc, place, out, file, rule),
-        Order::Assemble { folder, output } => join(alloc, place, out, folder, output),
-        Order::Sample { seed, events } => say_sample(alloc, place, out, *seed, *events),
-        Order::Stacks { filter, file } => stacks(alloc, place, out, filter, file),
+        } => Answer::Ended(scrub(alloc, place, out, filter, input, output)),
+        Order::Disassemble { file, rule } => Answer::Ended(split(alloc, place, out, file, rule)),
+        Order::Assemble { folder, output } => Answer::Ended(join(alloc, place, out, folder, output)),
+        Order::Sample { seed, events } => {
+            Answer::Ended(say_sample(alloc, place, out, *seed, *events))
+        }
+        Order::Receipt {
+            filter,
+            input,
+            receipt,
+        } => Answer::Ended(make_receipt(alloc, place, out, filter, input, receipt)),
+        Order::Verify {
+            filter,
+            input,
+            output,
+            receipt,
+        } => {
+            let names = Names {
+                input,
+                output,
+                receipt,
+            };
+            verify(alloc, place, out, filter, &names)
+        }
+        Order::Stacks { filter, file } => Answer::Ended(stacks(alloc, place, out, filter, file)),
     }
 }
 
@@ -100,6 +125,72 @@ fn scrub<P: Place, O: Sink>(
     scrub_stream(alloc, place, input.as_str(), output.as_str(), filter)
 }
 
+fn make_receipt<P: Place, O: Sink>(
+    alloc: Global,
+    place: &mut P,
+    _out: &mut O,
+    filter: &Filter,
+    input: &Text,
+    receipt: &Text,
+) -> Ending
+    ensures { Carries (orders.Receipt filter.now input.now receipt.now) result (outside (P.state place.old) (O.state _out.old)) (outside (P.state place.new) (O.state _out.new)) }
+{
+    receipt_stream(alloc, place, input.as_str(), receipt.as_str(), filter)
+}
+
+/// The names of the files of a check.
+struct Names<'a> {
+    input: &'a Text,
+    output: &'a Text,
+    receipt: &'a Text,
+}
+
+fn verify<P: Place, O: Sink>(
+    alloc: Global,
+    place: &mut P,
+    out: &mut O,
+    filter: &Filter,
+    names: &Names<'_>,
+) -> Answer
+    ensures { CarriesTo (orders.Verify filter.now names.now.input.now names.now.output.now names.now.receipt.now) result (outside (P.state place.old) (O.state out.old)) (outside (P.state place.new) (O.state out.new)) }
+{
+    let verdict = verify_stream(
+        alloc,
+        place,
+        names.input.as_str(),
+        names.output.as_str(),
+        names.receipt.as_str(),
+        filter,
+    );
+    match verdict {
+        Verdict::Verified(count) => Answer::Ended(say_verified(alloc, out, count)),
+        Verdict::Doubted { chunk, doubt } => Answer::Doubted { chunk, doubt },
+        Verdict::Refused(refusal) => Answer::Ended(Ending::Refused(refusal)),
+        Verdict::ReadFault => Answer::Ended(Ending::ReadFault),
+        Verdict::Memory => Answer::Ended(Ending::Memory),
+    }
+}
+
+/// Writes that this many chunks are verified.
+fn say_verified<O: Sink>(alloc: Global, out: &mut O, count: u64) -> Ending
+    ensures { IsWritten (verified_line count) result (O.state out.old) (O.state out.new) }
+{
+    match format!(in alloc; "verified {count}\n") {
+        Ok(line) => say_text(out, line.as_str()),
+        Err(_) => Ending::Memory,
+    }
+}
+
+/// Writes a text to the output sink.
+fn say_text<O: Sink>(out: &mut O, text: &str) -> Ending
+    ensures { IsWritten text.now result (O.state out.old) (O.state out.new) }
+{
+    match out.write(text.as_bytes()) {
+        Ok(()) => Ending::Done,
+        Err(fault) => Ending::of_write(fault),
+    }
+}
+
 fn split<P: Place, O: Sink>(
     alloc: Global,
     place: &mut P,
@@ -140,8 +231,5 @@ fn say_sample<P: Place, O: Sink>(
         Ok(text) => text,
         Err(NoMemory) => return Ending::Memory,
     };
-    match out.write(text.as_str().as_bytes()) {
-        Ok(()) => Ending::Done,
-        Err(fault) => Ending::of_write(fault),
-    }
+    say_text(out, text.as_str())
 }

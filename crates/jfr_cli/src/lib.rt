@@ -4,6 +4,7 @@
 //! for the status and the line, then `specs/Runs.antt` for the state after each.
 #![tactic(auto)]
 
+mod answer;
 mod carry;
 mod say;
 mod top;

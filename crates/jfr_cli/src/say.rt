@@ -1,10 +1,12 @@
 //! The exit status of an ending, and its line on the error sink.
 ghost use Rattle.std.specs.Prelude.{◌≡◌, Some, IfOk, string_bytes};
-ghost use Rattle.jfr_cli.specs.Answers.{status_of, line_of, answer_status, answer_line, usage_line, refusal_line, IsAnswered};
+ghost use Rattle.jfr_cli.specs.Answers.{status_of, line_of, answer_status, answer_line, doubt_line, usage_line, refusal_line, IsAnswered};
 
+use crate::answer::Answer;
 use jfr_base::Refusal;
 use jfr_header::Ending;
 use jfr_outside::{Fault, Sink};
+use jfr_verify::Doubt;
 use std::alloc::{AllocError, Global};
 
 /// The status if the words aren't an order.
@@ -25,14 +27,17 @@ pub const NO_MEMORY: u8 = 5;
 /// The status if `disassemble` would write more parts than it may.
 const TOO_MANY_PARTS: u8 = 6;
 
-/// Writes the line of an ending, if it has one, or the usage line if the words weren't an order, and returns
-/// the status.
-pub fn say_answer<E: Sink>(alloc: Global, err: &mut E, ended: Option<Ending>) -> u8
-    ensures { IsAnswered (answer_status ended) (answer_line ended) result (E.state err.old) (E.state err.new) }
+/// The status if a check has a doubt about an output.
+const DOUBTED: u8 = 7;
+
+/// Writes the line of an answer, if it has one, and returns the status.
+pub fn say_answer<E: Sink>(alloc: Global, err: &mut E, answer: Answer) -> u8
+    ensures { IsAnswered (answer_status answer) (answer_line answer) result (E.state err.old) (E.state err.new) }
 {
-    match ended {
-        Some(ending) => say_ending(alloc, err, ending),
-        None => say_usage(err),
+    match answer {
+        Answer::Usage => say_usage(err),
+        Answer::Ended(ending) => say_ending(alloc, err, ending),
+        Answer::Doubted { chunk, doubt } => say_doubt(alloc, err, chunk, doubt),
     }
 }
 
@@ -42,7 +47,7 @@ fn say_usage<E: Sink>(err: &mut E) -> u8
 {
     say_line(
         err,
-        "usage: jfr print|summary|metadata|scrub|disassemble|assemble|sample|stacks\n",
+        "usage: jfr print|summary|metadata|scrub|disassemble|assemble|sample|receipt|verify|stacks\n",
         USAGE,
     )
 }
@@ -62,6 +67,24 @@ fn say_ending<E: Sink>(alloc: Global, err: &mut E, ending: Ending) -> u8
         Ending::Memory => say_line(err, "out of memory\n", NO_MEMORY),
         Ending::TooManyParts => say_line(err, "too many parts\n", TOO_MANY_PARTS),
     }
+}
+
+// Writes the line of a doubt, and returns its status.
+fn say_doubt<E: Sink>(alloc: Global, err: &mut E, chunk: u64, doubt: Doubt) -> u8
+    ensures { IsAnswered 7 (Some (doubt_line chunk doubt)) result (E.state err.old) (E.state err.new) }
+{
+    match doubt_text(alloc, chunk, doubt) {
+        Ok(line) => say_line(err, line.as_str(), DOUBTED),
+        Err(_) => say_line(err, "out of memory\n", NO_MEMORY),
+    }
+}
+
+// The line of a doubt.
+fn doubt_text(alloc: Global, chunk: u64, doubt: Doubt) -> Result<String, AllocError>
+    ensures { IfOk result (λ text. string_bytes text ≡ doubt_line chunk doubt) }
+{
+    let name = doubt.name();
+    format!(in alloc; "chunk {chunk}: {name}\n")
 }
 
 // The line of a refused recording.

@@ -14,36 +14,40 @@ ghost use Rattle.jfr_scrub.specs.Scrubs.{scrubbed};
 ghost use Rattle.jfr_words.specs.declared.order.Order.{Order};
 ghost use Rattle.jfr_words.specs.declared.order.Order.TheVariants as orders;
 ghost use Rattle.jfr_words.specs.Words.{order_of, file_name};
-ghost use Rattle.jfr_cli.specs.Works.{work_of, plan_of, target_of, KeepsSink, KeepsPlace, CanReadAll, CanCreateFor};
+ghost use Rattle.jfr_receipt.specs.Receipting.{IsReceipted, scrub_receipt};
+ghost use Rattle.jfr_verify.specs.Verdicts.{AllVerified, AreScrubs, three};
+ghost use Rattle.jfr_cli.specs.Works.{work_of, target_of, KeepsSink, KeepsPlace, CanReadAll, CanCreateFor};
 ghost use Rattle.jfr_cli.specs.Answers.{usage_line, read_line, write_line, parts_line, IsSaid, IsMemorySaid};
-ghost use Rattle.jfr_cli.specs.Runs.{Obeys, Under, Ended, Halted, Broken, StandsPartly, CountsOnce, IsPlannedStatus, IsRefused};
+ghost use Rattle.jfr_cli.specs.Runs.{Obeys, Under, Ended, Halted, Broken, StandsPartly, CountsOnce, HasStatus, IsDoubted, IsRefused};
 
+use crate::answer::Answer;
 use crate::carry::carry_out;
 use crate::say::say_answer;
 use jfr_header::Ending;
 use jfr_outside::{Place, Sink, Words};
+use jfr_verify::{kept_is_passed, scrubs_are_verified, verdict_is_unique};
 use jfr_words::{WordsFault, read_words};
 use std::alloc::Global;
 
-// Carries out the order of the words, and returns how it ended, or `None` if the words aren't an order.
+// Carries out the order of the words, if they are one.
 fn obey<P: Place, O: Sink>(
     alloc: Global,
     words: &Words,
     place: &mut P,
     out: &mut O,
-) -> Option<Ending>
+) -> Answer
     ensures { Obeys words.now result (outside (P.state place.old) (O.state out.old)) (outside (P.state place.new) (O.state out.new)) }
 {
     match read_words(alloc, words) {
-        Ok(order) => Some(carry_out(alloc, place, out, &order)),
-        Err(WordsFault::Usage) => None,
-        Err(WordsFault::Memory) => Some(Ending::Memory),
+        Ok(order) => carry_out(alloc, place, out, &order),
+        Err(WordsFault::Usage) => Answer::Usage,
+        Err(WordsFault::Memory) => Answer::Ended(Ending::Memory),
     }
 }
 
 /// Carries out the order that the words give, over a place and the output sink. Unless it succeeds, writes a
 /// line to the error sink. Returns the exit status: 0 done, 1 usage error, 2 recording refused, 3 read fault,
-/// 4 write fault, 5 out of memory, 6 too many parts.
+/// 4 write fault, 5 out of memory, 6 too many parts, 7 a doubt about an output.
 pub fn run<P: Place, O: Sink, E: Sink>(
     alloc: Global,
     words: &Words,
@@ -64,6 +68,17 @@ pub fn run<P: Place, O: Sink, E: Sink>(
         → Told (P.state place.old).told (P.state place.new).told (Scrubs g (file_name input) (file_name output)) }
     ensures each { (g : Given) (c : List ℕ) → Whole c → refusal_of c ≡ None → IsScrubbed g c (scrubbed g c) }
 
+    // A receipt file holds, for each such chunk, a receipt with which the chunk and its scrub pass the checks.
+    ensures each_receipt { (g : Given) (c : List ℕ) → Whole c → refusal_of c ≡ None → IsReceipted g c (scrub_receipt g c) }
+
+    // With 0 a check found that each chunk of the output means the same as one of the input with the events
+    // that the filter keeps, whoever made it; and it finds so of the output of a scrub with its own receipts.
+    ensures verified { result ≡ 0 → (g : Given) (input output receipt : List ℕ) → order_of words.now ≡ Some (orders.Verify g input output receipt)
+        → IfSome (P.state place.old).told (λ w. (count : ℕ) × AllVerified g (three (file_name input) (file_name output) (file_name receipt) w) count) }
+    ensures scrubs_verified { (g : Given) (input output receipt : List ℕ) → order_of words.now ≡ Some (orders.Verify g input output receipt)
+        → (Rose (P.state place.old).read_faults (P.state place.new).read_faults → ⊥) → (Rose (O.state out.old).faults (O.state out.new).faults → ⊥)
+        → IfSome (P.state place.old).told (λ w. AreScrubs g (three (file_name input) (file_name output) (file_name receipt) w) → (result ≡ 0) ⊎ (result ≡ 5)) }
+
     // The state after each status, and the line on the error sink.
     ensures done { result ≡ 0 → Under words.now (λ o. Ended (work_of o) Fine (outside (P.state place.old) (O.state out.old)) (outside (P.state place.new) (O.state out.new))) }
     ensures done_silent { result ≡ 0 → E.state err.new ≡ E.state err.old }
@@ -75,9 +90,10 @@ pub fn run<P: Place, O: Sink, E: Sink>(
     ensures too_many { result ≡ 6 → Under words.now (λ o. Ended (work_of o) TooMany (outside (P.state place.old) (O.state out.old)) (outside (P.state place.new) (O.state out.new))) }
     ensures too_many_said { result ≡ 6 → IsSaid parts_line (E.state err.old) (E.state err.new) }
     ensures parts { result ≡ 6 → Under words.now (λ o. target_of (work_of o) ≡ Parts) }
+    ensures doubted { result ≡ 7 → Under words.now (λ o. IsDoubted (work_of o) (outside (P.state place.old) (O.state out.old)) (outside (P.state place.new) (O.state out.new)) (E.state err.old) (E.state err.new)) }
     ensures memory { result ≡ 5 → (o : Order) → order_of words.now ≡ Some o → StandsPartly (work_of o) (outside (P.state place.old) (O.state out.old)) (outside (P.state place.new) (O.state out.new)) }
     ensures memory_said { result ≡ 5 → IsMemorySaid (E.state err.old) (E.state err.new) }
-    ensures statuses { result ≤ 6 }
+    ensures statuses { result ≤ 7 }
 
     // A fault is answered only if it was counted, and none is passed over.
     ensures read_fault { result ≡ 3 → Rose (P.state place.old).read_faults (P.state place.new).read_faults }
@@ -92,7 +108,7 @@ pub fn run<P: Place, O: Sink, E: Sink>(
     ensures complete { (o : Order) → order_of words.now ≡ Some o
         → (Rose (P.state place.old).read_faults (P.state place.new).read_faults → ⊥)
         → (Rose (write_count (target_of (work_of o)) (outside (P.state place.old) (O.state out.old))) (write_count (target_of (work_of o)) (outside (P.state place.new) (O.state out.new))) → ⊥)
-        → IfSome (P.state place.old).told (λ w. IsPlannedStatus (plan_of (work_of o) w).end result) }
+        → IfSome (P.state place.old).told (HasStatus (work_of o) result) }
 
     // The program itself causes no fault.
     ensures can_read { (o : Order) → order_of words.now ≡ Some o → CanReadAll (work_of o) (P.state place.old) → (result ≢ 3) × ((P.state place.new).read_faults ≡ (P.state place.old).read_faults) }
@@ -103,6 +119,9 @@ pub fn run<P: Place, O: Sink, E: Sink>(
     ensures place { (o : Order) → order_of words.now ≡ Some o → KeepsPlace (work_of o) (P.state place.old) (P.state place.new) }
     ensures same { (P.state place.new).steady ≡ (P.state place.old).steady }
 {
-    let ended = obey(alloc, words, place, out);
-    say_answer(alloc, err, ended)
+    kept_is_passed();
+    verdict_is_unique();
+    scrubs_are_verified();
+    let answer = obey(alloc, words, place, out);
+    say_answer(alloc, err, answer)
 }

@@ -14,16 +14,18 @@ use Rattle.jfr_words.specs.declared.print.PrintGiven.{PrintGiven}
 use Rattle.jfr_words.specs.declared.split.SplitOption.{SplitOption}
 use Rattle.jfr_words.specs.declared.split.SplitOption.TheVariants.{Output, MaxChunks, MaxSize}
 use Rattle.jfr_words.specs.declared.split.SplitGiven.{SplitGiven}
-use Rattle.jfr_words.specs.Laws.{valued_options, bare_options, is_option, is_same_option, AreOptions, line}
+use Rattle.jfr_words.specs.Laws.{filter_options, valued_options, bare_options, is_option, is_same_option, AreOptions, line}
 use Rattle.jfr_words.specs.Names.{name_in}
 use Rattle.jfr_words.specs.Numbers.{number_in}
 use Rattle.jfr_words.specs.Patterns.{given_with}
 use Rattle.jfr_words.specs.Prints.{no_print_option, print_option_of, print_with, print_from}
-use Rattle.jfr_words.specs.Scrubs.{side_of, scrub_from}
+use Rattle.jfr_words.specs.Filtered.{side_of, filtered_from}
+use Rattle.jfr_words.specs.Scrubs.{ScrubGiven, ScrubOption, no_scrub_option, scrub_option_of, scrub_with, scrub_from, yes_or_no}
+use Rattle.jfr_words.specs.declared.scrub.ScrubOption.TheVariants as scrubs
 use Rattle.jfr_words.specs.Splits.{no_split_option, split_option_of, is_split_given, split_with, split_from}
 use Rattle.jfr_words.specs.Stacks.{StacksOption, stacks_option_of, stacks_side, stacks_with, stacks_from}
 use Rattle.jfr_words.specs.declared.stacks.StacksOption.TheVariants.{Events, Categories}
-use Rattle.jfr_words.specs.Words.{order_of}
+use Rattle.jfr_words.specs.Words.{order_of, receipt_named, verification_named}
 use Rattle.jfr_words.proofs.Given.{give, in_any_order, given_once}
 use Rattle.jfr_words.proofs.Settings.{set, Apart, Settles, settles}
 use Rattle.jfr_words.proofs.Sides.{has_side, patterns_of, side_set, side_is, which_side, sides_settle}
@@ -81,6 +83,49 @@ which_print Json Json = inl refl
 
 prints_settle : Settles print_with
 prints_settle = settles print_with PrintValue has_print put_print print_value print_set print_is which_print
+
+-- The options of a scrub.
+abbrev ScrubValue : ScrubOption → Type 0
+ScrubValue (scrubs.Patterns side) = List (List ℕ)
+ScrubValue scrubs.Renumber = Bool
+
+abbrev has_scrub : ScrubOption → ScrubGiven → Bool
+has_scrub (scrubs.Patterns side) g = has_side side g.filter
+has_scrub scrubs.Renumber g = is_some g.renumber
+
+abbrev put_scrub : (o : ScrubOption) → ScrubValue o → ScrubGiven → ScrubGiven
+put_scrub (scrubs.Patterns side) patterns g = record g { filter = with_patterns side patterns g.filter }
+put_scrub scrubs.Renumber b g = record g { renumber = Some b }
+
+abbrev scrub_value : (o : ScrubOption) → List ℕ → Option (ScrubValue o)
+scrub_value (scrubs.Patterns side) list = patterns_of list
+scrub_value scrubs.Renumber word = yes_or_no word
+
+scrub_set : (o : ScrubOption) (v : List ℕ) (g : ScrubGiven) → scrub_with o v g ≡ set (has_scrub o) (put_scrub o) (scrub_value o v) g
+scrub_set (scrubs.Patterns side) v g = ap (option_map (λ h. record g { filter = h })) (side_set side v g.filter) ∙ by_tests (has_side side g.filter) (patterns_of v)
+  where
+    by_tests : (t : Bool) (o : Option (List (List ℕ))) → option_map (λ h. record g { filter = h }) (if t then None else option_map (λ x. with_patterns side x g.filter) o) ≡ (if t then None else option_map (λ x. record g { filter = with_patterns side x g.filter }) o)
+    by_tests true o = refl
+    by_tests false None = refl
+    by_tests false (Some x) = refl
+scrub_set scrubs.Renumber v g = refl
+
+scrub_is : (o : ScrubOption) (x : ScrubValue o) (g : ScrubGiven) → has_scrub o (put_scrub o x g) ≡ true
+scrub_is (scrubs.Patterns side) x g = side_is side x g.filter
+scrub_is scrubs.Renumber x g = refl
+
+which_scrub : (o p : ScrubOption) → (o ≡ p) ⊎ Apart (has_scrub o) (put_scrub o) (has_scrub p) (put_scrub p)
+which_scrub (scrubs.Patterns s) (scrubs.Patterns t) = by_which (which_side s t)
+  where
+    by_which : (s ≡ t) ⊎ Apart (has_side s) (with_patterns s) (has_side t) (with_patterns t) → (scrubs.Patterns s ≡ scrubs.Patterns t) ⊎ Apart (has_scrub (scrubs.Patterns s)) (put_scrub (scrubs.Patterns s)) (has_scrub (scrubs.Patterns t)) (put_scrub (scrubs.Patterns t))
+    by_which (inl e) = inl (ap (λ z. scrubs.Patterns z) e)
+    by_which (inr a) = inr (record { on = λ x g. a.on x g.filter; back = λ y g. a.back y g.filter; both = λ x y g. ap (λ h. record g { filter = h }) (a.both x y g.filter) })
+which_scrub (scrubs.Patterns s) scrubs.Renumber = inr (record { on = λ x g. refl; back = λ y g. refl; both = λ x y g. refl })
+which_scrub scrubs.Renumber (scrubs.Patterns t) = inr (record { on = λ x g. refl; back = λ y g. refl; both = λ x y g. refl })
+which_scrub scrubs.Renumber scrubs.Renumber = inl refl
+
+scrubs_settle : Settles scrub_with
+scrubs_settle = settles scrub_with ScrubValue has_scrub put_scrub scrub_value scrub_set scrub_is which_scrub
 
 -- The options of a disassembly.
 abbrev SplitValue : SplitOption → Type 0
@@ -177,14 +222,31 @@ print_read g (word ∷ []) rest e = print_bare word e rest g
 print_read g (word ∷ value ∷ []) rest e = print_valued word e value rest g
 print_read g (word ∷ value ∷ more ∷ others) rest e = cc
 
-scrub_valued : (word : List ℕ) → list_any (bytes_eq word) (valued_options (codes "scrub")) ≡ true → (value : List ℕ) → Takes side_of given_with scrub_from (word ∷ value ∷ [])
-scrub_valued word e value = of_each (λ w. Takes side_of given_with scrub_from (w ∷ value ∷ [])) (valued_options (codes "scrub")) (λ rest g. refl, (λ rest g. refl, (λ rest g. refl, (λ rest g. refl, (λ rest g. refl, (λ rest g. refl, tt)))))) word e
+scrub_valued : (word : List ℕ) → list_any (bytes_eq word) (valued_options (codes "scrub")) ≡ true → (value : List ℕ) → Takes scrub_option_of scrub_with scrub_from (word ∷ value ∷ [])
+scrub_valued word e value = of_each (λ w. Takes scrub_option_of scrub_with scrub_from (w ∷ value ∷ [])) (valued_options (codes "scrub")) (λ rest g. refl, (λ rest g. refl, (λ rest g. refl, (λ rest g. refl, (λ rest g. refl, (λ rest g. refl, (λ rest g. refl, tt))))))) word e
 
-scrub_read : (g : Given) (option : List (List ℕ)) (rest : List (List ℕ)) → IsTrue (is_option (codes "scrub") option) → scrub_from g (option ++ rest) ≡ option_and_then (λ h. scrub_from h rest) (give side_of given_with option g)
+scrub_read : (g : ScrubGiven) (option : List (List ℕ)) (rest : List (List ℕ)) → IsTrue (is_option (codes "scrub") option) → scrub_from g (option ++ rest) ≡ option_and_then (λ h. scrub_from h rest) (give scrub_option_of scrub_with option g)
 scrub_read g [] rest e = cc
 scrub_read g (word ∷ []) rest e = cc
 scrub_read g (word ∷ value ∷ []) rest e = scrub_valued word e value rest g
 scrub_read g (word ∷ value ∷ more ∷ others) rest e = cc
+
+-- The options of a filter, for a command that has no others.
+module _ (named : Given → List (List ℕ) → Option Order) where
+  filter_valued : (word : List ℕ) → list_any (bytes_eq word) filter_options ≡ true → (value : List ℕ) → Takes side_of given_with (filtered_from named) (word ∷ value ∷ [])
+  filter_valued word e value = of_each (λ w. Takes side_of given_with (filtered_from named) (w ∷ value ∷ [])) filter_options (λ rest g. refl, (λ rest g. refl, (λ rest g. refl, (λ rest g. refl, (λ rest g. refl, (λ rest g. refl, tt)))))) word e
+
+  receipt_read : (g : Given) (option : List (List ℕ)) (rest : List (List ℕ)) → IsTrue (is_option (codes "receipt") option) → filtered_from named g (option ++ rest) ≡ option_and_then (λ h. filtered_from named h rest) (give side_of given_with option g)
+  receipt_read g [] rest e = cc
+  receipt_read g (word ∷ []) rest e = cc
+  receipt_read g (word ∷ value ∷ []) rest e = filter_valued word e value rest g
+  receipt_read g (word ∷ value ∷ more ∷ others) rest e = cc
+
+  verification_read : (g : Given) (option : List (List ℕ)) (rest : List (List ℕ)) → IsTrue (is_option (codes "verify") option) → filtered_from named g (option ++ rest) ≡ option_and_then (λ h. filtered_from named h rest) (give side_of given_with option g)
+  verification_read g [] rest e = cc
+  verification_read g (word ∷ []) rest e = cc
+  verification_read g (word ∷ value ∷ []) rest e = filter_valued word e value rest g
+  verification_read g (word ∷ value ∷ more ∷ others) rest e = cc
 
 split_valued : (word : List ℕ) → list_any (bytes_eq word) (valued_options (codes "disassemble")) ≡ true → (value : List ℕ) → Takes split_option_of split_with split_from (word ∷ value ∷ [])
 split_valued word e value = of_each (λ w. Takes split_option_of split_with split_from (w ∷ value ∷ [])) (valued_options (codes "disassemble")) (λ rest g. refl, (λ rest g. refl, (λ rest g. refl, tt))) word e
@@ -204,28 +266,34 @@ stacks_read g (word ∷ []) rest e = cc
 stacks_read g (word ∷ value ∷ []) rest e = stacks_valued word e value rest g
 stacks_read g (word ∷ value ∷ more ∷ others) rest e = cc
 
--- Four commands have options, and no other word has any.
+-- Six commands have options, and no other word has any.
 data HasOptions (command : List ℕ) : Type 0 where
   print : command ≡ codes "print" → HasOptions command
   scrub : command ≡ codes "scrub" → HasOptions command
   split : command ≡ codes "disassemble" → HasOptions command
+  receipt : command ≡ codes "receipt" → HasOptions command
+  verify : command ≡ codes "verify" → HasOptions command
   stacks : command ≡ codes "stacks" → HasOptions command
   no_options : ((option : List (List ℕ)) → IsTrue (is_option command option) → ⊥) → HasOptions command
 
 has_options : (command : List ℕ) → HasOptions command
-has_options command = by_tests (bytes_eq command (codes "print")) (bytes_eq command (codes "scrub")) (bytes_eq command (codes "disassemble")) (bytes_eq command (codes "stacks")) refl refl refl refl
+has_options command =
+    by_tests (bytes_eq command (codes "print")) (bytes_eq command (codes "scrub")) (bytes_eq command (codes "disassemble")) (bytes_eq command (codes "receipt")) (bytes_eq command (codes "verify")) (bytes_eq command (codes "stacks"))
+    refl refl refl refl refl refl
   where
-    by_tests : (p s d t : Bool) → bytes_eq command (codes "print") ≡ p → bytes_eq command (codes "scrub") ≡ s → bytes_eq command (codes "disassemble") ≡ d → bytes_eq command (codes "stacks") ≡ t → HasOptions command
-    by_tests true s d t e f h k = print ((bytes_eq-Decides command (codes "print")).0 e)
-    by_tests false true d t e f h k = scrub ((bytes_eq-Decides command (codes "scrub")).0 f)
-    by_tests false false true t e f h k = split ((bytes_eq-Decides command (codes "disassemble")).0 h)
-    by_tests false false false true e f h k = stacks ((bytes_eq-Decides command (codes "stacks")).0 k)
-    by_tests false false false false e f h k = no_options none
+    by_tests : (p s d r v t : Bool) → bytes_eq command (codes "print") ≡ p → bytes_eq command (codes "scrub") ≡ s → bytes_eq command (codes "disassemble") ≡ d → bytes_eq command (codes "receipt") ≡ r → bytes_eq command (codes "verify") ≡ v → bytes_eq command (codes "stacks") ≡ t → HasOptions command
+    by_tests true s d r v t e f h i j k = print ((bytes_eq-Decides command (codes "print")).0 e)
+    by_tests false true d r v t e f h i j k = scrub ((bytes_eq-Decides command (codes "scrub")).0 f)
+    by_tests false false true r v t e f h i j k = split ((bytes_eq-Decides command (codes "disassemble")).0 h)
+    by_tests false false false true v t e f h i j k = receipt ((bytes_eq-Decides command (codes "receipt")).0 i)
+    by_tests false false false false true t e f h i j k = verify ((bytes_eq-Decides command (codes "verify")).0 j)
+    by_tests false false false false false true e f h i j k = stacks ((bytes_eq-Decides command (codes "stacks")).0 k)
+    by_tests false false false false false false e f h i j k = no_options none
       where
         none : (option : List (List ℕ)) → IsTrue (is_option command option) → ⊥
         none [] t = cc
         none (word ∷ []) t = cc (rw e at t)
-        none (word ∷ value ∷ []) t = cc (rw (e, f, h, k) at t)
+        none (word ∷ value ∷ []) t = cc (rw (e, f, h, i, j, k) at t)
         none (word ∷ value ∷ more ∷ others) t = cc
 
 pub any_order : (command : List ℕ) (options others : List (List (List ℕ))) (rest : List (List ℕ)) → AreOptions command options → IsPermutation options others → order_of (line command others rest) ≡ order_of (line command options rest)
@@ -242,8 +310,10 @@ any_order command options others rest all p = by_command (has_options command) a
 
     by_command : HasOptions command → Same command
     by_command (print e) = subst Same (sym e) (λ all. in_any_order print_option_of print_with prints_settle print_from (λ o. IsTrue (is_option (codes "print") o)) print_read options others rest no_print_option all p)
-    by_command (scrub e) = subst Same (sym e) (λ all. in_any_order side_of given_with sides_settle scrub_from (λ o. IsTrue (is_option (codes "scrub") o)) scrub_read options others rest nothing_given all p)
+    by_command (scrub e) = subst Same (sym e) (λ all. in_any_order scrub_option_of scrub_with scrubs_settle scrub_from (λ o. IsTrue (is_option (codes "scrub") o)) scrub_read options others rest no_scrub_option all p)
     by_command (split e) = subst Same (sym e) (λ all. in_any_order split_option_of split_with splits_settle split_from (λ o. IsTrue (is_option (codes "disassemble") o)) split_read options others rest no_split_option all p)
+    by_command (receipt e) = subst Same (sym e) (λ all. in_any_order side_of given_with sides_settle (filtered_from receipt_named) (λ o. IsTrue (is_option (codes "receipt") o)) (receipt_read receipt_named) options others rest nothing_given all p)
+    by_command (verify e) = subst Same (sym e) (λ all. in_any_order side_of given_with sides_settle (filtered_from verification_named) (λ o. IsTrue (is_option (codes "verify") o)) (verification_read verification_named) options others rest nothing_given all p)
     by_command (stacks e) = subst Same (sym e) (λ all. in_any_order stacks_option_of stacks_with stacks_settle stacks_from (λ o. IsTrue (is_option (codes "stacks") o)) stacks_read options others rest nothing_given all p)
     by_command (no_options none) = λ all. nothing_given_at options others (length_permutation options others p) all none
 
@@ -264,7 +334,9 @@ at_most_once command options rest all = by_command (has_options command) all
 
     by_command : HasOptions command → Once command
     by_command (print e) = subst Once (sym e) (λ all. given_once print_option_of print_with prints_settle print_from (λ o. IsTrue (is_option (codes "print") o)) print_read options rest no_print_option all)
-    by_command (scrub e) = subst Once (sym e) (λ all. given_once side_of given_with sides_settle scrub_from (λ o. IsTrue (is_option (codes "scrub") o)) scrub_read options rest nothing_given all)
+    by_command (scrub e) = subst Once (sym e) (λ all. given_once scrub_option_of scrub_with scrubs_settle scrub_from (λ o. IsTrue (is_option (codes "scrub") o)) scrub_read options rest no_scrub_option all)
     by_command (split e) = subst Once (sym e) (λ all. given_once split_option_of split_with splits_settle split_from (λ o. IsTrue (is_option (codes "disassemble") o)) split_read options rest no_split_option all)
+    by_command (receipt e) = subst Once (sym e) (λ all. given_once side_of given_with sides_settle (filtered_from receipt_named) (λ o. IsTrue (is_option (codes "receipt") o)) (receipt_read receipt_named) options rest nothing_given all)
+    by_command (verify e) = subst Once (sym e) (λ all. given_once side_of given_with sides_settle (filtered_from verification_named) (λ o. IsTrue (is_option (codes "verify") o)) (verification_read verification_named) options rest nothing_given all)
     by_command (stacks e) = subst Once (sym e) (λ all. given_once stacks_option_of stacks_with stacks_settle stacks_from (λ o. IsTrue (is_option (codes "stacks") o)) stacks_read options rest nothing_given all)
     by_command (no_options none) = λ all. on_any _ _ (none_given options all none)

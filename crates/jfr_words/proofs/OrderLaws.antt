@@ -17,14 +17,15 @@ use Rattle.jfr_words.specs.declared.split.SplitOption.TheVariants.{Output, MaxCh
 use Rattle.jfr_words.specs.declared.split.SplitGiven.{SplitGiven}
 use Rattle.jfr_filter.specs.Filters.{Given, nothing_given}
 use Rattle.jfr_filter.specs.declared.side.Side.{Side}
-use Rattle.jfr_words.specs.Names.{only_name, two_names, name_in}
+use Rattle.jfr_words.specs.Filtered.{side_of, filtered_from}
+use Rattle.jfr_words.specs.Names.{only_name, two_names, three_names, name_in}
 use Rattle.jfr_words.specs.Numbers.{number_of, within, number_in}
 use Rattle.jfr_words.specs.Patterns.{given_with}
 use Rattle.jfr_words.specs.Prints.{no_print_option, print_option_of, print_with, print_goes_on, print_named, print_from}
-use Rattle.jfr_words.specs.Scrubs.{side_of, scrub_named, scrub_from}
+use Rattle.jfr_words.specs.Scrubs.{ScrubOption, ScrubGiven, no_scrub_option, scrub_option_of, scrub_with, scrub_named, scrub_from}
 use Rattle.jfr_words.specs.Splits.{no_split_option, split_option_of, is_split_given, split_set, split_with, split_named, split_from}
 use Rattle.jfr_words.specs.Stacks.{StacksOption, stacks_option_of, stacks_with, stacks_named, stacks_from}
-use Rattle.jfr_words.specs.Words.{order_of, sample_of, IsRead, IsUsableOrder}
+use Rattle.jfr_words.specs.Words.{order_of, receipt_named, sample_of, verification_named, IsRead, IsUsableOrder}
 use Rattle.jfr_words.proofs.WordLaws.{chars_of}
 
 -- The order of a command that is this word.
@@ -128,15 +129,30 @@ split_usable g (word ∷ next ∷ rest) p = by_option (split_option_of word) (λ
     by_option None u = split_named_usable g (word ∷ next ∷ rest) p
     by_option (Some o) u = gives_then IsPositive IsUsableOrder _ (split_with o next g) (positive_with o next g p) u
 
-scrub_usable : (g : Given) (words : List (List ℕ)) → Gives IsUsableOrder (scrub_from g words)
+scrub_usable : (g : ScrubGiven) (words : List (List ℕ)) → Gives IsUsableOrder (scrub_from g words)
 scrub_usable g [] = tt
 scrub_usable g (word ∷ []) = tt
-scrub_usable g (word ∷ next ∷ rest) = by_option (side_of word) (λ h. scrub_usable h rest)
+scrub_usable g (word ∷ next ∷ rest) = by_option (scrub_option_of word) (λ h. scrub_usable h rest)
   where
-    by_option : (z : Option Side) → ((h : Given) → Gives IsUsableOrder (scrub_from h rest))
-        → Gives IsUsableOrder (option_map_or (λ side. option_and_then (λ h. scrub_from h rest) (given_with side next g)) z (scrub_named g (word ∷ next ∷ rest)))
+    by_option : (z : Option ScrubOption) → ((h : ScrubGiven) → Gives IsUsableOrder (scrub_from h rest))
+        → Gives IsUsableOrder (option_map_or (λ o. option_and_then (λ h. scrub_from h rest) (scrub_with o next g)) z (scrub_named g (word ∷ next ∷ rest)))
     by_option None u = gives_map IsUsableOrder _ (two_names (word ∷ next ∷ rest)) (λ names. tt)
-    by_option (Some side) u = gives_after IsUsableOrder _ (given_with side next g) u
+    by_option (Some o) u = gives_after IsUsableOrder _ (scrub_with o next g) u
+
+-- A command whose options are those of a filter, if its names give usable orders.
+filtered_usable : (named : Given → List (List ℕ) → Option Order) → ((g : Given) (words : List (List ℕ)) → Gives IsUsableOrder (named g words)) → (g : Given) (words : List (List ℕ)) → Gives IsUsableOrder (filtered_from named g words)
+filtered_usable named u g [] = u g []
+filtered_usable named u g (word ∷ []) = by_option (side_of word)
+  where
+    by_option : (z : Option Side) → Gives IsUsableOrder (option_map_or (λ side. None) z (named g (word ∷ [])))
+    by_option None = u g (word ∷ [])
+    by_option (Some side) = tt
+filtered_usable named u g (word ∷ next ∷ rest) = by_option (side_of word) (λ h. filtered_usable named u h rest)
+  where
+    by_option : (z : Option Side) → ((h : Given) → Gives IsUsableOrder (filtered_from named h rest))
+        → Gives IsUsableOrder (option_map_or (λ side. option_and_then (λ h. filtered_from named h rest) (given_with side next g)) z (named g (word ∷ next ∷ rest)))
+    by_option None v = u g (word ∷ next ∷ rest)
+    by_option (Some side) v = gives_after IsUsableOrder _ (given_with side next g) v
 
 sample_usable : (words : List (List ℕ)) → Gives IsUsableOrder (sample_of words)
 sample_usable [] = tt
@@ -167,11 +183,14 @@ order_usable (command ∷ rest) =
     gives_if IsUsableOrder (bytes_eq command (codes "print")) _ _ (print_usable no_print_option rest tt)
     (gives_if IsUsableOrder (bytes_eq command (codes "summary")) _ _ (gives_map IsUsableOrder _ (only_name rest) (λ file. tt))
     (gives_if IsUsableOrder (bytes_eq command (codes "metadata")) _ _ (gives_map IsUsableOrder _ (only_name rest) (λ file. tt))
-    (gives_if IsUsableOrder (bytes_eq command (codes "scrub")) _ _ (scrub_usable nothing_given rest)
+    (gives_if IsUsableOrder (bytes_eq command (codes "scrub")) _ _ (scrub_usable no_scrub_option rest)
     (gives_if IsUsableOrder (bytes_eq command (codes "disassemble")) _ _ (split_usable no_split_option rest (tt, tt))
     (gives_if IsUsableOrder (bytes_eq command (codes "assemble")) _ _ (gives_map IsUsableOrder _ (two_names rest) (λ names. tt))
     (gives_if IsUsableOrder (bytes_eq command (codes "sample")) _ _ (sample_usable rest)
-    (gives_if IsUsableOrder (bytes_eq command (codes "stacks")) _ None (stacks_usable nothing_given rest) tt)))))))
+    (gives_if IsUsableOrder (bytes_eq command (codes "receipt")) _ _ (filtered_usable receipt_named (λ g words. gives_map IsUsableOrder _ (two_names words) (λ names. tt)) nothing_given rest)
+    (gives_if IsUsableOrder (bytes_eq command (codes "verify")) _ _ (filtered_usable verification_named (λ g words. gives_map IsUsableOrder _ (three_names words) (λ names. tt)) nothing_given rest)
+    (gives_if IsUsableOrder (bytes_eq command (codes "build")) _ _ (gives_map IsUsableOrder _ (two_names rest) (λ names. tt))
+    (gives_if IsUsableOrder (bytes_eq command (codes "stacks")) _ None (stacks_usable nothing_given rest) tt))))))))))
 
 pub usable_read : (words : List (List ℕ)) (r : Result Order WordsFault) → IsRead (order_of words) r (λ order. order) → IfOk r IsUsableOrder
 usable_read words (Ok order) e = let P : Option Order → Type 0 = Gives IsUsableOrder in subst P e (order_usable words)

@@ -1,7 +1,7 @@
 -- The orders of some lines.
 use Rattle.std.specs.Prelude.{◌≡◌, ◌^◌, true, false, [], ◌∷◌, codes, Some, None, refl}
 use Rattle.jfr_filter.specs.Filters.{nothing_given}
-use Rattle.jfr_words.specs.declared.order.Order.TheVariants.{Print, Summary, Metadata, Scrub, Disassemble, Assemble, Sample, Stacks}
+use Rattle.jfr_words.specs.declared.order.Order.TheVariants.{Print, Summary, Metadata, Scrub, Disassemble, Assemble, Sample, Receipt, Verify, Build, Stacks}
 use Rattle.jfr_words.specs.Numbers.{number_of}
 use Rattle.jfr_words.specs.Words.{order_of}
 
@@ -61,13 +61,13 @@ unfolding order_of
 no_name_row = refl
 
 scrub_row : order_of (codes "scrub" ∷ codes "--exclude-threads" ∷ codes "main" ∷ codes "--include-categories" ∷ codes "Java*,*GC" ∷ codes "a" ∷ codes "b" ∷ [])
-    ≡ Some (Scrub (record nothing_given { include_categories = Some (codes "Java*" ∷ codes "*GC" ∷ []); exclude_threads = Some (codes "main" ∷ []) }) (codes "a") (codes "b"))
+    ≡ Some (Scrub (record nothing_given { include_categories = Some (codes "Java*" ∷ codes "*GC" ∷ []); exclude_threads = Some (codes "main" ∷ []) }) false (codes "a") (codes "b"))
 unfolding order_of
 scrub_row = refl
 
 -- An option's value is the next word, even if that looks like an option.
 dashed_value_row : order_of (codes "scrub" ∷ codes "--exclude-events" ∷ codes "--include-events" ∷ codes "a" ∷ codes "b" ∷ [])
-    ≡ Some (Scrub (record nothing_given { exclude_events = Some (codes "--include-events" ∷ []) }) (codes "a") (codes "b"))
+    ≡ Some (Scrub (record nothing_given { exclude_events = Some (codes "--include-events" ∷ []) }) false (codes "a") (codes "b"))
 unfolding order_of
 dashed_value_row = refl
 
@@ -86,6 +86,43 @@ given_twice_row = refl
 empty_pattern_row : order_of (codes "scrub" ∷ codes "--include-events" ∷ codes "A,,B" ∷ codes "a" ∷ codes "b" ∷ []) ≡ None
 unfolding order_of
 empty_pattern_row = refl
+
+renumber_row : order_of (codes "scrub" ∷ codes "--renumber" ∷ codes "yes" ∷ codes "a" ∷ codes "b" ∷ []) ≡ Some (Scrub nothing_given true (codes "a") (codes "b"))
+unfolding order_of
+renumber_row = refl
+
+not_renumbered_row : order_of (codes "scrub" ∷ codes "--renumber" ∷ codes "no" ∷ codes "a" ∷ codes "b" ∷ []) ≡ Some (Scrub nothing_given false (codes "a") (codes "b"))
+unfolding order_of
+not_renumbered_row = refl
+
+renumber_maybe_row : order_of (codes "scrub" ∷ codes "--renumber" ∷ codes "maybe" ∷ codes "a" ∷ codes "b" ∷ []) ≡ None
+unfolding order_of
+renumber_maybe_row = refl
+
+renumber_twice_row : order_of (codes "scrub" ∷ codes "--renumber" ∷ codes "no" ∷ codes "--renumber" ∷ codes "yes" ∷ codes "a" ∷ codes "b" ∷ []) ≡ None
+unfolding order_of
+renumber_twice_row = refl
+
+receipt_row : order_of (codes "receipt" ∷ codes "--include-events" ∷ codes "t.A" ∷ codes "a" ∷ codes "r" ∷ []) ≡ Some (Receipt (record nothing_given { include_events = Some (codes "t.A" ∷ []) }) (codes "a") (codes "r"))
+unfolding order_of
+receipt_row = refl
+
+-- A receipt has no option --renumber.
+renumber_receipt_row : order_of (codes "receipt" ∷ codes "--renumber" ∷ codes "no" ∷ codes "a" ∷ codes "r" ∷ []) ≡ None
+unfolding order_of
+renumber_receipt_row = refl
+
+verify_row : order_of (codes "verify" ∷ codes "a" ∷ codes "b" ∷ codes "r" ∷ []) ≡ Some (Verify nothing_given (codes "a") (codes "b") (codes "r"))
+unfolding order_of
+verify_row = refl
+
+no_receipt_row : order_of (codes "verify" ∷ codes "a" ∷ codes "b" ∷ []) ≡ None
+unfolding order_of
+no_receipt_row = refl
+
+build_row : order_of (codes "build" ∷ codes "a" ∷ codes "b" ∷ []) ≡ Some (Build (codes "a") (codes "b"))
+unfolding order_of
+build_row = refl
 
 -- Without options a part has at most five chunks and 2 ^ 40 bytes.
 disassemble_row : order_of (codes "disassemble" ∷ codes "a" ∷ []) ≡ Some (Disassemble (codes "a") (record { folder = None; max_chunks = 5; max_size = 2 ^ 40; max_parts = 999999 }))

@@ -1,3 +1,4 @@
+pub mod Filtered
 pub mod Laws
 pub mod Names
 pub mod Numbers

@@ -19,3 +19,8 @@ only_name _ = None
 abbrev pub two_names : List (List ℕ) → Option (List ℕ × List ℕ)
 two_names (first ∷ second ∷ []) = if is_name first && is_name second then Some (first, second) else None
 two_names _ = None
+
+-- The three names, if exactly three words are left and all are names.
+abbrev pub three_names : List (List ℕ) → Option (List ℕ × List ℕ × List ℕ)
+three_names (first ∷ second ∷ third ∷ []) = if is_name first && is_name second && is_name third then Some (first, second, third) else None
+three_names _ = None

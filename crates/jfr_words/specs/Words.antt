@@ -2,16 +2,17 @@
 -- answer: an order, or none, which is a usage fault.
 use Rattle.std.specs.Prelude.{◌≡◌, ℕ, ◌≤◌, ◌<◌, ◌^◌, List, [], ◌∷◌, Option, None, Some, option_map, option_and_then, Result, Ok, Err, ⊤, if◌then◌else◌, codes, encode_utf8_all}
 use Rattle.std.specs.Str.{bytes_eq}
-use Rattle.jfr_filter.specs.Filters.{nothing_given}
+use Rattle.jfr_filter.specs.Filters.{Given, nothing_given}
 use Rattle.jfr_split.specs.Parts.{IsUsable}
 use Rattle.jfr_words.specs.declared.order.Order.{Order}
-use Rattle.jfr_words.specs.declared.order.Order.TheVariants.{Print, Summary, Metadata, Disassemble, Assemble, Sample}
+use Rattle.jfr_words.specs.declared.order.Order.TheVariants.{Print, Summary, Metadata, Disassemble, Assemble, Sample, Receipt, Verify, Build}
 use Rattle.jfr_words.specs.declared.order.WordsFault.{WordsFault}
 use Rattle.jfr_words.specs.declared.order.WordsFault.TheVariants.{Usage, Memory}
-use Rattle.jfr_words.specs.Names.{only_name, two_names}
+use Rattle.jfr_words.specs.Filtered.{filtered_from}
+use Rattle.jfr_words.specs.Names.{only_name, three_names, two_names}
 use Rattle.jfr_words.specs.Numbers.{number_in}
 use Rattle.jfr_words.specs.Prints.{no_print_option, print_from}
-use Rattle.jfr_words.specs.Scrubs.{scrub_from}
+use Rattle.jfr_words.specs.Scrubs.{no_scrub_option, scrub_from}
 use Rattle.jfr_words.specs.Splits.{no_split_option, split_from}
 use Rattle.jfr_words.specs.Stacks.{stacks_from}
 
@@ -32,6 +33,24 @@ abbrev pub sample_of : List (List ℕ) → Option Order
 sample_of (seed ∷ events ∷ []) = option_and_then (λ s. option_map (λ e. Sample s e) (number_in 1 1000000 events)) (number_in 0 4294967295 seed)
 sample_of _ = None
 
+-- The order of the words after `receipt`: the options of a filter, the input and the receipt.
+abbrev pub receipt_named : Given → List (List ℕ) → Option Order
+receipt_named g words = option_map (λ names. Receipt g names.0 names.1) (two_names words)
+
+abbrev pub receipt_of : List (List ℕ) → Option Order
+receipt_of words = filtered_from receipt_named nothing_given words
+
+-- The order of the words after `verify`: the options of a filter, the input, the output and the receipt.
+abbrev pub verification_named : Given → List (List ℕ) → Option Order
+verification_named g words = option_map (λ names. Verify g names.0 names.1 names.2) (three_names words)
+
+abbrev pub verification_of : List (List ℕ) → Option Order
+verification_of words = filtered_from verification_named nothing_given words
+
+-- The order of the words after `build`: the text and the output.
+abbrev pub build_of : List (List ℕ) → Option Order
+build_of words = option_map (λ names. Build names.0 names.1) (two_names words)
+
 -- The order of the words. The first one is the command.
 unfoldable pub order_of : List (List ℕ) → Option Order
 order_of [] = None
@@ -39,10 +58,13 @@ order_of (command ∷ rest) =
     if bytes_eq command (codes "print") then print_from no_print_option rest else
     if bytes_eq command (codes "summary") then summary_of rest else
     if bytes_eq command (codes "metadata") then metadata_of rest else
-    if bytes_eq command (codes "scrub") then scrub_from nothing_given rest else
+    if bytes_eq command (codes "scrub") then scrub_from no_scrub_option rest else
     if bytes_eq command (codes "disassemble") then split_from no_split_option rest else
     if bytes_eq command (codes "assemble") then assembly_of rest else
     if bytes_eq command (codes "sample") then sample_of rest else
+    if bytes_eq command (codes "receipt") then receipt_of rest else
+    if bytes_eq command (codes "verify") then verification_of rest else
+    if bytes_eq command (codes "build") then build_of rest else
     if bytes_eq command (codes "stacks") then stacks_from nothing_given rest else
     None
 

@@ -4,6 +4,7 @@
 #![tactic(auto)]
 
 pub mod laws;
+mod filter;
 mod left;
 mod name;
 mod number;

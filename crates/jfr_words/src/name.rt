@@ -1,7 +1,7 @@
 //! Names of files and folders.
 ghost use Rattle.std.specs.Prelude.{◌≡◌};
 ghost use Rattle.std.specs.Str.{chars};
-ghost use Rattle.jfr_words.specs.Names.{is_name, name_in, only_name, two_names};
+ghost use Rattle.jfr_words.specs.Names.{is_name, name_in, only_name, three_names, two_names};
 ghost use Rattle.jfr_words.specs.Words.{IsRead};
 
 use crate::WordsFault;
@@ -48,4 +48,21 @@ pub(crate) fn read_two_names(alloc: Global, left: &mut Left<'_>) -> Result<(Text
     let first = read_name(alloc, first)?;
     let second = read_name(alloc, second)?;
     Ok((first, second))
+}
+
+/// The three names that are the only words left.
+pub(crate) fn read_three_names(
+    alloc: Global,
+    left: &mut Left<'_>,
+) -> Result<(Text, Text, Text), WordsFault>
+    ensures { IsRead (three_names left.old) result (λ names. names) }
+{
+    let first = left.next_word()?;
+    let second = left.next_word()?;
+    let third = left.next_word()?;
+    left.end()?;
+    let first = read_name(alloc, first)?;
+    let second = read_name(alloc, second)?;
+    let third = read_name(alloc, third)?;
+    Ok((first, second, third))
 }

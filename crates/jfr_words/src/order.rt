@@ -23,9 +23,11 @@ pub enum Order {
     Metadata {
         file: Text,
     },
-    /// Writes to the output what remains of the input with only the events that the filter keeps.
+    /// Writes to the output what remains of the input with only the events that the filter keeps. The keys of
+    /// constants are numbered anew if `renumber` is set.
     Scrub {
         filter: Filter,
+        renumber: bool,
         input: Text,
         output: Text,
     },
@@ -43,6 +45,24 @@ pub enum Order {
     Sample {
         seed: u32,
         events: u32,
+    },
+    /// Writes a receipt of the input's scrub with this filter.
+    Receipt {
+        filter: Filter,
+        input: Text,
+        receipt: Text,
+    },
+    /// Checks by the receipt that the output is the input's scrub with this filter, or means the same.
+    Verify {
+        filter: Filter,
+        input: Text,
+        output: Text,
+        receipt: Text,
+    },
+    /// Makes a recording of the lines of a text.
+    Build {
+        text: Text,
+        output: Text,
     },
     /// Prints the call stacks of the events of the file that the filter keeps, each with its number of
     /// events.

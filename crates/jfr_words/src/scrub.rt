@@ -1,8 +1,10 @@
 //! The words after `scrub`.
-ghost use Rattle.jfr_filter.specs.Filters.{nothing_given};
-ghost use Rattle.jfr_words.specs.Scrubs.{scrub_from};
+ghost use Rattle.std.specs.Prelude.{◌≡◌};
+ghost use Rattle.std.specs.Str.{chars};
+ghost use Rattle.jfr_words.specs.Scrubs.{no_scrub_option, scrub_from, scrub_with, yes_or_no};
 ghost use Rattle.jfr_words.specs.Words.{IsRead};
 
+use crate::filter::side_of;
 use crate::left::{Left, Named};
 use crate::name::read_two_names;
 use crate::patterns::give_patterns;
@@ -10,38 +12,98 @@ use crate::{Order, WordsFault};
 use jfr_filter::{Filter, Side};
 use std::alloc::Global;
 
+/// An option of `scrub`.
+#[derive(Clone, Copy)]
+pub enum ScrubOption {
+    /// The list of patterns of this option of the filter.
+    Patterns(Side),
+    /// Whether the keys of constants are numbered anew.
+    Renumber,
+}
+
+/// The options of `scrub` given so far.
+#[derive(Drop)]
+pub struct ScrubGiven {
+    pub filter: Filter,
+    pub renumber: Option<bool>,
+}
+
 /// Reads the options of `scrub` and the names after them.
 pub(crate) fn read_scrub(alloc: Global, left: &mut Left<'_>) -> Result<Order, WordsFault>
-    ensures { IsRead (scrub_from nothing_given left.old) result (λ order. order) }
+    ensures { IsRead (scrub_from no_scrub_option left.old) result (λ order. order) }
 {
-    let mut filter = Filter::new(alloc);
-    'options: while let Some(side) = left.take_option() {
-        let list = left.next_word()?;
-        give_patterns(&mut filter, side, list)?;
+    let mut given = ScrubGiven::none(alloc);
+    'options: while let Some(option) = left.take_option() {
+        let value = left.next_word()?;
+        given.give(option, value)?;
     }
     let (input, output) = read_two_names(alloc, left)?;
     Ok(Order::Scrub {
-        filter,
+        filter: given.filter,
+        renumber: given.renumber.unwrap_or(false),
         input,
         output,
     })
 }
 
-// The options of `scrub` are those of its filter.
-impl Named for Side {
-    ghost use Rattle.jfr_words.specs.Scrubs.{side_of};
+impl ScrubGiven {
+    /// No options given.
+    fn none(alloc: Global) -> ScrubGiven
+        ensures { result ≡ no_scrub_option }
+    {
+        ScrubGiven {
+            filter: Filter::new(alloc),
+            renumber: None,
+        }
+    }
 
-    ghost named = { λ word. side_of word };
+    /// Sets an option to this value. A usage fault if it was set before or the word is not a value of it.
+    fn give(&mut self, option: ScrubOption, value: &str) -> Result<(), WordsFault>
+        ensures { IsRead (scrub_with option (chars value.now) self.old) result (λ _. self.new) }
+    {
+        match option {
+            ScrubOption::Patterns(side) => give_patterns(&mut self.filter, side, value),
+            ScrubOption::Renumber => self.give_renumber(value),
+        }
+    }
+
+    /// Sets whether keys are numbered anew. A usage fault if it was set before or the word is neither `yes`
+    /// nor `no`.
+    fn give_renumber(&mut self, value: &str) -> Result<(), WordsFault>
+        ensures { IsRead (scrub_with ScrubOption.Renumber (chars value.now) self.old) result (λ _. self.new) }
+    {
+        if self.renumber.is_some() {
+            return Err(WordsFault::Usage);
+        }
+        let renumber = yes_or_no(value).ok_or(WordsFault::Usage)?;
+        self.renumber = Some(renumber);
+        Ok(())
+    }
+}
+
+/// The answer that a word gives.
+fn yes_or_no(word: &str) -> Option<bool>
+    ensures { result ≡ yes_or_no (chars word.now) }
+{
+    match word {
+        "yes" => Some(true),
+        "no" => Some(false),
+        _ => None,
+    }
+}
+
+impl Named for ScrubOption {
+    ghost use Rattle.jfr_words.specs.Scrubs.{scrub_option_of};
+
+    ghost named = { λ word. scrub_option_of word };
 
     fn of_word(word: &str) -> Option<Self> {
         match word {
-            "--include-events" => Some(Side::IncludeEvents),
-            "--exclude-events" => Some(Side::ExcludeEvents),
-            "--include-categories" => Some(Side::IncludeCategories),
-            "--exclude-categories" => Some(Side::ExcludeCategories),
-            "--include-threads" => Some(Side::IncludeThreads),
-            "--exclude-threads" => Some(Side::ExcludeThreads),
-            _ => None,
+            "--renumber" => Some(ScrubOption::Renumber),
+            _ => match side_of(word) {
+                Some(side) => Some(ScrubOption::Patterns(side)),
+                None => None,
+            },
         }
     }
 }

@@ -1,10 +1,11 @@
 //! Reading the words of the command line as an order.
 ghost use Rattle.std.specs.Prelude.{IfOk, ◌∷◌};
 ghost use Rattle.std.specs.Str.{chars};
-ghost use Rattle.jfr_words.specs.Words.{order_of, summary_of, metadata_of, assembly_of, IsRead, IsUsableOrder};
+ghost use Rattle.jfr_words.specs.Words.{order_of, summary_of, metadata_of, assembly_of, receipt_of, verification_of, build_of, IsRead, IsUsableOrder};
 
+use crate::filter::read_filter;
 use crate::left::Left;
-use crate::name::{read_only_name, read_two_names};
+use crate::name::{read_only_name, read_three_names, read_two_names};
 use crate::print::read_print;
 use crate::sample::read_sample;
 use crate::scrub::read_scrub;
@@ -38,6 +39,9 @@ fn read_command(alloc: Global, command: &str, left: &mut Left<'_>) -> Result<Ord
         "disassemble" => read_split(alloc, left),
         "assemble" => read_assembly(alloc, left),
         "sample" => read_sample(left),
+        "receipt" => read_receipt(alloc, left),
+        "verify" => read_verification(alloc, left),
+        "build" => read_build(alloc, left),
         "stacks" => read_stacks(alloc, left),
         _ => Err(WordsFault::Usage),
     }
@@ -62,4 +66,36 @@ fn read_assembly(alloc: Global, left: &mut Left<'_>) -> Result<Order, WordsFault
 {
     let (folder, output) = read_two_names(alloc, left)?;
     Ok(Order::Assemble { folder, output })
+}
+
+fn read_receipt(alloc: Global, left: &mut Left<'_>) -> Result<Order, WordsFault>
+    ensures { IsRead (receipt_of left.old) result (λ order. order) }
+{
+    let filter = read_filter(alloc, left)?;
+    let (input, receipt) = read_two_names(alloc, left)?;
+    Ok(Order::Receipt {
+        filter,
+        input,
+        receipt,
+    })
+}
+
+fn read_verification(alloc: Global, left: &mut Left<'_>) -> Result<Order, WordsFault>
+    ensures { IsRead (verification_of left.old) result (λ order. order) }
+{
+    let filter = read_filter(alloc, left)?;
+    let (input, output, receipt) = read_three_names(alloc, left)?;
+    Ok(Order::Verify {
+        filter,
+        input,
+        output,
+        receipt,
+    })
+}
+
+fn read_build(alloc: Global, left: &mut Left<'_>) -> Result<Order, WordsFault>
+    ensures { IsRead (build_of left.old) result (λ order. order) }
+{
+    let (text, output) = read_two_names(alloc, left)?;
+    Ok(Order::Build { text, output })
 }

@@ -1,6 +1,6 @@
 use Rattle.std.proofs.Common.{subst, sym}
 use Rattle.jfr_plan.specs.Effects.{outside}
-use Rattle.jfr_cli.specs.Runs.{Carries}
+use Rattle.jfr_cli.specs.Runs.{Carries, CarriesTo}
 use Rattle.jfr_cli.proofs.carry.carry_out.Goals as goal
 
 pub returns-in-Print : goal.returns-in-Print
@@ -44,6 +44,18 @@ returns-in-Sample g c =
     let a = outside (g.P.Place.state c.args.place.now) (g.O.Sink.state c.args.out.now) in
     let b = outside (g.P.Place.state c.say_sample.new._place) (g.O.Sink.state c.say_sample.new.out) in
     subst (λ o. Carries o c.say_sample.result a b) (sym c.in-Sample.is) c.say_sample.ensures
+
+pub returns-in-Receipt : goal.returns-in-Receipt
+returns-in-Receipt g c =
+    let a = outside (g.P.Place.state c.args.place.now) (g.O.Sink.state c.args.out.now) in
+    let b = outside (g.P.Place.state c.make_receipt.new.place) (g.O.Sink.state c.make_receipt.new._out) in
+    subst (λ o. Carries o c.make_receipt.result a b) (sym c.in-Receipt.is) c.make_receipt.ensures
+
+pub returns-in-Verify : goal.returns-in-Verify
+returns-in-Verify g c =
+    let a = outside (g.P.Place.state c.args.place.now) (g.O.Sink.state c.args.out.now) in
+    let b = outside (g.P.Place.state c.verify.new.place) (g.O.Sink.state c.verify.new.out) in
+    subst (λ o. CarriesTo o c.verify.result a b) (sym c.in-Verify.is) c.verify.ensures
 
 pub returns-in-Stacks : goal.returns-in-Stacks
 returns-in-Stacks g c =

@@ -5,6 +5,7 @@ use Rattle.jfr_plan.specs.Clauses.{Ran, CanCreate}
 use Rattle.jfr_split.specs.Clauses.{joins}
 use Rattle.jfr_words.specs.Words.{file_name}
 use Rattle.jfr_cli.proofs.Counting.{lifted}
+use Rattle.jfr_cli.proofs.Leaving.{join_leaves}
 use Rattle.jfr_cli.proofs.Orders.{named}
 use Rattle.jfr_cli.proofs.carry.join.Goals as goal
 
@@ -18,7 +19,7 @@ returns g c =
     subst (λ z. Ran (joins z (file_name c.args.output.now)) c.assemble.result (alone p) (alone q)) folder
     (subst (λ z. Ran (joins c.as_str.result.now z) c.assemble.result (alone p) (alone q)) output c.assemble.ensures.ran) in
     record {
-      leaves = ran.told;
+      leaves = join_leaves (file_name c.args.folder.now) (file_name c.args.output.now) (way_of c.assemble.result) p q ran.told;
       counts = lifted (way_of c.assemble.result) p q (g.O.Sink.state c.args._out.now) ran.counts;
       sink = refl;
       place = tt;

@@ -1,7 +1,10 @@
 use Rattle.std.proofs.Common.{subst}
+use Rattle.jfr_plan.specs.Ends.{way_of}
 use Rattle.jfr_plan.specs.Effects.{outside}
 use Rattle.jfr_plan.specs.Clauses.{over, Ran}
 use Rattle.jfr_report.specs.Reports.{describing}
+use Rattle.jfr_words.specs.Words.{file_name}
+use Rattle.jfr_cli.proofs.Leaving.{over_leaves}
 use Rattle.jfr_cli.proofs.Orders.{named}
 use Rattle.jfr_cli.proofs.carry.metadata.Goals as goal
 
@@ -11,7 +14,7 @@ returns g c =
     let b = outside (g.P.Place.state c.metadata_stream.new.place) (g.O.Sink.state c.metadata_stream.new.out) in
     let ran = subst (λ z. Ran (over describing z) c.metadata_stream.result a b) (named c.as_str.result.now c.args.file.now c.as_str.utf8 c.as_str.ensures) c.metadata_stream.ensures.ran in
     record {
-      leaves = ran.told;
+      leaves = over_leaves describing (file_name c.args.file.now) (way_of c.metadata_stream.result) a.place b.place a.sink.written b.sink.written ran.told;
       counts = ran.counts;
       sink = tt;
       place = tt;

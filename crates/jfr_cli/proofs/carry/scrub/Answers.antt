@@ -1,3 +1,4 @@
+use Rattle.std.specs.Prelude.{None}
 use Rattle.std.proofs.Common.{subst, sym, refl}
 use Rattle.jfr_outside.specs.World.{Told}
 use Rattle.jfr_plan.specs.Ends.{way_of}
@@ -7,6 +8,7 @@ use Rattle.jfr_scrub.specs.Headline.{IsByPlan, Scrubs}
 use Rattle.jfr_scrub.specs.Scrubs.{scrubbing}
 use Rattle.jfr_words.specs.Words.{file_name}
 use Rattle.jfr_cli.proofs.Counting.{lifted}
+use Rattle.jfr_cli.proofs.Leaving.{over_leaves}
 use Rattle.jfr_cli.proofs.Orders.{named}
 use Rattle.jfr_cli.proofs.carry.scrub.Goals as goal
 
@@ -20,7 +22,7 @@ returns g c =
     subst (λ z. Ran (over (scrubbing c.args.filter.now (file_name c.args.output.now)) z) c.scrub_stream.result (alone p) (alone q)) input
     (subst (λ z. Ran (over (scrubbing c.args.filter.now z) c.as_str.result.now) c.scrub_stream.result (alone p) (alone q)) output c.scrub_stream.ensures.ran) in
     record {
-      leaves = ran.told;
+      leaves = over_leaves (scrubbing c.args.filter.now (file_name c.args.output.now)) (file_name c.args.input.now) (way_of c.scrub_stream.result) p q None None ran.told;
       counts = lifted (way_of c.scrub_stream.result) p q (g.O.Sink.state c.args._out.now) ran.counts;
       sink = refl;
       place = tt;

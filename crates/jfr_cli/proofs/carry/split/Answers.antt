@@ -1,3 +1,4 @@
+use Rattle.std.specs.Prelude.{None}
 use Rattle.std.proofs.Common.{subst, sym, refl}
 use Rattle.jfr_plan.specs.Ends.{way_of}
 use Rattle.jfr_plan.specs.Effects.{alone}
@@ -5,6 +6,8 @@ use Rattle.jfr_plan.specs.Clauses.{over, Ran}
 use Rattle.jfr_split.specs.Splits.{splitting}
 use Rattle.jfr_split.specs.Clauses.{CanCreateAll}
 use Rattle.jfr_cli.proofs.Counting.{lifted_parts}
+use Rattle.jfr_words.specs.Words.{file_name}
+use Rattle.jfr_cli.proofs.Leaving.{over_leaves}
 use Rattle.jfr_cli.proofs.Orders.{named}
 use Rattle.jfr_cli.proofs.carry.split.Goals as goal
 
@@ -16,7 +19,7 @@ returns g c =
     let file = named c.as_str.result.now c.args.file.now c.as_str.utf8 c.as_str.ensures in
     let ran = subst (λ z. Ran (over (splitting rule z) z) c.disassemble.result (alone p) (alone q)) file c.disassemble.ensures.ran in
     record {
-      leaves = ran.told;
+      leaves = over_leaves (splitting rule (file_name c.args.file.now)) (file_name c.args.file.now) (way_of c.disassemble.result) p q None None ran.told;
       counts = lifted_parts (way_of c.disassemble.result) p q (g.O.Sink.state c.args._out.now) ran.counts;
       sink = refl;
       place = tt;

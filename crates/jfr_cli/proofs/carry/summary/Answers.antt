@@ -1,7 +1,10 @@
 use Rattle.std.proofs.Common.{subst}
+use Rattle.jfr_plan.specs.Ends.{way_of}
 use Rattle.jfr_plan.specs.Effects.{outside}
 use Rattle.jfr_plan.specs.Clauses.{over, Ran}
 use Rattle.jfr_report.specs.Reports.{summing}
+use Rattle.jfr_words.specs.Words.{file_name}
+use Rattle.jfr_cli.proofs.Leaving.{over_leaves}
 use Rattle.jfr_cli.proofs.Orders.{named}
 use Rattle.jfr_cli.proofs.carry.summary.Goals as goal
 
@@ -11,7 +14,7 @@ returns g c =
     let b = outside (g.P.Place.state c.summary_stream.new.place) (g.O.Sink.state c.summary_stream.new.out) in
     let ran = subst (λ z. Ran (over summing z) c.summary_stream.result a b) (named c.as_str.result.now c.args.file.now c.as_str.utf8 c.as_str.ensures) c.summary_stream.ensures.ran in
     record {
-      leaves = ran.told;
+      leaves = over_leaves summing (file_name c.args.file.now) (way_of c.summary_stream.result) a.place b.place a.sink.written b.sink.written ran.told;
       counts = ran.counts;
       sink = tt;
       place = tt;

@@ -2,8 +2,11 @@ use Rattle.std.proofs.Common.{sym, subst}
 use Rattle.jfr_cli.specs.Answers.{answer_line, answer_status, IsAnswered}
 use Rattle.jfr_cli.proofs.say.say_answer.Goals as goal
 
-pub returns-in-Some : goal.returns-in-Some
-returns-in-Some g c = subst (λ e. IsAnswered (answer_status e) (answer_line e) c.say_ending.result (g.E.Sink.state c.args.err.now) (g.E.Sink.state c.say_ending.new.err)) (sym c.in-Some.is) c.say_ending.ensures
+pub returns-in-Usage : goal.returns-in-Usage
+returns-in-Usage g c = subst (λ x. IsAnswered (answer_status x) (answer_line x) c.say_usage.result (g.E.Sink.state c.args.err.now) (g.E.Sink.state c.say_usage.new.err)) (sym c.in-Usage.is) c.say_usage.ensures
 
-pub returns-in-None : goal.returns-in-None
-returns-in-None g c = subst (λ e. IsAnswered (answer_status e) (answer_line e) c.say_usage.result (g.E.Sink.state c.args.err.now) (g.E.Sink.state c.say_usage.new.err)) (sym c.in-None.is) c.say_usage.ensures
+pub returns-in-Ended : goal.returns-in-Ended
+returns-in-Ended g c = subst (λ x. IsAnswered (answer_status x) (answer_line x) c.say_ending.result (g.E.Sink.state c.args.err.now) (g.E.Sink.state c.say_ending.new.err)) (sym c.in-Ended.is) c.say_ending.ensures
+
+pub returns-in-Doubted : goal.returns-in-Doubted
+returns-in-Doubted g c = subst (λ x. IsAnswered (answer_status x) (answer_line x) c.say_doubt.result (g.E.Sink.state c.args.err.now) (g.E.Sink.state c.say_doubt.new.err)) (sym c.in-Doubted.is) c.say_doubt.ensures

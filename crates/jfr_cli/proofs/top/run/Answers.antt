@@ -1,12 +1,13 @@
 use Rattle.std.proofs.Common.{ap}
 use Rattle.jfr_plan.specs.Effects.{Outside, outside}
 use Rattle.jfr_scrub.proofs.AgainLaws.{is_scrubbed}
-use Rattle.jfr_cli.proofs.Clauses.{Answers, answers_by, only_parts, text_writes, usage_told, usage_only, untouched, headline_told, done_told, refused_told, halted_told, broken_told, parts_told, memory_told, memory_said, statuses, no_read_passed, no_write_passed, no_text_passed, one_count, complete, can_read, can_create, sink_told, place_told, same_told}
+use Rattle.jfr_receipt.proofs.ReceiptLaws.{is_receipted}
+use Rattle.jfr_cli.proofs.Clauses.{Answers, answers_by, only_parts, text_writes, usage_told, usage_only, untouched, headline_told, done_told, refused_told, halted_told, broken_told, parts_told, memory_told, memory_said, statuses, no_read_passed, no_write_passed, no_text_passed, one_count, complete, can_read, can_create, sink_told, place_told, same_told, doubted_told, verified_told, scrubs_told}
 use Rattle.jfr_cli.proofs.top.run.Given.{Over}
 use Rattle.jfr_cli.proofs.top.run.Goals as goal
 
-answered : (g : Over) (c : goal.After-say_answer g) → Answers c.args.words.now c.say_answer.result (outside (g.P.Place.state c.args.place.now) (g.O.Sink.state c.args.out.now)) (outside (g.P.Place.state c.obey-ended.new.place) (g.O.Sink.state c.obey-ended.new.out)) (g.E.Sink.state c.args.err.now) (g.E.Sink.state c.say_answer.new.err)
-answered g c = answers_by c.args.words.now c.obey-ended.result c.say_answer.result _ _ _ _ c.obey-ended.ensures c.say_answer.ensures
+answered : (g : Over) (c : goal.After-say_answer g) → Answers c.args.words.now c.say_answer.result (outside (g.P.Place.state c.args.place.now) (g.O.Sink.state c.args.out.now)) (outside (g.P.Place.state c.obey-answer.new.place) (g.O.Sink.state c.obey-answer.new.out)) (g.E.Sink.state c.args.err.now) (g.E.Sink.state c.say_answer.new.err)
+answered g c = answers_by c.args.words.now c.obey-answer.result c.say_answer.result _ _ _ _ c.obey-answer.ensures c.say_answer.ensures
 
 pub returns-clause-usage : goal.returns-clause-usage
 returns-clause-usage g c = usage_told (answered g c)
@@ -22,6 +23,18 @@ returns-clause-headline g c = headline_told (answered g c)
 
 pub returns-clause-each : goal.returns-clause-each
 returns-clause-each g c = λ f. is_scrubbed f
+
+pub returns-clause-each_receipt : goal.returns-clause-each_receipt
+returns-clause-each_receipt g c = is_receipted c.kept_is_passed.ensures
+
+pub returns-clause-verified : goal.returns-clause-verified
+returns-clause-verified g c = verified_told (answered g c)
+
+pub returns-clause-scrubs_verified : goal.returns-clause-scrubs_verified
+returns-clause-scrubs_verified g c = scrubs_told c.verdict_is_unique.ensures.one c.scrubs_are_verified.ensures (answered g c)
+
+pub returns-clause-doubted : goal.returns-clause-doubted
+returns-clause-doubted g c = doubted_told (answered g c)
 
 pub returns-clause-done : goal.returns-clause-done
 returns-clause-done g c = λ h. (done_told (answered g c) h).0

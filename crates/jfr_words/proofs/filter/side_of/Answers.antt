@@ -1,8 +1,8 @@
 use Rattle.std.proofs.Common.{refl, sym, ap}
 use Rattle.std.specs.Prelude.{codes}
-use Rattle.jfr_words.specs.Scrubs.{side_of}
+use Rattle.jfr_words.specs.Filtered.{side_of}
 use Rattle.jfr_words.proofs.WordLaws.{chars_of, is_other}
-use Rattle.jfr_words.proofs.scrub.SideNamed.of_word.Goals as goal
+use Rattle.jfr_words.proofs.filter.side_of.Goals as goal
 
 pub returns-in-text : goal.returns-in-text
 returns-in-text c = sym (ap side_of (chars_of _ (codes "--include-events") refl c.in-text.is))

@@ -1,0 +1,17 @@
+//! How the program ends.
+use jfr_header::Ending;
+use jfr_verify::Doubt;
+
+/// How the program ends: by how it carries out its order, or because there is none.
+#[derive(Clone, Copy, Debug)]
+pub enum Answer {
+    /// The words aren't an order.
+    Usage,
+    /// The order was carried out, or refused, or a call failed.
+    Ended(Ending),
+    /// A check has a doubt about the chunk with this number.
+    Doubted {
+        chunk: u64,
+        doubt: Doubt,
+    },
+}

@@ -1,0 +1,36 @@
+-- The receipts of a recording.
+use Rattle.std.specs.Prelude.{◌≡◌, ℕ, List, [], Result, Ok, Err}
+use Rattle.jfr_base.specs.declared.flaw.Flaw.{Flaw}
+use Rattle.jfr_filter.specs.Filters.{Given}
+use Rattle.jfr_plan.specs.Walks.{Rule}
+use Rattle.jfr_plan.specs.Makes.{making}
+use Rattle.jfr_chunk.specs.Parts.{Parts, AreParts}
+use Rattle.jfr_chunk.specs.Chosen.{kept_of}
+use Rattle.jfr_chunk.specs.Refusal.{read_parts, refusal_of}
+use Rattle.jfr_scrub.specs.Scrubs.{scrubbed}
+use Rattle.jfr_verify.specs.Laws.{Passes}
+use Rattle.jfr_verify.specs.Receipts.{receipt_of}
+
+-- The receipt of a chunk with these parts; none for a chunk that is refused.
+abbrev pub receipt_by : Result Parts Flaw → List ℕ
+receipt_by (Ok q) = receipt_of q
+receipt_by (Err flaw) = []
+
+-- The receipt of what is left of a chunk if it has only the events that the filter keeps.
+unfoldable pub scrub_receipt : Given → List ℕ → List ℕ
+scrub_receipt g c = receipt_by (read_parts (scrubbed g c))
+
+-- The rule of receipts: the file is created, the receipt of each chunk's scrub is appended, and the file is
+-- finished.
+abbrev pub receipting : Given → List ℕ → Rule
+receipting g receipt = making receipt refusal_of (scrub_receipt g)
+
+-- The chunk c and its scrub pass the checks of `verify` with the receipt r.
+pub record IsReceipted (g : Given) (c r : List ℕ) : Type 0 where
+  pub input : Parts
+  pub bytes : input.bytes ≡ c
+  pub stand : AreParts input
+  pub output : Parts
+  pub becomes : output.bytes ≡ scrubbed g c
+  pub accepted : AreParts output
+  pub passes : Passes input output (kept_of g input) r

@@ -1,0 +1,108 @@
+//! The stream that writes receipts.
+ghost use Rattle.std.specs.Prelude.{◌≡◌, ◌≢◌, ℕ, List, None, Ok, IfOk};
+ghost use Rattle.jfr_header.specs.Fronts.{Whole};
+ghost use Rattle.jfr_plan.specs.Clauses.{over, Ran, CanCreate};
+ghost use Rattle.jfr_plan.specs.Effects.{alone};
+ghost use Rattle.jfr_chunk.specs.Parts.{Parts};
+ghost use Rattle.jfr_chunk.specs.Refusal.{read_parts, refusal_of};
+ghost use Rattle.jfr_verify.specs.Receipts.{receipt_of};
+ghost use Rattle.jfr_receipt.specs.Receipting.{IsReceipted, receipting, scrub_receipt};
+
+use jfr_base::ReadFault;
+use jfr_chunk::{Chunk, Room};
+use jfr_filter::Filter;
+use jfr_header::Ending;
+use jfr_outside::{NoMemory, Place};
+use jfr_plan::{Make, make_stream};
+use jfr_scrub::Scrubber;
+use jfr_verify::{Receipt, kept_is_passed, receipt_of};
+use std::alloc::Global;
+use std::mem;
+
+/// Makes the receipt of each chunk's scrub with a filter. `room` holds the last chunk's memory, which the next
+/// chunk uses again.
+#[derive(Drop)]
+struct Receipts<'f> {
+    filter: &'f Filter,
+    room: Room,
+    receipt: Option<Receipt>,
+}
+
+impl<'f> Make for Receipts<'f> {
+    ghost use Rattle.std.specs.Prelude.{ℕ, List, IsSome, unwrap_or, []};
+    ghost use Rattle.jfr_chunk.specs.Refusal.{refusal_of};
+    ghost use Rattle.jfr_receipt.specs.Receipting.{scrub_receipt};
+
+    ghost refusal = { λ _ chunk. refusal_of chunk };
+
+    ghost becomes = { λ s chunk. scrub_receipt s.filter.now chunk };
+
+    ghost holds = { λ s chunk. IsSome s.receipt };
+
+    ghost last = { λ s chunk. unwrap_or s.receipt [] };
+
+    fn make(&mut self, alloc: Global, chunk: &[u8]) -> Result<(), ReadFault> {
+        let room = mem::replace(&mut self.room, Room::new(alloc));
+        let chunk = Chunk::read_in(alloc, room, chunk)?;
+        let mut scrubber = Scrubber::prepare(alloc, &chunk, self.filter)?;
+        scrubber.write();
+        self.receipt = Some(receipt_of_output(alloc, scrubber.bytes())?);
+        self.room = chunk.into_room();
+        Ok(())
+    }
+
+    fn pieces<'c>(&'c self, alloc: Global, _chunk: &'c [u8]) -> Result<Vec<&'c [u8]>, NoMemory> {
+        let Some(receipt) = &self.receipt else {
+            unreachable!()
+        };
+        let mut pieces = Vec::with_capacity(alloc, 1)?;
+        pieces.push(receipt.bytes())?;
+        Ok(pieces)
+    }
+}
+
+/// The receipt of a chunk that is known to be accepted.
+fn receipt_of_output(alloc: Global, output: &[u8]) -> Result<Receipt, NoMemory>
+    requires whole { Whole output.now }
+    requires accepted { refusal_of output.now ≡ None }
+    ensures ok { IfOk result (λ receipt. (q : Parts) → read_parts output.now ≡ Ok q → receipt ≡ receipt_of q) }
+{
+    match Chunk::read(alloc, output) {
+        Ok(chunk) => receipt_of(alloc, &chunk),
+        Err(ReadFault::Flawed(_)) => unreachable!(),
+        Err(ReadFault::Memory) => Err(NoMemory),
+    }
+}
+
+/// Writes the receipts of a recording's scrub: opens the input, creates the receipt file, appends the receipt
+/// of each chunk by one call, and finishes the file after the last.
+pub fn receipt_stream<P: Place>(
+    alloc: Global,
+    place: &mut P,
+    input: &str,
+    receipt: &str,
+    filter: &Filter,
+) -> Ending
+    // Each receipt passes the checks of `verify` with its chunk and the chunk's scrub.
+    ensures each { (c : List ℕ) → Whole c → refusal_of c ≡ None → IsReceipted filter.now c (scrub_receipt filter.now c) }
+
+    ensures ran { Ran (over (receipting filter.now receipt.now) input.now) result
+        (alone (P.state place.old)) (alone (P.state place.new)) }
+
+    // The call brings no write fault about by itself.
+    ensures can_create { CanCreate receipt.now (P.state place.old)
+        → (result ≢ Ending.WriteFault) × ((P.state place.new).write_faults ≡ (P.state place.old).write_faults) }
+{
+    kept_is_passed();
+    make_stream(
+        alloc,
+        place,
+        Receipts {
+            filter,
+            room: Room::new(alloc),
+            receipt: None,
+        },
+        input,
+        receipt,
+    )
+}
