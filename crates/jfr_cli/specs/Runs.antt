@@ -9,7 +9,8 @@ use Rattle.jfr_plan.specs.Ends.{End, Fine, Refused, TooMany, way_of}
 use Rattle.jfr_plan.specs.Effects.{Outside, effects}
 use Rattle.jfr_plan.specs.Outcomes.{AllDone, SomeDone, Breaks, Kept, Rises, Counted, Tallied}
 use Rattle.jfr_plan.specs.Clauses.{write_count}
-use Rattle.jfr_scrub.specs.Headline.{IsByPlan, Scrubs}
+use Rattle.jfr_output.specs.Recordings.{IsByPlan}
+use Rattle.jfr_scrub.specs.Headline.{Scrubs}
 use Rattle.jfr_words.specs.declared.order.Order.{Order}
 use Rattle.jfr_words.specs.declared.order.Order.TheVariants as orders
 use Rattle.jfr_words.specs.Words.{order_of, file_name}
