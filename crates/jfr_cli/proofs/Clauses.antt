@@ -14,7 +14,8 @@ use Rattle.jfr_plan.specs.Walks.{Target, File, Parts, Text, plan_in}
 use Rattle.jfr_plan.specs.Outcomes.{SomeDone, AllDone, Tallied}
 use Rattle.jfr_plan.specs.Clauses.{ForMemory, write_count}
 use Rattle.jfr_plan.proofs.Clauses as plan
-use Rattle.jfr_scrub.specs.Headline.{IsByPlan, Scrubs}
+use Rattle.jfr_output.specs.Recordings.{IsByPlan}
+use Rattle.jfr_scrub.specs.Headline.{Scrubs}
 use Rattle.jfr_words.specs.declared.order.Order.{Order}
 use Rattle.jfr_words.specs.declared.order.Order.TheVariants as orders
 use Rattle.jfr_words.specs.Words.{order_of, file_name}

@@ -11,7 +11,8 @@ use Rattle.jfr_plan.specs.Effects.{Outside}
 use Rattle.jfr_plan.specs.Walks.{plan_in}
 use Rattle.jfr_plan.specs.Outcomes.{Kept, Rises, Counted, Tallied}
 use Rattle.jfr_plan.specs.Clauses.{write_count}
-use Rattle.jfr_scrub.specs.Headline.{IsByPlan, Scrubs}
+use Rattle.jfr_output.specs.Recordings.{IsByPlan}
+use Rattle.jfr_scrub.specs.Headline.{Scrubs}
 use Rattle.jfr_words.specs.declared.order.Order.{Order}
 use Rattle.jfr_words.specs.declared.order.Order.TheVariants as orders
 use Rattle.jfr_words.specs.Words.{order_of, file_name}

@@ -18,7 +18,9 @@ use Rattle.jfr_chunk.specs.Scrub.{scrub_of}
 use Rattle.jfr_chunk.specs.Refusal.{flaw_in, read_parts, refusal_of}
 use Rattle.jfr_chunk.proofs.ChainAnswers.{is_computed}
 use Rattle.jfr_laws.proofs.Settled.{settled}
-use Rattle.jfr_scrub.specs.Headline.{AreChunksOf, AreScrubbed, IsScrubbed, IsScrubOf, before_refused, recording_scrubbed, unless_refused}
+use Rattle.jfr_output.specs.Recordings.{AreChunksOf, before_refused, unless_refused}
+use Rattle.jfr_output.proofs.RecordingLaws.{written_chunks}
+use Rattle.jfr_scrub.specs.Headline.{AreScrubbed, IsScrubbed, IsScrubOf, recording_scrubbed}
 use Rattle.jfr_scrub.specs.Scrubs.{scrubbed, scrubbed_by}
 
 -- ---- one chunk
@@ -72,65 +74,9 @@ same_again : (g : Given) (c b : List ℕ) → IsScrubbed g c b → scrubbed g b 
 unfolding scrubbed
 same_again g c b s = ap (scrubbed_by g) (again_of g c b s) ∙ (s.settled.again ∙ (s.settled.kept.bytes ∙ sym s.becomes))
 
--- ---- one chunk after another
-
--- A chunk that is cut from the front starts below byte 2^40.
-begins_early : (rest c : List ℕ) (start : ℕ) (first : Bool) → front rest start first ≡ Chunk c → Whole c → start < 2 ^ 40
-begins_early rest c start first e w = by_order (nat_le (2 ^ 40) start) refl
-  where
-    some : (y : List ℕ) → Begins y (front y start first) → y ≡ rest → 0 < length rest
-    some [] b q = absurd (none (subst (λ z. Begins z (Chunk c)) (sym q) (subst (Begins rest) e (front_begins rest start first))))
-      where
-        none : Begins [] (Chunk c) → ⊥
-        none h = by_length c w h.1
-          where
-            by_length : (d : List ℕ) → Whole d → Rattle.std.specs.Prelude.take (length d) [] ≡ d → ⊥
-            by_length [] v k = let l : 68 ≤ 0 = v.long in omega arith
-            by_length (a ∷ more) v k = cc
-    some (a ∷ more) b q = subst (λ (z : List ℕ). 0 < length z) q (omega arith)
-
-    by_order : (t : Bool) → nat_le (2 ^ 40) start ≡ t → start < 2 ^ 40
-    by_order true h =
-        let k : 2 ^ 40 ≤ start = grind arith in
-        let f : Bad (flaw_at 0 TooLong) ≡ Chunk c = sym (front_long rest start first (some rest (front_begins rest start first) refl) k) ∙ e in
-        cc
-    by_order false h = grind arith
-
-nothing_is_the_end : (start : ℕ) → front [] start false ≡ End
-unfolding front
-nothing_is_the_end start = refl
-
--- What is written starts no later than what is read, so each of its chunks is found.
-written_cut : (g : Given) (cs : List (List ℕ)) (flaw : Option Flaw) (rest : List ℕ) (start later : ℕ) (first : Bool) → start ≤ later → AreCut cs flaw rest later first
-    → AreCut (map (scrubbed g) (before_refused refusal_of cs)) None (joined (map (scrubbed g) (before_refused refusal_of cs))) start false
-written_cut g [] flaw rest start later first h a = nothing_is_the_end start
-written_cut g (c ∷ cs) flaw rest start later first h a =
-    by_flaw (refusal_of c) refl (λ n k. written_cut g cs flaw (drop (length c) rest) (start + n) (later + length c) false (omega (arith, h, k)) a.1)
-  where
-    by_flaw : (o : Option Flaw) → refusal_of c ≡ o
-        → ((n : ℕ) → n ≤ length c → AreCut (map (scrubbed g) (before_refused refusal_of cs)) None (joined (map (scrubbed g) (before_refused refusal_of cs))) (start + n) false)
-        → AreCut (map (scrubbed g) (unless_refused o (c ∷ before_refused refusal_of cs))) None (joined (map (scrubbed g) (unless_refused o (c ∷ before_refused refusal_of cs)))) start false
-    by_flaw (Some f) e tail = nothing_is_the_end start
-    by_flaw None e tail =
-        let w : Whole c = (subst (Begins rest) a.0 (front_begins rest later first)).0 in
-        let s = is_scrubbed g c w e in
-        let b : List ℕ = scrubbed g c in
-        let bs : List (List ℕ) = map (scrubbed g) (before_refused refusal_of cs) in
-        let early : later < 2 ^ 40 = begins_early rest c later first a.0 w in (
-          whole_front b (joined bs) start false (becomes_whole g c b s) (omega (arith, h, early)),
-          subst (λ z. AreCut bs None z (start + length b) false) (sym (drop-append_seam b (joined bs))) (tail (length b) (becomes_short g c b s)),
-        )
-
-are_chunks : (bs : List (List ℕ)) → AllByRecursion Whole bs → AreCut bs None (joined bs) 0 false → AreChunksOf bs (joined bs)
-are_chunks [] w a = refl
-are_chunks (b ∷ bs) w a = cut_is (b ∷ bs) None (joined (b ∷ bs)) 0 true (whole_front b (joined bs) 0 true w.0 (omega arith), a.1)
-
 -- The output is cut into just the chunks that were written.
 pub recording_chunks : (g : Given) (x : List ℕ) → AreChunksOf (map (scrubbed g) (before_refused refusal_of (cut x 0 true).chunks)) (recording_scrubbed g x)
-recording_chunks g x =
-    let bs : List (List ℕ) = map (scrubbed g) (before_refused refusal_of (cut x 0 true).chunks) in
-    let a = written_cut g (cut x 0 true).chunks (cut x 0 true).flaw x 0 0 true (omega arith) (are_cut x 0 true) in
-    are_chunks bs (all_whole bs None (joined bs) 0 false a) a
+recording_chunks g x = written_chunks refusal_of (scrubbed g) (λ c w e. let s = is_scrubbed g c w e in (becomes_whole g c (scrubbed g c) s, becomes_short g c (scrubbed g c) s)) x
 
 -- ---- scrubbed again
 

@@ -19,14 +19,14 @@ use Rattle.jfr_laws.proofs.Listed.{in_any}
 use Rattle.jfr_laws.proofs.Marks.{all_marked}
 use Rattle.jfr_laws.proofs.Order.{Numbered, found_numbered}
 use Rattle.jfr_laws.proofs.Premises.{all_links, IsCheckpoint, chained_checkpoints, metadata_stands}
+use Rattle.jfr_output.specs.OutputRecords.{link_there}
+use Rattle.jfr_output.proofs.NewLaws.{new_written}
+use Rattle.jfr_output.proofs.CursorLaws.{cursor_first, event_in, events_given}
+use Rattle.jfr_output.proofs.CheckpointEntries.{pools_number}
 use Rattle.jfr_scrub.specs.declared.piece.Part.{Part}
 use Rattle.jfr_scrub.specs.Bodies.{OutputRecordIsCopied}
 use Rattle.jfr_scrub.specs.Pieces.{EntryIsCopied, EventIsCopied, MetadataIsCopied, RecordIsCopied}
-use Rattle.jfr_scrub.specs.OutputRecords.{link_there}
 use Rattle.jfr_scrub.proofs.GallopingLaws.{event_recorded}
-use Rattle.jfr_scrub.proofs.NewLaws.{new_written}
-use Rattle.jfr_scrub.proofs.CursorLaws.{cursor_first, event_in, events_given}
-use Rattle.jfr_scrub.proofs.FitLaws.{pools_number}
 use Rattle.jfr_scrub.proofs.RunLaws.{event_alone}
 
 -- What holds of each member, by membership.

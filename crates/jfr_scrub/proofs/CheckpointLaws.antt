@@ -9,13 +9,15 @@ use Rattle.jfr_meta.specs.Written.{capped}
 use Rattle.jfr_pool.specs.declared.link.Link.{Link}
 use Rattle.jfr_pool.specs.declared.entry.EntryAt.{EntryAt}
 use Rattle.jfr_chunk.specs.Written.{Group, add_entry, by_pool, entry_bytes, group_bytes, checkpoint_tail, checkpoint_bytes}
-use Rattle.jfr_scrub.specs.Left.{HasRange, leading, entries_size, pool_size, groups_size}
+use Rattle.jfr_output.specs.Pools.{leading}
+use Rattle.jfr_output.proofs.Widths.{spelled_length}
+use Rattle.jfr_output.proofs.PoolLaws.{by_leading}
+use Rattle.jfr_scrub.specs.Sizes.{HasRange, entries_size, pool_size, groups_size}
 use Rattle.jfr_scrub.specs.declared.piece.MadePart.TheVariants.{EntryCount, PoolClass}
 use Rattle.jfr_scrub.specs.Bodies.{pool_parts}
 use Rattle.jfr_scrub.specs.Fits.{LinkFits}
 use Rattle.jfr_scrub.specs.Pieces.{Laying, more}
-use Rattle.jfr_scrub.proofs.Widths.{spelled_length}
-use Rattle.jfr_scrub.proofs.RemainingLaws.{by_leading, range_drop}
+use Rattle.jfr_scrub.proofs.MeasureLaws.{range_drop}
 
 -- The entries of a group lie in the chunk.
 abbrev pub GroupRange : ℕ → Group → Type 0

@@ -13,7 +13,7 @@ use Rattle.jfr_scrub.specs.declared.piece.MadePart.{MadePart}
 use Rattle.jfr_scrub.specs.declared.piece.Part.{Part}
 use Rattle.jfr_scrub.specs.declared.piece.Part.TheVariants as parts
 use Rattle.jfr_scrub.specs.Bodies.{OutputRecordFits, OutputRecordIsCopied, output_record_parts}
-use Rattle.jfr_scrub.specs.Left.{HasRange}
+use Rattle.jfr_scrub.specs.Sizes.{HasRange}
 use Rattle.jfr_scrub.specs.Pieces.{EntryIsCopied, Grows, IsCopied, Keeps, made_parts}
 use Rattle.jfr_scrub.proofs.BodyLaws.{range_filter}
 

@@ -10,7 +10,7 @@ use Rattle.jfr_plan.specs.Walks.{plan_after}
 use Rattle.jfr_plan.specs.Accepted.{AllAccepted}
 use Rattle.jfr_plan.proofs.EndsWell.{making_ends_well}
 use Rattle.jfr_chunk.specs.Refusal.{refusal_of}
-use Rattle.jfr_scrub.specs.Headline.{before_refused, unless_refused}
+use Rattle.jfr_output.specs.Recordings.{before_refused, unless_refused}
 use Rattle.jfr_scrub.specs.Scrubs.{scrubbed, scrubbing}
 
 pub scrub_ends_well : (g : Given) (output x : List ℕ) → ((plan_after (scrubbing g output) [] (Some x)).end ≡ Some Fine) ↔ AllAccepted refusal_of x

@@ -1,12 +1,14 @@
 -- What is left of a chunk fits in its bytes.
-use Rattle.std.specs.Prelude.{◌≡◌, ℕ, zero, suc, ◌+◌, ◌-◌, ◌<◌, ◌≤◌, Bool, true, false, List, [], ◌∷◌, ◌++◌, length, map, reverse, replicate, slice_set, Option, Some, None, is_some}
+use Rattle.std.specs.Prelude.{◌≡◌, ℕ, ◌+◌, ◌-◌, ◌<◌, ◌≤◌, true, List, [], ◌∷◌, ◌++◌, length, map, reverse, Option, Some, None, is_some}
 use Rattle.std.specs.List.{flat_map, enumerate_from, AllByRecursion}
-use Rattle.std.proofs.Common.{arith, refl, sym, ◌∙◌, subst, append_assoc}
-use Rattle.std.proofs.lemmas.List.{length-set, length-replicate}
+use Rattle.std.proofs.Common.{arith, refl, sym, subst, append_assoc}
 use Rattle.jfr_base.specs.Integer.{spell}
 use Rattle.jfr_base.proofs.Copies.{int_some}
 use Rattle.jfr_base.proofs.Spelling.{spell_most}
 use Rattle.jfr_base.proofs.Ranges.{range_length}
+use Rattle.jfr_output.specs.Remaining.{NotFalling}
+use Rattle.jfr_output.proofs.CheckpointEntries.{marked_order}
+use Rattle.jfr_output.proofs.Widths.{size_width}
 use Rattle.jfr_scrub.proofs.CheckpointLaws.{checkpoint_length}
 use Rattle.jfr_layout.specs.Classes.{Classes}
 use Rattle.jfr_frame.specs.Records.{IsRecord, record_end, record_bytes}
@@ -15,8 +17,7 @@ use Rattle.jfr_pool.specs.declared.link.Link.{Link}
 use Rattle.jfr_pool.specs.declared.entry.EntryAt.{EntryAt}
 use Rattle.jfr_pool.specs.Entries.{Constant, PoolAt, entry_of, entries_from, AreEntries}
 use Rattle.jfr_chunk.specs.Parts.{Parts, EventAt, AreParts}
-use Rattle.jfr_chunk.specs.Reach.{marked, next_entries, roots, reached_marks, remain}
-use Rattle.jfr_worklist.specs.Marks.{marked_at, swept, led_to}
+use Rattle.jfr_chunk.specs.Reach.{reached_marks, remain}
 use Rattle.jfr_chunk.specs.Written.{distance}
 use Rattle.jfr_chunk.specs.Scrub.{OutputRecord, Whole, Chained, Rebuilt, groups_of, bytes_of, written_bytes, written, written_anew, output_records, output_records_whole}
 use Rattle.jfr_laws.proofs.Standing.{LinkStands, Constants, Pools, body_stands}
@@ -28,10 +29,9 @@ use Rattle.jfr_laws.proofs.Premises.{all_links, IsCheckpoint, Ready, ready, chai
 use Rattle.jfr_laws.proofs.Lengths.{length_back, sizes_within}
 use Rattle.jfr_laws.proofs.AnewLaws.{good_anew}
 use Rattle.jfr_scrub.specs.Fits.{LinkFits}
-use Rattle.jfr_scrub.specs.Bodies.{OutputRecordFits, NotFalling}
-use Rattle.jfr_scrub.specs.Left.{HasRange}
+use Rattle.jfr_scrub.specs.Bodies.{OutputRecordFits}
+use Rattle.jfr_scrub.specs.Sizes.{HasRange}
 use Rattle.jfr_scrub.proofs.BodyLaws.{WrittenFits}
-use Rattle.jfr_scrub.proofs.Widths.{size_width}
 
 module _ (c : List ℕ) (left : List EntryAt) (k : Classes) where
   -- Its delta takes no more bytes than before.
@@ -86,40 +86,6 @@ module _ (p : Parts) (a : AreParts p) (kept : List EventAt) where
       let j = sizes_within p.bytes (all_links p) (output_records_whole p kept) (written_anew p kept) (records_of (all_links p) (chained_checkpoints p a)) p.records 68 (length p.bytes) a.records in
       omega arith
 
--- Entries in the order of their checkpoints, each in its range.
-abbrev Ordered : ℕ → ℕ → List EntryAt → Type 0
-Ordered n m es = NotFalling m es × AllByRecursion (HasRange n) es
-
-pub falling_less : (m n : ℕ) (es : List EntryAt) → m ≤ n → NotFalling n es → NotFalling m es
-falling_less m n [] h b = tt
-falling_less m n (e ∷ es) h b = let i : n ≤ e.checkpoint = b.0 in (omega arith, b.1)
-
-pub falling_marked : (n : ℕ) (ms : List Bool) (es : List EntryAt) → NotFalling n es → NotFalling n (marked ms es)
-falling_marked n [] es b = tt
-falling_marked n (m ∷ ms) [] b = tt
-falling_marked n (true ∷ ms) (e ∷ es) b = (b.0, falling_marked e.checkpoint ms es b.1)
-falling_marked n (false ∷ ms) (e ∷ es) b = falling_less n e.checkpoint (marked ms es) b.0 (falling_marked e.checkpoint ms es b.1)
-
--- Entries of one checkpoint, and then later ones.
-falling_append : (n : ℕ) (xs ys : List EntryAt) → AllByRecursion (λ e. e.checkpoint ≡ n) xs → NotFalling n ys → NotFalling n (xs ++ ys)
-falling_append n [] ys b d = d
-falling_append n (x ∷ xs) ys b d =
-    let q : x.checkpoint ≡ n = b.0 in
-    (omega arith, subst (λ m. NotFalling m (xs ++ ys)) (sym q) (falling_append n xs ys b.1 d))
-
-constants_number : (checkpoint number class : ℕ) (xs : List Constant) (ys : List EntryAt) → AllByRecursion (λ e. e.checkpoint ≡ checkpoint) ys → AllByRecursion (λ e. e.checkpoint ≡ checkpoint) (map (entry_of checkpoint number class) xs ++ ys)
-constants_number checkpoint number class [] ys b = b
-constants_number checkpoint number class (x ∷ xs) ys b = (refl, constants_number checkpoint number class xs ys b)
-
-pub pools_number : (checkpoint number : ℕ) (ps : List PoolAt) → AllByRecursion (λ e. e.checkpoint ≡ checkpoint) (entries_from checkpoint number ps)
-pools_number checkpoint number [] = tt
-pools_number checkpoint number (p ∷ ps) = constants_number checkpoint number p.class p.constants (entries_from checkpoint (number + 1) ps) (pools_number checkpoint (number + 1) ps)
-
-entries_order : (c : List ℕ) (k : Classes) (n : ℕ) (ls : List Link) (es : List EntryAt) → AreEntries c k n ls es → NotFalling n es
-entries_order c k n [] es b = subst (NotFalling n) (sym b) tt
-entries_order c k n (l ∷ ls) es b =
-    subst (NotFalling n) (sym b.3) (falling_append n (entries_from n 0 b.0) b.2 (pools_number n 0 b.0) (falling_less n (n + 1) b.2 (omega arith) (entries_order c k (n + 1) ls b.2 b.4)))
-
 module _ (c : List ℕ) (k : Classes) where
   constants_range : (checkpoint number class at : ℕ) (xs : List Constant) (to : ℕ) (ys : List EntryAt) → Constants c k class at xs to → AllByRecursion (HasRange (length c)) ys → AllByRecursion (HasRange (length c)) (map (entry_of checkpoint number class) xs ++ ys)
   constants_range checkpoint number class at [] to ys s b = b
@@ -147,26 +113,8 @@ module _ (p : Parts) (a : AreParts p) (kept : List EventAt) where
 
   pub left_order : NotFalling 0 (remain p kept)
   unfolding remain
-  left_order = falling_marked 0 (reached_marks p kept) p.entries (entries_order p.bytes p.classes 0 (reverse p.chain) p.entries a.entries)
+  left_order = marked_order p (reached_marks p kept) a
 
   pub left_ranges : AllByRecursion (HasRange (length p.bytes)) (remain p kept)
   unfolding remain
   left_ranges = all_marked (HasRange (length p.bytes)) (reached_marks p kept) p.entries (entries_range p.bytes p.classes 0 (reverse p.chain) p.entries (ends_of 0 (reverse p.chain) (chained_checkpoints p a)) a.entries)
-
--- As many marks as entries.
-marked_length : (ms : List Bool) (is : List ℕ) → length (marked_at ms is) ≡ length ms
-marked_length ms [] = refl
-marked_length ms (i ∷ is) = marked_length (slice_set ms i true) is ∙ length-set ms i true
-
-swept_length : (n : ℕ) (next : ℕ → List ℕ) (ms : List Bool) → length (swept n next ms) ≡ length ms
-swept_length zero next ms = refl
-swept_length (suc n) next ms = marked_length (swept n next ms) (led_to (swept n next ms) next) ∙ swept_length n next ms
-
-pub marks_length : (p : Parts) (kept : List EventAt) → length (reached_marks p kept) ≡ length p.entries
-unfolding reached_marks
-marks_length p kept = swept_length (length p.entries) (next_entries p) (marked_at (replicate (length p.entries) false) (roots p kept)) ∙ (marked_length (replicate (length p.entries) false) (roots p kept) ∙ length-replicate (length p.entries) false)
-
--- The entries that are marked remain.
-pub left_is : (p : Parts) (kept : List EventAt) (ms : List Bool) (es left : List EntryAt) → ms ≡ reached_marks p kept → es ≡ p.entries → left ≡ marked ms es → left ≡ remain p kept
-unfolding remain
-left_is p kept ms es left m e l = l ∙ (λ i. marked (m i) (e i))

@@ -15,12 +15,12 @@ use Rattle.jfr_value.specs.Reading.{value_format}
 use Rattle.jfr_pool.specs.Entries.{inline}
 use Rattle.jfr_chunk.specs.Parts.{Parts, EventAt, AreParts, event_by, event_of, events_of}
 use Rattle.jfr_chunk.proofs.CountLaws.{whole_small}
-use Rattle.jfr_scrub.specs.declared.output_records.Cursor.{Cursor}
+use Rattle.jfr_output.specs.declared.output_records.Cursor.{Cursor}
+use Rattle.jfr_output.specs.OutputRecords.{IsCursor, event_behind, is_kept_at}
+use Rattle.jfr_output.proofs.CursorLaws.{drop_at, event_in, event_place, event_stands, events_given, rising_at}
+use Rattle.jfr_output.proofs.OutputRecordLaws.{Rises, Stands, at_head, rises_given}
 use Rattle.jfr_scrub.specs.Runs.{HasEventAt, HasRoom, IsAtEvents, is_in_run}
 use Rattle.jfr_scrub.specs.Scrubbing.{IsAccepted}
-use Rattle.jfr_scrub.specs.OutputRecords.{IsCursor, event_behind, is_kept_at}
-use Rattle.jfr_scrub.proofs.CursorLaws.{drop_at, event_in, event_place, event_stands, events_given, rising_at}
-use Rattle.jfr_scrub.proofs.OutputRecordLaws.{Rises, Stands, at_head, rises_given}
 
 rises_get : {X : Type 0} (place : X → ℕ) (p : ℕ) (xs : List X) (k : ℕ) (x : X) → Rises place p xs → slice_get xs k ≡ Some x → p ≤ place x
 rises_get place p [] k x a g = cc

@@ -19,16 +19,17 @@ use Rattle.jfr_chunk.specs.Scrub.{OutputRecord, Whole, output_record_by, output_
 use Rattle.jfr_chunk.specs.Metas.{rebuilt}
 use Rattle.jfr_chunk.proofs.AllLaws.{all_append, all_get}
 use Rattle.jfr_laws.proofs.Quiet.{IsQuiet, quiet_records}
+use Rattle.jfr_output.specs.declared.output_records.Cursor.{Cursor}
+use Rattle.jfr_output.specs.Positions.{place_seen}
+use Rattle.jfr_output.specs.OutputRecords.{IsCursor, is_kept_at, link_behind, link_there, linked_at, still_output_records}
+use Rattle.jfr_output.proofs.CursorLaws.{cursor_passed, output_records_at}
 use Rattle.jfr_scrub.specs.declared.run.Run.{Run}
-use Rattle.jfr_scrub.specs.declared.output_records.Cursor.{Cursor}
-use Rattle.jfr_scrub.specs.Bodies.{Progress, body_with, place_seen}
+use Rattle.jfr_scrub.specs.Bodies.{Progress, body_with}
 use Rattle.jfr_scrub.specs.Pieces.{Laying, more}
 use Rattle.jfr_scrub.specs.Runs.{HasEventAt, IsRun, Passes, body_with_run, is_in_run, record_start}
-use Rattle.jfr_scrub.specs.OutputRecords.{IsCursor, is_kept_at, link_behind, link_there, linked_at, still_output_records}
 use Rattle.jfr_scrub.proofs.GallopingLaws.{event_recorded, in_run}
 use Rattle.jfr_scrub.proofs.BodyLaws.{Going, going_next}
 use Rattle.jfr_scrub.proofs.CheckpointLaws.{more_more}
-use Rattle.jfr_scrub.proofs.CursorLaws.{cursor_passed, output_records_at}
 use Rattle.jfr_scrub.proofs.FitLaws.{some_written}
 
 -- The cursor after its event.

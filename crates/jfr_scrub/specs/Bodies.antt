@@ -1,5 +1,5 @@
 -- The body of an output chunk, which is all that follows its header, while it is laid out.
-use Rattle.std.specs.Prelude.{◌≡◌, ℕ, ◌+◌, ◌<◌, ◌≤◌, Bool, true, false, ◌==◌, List, [], ◌∷◌, length, filter, Option, Some, None, unwrap_or, ⊤}
+use Rattle.std.specs.Prelude.{◌≡◌, ℕ, ◌+◌, ◌≤◌, ◌==◌, List, [], ◌∷◌, length, filter, Option, Some, None, unwrap_or, ⊤}
 use Rattle.std.specs.List.{AllByRecursion, flat_map}
 use Rattle.jfr_frame.specs.Records.{IsRecord}
 use Rattle.jfr_pool.specs.declared.entry.EntryAt.{EntryAt}
@@ -7,6 +7,7 @@ use Rattle.jfr_chunk.specs.Parts.{Parts, EventAt, metadata_at}
 use Rattle.jfr_chunk.specs.Reach.{remain}
 use Rattle.jfr_chunk.specs.Written.{Group, distance}
 use Rattle.jfr_chunk.specs.Scrub.{OutputRecord, Whole, Chained, Rebuilt, output_records, groups_of, bytes_of, written_bytes, older_after, written, last_at, record_of, moved}
+use Rattle.jfr_output.specs.Positions.{place_seen}
 use Rattle.jfr_scrub.specs.declared.body.Body.{Body}
 use Rattle.jfr_scrub.specs.declared.piece.MadePart.{MadePart}
 use Rattle.jfr_scrub.specs.declared.piece.MadePart.TheVariants.{ChunkHeader, CheckpointSize, CheckpointDelta, PoolCount, PoolClass, EntryCount, MetadataRecord}
@@ -31,17 +32,6 @@ OutputRecordFits c left (Whole r) at older = IsRecord c r
 OutputRecordFits c left (Rebuilt r x) at older = IsRecord c r × (1 ≤ length x) × (length x ≤ r.size)
 OutputRecordFits c left (Chained number l) at older = LinkFits c l (distance at older) (groups_of left number)
 
--- The older checkpoint, if there is one, starts before this offset.
-abbrev pub IsBefore : Option ℕ → ℕ → Type 0
-IsBefore None at = ⊤
-IsBefore (Some older) at = older < at
-
--- The offset of the metadata record in the output, if it has been laid out before or is the current record.
-abbrev pub place_seen : Option ℕ → Bool → ℕ → Option ℕ
-place_seen (Some place) now at = Some place
-place_seen None true at = Some at
-place_seen None false at = None
-
 -- The body with one output record more: its bytes, the offset after it, the offset of the last checkpoint,
 -- and that of the metadata record, which was at this offset in the chunk.
 abbrev pub body_with : List EntryAt → ℕ → Progress → OutputRecord → Progress
@@ -56,11 +46,6 @@ pub record IsBody (p : Parts) (left : List EntryAt) (ss : List OutputRecord) (b 
   pub older : unwrap_or b.older 0 ≡ last_at None (written p.bytes left 68 None ss)
   pub metadata : unwrap_or b.metadata 0 ≡ moved (written p.bytes left 68 None ss) (metadata_at p.bytes)
   pub within : b.at ≤ length p.bytes
-
--- The entries are in the order of their checkpoints, whose numbers are at least n.
-abbrev pub NotFalling : ℕ → List EntryAt → Type 0
-NotFalling n [] = ⊤
-NotFalling n (e ∷ es) = (n ≤ e.checkpoint) × NotFalling e.checkpoint es
 
 -- What the pieces must copy of an output record: a whole record in one piece, or each entry of a chained
 -- checkpoint in one piece. A rebuilt metadata record is made, so nothing of it must be copied.

@@ -1,27 +1,15 @@
 -- The output of a scrub: a recording with a chunk for each chunk before the first that is refused.
-use Rattle.std.specs.Prelude.{◌≡◌, ℕ, List, [], ◌∷◌, map, Option, Some, None, true, ⊤}
-use Rattle.jfr_base.specs.declared.flaw.Flaw.{Flaw}
+use Rattle.std.specs.Prelude.{◌≡◌, ℕ, List, [], ◌∷◌, map, Some, true, ⊤}
 use Rattle.jfr_filter.specs.Filters.{Given}
 use Rattle.jfr_outside.specs.World.{World, file}
 use Rattle.jfr_header.specs.Cuts.{cut, joined}
-use Rattle.jfr_header.specs.declared.ending.Ending.{Ending}
-use Rattle.jfr_header.specs.declared.ending.Ending.TheVariants.{Done, Refused, ReadFault, WriteFault, TooManyParts, Memory}
 use Rattle.jfr_chunk.specs.Parts.{Parts, AreParts}
 use Rattle.jfr_chunk.specs.Chosen.{kept_of}
 use Rattle.jfr_chunk.specs.Scrub.{scrub_of}
 use Rattle.jfr_chunk.specs.Refusal.{refusal_of}
 use Rattle.jfr_laws.specs.Laws.{IsSettled}
+use Rattle.jfr_output.specs.Recordings.{AreChunksOf, before_refused}
 use Rattle.jfr_scrub.specs.Scrubs.{scrubbed}
-
--- These chunks if there is no flaw, else none.
-abbrev pub unless_refused : Option Flaw → List (List ℕ) → List (List ℕ)
-unless_refused None cs = cs
-unless_refused (Some flaw) cs = []
-
--- The chunks before the first that is refused.
-abbrev pub before_refused : (List ℕ → Option Flaw) → List (List ℕ) → List (List ℕ)
-before_refused refusal [] = []
-before_refused refusal (c ∷ cs) = unless_refused (refusal c) (c ∷ before_refused refusal cs)
 
 -- The chunk c is whole and accepted, and b is its output: a chunk that is accepted again, has exactly the
 -- events that the filter keeps and exactly the constants that they reach, and means the same. Scrubbed once
@@ -40,11 +28,6 @@ AreScrubbed g (c ∷ cs) (b ∷ bs) = IsScrubbed g c b × AreScrubbed g cs bs
 AreScrubbed g [] (b ∷ bs) = ⊥
 AreScrubbed g (c ∷ cs) [] = ⊥
 
--- The bytes y are cut into exactly these chunks, up to the end; without a chunk there are no bytes.
-abbrev pub AreChunksOf : List (List ℕ) → List ℕ → Type 0
-AreChunksOf [] y = y ≡ []
-AreChunksOf (c ∷ cs) y = cut y 0 true ≡ record { chunks = c ∷ cs; flaw = None }
-
 -- The bytes y are the outputs of the chunks of the recording x, one after another: a recording of exactly
 -- these chunks.
 pub record IsScrubOf (g : Given) (x y : List ℕ) : Type 0 where
@@ -56,15 +39,6 @@ pub record IsScrubOf (g : Given) (x y : List ℕ) : Type 0 where
 -- The output of a recording: the chunks before the first that is refused, each scrubbed, one after another.
 abbrev pub recording_scrubbed : Given → List ℕ → List ℕ
 recording_scrubbed g x = joined (map (scrubbed g) (before_refused refusal_of (cut x 0 true).chunks))
-
--- The ending is one with which the plan of a scrub ends.
-abbrev pub IsByPlan : Ending → Type 0
-IsByPlan Done = ⊤
-IsByPlan (Refused refusal) = ⊤
-IsByPlan ReadFault = ⊥
-IsByPlan WriteFault = ⊥
-IsByPlan TooManyParts = ⊥
-IsByPlan Memory = ⊥
 
 -- The output file is the scrub of the input.
 pub record Scrubs (g : Given) (input output : List ℕ) (w v : World) : Type 0 where

@@ -1,7 +1,6 @@
 pub mod Pieces
-pub mod Left
+pub mod Sizes
 pub mod Fits
-pub mod OutputRecords
 pub mod Bodies
 pub mod LaysOut
 pub mod Runs

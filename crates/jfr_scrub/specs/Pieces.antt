@@ -6,10 +6,9 @@ use Rattle.jfr_header.specs.Headers.{header_bytes}
 use Rattle.jfr_header.specs.declared.header.Header.{Header}
 use Rattle.jfr_frame.specs.declared.framed.Framed.{Framed}
 use Rattle.jfr_frame.specs.Records.{record_end}
-use Rattle.jfr_meta.specs.Body.{Body}
-use Rattle.jfr_meta.specs.Slimmed.{bytes_of_body}
 use Rattle.jfr_pool.specs.declared.entry.EntryAt.{EntryAt}
 use Rattle.jfr_chunk.specs.Parts.{Parts, EventAt, StartsAt, metadata_at}
+use Rattle.jfr_output.specs.Metadata.{IsMetadataRecord}
 use Rattle.jfr_scrub.specs.declared.piece.MadePart.{MadePart}
 use Rattle.jfr_scrub.specs.declared.piece.MadePart.TheVariants.{ChunkHeader, CheckpointSize, CheckpointDelta, PoolCount, PoolClass, EntryCount, MetadataRecord}
 use Rattle.jfr_scrub.specs.declared.piece.Part.{Part}
@@ -117,11 +116,6 @@ pub record IsInWidth (b : List ℕ) : Type 0 where
   pub most : width ≤ 9
   pub fits : FitsIn value width
   pub bytes : b ≡ spell_in width value
-
--- The bytes are a metadata record whose size takes five bytes.
-pub record IsMetadataRecord (b : List ℕ) : Type 0 where
-  pub body : Body
-  pub bytes : b ≡ bytes_of_body body
 
 -- The bytes are those of a part with this meaning: an integer in the right spelling, or a metadata record. A
 -- header is neither.

@@ -6,12 +6,12 @@ use Rattle.jfr_frame.specs.declared.framed.Framed.{Framed}
 use Rattle.jfr_frame.specs.Records.{Tiles}
 use Rattle.jfr_chunk.specs.Parts.{Parts, EventAt, events_of, metadata_at}
 use Rattle.jfr_chunk.specs.Scrub.{Whole}
+use Rattle.jfr_output.specs.declared.output_records.Cursor.{Cursor}
+use Rattle.jfr_output.specs.OutputRecords.{IsCursor, events_from, is_kept_at, still_output_records}
 use Rattle.jfr_scrub.specs.declared.run.Run.{Run}
-use Rattle.jfr_scrub.specs.declared.output_records.Cursor.{Cursor}
 use Rattle.jfr_scrub.specs.Bodies.{Progress}
 use Rattle.jfr_scrub.specs.Pieces.{more}
 use Rattle.jfr_scrub.specs.Scrubbing.{IsAccepted}
-use Rattle.jfr_scrub.specs.OutputRecords.{IsCursor, events_from, is_kept_at, still_output_records}
 
 -- The offset of the record with this number; after the last one, the chunk's end.
 abbrev pub record_start : Parts → ℕ → ℕ

@@ -1,21 +1,23 @@
 //! The body of an output chunk, which is all that follows its header.
-ghost use Rattle.std.specs.Prelude.{◌≡◌, ◌+◌, ◌-◌, ◌^◌, ◌<◌, ◌≤◌, ◌==◌, [], None, filter, length, option_map, if◌then◌else◌, IfOk, IfSome, OnOk};
+ghost use Rattle.std.specs.Prelude.{◌≡◌, ◌+◌, ◌-◌, ◌^◌, ◌<◌, ◌≤◌, ℕ, [], length, option_map, IfOk, IfSome, OnOk};
 ghost use Rattle.std.specs.List.{AllByRecursion, flat_map};
 ghost use Rattle.jfr_chunk.specs.Reach.{kept_by, remain};
 ghost use Rattle.jfr_chunk.specs.Scrub.{bytes_of, output_records};
-ghost use Rattle.jfr_chunk.specs.Written.{distance};
-ghost use Rattle.jfr_scrub.specs.Bodies.{IsBefore, IsBody, NotFalling, OutputRecordFits, OutputRecordIsCopied, OutputRecordsAreCopied, body_with, place_seen, progress_of, output_record_parts};
-ghost use Rattle.jfr_scrub.specs.Left.{HasRange};
-ghost use Rattle.jfr_scrub.specs.Pieces.{Grows, IsCopied, IsMetadataRecord, made_parts};
+ghost use Rattle.jfr_output.specs.Metadata.{IsMetadataRecord};
+ghost use Rattle.jfr_output.specs.OutputRecords.{ShowsMetadata, new_metadata, output_record_as};
+ghost use Rattle.jfr_output.specs.Positions.{IsBefore};
+ghost use Rattle.jfr_output.specs.Remaining.{NotFalling};
+ghost use Rattle.jfr_scrub.specs.Bodies.{IsBody, OutputRecordFits, OutputRecordIsCopied, OutputRecordsAreCopied, body_with, progress_of, output_record_parts};
+ghost use Rattle.jfr_scrub.specs.Pieces.{Grows, IsCopied, made_parts};
 ghost use Rattle.jfr_scrub.specs.Runs.{body_with_run};
 ghost use Rattle.jfr_scrub.specs.Scrubbing.{IsAccepted};
-ghost use Rattle.jfr_scrub.specs.OutputRecords.{new_metadata, output_record_as};
+ghost use Rattle.jfr_scrub.specs.Sizes.{HasRange};
 
 use crate::checkpoint::lay_checkpoint;
 use crate::output::Output;
-use crate::output_records::{Cursor, OutputRecord, next_output_record};
 use crate::run::{Run, pass_run};
 use jfr_chunk::{Chunk, Kept};
+use jfr_output::{Cursor, OutputRecord, delta_to, entries_of, next_output_record};
 use jfr_outside::NoMemory;
 use jfr_pool::EntryAt;
 use std::alloc::Global;
@@ -46,7 +48,6 @@ pub(crate) fn lay_body<'a>(
     ensures made { IfOk result (λ body. made_parts body.output.pieces ≡ flat_map (output_record_parts left.now) (output_records chunk.now (kept_by chunk.now kept.now))) }
     ensures accepted { IsAccepted chunk.now }
 {
-    let metadata = chunk.header().metadata;
     let mut body = Body {
         output: Output::new(alloc, chunk.bytes()),
         at: 68,
@@ -63,7 +64,7 @@ pub(crate) fn lay_body<'a>(
         let Some(output_record) = next_output_record(chunk, kept, &mut cursor) else {
             return Ok(body);
         };
-        lay_record(&mut body, left, metadata, slim, output_record)?;
+        lay_record(&mut body, left, slim, output_record)?;
     }
 }
 
@@ -86,27 +87,29 @@ fn lay_run(body: &mut Body, run: Run) -> Result<(), NoMemory>
 fn lay_record(
     body: &mut Body,
     left: &[EntryAt],
-    metadata: u64,
     slim: Option<&[u8]>,
     output_record: OutputRecord,
 ) -> Result<(), NoMemory>
-    requires fits { OutputRecordFits body.old.output.chunk left.now (output_record_as metadata (option_map (λ s. s.now) slim) output_record) body.old.at body.old.older }
+    requires fits { OutputRecordFits body.old.output.chunk left.now (output_record_as (option_map (λ s. s.now) slim) output_record) body.old.at body.old.older }
     requires slim { IfSome slim (λ s. IsMetadataRecord s.now) }
     requires order { NotFalling 0 left.now }
     requires ranges { AllByRecursion (HasRange (length body.old.output.chunk)) left.now }
     requires before { IsBefore body.old.older body.old.at }
-    requires room { body.old.at + length (bytes_of body.old.output.chunk left.now (output_record_as metadata (option_map (λ s. s.now) slim) output_record) body.old.at body.old.older) ≤ length body.old.output.chunk }
+    requires room { body.old.at + length (bytes_of body.old.output.chunk left.now (output_record_as (option_map (λ s. s.now) slim) output_record) body.old.at body.old.older) ≤ length body.old.output.chunk }
     requires small { length body.old.output.chunk < 2 ^ 64 }
-    ensures ok { OnOk result (progress_of body.new ≡ body_with left.now metadata (progress_of body.old) (output_record_as metadata (option_map (λ s. s.now) slim.entry) output_record)) }
-    ensures copied { OnOk result (OutputRecordIsCopied left.now body.new.output.pieces (output_record_as metadata (option_map (λ s. s.now) slim.entry) output_record)) }
-    ensures grows { OnOk result (Grows body.old.output.pieces body.new.output.pieces (output_record_parts left.now (output_record_as metadata (option_map (λ s. s.now) slim.entry) output_record))) }
+    ensures ok { OnOk result ((metadata : ℕ) → ShowsMetadata metadata output_record → progress_of body.new ≡ body_with left.now metadata (progress_of body.old) (output_record_as (option_map (λ s. s.now) slim.entry) output_record)) }
+    ensures copied { OnOk result (OutputRecordIsCopied left.now body.new.output.pieces (output_record_as (option_map (λ s. s.now) slim.entry) output_record)) }
+    ensures grows { OnOk result (Grows body.old.output.pieces body.new.output.pieces (output_record_parts left.now (output_record_as (option_map (λ s. s.now) slim.entry) output_record))) }
 {
     let at = body.at;
     match output_record {
-        OutputRecord::Whole(frame) => {
-            let is_metadata = frame.at as u64 == metadata;
-            body.metadata = seen(body.metadata, is_metadata, at);
-            match new_record(slim, is_metadata) {
+        OutputRecord::Event(_, frame) => {
+            body.output.copy(frame.at, frame.end())?;
+            body.at = at + frame.size;
+        }
+        OutputRecord::Metadata(frame) => {
+            body.metadata = Some(body.metadata.unwrap_or(at));
+            match slim {
                 Some(record) => {
                     body.output.put_metadata(record)?;
                     body.at = at + record.len();
@@ -118,7 +121,6 @@ fn lay_record(
             }
         }
         OutputRecord::Chained(number, link) => {
-            body.metadata = seen(body.metadata, link.frame.at as u64 == metadata, at);
             let delta = delta_to(body.older, at);
             let size = lay_checkpoint(&mut body.output, &link, delta, entries_of(left, number))?;
             body.older = Some(at);
@@ -126,45 +128,4 @@ fn lay_record(
         }
     }
     Ok(())
-}
-
-// The bytes that take the place of a record: those of the new metadata record, if this is the metadata
-// record and there is a new one.
-#[inline(always)]
-fn new_record(slim: Option<&[u8]>, is_metadata: bool) -> Option<&[u8]>
-    ensures { result ≡ (if is_metadata then slim.entry else None) }
-{
-    if is_metadata { slim } else { None }
-}
-
-// The offset of the metadata record in the output, if it has been laid out before or is the current record.
-#[inline(always)]
-fn seen(before: Option<usize>, now: bool, at: usize) -> Option<usize>
-    ensures { result ≡ place_seen before now at }
-{
-    match before {
-        Some(place) => Some(place),
-        None => { if now { Some(at) } else { None } }
-    }
-}
-
-// The delta from this place to the older checkpoint, or 0 if there is none.
-fn delta_to(older: Option<usize>, at: usize) -> u64
-    requires { IsBefore older at }
-    ensures { result ≡ distance at older }
-{
-    match older {
-        Some(place) => (place as u64).wrapping_sub(at as u64),
-        None => 0,
-    }
-}
-
-// The entries of checkpoint `number`. Entries are in the order of their checkpoints.
-fn entries_of(left: &[EntryAt], number: usize) -> &[EntryAt]
-    requires { NotFalling 0 left.now }
-    ensures { result.now ≡ filter (λ e. e.checkpoint == number) left.now }
-{
-    let (_, rest) = left.split_at(left.partition_point(|entry| entry.checkpoint < number));
-    let (entries, _) = rest.split_at(rest.partition_point(|entry| entry.checkpoint <= number));
-    entries
 }

@@ -3,14 +3,15 @@ ghost use Rattle.std.specs.Prelude.{◌≡◌, ◌+◌, ◌-◌, ◌^◌, ◌<�
 ghost use Rattle.std.specs.List.{AllByRecursion, flat_map};
 ghost use Rattle.jfr_chunk.specs.Written.{by_pool, checkpoint_bytes, entry_bytes, group_bytes};
 ghost use Rattle.jfr_scrub.specs.Bodies.{checkpoint_parts, pool_parts};
-ghost use Rattle.jfr_scrub.specs.Left.{HasRange};
 ghost use Rattle.jfr_scrub.specs.Fits.{LinkFits};
 ghost use Rattle.jfr_scrub.specs.Pieces.{EntryIsCopied, Grows, laying_of, more};
+ghost use Rattle.jfr_scrub.specs.Sizes.{HasRange};
 
+use crate::measure::measured;
 use crate::output::Output;
 use crate::piece::MadePart;
-use crate::remaining::{measured, pool_len};
 use jfr_base::var_len;
+use jfr_output::pool_len;
 use jfr_outside::NoMemory;
 use jfr_pool::{EntryAt, Link};
 

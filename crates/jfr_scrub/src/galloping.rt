@@ -3,8 +3,8 @@ ghost use Rattle.std.specs.Prelude.{◌≡◌, ◌+◌, ◌*◌, ◌<◌, ◌≤
 ghost use Rattle.jfr_chunk.specs.Parts.{AreParts};
 ghost use Rattle.jfr_scrub.specs.Runs.{HasEventAt, HasRoom, IsAtEvents};
 
-use crate::output_records::Cursor;
 use jfr_chunk::Chunk;
+use jfr_output::Cursor;
 
 /// The number of consecutive records, from the cursor's on, that are events. Event numbers rise with record
 /// numbers: if record `r + k` is event `e + k`, all `k` records between are events. So only a few records
@@ -25,6 +25,8 @@ fn other_by_doubling(chunk: &Chunk, cursor: &Cursor) -> usize
     ensures before { (offset : ℕ) → 2 * offset < result → HasEventAt chunk.now cursor.now offset }
     ensures past { HasEventAt chunk.now cursor.now result → ⊥ }
 {
+    // Reading the numbers shows that they fit in 64 bits.
+    let (_frame, _event) = (cursor.frame, cursor.event);
     let mut high = 0;
     'doubling: while is_event_at(chunk, cursor, high) {
         high = 2 * high + 1;

@@ -1,23 +1,21 @@
 //! The output of a chunk, laid out as pieces.
-ghost use Rattle.std.specs.Prelude.{◌≡◌, ◌<◌, ◌≤◌, length, option_map, unwrap_or, IfOk, IfSome};
-ghost use Rattle.jfr_header.specs.Headers.{header_bytes};
+ghost use Rattle.std.specs.Prelude.{◌≡◌, ◌<◌, ◌≤◌, length, option_map, IfOk, IfSome};
 ghost use Rattle.jfr_chunk.specs.Chosen.{kept_of};
 ghost use Rattle.jfr_chunk.specs.Parts.{events_of};
 ghost use Rattle.jfr_chunk.specs.Reach.{kept_by, reached_marks};
 ghost use Rattle.jfr_laws.specs.Laws.{IsSettled};
+ghost use Rattle.jfr_output.specs.Metadata.{IsMetadataRecord};
+ghost use Rattle.jfr_output.specs.OutputRecords.{new_metadata};
 ghost use Rattle.jfr_scrub.specs.LaysOut.{LaysOut};
-ghost use Rattle.jfr_scrub.specs.OutputRecords.{new_metadata};
-ghost use Rattle.jfr_scrub.specs.Pieces.{IsMetadataRecord, joined, laid_in, LieIn};
+ghost use Rattle.jfr_scrub.specs.Pieces.{joined, laid_in, LieIn};
 ghost use Rattle.jfr_scrub.specs.Scrubbing.{IsAccepted};
 
-use crate::body::{Body, lay_body};
-use crate::metadata::slim_metadata;
+use crate::body::lay_body;
 use crate::pieces::Pieces;
 use crate::ranges::Ranges;
-use crate::remaining::remaining;
 use jfr_chunk::{Chunk, Kept};
 use jfr_filter::Filter;
-use jfr_header::{Header, write_header};
+use jfr_output::{output_header, remaining_entries, slim_metadata};
 use jfr_outside::NoMemory;
 use jfr_path::choose;
 use jfr_reach::Marks;
@@ -117,11 +115,11 @@ fn lay_out<'a>(
     ensures laid { IfOk result (λ s. LaysOut chunk.now (kept_by chunk.now kept.now) s.laid s.events s.entries) }
     ensures accepted { IfOk result (λ s. IsAccepted chunk.now) }
 {
-    let left = remaining(alloc, chunk.pools(), marks)?;
+    let left = remaining_entries(alloc, chunk.pools(), marks)?;
     let left = left.as_slice();
     let body = lay_body(alloc, chunk, kept, left, slim)?;
     let size = body.at;
-    let front = front_of(chunk.header(), &body);
+    let front = output_header(chunk.header(), size, body.older, body.metadata);
     let pieces = body.output.finish(&front)?;
     Ok(LaidOut {
         pieces,
@@ -148,19 +146,4 @@ fn marks_of<L: Ledger>(
     let mut marks = Marks::make(alloc, chunk.pools())?;
     marks.mark(chunk, kept, &mut steps);
     Ok(marks)
-}
-
-// The header of the output, with its size and positions.
-fn front_of(header: &Header, body: &Body) -> [u8; 68]
-    ensures { result ≡ header_bytes (record (header.now) { size = body.now.at; pools = unwrap_or body.now.older 0; metadata = unwrap_or body.now.metadata 0 }) }
-{
-    let moved = Header {
-        size: body.at as u64,
-        pools: body.older.unwrap_or(0) as u64,
-        metadata: body.metadata.unwrap_or(0) as u64,
-        ..*header
-    };
-    let mut front = [0; 68];
-    write_header(&moved, &mut front);
-    front
 }

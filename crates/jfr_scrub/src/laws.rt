@@ -6,7 +6,8 @@ ghost use Rattle.jfr_plan.specs.Ends.{Fine};
 ghost use Rattle.jfr_plan.specs.Walks.{plan_after};
 ghost use Rattle.jfr_plan.specs.Accepted.{AllAccepted};
 ghost use Rattle.jfr_chunk.specs.Refusal.{refusal_of};
-ghost use Rattle.jfr_scrub.specs.Headline.{IsScrubOf, before_refused, recording_scrubbed};
+ghost use Rattle.jfr_output.specs.Recordings.{before_refused};
+ghost use Rattle.jfr_scrub.specs.Headline.{IsScrubOf, recording_scrubbed};
 ghost use Rattle.jfr_scrub.specs.Scrubs.{scrubbing};
 
 /// The output of a recording is a recording, which is cut into exactly the chunks that are written, and each

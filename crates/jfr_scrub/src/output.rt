@@ -1,8 +1,9 @@
 //! The output of a chunk while it is laid out.
 ghost use Rattle.std.specs.Prelude.{◌≡◌, ◌≤◌, ◌<◌, ◌++◌, [], ◌∷◌, length, slice_range, IfOk, OnOk};
 ghost use Rattle.jfr_base.specs.Integer.{FitsIn, spell, spell_in};
+ghost use Rattle.jfr_output.specs.Metadata.{IsMetadataRecord};
 ghost use Rattle.jfr_scrub.specs.declared.piece.MadePart.TheVariants.{CheckpointSize, ChunkHeader, MetadataRecord};
-ghost use Rattle.jfr_scrub.specs.Pieces.{Grows, IsCopied, IsHeaded, IsHeader, IsMetadataRecord, IsNumber, joined, Keeps, laying_of, made_parts, more, TakesShortest};
+ghost use Rattle.jfr_scrub.specs.Pieces.{Grows, IsCopied, IsHeaded, IsHeader, IsNumber, joined, Keeps, laying_of, made_parts, more, TakesShortest};
 
 use crate::piece::MadePart;
 use crate::pieces::Pieces;

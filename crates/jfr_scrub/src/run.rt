@@ -1,13 +1,13 @@
 //! Runs of kept events, which are copied as one range.
 ghost use Rattle.std.specs.Prelude.{◌≡◌, false};
 ghost use Rattle.jfr_chunk.specs.Parts.{events_of};
+ghost use Rattle.jfr_output.specs.OutputRecords.{IsCursor, is_kept_at};
 ghost use Rattle.jfr_scrub.specs.Runs.{IsRun, Passes, is_in_run};
 ghost use Rattle.jfr_scrub.specs.Scrubbing.{IsAccepted};
-ghost use Rattle.jfr_scrub.specs.OutputRecords.{IsCursor, is_kept_at};
 
 use crate::galloping::events_ahead;
-use crate::output_records::Cursor;
 use jfr_chunk::{Chunk, Kept};
+use jfr_output::Cursor;
 
 /// The range of the chunk that a run covers.
 #[derive(Clone, Copy, Debug)]

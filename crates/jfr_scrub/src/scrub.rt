@@ -5,7 +5,8 @@ ghost use Rattle.jfr_plan.specs.Clauses.{over, Ran, CanCreate};
 ghost use Rattle.jfr_outside.specs.World.{Told};
 ghost use Rattle.jfr_header.specs.Fronts.{Whole};
 ghost use Rattle.jfr_chunk.specs.Refusal.{refusal_of};
-ghost use Rattle.jfr_scrub.specs.Headline.{IsByPlan, IsScrubbed, Scrubs};
+ghost use Rattle.jfr_output.specs.Recordings.{IsByPlan};
+ghost use Rattle.jfr_scrub.specs.Headline.{IsScrubbed, Scrubs};
 ghost use Rattle.jfr_scrub.specs.Scrubs.{scrubbed, scrubbing};
 
 use crate::laid::LaidOut;

@@ -1,18 +1,26 @@
 -- The text of an event's stack is that of its trace, and that of the entry to which the trace refers.
-use Rattle.std.specs.Prelude.{◌≡◌, ℕ, zero, suc, ◌<◌, false, true, List, [], ◌∷◌, ◌++◌, codes, flat_map, length, map, reverse, Option, None, Some, option_and_then, slice_get, if◌then◌else◌}
+use Rattle.std.specs.Prelude.{◌≡◌, ℕ, zero, suc, ◌+◌, ◌<◌, Bool, false, true, List, [], ◌∷◌, ◌++◌, codes, flat_map, length, map, reverse, Option, None, Some, option_and_then, slice_get, if◌then◌else◌}
 use Rattle.std.specs.Option.{option_map}
 use Rattle.std.specs.List.{AllByRecursion}
 use Rattle.std.proofs.Common.{ap, arith, refl, subst, sym, ◌∙◌}
 use Rattle.std.proofs.lemmas.List.{append_assoc, map-append, reverse-append}
 use Rattle.std.proofs.lemmas.List.Concat.{flat_map-cons}
+use Rattle.jfr_layout.specs.declared.class.ClassInfo.{ClassInfo}
+use Rattle.jfr_layout.specs.declared.shape.Shape.{Shape}
+use Rattle.jfr_layout.specs.Classes.{Sound, field_number, find_class}
 use Rattle.jfr_value.specs.declared.node.Node.{Node}
-use Rattle.jfr_value.specs.Nodes.{NodeAt, children, node_of, target}
+use Rattle.jfr_value.specs.declared.node.Step.TheVariants as steps
+use Rattle.jfr_value.specs.Values.{Value, head_of}
+use Rattle.jfr_value.specs.Nodes.{IsNode, NodeAt, child, children, laid, node_of, target}
+use Rattle.jfr_value.proofs.ChildLaws.{constant_alone}
+use Rattle.jfr_value.proofs.NodeLaws.{children_are}
 use Rattle.jfr_pool.specs.declared.entry.EntryAt.{EntryAt}
-use Rattle.jfr_pool.specs.Entries.{entry_node, number_in_force}
+use Rattle.jfr_pool.specs.Entries.{entry_node, in_force, number_in_force}
+use Rattle.jfr_pool.proofs.ForceLaws.{force_within}
 use Rattle.jfr_chunk.specs.Parts.{EventAt, Parts}
 use Rattle.jfr_chunk.specs.Paths.{follow, is_reference, named_field, named_node}
-use Rattle.jfr_path.proofs.FollowLaws.{followed}
-use Rattle.jfr_stacks.specs.Frames.{IsOf, behind, entry_of, frames_in, frames_of, items_of, trace_of}
+use Rattle.jfr_path.proofs.FollowLaws.{ends, followed}
+use Rattle.jfr_stacks.specs.Frames.{IsOf, behind, entry_of, frames_in, frames_of, items_of, trace_fields, trace_of}
 use Rattle.jfr_stacks.specs.Texts.{LeadsTo, entry_text, frame_text, joined, stack_of, stack_text, trace_text}
 
 -- The text of an event's stack is that of its trace.
@@ -28,11 +36,32 @@ traced p e = by_trace (trace_of p e.node)
     by_trace None = refl
     by_trace (Some t) = by_frames (named_field p (codes "frames") (behind 16 p t))
 
-pub traced_none : (p : Parts) (e : EventAt) (n : NodeAt) → e.node ≡ n → None ≡ trace_of p n → stack_of p e ≡ None
-traced_none p e n s h = traced p e ∙ ap (option_and_then (λ t. trace_text p (behind 16 p t))) (ap (trace_of p) s ∙ sym h)
+-- The text of the stack of an event, if there is one.
+pub traced_all : (p : Parts) (o : Option EventAt) → option_and_then (stack_of p) o ≡ option_and_then (λ t. trace_text p (behind 16 p t)) (option_and_then (λ e. trace_of p e.node) o)
+traced_all p None = refl
+traced_all p (Some e) = traced p e
 
-pub traced_some : (p : Parts) (e : EventAt) (n t : NodeAt) → e.node ≡ n → Some t ≡ trace_of p n → stack_of p e ≡ trace_text p (behind 16 p t)
-traced_some p e n t s h = traced p e ∙ ap (option_and_then (λ t. trace_text p (behind 16 p t))) (ap (trace_of p) s ∙ sym h)
+get_map : {X Y : Type 0} (f : X → Y) (xs : List X) (n : ℕ) → slice_get (map f xs) n ≡ option_map f (slice_get xs n)
+get_map f [] n = refl
+get_map f (x ∷ xs) zero = refl
+get_map f (x ∷ xs) (suc n) = get_map f xs n
+
+-- The field of the class with this index.
+pub field_found : (p : Parts) (n : NodeAt) (index number : ℕ) → option_and_then (slice_get p.classes) (Some index) ≡ find_class p.classes n.shape.class → option_and_then (λ x. x) (slice_get (trace_fields p.classes) index) ≡ Some number → named_field p (codes "stackTrace") n ≡ child p.classes p.bytes n (steps.Field number)
+field_found p n index number c e = ap (option_and_then (λ (c : ClassInfo). option_and_then (λ i. child p.classes p.bytes n (steps.Field i)) (field_number c.fields (codes "stackTrace")))) (sym c) ∙ by_class (slice_get p.classes index) (ap (option_and_then (λ x. x)) (sym (get_map (λ (c : ClassInfo). field_number c.fields (codes "stackTrace")) p.classes index)) ∙ e)
+  where
+    by_class : (o : Option ClassInfo) → option_and_then (λ x. x) (option_map (λ (c : ClassInfo). field_number c.fields (codes "stackTrace")) o) ≡ Some number
+        → option_and_then (λ (c : ClassInfo). option_and_then (λ i. child p.classes p.bytes n (steps.Field i)) (field_number c.fields (codes "stackTrace"))) o ≡ child p.classes p.bytes n (steps.Field number)
+    by_class None e = cc
+    by_class (Some c) e = ap (option_and_then (λ i. child p.classes p.bytes n (steps.Field i))) e
+
+pub field_missing : (p : Parts) (n : NodeAt) (index : ℕ) → option_and_then (slice_get p.classes) (Some index) ≡ find_class p.classes n.shape.class → option_and_then (λ x. x) (slice_get (trace_fields p.classes) index) ≡ None → named_field p (codes "stackTrace") n ≡ None
+field_missing p n index c e = ap (option_and_then (λ (c : ClassInfo). option_and_then (λ i. child p.classes p.bytes n (steps.Field i)) (field_number c.fields (codes "stackTrace")))) (sym c) ∙ by_class (slice_get p.classes index) (ap (option_and_then (λ x. x)) (sym (get_map (λ (c : ClassInfo). field_number c.fields (codes "stackTrace")) p.classes index)) ∙ e)
+  where
+    by_class : (o : Option ClassInfo) → option_and_then (λ x. x) (option_map (λ (c : ClassInfo). field_number c.fields (codes "stackTrace")) o) ≡ None
+        → option_and_then (λ (c : ClassInfo). option_and_then (λ i. child p.classes p.bytes n (steps.Field i)) (field_number c.fields (codes "stackTrace"))) o ≡ None
+    by_class None e = refl
+    by_class (Some c) e = ap (option_and_then (λ i. child p.classes p.bytes n (steps.Field i))) e
 
 there : {X : Type 0} (xs : List X) (i : ℕ) → i < length xs → (x : X) × (slice_get xs i ≡ Some x)
 there [] i h = absurd (omega arith)
@@ -48,14 +77,55 @@ entry_followed p n number x e g = by_target (target p.classes p.bytes n) e
     by_target (Some t) e = ap (λ z. option_map entry_node (option_and_then (λ n. slice_get p.entries n) z)) e ∙ ap (option_map entry_node) g
 
 -- A reference to an entry has the stack of the entry.
-pub leads_to : (p : Parts) (n : NodeAt) (number : ℕ) → is_reference n ≡ true → entry_of p n ≡ Some number → number < length p.entries → LeadsTo p n number
+pub leads_to : (p : Parts) (n : NodeAt) (number : ℕ) → is_reference n ≡ true → entry_of p n ≡ Some number → LeadsTo p n number
 unfolding entry_text
-leads_to p n number r e l =
+leads_to p n number r e =
+    let l = within_entries p (target p.classes p.bytes n) number e in
     let g = there p.entries number l in
     record {
       within = l;
       same = ap (trace_text p) (followed is_reference p 15 n (entry_node g.0) r (entry_followed p n number g.0 e g.1)) ∙ sym (ap (option_and_then (λ e. trace_text p (behind 15 p (entry_node e)))) g.1);
     }
+  where
+    within_entries : (p : Parts) (o : Option (ℕ × ℕ)) (number : ℕ) → option_and_then (number_in_force p.entries) o ≡ Some number → number < length p.entries
+    within_entries p None number e = cc
+    within_entries p (Some t) number e = force_within p.entries t number e
+
+-- A reference has no fields.
+no_field : (p : Parts) (n : NodeAt) (v : Value) (name : List ℕ) → Sound p.classes → IsNode p.classes p.bytes n v → n.shape.array ≡ false → n.shape.constant ≡ true → named_field p name n ≡ None
+no_field p n v name s i a o = by_class (find_class p.classes n.shape.class)
+  where
+    none : children p.classes p.bytes n ≡ []
+    none =
+        children_are p.classes p.bytes n v s i
+        ∙ ap (laid (n.at + length (head_of v))) (constant_alone p.classes v (ap (λ (z : Shape). z.array) (sym i.shape) ∙ a) (ap (λ (z : Shape). z.constant) (sym i.shape) ∙ o) i.fits)
+
+    no_child : (x : ℕ) → child p.classes p.bytes n (steps.Field x) ≡ None
+    no_child x = ap (λ z. if z then None else slice_get (children p.classes p.bytes n) x) a ∙ ap (λ z. slice_get z x) none
+
+    by_number : (o : Option ℕ) → option_and_then (λ x. child p.classes p.bytes n (steps.Field x)) o ≡ None
+    by_number None = refl
+    by_number (Some x) = no_child x
+
+    by_class : (o : Option ClassInfo) → option_and_then (λ (c : ClassInfo). option_and_then (λ x. child p.classes p.bytes n (steps.Field x)) (field_number c.fields name)) o ≡ None
+    by_class None = refl
+    by_class (Some c) = by_number (field_number c.fields name)
+
+-- A reference without an entry is followed nowhere, and has no frames.
+pub no_trace : (p : Parts) (n : NodeAt) (v : Value) → Sound p.classes → IsNode p.classes p.bytes n v → is_reference n ≡ true → entry_of p n ≡ None → trace_text p (behind 16 p n) ≡ None
+unfolding trace_text
+no_trace p n v s i r e =
+    let k = shape_of_reference n.shape.array n.shape.constant r in
+    ap (trace_text p) (ends is_reference p 16 n (not_followed (target p.classes p.bytes n) e))
+    ∙ ap (λ o. option_map (stack_text p) (option_and_then (items_of p) (option_map (behind 16 p) o))) (no_field p n v (codes "frames") s i k.0 k.1)
+  where
+    shape_of_reference : (a o : Bool) → (if a then false else o) ≡ true → (a ≡ false) × (o ≡ true)
+    shape_of_reference true o e = cc
+    shape_of_reference false o e = (refl, e)
+
+    not_followed : (o : Option (ℕ × ℕ)) → option_and_then (number_in_force p.entries) o ≡ None → option_and_then (λ t. option_map entry_node (in_force p.entries t)) o ≡ None
+    not_followed None e = refl
+    not_followed (Some t) e = ap (λ z. option_map entry_node (option_and_then (λ n. slice_get p.entries n) z)) e
 
 -- The frames that are left, from the last to the first, each after a semicolon.
 abbrev pub rest_text : Parts → List Node → List ℕ

@@ -1,6 +1,7 @@
 -- The frames of an event's call stack.
-use Rattle.std.specs.Prelude.{◌≡◌, ℕ, List, [], ◌∷◌, codes, Option, Some, None, option_and_then, if◌then◌else◌}
+use Rattle.std.specs.Prelude.{◌≡◌, ℕ, List, [], ◌∷◌, codes, map, Option, Some, None, option_and_then, if◌then◌else◌}
 use Rattle.std.specs.Option.{option_map}
+use Rattle.jfr_layout.specs.Classes.{Classes, field_number}
 use Rattle.jfr_value.specs.declared.node.Node.{Node}
 use Rattle.jfr_value.specs.Nodes.{IsValue, NodeAt, children, target}
 use Rattle.jfr_pool.specs.Entries.{number_in_force}
@@ -20,6 +21,10 @@ items_of p n = if n.shape.array then Some (children p.classes p.bytes n) else No
 -- has no stack.
 unfoldable pub frames_of : Parts → NodeAt → Option (List NodeAt)
 frames_of p n = option_and_then (items_of p) (node_at p n (codes "stackTrace" ∷ codes "frames" ∷ []))
+
+-- For each class, the number of its field with the stack trace, if it has one.
+abbrev pub trace_fields : Classes → List (Option ℕ)
+trace_fields k = map (λ c. field_number c.fields (codes "stackTrace")) k
 
 -- The field with the stack trace, in an event with these fields.
 abbrev pub trace_of : Parts → NodeAt → Option NodeAt

@@ -1,5 +1,5 @@
 -- The texts of call stacks, in UTF-8.
-use Rattle.std.specs.Prelude.{◌≡◌, ◌<◌, ℕ, ◌+◌, ◌/◌, ◌%◌, ◌||◌, ◌==◌, Bool, List, [], ◌∷◌, ◌++◌, codes, flat_map, length, map, nat_lt, reverse, Option, Some, None, option_and_then, slice_get, if◌then◌else◌}
+use Rattle.std.specs.Prelude.{◌≡◌, ◌<◌, ℕ, ◌+◌, ◌/◌, ◌%◌, ◌||◌, ◌==◌, Bool, List, [], ◌∷◌, ◌++◌, codes, flat_map, length, map, nat_lt, reverse, Option, Some, None, option_and_then, slice_get, ⊤, if◌then◌else◌}
 use Rattle.std.specs.Option.{option_map, option_map_or}
 use Rattle.std.specs.Char.{encode_utf8}
 use Rattle.jfr_value.specs.Nodes.{NodeAt}
@@ -7,6 +7,8 @@ use Rattle.jfr_pool.specs.Entries.{entry_node}
 use Rattle.jfr_chunk.specs.Parts.{EventAt, Parts}
 use Rattle.jfr_chunk.specs.Paths.{text_of}
 use Rattle.jfr_path.specs.Places.{node_at}
+use Rattle.jfr_stacks.specs.declared.trace.TracePlace.{TracePlace}
+use Rattle.jfr_stacks.specs.declared.trace.TracePlace.TheVariants.{Entry, Missing, Inline}
 use Rattle.jfr_stacks.specs.Frames.{behind, frames_in, frames_of}
 
 -- A character that has a meaning in a folded stack or doesn't print: the space, a semicolon, a backslash, a
@@ -63,6 +65,12 @@ entry_text p number = option_and_then (λ e. trace_text p (behind 15 p (entry_no
 pub record LeadsTo (p : Parts) (n : NodeAt) (number : ℕ) : Type 0 where
   pub within : number < length p.entries
   pub same : trace_text p (behind 16 p n) ≡ entry_text p number
+
+-- The stack trace in this field is at this place.
+abbrev pub IsPlace : Parts → NodeAt → TracePlace → Type 0
+IsPlace p n (Entry number) = LeadsTo p n number
+IsPlace p n Missing = trace_text p (behind 16 p n) ≡ None
+IsPlace p n Inline = ⊤
 
 -- The text that was written, if one was.
 abbrev pub written : Bool → List ℕ → Option (List ℕ)

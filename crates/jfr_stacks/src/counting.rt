@@ -1,22 +1,22 @@
 //! Counting the events of a chunk by their stacks.
-ghost use Rattle.std.specs.Prelude.{◌≡◌, ◌*◌, ℕ, ◌+◌, ◌-◌, ◌^◌, ◌<◌, ◌≤◌, List, ◌++◌, length, IfOk, IfSome, OnErr, OnOk, option_map, option_to_list};
+ghost use Rattle.std.specs.Prelude.{◌≡◌, ◌*◌, ℕ, ◌+◌, ◌-◌, ◌^◌, ◌<◌, ◌≤◌, List, ◌++◌, length, IfOk, IfSome, OnErr, OnOk, option_and_then, option_map, option_to_list};
 ghost use Rattle.std.specs.List.{filter_map};
-ghost use Rattle.jfr_chunk.specs.Parts.{EventAt, events_of};
+ghost use Rattle.jfr_chunk.specs.Parts.{events_of};
 ghost use Rattle.jfr_chunk.specs.Reach.{kept_by};
-ghost use Rattle.jfr_chunk.specs.Seen.{event_at};
 ghost use Rattle.jfr_value.specs.Nodes.{IsValue, node_of};
 ghost use Rattle.jfr_stacks.specs.Adding.{AddsText, AddsTexts, AreAtMost, AreBelow, Fits, Owes, kept_at};
 ghost use Rattle.jfr_stacks.specs.Folded.{Counts, texts_of};
+ghost use Rattle.jfr_stacks.specs.Frames.{behind, trace_fields, trace_of};
 ghost use Rattle.jfr_stacks.specs.Held.{counts_in};
 ghost use Rattle.jfr_stacks.specs.Texts.{entry_text, stack_of, trace_text};
 
 use crate::counts::{CountMap, add_count};
 use crate::entries::add_entries;
 use crate::steps::{MOST_FOLLOWED, behind};
-use crate::trace::{entry_behind, trace_of};
+use crate::trace::{TraceFields, TracePlace, place_of};
 use crate::writer::StackWriter;
 use jfr_base::NoMemory;
-use jfr_chunk::{Chunk, Event, Kept};
+use jfr_chunk::{Chunk, Kept};
 use jfr_filter::Filter;
 use jfr_path::choose;
 use jfr_value::Node;
@@ -59,55 +59,60 @@ fn count_events(
     ensures small { IfOk result (λ by_entry. AreAtMost 1073741823 by_entry.items) }
     ensures below { (most : ℕ) → AreBelow most (counts_in counts.old) → AreBelow (most + 1073741823) (counts_in counts.new) }
 {
+    let fields = TraceFields::of(writer.alloc(), chunk.classes())?;
     let mut by_entry = vec![in writer.alloc(); 0; chunk.pools().len()]?;
     for number in 0..chunk.event_count() {
-        if let Some(event) = kept_event(chunk, kept, number) {
-            count_event(writer, chunk, &event.node, &mut by_entry, counts)?;
+        if let Some(trace) = kept_trace(chunk, kept, &fields, number) {
+            count_trace(writer, chunk, &trace, &mut by_entry, counts)?;
         }
     }
     Ok(by_entry)
 }
 
-// The event with this number, if it is kept.
-fn kept_event<'a>(chunk: &Chunk<'a>, kept: &Kept, number: usize) -> Option<Event<'a>>
-    ensures exact { option_map event_at result ≡ kept_at chunk.now kept.now number }
-    ensures bytes { IfSome result (λ event. event.node.bytes.now ≡ chunk.now.bytes) }
-    ensures value { IfSome result (λ event. IsValue chunk.now.classes event.node) }
+// The field `stackTrace` of the event with this number, if the event is kept and has the field.
+fn kept_trace<'a>(
+    chunk: &Chunk<'a>,
+    kept: &Kept,
+    fields: &TraceFields,
+    number: usize,
+) -> Option<Node<'a>>
+    requires { fields.now ≡ trace_fields chunk.now.classes }
+    ensures exact { option_map node_of result ≡ option_and_then (λ e. trace_of chunk.now e.node) (kept_at chunk.now kept.now number) }
+    ensures bytes { IfSome result (λ trace. trace.bytes.now ≡ chunk.now.bytes) }
+    ensures value { IfSome result (IsValue chunk.now.classes) }
 {
     match kept.get(number) {
-        Some(true) => chunk.event(number),
+        Some(true) => fields.find(chunk, &chunk.event(number)?.node),
         _ => None,
     }
 }
 
-// Counts an event with these fields at the entry that is its stack trace, or else adds it to the counts.
-fn count_event<'a>(
+// Counts an event with this stack trace at the entry that is the trace, or else adds it to the counts.
+fn count_trace<'a>(
     writer: &mut StackWriter,
     chunk: &Chunk<'a>,
-    fields: &Node<'a>,
+    trace: &Node<'a>,
     by_entry: &mut [u64],
     counts: &mut CountMap,
 ) -> Result<(), NoMemory>
-    requires value { IsValue chunk.now.classes fields.now }
-    requires of_chunk { fields.now.bytes.now ≡ chunk.now.bytes }
+    requires value { IsValue chunk.now.classes trace.now }
+    requires of_chunk { trace.now.bytes.now ≡ chunk.now.bytes }
     requires each { length by_entry.old ≡ length chunk.now.entries }
     requires small { AreAtMost 1073741823 by_entry.old }
     requires fits { Fits 1 (counts_in counts.old) }
-    ensures ok { OnOk result ((e : EventAt) (old : Counts) (done : List (List ℕ)) → e.node ≡ node_of fields.now → Owes (entry_text chunk.now) old done (counts_in counts.old) 0 by_entry.old
-        → Owes (entry_text chunk.now) old (done ++ option_to_list (stack_of chunk.now e)) (counts_in counts.new) 0 by_entry.new) }
+    ensures ok { OnOk result ((old : Counts) (done : List (List ℕ)) → Owes (entry_text chunk.now) old done (counts_in counts.old) 0 by_entry.old
+        → Owes (entry_text chunk.now) old (done ++ option_to_list (trace_text chunk.now (behind 16 chunk.now (node_of trace.now)))) (counts_in counts.new) 0 by_entry.new) }
     ensures small { (most : ℕ) → AreAtMost most by_entry.old → AreAtMost (most + 1) by_entry.new }
     ensures unchanged { OnErr result (counts_in counts.new ≡ counts_in counts.old) }
 {
-    let Some(trace) = trace_of(chunk, fields) else {
-        return Ok(());
-    };
-    match entry_behind(chunk, &trace) {
-        Some(number) => {
+    match place_of(chunk, trace) {
+        TracePlace::Entry(number) => {
             by_entry[number] += 1;
             Ok(())
         }
-        None => {
-            let place = behind(chunk, &trace, MOST_FOLLOWED);
+        TracePlace::Missing => Ok(()),
+        TracePlace::Inline => {
+            let place = behind(chunk, trace, MOST_FOLLOWED);
             add_trace(writer, chunk, &place, 1, counts)
         }
     }

@@ -4,7 +4,8 @@ use Rattle.jfr_outside.specs.World.{Told}
 use Rattle.jfr_plan.specs.Ends.{way_of}
 use Rattle.jfr_plan.specs.Effects.{alone}
 use Rattle.jfr_plan.specs.Clauses.{over, Ran, CanCreate}
-use Rattle.jfr_scrub.specs.Headline.{IsByPlan, Scrubs}
+use Rattle.jfr_output.specs.Recordings.{IsByPlan}
+use Rattle.jfr_scrub.specs.Headline.{Scrubs}
 use Rattle.jfr_scrub.specs.Scrubs.{scrubbing}
 use Rattle.jfr_words.specs.Words.{file_name}
 use Rattle.jfr_cli.proofs.Counting.{lifted}

@@ -1,18 +1,18 @@
 use Rattle.std.proofs.Common.{ap, refl, sym, ◌∙◌, ◌+◌, ◌-◌, ◌≤◌, subst, ◌++◌, length, map, option_map, List, [], None}
 use Rattle.std.specs.List.{AllByRecursion, flat_map}
-use Rattle.jfr_header.specs.declared.header.Header.{Header}
 use Rattle.jfr_frame.proofs.RecordLaws.{tiles_order}
 use Rattle.jfr_pool.specs.declared.entry.EntryAt.{EntryAt}
+use Rattle.jfr_chunk.specs.Parts.{metadata_at}
 use Rattle.jfr_chunk.specs.Reach.{kept_by}
 use Rattle.jfr_chunk.specs.Scrub.{Whole, output_records, bytes_of, written, written_bytes}
-use Rattle.jfr_scrub.specs.Bodies.{NotFalling, OutputRecordFits, OutputRecordIsCopied, body_with, output_record_parts, progress_of}
+use Rattle.jfr_output.specs.Remaining.{NotFalling}
+use Rattle.jfr_output.specs.OutputRecords.{output_record_as, output_record_in}
+use Rattle.jfr_output.proofs.CursorLaws.{cursor_first}
+use Rattle.jfr_scrub.specs.Bodies.{OutputRecordFits, OutputRecordIsCopied, body_with, output_record_parts, progress_of}
 use Rattle.jfr_scrub.specs.Pieces.{Grows}
-use Rattle.jfr_scrub.proofs.NewLaws.{as_laid}
-use Rattle.jfr_scrub.specs.Left.{HasRange}
-use Rattle.jfr_scrub.specs.OutputRecords.{output_record_in}
+use Rattle.jfr_scrub.specs.Sizes.{HasRange}
 use Rattle.jfr_scrub.proofs.BodyLaws.{WrittenFits, going_none, going_next, going_all, going_room}
 use Rattle.jfr_scrub.proofs.CopiedLaws.{parts_all, parts_next, so_far_none, so_far_done, so_far_run, so_far_output_record}
-use Rattle.jfr_scrub.proofs.CursorLaws.{cursor_first}
 use Rattle.jfr_scrub.proofs.RunLaws.{going_run, going_within}
 use Rattle.jfr_scrub.proofs.FitLaws.{all_fit, all_within, left_order, left_ranges, some_written}
 use Rattle.jfr_scrub.proofs.body.lay_body.Goals as goal
@@ -61,7 +61,7 @@ returns-in_default-clause-made c =
 pub lay_record-requires-clause-fits : goal.lay_record-requires-clause-fits
 lay_record-requires-clause-fits c =
     let g = going_run _ _ _ _ _ _ _ _ _ _ c.pass_run.ensures.run c.output_records.invariant.body c.in_ok-lay_run.ensures.ok c.in-Some.ensures.exact in
-    let e = as_laid c.args.chunk.now c.args.kept.now c.header.result.now.metadata (option_map (λ s. s.now) c.args.slim) c.in-Some.output_record (ap (λ (h : Header). h.metadata) c.header.ensures) c.requires.slim in
+    let e = ap (λ new. output_record_as new c.in-Some.output_record) c.requires.slim in
     subst (λ r. OutputRecordFits c.lay_run.new.body.output.chunk c.args.left.now r c.lay_run.new.body.at c.lay_run.new.body.older) (sym e)
     (subst (λ (z : List _). OutputRecordFits z c.args.left.now (output_record_in c.args.chunk.now c.args.kept.now c.in-Some.output_record) c.lay_run.new.body.at c.lay_run.new.body.older) (sym g.chunk) g.fits.0)
 
@@ -78,17 +78,17 @@ lay_record-requires-clause-ranges c =
 pub lay_record-requires-clause-room : goal.lay_record-requires-clause-room
 lay_record-requires-clause-room c =
     let g = going_run _ _ _ _ _ _ _ _ _ _ c.pass_run.ensures.run c.output_records.invariant.body c.in_ok-lay_run.ensures.ok c.in-Some.ensures.exact in
-    let e = as_laid c.args.chunk.now c.args.kept.now c.header.result.now.metadata (option_map (λ s. s.now) c.args.slim) c.in-Some.output_record (ap (λ (h : Header). h.metadata) c.header.ensures) c.requires.slim in
+    let e = ap (λ new. output_record_as new c.in-Some.output_record) c.requires.slim in
     subst (λ r. c.lay_run.new.body.at + length (bytes_of c.lay_run.new.body.output.chunk c.args.left.now r c.lay_run.new.body.at c.lay_run.new.body.older) ≤ length c.lay_run.new.body.output.chunk) (sym e)
     (subst (λ (z : List _). c.lay_run.new.body.at + length (bytes_of z c.args.left.now (output_record_in c.args.chunk.now c.args.kept.now c.in-Some.output_record) c.lay_run.new.body.at c.lay_run.new.body.older) ≤ length z) (sym g.chunk) (going_room _ _ _ _ _ _ g))
 
 pub output_records-preserved : goal.output_records-preserved
 output_records-preserved c =
     let g = going_run _ _ _ _ _ _ _ _ _ _ c.pass_run.ensures.run c.output_records.invariant.body c.in_ok-lay_run.ensures.ok c.in-Some.ensures.exact in
-    let e = as_laid c.args.chunk.now c.args.kept.now c.header.result.now.metadata (option_map (λ s. s.now) c.args.slim) c.in-Some.output_record (ap (λ (h : Header). h.metadata) c.header.ensures) c.requires.slim in
+    let e = ap (λ new. output_record_as new c.in-Some.output_record) c.requires.slim in
     record {
       cursor = c.in-Some.ensures.cursor;
-      body = going_next _ _ _ _ _ _ _ _ g (ap (λ (h : Header). h.metadata) c.header.ensures) (c.in_ok-lay_record.ensures.ok ∙ ap (body_with c.args.left.now c.header.result.now.metadata (progress_of c.lay_run.new.body)) e) (some_written c.args.chunk.now.bytes c.args.left.now (output_record_in c.args.chunk.now c.args.kept.now c.in-Some.output_record) c.lay_run.new.body.at c.lay_run.new.body.older g.fits.0);
+      body = going_next _ _ _ _ _ _ _ _ g refl (c.in_ok-lay_record.ensures.ok (metadata_at c.args.chunk.now.bytes) c.in-Some.ensures.metadata ∙ ap (body_with c.args.left.now (metadata_at c.args.chunk.now.bytes) (progress_of c.lay_run.new.body)) e) (some_written c.args.chunk.now.bytes c.args.left.now (output_record_in c.args.chunk.now c.args.kept.now c.in-Some.output_record) c.lay_run.new.body.at c.lay_run.new.body.older g.fits.0);
       copied =
           let p = c.args.chunk.now in
           let u = c.pass_run.ensures.run in

@@ -2,9 +2,9 @@ use Rattle.std.specs.List.{flat_map}
 use Rattle.std.proofs.Common.{length, ◌≡◌, ◌++◌}
 use Rattle.jfr_chunk.specs.Reach.{kept_by}
 use Rattle.jfr_chunk.specs.Scrub.{output_records}
+use Rattle.jfr_output.specs.OutputRecords.{IsCursor, still_output_records}
 use Rattle.jfr_scrub.specs.Bodies.{OutputRecordIsCopied, progress_of, output_record_parts}
 use Rattle.jfr_scrub.specs.Pieces.{made_parts}
-use Rattle.jfr_scrub.specs.OutputRecords.{IsCursor, still_output_records}
 use Rattle.jfr_scrub.proofs.BodyLaws.{Going}
 use Rattle.jfr_scrub.proofs.CopiedLaws.{SoFar}
 use Rattle.jfr_scrub.proofs.body.lay_body.Given as goal

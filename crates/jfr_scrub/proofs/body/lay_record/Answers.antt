@@ -1,6 +1,6 @@
 use Rattle.std.proofs.Common.{sym, subst, length}
 use Rattle.std.specs.List.{AllByRecursion}
-use Rattle.jfr_scrub.specs.Left.{HasRange}
+use Rattle.jfr_scrub.specs.Sizes.{HasRange}
 use Rattle.jfr_scrub.proofs.BodyLaws.{range_filter}
 use Rattle.jfr_scrub.proofs.body.lay_record.Goals as goal
 

@@ -2,11 +2,11 @@ use Rattle.std.proofs.Common.{arith, ap, sym, ◌∙◌, ◌∷◌, [], length}
 use Rattle.std.specs.List.{flat_map}
 use Rattle.jfr_base.specs.Integer.{spell}
 use Rattle.jfr_chunk.specs.Written.{by_pool, group_bytes}
+use Rattle.jfr_output.proofs.Widths.{size_width, size_fits}
 use Rattle.jfr_scrub.specs.declared.piece.MadePart.TheVariants.{CheckpointDelta, CheckpointSize, PoolCount}
 use Rattle.jfr_scrub.specs.Pieces.{laying_of, more}
 use Rattle.jfr_scrub.proofs.CheckpointLaws.{size_is, checkpoint_length, laid_checkpoint, groups_range, laid_parts}
 use Rattle.jfr_scrub.proofs.CopiedLaws.{grows_then}
-use Rattle.jfr_scrub.proofs.Widths.{size_width, size_fits}
 use Rattle.jfr_scrub.proofs.checkpoint.lay_checkpoint.Goals as goal
 
 pub overflow_add-size-2 : goal.overflow_add-size-2

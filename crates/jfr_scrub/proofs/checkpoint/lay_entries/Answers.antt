@@ -2,7 +2,7 @@ use Rattle.std.proofs.Common.{[]}
 use Rattle.std.proofs.lemmas.List.{drop_all}
 use Rattle.jfr_scrub.proofs.CheckpointLaws.{entry_laid}
 use Rattle.jfr_scrub.proofs.CopiedLaws.{grows_then, so_far_done, so_far_entry, so_far_now}
-use Rattle.jfr_scrub.proofs.RemainingLaws.{range_get}
+use Rattle.jfr_scrub.proofs.MeasureLaws.{range_get}
 use Rattle.jfr_scrub.proofs.checkpoint.lay_entries.Goals as goal
 
 pub loop-entry-preserved : goal.loop-entry-preserved

@@ -2,13 +2,14 @@ use Rattle.std.proofs.Common.{sym, ap, ◌∙◌, ◌∷◌, [], take, drop, len
 use Rattle.jfr_base.specs.Integer.{spell}
 use Rattle.jfr_chunk.specs.Written.{by_pool, entry_bytes}
 use Rattle.std.specs.List.{AllByRecursion, flat_map}
+use Rattle.jfr_output.proofs.PoolLaws.{rest_smaller}
 use Rattle.jfr_scrub.specs.declared.piece.MadePart.TheVariants.{EntryCount, PoolClass}
 use Rattle.jfr_scrub.specs.Bodies.{pool_parts}
-use Rattle.jfr_scrub.specs.Left.{HasRange}
+use Rattle.jfr_scrub.specs.Sizes.{HasRange}
 use Rattle.jfr_scrub.specs.Pieces.{EntryIsCopied, laying_of, more}
 use Rattle.jfr_scrub.proofs.CheckpointLaws.{LayingPools, laying_none, laying_next, group_laid, pools_parts}
 use Rattle.jfr_scrub.proofs.CopiedLaws.{SoFar, grows_then, making_all, making_next, making_none, none_left, so_far_done, so_far_none, so_far_now, so_far_entries}
-use Rattle.jfr_scrub.proofs.RemainingLaws.{range_take, rest_smaller}
+use Rattle.jfr_scrub.proofs.MeasureLaws.{range_take}
 use Rattle.jfr_scrub.proofs.checkpoint.lay_pools.Goals as goal
 
 pub pools-init : goal.pools-init

@@ -4,16 +4,16 @@ use Rattle.jfr_pool.specs.declared.entry.EntryAt.{EntryAt}
 use Rattle.jfr_chunk.specs.Parts.{events_of}
 use Rattle.jfr_chunk.specs.Reach.{kept_by}
 use Rattle.jfr_chunk.specs.Scrub.{output_records}
+use Rattle.jfr_output.proofs.RemainingLaws.{marks_length, left_is}
 use Rattle.jfr_scrub.specs.Bodies.{OutputRecordIsCopied, output_record_parts}
 use Rattle.jfr_scrub.specs.declared.piece.MadePart.TheVariants.{ChunkHeader}
 use Rattle.jfr_scrub.proofs.AllCopied.{entries_are_copied, events_are_copied, metadata_is_copied}
 use Rattle.jfr_scrub.proofs.BodyLaws.{laid_all}
 use Rattle.jfr_scrub.proofs.CountLaws.{marked_count}
-use Rattle.jfr_scrub.proofs.FitLaws.{marks_length, left_is}
 use Rattle.jfr_scrub.proofs.laid.lay_out.Goals as goal
 
-pub remaining-requires : goal.remaining-requires
-remaining-requires c = ap length c.requires.marks ∙ (marks_length c.args.chunk.now (kept_by c.args.chunk.now c.args.kept.now) ∙ ap (λ (z : List EntryAt). length z) (sym c.pools.ensures))
+pub remaining_entries-requires : goal.remaining_entries-requires
+remaining_entries-requires c = ap length c.requires.marks ∙ (marks_length c.args.chunk.now (kept_by c.args.chunk.now c.args.kept.now) ∙ ap (λ (z : List EntryAt). length z) (sym c.pools.ensures))
 
 pub lay_body-requires-clause-left : goal.lay_body-requires-clause-left
 lay_body-requires-clause-left c = c.as_slice-left.ensures ∙ left_is _ _ _ _ _ c.requires.marks c.pools.ensures c.in_ok-left.ensures
@@ -26,7 +26,7 @@ returns-clause-laid c =
     let left = c.as_slice-left.ensures ∙ left_is _ _ _ _ _ c.requires.marks c.pools.ensures c.in_ok-left.ensures in
     let copied = c.in_ok-body.ensures.copied qs c.in_ok-pieces.ensures.keeps in
     record {
-      becomes = laid_all p kept _ _ _ _ _ left c.in_ok-body.ensures.ok c.header.ensures c.front_of-front.ensures c.in_ok-pieces.ensures.ok;
+      becomes = laid_all p kept _ _ _ _ _ left c.in_ok-body.ensures.ok c.header.ensures c.output_header-front.ensures c.in_ok-pieces.ensures.ok;
       of_chunk = search rules;
       made = search rules;
       kinds = c.in_ok-pieces.ensures.made ∙ ap (λ z. ChunkHeader ∷ z) (c.in_ok-body.ensures.made ∙ ap (λ (z : List EntryAt). flat_map (output_record_parts z) (output_records p kept)) left);

@@ -1,9 +1,10 @@
 use Rattle.std.proofs.Common.{rules, ap, sym, ◌∙◌, ◌≡◌, List, ℕ, subst}
 use Rattle.std.specs.Prelude.{None}
 use Rattle.jfr_chunk.specs.Refusal.{refusal_of}
+use Rattle.jfr_output.proofs.RecordingLaws.{refused_by}
 use Rattle.jfr_scrub.specs.Pieces.{joined, laid_in, LieIn}
 use Rattle.jfr_scrub.specs.Scrubs.{scrubbed}
-use Rattle.jfr_scrub.proofs.HeadlineLaws.{refused_by, made_of}
+use Rattle.jfr_scrub.proofs.HeadlineLaws.{made_of}
 use Rattle.jfr_scrub.proofs.scrub.ScrubMake.make.Goals as goal
 
 pub returns-in_err-chunk-clause-refused : goal.returns-in_err-chunk-clause-refused

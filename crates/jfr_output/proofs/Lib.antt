@@ -1,0 +1,11 @@
+pub mod CheckpointEntries
+pub mod CursorLaws
+pub mod MadeFile
+pub mod NewLaws
+pub mod OutputRecordLaws
+pub mod PoolLaws
+pub mod PositionLaws
+pub mod RecordingLaws
+pub mod RemainingLaws
+pub mod UsedLaws
+pub mod Widths

@@ -1,0 +1,6 @@
+pub mod Metadata
+pub mod OutputRecords
+pub mod Pools
+pub mod Positions
+pub mod Recordings
+pub mod Remaining

@@ -1,0 +1,19 @@
+//! The output of a chunk, as far as all commands that drop events from a recording make it the same way:
+//! which records and entries it has, its metadata record, and the positions in its header.
+//!
+//! `next_output_record` goes through the records that are written, `remaining_entries` lists the entries that remain,
+//! and `slim_metadata` makes the metadata record without the event classes that the output doesn't need. Read
+//! `specs/OutputRecords.antt` first, then `specs/Remaining.antt` and `specs/Recordings.antt`.
+#![tactic(auto)]
+
+mod metadata;
+mod output_records;
+mod pools;
+mod positions;
+mod remaining;
+
+pub use metadata::slim_metadata;
+pub use output_records::{Cursor, OutputRecord, next_output_record};
+pub use pools::pool_len;
+pub use positions::{delta_to, output_header};
+pub use remaining::{RemainingEntries, entries_of, remaining_entries};

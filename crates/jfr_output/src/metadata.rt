@@ -1,0 +1,62 @@
+//! The metadata record of the output.
+ghost use Rattle.std.specs.Prelude.{◌≡◌, ◌<◌, ◌||◌, ◌==◌, ℕ, length, option_map, slice_get, IfOk, IfSome, OnOk};
+ghost use Rattle.jfr_meta.specs.Stays.{is_in};
+ghost use Rattle.jfr_chunk.specs.Metas.{stays_in, used_by};
+ghost use Rattle.jfr_chunk.specs.Parts.{events_of};
+ghost use Rattle.jfr_chunk.specs.Reach.{kept_by};
+ghost use Rattle.jfr_output.specs.Metadata.{IsMetadataRecord};
+ghost use Rattle.jfr_output.specs.OutputRecords.{new_metadata};
+
+use jfr_base::NoMemory;
+use jfr_chunk::{Chunk, Kept, UsedClasses};
+use jfr_meta::{Ids, slim, staying};
+use std::alloc::Global;
+
+/// The metadata record without the event classes that the kept events don't need; `None` if the output keeps
+/// the record of the chunk, since the new one would be longer.
+pub fn slim_metadata(alloc: Global, chunk: &Chunk, kept: &Kept) -> Result<Option<Vec<u8>>, NoMemory>
+    requires { length kept.now ≡ length (events_of chunk.now) }
+    ensures exact { IfOk result (λ found. option_map (λ v. v.items) found ≡ new_metadata chunk.now kept.now) }
+    ensures metadata { IfOk result (λ found. IfSome found (λ v. IsMetadataRecord v.items)) }
+{
+    chunk.parts_stand();
+    let stay = staying_classes(alloc, chunk, kept)?;
+    slim(alloc, chunk.metadata(), &stay, chunk.metadata_frame().size)
+}
+
+/// The ids of the classes that the output describes if its metadata record is made anew.
+fn staying_classes(alloc: Global, chunk: &Chunk, kept: &Kept) -> Result<Ids, NoMemory>
+    requires { length kept.now ≡ length (events_of chunk.now) }
+    ensures exact { IfOk result (λ stay. (id : ℕ) → is_in stay id ≡ stays_in chunk.now (kept_by chunk.now kept.now) id) }
+{
+    if kept.are_all() {
+        return staying(alloc, chunk.metadata(), chunk.event_classes());
+    }
+    let used = used_classes(alloc, chunk, kept)?;
+    staying(alloc, chunk.metadata(), used.ids())
+}
+
+/// The classes of the kept events.
+fn used_classes(alloc: Global, chunk: &Chunk, kept: &Kept) -> Result<UsedClasses, NoMemory>
+    requires { length kept.now ≡ length (events_of chunk.now) }
+    ensures { IfOk result (λ used. (id : ℕ) → is_in used.ids id ≡ used_by (kept_by chunk.now kept.now) id) }
+{
+    let mut used = UsedClasses::new(alloc);
+    for number in 0..chunk.event_count() {
+        if !kept.get(number).unwrap_or(false) {
+            continue;
+        }
+        add_class(&mut used, chunk, number)?;
+    }
+    Ok(used)
+}
+
+/// Adds the class of event `number`.
+fn add_class(used: &mut UsedClasses, chunk: &Chunk, number: usize) -> Result<(), NoMemory>
+    ensures { OnOk result ((id : ℕ) → option_map (λ e. is_in used.old.ids id || (e.record_of.type_id == id)) (slice_get (events_of chunk.now) number) ≡ option_map (λ e. is_in used.new.ids id) (slice_get (events_of chunk.now) number)) }
+{
+    match chunk.event_class(number) {
+        Some(id) => used.add(id),
+        None => Ok(()),
+    }
+}

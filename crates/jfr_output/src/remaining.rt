@@ -1,0 +1,98 @@
+//! The entries that remain.
+ghost use Rattle.std.specs.Prelude.{◌≡◌, ◌<◌, ◌++◌, ◌==◌, [], ◌∷◌, filter, length, slice_get, Some, IfOk, IsTrue, OnOk, if◌then◌else◌};
+ghost use Rattle.jfr_chunk.specs.Reach.{marked};
+ghost use Rattle.jfr_output.specs.Remaining.{NotFalling, entries_in};
+
+use jfr_base::NoMemory;
+use jfr_pool::{EntryAt, Pools};
+use jfr_reach::Marks;
+use std::alloc::Global;
+
+/// The entries that remain, in order. If all do, the chunk's own list is borrowed.
+#[derive(Drop)]
+pub enum RemainingEntries<'p> {
+    All(&'p [EntryAt]),
+    Listed(Vec<EntryAt>),
+}
+
+impl RemainingEntries<'_> {
+    /// The entries.
+    pub fn as_slice(&self) -> &[EntryAt]
+        ensures { result.now ≡ entries_in self.now }
+    {
+        match self {
+            RemainingEntries::All(entries) => entries,
+            RemainingEntries::Listed(entries) => entries.as_slice(),
+        }
+    }
+}
+
+/// The entries that remain: those that are reached.
+pub fn remaining_entries<'p>(
+    alloc: Global,
+    pools: &'p Pools,
+    marks: &Marks,
+) -> Result<RemainingEntries<'p>, NoMemory>
+    requires { length marks.now ≡ length pools.now }
+    ensures { IfOk result (λ left. entries_in left ≡ marked marks.now pools.now) }
+{
+    if are_all_reached(pools, marks) {
+        return Ok(RemainingEntries::All(pools.as_slice()));
+    }
+    Ok(RemainingEntries::Listed(reached(alloc, pools, marks)?))
+}
+
+// Whether every entry is reached.
+fn are_all_reached(pools: &Pools, marks: &Marks) -> bool
+    requires { length marks.now ≡ length pools.now }
+    ensures { IsTrue result → marked marks.now pools.now ≡ pools.now }
+{
+    for at in 0..pools.len() {
+        if !marks.is_reached(at) {
+            return false;
+        }
+    }
+    true
+}
+
+// A list of the entries that are reached.
+fn reached(alloc: Global, pools: &Pools, marks: &Marks) -> Result<Vec<EntryAt>, NoMemory>
+    requires { length marks.now ≡ length pools.now }
+    ensures { IfOk result (λ left. left.items ≡ marked marks.now pools.now) }
+{
+    let mut left = Vec::new(alloc);
+    for at in 0..pools.len() {
+        push_if(&mut left, entry_at(pools, at), marks.is_reached(at))?;
+    }
+    Ok(left)
+}
+
+fn entry_at(pools: &Pools, at: usize) -> EntryAt
+    requires { at < length pools.now }
+    ensures { slice_get pools.now at ≡ Some result }
+{
+    match pools.get(at) {
+        Some(entry) => *entry,
+        None => unreachable!(),
+    }
+}
+
+// Adds an entry if it is kept.
+fn push_if(left: &mut Vec<EntryAt>, entry: EntryAt, keep: bool) -> Result<(), NoMemory>
+    ensures ok { OnOk result (left.new.items ≡ left.old.items ++ (if keep then entry ∷ [] else [])) }
+{
+    if keep {
+        left.push(entry)?;
+    }
+    Ok(())
+}
+
+/// The entries of checkpoint `number`, of entries in the order of their checkpoints.
+pub fn entries_of(left: &[EntryAt], number: usize) -> &[EntryAt]
+    requires { NotFalling 0 left.now }
+    ensures { result.now ≡ filter (λ e. e.checkpoint == number) left.now }
+{
+    let (_, rest) = left.split_at(left.partition_point(|entry| entry.checkpoint < number));
+    let (entries, _) = rest.split_at(rest.partition_point(|entry| entry.checkpoint <= number));
+    entries
+}

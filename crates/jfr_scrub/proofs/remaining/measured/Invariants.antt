@@ -1,9 +1,0 @@
-use Rattle.std.proofs.Common.{length}
-use Rattle.jfr_scrub.proofs.RemainingLaws.{Measuring}
-use Rattle.jfr_scrub.proofs.remaining.measured.Given as goal
-
-abbrev pub invariant-pools : goal.invariant-pools
-invariant-pools l = Measuring l.entries l.rest l.count l.bytes
-
-abbrev pub decreases-pools : goal.decreases-pools
-decreases-pools l = length l.rest
