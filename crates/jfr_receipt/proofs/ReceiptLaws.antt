@@ -1,8 +1,13 @@
 -- The receipt of a chunk's scrub.
-use Rattle.std.specs.Prelude.{◌≡◌, ℕ, Bool, List, None, Ok}
+use Rattle.std.specs.Prelude.{◌≡◌, ℕ, Bool, List, None, Some, Result, Ok, Err, IfOk}
 use Rattle.std.proofs.Common.{ap, sym, subst, ◌∙◌}
+use Rattle.jfr_base.specs.declared.flaw.Flaw.{Flaw}
+use Rattle.jfr_base.specs.declared.flaw.ReadFault.{ReadFault}
+use Rattle.jfr_base.specs.declared.flaw.ReadFault.TheVariants.{Flawed}
+use Rattle.jfr_base.specs.declared.memory.NoMemory.{NoMemory}
 use Rattle.jfr_filter.specs.Filters.{Given}
 use Rattle.jfr_header.specs.Fronts.{Whole}
+use Rattle.jfr_pool.specs.Faults.{TellsFlaw}
 use Rattle.jfr_chunk.specs.Parts.{Parts, AreParts}
 use Rattle.jfr_chunk.specs.Chosen.{chosen, kept_of}
 use Rattle.jfr_chunk.specs.Reach.{kept_by}
@@ -46,3 +51,16 @@ is_receipted passed g c w n =
       accepted = k.stand;
       passes = subst (Passes h.parts k.parts (kept_of g h.parts)) (sym (ap receipt_by e)) (passed h.parts (chosen g h.parts) h.stand k);
     }
+
+-- An accepted chunk has no flaw.
+pub no_flaw : (c : List ℕ) (fault : ReadFault) (flaw : Flaw) → fault ≡ Flawed flaw → refusal_of c ≡ None → TellsFlaw (read_parts c) fault → ⊥
+unfolding refusal_of
+no_flaw c fault flaw is n t = let h : read_parts c ≡ Err flaw = subst (TellsFlaw (read_parts c)) is t in some (sym n ∙ ap flaw_in h)
+  where
+    some : None ≡ Some flaw → ⊥
+    some e = cc
+
+-- The receipt of a chunk with these parts.
+pub one_receipt : (c : List ℕ) (p : Parts) (r : Result (List ℕ) NoMemory) → read_parts c ≡ Ok p → IfOk r (λ x. x ≡ receipt_of p) → IfOk r (λ x. (q : Parts) → read_parts c ≡ Ok q → x ≡ receipt_of q)
+one_receipt c p (Ok x) e h = λ q f. (let same : p ≡ q = cc in h ∙ ap receipt_of same)
+one_receipt c p (Err m) e h = tt

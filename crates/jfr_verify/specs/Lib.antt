@@ -1,3 +1,4 @@
+pub mod Doubts
 pub mod Receipts
 pub mod Checks
 pub mod Laws
@@ -12,3 +13,8 @@ pub mod Parents
 pub mod Claims
 pub mod Confirmed
 pub mod Prefix
+pub mod Recordings
+pub mod Verdicts
+pub mod Faults
+pub mod Outputs
+pub mod Comparing

@@ -1,4 +1,6 @@
 //! Doubts.
+ghost use Rattle.std.specs.Prelude.{◌≡◌};
+ghost use Rattle.jfr_verify.specs.Doubts.{doubt_name};
 
 /// Why the output of a scrub isn't accepted. The checker of a pair gives the last five; the first three are
 /// about whole files.
@@ -20,6 +22,24 @@ pub enum Doubt {
     EntryMissing,
     /// The bytes that are left don't start with a receipt of the output; or bytes are left at the end.
     ReceiptBad,
+}
+
+impl Doubt {
+    /// The name of the doubt.
+    pub fn name(&self) -> &'static str
+        ensures { result.now ≡ doubt_name self.now }
+    {
+        match self {
+            Doubt::ReceiptLong => "ReceiptLong",
+            Doubt::OutRefused => "OutRefused",
+            Doubt::ChunksDiffer => "ChunksDiffer",
+            Doubt::ClassesDiffer => "ClassesDiffer",
+            Doubt::EventsDiffer => "EventsDiffer",
+            Doubt::EntriesDiffer => "EntriesDiffer",
+            Doubt::EntryMissing => "EntryMissing",
+            Doubt::ReceiptBad => "ReceiptBad",
+        }
+    }
 }
 
 /// Why a pair of chunks isn't accepted.
