@@ -18,10 +18,11 @@ use Rattle.jfr_verify.specs.declared.verdict.Verdict.{Verdict}
 use Rattle.jfr_verify.specs.declared.verdict.Verdict.TheVariants as verdicts
 use Rattle.jfr_verify.specs.Faults.{Counts}
 use Rattle.jfr_verify.specs.Verdicts.{AllVerified, IfDecided, IfVerified, LacksOne, Three, VerdictOf, no_input, no_output, no_receipt, three}
+use Rattle.jfr_words.specs.declared.order.Order.{Order}
 use Rattle.jfr_words.specs.declared.order.Order.TheVariants as orders
 use Rattle.jfr_words.specs.Words.{file_name}
 use Rattle.jfr_cli.specs.Texts.{IsWritten}
-use Rattle.jfr_cli.specs.Works.{CanCheck, Checks, LeftBy, verdict_plan, verified_line}
+use Rattle.jfr_cli.specs.Works.{Work, CanCheck, Checks, LeftBy, verdict_plan, verified_line}
 use Rattle.jfr_cli.specs.Runs.{Carries, Doubts}
 
 -- Without a change of the files and of the open output, only the text can have changed.
@@ -32,7 +33,8 @@ module _ (g : Given) (input output receipt : List ℕ) (a b : State) (s z : Sink
   abbrev files : World → Three
   files w = three (file_name input) (file_name output) (file_name receipt) w
 
-  abbrev work = Checks g (file_name input) (file_name output) (file_name receipt)
+  abbrev work : Work
+  work = Checks g (file_name input) (file_name output) (file_name receipt)
 
   -- What a check leaves, from what is known of the files.
   leaves_by : (Known : World → Type 0) (Q : World → World → Stand → Stand → Type 0) → IfSome a.told Known → ((w v : World) → IsKept w v → Known w → Q w v (stand w s.written) (stand v z.written)) → Told a.told b.told (λ w v. Q w v (stand w s.written) (stand v z.written))
@@ -52,9 +54,9 @@ module _ (g : Given) (input output receipt : List ℕ) (a b : State) (s z : Sink
   has_all x lacks can e = by_lack (subst (λ t. IfSome t (λ w. LacksOne (files w))) can.told (lacks can.steady e))
     where
       by_lack : LacksOne (files can.world) → ⊥
-      by_lack (no_input h) = subst (λ o. IsSome {T = List ℕ} o) h can.has_input
-      by_lack (no_output h) = subst (λ o. IsSome {T = List ℕ} o) h can.has_output
-      by_lack (no_receipt h) = subst (λ o. IsSome {T = List ℕ} o) h can.has_receipt
+      by_lack (no_input h) = let x : IsSome {T = List ℕ} None = subst (λ o. IsSome {T = List ℕ} o) h can.has_input in cc
+      by_lack (no_output h) = let x : IsSome {T = List ℕ} None = subst (λ o. IsSome {T = List ℕ} o) h can.has_output in cc
+      by_lack (no_receipt h) = let x : IsSome {T = List ℕ} None = subst (λ o. IsSome {T = List ℕ} o) h can.has_receipt in cc
 
   -- All chunks are verified, and their number is written, or couldn't be.
   pub check_verified : (n : ℕ) (e : Ending) → IfSome a.told (λ w. VerdictOf g (files w) (verdicts.Verified n)) → IfSome a.told (λ w. AllVerified g (files w) n) → Counts (verdicts.Verified n) a b → IsWritten (verified_line n) e s z
@@ -103,7 +105,8 @@ module _ (g : Given) (input output receipt : List ℕ) (a b : State) (s : SinkSt
   abbrev files_of : World → Three
   files_of w = three (file_name input) (file_name output) (file_name receipt) w
 
-  abbrev order = orders.Verify g input output receipt
+  abbrev order : Order
+  order = orders.Verify g input output receipt
 
   pub check_refused : (r : Refusal) → IfSome a.told (λ w. VerdictOf g (files_of w) (verdicts.Refused r)) → Counts (verdicts.Refused r) a b → Carries order (Refused r) (outside a s) (outside b s)
   check_refused r is counts = record {
@@ -156,3 +159,7 @@ module _ (g : Given) (input output receipt : List ℕ) (a b : State) (s : SinkSt
         (λ x y k h. (h, stand_kept x y s.written s.written k refl));
     counts = (counts.reads, counts.writes, refl, counts.same);
   }
+
+-- A claim about three names, with other names for the same files.
+pub renamed : (i j o q r u : List ℕ) (P : List ℕ → List ℕ → List ℕ → Type 0) → i ≡ j → o ≡ q → r ≡ u → P i o r → P j q u
+renamed i j o q r u P a b c h = subst (λ x. P x q u) a (subst (λ x. P i x u) b (subst (λ x. P i o x) c h))

@@ -1,5 +1,5 @@
 -- The separate clauses of the top call, from the one that has all cases.
-use Rattle.std.specs.Prelude.{◌≡◌, ◌<◌, ◌≤◌, ◌⊎◌, ℕ, List, [], length, Option, None, Some, IfSome}
+use Rattle.std.specs.Prelude.{◌≡◌, ◌<◌, ◌≤◌, ◌⊎◌, ℕ, List, [], length, true, false, Option, None, Some, IfSome}
 use Rattle.std.proofs.Common.{ap, arith, refl, sym, ◌∙◌, subst, inl, inr}
 use Rattle.jfr_outside.specs.World.{World, State, SinkState, Told}
 use Rattle.jfr_outside.specs.Counts.{Rose}
@@ -16,6 +16,7 @@ use Rattle.jfr_plan.specs.Clauses.{ForMemory, write_count}
 use Rattle.jfr_plan.proofs.Clauses as plan
 use Rattle.jfr_output.specs.Recordings.{IsByPlan}
 use Rattle.jfr_scrub.specs.Headline.{Scrubs}
+use Rattle.jfr_renumber.specs.Headline.{Renumbers}
 use Rattle.jfr_words.specs.declared.order.Order.{Order}
 use Rattle.jfr_words.specs.declared.order.Order.TheVariants as orders
 use Rattle.jfr_words.specs.Words.{order_of, file_name}
@@ -474,21 +475,26 @@ module _ {ws : List (List ℕ)} {r : ℕ} {a b : Outside} {e f : SinkState} wher
   place_told (Carried p known end c t) o is = subst (λ z. KeepsPlace (work_of z) a.place b.place) (order_same ws p o known is) c.place
   place_told (Questioned p known chunk doubt d t) o is = subst (λ z. KeepsPlace (work_of z) a.place b.place) (order_same ws p o known is) (check_place (work_of p) a.place b.place d.check)
 
-  pub headline_told : Answers ws r a b e f → (r ≡ 0) ⊎ (r ≡ 2) → (g : Given) (i o : List ℕ) → order_of ws ≡ Some (orders.Scrub g i o) → Told a.place.told b.place.told (Scrubs g (file_name i) (file_name o))
-  headline_told (Usage p s t) h g i o is = cc
-  headline_told (Unread s t) (inl h) g i o is = absurd (omega (arith, five t, h))
-  headline_told (Unread s t) (inr h) g i o is = absurd (omega (arith, five t, h))
-  headline_told (Questioned p known chunk doubt d t) (inl h) g i o is = absurd (not_seven t 0 h (λ z. omega (arith, z)) (λ z. omega (arith, z)))
-  headline_told (Questioned p known chunk doubt d t) (inr h) g i o is = absurd (not_seven t 2 h (λ z. omega (arith, z)) (λ z. omega (arith, z)))
-  headline_told (Carried p known end c (answers.ForMemory m q)) (inl h) g i o is = absurd (omega (arith, m, h))
-  headline_told (Carried p known end c (answers.ForMemory m q)) (inr h) g i o is = absurd (omega (arith, m, h))
-  headline_told (Carried p known end c (Fully m q)) h g i o is =
-      let w = subst (λ z. runs.Wrote z end a.place b.place) (order_same ws p (orders.Scrub g i o) known is) c.wrote in
-      w (by_plan end (planned_status m h))
+  -- What an order wrote that ended as its plan does.
+  wrote_told : Answers ws r a b e f → (r ≡ 0) ⊎ (r ≡ 2) → (k : Order) → order_of ws ≡ Some k → (end : Ending) × IsByPlan end × runs.Wrote k end a.place b.place
+  wrote_told (Usage p s t) h k is = cc
+  wrote_told (Unread s t) (inl h) k is = absurd (omega (arith, five t, h))
+  wrote_told (Unread s t) (inr h) k is = absurd (omega (arith, five t, h))
+  wrote_told (Questioned p known chunk doubt d t) (inl h) k is = absurd (not_seven t 0 h (λ z. omega (arith, z)) (λ z. omega (arith, z)))
+  wrote_told (Questioned p known chunk doubt d t) (inr h) k is = absurd (not_seven t 2 h (λ z. omega (arith, z)) (λ z. omega (arith, z)))
+  wrote_told (Carried p known end c (answers.ForMemory m q)) (inl h) k is = absurd (omega (arith, m, h))
+  wrote_told (Carried p known end c (answers.ForMemory m q)) (inr h) k is = absurd (omega (arith, m, h))
+  wrote_told (Carried p known end c (Fully m q)) h k is = (end, by_plan end (planned_status m h), subst (λ z. runs.Wrote z end a.place b.place) (order_same ws p k known is) c.wrote)
     where
       planned_status : r ≡ status_of end → (r ≡ 0) ⊎ (r ≡ 2) → (status_of end ≡ 0) ⊎ (status_of end ≡ 2)
       planned_status m (inl h) = inl (sym m ∙ h)
       planned_status m (inr h) = inr (sym m ∙ h)
+
+  pub headline_told : Answers ws r a b e f → (r ≡ 0) ⊎ (r ≡ 2) → (g : Given) (i o : List ℕ) → order_of ws ≡ Some (orders.Scrub g false i o) → Told a.place.told b.place.told (Scrubs g (file_name i) (file_name o))
+  headline_told x h g i o is = let w = wrote_told x h (orders.Scrub g false i o) is in w.2 w.1
+
+  pub renumbered_told : Answers ws r a b e f → (r ≡ 0) ⊎ (r ≡ 2) → (g : Given) (i o : List ℕ) → order_of ws ≡ Some (orders.Scrub g true i o) → Told a.place.told b.place.told (Renumbers g (file_name i) (file_name o))
+  renumbered_told x h g i o is = let w = wrote_told x h (orders.Scrub g true i o) is in w.2 w.1
 
   pub verified_told : Answers ws r a b e f → r ≡ 0 → (g : Given) (i o p : List ℕ) → order_of ws ≡ Some (orders.Verify g i o p) → IfSome a.place.told (λ w. (count : ℕ) × AllVerified g (three (file_name i) (file_name o) (file_name p) w) count)
   verified_told x h g i o p is =

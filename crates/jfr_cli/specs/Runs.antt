@@ -1,18 +1,20 @@
 -- What the program does and returns.
-use Rattle.std.specs.Prelude.{◌≡◌, ◌≢◌, ℕ, List, Option, None, Some, IfSome, ⊤}
+use Rattle.std.specs.Prelude.{◌≡◌, ◌≢◌, ℕ, true, false, List, Option, None, Some, IfSome, ⊤}
 use Rattle.jfr_base.specs.declared.flaw.Refusal.{Refusal}
-use Rattle.jfr_outside.specs.World.{State, SinkState, Told}
+use Rattle.jfr_outside.specs.World.{World, State, SinkState, Told}
 use Rattle.jfr_outside.specs.Counts.{Rose}
 use Rattle.jfr_header.specs.declared.ending.Ending.{Ending}
 use Rattle.jfr_header.specs.declared.ending.Ending.TheVariants as ending
 use Rattle.jfr_filter.specs.Filters.{Given}
-use Rattle.jfr_plan.specs.Ends.{End, Fine, Refused, TooMany, Ends, NotRead, NotWritten, NoRoom, way_of}
+use Rattle.jfr_plan.specs.Ends.{End, Fine, Refused, TooMany, Ends, NotWritten, NoRoom, way_of}
+use Rattle.jfr_plan.specs.Ends as ways
 use Rattle.jfr_plan.specs.Effects.{Outside}
 use Rattle.jfr_plan.specs.Walks.{plan_in}
 use Rattle.jfr_plan.specs.Outcomes.{Kept, Rises, Counted, Tallied}
 use Rattle.jfr_plan.specs.Clauses.{write_count}
 use Rattle.jfr_output.specs.Recordings.{IsByPlan}
 use Rattle.jfr_scrub.specs.Headline.{Scrubs}
+use Rattle.jfr_renumber.specs.Headline.{Renumbers}
 use Rattle.jfr_words.specs.declared.order.Order.{Order}
 use Rattle.jfr_words.specs.declared.order.Order.TheVariants as orders
 use Rattle.jfr_words.specs.Words.{order_of, file_name}
@@ -26,10 +28,11 @@ use Rattle.jfr_cli.specs.declared.answer.Answer.{Answer}
 use Rattle.jfr_cli.specs.declared.answer.Answer.TheVariants as answers
 use Rattle.jfr_cli.specs.Answers.{doubt_line, refusal_line, IsSaid}
 
--- If a scrub ends as its plan does, the output is the scrub of the input. If a check ends well, each chunk of
+-- If a scrub ends as its plan does, the output is the scrub of the input, or its renumbering. If a check ends well, each chunk of
 -- the output is verified.
 abbrev pub Wrote : Order → Ending → State → State → Type 0
-Wrote (orders.Scrub g input output) e a b = IsByPlan e → Told a.told b.told (Scrubs g (file_name input) (file_name output))
+Wrote (orders.Scrub g false input output) e a b = IsByPlan e → Told a.told b.told (Scrubs g (file_name input) (file_name output))
+Wrote (orders.Scrub g true input output) e a b = IsByPlan e → Told a.told b.told (Renumbers g (file_name input) (file_name output))
 Wrote (orders.Print g depth json file) e a b = ⊤
 Wrote (orders.Summary file) e a b = ⊤
 Wrote (orders.Metadata file) e a b = ⊤
@@ -91,7 +94,7 @@ Ended k e a b = Leaves k (Ends e) a b
 -- A read failed. For one recording exactly the effects whose needs were met are done; for a folder's files
 -- the first effects are.
 abbrev pub Halted : Work → Outside → Outside → Type 0
-Halted k a b = Leaves k NotRead a b
+Halted k a b = Leaves k ways.NotRead a b
 
 -- The first effects are done, and of the next, which failed, a prefix of its bytes.
 abbrev pub Broken : Work → Outside → Outside → Type 0

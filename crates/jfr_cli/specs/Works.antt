@@ -1,5 +1,5 @@
 -- What each order asks to be done.
-use Rattle.std.specs.Prelude.{◌≡◌, ℕ, List, [], ◌∷◌, ◌++◌, Bool, IsTrue, IsSome, Option, None, Some, ⊤, codes, encode_utf8_all}
+use Rattle.std.specs.Prelude.{◌≡◌, ℕ, List, [], ◌∷◌, ◌++◌, Bool, true, false, IsTrue, IsSome, Option, None, Some, ⊤, codes, encode_utf8_all}
 use Rattle.std.specs.Fmt.{decimal}
 use Rattle.jfr_outside.specs.World.{World, State, SinkState, Told, file}
 use Rattle.jfr_filter.specs.Filters.{Given}
@@ -9,6 +9,7 @@ use Rattle.jfr_plan.specs.Walks.{Rule, Target, File, Parts, Text, plan_in}
 use Rattle.jfr_plan.specs.Outcomes.{AllDone, Breaks, HaltedIn, SomeDone}
 use Rattle.jfr_plan.specs.Clauses.{CanRead, CanCreate}
 use Rattle.jfr_scrub.specs.Scrubs.{scrubbing}
+use Rattle.jfr_renumber.specs.Renumbers.{renumbering}
 use Rattle.jfr_split.specs.Splits.{splitting}
 use Rattle.jfr_split.specs.Joins.{assembling}
 use Rattle.jfr_split.specs.Clauses.{Unfinished, CanCreateAll}
@@ -36,6 +37,11 @@ pub data Work : Type 0 where
 abbrev pub sample_plan : List ℕ → Plan
 sample_plan text = record { steps = needing Nothing (Write (encode_utf8_all text) ∷ []); end = Some Fine }
 
+-- The rule of a scrub whose output keeps the keys of constants, or numbers them anew.
+abbrev pub scrub_rule : Given → Bool → List ℕ → Rule
+scrub_rule g false output = scrubbing g output
+scrub_rule g true output = renumbering g output
+
 -- The line if all chunks of an output are verified.
 abbrev pub verified_line : ℕ → List ℕ
 verified_line count = codes "verified " ++ (decimal count ++ newline)
@@ -52,7 +58,7 @@ abbrev pub work_of : Order → Work
 work_of (orders.Print g depth json file) = Over (printing g depth json) (file_name file)
 work_of (orders.Summary file) = Over summing (file_name file)
 work_of (orders.Metadata file) = Over describing (file_name file)
-work_of (orders.Scrub g input output) = Over (scrubbing g (file_name output)) (file_name input)
+work_of (orders.Scrub g renumber input output) = Over (scrub_rule g renumber (file_name output)) (file_name input)
 work_of (orders.Disassemble file rule) = Over (splitting rule (file_name file)) (file_name file)
 work_of (orders.Assemble folder output) = Joins (file_name folder) (file_name output)
 work_of (orders.Sample seed events) = Alone (sample_plan (sampled seed events))
@@ -141,7 +147,7 @@ CanReadAll (Checks g input output receipt) a = CanCheck input output receipt a
 -- The place is steady, no output is open, and the names that the order creates are new. Never true for an
 -- order that writes text, whose write faults are those of the output stream.
 abbrev pub CanCreateFor : Order → State → Type 0
-CanCreateFor (orders.Scrub g input output) a = CanCreate (file_name output) a
+CanCreateFor (orders.Scrub g renumber input output) a = CanCreate (file_name output) a
 CanCreateFor (orders.Disassemble file rule) a = CanCreateAll (splitting rule (file_name file)) (file_name file) a
 CanCreateFor (orders.Assemble folder output) a = CanCreate (file_name output) a
 CanCreateFor (orders.Print g depth json file) a = ⊥

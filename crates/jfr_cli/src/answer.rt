@@ -10,8 +10,5 @@ pub enum Answer {
     /// The order was carried out, or refused, or a call failed.
     Ended(Ending),
     /// A check has a doubt about the chunk with this number.
-    Doubted {
-        chunk: u64,
-        doubt: Doubt,
-    },
+    Doubted { chunk: u64, doubt: Doubt },
 }

@@ -3,7 +3,7 @@
 ghost use Rattle.jfr_plan.specs.Effects.{outside};
 ghost use Rattle.jfr_words.specs.Words.{IsUsableOrder};
 ghost use Rattle.jfr_words.specs.declared.order.Order.TheVariants as orders;
-ghost use Rattle.std.specs.Prelude.{◌≤◌};
+ghost use Rattle.std.specs.Prelude.{◌≤◌, false, true};
 ghost use Rattle.jfr_split.specs.Parts.{IsUsable};
 ghost use Rattle.jfr_cli.specs.Runs.{Carries, CarriesTo};
 ghost use Rattle.jfr_cli.specs.Texts.{IsWritten};
@@ -15,6 +15,7 @@ use jfr_filter::Filter;
 use jfr_header::Ending;
 use jfr_outside::{NoMemory, Place, Sink, Text};
 use jfr_receipt::receipt_stream;
+use jfr_renumber::renumber_stream;
 use jfr_report::{metadata_stream, print_stream, stacks_stream, summary_stream};
 use jfr_scrub::scrub_stream;
 use jfr_split::{SplitRule, assemble, disassemble};
@@ -43,11 +44,20 @@ pub(crate) fn carry_out<P: Place, O: Sink>(
         Order::Metadata { file } => Answer::Ended(metadata(alloc, place, out, file)),
         Order::Scrub {
             filter,
+            renumber: false,
             input,
             output,
         } => Answer::Ended(scrub(alloc, place, out, filter, input, output)),
+        Order::Scrub {
+            filter,
+            renumber: true,
+            input,
+            output,
+        } => Answer::Ended(renumber(alloc, place, out, filter, input, output)),
         Order::Disassemble { file, rule } => Answer::Ended(split(alloc, place, out, file, rule)),
-        Order::Assemble { folder, output } => Answer::Ended(join(alloc, place, out, folder, output)),
+        Order::Assemble { folder, output } => Answer::Ended(join(
+            alloc, place, out, folder, output,
+        )),
         Order::Sample { seed, events } => {
             Answer::Ended(say_sample(alloc, place, out, *seed, *events))
         }
@@ -120,9 +130,22 @@ fn scrub<P: Place, O: Sink>(
     input: &Text,
     output: &Text,
 ) -> Ending
-    ensures { Carries (orders.Scrub filter.now input.now output.now) result (outside (P.state place.old) (O.state _out.old)) (outside (P.state place.new) (O.state _out.new)) }
+    ensures { Carries (orders.Scrub filter.now false input.now output.now) result (outside (P.state place.old) (O.state _out.old)) (outside (P.state place.new) (O.state _out.new)) }
 {
     scrub_stream(alloc, place, input.as_str(), output.as_str(), filter)
+}
+
+fn renumber<P: Place, O: Sink>(
+    alloc: Global,
+    place: &mut P,
+    _out: &mut O,
+    filter: &Filter,
+    input: &Text,
+    output: &Text,
+) -> Ending
+    ensures { Carries (orders.Scrub filter.now true input.now output.now) result (outside (P.state place.old) (O.state _out.old)) (outside (P.state place.new) (O.state _out.new)) }
+{
+    renumber_stream(alloc, place, input.as_str(), output.as_str(), filter)
 }
 
 fn make_receipt<P: Place, O: Sink>(
@@ -139,6 +162,7 @@ fn make_receipt<P: Place, O: Sink>(
 }
 
 /// The names of the files of a check.
+#[derive(Clone, Copy)]
 struct Names<'a> {
     input: &'a Text,
     output: &'a Text,
@@ -154,15 +178,8 @@ fn verify<P: Place, O: Sink>(
 ) -> Answer
     ensures { CarriesTo (orders.Verify filter.now names.now.input.now names.now.output.now names.now.receipt.now) result (outside (P.state place.old) (O.state out.old)) (outside (P.state place.new) (O.state out.new)) }
 {
-    let verdict = verify_stream(
-        alloc,
-        place,
-        names.input.as_str(),
-        names.output.as_str(),
-        names.receipt.as_str(),
-        filter,
-    );
-    match verdict {
+    let (input, output) = (names.input.as_str(), names.output.as_str());
+    match verify_stream(alloc, place, input, output, names.receipt.as_str(), filter) {
         Verdict::Verified(count) => Answer::Ended(say_verified(alloc, out, count)),
         Verdict::Doubted { chunk, doubt } => Answer::Doubted { chunk, doubt },
         Verdict::Refused(refusal) => Answer::Ended(Ending::Refused(refusal)),

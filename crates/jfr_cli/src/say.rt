@@ -1,5 +1,5 @@
 //! The exit status of an ending, and its line on the error sink.
-ghost use Rattle.std.specs.Prelude.{◌≡◌, Some, IfOk, string_bytes};
+ghost use Rattle.std.specs.Prelude.{◌≡◌, ℕ, List, Some, IfOk, string_bytes};
 ghost use Rattle.jfr_cli.specs.Answers.{status_of, line_of, answer_status, answer_line, doubt_line, usage_line, refusal_line, IsAnswered};
 
 use crate::answer::Answer;
@@ -58,10 +58,7 @@ fn say_ending<E: Sink>(alloc: Global, err: &mut E, ending: Ending) -> u8
 {
     match ending {
         Ending::Done => 0,
-        Ending::Refused(refusal) => match refusal_text(alloc, &refusal) {
-            Ok(line) => say_line(err, line.as_str(), REFUSED),
-            Err(_) => say_line(err, "out of memory\n", NO_MEMORY),
-        },
+        Ending::Refused(refusal) => say_made(err, refusal_text(alloc, &refusal), REFUSED),
         Ending::ReadFault => say_line(err, "read fault\n", READ_FAULT),
         Ending::WriteFault => say_line(err, "write fault\n", WRITE_FAULT),
         Ending::Memory => say_line(err, "out of memory\n", NO_MEMORY),
@@ -73,10 +70,7 @@ fn say_ending<E: Sink>(alloc: Global, err: &mut E, ending: Ending) -> u8
 fn say_doubt<E: Sink>(alloc: Global, err: &mut E, chunk: u64, doubt: Doubt) -> u8
     ensures { IsAnswered 7 (Some (doubt_line chunk doubt)) result (E.state err.old) (E.state err.new) }
 {
-    match doubt_text(alloc, chunk, doubt) {
-        Ok(line) => say_line(err, line.as_str(), DOUBTED),
-        Err(_) => say_line(err, "out of memory\n", NO_MEMORY),
-    }
+    say_made(err, doubt_text(alloc, chunk, doubt), DOUBTED)
 }
 
 // The line of a doubt.
@@ -93,6 +87,16 @@ fn refusal_text(alloc: Global, refusal: &Refusal) -> Result<String, AllocError>
 {
     let (chunk, offset, name) = (refusal.chunk, refusal.offset, refusal.reason.name());
     format!(in alloc; "chunk {chunk} offset {offset}: {name}\n")
+}
+
+// Writes a line if there was memory for it, or else the line for running out of memory.
+fn say_made<E: Sink>(err: &mut E, made: Result<String, AllocError>, status: u8) -> u8
+    ensures { (line : List ℕ) → IfOk made (λ text. string_bytes text ≡ line) → IsAnswered status (Some line) result (E.state err.old) (E.state err.new) }
+{
+    match made {
+        Ok(line) => say_line(err, line.as_str(), status),
+        Err(_) => say_line(err, "out of memory\n", NO_MEMORY),
+    }
 }
 
 // Writes a line. A failed write doesn't change the status; if memory runs out, the status is `NO_MEMORY`.

@@ -1,5 +1,5 @@
 //! The top call.
-ghost use Rattle.std.specs.Prelude.{◌≡◌, ◌≢◌, ◌<◌, ◌≤◌, ◌⊎◌, ℕ, List, None, Some, IfSome};
+ghost use Rattle.std.specs.Prelude.{◌≡◌, ◌≢◌, ◌<◌, ◌≤◌, ◌⊎◌, ℕ, List, None, Some, IfSome, true, false};
 ghost use Rattle.jfr_outside.specs.Counts.{Rose};
 ghost use Rattle.jfr_outside.specs.World.{Told};
 ghost use Rattle.jfr_header.specs.Fronts.{Whole};
@@ -14,6 +14,8 @@ ghost use Rattle.jfr_scrub.specs.Scrubs.{scrubbed};
 ghost use Rattle.jfr_words.specs.declared.order.Order.{Order};
 ghost use Rattle.jfr_words.specs.declared.order.Order.TheVariants as orders;
 ghost use Rattle.jfr_words.specs.Words.{order_of, file_name};
+ghost use Rattle.jfr_renumber.specs.Headline.{IsRenumberedOutput, Renumbers};
+ghost use Rattle.jfr_renumber.specs.Renumbers.{renumbered};
 ghost use Rattle.jfr_receipt.specs.Receipting.{IsReceipted, scrub_receipt};
 ghost use Rattle.jfr_verify.specs.Verdicts.{AllVerified, AreScrubs, three};
 ghost use Rattle.jfr_cli.specs.Works.{work_of, target_of, KeepsSink, KeepsPlace, CanReadAll, CanCreateFor};
@@ -30,12 +32,7 @@ use jfr_words::{WordsFault, read_words};
 use std::alloc::Global;
 
 // Carries out the order of the words, if they are one.
-fn obey<P: Place, O: Sink>(
-    alloc: Global,
-    words: &Words,
-    place: &mut P,
-    out: &mut O,
-) -> Answer
+fn obey<P: Place, O: Sink>(alloc: Global, words: &Words, place: &mut P, out: &mut O) -> Answer
     ensures { Obeys words.now result (outside (P.state place.old) (O.state out.old)) (outside (P.state place.new) (O.state out.new)) }
 {
     match read_words(alloc, words) {
@@ -64,9 +61,15 @@ pub fn run<P: Place, O: Sink, E: Sink>(
     // that is accepted again, with exactly the events that the filter keeps and exactly the constants that
     // they reach, and of the same meaning. `each` says it of every chunk of which the clauses of the other
     // statuses speak.
-    ensures headline { (result ≡ 0) ⊎ (result ≡ 2) → (g : Given) (input output : List ℕ) → order_of words.now ≡ Some (orders.Scrub g input output)
+    ensures headline { (result ≡ 0) ⊎ (result ≡ 2) → (g : Given) (input output : List ℕ) → order_of words.now ≡ Some (orders.Scrub g false input output)
         → Told (P.state place.old).told (P.state place.new).told (Scrubs g (file_name input) (file_name output)) }
     ensures each { (g : Given) (c : List ℕ) → Whole c → refusal_of c ≡ None → IsScrubbed g c (scrubbed g c) }
+
+    // With `--renumber yes` the output is the same but for the keys of constants, and no longer: one constant is
+    // left of those of a class with equal values.
+    ensures renumbered { (result ≡ 0) ⊎ (result ≡ 2) → (g : Given) (input output : List ℕ) → order_of words.now ≡ Some (orders.Scrub g true input output)
+        → Told (P.state place.old).told (P.state place.new).told (Renumbers g (file_name input) (file_name output)) }
+    ensures each_renumbered { (g : Given) (c : List ℕ) → Whole c → refusal_of c ≡ None → IsRenumberedOutput g c (renumbered g c) }
 
     // A receipt file holds, for each such chunk, a receipt with which the chunk and its scrub pass the checks.
     ensures each_receipt { (g : Given) (c : List ℕ) → Whole c → refusal_of c ≡ None → IsReceipted g c (scrub_receipt g c) }

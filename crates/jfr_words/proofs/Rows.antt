@@ -1,7 +1,7 @@
 -- The orders of some lines.
 use Rattle.std.specs.Prelude.{◌≡◌, ◌^◌, true, false, [], ◌∷◌, codes, Some, None, refl}
 use Rattle.jfr_filter.specs.Filters.{nothing_given}
-use Rattle.jfr_words.specs.declared.order.Order.TheVariants.{Print, Summary, Metadata, Scrub, Disassemble, Assemble, Sample, Receipt, Verify, Build, Stacks}
+use Rattle.jfr_words.specs.declared.order.Order.TheVariants.{Print, Summary, Metadata, Scrub, Disassemble, Assemble, Sample, Receipt, Verify, Stacks}
 use Rattle.jfr_words.specs.Numbers.{number_of}
 use Rattle.jfr_words.specs.Words.{order_of}
 
@@ -119,10 +119,6 @@ verify_row = refl
 no_receipt_row : order_of (codes "verify" ∷ codes "a" ∷ codes "b" ∷ []) ≡ None
 unfolding order_of
 no_receipt_row = refl
-
-build_row : order_of (codes "build" ∷ codes "a" ∷ codes "b" ∷ []) ≡ Some (Build (codes "a") (codes "b"))
-unfolding order_of
-build_row = refl
 
 -- Without options a part has at most five chunks and 2 ^ 40 bytes.
 disassemble_row : order_of (codes "disassemble" ∷ codes "a" ∷ []) ≡ Some (Disassemble (codes "a") (record { folder = None; max_chunks = 5; max_size = 2 ^ 40; max_parts = 999999 }))

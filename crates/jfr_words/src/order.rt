@@ -59,11 +59,6 @@ pub enum Order {
         output: Text,
         receipt: Text,
     },
-    /// Makes a recording of the lines of a text.
-    Build {
-        text: Text,
-        output: Text,
-    },
     /// Prints the call stacks of the events of the file that the filter keeps, each with its number of
     /// events.
     Stacks {

@@ -41,10 +41,6 @@ pub returns-in-verify : goal.returns-in-verify
 unfolding order_of
 returns-in-verify c = subst (λ o. IsRead o c.read_verification.result (λ order. order)) (sym (order_at c.args.left.now _ (codes "verify") refl c.in-verify.is)) c.read_verification.ensures
 
-pub returns-in-build : goal.returns-in-build
-unfolding order_of
-returns-in-build c = subst (λ o. IsRead o c.read_build.result (λ order. order)) (sym (order_at c.args.left.now _ (codes "build") refl c.in-build.is)) c.read_build.ensures
-
 pub returns-in-stacks : goal.returns-in-stacks
 unfolding order_of
 returns-in-stacks c = subst (λ o. IsRead o c.read_stacks.result (λ order. order)) (sym (order_at c.args.left.now _ (codes "stacks") refl c.in-stacks.is)) c.read_stacks.ensures
@@ -62,6 +58,5 @@ returns-in_default c =
       is_other _ (codes "sample") c.utf8.command refl c.in_default.not-sample,
       is_other _ (codes "receipt") c.utf8.command refl c.in_default.not-receipt,
       is_other _ (codes "verify") c.utf8.command refl c.in_default.not-verify,
-      is_other _ (codes "build") c.utf8.command refl c.in_default.not-build,
       is_other _ (codes "stacks") c.utf8.command refl c.in_default.not-stacks,
     )

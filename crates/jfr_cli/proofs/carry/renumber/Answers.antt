@@ -1,0 +1,35 @@
+use Rattle.std.specs.Prelude.{None}
+use Rattle.std.proofs.Common.{subst, sym, refl}
+use Rattle.jfr_outside.specs.World.{Told}
+use Rattle.jfr_plan.specs.Ends.{way_of}
+use Rattle.jfr_plan.specs.Effects.{alone}
+use Rattle.jfr_plan.specs.Clauses.{over, Ran, CanCreate}
+use Rattle.jfr_output.specs.Recordings.{IsByPlan}
+use Rattle.jfr_renumber.specs.Headline.{Renumbers}
+use Rattle.jfr_renumber.specs.Renumbers.{renumbering}
+use Rattle.jfr_words.specs.Words.{file_name}
+use Rattle.jfr_cli.proofs.Counting.{lifted}
+use Rattle.jfr_cli.proofs.Leaving.{over_leaves}
+use Rattle.jfr_cli.proofs.Orders.{named}
+use Rattle.jfr_cli.proofs.carry.renumber.Goals as goal
+
+pub returns : goal.returns
+returns g c =
+    let p = g.P.Place.state c.args.place.now in
+    let q = g.P.Place.state c.renumber_stream.new.place in
+    let input = named c.as_str.result.now c.args.input.now c.as_str.utf8 c.as_str.ensures in
+    let output = named c.as_str-2.result.now c.args.output.now c.as_str-2.utf8 c.as_str-2.ensures in
+    let ran =
+    subst (λ z. Ran (over (renumbering c.args.filter.now (file_name c.args.output.now)) z) c.renumber_stream.result (alone p) (alone q)) input
+    (subst (λ z. Ran (over (renumbering c.args.filter.now z) c.as_str.result.now) c.renumber_stream.result (alone p) (alone q)) output c.renumber_stream.ensures.ran) in
+    record {
+      leaves = over_leaves (renumbering c.args.filter.now (file_name c.args.output.now)) (file_name c.args.input.now) (way_of c.renumber_stream.result) p q None None ran.told;
+      counts = lifted (way_of c.renumber_stream.result) p q (g.O.Sink.state c.args._out.now) ran.counts;
+      sink = refl;
+      place = tt;
+      wrote =
+          subst (λ z. IsByPlan c.renumber_stream.result → Told p.told q.told (Renumbers c.args.filter.now z (file_name c.args.output.now))) input
+          (subst (λ z. IsByPlan c.renumber_stream.result → Told p.told q.told (Renumbers c.args.filter.now c.as_str.result.now z)) output c.renumber_stream.ensures.headline);
+      can_read = λ can. (ran.can_read can).0;
+      can_create = λ can. (c.renumber_stream.ensures.can_create (subst (λ z. CanCreate z p) (sym output) can)).0;
+    }
