@@ -62,6 +62,7 @@ for kind in "${kinds[@]}"; do
     run print print "$file"
     run 'print --json' print --json "$file"
     run 'print --depth 8' print --depth 8 "$file"
+    run stacks stacks "$file"
     run scrub scrub "$file" "$work/out.jfr"
     run 'scrub, threads' scrub --include-threads '*a*a*a*b,*a*a*a*c' "$file" "$work/out.jfr"
     run 'scrub, events' scrub --include-events '*a*a*a*b,*a*a*a*c' "$file" "$work/out.jfr"
