@@ -482,21 +482,28 @@ def long_methods(size):
 
 
 def frame_ring(size):
-    """200,000 frames in a ring, each the method, type and name of the one before, with strings in a ring; and a
-    hundred stacks that have them all."""
+    """Ten stacks of the same 200,000 frames in a ring, which have methods with names that are strings in a ring."""
     many = count(200000, size)
     described = metadata(lambda of: [
         class_(of, "t.Trace", TRACE, [field(of, "frames", FRAME, constant=True, array=True)]),
-        class_(of, "t.Frame", FRAME, [field(of, name, FRAME, constant=True) for name in ("method", "type", "name")]
-               + [field(of, "string", STRING)]),
+        class_(of, "t.Frame", FRAME, [field(of, "method", METHOD, constant=True), field(of, "next", FRAME, constant=True)]),
+        class_(of, "t.Method", METHOD, [field(of, name, of_id, constant=True) for name, of_id in (
+            ("type", TYPE), ("name", SYMBOL), ("frame", FRAME))]),
+        class_(of, "t.Type", TYPE, [field(of, "name", SYMBOL, constant=True)]),
+        class_(of, "t.Symbol", SYMBOL, [field(of, "string", STRING)]),
         class_(of, "t.E", EVENT, [field(of, "stackTrace", TRACE, constant=True)], event=True),
     ])
-    after = [integer((n + 1) % many) for n in range(many)]
-    trace = integer(many) + b"".join(after)
-    return chunk(described, b"".join(record(EVENT, integer(n)) for n in range(100)), checkpoint([
-        pool(TRACE, [(n, trace) for n in range(100)]),
-        pool(FRAME, [(n, after[n] * 3 + b"\2" + after[n]) for n in range(many)]),
-        pool(STRING, [(n, b"\2" + after[n]) for n in range(many)]),
+    numbers = range(many)
+    keys = [integer(n) for n in numbers]
+    after = keys[1:] + keys[:1]
+    trace = integer(many) + b"".join(keys)
+    return chunk(described, b"".join(record(EVENT, integer(n)) for n in range(10)), checkpoint([
+        pool(TRACE, [(n, trace) for n in range(10)]),
+        pool(FRAME, [(n, keys[n] + after[n]) for n in numbers]),
+        pool(METHOD, [(n, keys[n] * 2 + after[n]) for n in numbers]),
+        pool(TYPE, [(n, keys[n]) for n in numbers]),
+        pool(SYMBOL, [(n, b"\2" + keys[n]) for n in numbers]),
+        pool(STRING, [(n, b"\2" + after[n]) for n in numbers]),
     ]))
 
 
