@@ -64,6 +64,7 @@ check 'the second build' 0 'three summary x' "${with[@]}" NUMBER=three ./jfr sum
 check 'the next run' 0 'three summary x' "${with[@]}" NUMBER=four ./jfr summary x
 
 check 'a program that names its folder' 1 'different programs' "${with[@]}" NUMBER=one WHERE=1 dist/make
+check 'packing it without a second build' 0 'dist/jfr-1.' "${with[@]}" NUMBER=one WHERE=1 dist/make --once
 rm -rf crates/jfr/out
 check 'packing' 0 'dist/jfr-1.' "${with[@]}" NUMBER=one dist/make
 check 'its check' 0 '' "${without[@]}" dist/make --check
@@ -71,6 +72,7 @@ check 'its sums' 0 '' sha256sum --quiet --strict -c dist/SHA256SUMS
 rm -rf crates/jfr/out
 check 'unpacking' 0 'one summary x' "${without[@]}" ./jfr summary x
 check 'the next run' 0 'one summary x' "${with[@]}" NUMBER=two ./jfr summary x
+check 'a build that is asked for, no toolchain' 69 'names: rattle-kit' "${without[@]}" JFR_BUILD=1 ./jfr summary x
 check 'a build that is asked for' 0 'two summary x' "${with[@]}" NUMBER=two JFR_BUILD=1 ./jfr summary x
 check 'the next one' 0 'two summary x' "${with[@]}" NUMBER=three JFR_BUILD=1 ./jfr summary x
 check 'a program that differs' 1 'differs from the one in dist/jfr-1.' "${without[@]}" dist/make --check
