@@ -1,5 +1,5 @@
 //! Reading a whole file.
-ghost use Rattle.std.specs.Prelude.{◌≡◌, ◌<◌, None, IfOk, IfSome, IsErrOf, IsTrue, vec_len};
+ghost use Rattle.std.specs.Prelude.{◌≡◌, ◌<◌, None, IfOk, IfSome, IsErrOf, IsTrue, length};
 ghost use Rattle.jfr_outside.specs.World.{file};
 ghost use Rattle.jfr_outside.specs.Calls.{CountsRead};
 ghost use Rattle.jfr_header.specs.Taking.{Tells};
@@ -36,7 +36,7 @@ impl From<Fault> for FileFault {
 // Reads the open input to its end. `None` if it has `limit` bytes or more.
 fn read_rest<P: Place>(alloc: Global, place: &mut P, limit: usize) -> Result<Option<Vec<u8>>, Fault>
     ensures told { Tells (P.state place.old) (P.state place.new) (RestRead limit result) }
-    ensures bound { IfOk result (λ read. IfSome read (λ bytes. vec_len bytes < limit)) }
+    ensures bound { IfOk result (λ read. IfSome read (λ bytes. length bytes.items < limit)) }
     ensures counts { CountsRead result (P.state place.old) (P.state place.new) }
     ensures steady { IsTrue (P.state place.old).steady → IsErrOf result Fault.Failed → IfSome (P.state place.old).told (λ w. w.input ≡ None) }
 {
@@ -60,7 +60,7 @@ pub fn read_file<P: Place>(
     // What the answer says about the file, and what is left of the input. The other files and the output
     // are unchanged.
     ensures told { Tells (P.state place.old) (P.state place.new) (FileRead name.now limit result) }
-    ensures bound { IfOk result (λ bytes. vec_len bytes < limit) }
+    ensures bound { IfOk result (λ bytes. length bytes.items < limit) }
 
     // Only the count of read faults changes, and only if a read failed.
     ensures reads { Counted result (P.state place.old).read_faults (P.state place.new).read_faults }
