@@ -20,5 +20,11 @@ mod CompleteLaws
 mod UniqueLaws
 mod DecisionLaws
 mod AnswerLaws
+mod RecordingLaws
+mod ScrubLaws
+mod OutputLaws
+mod ComparingLaws
 mod StreamLaws
+mod VerdictLaws
+mod FileLaws
 mod CheckLaws

@@ -1,7 +1,8 @@
 -- Lists of chunks are compared pair by pair.
-use Rattle.std.specs.Prelude.{◌≡◌, ◌≤◌, ◌+◌, ℕ, List, [], ◌∷◌, ◌++◌, take, drop, length, Result, Ok, Err}
+use Rattle.std.specs.Prelude.{◌≡◌, ◌≤◌, ◌+◌, ℕ, List, [], ◌∷◌, ◌++◌, take, drop, length, Option, Some, None, Result, Ok, Err}
 use Rattle.std.specs.List.{AllByRecursion}
 use Rattle.std.proofs.Common.{ap, arith, refl, sym, ◌∙◌, subst}
+use Rattle.jfr_base.specs.declared.flaw.Refusal.{Refusal}
 use Rattle.jfr_filter.specs.Filters.{Given}
 use Rattle.jfr_chunk.specs.Parts.{Parts, AreParts, events_of}
 use Rattle.jfr_chunk.specs.Chosen.{chosen, kept_of}
@@ -11,9 +12,11 @@ use Rattle.jfr_laws.specs.Laws.{IsKept}
 use Rattle.jfr_verify.specs.Receipts.{receipt_of}
 use Rattle.jfr_verify.specs.Laws.{Passes}
 use Rattle.jfr_verify.specs.Checked.{Checked}
-use Rattle.jfr_verify.specs.Streams.{Outcome, Verified, Doubted, Onward, Compared, AreVerified, AreScrubbed, receipts}
+use Rattle.jfr_verify.specs.Streams.{Onward, Compared, AreVerified, AreScrubbed, receipts}
 use Rattle.jfr_verify.specs.declared.doubt.Doubt.{Doubt}
 use Rattle.jfr_verify.specs.declared.doubt.Doubt.TheVariants.{ChunksDiffer, ReceiptBad}
+use Rattle.jfr_verify.specs.declared.verdict.Verdict.{Verdict}
+use Rattle.jfr_verify.specs.declared.verdict.Verdict.TheVariants.{Verified, Doubted, Refused}
 use Rattle.jfr_verify.proofs.CompleteLaws.{kept_passes}
 use Rattle.jfr_verify.proofs.VerifiedLaws.{verified}
 use Rattle.jfr_verify.proofs.LineLaws.{receipt_of_is_receipt}
@@ -34,49 +37,52 @@ front_within [] b = omega arith
 front_within (x ∷ a) b = omega (arith, front_within a b)
 
 module _ (g : Given) where
-  -- There is one outcome.
-  pub compared_once : (ps qs : List Parts) (r : List ℕ) (n : ℕ) (x y : Outcome) → Compared g ps qs r n x → Compared g ps qs r n y → x ≡ y
-  compared_once [] [] [] n x y h k = h ∙ sym k
-  compared_once [] [] (b ∷ r) n x y h k = h ∙ sym k
-  compared_once [] (q ∷ qs) r n x y h k = h ∙ sym k
-  compared_once (p ∷ ps) [] r n x y h k = h ∙ sym k
-  compared_once (p ∷ ps) (q ∷ qs) r n x y h k = by_verdict h.0 h.2 (subst (Onward (λ m. Compared g ps qs (drop m r) (n + 1) y) (λ d. y ≡ Doubted (n + 1) d)) (checked_once p q (kept_of g p) r k.0 h.0 k.1 h.1) k.2) (λ m. compared_once ps qs (drop m r) (n + 1) x y)
+  -- There is one verdict.
+  pub compared_once : (ps : List Parts) (end : Option Refusal) (qs : List Parts) (r : List ℕ) (n : ℕ) (x y : Verdict) → Compared g ps end qs r n x → Compared g ps end qs r n y → x ≡ y
+  compared_once [] (Some f) qs r n x y h k = h ∙ sym k
+  compared_once [] None [] [] n x y h k = h ∙ sym k
+  compared_once [] None [] (b ∷ r) n x y h k = h ∙ sym k
+  compared_once [] None (q ∷ qs) r n x y h k = h ∙ sym k
+  compared_once (p ∷ ps) end [] r n x y h k = h ∙ sym k
+  compared_once (p ∷ ps) end (q ∷ qs) r n x y h k = by_verdict h.0 h.2 (subst (Onward (λ m. Compared g ps end qs (drop m r) (n + 1) y) (λ d. y ≡ Doubted (n + 1) d)) (checked_once p q (kept_of g p) r k.0 h.0 k.1 h.1) k.2) (λ m. compared_once ps end qs (drop m r) (n + 1) x y)
     where
-      by_verdict : (v : Result ℕ Doubt) → Onward (λ m. Compared g ps qs (drop m r) (n + 1) x) (λ d. x ≡ Doubted (n + 1) d) v → Onward (λ m. Compared g ps qs (drop m r) (n + 1) y) (λ d. y ≡ Doubted (n + 1) d) v → ((m : ℕ) → Compared g ps qs (drop m r) (n + 1) x → Compared g ps qs (drop m r) (n + 1) y → x ≡ y) → x ≡ y
+      by_verdict : (v : Result ℕ Doubt) → Onward (λ m. Compared g ps end qs (drop m r) (n + 1) x) (λ d. x ≡ Doubted (n + 1) d) v → Onward (λ m. Compared g ps end qs (drop m r) (n + 1) y) (λ d. y ≡ Doubted (n + 1) d) v → ((m : ℕ) → Compared g ps end qs (drop m r) (n + 1) x → Compared g ps end qs (drop m r) (n + 1) y → x ≡ y) → x ≡ y
       by_verdict (Ok m) h k f = f m h k
       by_verdict (Err d) h k f = h ∙ sym k
 
-  -- There is an outcome.
-  pub compared_is : (ps qs : List Parts) (r : List ℕ) (n : ℕ) → (x : Outcome) × Compared g ps qs r n x
-  compared_is [] [] [] n = (Verified n, refl)
-  compared_is [] [] (b ∷ r) n = (Doubted n ReceiptBad, refl)
-  compared_is [] (q ∷ qs) r n = (Doubted (n + 1) ChunksDiffer, refl)
-  compared_is (p ∷ ps) [] r n = (Doubted (n + 1) ChunksDiffer, refl)
-  compared_is (p ∷ ps) (q ∷ qs) r n = by_verdict (verdict p q (kept_of g p) r) (λ m. compared_is ps qs (drop m r) (n + 1))
+  -- There is a verdict.
+  pub compared_is : (ps : List Parts) (end : Option Refusal) (qs : List Parts) (r : List ℕ) (n : ℕ) → (x : Verdict) × Compared g ps end qs r n x
+  compared_is [] (Some f) qs r n = (Refused f, refl)
+  compared_is [] None [] [] n = (Verified n, refl)
+  compared_is [] None [] (b ∷ r) n = (Doubted n ReceiptBad, refl)
+  compared_is [] None (q ∷ qs) r n = (Doubted (n + 1) ChunksDiffer, refl)
+  compared_is (p ∷ ps) end [] r n = (Doubted (n + 1) ChunksDiffer, refl)
+  compared_is (p ∷ ps) end (q ∷ qs) r n = by_verdict (verdict p q (kept_of g p) r) (λ m. compared_is ps end qs (drop m r) (n + 1))
     where
-      by_verdict : (y : Result ℕ Doubt) × Checked p q (kept_of g p) r y → ((m : ℕ) → (x : Outcome) × Compared g ps qs (drop m r) (n + 1) x) → (x : Outcome) × Compared g (p ∷ ps) (q ∷ qs) r n x
+      by_verdict : (y : Result ℕ Doubt) × Checked p q (kept_of g p) r y → ((m : ℕ) → (x : Verdict) × Compared g ps end qs (drop m r) (n + 1) x) → (x : Verdict) × Compared g (p ∷ ps) end (q ∷ qs) r n x
       by_verdict (Ok m, c) f = let z = f m in (z.0, (Ok m, c, z.1))
       by_verdict (Err d, c) f = (Doubted (n + 1) d, (Err d, c, refl))
 
   -- If all are verified, each output means the same as its input.
-  pub all_verified : (ps qs : List Parts) (r : List ℕ) (n m : ℕ) → AllByRecursion AreParts ps → AllByRecursion AreParts qs → Compared g ps qs r n (Verified m) → AreVerified g ps qs × (m ≡ n + length ps)
-  all_verified [] [] [] n m a b h = (tt, (let q : m ≡ n = number m n h in omega arith))
+  pub all_verified : (ps : List Parts) (end : Option Refusal) (qs : List Parts) (r : List ℕ) (n m : ℕ) → AllByRecursion AreParts ps → AllByRecursion AreParts qs → Compared g ps end qs r n (Verified m) → AreVerified g ps qs × (m ≡ n + length ps) × (end ≡ None)
+  all_verified [] (Some f) qs r n m a b h = cc
+  all_verified [] None [] [] n m a b h = (tt, (let q : m ≡ n = number m n h in omega arith), refl)
     where
       number : (i j : ℕ) → Verified i ≡ Verified j → i ≡ j
       number i j e = cc
-  all_verified [] [] (x ∷ r) n m a b h = cc
-  all_verified [] (q ∷ qs) r n m a b h = cc
-  all_verified (p ∷ ps) [] r n m a b h = cc
-  all_verified (p ∷ ps) (q ∷ qs) r n m a b h = by_verdict h.0 h.1 h.2 (λ i. all_verified ps qs (drop i r) (n + 1) m a.1 b.1)
+  all_verified [] None [] (x ∷ r) n m a b h = cc
+  all_verified [] None (q ∷ qs) r n m a b h = cc
+  all_verified (p ∷ ps) end [] r n m a b h = cc
+  all_verified (p ∷ ps) end (q ∷ qs) r n m a b h = by_verdict h.0 h.1 h.2 (λ i. all_verified ps end qs (drop i r) (n + 1) m a.1 b.1)
     where
-      by_verdict : (v : Result ℕ Doubt) → Checked p q (kept_of g p) r v → Onward (λ i. Compared g ps qs (drop i r) (n + 1) (Verified m)) (λ d. Verified m ≡ Doubted (n + 1) d) v → ((i : ℕ) → Compared g ps qs (drop i r) (n + 1) (Verified m) → AreVerified g ps qs × (m ≡ n + 1 + length ps)) → AreVerified g (p ∷ ps) (q ∷ qs) × (m ≡ n + length (p ∷ ps))
+      by_verdict : (v : Result ℕ Doubt) → Checked p q (kept_of g p) r v → Onward (λ i. Compared g ps end qs (drop i r) (n + 1) (Verified m)) (λ d. Verified m ≡ Doubted (n + 1) d) v → ((i : ℕ) → Compared g ps end qs (drop i r) (n + 1) (Verified m) → AreVerified g ps qs × (m ≡ n + 1 + length ps) × (end ≡ None)) → AreVerified g (p ∷ ps) (q ∷ qs) × (m ≡ n + length (p ∷ ps)) × (end ≡ None)
       by_verdict (Ok i) c k f =
           let z = f i k in
-          ((verified p q a.0 b.0 (chosen g p) (take i r) c.1, z.0), omega (arith, z.1))
+          ((verified p q a.0 b.0 (chosen g p) (take i r) c.1, z.0), omega (arith, z.1), z.2)
       by_verdict (Err d) c k f = cc
 
   -- The outputs of a scrub are verified with their own receipts.
-  pub scrubbed_is_verified : (ps qs : List Parts) (n : ℕ) → AreScrubbed g ps qs → Compared g ps qs (receipts qs) n (Verified (n + length ps))
+  pub scrubbed_is_verified : (ps qs : List Parts) (n : ℕ) → AreScrubbed g ps qs → Compared g ps None qs (receipts qs) n (Verified (n + length ps))
   scrubbed_is_verified [] [] n l = ap Verified (let z : n + 0 ≡ n = omega arith in z)
   scrubbed_is_verified [] (q ∷ qs) n l = absurd l
   scrubbed_is_verified (p ∷ ps) [] n l = absurd l
@@ -91,8 +97,8 @@ module _ (g : Given) where
       checked : Checked p q (kept_of g p) (receipts (q ∷ qs)) (Ok (length (receipt_of q)))
       checked = (front_within (receipt_of q) (receipts qs), subst (Passes p q (kept_of g p)) (sym (take_front (receipt_of q) (receipts qs))) (subst (λ z. Passes p z (kept_of g p) (receipt_of z)) l.1.1 passes))
 
-      onward : Compared g ps qs (receipts qs) (n + 1) (Verified (n + 1 + length ps)) → Compared g ps qs (drop (length (receipt_of q)) (receipts (q ∷ qs))) (n + 1) (Verified (n + length (p ∷ ps)))
+      onward : Compared g ps None qs (receipts qs) (n + 1) (Verified (n + 1 + length ps)) → Compared g ps None qs (drop (length (receipt_of q)) (receipts (q ∷ qs))) (n + 1) (Verified (n + length (p ∷ ps)))
       onward c =
           let e : n + 1 + length ps ≡ n + length (p ∷ ps) = omega arith in
-          subst (λ z. Compared g ps qs z (n + 1) (Verified (n + length (p ∷ ps)))) (sym (drop_front (receipt_of q) (receipts qs)))
-          (subst (λ z. Compared g ps qs (receipts qs) (n + 1) (Verified z)) e c)
+          subst (λ z. Compared g ps None qs z (n + 1) (Verified (n + length (p ∷ ps)))) (sym (drop_front (receipt_of q) (receipts qs)))
+          (subst (λ z. Compared g ps None qs (receipts qs) (n + 1) (Verified z)) e c)

@@ -12,3 +12,8 @@ pub mod Parents
 pub mod Claims
 pub mod Confirmed
 pub mod Prefix
+pub mod Recordings
+pub mod Verdicts
+pub mod Faults
+pub mod Outputs
+pub mod Comparing

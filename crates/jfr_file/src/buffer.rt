@@ -1,0 +1,96 @@
+//! A buffer for bytes that are read from the open input.
+ghost use Rattle.std.specs.Prelude.{take, ◌≡◌, ◌≤◌, ◌<◌, ◌+◌, [], length, vec_len, Some, None, IfOk, OnOk, OnErr, IsErrOf, IsTrue, IfSome, IsSome};
+ghost use Rattle.jfr_outside.specs.Counts.{Counts};
+ghost use Rattle.jfr_header.specs.Taking.{Moved, Tells};
+
+use jfr_outside::{Fault, Place};
+use std::alloc::{AllocError, Global};
+use std::marker::Model;
+
+/// The least number of bytes by which a buffer grows, unless fewer are needed.
+const PIECE: usize = 65536;
+
+/// Bytes that were read. The next bytes are read straight into their memory.
+#[derive(Drop)]
+pub struct Buffer {
+    room: Vec<u8>,
+    count: usize,
+}
+
+impl Model for Buffer {
+    ghost use Rattle.std.specs.Prelude.{ℕ, List, take, ◌≤◌, vec_len};
+
+    ghost Value = { List ℕ };
+
+    ghost view = { λ b. take b.count b.room.items };
+
+    ghost invariant = { λ b. b.count ≤ vec_len b.room };
+}
+
+// Makes room after `count` bytes for at least one more, if there is none. The list grows to at most twice
+// `count`, or by `PIECE`, and no further than `until`.
+fn make_room(room: &mut Vec<u8>, count: usize, until: usize) -> Result<(), AllocError>
+    requires count { count ≤ vec_len room.old }
+    requires wanted { count < until }
+    ensures kept { take count room.new.items ≡ take count room.old.items }
+    ensures within { count ≤ vec_len room.new }
+    ensures more { OnOk result (count < vec_len room.new) }
+{
+    if count < room.len() {
+        return Ok(());
+    }
+    let more = count.max(PIECE).min(until - count);
+    room.reserve_exact(more)?;
+    room.resize(count + more, 0)
+}
+
+impl Buffer {
+    /// An empty buffer. It allocates nothing.
+    pub fn new(alloc: Global) -> Buffer
+        ensures { result ≡ [] }
+    {
+        Buffer {
+            room: Vec::new(alloc),
+            count: 0,
+        }
+    }
+
+    /// The number of bytes.
+    pub fn len(&self) -> usize
+        ensures { result ≡ length self.now }
+    {
+        self.count
+    }
+
+    /// The bytes, in their memory.
+    pub fn into_bytes(self) -> Vec<u8>
+        ensures { result.items ≡ self }
+    {
+        let Buffer { mut room, count } = self;
+        room.truncate(count);
+        room
+    }
+
+    /// Reads once from the open input, up to a length of `until`, and returns the number of bytes read: 0 at
+    /// the input's end.
+    pub fn read<P: Place>(&mut self, place: &mut P, until: usize) -> Result<usize, Fault>
+        requires { length self.old < until }
+        ensures moved { Tells (P.state place.old) (P.state place.new) (Moved self.old self.new) }
+        ensures prefix { take (length self.old) self.new ≡ self.old }
+        ensures bound { length self.new ≤ until }
+        ensures len { IfOk result (λ n. length self.new ≡ length self.old + n) }
+        ensures err { OnErr result (self.new ≡ self.old) }
+        ensures end { IfOk result (λ n. n ≡ 0 → IfSome (P.state place.new).told (λ v. v.input ≡ Some [])) }
+        ensures opened { OnOk result (IfSome (P.state place.new).told (λ v. IsSome v.input)) }
+        ensures fails { IsTrue ((P.state place.old).steady) → IsErrOf result Fault.Failed → IfSome (P.state place.old).told (λ w. w.input ≡ None) }
+        ensures cause { Counts result (P.state place.old).read_faults (P.state place.new).read_faults }
+        ensures writes { (P.state place.new).write_faults ≡ (P.state place.old).write_faults }
+        ensures steady { (P.state place.new).steady ≡ (P.state place.old).steady }
+    {
+        make_room(&mut self.room, self.count, until)?;
+        let most = self.room.len().min(until);
+        let count = place.read(&mut self.room[self.count..most])?;
+        self.count += count;
+        Ok(count)
+    }
+}
