@@ -1,3 +1,9 @@
+mod BaseLaws
 mod LineLaws
 mod NumberLaws
 mod PieceLaws
+mod SoundLaws
+mod TakenLaws
+mod WholeLaws
+mod WordLaws
+mod WritingLaws

@@ -3,3 +3,7 @@ pub mod Pieces
 pub mod Numbers
 pub mod Lines
 pub mod ClassLines
+pub mod LeafWords
+pub mod Taking
+pub mod Writing
+pub mod Laws

@@ -1,15 +1,22 @@
 //! A builder of recordings: a text with a line for each class, field, constant and event becomes a chunk.
 //!
 //! Read `specs/Pieces.antt` and `specs/Lines.antt` first: what the lines of a text say. Then read
-//! `specs/ClassLines.antt`: the classes of the lines. No call builds a whole chunk yet, which is why the
-//! modules `lines` and `class_lines` are public.
+//! `specs/ClassLines.antt`: the classes of the lines; `specs/LeafWords.antt`: the words of leaves; and
+//! `specs/Taking.antt`: the values of words. No call builds a whole chunk yet, which is why the modules are
+//! public.
 #![tactic(auto)]
 
 pub mod class_lines;
+mod laws;
+pub mod leaf;
 pub mod line;
 pub mod lines;
 pub mod number;
+pub mod output;
 pub mod pieces;
+pub mod quoted;
 mod reason;
+pub mod value;
 
+pub use laws::words_are_taken;
 pub use reason::{BuildFault, BuildReason};
