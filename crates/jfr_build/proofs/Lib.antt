@@ -4,6 +4,7 @@ mod NumberLaws
 mod PieceLaws
 mod SoundLaws
 mod TakenLaws
+mod UnknownLaws
 mod WholeLaws
 mod WordLaws
 mod WritingLaws

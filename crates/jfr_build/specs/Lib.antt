@@ -6,4 +6,5 @@ pub mod ClassLines
 pub mod LeafWords
 pub mod Taking
 pub mod Writing
+pub mod LineValues
 pub mod Laws

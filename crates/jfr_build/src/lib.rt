@@ -10,6 +10,7 @@ pub mod class_lines;
 mod laws;
 pub mod leaf;
 pub mod line;
+pub mod line_values;
 pub mod lines;
 pub mod number;
 pub mod output;
