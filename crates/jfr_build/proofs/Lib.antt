@@ -1,4 +1,5 @@
 mod BaseLaws
+mod DescribedLaws
 mod LineLaws
 mod NumberLaws
 mod PieceLaws

@@ -7,4 +7,5 @@ pub mod LeafWords
 pub mod Taking
 pub mod Writing
 pub mod LineValues
+pub mod Described
 pub mod Laws

@@ -7,6 +7,7 @@
 #![tactic(auto)]
 
 pub mod class_lines;
+pub mod described;
 mod laws;
 pub mod leaf;
 pub mod line;
