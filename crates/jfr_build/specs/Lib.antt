@@ -8,4 +8,5 @@ pub mod Taking
 pub mod Writing
 pub mod LineValues
 pub mod Described
+pub mod Built
 pub mod Laws

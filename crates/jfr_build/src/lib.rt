@@ -18,6 +18,7 @@ pub mod output;
 pub mod pieces;
 pub mod quoted;
 mod reason;
+pub mod records;
 pub mod value;
 
 pub use laws::words_are_taken;
