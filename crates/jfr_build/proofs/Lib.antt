@@ -3,6 +3,7 @@ mod DescribedLaws
 mod LineLaws
 mod NumberLaws
 mod PieceLaws
+mod PoolLaws
 mod SoundLaws
 mod TakenLaws
 mod UnknownLaws

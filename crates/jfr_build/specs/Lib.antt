@@ -9,4 +9,5 @@ pub mod Writing
 pub mod LineValues
 pub mod Described
 pub mod Built
+pub mod Pooled
 pub mod Laws

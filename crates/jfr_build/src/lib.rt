@@ -16,6 +16,7 @@ pub mod lines;
 pub mod number;
 pub mod output;
 pub mod pieces;
+pub mod pools;
 pub mod quoted;
 mod reason;
 pub mod records;
