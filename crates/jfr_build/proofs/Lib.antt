@@ -1,4 +1,5 @@
 mod BaseLaws
+mod ChunkLaws
 mod DescribedLaws
 mod LineLaws
 mod NumberLaws

@@ -10,4 +10,5 @@ pub mod LineValues
 pub mod Described
 pub mod Built
 pub mod Pooled
+pub mod Builds
 pub mod Laws

@@ -1,26 +1,30 @@
 //! A builder of recordings: a text with a line for each class, field, constant and event becomes a chunk.
 //!
-//! Read `specs/Pieces.antt` and `specs/Lines.antt` first: what the lines of a text say. Then read
-//! `specs/ClassLines.antt`: the classes of the lines; `specs/LeafWords.antt`: the words of leaves; and
-//! `specs/Taking.antt`: the values of words. No call builds a whole chunk yet, which is why the modules are
-//! public.
+//! `build` is the only call. Read `specs/Builds.antt` first: what is built of a text, and why a text is
+//! refused. Then read `specs/Pieces.antt` and `specs/Lines.antt`: what the lines of a text say;
+//! `specs/ClassLines.antt`: the classes of the lines; `specs/LeafWords.antt`: the words of leaves;
+//! `specs/Taking.antt` and `specs/LineValues.antt`: the values of words and lines; and
+//! `specs/Described.antt` and `specs/Built.antt`: the bytes of the chunk. The law says which values words are
+//! taken as.
 #![tactic(auto)]
 
-pub mod class_lines;
-pub mod described;
+mod building;
+mod class_lines;
+mod described;
 mod laws;
-pub mod leaf;
-pub mod line;
-pub mod line_values;
-pub mod lines;
-pub mod number;
-pub mod output;
-pub mod pieces;
-pub mod pools;
-pub mod quoted;
+mod leaf;
+mod line;
+mod line_values;
+mod lines;
+mod number;
+mod output;
+mod pieces;
+mod pools;
+mod quoted;
 mod reason;
-pub mod records;
-pub mod value;
+mod records;
+mod value;
 
+pub use building::build;
 pub use laws::words_are_taken;
 pub use reason::{BuildFault, BuildReason};
