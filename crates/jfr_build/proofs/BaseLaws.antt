@@ -1,20 +1,20 @@
--- What a word of a base name says is a value of it.
-use Rattle.std.specs.Prelude.{◌≡◌, ℕ, zero, suc, ◌*◌, ◌==◌, ◌&&◌, Bool, true, false, List, [], ◌∷◌, ◌++◌, length, Option, Some, None, option_map, option_and_then, if◌then◌else◌, codes, encode_utf8_all}
+-- The bytes that a word spells are a value of its base name.
+use Rattle.std.specs.Prelude.{◌≡◌, ℕ, zero, suc, ◌*◌, ◌==◌, ◌&&◌, Bool, true, false, List, [], ◌∷◌, length, Option, Some, None, option_map, if◌then◌else◌, codes}
 use Rattle.std.specs.Str.{bytes_eq}
 use Rattle.std.proofs.lemmas.Bool.Decides.{nat_tests}
 use Rattle.std.proofs.Common.{ap, arith, refl, sym, ◌∙◌, subst}
 use Rattle.jfr_base.specs.Integer.{spell, Spells}
 use Rattle.jfr_base.proofs.Spelling.{spell_spells}
-use Rattle.jfr_text.specs.Strings.{Content, Null, Empty, Key, Utf8, Units, Latin, IsString}
+use Rattle.jfr_text.specs.Strings.{Content, Null, Key, IsString}
 use Rattle.jfr_layout.specs.declared.kind.Kind.{Kind}
 use Rattle.jfr_layout.specs.declared.kind.Kind.TheVariants as kinds
 use Rattle.jfr_value.specs.declared.leaf.LeafKind.TheVariants as leaf_kinds
-use Rattle.jfr_value.specs.Values.{IsBase, key_of}
+use Rattle.jfr_value.specs.Values.{IsBase}
 use Rattle.jfr_value.specs.Leaves.{leaf_key}
 use Rattle.jfr_value.proofs.LeafLaws.{string_key}
 use Rattle.jfr_build.specs.LeafWords.{hex_byte, byte_before, hex_bytes, hex_of, truth_of, string_of, spelled_content, content_of, unquoted, id_after, base_of}
 
--- What an option of another is made of.
+-- A mapped option comes from an option.
 pub mapped : {A B : Type 0} (f : A → B) (o : Option A) (b : B) → option_map f o ≡ Some b → (a : A) × (o ≡ Some a) × (f a ≡ b)
 mapped f None b e = cc
 mapped f (Some a) b e = (a, refl, (let h : Some (f a) ≡ Some b = e in cc))
@@ -48,7 +48,7 @@ truth_count w b e = by_marks (bytes_eq w (codes "true")) (bytes_eq w (codes "fal
     by_marks false true q = let h : 0 ∷ [] ≡ b = cc in ap length (sym h)
     by_marks false false q = cc
 
--- A string that a word says is spelled so.
+-- The bytes that a word spells are a string.
 spelled_string : (w : List ℕ) (s : Content) → string_of w ≡ Some s → IsString (spelled_content s) s
 spelled_string w s e = by_null (bytes_eq w (codes "null")) e
   where
@@ -85,18 +85,18 @@ IsNone o = o ≡ None
 spelled_int : (o : Option ℕ) (b : List ℕ) → option_map spell o ≡ Some b → (v : ℕ) × Spells b v × IsNone None
 spelled_int o b e = let m = mapped spell o b e in (m.0, subst (λ z. Spells z m.0) m.2 (spell_spells m.0), refl)
 
--- With the key that the bytes have.
-pub base_is_said : (kd : Kind) (w b : List ℕ) → base_of kd w ≡ Some b → IsBase kd b (leaf_key (leaf_kinds.Base kd) b)
-base_is_said kinds.Boolean w b e = (truth_count w b e, refl)
-base_is_said kinds.Byte w b e = let m = mapped (λ n. n ∷ []) _ b e in (ap length (sym m.2), refl)
-base_is_said kinds.Char w b e = spelled_int _ b e
-base_is_said kinds.Short w b e = spelled_int _ b e
-base_is_said kinds.Int w b e = spelled_int _ b e
-base_is_said kinds.Long w b e = spelled_int _ b e
-base_is_said kinds.Float w b e = (hex_count 4 w b e, refl)
-base_is_said kinds.Double w b e = (hex_count 8 w b e, refl)
-base_is_said kinds.Text w b e =
+-- The bytes are a value of the base name, with the key that they have.
+pub base_is_spelled : (kd : Kind) (w b : List ℕ) → base_of kd w ≡ Some b → IsBase kd b (leaf_key (leaf_kinds.Base kd) b)
+base_is_spelled kinds.Boolean w b e = (truth_count w b e, refl)
+base_is_spelled kinds.Byte w b e = let m = mapped (λ n. n ∷ []) _ b e in (ap length (sym m.2), refl)
+base_is_spelled kinds.Char w b e = spelled_int _ b e
+base_is_spelled kinds.Short w b e = spelled_int _ b e
+base_is_spelled kinds.Int w b e = spelled_int _ b e
+base_is_spelled kinds.Long w b e = spelled_int _ b e
+base_is_spelled kinds.Float w b e = (hex_count 4 w b e, refl)
+base_is_spelled kinds.Double w b e = (hex_count 8 w b e, refl)
+base_is_spelled kinds.Text w b e =
     let m = mapped spelled_content (string_of w) b e in
     let i : IsString b m.0 = subst (λ z. IsString z m.0) m.2 (spelled_string w m.0 m.1) in
     (m.0, i, string_key b m.0 i)
-base_is_said kinds.Composite w b e = cc
+base_is_spelled kinds.Composite w b e = cc

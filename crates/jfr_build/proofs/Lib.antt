@@ -5,6 +5,7 @@ mod LineLaws
 mod NumberLaws
 mod PieceLaws
 mod PoolLaws
+mod Rows
 mod SoundLaws
 mod TakenLaws
 mod UnknownLaws

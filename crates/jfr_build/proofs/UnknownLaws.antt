@@ -1,6 +1,6 @@
 -- No value is taken for a class that isn't known.
 use Rattle.std.specs.Prelude.{◌≡◌, ℕ, List, None, option_map}
-use Rattle.std.proofs.Common.{ap, refl}
+use Rattle.std.proofs.Common.{ap}
 use Rattle.jfr_layout.specs.Classes.{Classes, find_class}
 use Rattle.jfr_value.specs.Values.{bytes_of}
 use Rattle.jfr_build.specs.Taking.{class_taken, inline_taken, value_taken}

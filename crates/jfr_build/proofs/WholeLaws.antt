@@ -1,9 +1,9 @@
--- Words that say the leaves of a value are taken as it.
-use Rattle.std.specs.Prelude.{◌≡◌, ℕ, zero, suc, ◌+◌, Bool, true, false, List, [], ◌∷◌, ◌++◌, length, map, replicate, Option, Some, None, option_map, if◌then◌else◌}
+-- The words of a value's leaves are taken as this value.
+use Rattle.std.specs.Prelude.{◌≡◌, ℕ, zero, suc, ◌+◌, Bool, true, false, List, [], ◌∷◌, ◌++◌, length, map, replicate, Option, Some, option_map, if◌then◌else◌}
 use Rattle.std.specs.Option.{option_map_or}
 use Rattle.std.specs.List.{AllByRecursion}
 use Rattle.std.proofs.Common.{ap, refl, sym, ◌∙◌, subst, inl, inr}
-use Rattle.std.proofs.lemmas.List.{append_assoc, append-nil}
+use Rattle.std.proofs.lemmas.List.{append_assoc}
 use Rattle.jfr_base.specs.Integer.{spell, worth_within, Spells}
 use Rattle.jfr_layout.specs.Classes.{Class, Classes, Field, Sound, find_class, kind_of, item_of, is_composite, inline_fields, step_class, goes_inline}
 use Rattle.jfr_layout.specs.declared.kind.Kind.{Kind}
@@ -17,22 +17,22 @@ use Rattle.jfr_value.specs.Walks.{Room}
 use Rattle.jfr_value.proofs.DepthLaws.{any_none, sound_inline, steps_to, values_again}
 use Rattle.jfr_value.proofs.LeafLaws.{string_key}
 use Rattle.jfr_build.specs.LeafWords.{id_after, base_of, IsWordOf, AreWordsOf}
-use Rattle.jfr_build.specs.Taking.{Taken, Taker, took, then_take, word_taken, times_taken, each_taken, reference_taken, item_taken, array_taken, shape_taken, base_taken, kind_taken, inline_taken, class_taken, value_taken}
+use Rattle.jfr_build.specs.Taking.{Taken, Taker, took, then_take, times_taken, each_taken, reference_taken, item_taken, array_taken, shape_taken, base_taken, kind_taken, inline_taken, class_taken, value_taken}
 
--- The words of leaves, one part behind another.
+-- The words of leaves, one part after another.
 record Parted (front : List (List ℕ)) (ls ms : List LeafAt) : Type 0 where
   first : List (List ℕ)
   second : List (List ℕ)
   split : front ≡ first ++ second
-  first_says : AreWordsOf first ls
-  second_says : AreWordsOf second ms
+  first_words : AreWordsOf first ls
+  second_words : AreWordsOf second ms
 
 parted : (front : List (List ℕ)) (ls ms : List LeafAt) → AreWordsOf front (ls ++ ms) → Parted front ls ms
-parted front [] ms a = record { first = []; second = front; split = refl; first_says = tt; second_says = a }
+parted front [] ms a = record { first = []; second = front; split = refl; first_words = tt; second_words = a }
 parted [] (l ∷ ls) ms a = absurd a
-parted (w ∷ ws) (l ∷ ls) ms a = let i = parted ws ls ms a.1 in record { first = w ∷ i.first; second = i.second; split = ap (λ z. w ∷ z) i.split; first_says = (a.0, i.first_says); second_says = i.second_says }
+parted (w ∷ ws) (l ∷ ls) ms a = let i = parted ws ls ms a.1 in record { first = w ∷ i.first; second = i.second; split = ap (λ z. w ∷ z) i.split; first_words = (a.0, i.first_words); second_words = i.second_words }
 
--- A value is taken from words that say its leaves.
+-- A value is taken from the words of its leaves.
 abbrev IsTaken : Taker Value → Value → Type 0
 IsTaken f v = (at : ℕ) (front rest : List (List ℕ)) → AreWordsOf front (leaves_at at v) → f (front ++ rest) ≡ took v rest
 
@@ -45,8 +45,8 @@ cons_taken f g v vs at front rest x y a =
     let i = parted front (leaves_at at v) (leaves_from (at + length (bytes_of v)) vs) a in
     let s : front ++ rest ≡ i.first ++ (i.second ++ rest) = ap (λ z. z ++ rest) i.split ∙ append_assoc i.first i.second rest in
     ap (λ z. then_take (f z) (λ a us. then_take (g us) λ bs vs. took (a ∷ bs) vs)) s
-    ∙ (ap (λ z. then_take z (λ a us. then_take (g us) λ bs vs. took (a ∷ bs) vs)) (x at i.first (i.second ++ rest) i.first_says)
-    ∙ ap (λ z. then_take z (λ bs vs. took (v ∷ bs) vs)) (y (at + length (bytes_of v)) i.second rest i.second_says))
+    ∙ (ap (λ z. then_take z (λ a us. then_take (g us) λ bs vs. took (a ∷ bs) vs)) (x at i.first (i.second ++ rest) i.first_words)
+    ∙ ap (λ z. then_take z (λ bs vs. took (v ∷ bs) vs)) (y (at + length (bytes_of v)) i.second rest i.second_words))
 
 none_taken : (at : ℕ) (front rest : List (List ℕ)) → AreWordsOf front (leaves_from at Nil) → took {A = List Value} [] (front ++ rest) ≡ took [] rest
 none_taken at [] rest a = refl
@@ -128,11 +128,11 @@ module _ (k : Classes) where
       let b : AreWordsOf front (record { kind = leaf_kinds.Count (worth_within 8 h); class = s.class; at = at; spelled = h } ∷ leaves_from (at + length h) vs) =
       subst (λ z. AreWordsOf front ((if z then record { kind = leaf_kinds.Count (worth_within 8 h); class = s.class; at = at; spelled = h } ∷ [] else []) ++ leaves_from (at + length h) vs)) a q in
       let i = parted front (record { kind = leaf_kinds.Count (worth_within 8 h); class = s.class; at = at; spelled = h } ∷ []) (leaves_from (at + length h) vs) b in
-      let w = one_word i.first (record { kind = leaf_kinds.Count (worth_within 8 h); class = s.class; at = at; spelled = h }) i.first_says in
+      let w = one_word i.first (record { kind = leaf_kinds.Count (worth_within 8 h); class = s.class; at = at; spelled = h }) i.first_words in
       let c : id_after 91 w.0 ≡ Some m = w.2.0 ∙ ap (λ z. Some z) (sym p.worth) in
       let g : spell m ≡ h = ap spell p.worth ∙ sym w.2.1 in
       let l : front ++ rest ≡ w.0 ∷ (i.second ++ rest) = ap (λ z. z ++ rest) i.split ∙ ap (λ z. (z ++ i.second) ++ rest) w.1 in
-      let t = times_all (shape_taken f) (item_of s) m vs e x (at + length h) i.second rest i.second_says in
+      let t = times_all (shape_taken f) (item_of s) m vs e x (at + length h) i.second rest i.second_words in
       by_marks f s true s.constant (front ++ rest) (took (Group s h vs) rest) a refl
       (ap (λ z. array_taken (item_taken f (item_of s)) s z) l
       ∙ (ap (λ z. then_take (option_map (λ a. record { value = a; rest = i.second ++ rest }) z) (λ n us. then_take (times_taken n (item_taken f (item_of s)) us) λ vs rest. took (Group s (spell n) (values_of vs)) rest)) c

@@ -1,10 +1,9 @@
 -- The words of leaves, one after another byte.
-use Rattle.std.specs.Prelude.{◌≡◌, ◌≢◌, ℕ, zero, suc, ◌+◌, ◌*◌, ◌<◌, ◌≤◌, ◌==◌, nat_lt, Bool, true, false, List, [], ◌∷◌, ◌++◌, length, drop, Option, Some, None, option_map, option_and_then, if◌then◌else◌}
+use Rattle.std.specs.Prelude.{◌≡◌, ◌≢◌, ℕ, zero, suc, ◌+◌, ◌*◌, ◌<◌, ◌≤◌, ◌==◌, nat_lt, true, false, List, [], ◌∷◌, ◌++◌, length, drop, Option, Some, None, option_map, option_and_then}
 use Rattle.std.specs.Option.{option_to_list}
 use Rattle.std.proofs.Common.{ap, arith, get_or, refl, sym, ◌∙◌}
 use Rattle.std.proofs.lemmas.Bool.Decides.{nat_tests}
-use Rattle.std.proofs.lemmas.List.{append_assoc, append-nil}
-use Rattle.jfr_meta.specs.Attributes.{id_of}
+use Rattle.std.proofs.lemmas.List.{append_assoc}
 use Rattle.jfr_build.specs.declared.quoted.Quoted.{Quoted}
 use Rattle.jfr_build.specs.Numbers.{digits_of}
 use Rattle.jfr_build.specs.LeafWords.{below, go_on, hex_byte, hex_bytes, hex_of, byte_before, id_after, quoted_from, quoted_step, signed_of}

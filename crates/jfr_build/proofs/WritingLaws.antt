@@ -3,17 +3,16 @@ use Rattle.std.specs.Prelude.{◌≡◌, ◌≢◌, ◌⊎◌, ℕ, zero, suc, �
 use Rattle.std.proofs.Common.{ap, arith, inl, inr, refl, subst, sym, ◌∙◌}
 use Rattle.std.proofs.lemmas.List.{append_assoc, append-nil}
 use Rattle.jfr_base.specs.Integer.{spell}
-use Rattle.jfr_layout.specs.Classes.{AreFieldLayouts, Class, Classes, Field, IsFieldLayout, find_class, item_of, kind_of}
+use Rattle.jfr_layout.specs.Classes.{AreFieldLayouts, Classes, Field, find_class, item_of, kind_of}
 use Rattle.jfr_layout.specs.declared.form.Form.{Form}
 use Rattle.jfr_layout.specs.declared.form.Form.TheVariants as forms
 use Rattle.jfr_layout.specs.declared.kind.Kind.{Kind}
 use Rattle.jfr_layout.specs.declared.kind.Kind.TheVariants as kinds
 use Rattle.jfr_layout.specs.declared.shape.Shape.{Shape}
 use Rattle.jfr_layout.specs.declared.field_layout.FieldLayout.{FieldLayout}
-use Rattle.jfr_value.specs.declared.leaf.LeafKind.TheVariants as leaf_kinds
 use Rattle.jfr_value.specs.Values.{IsPlaced, Value, Group, bytes_of, bytes_of_all, values_of}
 use Rattle.jfr_value.specs.Walks.{Room}
-use Rattle.jfr_value.proofs.FormLaws.{Inline, IsInline, fields_kind, inline_there, key_there, other_kind}
+use Rattle.jfr_value.proofs.FormLaws.{IsInline, fields_kind, inline_there, key_there, other_kind}
 use Rattle.jfr_value.proofs.LayoutLaws.{layout_class}
 use Rattle.jfr_value.proofs.StackLaws.{inner_room}
 use Rattle.jfr_build.specs.LeafWords.{base_of, id_after}

@@ -1,6 +1,6 @@
 -- The chunk of a text: a header, the metadata record, the events, and one checkpoint with the constants.
 use Rattle.std.specs.Prelude.{◌≡◌, ℕ, ◌+◌, ◌^◌, ◌≤◌, ◌==◌, Bool, true, false, List, [], ◌∷◌, ◌++◌, length, Option, Some, None, if◌then◌else◌}
-use Rattle.std.specs.List.{count_by, filter_map, flat_map, list_any}
+use Rattle.std.specs.List.{count_by, flat_map, list_any}
 use Rattle.std.specs.Option.{option_map_or}
 use Rattle.jfr_base.specs.Integer.{spell, spell_in}
 use Rattle.jfr_header.specs.declared.header.Header.{Header}

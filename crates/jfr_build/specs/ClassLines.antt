@@ -1,7 +1,7 @@
 -- The classes of the lines, and the line of a flaw in them.
-use Rattle.std.specs.Prelude.{◌≡◌, ⊤, ℕ, zero, suc, Bool, List, [], ◌∷◌, Option, Some, None, slice_get, option_map, if◌then◌else◌, codes}
+use Rattle.std.specs.Prelude.{◌≡◌, ⊤, ℕ, zero, suc, Bool, List, [], ◌∷◌, Option, Some, None, slice_get, if◌then◌else◌, codes}
 use Rattle.std.specs.Option.{option_map_or}
-use Rattle.jfr_layout.specs.Classes.{Class, Classes, Field, ClassFlaw, class_faults}
+use Rattle.jfr_layout.specs.Classes.{Classes, Field, ClassFlaw, class_faults}
 use Rattle.jfr_build.specs.declared.line.Line.{Line}
 use Rattle.jfr_build.specs.declared.line.Line.TheVariants as lines
 use Rattle.jfr_build.specs.declared.lines.NumberedLine.{NumberedLine}

@@ -2,7 +2,7 @@
 -- (jfr_value: Reading), with words in place of bytes.
 use Rattle.std.specs.Prelude.{ℕ, zero, suc, List, [], ◌∷◌, Option, Some, None, option_map, if◌then◌else◌}
 use Rattle.jfr_base.specs.Integer.{spell}
-use Rattle.jfr_layout.specs.Classes.{Class, Classes, Field, find_class, kind_of, item_of}
+use Rattle.jfr_layout.specs.Classes.{Class, Classes, find_class, kind_of, item_of}
 use Rattle.jfr_layout.specs.declared.kind.Kind.{Kind}
 use Rattle.jfr_layout.specs.declared.kind.Kind.TheVariants as kinds
 use Rattle.jfr_layout.specs.declared.shape.Shape.{Shape}

@@ -1,6 +1,6 @@
 use Rattle.std.proofs.Common.{◌≡◌, Ok, ap, subst, sym, ◌∙◌}
 use Rattle.std.specs.Prelude.{MatchResult}
-use Rattle.jfr_build.specs.Builds.{IsFault, build_lines, build_of, line_count}
+use Rattle.jfr_build.specs.Builds.{IsFault, build_lines, line_count}
 use Rattle.jfr_build.proofs.ChunkLaws.{bad_line, text_lines, text_too_large}
 use Rattle.jfr_build.proofs.building.build.Goals as goal
 

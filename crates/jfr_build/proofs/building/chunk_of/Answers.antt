@@ -1,4 +1,4 @@
-use Rattle.std.proofs.Common.{◌≡◌, Some, Global, Vec, ap, subst, sym, ◌∙◌}
+use Rattle.std.proofs.Common.{◌≡◌, Some, Global, Vec, ap, subst, ◌∙◌}
 use Rattle.std.specs.Prelude.{ℕ, IfOk, option_map}
 use Rattle.jfr_build.proofs.ChunkLaws.{chunk_made, large_events, no_metadata}
 use Rattle.jfr_build.proofs.building.chunk_of.Goals as goal

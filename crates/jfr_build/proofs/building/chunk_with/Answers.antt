@@ -1,4 +1,4 @@
-use Rattle.std.proofs.Common.{[], ◌∷◌, ◌++◌, ap, refl, sym, ◌∙◌}
+use Rattle.std.proofs.Common.{refl, sym}
 use Rattle.jfr_build.proofs.ChunkLaws.{chunk_joined, too_long}
 use Rattle.jfr_build.proofs.building.chunk_with.Goals as goal
 

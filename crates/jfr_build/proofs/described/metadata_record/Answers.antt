@@ -1,4 +1,4 @@
-use Rattle.std.proofs.Common.{◌≤◌, ◌≡◌, subst, sym, ◌∙◌}
+use Rattle.std.proofs.Common.{◌≤◌, subst, sym, ◌∙◌}
 use Rattle.jfr_meta.specs.Stays.{is_in}
 use Rattle.jfr_meta.specs.Written.{depth}
 use Rattle.jfr_build.proofs.DescribedLaws.{root_low, slim_same}

@@ -1,4 +1,4 @@
-use Rattle.std.proofs.Common.{◌≡◌, ◌+◌, ◌*◌, ◌<◌, None, ap, arith, drop, get_or, length, sym, ◌∙◌}
+use Rattle.std.proofs.Common.{◌+◌, ◌*◌, ap, arith, drop, sym, ◌∙◌}
 use Rattle.jfr_build.specs.LeafWords.{hex_bytes, hex_of}
 use Rattle.jfr_build.proofs.WordLaws.{bytes_before, hex_goes, hex_none, hex_stops}
 use Rattle.jfr_build.proofs.leaf.push_hex.Goals as goal

@@ -1,4 +1,4 @@
-use Rattle.std.proofs.Common.{◌≡◌, ◌+◌, ◌*◌, drop, length}
+use Rattle.std.proofs.Common.{◌≡◌, ◌+◌, ◌*◌, drop}
 use Rattle.jfr_build.specs.LeafWords.{hex_bytes}
 use Rattle.jfr_build.proofs.WordLaws.{bytes_before}
 use Rattle.jfr_build.proofs.leaf.push_hex.Given as goal

@@ -1,4 +1,4 @@
-use Rattle.std.proofs.Common.{arith, sym, ◌∙◌}
+use Rattle.std.proofs.Common.{sym, ◌∙◌}
 use Rattle.jfr_build.proofs.NumberLaws.{large_id, no_id, small_id}
 use Rattle.jfr_build.proofs.number.id_of.Goals as goal
 

@@ -1,5 +1,5 @@
 use Rattle.std.proofs.Common.{◌≡◌, subst}
-use Rattle.std.specs.Prelude.{IfOk, Vec}
+use Rattle.std.specs.Prelude.{IfOk}
 use Rattle.jfr_build.proofs.PoolLaws.{pooled_end}
 use Rattle.jfr_build.proofs.pools.pools_of.Goals as goal
 

@@ -1,7 +1,4 @@
-use Rattle.std.proofs.Common.{◌≡◌, ◌+◌, ◌++◌, [], ℕ, None, drop}
-use Rattle.jfr_build.specs.Built.{entries_of, entry_count, with_classes}
-use Rattle.jfr_build.specs.LineValues.{first_bad_value}
-use Rattle.jfr_build.specs.Pooled.{AreOrdered, count_in, entries_in, pool_in}
+use Rattle.std.proofs.Common.{drop}
 use Rattle.jfr_build.proofs.PoolLaws.{Pooled}
 use Rattle.jfr_build.proofs.pools.pools_of.Given as goal
 
