@@ -1,5 +1,6 @@
 mod BaseLaws
 mod ChunkLaws
+mod ChunkRows
 mod DescribedLaws
 mod LineLaws
 mod NumberLaws
