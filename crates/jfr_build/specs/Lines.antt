@@ -1,4 +1,4 @@
--- What a line of a text says, and the lines of a whole text.
+-- What a line of a text means, and the lines of a whole text.
 use Rattle.std.specs.Prelude.{◌≡◌, ⊤, ℕ, ◌+◌, ◌==◌, ◌&&◌, not, Bool, true, false, List, [], ◌∷◌, ◌++◌, length, Option, Some, None, Result, Ok, Err, option_map, option_and_then, if◌then◌else◌, codes}
 use Rattle.std.specs.List.{list_any}
 use Rattle.std.specs.Str.{bytes_eq, chars, is_utf8}
@@ -11,7 +11,7 @@ use Rattle.jfr_build.specs.declared.reason.BuildFault.TheVariants.{Refused, Memo
 use Rattle.jfr_build.specs.declared.reason.BuildReason.TheVariants.{LineBad}
 use Rattle.jfr_build.specs.Pieces.{lines_of, words_of}
 
--- Reads the first word, and goes on with what it says and the words after it.
+-- Reads the first word, and goes on with its meaning and the words after it.
 abbrev pub with_word : {A B : Type 0} → (List ℕ → Option A) → (A → List (List ℕ) → Option B) → List (List ℕ) → Option B
 with_word says next [] = None
 with_word says next (w ∷ ws) = option_and_then (λ a. next a ws) (says w)
@@ -50,7 +50,7 @@ constant_line ws = with_word id_of (λ id us. with_word id_of (λ key leaves. So
 abbrev pub record_line : List (List ℕ) → Option Line
 record_line ws = with_word id_of (λ id leaves. Some (Record id leaves)) ws
 
--- The first word says what the line is.
+-- The first word determines what the line is.
 abbrev pub line_by : List ℕ → List (List ℕ) → Option Line
 line_by word ws =
     if bytes_eq word (codes "class") then class_line false ws
@@ -65,7 +65,7 @@ abbrev pub line_in : List (List ℕ) → Option Line
 line_in [] = None
 line_in (w ∷ ws) = line_by w ws
 
--- What a line says, up to the words of its leaves; none if it isn't UTF-8 or has no known form.
+-- What a line means, up to the words of its leaves; none if it isn't UTF-8 or has no known form.
 unfoldable pub line_of : List ℕ → Option Line
 line_of bytes = if is_utf8 bytes then line_in (words_of bytes) else None
 
@@ -98,7 +98,7 @@ is_allowed before (Field name shape) = any_class before && not (any_value before
 is_allowed before (Constant class key words) = true
 is_allowed before (Record class words) = true
 
--- What a line says, if it says something and is allowed after those before it.
+-- What a line means, if it has a known form and is allowed after those before it.
 abbrev pub line_after : List NumberedLine → Option Line → Option Line
 line_after before None = None
 line_after before (Some line) = if is_allowed before line then Some line else None
@@ -108,8 +108,8 @@ abbrev pub with_line : ℕ → List NumberedLine → Option Line → (List Numbe
 with_line n before None next = Err n
 with_line n before (Some line) next = next (before ++ record { number = n; line = line } ∷ [])
 
--- The lines, or the number of the first that is bad, if these came before. Empty lines count, but say
--- nothing.
+-- The lines, or the number of the first that is bad, if these came before. Empty lines count, but have
+-- no meaning.
 abbrev pub read_from : ℕ → List NumberedLine → List (List ℕ) → Result (List NumberedLine) ℕ
 read_from n before [] = Ok before
 read_from n before (bytes ∷ rest) =

@@ -1,11 +1,11 @@
 //! A builder of recordings: a text with a line for each class, field, constant and event becomes a chunk.
 //!
 //! `build` is the only call. Read `specs/Builds.antt` first: what is built of a text, and why a text is
-//! refused. Then read `specs/Pieces.antt` and `specs/Lines.antt`: what the lines of a text say;
+//! refused. Then read `specs/Pieces.antt` and `specs/Lines.antt`: what the lines of a text mean;
 //! `specs/ClassLines.antt`: the classes of the lines; `specs/LeafWords.antt`: the words of leaves;
 //! `specs/Taking.antt` and `specs/LineValues.antt`: the values of words and lines; and
-//! `specs/Described.antt` and `specs/Built.antt`: the bytes of the chunk. The law says which values words are
-//! taken as.
+//! `specs/Described.antt` and `specs/Built.antt`: the bytes of the chunk. The law is about the values that words
+//! are taken as.
 #![tactic(auto)]
 
 mod building;

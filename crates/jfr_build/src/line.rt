@@ -1,4 +1,4 @@
-//! What a line says.
+//! What a line means.
 ghost use Rattle.std.specs.Prelude.{◌≡◌, IfOk};
 ghost use Rattle.jfr_build.specs.Lines.{class_line, constant_line, field_line, line_by, line_of, marks_of, name_of, record_line};
 
@@ -71,7 +71,7 @@ pub enum Line<'a> {
     },
 }
 
-/// What a line says, up to the words of its leaves; `None` exactly if it isn't UTF-8 or has no known form.
+/// What a line means, up to the words of its leaves; `None` exactly if it isn't UTF-8 or has no known form.
 pub fn read_line(bytes: &[u8]) -> Option<Line<'_>>
     ensures { result ≡ line_of bytes.now }
 {

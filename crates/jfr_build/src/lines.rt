@@ -56,7 +56,7 @@ fn is_allowed(line: &Line<'_>, before: Before) -> bool
     }
 }
 
-/// What a line says, if it may come after those before it.
+/// What a line means, if it may come after those before it.
 fn allowed_line(bytes: &[u8], before: Before) -> Option<Line<'_>>
     ensures { (ls : List NumberedLine) → any_class ls ≡ before.class → any_value ls ≡ before.value → line_after ls (line_of bytes.now) ≡ result }
 {

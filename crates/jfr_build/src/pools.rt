@@ -111,6 +111,7 @@ pub fn pools_of(
     requires good { first_bad_value classes.now lines.now ≡ None }
     ensures ok { IfOk result (λ bytes. bytes.items ≡ pools_of classes.now lines.now) }
 {
+    // For its range: no pool has more entries than a `usize` can count.
     let _count = lines.len();
     let mut pools = Pools::new(alloc);
     let mut value = Output::new(alloc);
