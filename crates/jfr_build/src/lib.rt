@@ -4,8 +4,8 @@
 //! refused. Then read `specs/Pieces.antt` and `specs/Lines.antt`: what the lines of a text mean;
 //! `specs/ClassLines.antt`: the classes of the lines; `specs/LeafWords.antt`: the words of leaves;
 //! `specs/Taking.antt` and `specs/LineValues.antt`: the values of words and lines; and
-//! `specs/Described.antt` and `specs/Built.antt`: the bytes of the chunk. The law is about the values that words
-//! are taken as.
+//! `specs/Described.antt` and `specs/Built.antt`: the bytes of the chunk. The laws are about the values
+//! that words are taken as.
 #![tactic(auto)]
 
 mod building;
@@ -26,5 +26,5 @@ mod records;
 mod value;
 
 pub use building::build;
-pub use laws::words_are_taken;
+pub use laws::{taken_values_are_read, words_are_taken};
 pub use reason::{BuildFault, BuildReason};
