@@ -10,10 +10,14 @@ import sys
 
 HEADER = 68
 GREATEST = 2**28 - 1
+# The size that no chunk may exceed. Only a kind that says so has chunks above the one before.
+LIMIT = 2**30 - 1
 MOST = 2**64 - 1
 
 # The ids of the classes that most kinds share.
 LONG, STRING, BYTE, THREAD, CATEGORY, NOTHING, NODE, EVENT = 10, 11, 12, 13, 14, 15, 16, 20
+# Those of stacks.
+TRACE, FRAME, METHOD, TYPE, SYMBOL = 21, 22, 23, 24, 25
 
 
 def integer(value, width=1):
@@ -119,13 +123,13 @@ def event_class(*fields, annotations=()):
     return make
 
 
-def chunk(described, records=b"", last=None, at=None):
+def chunk(described, records=b"", last=None, at=None, most=GREATEST):
     """A chunk: a metadata record, more records, and a checkpoint that begins the chain unless `at` says where it does."""
     last = checkpoint() if last is None else last
     body = described + records + last
     chain = HEADER + len(described) + len(records) if at is None else at
     size = HEADER + len(body)
-    assert size <= GREATEST, size
+    assert size <= most, size
     numbers = struct.pack(">HHQQQQQQQ", 2, 1, size, chain, HEADER, 1000, 5, 0, 10**9)
     return b"FLR\0" + numbers + b"\0\0\0\1" + body
 
@@ -432,6 +436,77 @@ def shared_text(size):
     return chunk(described, record(EVENT, key_text(1)) * count(100000, size), checkpoint([name]))
 
 
+# Stacks. A frame is one byte, the key of its method.
+
+
+def stack_classes(of):
+    """The classes of stacks, which lead from event to names as the JDK's do, and one of events that have a stack."""
+    return [
+        class_(of, "t.Trace", TRACE, [field(of, "frames", FRAME, array=True)]),
+        class_(of, "t.Frame", FRAME, [field(of, "method", METHOD, constant=True)]),
+        class_(of, "t.Method", METHOD, [field(of, "type", TYPE, constant=True), field(of, "name", SYMBOL, constant=True)]),
+        class_(of, "t.Type", TYPE, [field(of, "name", SYMBOL, constant=True)]),
+        class_(of, "t.Symbol", SYMBOL, [field(of, "string", STRING)]),
+        class_(of, "t.E", EVENT, [field(of, "stackTrace", TRACE, constant=True)], event=True),
+    ]
+
+
+def stacked(traces, names, most=GREATEST):
+    """A chunk of these spelled traces, each with an event, and of a method of one class for each of these names."""
+    keys = range(1, len(names) + 1)
+    return chunk(metadata(stack_classes), b"".join(record(EVENT, integer(n)) for n in range(len(traces))), checkpoint([
+        pool(TRACE, list(enumerate(traces))),
+        pool(METHOD, [(key, b"\1" + integer(key)) for key in keys]),
+        pool(TYPE, [(1, b"\1")]),
+        pool(SYMBOL, [(key, text(name)) for key, name in zip(keys, names)]),
+    ]), most=most)
+
+
+def stacks(size):
+    """A million stacks of a thousand frames, all different, in a chunk of nearly 2^30 bytes."""
+    above = integer(1000) + b"\1" * 997
+    numbers = (bytes([n // 10000 + 1, n // 100 % 100 + 1, n % 100 + 1]) for n in range(count(10**6, size)))
+    return stacked([above + number for number in numbers], ["m%d" % n for n in range(100)], LIMIT)
+
+
+def long_stack(size):
+    """One stack, of 2^28 frames."""
+    many = count(2**28 - 2000, size)
+    return stacked([integer(many) + b"\1" * many], ["m"])
+
+
+def long_methods(size):
+    """A hundred stacks of up to 10,000 frames, all of a method whose name has a megabyte."""
+    depths = [max(1, count(10000, size) - n) for n in range(100)]
+    return stacked([integer(depth) + b"\1" * depth for depth in depths], ["m" * count(10**6, size)])
+
+
+def frame_ring(size):
+    """Ten stacks of the same 200,000 frames in a ring, which have methods with names that are strings in a ring."""
+    many = count(200000, size)
+    described = metadata(lambda of: [
+        class_(of, "t.Trace", TRACE, [field(of, "frames", FRAME, constant=True, array=True)]),
+        class_(of, "t.Frame", FRAME, [field(of, "method", METHOD, constant=True), field(of, "next", FRAME, constant=True)]),
+        class_(of, "t.Method", METHOD, [field(of, name, of_id, constant=True) for name, of_id in (
+            ("type", TYPE), ("name", SYMBOL), ("frame", FRAME))]),
+        class_(of, "t.Type", TYPE, [field(of, "name", SYMBOL, constant=True)]),
+        class_(of, "t.Symbol", SYMBOL, [field(of, "string", STRING)]),
+        class_(of, "t.E", EVENT, [field(of, "stackTrace", TRACE, constant=True)], event=True),
+    ])
+    numbers = range(many)
+    keys = [integer(n) for n in numbers]
+    after = keys[1:] + keys[:1]
+    trace = integer(many) + b"".join(keys)
+    return chunk(described, b"".join(record(EVENT, integer(n)) for n in range(10)), checkpoint([
+        pool(TRACE, [(n, trace) for n in range(10)]),
+        pool(FRAME, [(n, keys[n] + after[n]) for n in numbers]),
+        pool(METHOD, [(n, keys[n] * 2 + after[n]) for n in numbers]),
+        pool(TYPE, [(n, keys[n]) for n in numbers]),
+        pool(SYMBOL, [(n, b"\2" + keys[n]) for n in numbers]),
+        pool(STRING, [(n, b"\2" + after[n]) for n in numbers]),
+    ]))
+
+
 def chunks(size):
     """100,000 small chunks."""
     of = Strings()
@@ -493,7 +568,8 @@ KINDS = {make.__name__: make for make in (
     constants, distinct_constants, events, checkpoints, inert_checkpoints, inert_empty_checkpoints, pools,
     references, array, array_short, strings, elements, attributes, long_key, long_names, alike_fields, classes,
     same_names, fields, categories, long_categories, long_class_names, alike_classes, inline_32, inline_33,
-    inline_wide, inline_array, ring, string_ring, fan, chain, thread_name, shared_name, shared_text, chunks,
+    inline_wide, inline_array, ring, string_ring, fan, chain, thread_name, shared_name, shared_text,
+    stacks, long_stack, long_methods, frame_ring, chunks,
     delta_self, delta_forward, delta_amid,
 )}
 for place in ("strings", "string", "attributes", "children", "pools", "entries", "items", "bytes", "units", "characters"):

@@ -6,6 +6,8 @@
 # has to end with status 0, 2 or 5, in 20 seconds of processor time, and with a peak of at most 20 times the file's size
 # and 64 MB of memory. The seconds are of processor time, since those of the clock depend on what else the machine does.
 #
+# With ONLY, a pattern as 'scrub*', just the commands whose label it matches.
+#
 # Prints a row for each run: kind, bytes, command, status, seconds of the clock and of the processor, peak memory with
 # how many times the file's size it is, the line on the error stream, and which bound was missed; then how many runs
 # there were, how many of them lacked memory, and how many missed a bound. The status is 0 where none did. Texts go to
@@ -28,6 +30,8 @@ missed=0
 run() {
     local label=$1 clock own system peak status mb bound='' line
     shift
+    # shellcheck disable=SC2053 # it is a pattern
+    [[ $label == ${ONLY-*} ]] || return 0
     rm -rf "$work/made" "$work/out.jfr"
     mkdir "$work/made"
     (
@@ -62,6 +66,7 @@ for kind in "${kinds[@]}"; do
     run print print "$file"
     run 'print --json' print --json "$file"
     run 'print --depth 8' print --depth 8 "$file"
+    run stacks stacks "$file"
     run scrub scrub "$file" "$work/out.jfr"
     run 'scrub, threads' scrub --include-threads '*a*a*a*b,*a*a*a*c' "$file" "$work/out.jfr"
     run 'scrub, events' scrub --include-events '*a*a*a*b,*a*a*a*c' "$file" "$work/out.jfr"

@@ -1,5 +1,5 @@
 #!/usr/bin/env bash
-# Tries the script jfr with a made-up toolchain: bench/script.sh
+# Tries the scripts jfr and dist/make with a made-up toolchain: bench/script.sh
 #
 # In a copy of the repository's files, `rt` is a script that writes a program which says its number. Prints a line for
 # each case that is wrong, and at the end how many there were; the status is 0 if none was wrong.
@@ -7,8 +7,9 @@ set -u
 top=$(dirname "$(dirname "$(readlink -f -- "$0")")")
 work=$(mktemp -d)
 trap 'rm -rf -- "$work"' EXIT
-mkdir "$work/copy" "$work/bin"
+mkdir -p "$work/copy/dist" "$work/bin"
 cp -r -- "$top"/{jfr,crates.txt,README.md,CHANGELOG.md,docs} "$work/copy/" || exit 1
+cp -- "$top"/dist/{make,sources} "$work/copy/dist/" || exit 1
 (cd "$top" && find crates -path '*/src/*' -type f -print0 | xargs -0 cp --parents -t "$work/copy") || exit 1
 cat >"$work/bin/rt" <<'END'
 #!/bin/bash
@@ -16,7 +17,7 @@ cat >"$work/bin/rt" <<'END'
 sleep "${SLOW-0}"
 [ -z "${FAIL-}" ] || exit 1
 mkdir -p out
-printf '#!/bin/bash\necho "%s $*"\n[ "$1" != wrong ]\n' "$NUMBER" >out/jfr
+printf '#!/bin/bash\n# %s\necho "%s $*"\n[ $# != 0 ] && [ "$1" != wrong ]\n' "${WHERE+$PWD}" "$NUMBER" >out/jfr
 chmod +x out/jfr
 END
 chmod +x "$work/bin/rt"
@@ -61,5 +62,37 @@ check 'a build that is killed' 137 '' "${with[@]}" SLOW=9 NUMBER=two timeout --p
 check 'after it' 0 'one summary x' "${without[@]}" ./jfr summary x
 check 'the second build' 0 'three summary x' "${with[@]}" NUMBER=three ./jfr summary x
 check 'the next run' 0 'three summary x' "${with[@]}" NUMBER=four ./jfr summary x
+
+check 'a program that names its folder' 1 'different programs' "${with[@]}" NUMBER=one WHERE=1 dist/make
+check 'packing it without a second build' 0 'dist/jfr-1.' "${with[@]}" NUMBER=one WHERE=1 dist/make --once
+rm -rf crates/jfr/out
+check 'packing' 0 'dist/jfr-1.' "${with[@]}" NUMBER=one dist/make
+check 'its check' 0 '' "${without[@]}" dist/make --check
+check 'its sums' 0 '' sha256sum --quiet --strict -c dist/SHA256SUMS
+rm -rf crates/jfr/out
+check 'unpacking' 0 'one summary x' "${without[@]}" ./jfr summary x
+check 'the next run' 0 'one summary x' "${with[@]}" NUMBER=two ./jfr summary x
+check 'a build that is asked for, no toolchain' 69 'names: rattle-kit' "${without[@]}" JFR_BUILD=1 ./jfr summary x
+check 'a build that is asked for' 0 'two summary x' "${with[@]}" NUMBER=two JFR_BUILD=1 ./jfr summary x
+check 'the next one' 0 'two summary x' "${with[@]}" NUMBER=three JFR_BUILD=1 ./jfr summary x
+check 'a program that differs' 1 'differs from the one in dist/jfr-1.' "${without[@]}" dist/make --check
+sed -i 's/^Kit line: ./&next-/' README.md
+check 'another toolchain' 0 'was made of other sources' "${without[@]}" dist/make --check
+sed -i 's/next-//' README.md
+cp crates/jfr_base/src/lib.rt "$work/lib.rt"
+echo '// changed' >>crates/jfr_base/src/lib.rt
+check 'other sources' 0 'three summary x' "${with[@]}" NUMBER=three ./jfr summary x
+check 'their check' 0 'was made of other sources' "${without[@]}" dist/make --check
+cp "$work/lib.rt" crates/jfr_base/src/lib.rt
+check 'the sources of dist again, no toolchain' 0 'one summary x' "${without[@]}" ./jfr summary x
+rm -rf crates/jfr/out
+: >crates/jfr_base/src/more.rt
+check 'one more source, no toolchain' 69 'names: rattle-kit' "${without[@]}" ./jfr summary x
+rm crates/jfr_base/src/more.rt
+ln -sf /bin/true "$work/bin/xz"
+check 'an archive that gives something else' 0 'two summary x' "${with[@]}" NUMBER=two ./jfr summary x
+rm -rf crates/jfr/out
+rm "$work/bin/rt"
+check 'the same, no toolchain' 69 "can't be unpacked" "${with[@]}" ./jfr summary x
 echo "$cases cases, $wrong wrong"
 [ "$wrong" = 0 ]

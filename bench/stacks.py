@@ -1,19 +1,22 @@
 #!/usr/bin/env python3
-"""Compares `jfr stacks` with the stacks that the JDK prints: stacks.py PROGRAM RECORDING [EVENT]
+"""Compares `jfr stacks` with the stacks that the JDK prints: stacks.py PROGRAM RECORDING [EVENT..]
 
-EVENT is the name of an event, jdk.ExecutionSample if it isn't given. PROGRAM is this project's program, and
-the JDK's `jfr` is the one on the PATH. The JDK's stacks are folded here from `jfr print --json` with all of
-their frames. It writes dots where class names in a recording have slashes, so slashes are compared as dots.
+Each EVENT is the name of an event type; without them, each type of the recording whose events have stacks is compared.
+PROGRAM is this project's program, and the JDK's `jfr` is the one on the PATH, or in the folder JFR_BIN. The JDK's stacks
+are folded here from `jfr print --json` with all of their frames. It writes dots where class names in a recording have
+slashes, so slashes are compared as dots.
 
-Prints how many stacks and events were compared, and the first stacks with different counts; ends with 1 if
-there are any.
+Prints for each type how many stacks and events were compared, and the first stacks with different counts; ends with 1
+if there are any.
 """
 import json
+import os
 import re
 import subprocess
 import sys
-from collections import Counter
+from collections import Counter, defaultdict
 
+JDK = os.path.join(os.environ["JFR_BIN"], "jfr") if "JFR_BIN" in os.environ else "jfr"
 SHOWN = 5
 
 
@@ -41,28 +44,30 @@ def frame(value):
     return ".".join(parts).replace("/", ".")
 
 
-def printed(recording, event):
-    """The counts of the stacks that the JDK prints."""
-    text = subprocess.run(["jfr", "print", "--json", "--stack-depth", "4096", "--events", event, recording],
+def printed(recording, events):
+    """For each event type, the counts of the stacks that the JDK prints; of all types if none is given."""
+    chosen = ["--events", ",".join(events)] if events else []
+    text = subprocess.run([JDK, "print", "--json", "--stack-depth", "4096", *chosen, recording],
                           capture_output=True, check=True).stdout
-    counts = Counter()
+    counts = defaultdict(Counter)
     for found in json.loads(text)["recording"]["events"]:
         trace = found["values"].get("stackTrace")
-        if trace is None:
-            continue
-        frames = [frame(value) for value in reversed(trace["frames"])]
-        counts[";".join(frames) or "(empty)"] += 1
+        if trace is not None:
+            frames = [frame(value) for value in reversed(trace["frames"])]
+            counts[found["type"]][";".join(frames) or "(empty)"] += 1
     return counts
 
 
 def main():
-    program, recording = sys.argv[1:3]
-    event = sys.argv[3] if len(sys.argv) > 3 else "jdk.ExecutionSample"
-    ours, theirs = folded(program, recording, event), printed(recording, event)
-    differ = [stack for stack in ours.keys() | theirs.keys() if ours[stack] != theirs[stack]]
-    print(f"{event}: {len(theirs)} stacks, {sum(theirs.values())} events; {len(differ)} stacks differ")
-    for stack in sorted(differ)[:SHOWN]:
-        print(f"  ours {ours[stack]}, the JDK's {theirs[stack]}: {stack}")
+    program, recording, *events = sys.argv[1:]
+    differ = False
+    for event, theirs in sorted(printed(recording, events).items()):
+        ours = folded(program, recording, event)
+        others = sorted(stack for stack in ours.keys() | theirs.keys() if ours[stack] != theirs[stack])
+        print(f"{event}: {len(theirs)} stacks, {sum(theirs.values())} events; {len(others)} stacks differ")
+        for stack in others[:SHOWN]:
+            print(f"  ours {ours[stack]}, the JDK's {theirs[stack]}: {stack}")
+        differ |= bool(others)
     return 1 if differ else 0
 
 

@@ -164,7 +164,7 @@ fn compare_renamed(
 }
 
 // The filter that keeps the events of `t.A`.
-fn only_first(alloc: Global) -> Result<Filter, Fail> {
+pub(crate) fn only_first(alloc: Global) -> Result<Filter, Fail> {
     let mut filter = Filter::new(alloc);
     if filter.has(Side::IncludeEvents) {
         Err("the option is given already")?;

@@ -4,6 +4,10 @@
 #[cfg(test)]
 mod answers;
 #[cfg(test)]
+mod files;
+#[cfg(test)]
 mod outputs;
 #[cfg(test)]
 mod receipts;
+#[cfg(test)]
+mod streams;

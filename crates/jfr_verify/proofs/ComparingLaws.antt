@@ -1,5 +1,5 @@
 -- The chunks of an input are compared one by one.
-use Rattle.std.specs.Prelude.{◌≡◌, ◌+◌, ℕ, drop, List, [], ◌∷◌, Vec, Option, Some, None, Result, Ok, Err, IfSome, IsSomeAnd}
+use Rattle.std.specs.Prelude.{◌≡◌, ◌+◌, ℕ, drop, List, [], ◌∷◌, Vec, Option, Some, None, Result, Ok, Err, IfSome}
 use Rattle.std.specs.declared.alloc.Global.{Global}
 use Rattle.std.proofs.Common.{ap, arith, refl, sym, ◌∙◌, subst}
 use Rattle.jfr_base.specs.declared.flaw.Flaw.{Flaw}
@@ -24,7 +24,7 @@ use Rattle.jfr_verify.specs.declared.doubt.CheckFault.{CheckFault}
 use Rattle.jfr_verify.specs.declared.doubt.CheckFault.TheVariants as checks
 use Rattle.jfr_verify.specs.declared.verdict.Verdict.{Verdict}
 use Rattle.jfr_verify.specs.declared.verdict.Verdict.TheVariants.{Verified, Doubted, Refused, ReadFault, Memory}
-use Rattle.jfr_verify.proofs.RecordingLaws.{next_left, end_left, refused_left, map_left}
+use Rattle.jfr_verify.proofs.RecordingLaws.{from_some, some_at, next_left, end_left, refused_left, map_left}
 
 -- ---- a pair
 
@@ -82,10 +82,6 @@ pub record Going (name : List ℕ) (g : Given) (qs : List Parts) (r : List ℕ) 
   pub outputs : HasOutputs s later
   pub left : HasLeft c (λ k. (y : Verdict) → ComparedWith g k later s.receipts.now count y → ComparedWith g (recording_of bytes) qs r 0 y) w v
 
-from_some : (o : Option (List ℕ)) (P : List ℕ → Type 0) → IsSomeAnd o P → (x : List ℕ) × (o ≡ Some x) × P x
-from_some None P h = absurd h
-from_some (Some x) P h = (x, refl, h)
-
 pub start : (name : List ℕ) (g : Given) (qs : List Parts) (r : List ℕ) (s : Comparer) (c : Cutter) (w v : World) → s.receipts.now ≡ r → HasOutputs s qs → c.number ≡ 1 → OpenedIn name (Ok c) w v → Going name g qs r s c w v
 start name g qs r s c w v same h n o =
     let x = from_some (file w name) (λ y. HasLeft c (λ k. recording_of y ≡ k) w v) o in
@@ -112,9 +108,6 @@ stopped (Doubted chunk doubt) P Q f h = f h
 stopped (Refused r) P Q f h = f h
 stopped ReadFault P Q f h = absurd h
 stopped Memory P Q f h = tt
-
-some_at : {X : Type 0} (o : Option X) (x : X) (P : X → Type 0) → o ≡ Some x → P x → IsSomeAnd o P
-some_at o x P e h = subst (λ z. IsSomeAnd z P) (sym e) h
 
 module _ (name : List ℕ) (qs : List Parts) (r : List ℕ) (s : Comparer) (c d : Cutter) (w v u : World) where
   -- The cutter gave a chunk, and it was compared.

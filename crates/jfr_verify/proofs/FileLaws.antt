@@ -19,11 +19,8 @@ use Rattle.jfr_verify.specs.Verdicts.{AllVerified, AreScrubs, ComparedWith, IfDe
 use Rattle.jfr_verify.specs.declared.doubt.Doubt.TheVariants.{ReceiptLong, OutRefused, ChunksDiffer, ClassesDiffer, EventsDiffer, EntriesDiffer, EntryMissing, ReceiptBad}
 use Rattle.jfr_verify.specs.declared.verdict.Verdict.{Verdict}
 use Rattle.jfr_verify.specs.declared.verdict.Verdict.TheVariants.{Verified, Doubted, Refused, ReadFault, Memory}
+use Rattle.jfr_verify.proofs.RecordingLaws.{from_some}
 use Rattle.jfr_verify.proofs.VerdictLaws.{one_verdict, scrubs_verified, verified_all}
-
-from_some : {X : Type 0} (o : Option X) (P : X → Type 0) → IsSomeAnd o P → (x : X) × (o ≡ Some x) × P x
-from_some None P h = absurd h
-from_some (Some x) P h = (x, refl, h)
 
 -- A file is the same if all files are.
 same_file : (name : List ℕ) (w v : World) → v.files ≡ w.files → file v name ≡ file w name

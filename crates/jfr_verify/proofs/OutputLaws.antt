@@ -1,5 +1,5 @@
 -- The chunks of an output are read one by one.
-use Rattle.std.specs.Prelude.{◌≡◌, ◌+◌, ℕ, List, [], ◌∷◌, ◌++◌, Vec, Option, Some, None, option_map, Ok, Err, IfSome, IsSome, IsSomeAnd}
+use Rattle.std.specs.Prelude.{◌≡◌, ◌+◌, ℕ, List, [], ◌∷◌, ◌++◌, Vec, Option, Some, None, option_map, Ok, Err, IfSome, IsSome}
 use Rattle.std.specs.declared.alloc.Global.{Global}
 use Rattle.std.proofs.Common.{ap, arith, append-nil, refl, sym, ◌∙◌, subst, false}
 use Rattle.jfr_base.specs.declared.flaw.Flaw.{Flaw}
@@ -20,7 +20,7 @@ use Rattle.jfr_verify.specs.Recordings.{Recording, read_on, recording_of, record
 use Rattle.jfr_verify.specs.declared.doubt.Doubt.TheVariants.{OutRefused}
 use Rattle.jfr_verify.specs.declared.verdict.Verdict.{Verdict}
 use Rattle.jfr_verify.specs.declared.verdict.Verdict.TheVariants.{Verified, Doubted, Refused, ReadFault, Memory}
-use Rattle.jfr_verify.proofs.RecordingLaws.{next_left, end_left, refused_left, map_left, one_more, opened_left}
+use Rattle.jfr_verify.proofs.RecordingLaws.{from_some, some_at, next_left, end_left, refused_left, map_left, one_more, opened_left}
 
 pub outputs_more : (bs : List (Vec ℕ Global)) (qs : List Parts) (b : Vec ℕ Global) (q : Parts) → AreOutputs bs qs → read_parts b.items ≡ Ok q → AreOutputs (bs ++ b ∷ []) (qs ++ q ∷ [])
 outputs_more [] [] b q a e = (e, tt)
@@ -47,9 +47,6 @@ there : (o : Option (List ℕ)) → IsSome o → (x : List ℕ) × (o ≡ Some x
 there None h = cc
 there (Some x) h = (x, refl)
 
-some_at : {X : Type 0} (o : Option X) (x : X) (P : X → Type 0) → o ≡ Some x → P x → IsSomeAnd o P
-some_at o x P e h = subst (λ z. IsSomeAnd z P) (sym e) h
-
 -- A file that was opened is at its start.
 pub opened_at : (name : List ℕ) (c : Cutter) (w : World) → c.start ≡ 0 → c.number ≡ 1 → c.given ≡ false → IsSome (file w name) → OpenedIn name (Ok c) w (opened name w)
 opened_at name c w s n g h =
@@ -60,10 +57,6 @@ opened_at name c w s n g h =
 pub open_told : (name : List ℕ) (c : Cutter) (b a : Option World) → c.start ≡ 0 → c.number ≡ 1 → c.given ≡ false → IfSome b (λ w. IsSome (file w name)) → a ≡ option_map (opened name) b → Told b a (OpenedIn name (Ok c))
 open_told name c None a s n g h e = tt
 open_told name c (Some w) a s n g h e = subst (λ (o : Option World). Told (Some w) o (OpenedIn name (Ok c))) (sym e) (opened_at name c w s n g h)
-
-from_some : (o : Option (List ℕ)) (P : List ℕ → Type 0) → IsSomeAnd o P → (x : List ℕ) × (o ≡ Some x) × P x
-from_some None P h = absurd h
-from_some (Some x) P h = (x, refl, h)
 
 -- A file that could not be opened.
 pub not_opened : (name : List ℕ) (e : Verdict) (w v : World) → OpenedIn name (Err e) w v → OutputRead name (Err e) w v

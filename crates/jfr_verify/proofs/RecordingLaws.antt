@@ -68,9 +68,13 @@ module _ (c d : Cutter) (Claim : Recording → Type 0) (w v u : World) (h : HasL
 pub map_left : (c : Cutter) (Claim More : Recording → Type 0) (w v : World) → ((k : Recording) → Claim k → More k) → HasLeft c Claim w v → HasLeft c More w v
 map_left c Claim More w v f h = record { same = h.same; left = h.left; input = h.input; claim = f (recording_left c h.left) h.claim }
 
-pub some_and : {X : Type 0} (o : Option X) (P Q : X → Type 0) → ((x : X) → P x → Q x) → IsSomeAnd o P → IsSomeAnd o Q
-some_and None P Q f h = h
-some_and (Some x) P Q f h = f x h
+-- A claim about what is there, and what is there.
+pub from_some : {X : Type 0} (o : Option X) (P : X → Type 0) → IsSomeAnd o P → (x : X) × (o ≡ Some x) × P x
+from_some None P h = absurd h
+from_some (Some x) P h = (x, refl, h)
+
+pub some_at : {X : Type 0} (o : Option X) (x : X) (P : X → Type 0) → o ≡ Some x → P x → IsSomeAnd o P
+some_at o x P e h = subst (λ z. IsSomeAnd z P) (sym e) h
 
 -- The chunks that follow, after one more.
 pub one_more : (n : ℕ) (ps : List Parts) (p : Parts) (x : List ℕ) (k : Recording) → recording_of x ≡ after_parts ps (read_on n (Ok p) k) → recording_of x ≡ after_parts (ps ++ p ∷ []) k

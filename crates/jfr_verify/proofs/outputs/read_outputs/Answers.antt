@@ -1,15 +1,15 @@
-use Rattle.std.proofs.Common.{refl, sym, subst}
+use Rattle.std.proofs.Common.{refl, sym, subst, Err}
 use Rattle.std.proofs.lemmas.Result.{err_from_is_err_and}
 use Rattle.jfr_header.specs.Fronts.{Whole}
 use Rattle.jfr_header.proofs.Steps.{chain_told, map_told}
-use Rattle.jfr_verify.specs.Outputs.{AllWhole}
+use Rattle.jfr_verify.specs.Outputs.{AllWhole, OpenedIn, OutputRead}
 use Rattle.jfr_verify.proofs.OutputLaws.{whole_more, keep_start, keep_next, keep_end, keep_refused, keep_stopped, not_opened, same_on}
 use Rattle.jfr_verify.proofs.outputs.read_outputs.Goals as goal
 
 pub returns-in_err-cutter-clause-told : goal.returns-in_err-cutter-clause-told
 returns-in_err-cutter-clause-told g c =
     let p = err_from_is_err_and c.from_residual.result c.from_residual.ensures.1 in
-    rw (p.1, p.2) (map_told (g.P.Place.state c.args.place.now).told (g.P.Place.state c.open.new.place).told _ _ c.in_err-cutter.ensures.told (λ w v h. not_opened c.args.name.now c.in_err-cutter.field-0.0 w v h))
+    rw (p.1, p.2) (map_told (g.P.Place.state c.args.place.now).told (g.P.Place.state c.open.new.place).told (OpenedIn c.args.name.now (Err c.in_err-cutter.field-0.0)) (OutputRead c.args.name.now (Err c.in_err-cutter.field-0.0)) c.in_err-cutter.ensures.told (λ w v h. not_opened c.args.name.now c.in_err-cutter.field-0.0 w v h))
 
 pub chunks-init : goal.chunks-init
 chunks-init g c = record {

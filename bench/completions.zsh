@@ -1,0 +1,62 @@
+#!/usr/bin/env zsh
+# Tries the completion of zsh in an interactive shell: bench/completions.zsh
+#
+# Types each line, presses the key TAB twice, and looks for a text in what the terminal shows then, or for nothing but
+# the line. Prints a line for each case that is wrong, and at the end how many there were; the status is 0 if none was
+# wrong.
+zmodload zsh/zpty
+completions=$(dirname "$(dirname "$(readlink -f -- "$0")")")/completions
+work=$(mktemp -d)
+trap 'rm -rf -- "$work"' EXIT
+mkdir $work/folder
+touch $work/app.jfr
+integer cases=0 wrong=0
+
+# What the terminal shows, after a while.
+shown() {
+    local piece
+    REPLY=
+    sleep $1
+    while zpty -r -t shell piece; do REPLY+=$piece; done
+    REPLY=$(print -r -- "$REPLY" | sed 's/\x1b\[[0-9;?]*[a-zA-Z]//g' | tr -d '\r\a\b')
+}
+
+# check LINE TEXT: with an empty TEXT the line must stay as it is.
+check() {
+    cases+=1
+    zpty -w -n shell "$1"$'\t\t'
+    shown 0.4
+    if { [[ -n $2 ]] && [[ $REPLY != *$2* ]] } || { [[ -z $2 ]] && [[ $REPLY != $1 ]] }; then
+        wrong+=1
+        print -r -- "$1: expected ${(q)2}: ${(q)REPLY}"
+    fi
+    zpty -w -n shell $'\x15'
+    shown 0.1
+}
+
+zpty -b shell 'TERM=dumb COLUMNS=200 LINES=100 zsh -f -i'
+zpty -w shell "PS1='% '; fpath=(${(q)completions} \$fpath); autoload -U compinit; compinit -u -D; compdef _jfr kjfr; cd ${(q)work}"
+shown 2
+check 'jfr ' 'stacks       -- show the call stacks'
+check 'jfr scr' 'jfr scrub '
+check './jfr su' './jfr summary '
+check 'kjfr st' 'kjfr stacks '
+check 'jfr print --' '--json        -- '
+check 'jfr print --de' 'jfr print --depth '
+check 'jfr print --depth ' '0  1  2  3  4  5  6  7  8'
+check 'jfr print --json --d' 'jfr print --json --depth '
+check 'jfr print --json --j' ''
+check 'jfr print ap' 'jfr print app.jfr '
+check 'jfr print app.jfr --' ''
+check 'jfr summary --' ''
+check 'jfr scrub --include-events x --i' '--include-threads     -- '
+check 'jfr scrub app.jfr ' 'folder/'
+check 'jfr disassemble --output ' 'jfr disassemble --output folder/'
+check 'jfr disassemble --max-c' 'jfr disassemble --max-chunks '
+check 'jfr assemble ' 'jfr assemble folder/'
+check 'jfr sample ' ''
+check 'jfr stacks --c' 'jfr stacks --categories '
+check 'jfr view --' ''
+zpty -d shell
+print "$cases cases, $wrong wrong"
+[[ $wrong == 0 ]]

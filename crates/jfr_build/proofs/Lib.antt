@@ -1,0 +1,15 @@
+mod BaseLaws
+mod ChunkLaws
+mod ChunkRows
+mod DescribedLaws
+mod LineLaws
+mod NumberLaws
+mod PieceLaws
+mod PoolLaws
+mod Rows
+mod SoundLaws
+mod TakenLaws
+mod UnknownLaws
+mod WholeLaws
+mod WordLaws
+mod WritingLaws

@@ -1,0 +1,48 @@
+-- The pools, one line after another.
+use Rattle.std.specs.Prelude.{◌≡◌, ℕ, zero, suc, ◌+◌, ◌≤◌, List, [], ◌∷◌, ◌++◌, length, drop, None}
+use Rattle.std.specs.List.{flat_map}
+use Rattle.std.proofs.Common.{ap, arith, refl, subst, sym, ◌∙◌}
+use Rattle.std.proofs.lemmas.List.{append-nil}
+use Rattle.jfr_base.specs.Integer.{spell}
+use Rattle.jfr_layout.specs.Classes.{Classes}
+use Rattle.jfr_build.specs.declared.lines.NumberedLine.{NumberedLine}
+use Rattle.jfr_build.specs.declared.pools.Pools.{Pools}
+use Rattle.jfr_build.specs.Built.{entries_of, entry_count, pool_of, pools_of, with_classes}
+use Rattle.jfr_build.specs.LineValues.{first_bad_value}
+use Rattle.jfr_build.specs.Pooled.{AreOrdered, count_in, entries_in, pool_bytes, pool_in, pools_bytes}
+
+-- The pools of the lines before those that are left.
+pub record Pooled (k : Classes) (lines left : List NumberedLine) (pools : Pools) : Type 0 where
+  pub classes : with_classes [] lines ≡ with_classes pools.classes.items left
+  pub counts : (id : ℕ) → entry_count lines id ≡ count_in (pool_in pools id) + entry_count left id
+  pub entries : (id : ℕ) → entries_of k lines id ≡ entries_in (pool_in pools id) ++ entries_of k left id
+  pub ordered : AreOrdered pools
+  pub good : first_bad_value k left ≡ None
+
+drop_past : {X : Type 0} (xs : List X) (i : ℕ) → length xs ≤ i → drop i xs ≡ []
+drop_past [] zero l = refl
+drop_past [] (suc i) l = refl
+drop_past (x ∷ xs) zero l = absurd (omega arith)
+drop_past (x ∷ xs) (suc i) l = drop_past xs i (omega arith)
+
+flat_same : (f g : ℕ → List ℕ) → ((x : ℕ) → f x ≡ g x) → (xs : List ℕ) → flat_map f xs ≡ flat_map g xs
+flat_same f g h [] = refl
+flat_same f g h (x ∷ xs) = ap (λ z. z ++ flat_map f xs) (h x) ∙ ap (λ z. g x ++ z) (flat_same f g h xs)
+
+-- With no line left, these are the pools of all lines.
+told : (k : Classes) (lines : List NumberedLine) (pools : Pools) → Pooled k lines [] pools → pools_bytes pools ≡ pools_of k lines
+told k lines pools p =
+    let c : pools.classes.items ≡ with_classes [] lines = sym p.classes in
+    ap (λ n. spell n ++ flat_map (pool_bytes pools) pools.classes.items) (ap length c)
+    ∙ (ap (λ z. spell (length (with_classes [] lines)) ++ flat_map (pool_bytes pools) z) c
+    ∙ ap (λ z. spell (length (with_classes [] lines)) ++ z) (flat_same (pool_bytes pools) (pool_of k lines) each (with_classes [] lines)))
+  where
+    each : (id : ℕ) → pool_bytes pools id ≡ pool_of k lines id
+    each id =
+        let n : entry_count lines id ≡ count_in (pool_in pools id) + 0 = p.counts id in
+        let m : count_in (pool_in pools id) ≡ entry_count lines id = omega (arith, n) in
+        let e : entries_in (pool_in pools id) ≡ entries_of k lines id = sym (p.entries id ∙ append-nil (entries_in (pool_in pools id))) in
+        ap (λ n. spell id ++ (spell n ++ entries_in (pool_in pools id))) m ∙ ap (λ z. spell id ++ (spell (entry_count lines id) ++ z)) e
+
+pub pooled_end : (k : Classes) (lines : List NumberedLine) (i : ℕ) (pools : Pools) → length lines ≤ i → Pooled k lines (drop i lines) pools → pools_bytes pools ≡ pools_of k lines
+pooled_end k lines i pools l p = told k lines pools (subst (λ z. Pooled k lines z pools) (drop_past lines i l) p)

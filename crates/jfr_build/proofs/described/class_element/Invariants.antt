@@ -1,0 +1,10 @@
+use Rattle.std.proofs.Common.{◌≡◌, ◌+◌, ◌++◌, drop, length}
+use Rattle.std.specs.List.{flat_map}
+use Rattle.jfr_build.specs.Described.{class_texts, field_texts, field_trees}
+use Rattle.jfr_build.proofs.described.class_element.Given as goal
+
+abbrev pub invariant-loop-number : goal.invariant-loop-number
+invariant-loop-number l = record {
+  trees : field_trees (length l.fn.strings + 2) l.class.fields ≡ l.children ++ field_trees (length l.strings) (drop l.number l.class.fields);
+  texts : l.fn.strings ++ class_texts l.class ≡ l.strings ++ flat_map field_texts (drop l.number l.class.fields);
+}

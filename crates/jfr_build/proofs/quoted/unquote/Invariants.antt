@@ -1,0 +1,8 @@
+use Rattle.std.proofs.Common.{◌≡◌, drop}
+use Rattle.jfr_build.specs.declared.quoted.Quoted.TheVariants.{Open}
+use Rattle.jfr_build.specs.LeafWords.{quoted_from}
+use Rattle.jfr_build.proofs.WordLaws.{bytes_before}
+use Rattle.jfr_build.proofs.quoted.unquote.Given as goal
+
+abbrev pub invariant-loop-at : goal.invariant-loop-at
+invariant-loop-at l = bytes_before l.text.items (quoted_from l.state (drop l.at l.bytes)) ≡ quoted_from Open (drop 1 l.bytes)

@@ -1,0 +1,54 @@
+-- The classes of the lines, and the line of a flaw in them.
+use Rattle.std.specs.Prelude.{◌≡◌, ⊤, ℕ, zero, suc, Bool, List, [], ◌∷◌, Option, Some, None, slice_get, if◌then◌else◌, codes}
+use Rattle.std.specs.Option.{option_map_or}
+use Rattle.jfr_layout.specs.Classes.{Classes, Field, ClassFlaw, class_faults}
+use Rattle.jfr_build.specs.declared.line.Line.{Line}
+use Rattle.jfr_build.specs.declared.line.Line.TheVariants as lines
+use Rattle.jfr_build.specs.declared.lines.NumberedLine.{NumberedLine}
+use Rattle.jfr_build.specs.declared.reason.BuildFault.{BuildFault}
+use Rattle.jfr_build.specs.declared.reason.BuildFault.TheVariants.{Refused, Memory}
+use Rattle.jfr_build.specs.declared.reason.BuildReason.TheVariants as reasons
+use Rattle.jfr_build.specs.Lines.{is_class}
+
+-- The fields with that of a line in front; none if the line isn't a field.
+abbrev pub field_before : Line → List Field → List Field
+field_before (lines.Class id name event) fs = []
+field_before (lines.Field name shape) fs = record { name = name; shape = shape } ∷ fs
+field_before (lines.Constant class key words) fs = []
+field_before (lines.Record class words) fs = []
+
+-- The fields with which the lines begin.
+abbrev pub fields_in : List NumberedLine → List Field
+fields_in [] = []
+fields_in (l ∷ ls) = field_before l.line (fields_in ls)
+
+-- The super type of an event.
+abbrev pub super_of : Bool → Option (List ℕ)
+super_of event = if event then Some (codes "jdk.jfr.Event") else None
+
+-- The classes with that of a line, which has these fields, in front, if the line is a class.
+abbrev pub class_before : Line → List Field → Classes → Classes
+class_before (lines.Class id name event) fs k = record { id = id; name = name; super_name = super_of event; fields = fs; categories = [] } ∷ k
+class_before (lines.Field name shape) fs k = k
+class_before (lines.Constant class key words) fs k = k
+class_before (lines.Record class words) fs k = k
+
+-- The classes of the lines, each with the fields of the lines that follow it.
+abbrev pub classes_in : List NumberedLine → Classes
+classes_in [] = []
+classes_in (l ∷ ls) = class_before l.line (fields_in ls) (classes_in ls)
+
+-- The lines from that of the class with this index on.
+abbrev pub from_class : ℕ → List NumberedLine → List NumberedLine
+from_class i [] = []
+from_class zero (l ∷ ls) = if is_class l.line then l ∷ ls else from_class zero ls
+from_class (suc i) (l ∷ ls) = if is_class l.line then from_class i ls else from_class (suc i) ls
+
+-- The number of the line of the class with this index, or of its field with this number.
+abbrev pub line_at : List NumberedLine → ℕ → Option ℕ → ℕ
+line_at ls class field = option_map_or (λ l. l.number) (slice_get (from_class class ls) (option_map_or (λ n. suc n) field 0)) 0
+
+-- The fault is the first flaw of the classes, at its line, or memory ran out.
+abbrev pub IsClassFault : List NumberedLine → BuildFault → Type 0
+IsClassFault ls (Refused line reason) = (f : ClassFlaw) × (slice_get (class_faults (classes_in ls)) 0 ≡ Some f) × (line ≡ line_at ls f.class f.field) × (reason ≡ reasons.Class f.reason)
+IsClassFault ls Memory = ⊤

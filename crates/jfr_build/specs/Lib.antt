@@ -1,0 +1,14 @@
+pub mod Reasons
+pub mod Pieces
+pub mod Numbers
+pub mod Lines
+pub mod ClassLines
+pub mod LeafWords
+pub mod Taking
+pub mod Writing
+pub mod LineValues
+pub mod Described
+pub mod Built
+pub mod Pooled
+pub mod Builds
+pub mod Laws

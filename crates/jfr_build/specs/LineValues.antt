@@ -1,0 +1,46 @@
+-- The values of constants and events, and the first line whose value is bad.
+use Rattle.std.specs.Prelude.{◌≡◌, ⊤, ℕ, Bool, false, not, ◌&&◌, ◌==◌, List, length, find, Option, Some, None, is_some, option_map, if◌then◌else◌}
+use Rattle.jfr_layout.specs.Classes.{Classes, is_event_class}
+use Rattle.jfr_layout.specs.declared.shape.Shape.{Shape}
+use Rattle.jfr_value.specs.Values.{Value}
+use Rattle.jfr_build.specs.declared.line.Line.{Line}
+use Rattle.jfr_build.specs.declared.line.Line.TheVariants.{Class, Field, Constant, Record}
+use Rattle.jfr_build.specs.declared.lines.NumberedLine.{NumberedLine}
+use Rattle.jfr_build.specs.declared.reason.BuildFault.{BuildFault}
+use Rattle.jfr_build.specs.declared.reason.BuildFault.TheVariants.{Refused, Memory}
+use Rattle.jfr_build.specs.declared.reason.BuildReason.TheVariants.{ValueBad}
+use Rattle.jfr_build.specs.Lines.{has_value}
+use Rattle.jfr_build.specs.Taking.{Taken, value_taken}
+
+-- The shape of an inline value of a class.
+abbrev pub inline : ℕ → Shape
+inline class = record { class = class; constant = false; array = false }
+
+-- What was taken, if no word is left.
+abbrev pub whole : Option (Taken Value) → Option Value
+whole None = None
+whole (Some t) = if length t.rest == 0 then Some t.value else None
+
+-- The value of a class that the words spell, all of them.
+abbrev pub spelled_value : Classes → ℕ → List (List ℕ) → Option Value
+spelled_value k class words = whole (value_taken k (inline class) words)
+
+-- The value of a line: of a constant, or of an event, whose class must be one of events.
+abbrev pub line_value : Classes → Line → Option Value
+line_value k (Class id name event) = None
+line_value k (Field name shape) = None
+line_value k (Constant class key words) = spelled_value k class words
+line_value k (Record class words) = if is_event_class k class then spelled_value k class words else None
+
+-- The line should have a value, and has none.
+abbrev pub is_bad_value : Classes → Line → Bool
+is_bad_value k line = has_value line && not (is_some (line_value k line))
+
+-- The first line whose value is bad.
+abbrev pub first_bad_value : Classes → List NumberedLine → Option NumberedLine
+first_bad_value k lines = find (λ l. is_bad_value k l.line) lines
+
+-- The fault is that this line is the first whose value is bad, or memory ran out.
+abbrev pub IsBadValue : Option NumberedLine → BuildFault → Type 0
+IsBadValue bad (Refused line reason) = (option_map (λ l. l.number) bad ≡ Some line) × (reason ≡ ValueBad)
+IsBadValue bad Memory = ⊤

@@ -1,0 +1,124 @@
+//! The classes of the lines.
+ghost use Rattle.std.specs.Prelude.{◌≡◌, ◌<◌, drop, length, slice_get, suc, IfErr, IfOk, OnOk};
+ghost use Rattle.std.specs.Option.{option_map_or};
+ghost use Rattle.jfr_layout.specs.Classes.{Sound};
+ghost use Rattle.jfr_build.specs.ClassLines.{IsClassFault, classes_in, fields_in, line_at, super_of};
+
+use crate::line::Line;
+use crate::lines::{NumberedLine, is_class};
+use crate::{BuildFault, BuildReason};
+use jfr_base::{NoMemory, Text, Words};
+use jfr_layout::{ClassFault, ClassInfo, ClassList, Classes, FieldInfo, Fields};
+use std::alloc::Global;
+
+/// The super type of an event class.
+const EVENT: &str = "jdk.jfr.Event";
+
+/// The classes of the lines, if they are sound. Otherwise the first flaw is at the line of its class or field.
+pub fn make_classes(alloc: Global, lines: &[NumberedLine<'_>]) -> Result<Classes, BuildFault>
+    ensures ok { OnOk result (Sound (classes_in lines.now)) }
+    ensures exact { IfOk result (λ classes. classes ≡ classes_in lines.now) }
+    ensures refused { IfErr result (IsClassFault lines.now) }
+{
+    match Classes::make(alloc, class_list(alloc, lines)?) {
+        Ok(classes) => Ok(classes),
+        Err(ClassFault::Memory) => Err(BuildFault::Memory),
+        Err(
+            ClassFault::Flawed {
+                class,
+                field,
+                reason,
+            },
+        ) => Err(BuildFault::Refused {
+            line: line_at(lines, class, field),
+            reason: BuildReason::Class(reason),
+        }),
+    }
+}
+
+/// The classes of the lines, each with the fields of the lines that follow it.
+fn class_list(alloc: Global, lines: &[NumberedLine<'_>]) -> Result<ClassList, NoMemory>
+    ensures ok { IfOk result (λ list. list ≡ classes_in lines.now) }
+{
+    let mut list = ClassList::new(alloc);
+    for at in 0..lines.len() {
+        if let Line::Class { id, name, event } = &lines[at].line {
+            list.push(ClassInfo {
+                id: *id,
+                name: name.to_text(alloc)?,
+                super_name: super_of(alloc, *event)?,
+                fields: fields_from(alloc, lines, at + 1)?,
+                categories: Words::new(alloc),
+            })?;
+        }
+    }
+    Ok(list)
+}
+
+/// The super type of a class, if it has one.
+fn super_of(alloc: Global, event: bool) -> Result<Option<Text>, NoMemory>
+    ensures ok { IfOk result (λ name. name ≡ super_of event) }
+{
+    if !event {
+        return Ok(None);
+    }
+    Ok(Some(Text::make(alloc, EVENT)?))
+}
+
+/// The fields with which the lines from this index on begin.
+fn fields_from(alloc: Global, lines: &[NumberedLine<'_>], from: usize) -> Result<Fields, NoMemory>
+    ensures ok { IfOk result (λ fields. fields ≡ fields_in (drop from lines.now)) }
+{
+    let mut fields = Fields::new(alloc);
+    for at in from..lines.len() {
+        let Line::Field { name, shape } = &lines[at].line else {
+            return Ok(fields);
+        };
+        fields.push(FieldInfo {
+            name: name.to_text(alloc)?,
+            shape: *shape,
+        })?;
+    }
+    Ok(fields)
+}
+
+/// The number of the line of the class with this index, or of its field with this number.
+fn line_at(lines: &[NumberedLine<'_>], class: usize, field: Option<usize>) -> u64
+    ensures { result ≡ line_at lines.now class field }
+{
+    let mut left = class;
+    for at in 0..lines.len() {
+        if is_class(&lines[at].line) {
+            if left == 0 {
+                return number_after(lines, at, field);
+            }
+            left -= 1;
+        }
+    }
+    0
+}
+
+/// The number of the line with this index, or of the line of a field that follows it.
+fn number_after(lines: &[NumberedLine<'_>], at: usize, field: Option<usize>) -> u64
+    requires { at < length lines.now }
+    ensures { result ≡ option_map_or (λ l. l.number) (slice_get (drop at lines.now) (option_map_or (λ n. suc n) field 0)) 0 }
+{
+    let (_, rest) = lines.split_at(at);
+    match field {
+        None => number_in(rest, 0),
+        Some(number) => {
+            let (_, fields) = rest.split_at(1);
+            number_in(fields, number)
+        }
+    }
+}
+
+/// The number of the line with this index; 0 if there is no such line.
+fn number_in(lines: &[NumberedLine<'_>], at: usize) -> u64
+    ensures { result ≡ option_map_or (λ l. l.number) (slice_get lines.now at) 0 }
+{
+    match lines.get(at) {
+        Some(line) => line.number,
+        None => 0,
+    }
+}

@@ -1,0 +1,170 @@
+//! What a line means.
+ghost use Rattle.std.specs.Prelude.{◌≡◌, IfOk};
+ghost use Rattle.jfr_build.specs.Lines.{class_line, constant_line, field_line, line_by, line_of, marks_of, name_of, record_line};
+
+use crate::number::id_of;
+use crate::pieces::WordsLeft;
+use jfr_base::{NoMemory, Text};
+use jfr_layout::Shape;
+use std::alloc::Global;
+use std::marker::Model;
+
+/// The name of a class or a field. Contracts see its characters.
+#[derive(Drop)]
+pub struct Name<'a> {
+    text: &'a str,
+}
+
+impl<'a> Model for Name<'a> {
+    ghost use Rattle.std.specs.Prelude.{ℕ, List};
+    ghost use Rattle.std.specs.Str.{chars};
+
+    ghost Value = { List ℕ };
+
+    ghost view = { λ name. chars name.text.now };
+}
+
+impl<'a> Name<'a> {
+    /// The name that a word is; `None` exactly if the word is empty.
+    pub fn of(word: &'a str) -> Option<Name<'a>>
+        ensures { result ≡ name_of word.now }
+    {
+        if word.is_empty() {
+            None
+        } else {
+            Some(Name { text: word })
+        }
+    }
+
+    /// A copy of the name.
+    pub fn to_text(&self, alloc: Global) -> Result<Text, NoMemory>
+        ensures { IfOk result (λ text. text ≡ self.now) }
+    {
+        Text::make(alloc, self.text)
+    }
+}
+
+/// A line that isn't empty.
+#[derive(Drop)]
+pub enum Line<'a> {
+    /// A class; the super type of an event class is `jdk.jfr.Event`.
+    Class {
+        id: u64,
+        name: Name<'a>,
+        event: bool,
+    },
+    /// A field of the class before it.
+    Field {
+        name: Name<'a>,
+        shape: Shape,
+    },
+    /// An entry in the pool of a class.
+    Constant {
+        class: u64,
+        key: u64,
+        words: WordsLeft<'a>,
+    },
+    /// An event.
+    Record {
+        class: u64,
+        words: WordsLeft<'a>,
+    },
+}
+
+/// What a line means, up to the words of its leaves; `None` exactly if it isn't UTF-8 or has no known form.
+pub fn read_line(bytes: &[u8]) -> Option<Line<'_>>
+    ensures { result ≡ line_of bytes.now }
+{
+    match str::from_utf8(bytes) {
+        Ok(line) => {
+            let mut words = WordsLeft::of(line);
+            let first = words.next()?;
+            line_by(first, words)
+        }
+        Err(_) => None,
+    }
+}
+
+/// The line with this first word.
+fn line_by<'a>(first: &str, words: WordsLeft<'a>) -> Option<Line<'a>>
+    ensures { result ≡ line_by first.now words.entry }
+{
+    if first == "class" {
+        return class_line(words, false);
+    }
+    if first == "event" {
+        return class_line(words, true);
+    }
+    if first == "field" {
+        return field_line(words);
+    }
+    if first == "constant" {
+        return constant_line(words);
+    }
+    if first == "record" {
+        return record_line(words);
+    }
+    None
+}
+
+/// A class.
+fn class_line(mut words: WordsLeft<'_>, event: bool) -> Option<Line<'_>>
+    ensures { result ≡ class_line event words.entry }
+{
+    let id = id_of(words.next()?)?;
+    let name = Name::of(words.next()?)?;
+    words.end()?;
+    Some(Line::Class { id, name, event })
+}
+
+/// A field.
+fn field_line(mut words: WordsLeft<'_>) -> Option<Line<'_>>
+    ensures { result ≡ field_line words.entry }
+{
+    let name = Name::of(words.next()?)?;
+    let class = id_of(words.next()?)?;
+    let (constant, array) = marks_of(words.next()?)?;
+    words.end()?;
+    let shape = Shape {
+        class,
+        constant,
+        array,
+    };
+    Some(Line::Field { name, shape })
+}
+
+/// The constant mark and the array mark of a field.
+fn marks_of(word: &str) -> Option<(bool, bool)>
+    ensures { result ≡ marks_of word.now }
+{
+    if word == "-" {
+        return Some((false, false));
+    }
+    if word == "c" {
+        return Some((true, false));
+    }
+    if word == "a" {
+        return Some((false, true));
+    }
+    if word == "ca" {
+        return Some((true, true));
+    }
+    None
+}
+
+/// A constant.
+fn constant_line(mut words: WordsLeft<'_>) -> Option<Line<'_>>
+    ensures { result ≡ constant_line words.entry }
+{
+    let class = id_of(words.next()?)?;
+    let key = id_of(words.next()?)?;
+    Some(Line::Constant { class, key, words })
+}
+
+/// An event.
+fn record_line(mut words: WordsLeft<'_>) -> Option<Line<'_>>
+    ensures { result ≡ record_line words.entry }
+{
+    let class = id_of(words.next()?)?;
+    Some(Line::Record { class, words })
+}

@@ -1,0 +1,88 @@
+//! The values of constants and events.
+ghost use Rattle.std.specs.Prelude.{◌≡◌, [], IfErr, IfOk, OnOk, None, Some, option_map, if◌then◌else◌};
+ghost use Rattle.jfr_layout.specs.Classes.{IsFieldLayout};
+ghost use Rattle.jfr_value.specs.Values.{bytes_of};
+ghost use Rattle.jfr_build.specs.LineValues.{IsBadValue, first_bad_value, is_bad_value, line_value, whole};
+ghost use Rattle.jfr_build.specs.Taking.{value_taken};
+
+use crate::line::Line;
+use crate::lines::{NumberedLine, has_value};
+use crate::output::{Output, ValueFault};
+use crate::pieces::WordsLeft;
+use crate::value::push_value;
+use crate::{BuildFault, BuildReason};
+use jfr_base::NoMemory;
+use jfr_layout::{Classes, FieldLayout, Shape};
+use jfr_value::layout_of;
+use std::alloc::Global;
+
+/// Checks the values of all constants and events. Refused for the first constant of an unknown class, record
+/// of a class that isn't one of events, or line whose words aren't those of the leaves of one value.
+pub fn check_values(
+    alloc: Global,
+    classes: &Classes,
+    lines: &[NumberedLine<'_>],
+) -> Result<(), BuildFault>
+    ensures ok { OnOk result (first_bad_value classes.now lines.now ≡ None) }
+    ensures refused { IfErr result (IsBadValue (first_bad_value classes.now lines.now)) }
+{
+    let mut out = Output::new(alloc);
+    for line in lines {
+        if is_bad_value(classes, &line.line, &mut out)? {
+            return Err(BuildFault::Refused {
+                line: line.number,
+                reason: BuildReason::ValueBad,
+            });
+        }
+    }
+    Ok(())
+}
+
+/// Whether the line should have a value, and has none.
+fn is_bad_value(classes: &Classes, line: &Line<'_>, out: &mut Output) -> Result<bool, NoMemory>
+    ensures ok { IfOk result (λ bad. bad ≡ is_bad_value classes.now line.now) }
+{
+    if !has_value(line) {
+        return Ok(false);
+    }
+    let good = line_value(classes, line, out)?;
+    Ok(!good)
+}
+
+/// Whether the line has a value. If it has one, the value's bytes replace those of `out`.
+pub fn line_value(classes: &Classes, line: &Line<'_>, out: &mut Output) -> Result<bool, NoMemory>
+    ensures ok { IfOk result (λ good. option_map bytes_of (line_value classes.now line.now) ≡ (if good then Some out.new else None)) }
+{
+    match line {
+        Line::Constant { class, words, .. } => {
+            let Some(_) = classes.find(*class) else {
+                return Ok(false);
+            };
+            let layout = layout_of(classes, Shape::inline(*class));
+            spelled_value(classes, &layout, words.again(), out)
+        }
+        Line::Record { class, words } => match classes.event_layout(*class) {
+            Some(layout) => spelled_value(classes, &layout, words.again(), out),
+            None => Ok(false),
+        },
+        _ => Ok(false),
+    }
+}
+
+/// Whether the words are those of one value with this layout. If so, its bytes replace those of `out`.
+fn spelled_value(
+    classes: &Classes,
+    layout: &FieldLayout,
+    mut words: WordsLeft<'_>,
+    out: &mut Output,
+) -> Result<bool, NoMemory>
+    requires layout { IsFieldLayout classes.now layout.now }
+    ensures ok { IfOk result (λ good. option_map bytes_of (whole (value_taken classes.now layout.now.shape words.entry)) ≡ (if good then Some out.new else None)) }
+{
+    out.clear();
+    match push_value(classes, layout, &mut words, out) {
+        Ok(()) => Ok(words.end().is_some()),
+        Err(ValueFault::Bad) => Ok(false),
+        Err(ValueFault::Memory) => Err(NoMemory),
+    }
+}

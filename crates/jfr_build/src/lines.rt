@@ -1,0 +1,102 @@
+//! The lines of a text.
+ghost use Rattle.std.specs.Prelude.{◌≡◌, ◌<◌, ◌^◌, List, length, MatchResult, Ok};
+ghost use Rattle.jfr_build.specs.declared.lines.NumberedLine.{NumberedLine};
+ghost use Rattle.jfr_build.specs.Lines.{IsBadLine, any_class, any_value, has_value, is_allowed, is_class, line_after, line_of, read_lines};
+
+use crate::line::{Line, read_line};
+use crate::pieces::LinesLeft;
+use crate::{BuildFault, BuildReason};
+use std::alloc::Global;
+
+/// A line that isn't empty, and its number in the text, counted from 1.
+#[derive(Drop)]
+pub struct NumberedLine<'a> {
+    pub number: u64,
+    pub line: Line<'a>,
+}
+
+/// A line that isn't empty, and the newline after it, have at least this many bytes.
+const LEAST_LEN: usize = 9;
+
+/// Whether the line is a class.
+pub fn is_class(line: &Line<'_>) -> bool
+    ensures { result ≡ is_class line.now }
+{
+    match line {
+        Line::Class { .. } => true,
+        _ => false,
+    }
+}
+
+/// Whether the line has a value.
+pub fn has_value(line: &Line<'_>) -> bool
+    ensures { result ≡ has_value line.now }
+{
+    match line {
+        Line::Constant { .. } | Line::Record { .. } => true,
+        _ => false,
+    }
+}
+
+/// Whether there was a class, and whether there was a value.
+#[derive(Clone, Copy)]
+struct Before {
+    class: bool,
+    value: bool,
+}
+
+/// Whether the line may come after those before it.
+fn is_allowed(line: &Line<'_>, before: Before) -> bool
+    ensures { (ls : List NumberedLine) → any_class ls ≡ before.class → any_value ls ≡ before.value → is_allowed ls line.now ≡ result }
+{
+    match line {
+        Line::Class { .. } => !before.value,
+        Line::Field { .. } => before.class && !before.value,
+        _ => true,
+    }
+}
+
+/// What a line means, if it may come after those before it.
+fn allowed_line(bytes: &[u8], before: Before) -> Option<Line<'_>>
+    ensures { (ls : List NumberedLine) → any_class ls ≡ before.class → any_value ls ≡ before.value → line_after ls (line_of bytes.now) ≡ result }
+{
+    let line = read_line(bytes)?;
+    if is_allowed(&line, before) {
+        Some(line)
+    } else {
+        None
+    }
+}
+
+/// The lines of a text that aren't empty. Refused for the first that isn't UTF-8, has no known form, or isn't
+/// allowed after those before it.
+pub fn read_lines(alloc: Global, text: &[u8]) -> Result<Vec<NumberedLine<'_>>, BuildFault>
+    requires { length text.now < 2 ^ 30 }
+    ensures exact { MatchResult result (λ lines. read_lines text.now ≡ Ok lines.items) (IsBadLine (read_lines text.now)) }
+{
+    let mut lines = Vec::with_capacity(alloc, text.len() / LEAST_LEN + 1)?;
+    let mut before = Before {
+        class: false,
+        value: false,
+    };
+    let mut left = LinesLeft::of(text);
+    let mut number: u64 = 0;
+    'lines: while let Some(bytes) = left.next() {
+        number += 1;
+        if bytes.is_empty() {
+            continue;
+        }
+        let Some(line) = allowed_line(bytes, before) else {
+            return Err(BuildFault::Refused {
+                line: number,
+                reason: BuildReason::LineBad,
+            });
+        };
+        before = Before {
+            class: before.class || is_class(&line),
+            value: before.value || has_value(&line),
+        };
+        lines.push(NumberedLine { number, line })?;
+    }
+    Ok(lines)
+}

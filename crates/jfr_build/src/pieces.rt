@@ -1,0 +1,111 @@
+//! The lines of a text, and the words of a line.
+ghost use Rattle.std.specs.Prelude.{◌≡◌, ◌∷◌, [], MatchOption, OnSome, IfNone};
+ghost use Rattle.jfr_build.specs.Pieces.{lines_of, pieces_left, words_of};
+
+use std::marker::Model;
+
+/// The lines that have not been taken yet. Contracts see them as a list.
+#[derive(Drop)]
+pub struct LinesLeft<'a> {
+    rest: Option<&'a [u8]>,
+}
+
+impl<'a> Model for LinesLeft<'a> {
+    ghost use Rattle.std.specs.Prelude.{ℕ, List};
+    ghost use Rattle.jfr_build.specs.Pieces.{pieces_left};
+
+    ghost Value = { List (List ℕ) };
+
+    ghost view = { λ lines. pieces_left 10 lines.rest };
+}
+
+impl<'a> LinesLeft<'a> {
+    /// The lines of a text.
+    pub fn of(text: &'a [u8]) -> LinesLeft<'a>
+        ensures { result ≡ lines_of text.now }
+    {
+        LinesLeft { rest: Some(text) }
+    }
+
+    /// Takes the first line; `None` exactly if no line is left.
+    pub fn next(&mut self) -> Option<&'a [u8]>
+        ensures { MatchOption result ((self.old ≡ []) × (self.new ≡ [])) (λ line. self.old ≡ line.now ∷ self.new) }
+    {
+        let (line, rest) = first_line(self.rest?);
+        self.rest = rest;
+        Some(line)
+    }
+}
+
+/// The bytes before the first newline, and those after it, if there is one.
+fn first_line(text: &[u8]) -> (&[u8], Option<&[u8]>)
+    ensures { lines_of text.now ≡ result.0.now ∷ pieces_left 10 result.1 }
+{
+    for at in 0..text.len() {
+        if text[at] == b'\n' {
+            let (line, rest) = text.split_at(at);
+            let (_, rest) = rest.split_at(1);
+            return (line, Some(rest));
+        }
+    }
+    (text, None)
+}
+
+/// The words that have not been taken yet. Contracts see them as a list.
+#[derive(Drop)]
+pub struct WordsLeft<'a> {
+    rest: Option<&'a str>,
+}
+
+impl<'a> Model for WordsLeft<'a> {
+    ghost use Rattle.std.specs.Prelude.{ℕ, List};
+    ghost use Rattle.jfr_build.specs.Pieces.{pieces_left};
+
+    ghost Value = { List (List ℕ) };
+
+    ghost view = { λ words. pieces_left 32 words.rest };
+}
+
+impl<'a> WordsLeft<'a> {
+    /// The words of a line.
+    pub fn of(line: &'a str) -> WordsLeft<'a>
+        ensures { result ≡ words_of line.now }
+    {
+        WordsLeft { rest: Some(line) }
+    }
+
+    /// The same words, to be taken again.
+    pub fn again(&self) -> WordsLeft<'a>
+        ensures { result ≡ self.now }
+    {
+        WordsLeft { rest: self.rest }
+    }
+
+    /// Takes the first word; `None` exactly if no word is left.
+    pub fn next(&mut self) -> Option<&'a str>
+        ensures { MatchOption result ((self.old ≡ []) × (self.new ≡ [])) (λ word. self.old ≡ word.now ∷ self.new) }
+    {
+        let rest = self.rest?;
+        match rest.split_once(' ') {
+            Some((word, rest)) => {
+                self.rest = Some(rest);
+                Some(word)
+            }
+            None => {
+                self.rest = None;
+                Some(rest)
+            }
+        }
+    }
+
+    /// Some value exactly if no word is left.
+    pub fn end(&self) -> Option<()>
+        ensures none { OnSome result (self.now ≡ []) }
+        ensures some { IfNone result (self.now ≡ [] → ⊥) }
+    {
+        match self.rest {
+            None => Some(()),
+            Some(_) => None,
+        }
+    }
+}

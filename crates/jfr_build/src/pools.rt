@@ -1,0 +1,143 @@
+//! The pools of constants.
+ghost use Rattle.std.specs.Prelude.{◌≡◌, ◌==◌, ◌+◌, ◌<◌, ◌^◌, ◌++◌, ℕ, [], false, true, IfOk, OnOk, None};
+ghost use Rattle.jfr_base.specs.Integer.{spell};
+ghost use Rattle.jfr_build.specs.Built.{is_constant_of, pools_of, with_class};
+ghost use Rattle.jfr_build.specs.LineValues.{first_bad_value, is_bad_value};
+ghost use Rattle.jfr_build.specs.Pooled.{Added, AreOrdered, Grown, count_in, entries_in, pool_bytes, pool_in, pools_bytes};
+
+use crate::line::Line;
+use crate::line_values::line_value;
+use crate::lines::NumberedLine;
+use crate::output::{Output, push_integer};
+use jfr_base::NoMemory;
+use jfr_layout::Classes;
+use std::alloc::Global;
+use std::collections::BTreeMap;
+
+/// The entries of a class.
+#[derive(Drop)]
+pub struct Pool {
+    pub count: u64,
+    pub entries: Vec<u8>,
+}
+
+/// The pools of all classes that have constants, and these classes in the order of their first lines.
+#[derive(Drop)]
+pub struct Pools {
+    alloc: Global,
+    by_class: BTreeMap<u64, Pool>,
+    classes: Vec<u64>,
+}
+
+impl Pools {
+    /// No pools. It allocates nothing.
+    fn new(alloc: Global) -> Pools
+        ensures none { (id : ℕ) → pool_in result id ≡ None }
+        ensures classes { result.classes.items ≡ [] }
+    {
+        Pools {
+            alloc,
+            by_class: BTreeMap::new(alloc),
+            classes: Vec::new(alloc),
+        }
+    }
+
+    /// Takes the pool of a class; an empty one if there is none yet.
+    fn take(&mut self, class: u64) -> Result<Pool, NoMemory>
+        requires ordered { AreOrdered self.old }
+        ensures count { IfOk result (λ pool. pool.count ≡ count_in (pool_in self.old class)) }
+        ensures entries { IfOk result (λ pool. pool.entries.items ≡ entries_in (pool_in self.old class)) }
+        ensures classes { OnOk result (self.new.classes.items ≡ with_class self.old.classes.items class) }
+        ensures others { OnOk result ((id : ℕ) → (class == id) ≡ false → pool_in self.new id ≡ pool_in self.old id) }
+    {
+        if let Some(pool) = self.by_class.remove(&class) {
+            return Ok(pool);
+        }
+        self.classes.push(class)?;
+        Ok(Pool {
+            count: 0,
+            entries: Vec::new(self.alloc),
+        })
+    }
+
+    /// Adds an entry to the pool of a class.
+    fn push(&mut self, class: u64, key: u64, value: &[u8]) -> Result<(), NoMemory>
+        requires ordered { AreOrdered self.old }
+        requires few { count_in (pool_in self.old class) + 1 < 2 ^ 64 }
+        ensures ok { OnOk result (Grown self.old self.new class (spell key ++ value.now)) }
+    {
+        let mut pool = self.take(class)?;
+        pool.count += 1;
+        push_integer(&mut pool.entries, key)?;
+        pool.entries.extend_from_slice(value)?;
+        self.by_class.insert(class, pool)?;
+        Ok(())
+    }
+
+    /// The pools, in the order of their classes.
+    fn to_bytes(&self, alloc: Global) -> Result<Vec<u8>, NoMemory>
+        ensures ok { IfOk result (λ bytes. bytes.items ≡ pools_bytes self.now) }
+    {
+        let mut bytes = Vec::new(alloc);
+        push_integer(&mut bytes, self.classes.len() as u64)?;
+        for class in &self.classes {
+            self.push_pool(&mut bytes, *class)?;
+        }
+        Ok(bytes)
+    }
+
+    /// Appends the pool of a class.
+    fn push_pool(&self, bytes: &mut Vec<u8>, class: u64) -> Result<(), NoMemory>
+        ensures ok { OnOk result (bytes.new.items ≡ bytes.old.items ++ pool_bytes self.now class) }
+    {
+        push_integer(bytes, class)?;
+        match self.by_class.get(&class) {
+            Some(pool) => {
+                push_integer(bytes, pool.count)?;
+                bytes.extend_from_slice(&pool.entries)?;
+            }
+            None => push_integer(bytes, 0)?,
+        }
+        Ok(())
+    }
+}
+
+/// The number of pools, and the pools of all constants.
+pub fn pools_of(
+    alloc: Global,
+    classes: &Classes,
+    lines: &[NumberedLine<'_>],
+) -> Result<Vec<u8>, NoMemory>
+    requires good { first_bad_value classes.now lines.now ≡ None }
+    ensures ok { IfOk result (λ bytes. bytes.items ≡ pools_of classes.now lines.now) }
+{
+    // For its range: no pool has more entries than a `usize` can count.
+    let _count = lines.len();
+    let mut pools = Pools::new(alloc);
+    let mut value = Output::new(alloc);
+    for line in lines {
+        push_line(&mut pools, classes, &line.line, &mut value)?;
+    }
+    pools.to_bytes(alloc)
+}
+
+/// Adds the entry of the line, if it is a constant.
+fn push_line(
+    pools: &mut Pools,
+    classes: &Classes,
+    line: &Line<'_>,
+    value: &mut Output,
+) -> Result<(), NoMemory>
+    requires ordered { AreOrdered pools.old }
+    requires few { (id : ℕ) → is_constant_of id line.now ≡ true → count_in (pool_in pools.old id) + 1 < 2 ^ 64 }
+    requires good { is_bad_value classes.now line.now ≡ false }
+    ensures ok { OnOk result (Added classes.now pools.old pools.new line.now) }
+{
+    let Line::Constant { class, key, .. } = line else {
+        return Ok(());
+    };
+    if !line_value(classes, line, value)? {
+        unreachable!();
+    }
+    pools.push(*class, *key, value.as_slice())
+}
