@@ -42,7 +42,7 @@ const WHOLE: &[Left] = &[Left::Chunks(2)];
 const TEXT: &[Left] = &[Left::PartOf(2)];
 
 #[rattlefmt::skip]
-static CASES: [Case; 10] = [
+static CASES: [Case; 12] = [
     Case {
         command: Command { words: &["print", "a.jfr"], at_end: false },
         reads: &[OF_BOTH], calls: [ONCE, &[], &[], &[], &[]], writes: EACH,
@@ -65,6 +65,14 @@ static CASES: [Case; 10] = [
     },
     Case {
         command: Command { words: &["scrub", "--exclude-events", "B", "a.jfr", "b.jfr"], at_end: false },
+        reads: &[OF_BOTH], calls: [ONCE, &[], ONCE, EACH, WHOLE], writes: &[],
+    },
+    Case {
+        command: Command { words: &["scrub", "--renumber", "yes", "a.jfr", "b.jfr"], at_end: false },
+        reads: &[OF_BOTH], calls: [ONCE, &[], ONCE, EACH, WHOLE], writes: &[],
+    },
+    Case {
+        command: Command { words: &["receipt", "a.jfr", "b.jfr"], at_end: false },
         reads: &[OF_BOTH], calls: [ONCE, &[], ONCE, EACH, WHOLE], writes: &[],
     },
     Case {

@@ -21,10 +21,21 @@ const LINES: &[(&str, &str)] = &[
     ("scrub --include-events A,,B a b", "Usage"),
     ("scrub --events A a b", "Usage"),
     ("scrub a --include-events A b", "Usage"),
-    ("scrub a b", "scrub 000000 from a to b"),
+    ("scrub --renumber a b", "Usage"),
+    ("scrub --renumber true a b", "Usage"),
+    ("scrub --renumber yes --renumber yes a b", "Usage"),
+    ("scrub a b", "scrub 000000, new keys false, from a to b"),
     (
         "scrub --exclude-threads --x --include-events A,B a b",
-        "scrub 100001 from a to b",
+        "scrub 100001, new keys false, from a to b",
+    ),
+    (
+        "scrub --include-events A --renumber yes a b",
+        "scrub 100000, new keys true, from a to b",
+    ),
+    (
+        "scrub --renumber no a b",
+        "scrub 000000, new keys false, from a to b",
     ),
     ("print", "Usage"),
     ("print --json", "Usage"),
@@ -74,6 +85,22 @@ const LINES: &[(&str, &str)] = &[
     ("sample 1 1 1", "Usage"),
     ("sample 4294967295 1000000", "sample 4294967295 1000000"),
     ("sample 0 1", "sample 0 1"),
+    ("receipt a", "Usage"),
+    ("receipt a b c", "Usage"),
+    ("receipt --renumber no a b", "Usage"),
+    ("receipt --include-events", "Usage"),
+    ("receipt a --include-events b", "Usage"),
+    (
+        "receipt --exclude-categories -- --include-events A a r",
+        "receipt 100100 of a to r",
+    ),
+    ("verify a b", "Usage"),
+    ("verify a b -r", "Usage"),
+    ("verify --include-events A --include-events A a b r", "Usage"),
+    (
+        "verify --include-threads main a b r",
+        "verify 000010 of a and b by r",
+    ),
     ("stacks", "Usage"),
     ("stacks --depth 1 a", "Usage"),
     ("stacks --exclude-events A a", "Usage"),
@@ -134,13 +161,15 @@ fn text_of(alloc: Global, order: &Order) -> Result<String, Fail> {
         Order::Metadata { file } => Ok(format!(in alloc; "metadata of {}", file.as_str())?),
         Order::Scrub {
             filter,
+            renumber,
             input,
             output,
         } => {
             let options = options_of(alloc, filter)?;
             let text = format!(in alloc;
-                "scrub {} from {} to {}",
+                "scrub {}, new keys {}, from {} to {}",
                 options.as_str(),
+                renumber,
                 input.as_str(),
                 output.as_str()
             )?;
@@ -164,6 +193,36 @@ fn text_of(alloc: Global, order: &Order) -> Result<String, Fail> {
             Ok(format!(in alloc; "assemble {} to {}", folder.as_str(), output.as_str())?)
         }
         Order::Sample { seed, events } => Ok(format!(in alloc; "sample {} {}", seed, events)?),
+        Order::Receipt {
+            filter,
+            input,
+            receipt,
+        } => {
+            let options = options_of(alloc, filter)?;
+            let text = format!(in alloc;
+                "receipt {} of {} to {}",
+                options.as_str(),
+                input.as_str(),
+                receipt.as_str()
+            )?;
+            Ok(text)
+        }
+        Order::Verify {
+            filter,
+            input,
+            output,
+            receipt,
+        } => {
+            let options = options_of(alloc, filter)?;
+            let text = format!(in alloc;
+                "verify {} of {} and {} by {}",
+                options.as_str(),
+                input.as_str(),
+                output.as_str(),
+                receipt.as_str()
+            )?;
+            Ok(text)
+        }
         Order::Stacks { filter, file } => {
             let options = options_of(alloc, filter)?;
             let text = format!(in alloc; "stacks {} of {}", options.as_str(), file.as_str())?;
