@@ -1,5 +1,5 @@
 -- What a renumbering writes is the output of each chunk with new keys.
-use Rattle.std.specs.Prelude.{◌≡◌, ℕ, ◌≤◌, List, [], ◌∷◌, length, map, true, Option, Some, None, Result, Ok, Err}
+use Rattle.std.specs.Prelude.{◌≡◌, ℕ, ◌≤◌, Bool, List, [], ◌∷◌, length, map, true, Option, Some, None, Result, Ok, Err}
 use Rattle.std.specs.List.{AllByRecursion}
 use Rattle.std.proofs.Common.{ap, arith, refl, sym, subst, ◌∙◌}
 use Rattle.jfr_base.specs.declared.flaw.Flaw.{Flaw}
@@ -14,7 +14,8 @@ use Rattle.jfr_filter.specs.Filters.{Given}
 use Rattle.jfr_plan.specs.Ends.{Fine, Refused}
 use Rattle.jfr_plan.specs.Effects.{alone}
 use Rattle.jfr_plan.specs.Clauses.{over, Ended}
-use Rattle.jfr_chunk.specs.Parts.{Parts, AreParts}
+use Rattle.jfr_chunk.specs.Parts.{EventAt, Parts, AreParts}
+use Rattle.jfr_chunk.specs.Reach.{kept_by}
 use Rattle.jfr_chunk.specs.Chosen.{chosen, kept_of}
 use Rattle.jfr_chunk.specs.Refusal.{read_parts, refusal_of, flaw_in}
 use Rattle.jfr_chunk.proofs.ChainAnswers.{is_computed}
@@ -27,21 +28,25 @@ use Rattle.jfr_renumber.specs.Renumber.{renumber_of}
 use Rattle.jfr_renumber.specs.Renumbers.{renumbered, renumbered_by, renumbering}
 use Rattle.jfr_renumber.proofs.Renumbered.{is_renumbered}
 
--- The output of an accepted chunk with a filter.
-renumbered_with : (g : Given) (p : Parts) → Whole p.bytes → AreParts p → IsRenumbered p (kept_of g p)
-renumbered_with g p w a = is_renumbered p a (chosen g p) w
+-- The output of a chunk, from what is known of it.
+made_output : (g : Given) (c b : List ℕ) (p : Parts) → p.bytes ≡ c → AreParts p → b ≡ renumber_of p (kept_of g p) → IsRenumbered p (kept_of g p) → IsRenumberedOutput g c b
+made_output g c b p h a e r = record { parts = p; bytes = h; stand = a; becomes = e; renumbered = r }
+
+-- The output of an accepted chunk with the events that are chosen.
+renumbered_with : (p : Parts) (flags : List Bool) (kept : List EventAt) → kept ≡ kept_by p flags → Whole p.bytes → AreParts p → IsRenumbered p kept
+renumbered_with p flags kept e w a = subst (IsRenumbered p) (sym e) (is_renumbered p a flags w)
+
+accepted_output : (g : Given) (c : List ℕ) (p : Parts) → Whole c → read_parts c ≡ Ok p → IsRenumberedOutput g c (renumber_of p (kept_of g p))
+accepted_output g c p w e =
+    let h : (p.bytes ≡ c) × AreParts p = ((is_computed c w.long).parts p).1 e in
+    made_output g c (renumber_of p (kept_of g p)) p h.0 h.1 refl (renumbered_with p (chosen g p) (kept_of g p) refl (subst Whole (sym h.0) w) h.1)
+
+some_none : (flaw : Flaw) → Some flaw ≡ None → ⊥
+some_none flaw e = cc
 
 renumbered_one : (g : Given) (c : List ℕ) (r : Result Parts Flaw) → Whole c → read_parts c ≡ r → flaw_in r ≡ None → IsRenumberedOutput g c (renumbered_by g r)
-renumbered_one g c (Ok p) w e n =
-    let h : (p.bytes ≡ c) × AreParts p = ((is_computed c w.long).parts p).1 e in
-    record {
-      parts = p;
-      bytes = h.0;
-      stand = h.1;
-      becomes = refl;
-      renumbered = renumbered_with g p (subst Whole (sym h.0) w) h.1;
-    }
-renumbered_one g c (Err flaw) w e n = cc
+renumbered_one g c (Ok p) w e n = accepted_output g c p w e
+renumbered_one g c (Err flaw) w e n = absurd (some_none flaw n)
 
 -- A chunk that isn't refused is renumbered.
 pub is_output : (g : Given) (c : List ℕ) → Whole c → refusal_of c ≡ None → IsRenumberedOutput g c (renumbered g c)
