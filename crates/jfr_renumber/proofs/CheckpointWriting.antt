@@ -18,11 +18,11 @@ use Rattle.jfr_chunk.specs.Parts.{Parts}
 use Rattle.jfr_chunk.specs.Written.{by_pool, sized}
 use Rattle.jfr_laws.proofs.Standing.{EntryStands, LinkStands}
 use Rattle.jfr_laws.proofs.Values.{exact_reads}
-use Rattle.jfr_renumber.specs.Pools.{leading}
+use Rattle.jfr_output.specs.Pools.{leading}
+use Rattle.jfr_output.proofs.PoolLaws.{by_first_of}
+use Rattle.jfr_output.proofs.Widths.{size_fits}
 use Rattle.jfr_renumber.specs.Renumber.{checkpoint_tail, entry_bytes, group_bytes}
 use Rattle.jfr_renumber.proofs.EventWriting.{front_taken, both_dropped}
-use Rattle.jfr_renumber.proofs.PoolRuns.{by_first_of}
-use Rattle.jfr_renumber.proofs.Widths.{size_fits}
 
 -- An entry is a node.
 pub entry_is : (k : Classes) (c : List ℕ) (e : EntryAt) → (s : EntryStands c k e) → IsNode k c (entry_node e) s.value

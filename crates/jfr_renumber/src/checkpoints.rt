@@ -1,10 +1,8 @@
 //! Chained checkpoints with new keys.
-ghost use Rattle.std.specs.Prelude.{◌≡◌, ◌<◌, ◌≤◌, ◌+◌, ◌-◌, ◌^◌, ℕ, ◌++◌, length, OnOk};
+ghost use Rattle.std.specs.Prelude.{◌≡◌, ◌≤◌, ◌+◌, ◌-◌, ◌++◌, length, OnOk};
 ghost use Rattle.std.specs.List.{AllByRecursion, flat_map};
-ghost use Rattle.jfr_frame.specs.Records.{IsRecord};
 ghost use Rattle.jfr_chunk.specs.Written.{by_pool, sized};
 ghost use Rattle.jfr_laws.proofs.Standing.{EntryStands, LinkStands};
-ghost use Rattle.jfr_renumber.specs.Pools.{leading, same_pool};
 ghost use Rattle.jfr_renumber.specs.Renumber.{checkpoint_tail, entry_bytes, group_bytes};
 
 use crate::records::put_size;
@@ -12,6 +10,7 @@ use crate::rewriting::{NewKeys, put_integer, put_rekeyed};
 use jfr_base::NoMemory;
 use jfr_chunk::Chunk;
 use jfr_layout::Shape;
+use jfr_output::pool_len;
 use jfr_pool::{EntryAt, Link};
 use jfr_value::{Node, Steps};
 use std::sync::ledger::Ledger;
@@ -19,7 +18,7 @@ use std::sync::ledger::Ledger;
 /// A chained checkpoint of the output: the checkpoint that it comes from, its delta in the output, and those of
 /// its entries that remain.
 #[derive(Clone, Copy, Debug)]
-pub struct OutputCheckpoint<'e> {
+pub(crate) struct OutputCheckpoint<'e> {
     pub link: Link,
     pub delta: u64,
     pub entries: &'e [EntryAt],
@@ -88,7 +87,7 @@ fn put_pools<N: NewKeys, L: Ledger>(
 
 /// Appends a checkpoint with its delta and its entries. Its size takes the same number of bytes
 /// as before.
-pub fn put_checkpoint<N: NewKeys, L: Ledger>(
+pub(crate) fn put_checkpoint<N: NewKeys, L: Ledger>(
     out: &mut Vec<u8>,
     chunk: &Chunk<'_>,
     checkpoint: OutputCheckpoint<'_>,
@@ -111,29 +110,6 @@ pub fn put_checkpoint<N: NewKeys, L: Ledger>(
     put_pools(out, chunk, checkpoint.entries, new, steps)?;
     put_size(out, from, frame.type_at - frame.at);
     Ok(())
-}
-
-// Whether two entries of a checkpoint are in the same pool.
-fn same_pool(one: &EntryAt, other: &EntryAt) -> bool
-    ensures { result ≡ same_pool one.now other.now }
-{
-    if one.pool != other.pool {
-        return false;
-    }
-    one.class == other.class
-}
-
-// The number of entries at the start of the list that are in the same pool as this one.
-fn pool_len(first: &EntryAt, entries: &[EntryAt]) -> usize
-    ensures exact { result ≡ leading first.now entries.now }
-    ensures within { result ≤ length entries.now }
-{
-    for (number, entry) in entries.iter().enumerate() {
-        if !same_pool(first, entry) {
-            return number;
-        }
-    }
-    entries.len()
 }
 
 // The number of pools that a checkpoint's entries are in.

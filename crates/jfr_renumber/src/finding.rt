@@ -6,7 +6,7 @@ use std::cmp::Ordering;
 
 /// The index of a class and a key in a rising list; `None` exactly if they aren't among them. Allocates
 /// nothing.
-pub fn find(pairs: &[(u64, u64)], class: u64, key: u64) -> Option<usize>
+pub(crate) fn find(pairs: &[(u64, u64)], class: u64, key: u64) -> Option<usize>
     requires { IsRising pairs.now }
     ensures found { IfSome result (λ i. slice_get pairs.now i ≡ Some (class, key)) }
     ensures none { result ≡ None → Contains pairs.now (class, key) → ⊥ }

@@ -16,13 +16,13 @@ use std::collections::BTreeSet;
 
 /// The first entries so far, and their classes and new keys.
 #[derive(Drop)]
-pub struct FirstEntries {
+pub(crate) struct FirstEntries {
     entries: Vec<EntryAt>,
     seen: BTreeSet<(u64, u64)>,
 }
 
 /// The entries of the output: of those that are reached, the first of each group.
-pub fn first_entries(
+pub(crate) fn first_entries(
     alloc: Global,
     chunk: &Chunk<'_>,
     marks: &Marks,

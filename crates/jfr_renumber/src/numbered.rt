@@ -21,7 +21,7 @@ use std::sync::ledger::Ledger;
 
 /// The new keys of all classes and keys that are used.
 #[derive(Drop)]
-pub struct NumberedKeys {
+pub(crate) struct NumberedKeys {
     pairs: Vec<(u64, u64)>,
     numbers: Vec<u64>,
 }
@@ -40,7 +40,7 @@ impl Model for NumberedKeys {
 
 impl NumberedKeys {
     /// Gives new keys to all that the kept events, and the entries that they reach, refer to.
-    pub fn make<L: Ledger>(
+    pub(crate) fn make<L: Ledger>(
         alloc: Global,
         chunk: &Chunk<'_>,
         kept: &Kept,
@@ -62,7 +62,7 @@ impl NumberedKeys {
     }
 
     /// The new key of a class and a key; `None` exactly if they aren't used. Allocates nothing.
-    pub fn get(&self, class: u64, key: u64) -> Option<u64>
+    pub(crate) fn get(&self, class: u64, key: u64) -> Option<u64>
         ensures { result ≡ number_of self.now (class, key) }
     {
         let at = find(&self.pairs, class, key)?;

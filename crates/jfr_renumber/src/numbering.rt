@@ -11,7 +11,7 @@ use std::collections::BTreeMap;
 
 /// A class and a key that are used, and the bytes of the value of the entry in force for them, if there is one.
 #[derive(Clone, Copy)]
-pub struct UsedKey<'a> {
+pub(crate) struct UsedKey<'a> {
     pub class: u64,
     pub key: u64,
     pub value: Option<&'a [u8]>,
@@ -19,7 +19,7 @@ pub struct UsedKey<'a> {
 
 /// The numbers of the groups of a class's keys, in the order of the keys. A key whose value came earlier gets
 /// that value's number; any other key gets the next number.
-pub fn number_class<'a>(alloc: Global, keys: &[UsedKey<'a>]) -> Result<Vec<u64>, NoMemory>
+pub(crate) fn number_class<'a>(alloc: Global, keys: &[UsedKey<'a>]) -> Result<Vec<u64>, NoMemory>
     ensures ok { IfOk result (λ numbers. (together : ℕ × ℕ → ℕ × ℕ → Bool) (us : List (ℕ × ℕ)) (class : ℕ) → Together together → AreKeysOf together us class keys.now → numbers.items ≡ group_numbers together us class keys.now) }
 {
     let mut firsts = BTreeMap::new(alloc);
@@ -61,7 +61,7 @@ fn keep<'a>(
 }
 
 /// The numbers of the groups of all used keys, in the order of the classes and keys.
-pub fn number_all<'a>(alloc: Global, keys: &[UsedKey<'a>]) -> Result<Vec<u64>, NoMemory>
+pub(crate) fn number_all<'a>(alloc: Global, keys: &[UsedKey<'a>]) -> Result<Vec<u64>, NoMemory>
     ensures ok { IfOk result (λ numbers. (together : ℕ × ℕ → ℕ × ℕ → Bool) (us : List (ℕ × ℕ)) → Together together → ArePairsOf together us keys.now → numbers.items ≡ pair_numbers together us keys.now) }
 {
     let mut numbers = Vec::with_capacity(alloc, keys.len())?;

@@ -16,7 +16,7 @@ use jfr_value::Steps;
 use std::sync::ledger::Ledger;
 
 /// Appends an event with new keys. Its size takes the same number of bytes as before.
-pub fn put_event<N: NewKeys, L: Ledger>(
+pub(crate) fn put_event<N: NewKeys, L: Ledger>(
     out: &mut Vec<u8>,
     classes: &Classes,
     event: Event<'_>,
@@ -43,7 +43,7 @@ pub fn put_event<N: NewKeys, L: Ledger>(
 
 /// Appends the event of the chunk with this number, with new keys. Its size takes the same number of bytes as
 /// before.
-pub fn put_chunk_event<N: NewKeys, L: Ledger>(
+pub(crate) fn put_chunk_event<N: NewKeys, L: Ledger>(
     out: &mut Vec<u8>,
     chunk: &Chunk<'_>,
     number: usize,
@@ -61,7 +61,7 @@ pub fn put_chunk_event<N: NewKeys, L: Ledger>(
 }
 
 /// Writes the number of bytes after offset `from` into the first `count` of them.
-pub fn put_size(out: &mut Vec<u8>, from: usize, count: usize)
+pub(crate) fn put_size(out: &mut Vec<u8>, from: usize, count: usize)
     requires count { (1 ≤ count) × (count ≤ 9) }
     requires within { from + count ≤ length out.old.items }
     requires fits { FitsIn (length out.old.items - from) count }

@@ -1,16 +1,19 @@
-//! The new keys of one chunk.
+//! The renumberer of one chunk.
 ghost use Rattle.std.specs.Prelude.{◌≡◌, ℕ, ◌<◌, length, IfOk};
 ghost use Rattle.jfr_chunk.specs.Chosen.{kept_of};
 ghost use Rattle.jfr_chunk.specs.Parts.{events_of};
 ghost use Rattle.jfr_chunk.specs.Reach.{kept_by};
 ghost use Rattle.jfr_renumber.specs.Meaning.{IsRenumbered};
 ghost use Rattle.jfr_renumber.specs.Numbers.{number_of};
-ghost use Rattle.jfr_renumber.specs.Renumber.{new_key_of};
+ghost use Rattle.jfr_renumber.specs.Renumber.{new_key_of, renumber_of};
 
+use crate::firsts::first_entries;
 use crate::numbered::NumberedKeys;
+use crate::output::{Constants, put_chunk};
 use jfr_base::NoMemory;
 use jfr_chunk::{Chunk, Kept};
 use jfr_filter::Filter;
+use jfr_output::slim_metadata;
 use jfr_path::choose;
 use jfr_reach::Marks;
 use jfr_value::Steps;
@@ -18,63 +21,104 @@ use std::alloc::Global;
 use std::marker::{Brand, Model};
 use std::sync::ledger::{Blank, Ledger};
 
-/// The new keys that an accepted chunk gets with a filter.
+/// The output of an accepted chunk with new keys, and the new keys.
 #[derive(Drop)]
 pub struct Renumberer {
     keys: NumberedKeys,
+    bytes: Vec<u8>,
 }
 
 impl Model for Renumberer {
-    ghost use Rattle.jfr_renumber.specs.Numbers.{NumberedPairs};
+    ghost use Rattle.jfr_renumber.specs.Renumbering.{Renumbering};
 
-    ghost Value = { NumberedPairs };
+    ghost Value = { Renumbering };
 
-    ghost view = { λ r. r.keys };
+    ghost view = { λ r. record { keys = r.keys; bytes = r.bytes.items } };
 }
 
 impl Renumberer {
-    /// Gives a new key to everything to which the kept events refer, directly or through constants.
+    /// Makes the output of an accepted chunk, with the events that a filter keeps. Everything to which they
+    /// refer, directly or through constants, gets a new key.
     pub fn prepare(
         alloc: Global,
         chunk: &Chunk<'_>,
         filter: &Filter,
     ) -> Result<Renumberer, NoMemory>
-        // The new keys, and which classes and keys have one.
-        ensures keys { IfOk result (λ r. (t : ℕ × ℕ) → number_of r t ≡ new_key_of chunk.now (kept_of filter.now chunk.now) t) }
+        // The new keys, which classes and keys have one, and the output with them.
+        ensures keys { IfOk result (λ r. (t : ℕ × ℕ) → number_of r.keys t ≡ new_key_of chunk.now (kept_of filter.now chunk.now) t) }
+        ensures bytes { IfOk result (λ r. r.bytes ≡ renumber_of chunk.now (kept_of filter.now chunk.now)) }
 
-        // What the chunk becomes with them is accepted, and means the same except for the keys.
+        // The output is accepted, is no longer than the chunk or than its scrub, and means the same except for
+        // the keys.
+        ensures renumbered { IfOk result (λ r. IsRenumbered chunk.now (kept_of filter.now chunk.now)) }
+    {
+        Renumberer::prepare_in(alloc, Vec::new(alloc), chunk, filter)
+    }
+
+    /// Does the same with the memory of a vector, whose items are dropped.
+    pub(crate) fn prepare_in(
+        alloc: Global,
+        room: Vec<u8>,
+        chunk: &Chunk<'_>,
+        filter: &Filter,
+    ) -> Result<Renumberer, NoMemory>
+        ensures keys { IfOk result (λ r. (t : ℕ × ℕ) → number_of r.keys t ≡ new_key_of chunk.now (kept_of filter.now chunk.now) t) }
+        ensures bytes { IfOk result (λ r. r.bytes ≡ renumber_of chunk.now (kept_of filter.now chunk.now)) }
         ensures renumbered { IfOk result (λ r. IsRenumbered chunk.now (kept_of filter.now chunk.now)) }
     {
         let kept = choose(alloc, chunk, filter)?;
-        let keys = keys_of::<Brand>(alloc, Blank::new(1), chunk, &kept)?;
-        Ok(Renumberer { keys })
+        renumbered::<Brand>(alloc, Blank::new(1), room, chunk, &kept)
+    }
+
+    /// The output chunk. Allocates nothing.
+    pub fn bytes(&self) -> &[u8]
+        ensures { result.now ≡ self.now.bytes }
+    {
+        self.bytes.as_slice()
     }
 
     /// The new key of a class and a key; `None` exactly if no kept event refers to them. Allocates nothing.
     pub fn new_key(&self, class: u64, key: u64) -> Option<u64>
-        ensures { result ≡ number_of self.now (class, key) }
+        ensures { result ≡ number_of self.now.keys (class, key) }
     {
         self.keys.get(class, key)
     }
+
+    /// The output chunk, as a vector.
+    pub(crate) fn into_bytes(self) -> Vec<u8>
+        ensures { result.items ≡ self.bytes }
+    {
+        self.bytes
+    }
 }
 
-// The new keys if these events are kept.
-fn keys_of<L: Ledger>(
+// The new keys, and the output with them, if these events are kept.
+fn renumbered<L: Ledger>(
     alloc: Global,
     blank: Blank,
+    room: Vec<u8>,
     chunk: &Chunk<'_>,
     kept: &Kept,
-) -> Result<NumberedKeys, NoMemory>
+) -> Result<Renumberer, NoMemory>
     requires name { blank.name ≡ L.name }
     requires parts { blank.parts ≡ L.parts }
     requires some { 0 < blank.parts }
     requires kept { length kept.now ≡ length (events_of chunk.now) }
-    ensures keys { IfOk result (λ k. (t : ℕ × ℕ) → number_of k t ≡ new_key_of chunk.now (kept_by chunk.now kept.now) t) }
-    ensures renumbered { IfOk result (λ k. IsRenumbered chunk.now (kept_by chunk.now kept.now)) }
+    ensures keys { IfOk result (λ r. (t : ℕ × ℕ) → number_of r.keys t ≡ new_key_of chunk.now (kept_by chunk.now kept.now) t) }
+    ensures bytes { IfOk result (λ r. r.bytes ≡ renumber_of chunk.now (kept_by chunk.now kept.now)) }
+    ensures renumbered { IfOk result (λ r. IsRenumbered chunk.now (kept_by chunk.now kept.now)) }
 {
     chunk.bytes();
     let mut steps: Steps<L> = Steps::new(blank);
     let mut marks = Marks::make(alloc, chunk.pools())?;
     marks.mark(chunk, kept, &mut steps);
-    NumberedKeys::make(alloc, chunk, kept, &marks, &mut steps)
+    let keys = NumberedKeys::make(alloc, chunk, kept, &marks, &mut steps)?;
+    let entries = first_entries(alloc, chunk, &marks, &keys)?;
+    let slim = slim_metadata(alloc, chunk, kept)?;
+    let constants = Constants {
+        entries: &entries,
+        keys: &keys,
+    };
+    let bytes = put_chunk(room, chunk, kept, slim.as_deref(), constants, &mut steps)?;
+    Ok(Renumberer { keys, bytes })
 }

@@ -19,7 +19,7 @@ use std::sync::ledger::Ledger;
 const KEY: u8 = 2;
 
 /// The new key of each class and key.
-pub trait NewKeys {
+pub(crate) trait NewKeys {
     // The new keys.
     ghost keys: { Self → ℕ × ℕ → ℕ };
 
@@ -29,7 +29,7 @@ pub trait NewKeys {
 }
 
 /// Appends a value with new keys.
-pub fn put_rekeyed<N: NewKeys, L: Ledger>(
+pub(crate) fn put_rekeyed<N: NewKeys, L: Ledger>(
     out: &mut Vec<u8>,
     classes: &Classes,
     node: Node<'_>,
@@ -77,7 +77,7 @@ fn put_string<N: NewKeys>(out: &mut Vec<u8>, leaf: Leaf<'_>, new: &N) -> Result<
 }
 
 /// Appends an integer in its shortest spelling.
-pub fn put_integer(out: &mut Vec<u8>, value: u64) -> Result<(), AllocError>
+pub(crate) fn put_integer(out: &mut Vec<u8>, value: u64) -> Result<(), AllocError>
     ensures ok { OnOk result (out.new.items ≡ out.old.items ++ spell value) }
 {
     let mut spelled = [0; 9];

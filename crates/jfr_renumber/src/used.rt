@@ -17,7 +17,7 @@ use std::sync::ledger::Ledger;
 /// The classes and keys that are referred to and have no entry in force. Once it runs out of memory the list
 /// has failed.
 #[derive(Drop)]
-pub struct Missing {
+pub(crate) struct Missing {
     keys: Vec<(u64, u64)>,
     failed: bool,
 }
@@ -43,7 +43,7 @@ impl Visit<Pools> for Missing {
 
 /// The classes and keys without an entry in force to which the kept events, and the entries that they reach,
 /// refer, one for each reference.
-pub fn missing_keys<L: Ledger>(
+pub(crate) fn missing_keys<L: Ledger>(
     alloc: Global,
     chunk: &Chunk<'_>,
     kept: &Kept,
@@ -110,7 +110,7 @@ fn list_entry<L: Ledger>(
 }
 
 /// Sorts classes and keys, and leaves out repeated ones.
-pub fn put_in_order(pairs: &mut Vec<(u64, u64)>)
+pub(crate) fn put_in_order(pairs: &mut Vec<(u64, u64)>)
     ensures rising { IsRising pairs.new.items }
     ensures kept { (t : ℕ × ℕ) → Contains pairs.old.items t → Contains pairs.new.items t }
     ensures none_added { (t : ℕ × ℕ) → Contains pairs.new.items t → Contains pairs.old.items t }

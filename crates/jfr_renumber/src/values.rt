@@ -9,7 +9,7 @@ use jfr_chunk::Chunk;
 use std::alloc::Global;
 
 /// These classes and keys, each with the bytes of the value of its entry in force.
-pub fn with_values<'a>(
+pub(crate) fn with_values<'a>(
     alloc: Global,
     chunk: &Chunk<'a>,
     pairs: &[(u64, u64)],

@@ -1,9 +1,9 @@
 use Rattle.std.proofs.Common.{◌++◌, ◌+◌, ◌-◌, ap, ◌∙◌}
 use Rattle.std.specs.List.{slice_range}
 use Rattle.jfr_chunk.specs.Written.{by_pool}
+use Rattle.jfr_output.proofs.Widths.{size_width}
 use Rattle.jfr_renumber.specs.Renumber.{checkpoint_tail}
 use Rattle.jfr_renumber.proofs.CheckpointWriting.{parts_written, sized_fits, sized_last, width}
-use Rattle.jfr_renumber.proofs.Widths.{size_width}
 use Rattle.jfr_renumber.proofs.checkpoints.put_checkpoint.Goals as goal
 
 pub put_size-requires-clause-count : goal.put_size-requires-clause-count

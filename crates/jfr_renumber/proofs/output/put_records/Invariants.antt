@@ -1,0 +1,18 @@
+use Rattle.std.proofs.Common.{length}
+use Rattle.jfr_chunk.specs.Reach.{kept_by}
+use Rattle.jfr_chunk.specs.Scrub.{output_records}
+use Rattle.jfr_output.specs.OutputRecords.{IsCursor, still_output_records}
+use Rattle.jfr_renumber.specs.Numbers.{numbers_of}
+use Rattle.jfr_renumber.specs.Renumber.{new_bytes}
+use Rattle.jfr_renumber.specs.Writing.{CanWrite, progress_of}
+use Rattle.jfr_renumber.proofs.WritingLaws.{Going}
+use Rattle.jfr_renumber.proofs.output.put_records.Given as goal
+
+abbrev pub invariant-output_records : goal.invariant-output_records
+invariant-output_records g l = record {
+  cursor : IsCursor l.chunk l.kept l.cursor;
+  output : Going l.chunk (new_bytes (numbers_of l.constants.keys.now) l.chunk (kept_by l.chunk l.kept) l.constants.entries.now) (CanWrite (numbers_of l.constants.keys.now) l.chunk l.constants.entries.now) (output_records l.chunk (kept_by l.chunk l.kept)) (still_output_records l.chunk l.kept l.cursor) (progress_of l.output);
+}
+
+abbrev pub decreases-output_records : goal.decreases-output_records
+decreases-output_records g l = length (still_output_records l.chunk l.kept l.cursor)

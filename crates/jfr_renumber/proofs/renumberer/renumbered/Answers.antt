@@ -1,0 +1,6 @@
+use Rattle.std.proofs.Common.{ap, ◌∙◌}
+use Rattle.jfr_renumber.proofs.Renumbered.{is_renumbered}
+use Rattle.jfr_renumber.proofs.renumberer.renumbered.Goals as goal
+
+pub returns-clause-renumbered : goal.returns-clause-renumbered
+returns-clause-renumbered g c = is_renumbered c.args.chunk.now c.bytes.ensures.parts c.args.kept.now c.bytes.ensures.whole

@@ -1,0 +1,24 @@
+-- What renumbering does with a recording.
+use Rattle.std.specs.Prelude.{ℕ, List, [], Result, Ok, Err}
+use Rattle.jfr_base.specs.declared.flaw.Flaw.{Flaw}
+use Rattle.jfr_filter.specs.Filters.{Given}
+use Rattle.jfr_plan.specs.Walks.{Rule}
+use Rattle.jfr_plan.specs.Makes.{making}
+use Rattle.jfr_chunk.specs.Parts.{Parts}
+use Rattle.jfr_chunk.specs.Chosen.{kept_of}
+use Rattle.jfr_chunk.specs.Refusal.{read_parts, refusal_of}
+use Rattle.jfr_renumber.specs.Renumber.{renumber_of}
+
+-- The output of a chunk with these parts; none for a chunk that is refused.
+abbrev pub renumbered_by : Given → Result Parts Flaw → List ℕ
+renumbered_by g (Ok p) = renumber_of p (kept_of g p)
+renumbered_by g (Err flaw) = []
+
+-- The output of a chunk with new keys, with the events that the filter keeps.
+unfoldable pub renumbered : Given → List ℕ → List ℕ
+renumbered g c = renumbered_by g (read_parts c)
+
+-- The rule of renumbering: the output is created, the output of each chunk is appended, and the output is
+-- finished.
+abbrev pub renumbering : Given → List ℕ → Rule
+renumbering g output = making output refusal_of (renumbered g)

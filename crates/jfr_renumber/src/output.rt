@@ -1,0 +1,177 @@
+//! The output chunk with new keys.
+ghost use Rattle.std.specs.Prelude.{◌≡◌, ◌≤◌, ◌++◌, ◌-◌, ◌==◌, ℕ, Bool, true, List, None, Some, drop, filter, length, option_map, replicate, unwrap_or, IfOk, OnOk};
+ghost use Rattle.jfr_frame.specs.Records.{IsRecord, record_bytes};
+ghost use Rattle.jfr_chunk.specs.Reach.{kept_by};
+ghost use Rattle.jfr_chunk.specs.Scrub.{groups_of, output_records};
+ghost use Rattle.jfr_chunk.specs.Written.{distance, sized};
+ghost use Rattle.jfr_output.specs.OutputRecords.{new_metadata, output_record_as};
+ghost use Rattle.jfr_output.specs.Positions.{IsBefore, place_seen};
+ghost use Rattle.jfr_output.specs.Remaining.{NotFalling};
+ghost use Rattle.jfr_renumber.specs.Numbers.{number_of, numbers_of};
+ghost use Rattle.jfr_renumber.specs.Renumber.{checkpoint_tail, firsts, new_bytes, new_key_of, renumber_of};
+ghost use Rattle.jfr_renumber.specs.Writing.{CanWrite, CheckpointFits, IsBody, IsWritten, progress_of};
+
+use crate::checkpoints::{OutputCheckpoint, put_checkpoint};
+use crate::numbered::NumberedKeys;
+use crate::records::put_chunk_event;
+use jfr_base::NoMemory;
+use jfr_chunk::{Chunk, Kept};
+use jfr_frame::Framed;
+use jfr_output::{Cursor, OutputRecord, delta_to, entries_of, next_output_record, output_header};
+use jfr_pool::{EntryAt, Link};
+use jfr_value::Steps;
+use std::sync::ledger::Ledger;
+
+/// The constants of the output: its entries, and the new keys of all that is used.
+#[derive(Clone, Copy)]
+pub(crate) struct Constants<'e> {
+    pub(crate) entries: &'e [EntryAt],
+    pub(crate) keys: &'e NumberedKeys,
+}
+
+/// The output so far: its bytes, of which the first 68 are for the header, and the offsets of the newest
+/// checkpoint and of the metadata record, if they have been written.
+#[derive(Drop)]
+pub(crate) struct Output {
+    bytes: Vec<u8>,
+    newest: Option<usize>,
+    metadata: Option<usize>,
+}
+
+/// Writes the output chunk into `out`, which is cleared first: the kept events, the metadata record, which is
+/// `slim` if there is one, and the checkpoints with these constants.
+pub(crate) fn put_chunk<L: Ledger>(
+    mut out: Vec<u8>,
+    chunk: &Chunk<'_>,
+    kept: &Kept,
+    slim: Option<&[u8]>,
+    constants: Constants<'_>,
+    steps: &mut Steps<L>,
+) -> Result<Vec<u8>, NoMemory>
+    requires slim { option_map (λ s. s.now) slim ≡ new_metadata chunk.now kept.now }
+    requires entries { constants.entries.now ≡ firsts chunk.now (kept_by chunk.now kept.now) }
+    requires keys { (t : ℕ × ℕ) → number_of constants.keys.now t ≡ new_key_of chunk.now (kept_by chunk.now kept.now) t }
+    ensures { IfOk result (λ out. out.items ≡ renumber_of chunk.now (kept_by chunk.now kept.now)) }
+{
+    chunk.parts_stand();
+    out.clear();
+    out.extend_from_slice(&[0; 68])?;
+    let mut output = Output {
+        bytes: out,
+        newest: None,
+        metadata: None,
+    };
+    put_records(&mut output, chunk, kept, slim, constants, steps)?;
+    let Output {
+        mut bytes,
+        newest,
+        metadata,
+    } = output;
+    let header = output_header(chunk.header(), bytes.len(), newest, metadata);
+    put_header(&mut bytes, &header);
+    Ok(bytes)
+}
+
+// Writes all output records.
+fn put_records<L: Ledger>(
+    output: &mut Output,
+    chunk: &Chunk<'_>,
+    kept: &Kept,
+    slim: Option<&[u8]>,
+    constants: Constants<'_>,
+    steps: &mut Steps<L>,
+) -> Result<(), NoMemory>
+    requires empty { progress_of output.old ≡ record { bytes = replicate 68 0; newest = None; metadata = None } }
+    requires slim { option_map (λ s. s.now) slim ≡ new_metadata chunk.now kept.now }
+    requires entries { constants.entries.now ≡ firsts chunk.now (kept_by chunk.now kept.now) }
+    requires below { (t : ℕ × ℕ) → numbers_of constants.keys.now t ≤ t.1 }
+    ensures ok { OnOk result (IsBody chunk.now (new_bytes (numbers_of constants.entry.keys.now) chunk.now (kept_by chunk.now kept.now) constants.entry.entries.now) (output_records chunk.now (kept_by chunk.now kept.now)) (progress_of output.new)) }
+{
+    chunk.parts_stand();
+    let mut cursor = Cursor {
+        frame: 0,
+        event: 0,
+        link: 0,
+    };
+    'output_records: while let Some(output_record) = next_output_record(chunk, kept, &mut cursor) {
+        put_record(output, chunk, slim, constants, output_record, steps)?;
+    }
+    Ok(())
+}
+
+// Writes an output record.
+fn put_record<L: Ledger>(
+    output: &mut Output,
+    chunk: &Chunk<'_>,
+    slim: Option<&[u8]>,
+    constants: Constants<'_>,
+    output_record: OutputRecord,
+    steps: &mut Steps<L>,
+) -> Result<(), NoMemory>
+    requires order { NotFalling 0 constants.entries.now }
+    requires below { (t : ℕ × ℕ) → numbers_of constants.keys.now t ≤ t.1 }
+    requires before { IsBefore output.old.newest (length output.old.bytes.items) }
+    requires can { CanWrite (numbers_of constants.keys.now) chunk.now constants.entries.now (output_record_as (option_map (λ s. s.now) slim) output_record) (length output.old.bytes.items) output.old.newest }
+    ensures ok { OnOk result ((flags : List Bool) → IsWritten (numbers_of constants.entry.keys.now) chunk.now flags constants.entry.entries.now (option_map (λ s. s.now) slim.entry) output_record (progress_of output.old) (progress_of output.new)) }
+{
+    chunk.parts_stand();
+    match output_record {
+        OutputRecord::Event(number, _) => {
+            put_chunk_event(&mut output.bytes, chunk, number, constants.keys, steps)
+        }
+        OutputRecord::Metadata(frame) => put_metadata(output, chunk.bytes(), frame, slim),
+        OutputRecord::Chained(number, link) => {
+            put_link(output, chunk, constants, number, link, steps)
+        }
+    }
+}
+
+// Writes the metadata record: the new one, if there is one, or this one of the chunk.
+fn put_metadata(
+    output: &mut Output,
+    bytes: &[u8],
+    frame: Framed,
+    slim: Option<&[u8]>,
+) -> Result<(), NoMemory>
+    requires { IsRecord bytes.now frame }
+    ensures ok { OnOk result (progress_of output.new ≡ record { bytes = output.old.bytes.items ++ unwrap_or (option_map (λ s. s.now) slim.entry) (record_bytes bytes.now frame); newest = output.old.newest; metadata = place_seen output.old.metadata true (length output.old.bytes.items) }) }
+{
+    let at = output.bytes.len();
+    let record = slim.unwrap_or(&bytes[frame.at..frame.end()]);
+    output.bytes.extend_from_slice(record)?;
+    output.metadata = Some(output.metadata.unwrap_or(at));
+    Ok(())
+}
+
+// Writes a chained checkpoint.
+fn put_link<L: Ledger>(
+    output: &mut Output,
+    chunk: &Chunk<'_>,
+    constants: Constants<'_>,
+    number: usize,
+    link: Link,
+    steps: &mut Steps<L>,
+) -> Result<(), NoMemory>
+    requires order { NotFalling 0 constants.entries.now }
+    requires before { IsBefore output.old.newest (length output.old.bytes.items) }
+    requires can { CheckpointFits (numbers_of constants.keys.now) chunk.now link (distance (length output.old.bytes.items) output.old.newest) (filter (λ e. e.checkpoint == number) constants.entries.now) }
+    ensures ok { OnOk result (progress_of output.new ≡ record { bytes = output.old.bytes.items ++ sized (link.frame.type_at - link.frame.at) (checkpoint_tail (numbers_of constants.entry.keys.now) chunk.now link (distance (length output.old.bytes.items) output.old.newest) (groups_of constants.entry.entries.now number)); newest = Some (length output.old.bytes.items); metadata = output.old.metadata }) }
+{
+    let at = output.bytes.len();
+    let checkpoint = OutputCheckpoint {
+        link,
+        delta: delta_to(output.newest, at),
+        entries: entries_of(constants.entries, number),
+    };
+    put_checkpoint(&mut output.bytes, chunk, checkpoint, constants.keys, steps)?;
+    output.newest = Some(at);
+    Ok(())
+}
+
+// Writes the header into the first 68 bytes.
+fn put_header(out: &mut Vec<u8>, header: &[u8; 68])
+    requires { 68 ≤ length out.old.items }
+    ensures { out.new.items ≡ header.now ++ drop 68 out.old.items }
+{
+    out[0..68].copy_from_slice(header);
+}
