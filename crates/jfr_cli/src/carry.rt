@@ -44,16 +44,16 @@ pub(crate) fn carry_out<P: Place, O: Sink>(
         Order::Metadata { file } => Answer::Ended(metadata(alloc, place, out, file)),
         Order::Scrub {
             filter,
-            renumber: false,
+            renumber: new_keys,
             input,
             output,
-        } => Answer::Ended(scrub(alloc, place, out, filter, input, output)),
-        Order::Scrub {
-            filter,
-            renumber: true,
-            input,
-            output,
-        } => Answer::Ended(renumber(alloc, place, out, filter, input, output)),
+        } => {
+            if *new_keys {
+                Answer::Ended(renumber(alloc, place, out, filter, input, output))
+            } else {
+                Answer::Ended(scrub(alloc, place, out, filter, input, output))
+            }
+        }
         Order::Disassemble { file, rule } => Answer::Ended(split(alloc, place, out, file, rule)),
         Order::Assemble { folder, output } => Answer::Ended(join(
             alloc, place, out, folder, output,

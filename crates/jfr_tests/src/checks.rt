@@ -78,7 +78,7 @@ fn other_outputs_are_verified(rt: HostRuntime) -> Result<(), Fail> {
             &["verify", "circle", "o", "r"][..],
             2,
             "",
-            "chunk 1 offset 0: ShortHeader\n",
+            "chunk 1 offset 7: ShortHeader\n",
         ),
     ] {
         says(&rt, alloc, &mut place, command, status, text, line)?;
@@ -98,8 +98,8 @@ fn a_verdict_is_lost(rt: HostRuntime) -> Result<(), Fail> {
     let mut err = MemorySink::new(alloc);
     out.fail(1, 3)?;
     assert_eq!(&rt; run(alloc, &check, &mut place, &mut out, &mut err), 4);
-    assert_eq!(&rt; out.bytes(), b"ver");
-    assert_eq!(&rt; err.bytes(), b"write fault\n");
+    assert_eq!(&rt; out.bytes(), b"ver".as_slice());
+    assert_eq!(&rt; err.bytes(), "write fault\n".as_bytes());
     Ok(())
 }
 

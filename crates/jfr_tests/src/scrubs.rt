@@ -220,7 +220,8 @@ fn the_first_event_decides(rt: HostRuntime) -> Result<(), Fail> {
 // after it.
 #[test]
 fn other_words_are_a_usage_fault(rt: HostRuntime) -> Result<(), Fail> {
-    let usage = "usage: jfr print|summary|metadata|scrub|disassemble|assemble|sample|receipt|verify|stacks\n";
+    let usage =
+        "usage: jfr print|summary|metadata|scrub|disassemble|assemble|sample|receipt|verify|stacks\n";
     for line in [
         &[][..],
         &["--help"][..],

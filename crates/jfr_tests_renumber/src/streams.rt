@@ -13,6 +13,7 @@ const RECORDS: &[u8] = &[
     5, 8, 0xAC, 2, 1, 3, 9, 3, 0x1D, 1, 0, 0, 0, 0, 1, 7, 4, 1, 2, 3, 1, 0x70, 2, 1, 3, 1, 0x71, 3,
     2, 3, 1, 0x70, 4, 3, 3, 1, 0x73,
 ];
+
 const RENUMBERED: &[u8] = &[
     5, 8, 0xAC, 2, 0, 3, 9, 0, 0x13, 1, 0, 0, 0, 0, 1, 7, 2, 0, 1, 3, 1, 0x70, 1, 0, 3, 1, 0x71,
 ];
@@ -70,7 +71,10 @@ fn recordings_are_renumbered_by_their_rows(rt: HostRuntime) -> Result<(), Fail> 
     let expected = recording(alloc, RENUMBERED, 0)?;
     for row in ROWS.iter() {
         let mut place = place_of(alloc, row)?;
-        assert_eq!(rt; renumber_stream(alloc, &mut place, "in", "out", &filter), row.answer);
+        assert_eq!(rt;
+            renumber_stream(alloc, &mut place, "in", "out", &filter),
+            row.answer
+        );
         match row.written {
             Some(count) => {
                 assert!(rt; count <= expected.len());

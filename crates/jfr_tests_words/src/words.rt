@@ -96,7 +96,10 @@ const LINES: &[(&str, &str)] = &[
     ),
     ("verify a b", "Usage"),
     ("verify a b -r", "Usage"),
-    ("verify --include-events A --include-events A a b r", "Usage"),
+    (
+        "verify --include-events A --include-events A a b r",
+        "Usage",
+    ),
     (
         "verify --include-threads main a b r",
         "verify 000010 of a and b by r",

@@ -3,8 +3,8 @@
 //! `read_words` reads an `Order`. Read `specs/Words.antt` first: the order that a list of words gives.
 #![tactic(auto)]
 
-pub mod laws;
 mod filter;
+pub mod laws;
 mod left;
 mod name;
 mod number;

@@ -21,18 +21,6 @@ returns-in-Metadata g c =
     let b = outside (g.P.Place.state c.metadata.new.place) (g.O.Sink.state c.metadata.new.out) in
     subst (λ o. Carries o c.metadata.result a b) (sym c.in-Metadata.is) c.metadata.ensures
 
-pub returns-in-Scrub : goal.returns-in-Scrub
-returns-in-Scrub g c =
-    let a = outside (g.P.Place.state c.args.place.now) (g.O.Sink.state c.args.out.now) in
-    let b = outside (g.P.Place.state c.scrub.new.place) (g.O.Sink.state c.scrub.new._out) in
-    subst (λ o. Carries o c.scrub.result a b) (sym c.in-Scrub.is) c.scrub.ensures
-
-pub returns-in-Scrub-2 : goal.returns-in-Scrub-2
-returns-in-Scrub-2 g c =
-    let a = outside (g.P.Place.state c.args.place.now) (g.O.Sink.state c.args.out.now) in
-    let b = outside (g.P.Place.state c.renumber.new.place) (g.O.Sink.state c.renumber.new._out) in
-    subst (λ o. Carries o c.renumber.result a b) (sym c.in-Scrub-2.is) c.renumber.ensures
-
 pub returns-in-Disassemble : goal.returns-in-Disassemble
 returns-in-Disassemble g c =
     let a = outside (g.P.Place.state c.args.place.now) (g.O.Sink.state c.args.out.now) in
