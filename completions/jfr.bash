@@ -4,11 +4,13 @@
 
 _jfr() {
     local current=${COMP_WORDS[COMP_CWORD]} options='' names=() word
+    local filter='--include-events --exclude-events --include-categories --exclude-categories'
+    filter+=' --include-threads --exclude-threads'
     COMPREPLY=()
 
     if ((COMP_CWORD == 1)); then
         compopt +o default 2>/dev/null
-        mapfile -t COMPREPLY < <(compgen -W 'print summary metadata scrub disassemble assemble sample stacks' -- "$current")
+        mapfile -t COMPREPLY < <(compgen -W 'print summary metadata scrub disassemble assemble sample receipt verify stacks' -- "$current")
         return
     fi
 
@@ -24,9 +26,16 @@ _jfr() {
             ;;
         summary | metadata) names=(file) ;;
         scrub)
-            options='--include-events --exclude-events --include-categories --exclude-categories'
-            options+=' --include-threads --exclude-threads'
+            options="$filter --renumber"
             names=(file file)
+            ;;
+        receipt)
+            options=$filter
+            names=(file file)
+            ;;
+        verify)
+            options=$filter
+            names=(file file file)
             ;;
         disassemble)
             options='--output --max-chunks --max-size'
@@ -65,6 +74,7 @@ _jfr() {
         '') ;;
         --output) kind=folder ;;
         --depth) kind=depth ;;
+        --renumber) kind=answer ;;
         *) kind='' ;;
     esac
     # No name begins with -.
@@ -73,6 +83,11 @@ _jfr() {
         depth)
             compopt +o default 2>/dev/null
             mapfile -t COMPREPLY < <(compgen -W '0 1 2 3 4 5 6 7 8' -- "$current")
+            return
+            ;;
+        answer)
+            compopt +o default 2>/dev/null
+            mapfile -t COMPREPLY < <(compgen -W 'yes no' -- "$current")
             return
             ;;
         '')
