@@ -7,12 +7,16 @@ and deltas that are true again), and runs commands on the outcome, with 1 GB of 
 it accepts come `print --json` and scrub, a scrub with one option, and half of the other commands that read chunks; on
 one that it refuses, and those are four of five, one of all these. The choice rotates with the input's number. Wrong is
 
-- a signal, more than 20 seconds, a status that isn't one of the command's, 5 of a command other than print;
-- more than 20 times the input's size and 64 MB of memory of a command other than print;
+- a signal, more than 20 seconds, a status that isn't one of the command's, 5 of a command other than print and stacks;
+- more than 20 times the input's size and 64 MB of memory of a command other than print and stacks;
 - another answer of two commands that check the same: status or line on the error stream;
 - a line of `print --json` that Python's json doesn't read, or another number of lines than `summary` counts events;
 - a scrub's output that isn't accepted, that scrubs to something else with the same options, or, without options, of
   which `print --json` shows something else;
+- a scrub with new keys that is longer than the one without, or of which `print --json` shows more than other keys;
+- a scrub that its receipts don't verify, and one with a byte changed, in it or in the receipts, that they verify, but
+  of which `print --json` shows something else;
+- lines of `stacks` that aren't texts with counts, in order, or that count more events than there are;
 - parts, or files joined, that aren't the input again.
 
 With --jobs N, N processes work at once, each on every Nth input; with --inputs N it stops after N inputs, if
@@ -43,6 +47,9 @@ from mutations import mutated, parsed_or_none
 
 LARGEST_TEXT = 64 << 20
 REFUSAL = re.compile(r"chunk [0-9]+ offset [0-9]+: [A-Za-z]+\n")
+DOUBT = re.compile(r"chunk [0-9]+: [A-Za-z]+\n")
+STACK = re.compile(rb"[^ ]* ([1-9][0-9]*)\n")
+KEY = re.compile(rb'("class":"(?:[^"\\]|\\.)*"),"key":\d+')
 
 
 class Wrong(Exception):
@@ -90,7 +97,8 @@ class Trial:
         os.mkdir(self.name("in"))
         os.mkdir(self.folder)
         self.nowhere = os.open(os.devnull, os.O_WRONLY)
-        self.said, self.totals, self.lines, self.told = map(Stream, map(self.name, ("said", "totals", "lines", "told")))
+        names = "said", "totals", "lines", "told", "nothing"
+        self.said, self.totals, self.lines, self.told, self.nothing = map(Stream, map(self.name, names))
         self.child = None
         self.late = False
         signal.signal(signal.SIGALRM, self.end)
@@ -124,7 +132,7 @@ class Trial:
             return status, line
         if status not in statuses:
             raise Wrong("%s: status %d, %s" % (label, status, line.strip()))
-        if (status == 2) != bool(REFUSAL.fullmatch(line)) or status == 0 and line:
+        if (status == 2) != bool(REFUSAL.fullmatch(line)) or (status == 7) != bool(DOUBT.fullmatch(line)) or status == 0 and line:
             raise Wrong("%s: status %d, said %r" % (label, status, line))
         if most is not None and used.ru_maxrss * 1024 > most:
             raise Wrong("%s takes %d KB" % (label, used.ru_maxrss))
@@ -201,6 +209,64 @@ class Trial:
             if self.told.bytes() != self.lines.bytes():
                 raise Wrong("print --json tells something else of the scrub's output")
 
+    def printed(self, name, text):
+        """What `print --json` shows of a file, or nothing if that is too long."""
+        answer = self.run("print --json, of " + name, ["print", "--json", self.name(name)], (0, 5), text)
+        return text.bytes() if answer[0] == 0 else None
+
+    def renumber(self, *filters):
+        """A scrub with new keys, and one without."""
+        label, out, new = "scrub --renumber yes", self.fresh("out.jfr"), self.fresh("new.jfr")
+        self.run("scrub", ["scrub", *filters, self.source, out], (0, 2), most=self.most)
+        self.agrees(label, self.run(label, ["scrub", "--renumber", "yes", *filters, self.source, new], (0, 2), most=self.most), self.verdict)
+        if len(self.bytes_of("new.jfr")) > len(self.bytes_of("out.jfr")):
+            raise Wrong("new keys make more bytes")
+        if not self.bytes_of("new.jfr"):
+            return
+        shown, its = self.printed("out.jfr", self.lines), self.printed("new.jfr", self.told)
+        if None not in (shown, its) and KEY.sub(rb"\1", shown) != KEY.sub(rb"\1", its):
+            raise Wrong("print --json shows other values with new keys")
+
+    def verify(self, rng, *filters):
+        """A scrub with its receipts, and both with a byte changed."""
+        out, receipt = self.fresh("out.jfr"), self.fresh("receipt")
+        self.run("scrub", ["scrub", *filters, self.source, out], (0, 2), most=self.most)
+        self.agrees("receipt", self.run("receipt", ["receipt", *filters, self.source, receipt], (0, 2), most=self.most), self.verdict)
+        words = ["verify", *filters, self.source, out, receipt]
+        answer = self.run("verify", words, (0, 2, 7), self.told, self.most)
+        status = answer[0]
+        if status != 7:
+            self.agrees("verify", answer, self.verdict)
+        elif self.verdict[0] == 0:
+            raise Wrong("verify doubts a scrub: %s" % answer[1])
+        if status == 0 and b"\nchunks %s\n" % self.told.bytes()[len(b"verified "):-1] not in self.totals.bytes():
+            raise Wrong("verify counts other chunks than summary")
+        shown = self.printed("out.jfr", self.lines) if self.bytes_of("out.jfr") else None
+        for name in ("out.jfr", "receipt"):
+            data = self.bytes_of(name)
+            if data and status == 0:
+                at = rng.randrange(len(data))
+                with open(self.name(name), "wb") as file:
+                    file.write(data[:at] + bytes([data[at] ^ rng.randrange(1, 256)]) + data[at + 1 :])
+                passed = self.run("verify, %s changed" % name, words, (0, 7), self.nothing, self.most)[0] == 0
+                if passed and shown is not None and self.printed("out.jfr", self.told) != shown:
+                    raise Wrong("verify passes %s with byte %d changed" % (name, at))
+                with open(self.name(name), "wb") as file:
+                    file.write(data)
+
+    def stacks(self):
+        answer = self.run("stacks", ["stacks", self.source], (0, 2, 5), self.told)
+        if answer[0] in (4, 5):
+            return
+        self.agrees("stacks", answer, self.verdict)
+        lines = self.told.bytes().splitlines(keepends=True)
+        found = list(map(STACK.fullmatch, lines))
+        texts = [line[: line.rindex(b" ")] for line in lines]
+        if not all(found) or texts != sorted(set(texts)):
+            raise Wrong("stacks writes other lines than folded stacks")
+        if answer[0] == 0 and sum(int(one[1]) for one in found) > int(re.search(rb"\nevents ([0-9]+)\n", self.totals.bytes())[1]):
+            raise Wrong("stacks counts more events than summary")
+
     def parts(self):
         for name in os.listdir(self.folder):
             os.remove(self.name("parts", name))
@@ -216,15 +282,25 @@ class Trial:
             if not self.data.startswith(made) or cut[0] == 0 and made != self.data:
                 raise Wrong("disassemble or assemble makes other bytes")
 
-    def tried(self, data, number, option):
-        """The runs on the input of this number; one of its scrubs has this option."""
+    def tried(self, data, number, option, rng):
+        """The runs on the input of this number; some of them have this option."""
         self.data, self.most = data, 20 * len(data) + (64 << 20)
         with open(self.source, "wb") as file:
             file.write(data)
         self.verdict = self.run("summary", ["summary", self.source], (0, 2), self.totals, self.most)
         self.tally.reasons[self.verdict[1].split()[-1] if self.verdict[0] else "accepted"] += 1
         first = self.scrub_and_print, lambda: self.scrub(*option)
-        others = self.metadata, self.print_text, lambda: self.print_text("--depth", "8"), self.parts
+        others = (
+            self.metadata,
+            self.print_text,
+            lambda: self.verify(rng, *option),
+            lambda: self.print_text("--depth", "8"),
+            self.parts,
+            lambda: self.renumber(*option),
+            lambda: self.verify(rng),
+            self.renumber,
+            self.stacks,
+        )
         groups = first + others
         accepted = self.verdict[0] == 0
         for group in first + others[number % 2::2] if accepted else groups[number % len(groups)::len(groups)]:
@@ -283,7 +359,7 @@ class Task:
                 data, option = mutated(rng, self.seeds, self.parsed), option_of(rng)
                 tally.inputs, tally.size = tally.inputs + 1, tally.size + len(data)
                 try:
-                    trial.tried(data, number, option)
+                    trial.tried(data, number, option, rng)
                 except Wrong as error:
                     self.keep(number, data, "%s; %s" % (error, option))
                     tally.wrong += 1

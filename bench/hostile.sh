@@ -3,7 +3,7 @@
 #
 # Makes a recording of each kind of hostile.py, or of those that are given, at SCALE (from 0 to 1, without it 1), and
 # runs each command that reads chunks on it, with 6 GB of memory (MEMORY, in KB) and 120 seconds (LIMIT) at most. A run
-# has to end with status 0, 2 or 5, in 20 seconds of processor time, and with a peak of at most 20 times the file's size
+# has to end with status 0, 2, 5 or (verify) 7, in 20 seconds of processor time, and with a peak of at most 20 times the file's size
 # and 64 MB of memory. The seconds are of processor time, since those of the clock depend on what else the machine does.
 #
 # With ONLY, a pattern as 'scrub*', just the commands whose label it matches.
@@ -43,7 +43,7 @@ run() {
     own=$(awk "BEGIN { printf \"%.2f\", $own + $system }")
     mb=$(awk "BEGIN { printf \"%.0f\", $peak / 1024 }")
     case $status in
-        0 | 2) ;;
+        0 | 2 | 7) ;;
         5) wanting=$((wanting + 1)) ;;
         *) bound="$bound status" ;;
     esac
@@ -68,6 +68,11 @@ for kind in "${kinds[@]}"; do
     run 'print --depth 8' print --depth 8 "$file"
     run stacks stacks "$file"
     run scrub scrub "$file" "$work/out.jfr"
+    mv "$work/out.jfr" "$work/scrubbed.jfr" 2>/dev/null
+    run receipt receipt "$file" "$work/receipt"
+    [ ! -e "$work/scrubbed.jfr" ] || run verify verify "$file" "$work/scrubbed.jfr" "$work/receipt"
+    rm -f "$work/scrubbed.jfr" "$work/receipt"
+    run 'scrub, new keys' scrub --renumber yes "$file" "$work/out.jfr"
     run 'scrub, threads' scrub --include-threads '*a*a*a*b,*a*a*a*c' "$file" "$work/out.jfr"
     run 'scrub, events' scrub --include-events '*a*a*a*b,*a*a*a*c' "$file" "$work/out.jfr"
     run 'scrub, categories' scrub --include-categories '*a*a*a*b,*a*a*a*c' "$file" "$work/out.jfr"
