@@ -8,6 +8,7 @@
 #![tactic(auto)]
 
 mod checkpoints;
+mod fields;
 mod finding;
 mod firsts;
 mod laws;

@@ -15,8 +15,8 @@ use jfr_value::{Leaf, LeafKind, Leaves, Node, Steps};
 use std::alloc::AllocError;
 use std::sync::ledger::Ledger;
 
-// The kind byte of a string that is a key.
-const KEY: u8 = 2;
+/// The kind byte of a string that is a key.
+pub(crate) const KEY: u8 = 2;
 
 /// The new key of each class and key.
 pub(crate) trait NewKeys {
