@@ -18,9 +18,8 @@ use Rattle.jfr_layout.specs.declared.kind.Kind.{Kind}
 use Rattle.jfr_layout.specs.declared.kind.Kind.TheVariants as kinds
 use Rattle.jfr_layout.specs.declared.shape.Shape.{Shape}
 use Rattle.jfr_layout.specs.declared.field_layout.FieldLayout.{FieldLayout}
-use Rattle.jfr_value.specs.declared.leaf.LeafKind.{LeafKind}
 use Rattle.jfr_value.specs.declared.leaf.LeafKind.TheVariants as leaf_kinds
-use Rattle.jfr_value.specs.Values.{Value, Values, Single, Group, Nil, Cons, bytes_of, bytes_of_all, key_of, shape_of, shapes_of, Fits, IsBase, IsHead, IsSingle}
+use Rattle.jfr_value.specs.Values.{Value, Values, Single, Group, Nil, Cons, bytes_of, bytes_of_all, key_of, shape_of, shapes_of, IsBase, IsHead, IsSingle}
 use Rattle.jfr_value.specs.Nodes.{EndsAt, IsNode, IsRow, NodeAt, node_at}
 use Rattle.jfr_value.proofs.LayoutLaws.{LayoutClass, layout_class}
 use Rattle.jfr_value.proofs.NodeLaws.{value_is}

@@ -1,5 +1,4 @@
-use Rattle.std.proofs.Common.{arith, ap, sym, ◌∙◌}
-use Rattle.jfr_value.proofs.LayoutLaws.{layout_known}
+use Rattle.std.proofs.Common.{arith, sym, ◌∙◌}
 use Rattle.jfr_value.proofs.PartLaws.{end_seen}
 use Rattle.jfr_renumber.proofs.FieldLaws.{integer_end, integer_there}
 use Rattle.jfr_renumber.proofs.fields.field_end.Goals as goal

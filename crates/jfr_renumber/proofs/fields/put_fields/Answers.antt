@@ -1,12 +1,10 @@
 use Rattle.std.proofs.Common.{◌++◌, ap, subst, sym, ◌∙◌}
-use Rattle.std.specs.Prelude.{length}
 use Rattle.std.proofs.lemmas.Result.{on_ok_weaker}
-use Rattle.jfr_layout.specs.Classes.{IsFieldLayout, find_class}
+use Rattle.jfr_layout.specs.Classes.{find_class}
 use Rattle.jfr_layout.specs.declared.shape.Shape.{Shape}
 use Rattle.jfr_value.specs.Nodes.{node_of}
 use Rattle.jfr_value.proofs.ChildLaws.{inline_known}
 use Rattle.std.specs.Prelude.{IsSome}
-use Rattle.jfr_renumber.specs.Fields.{rekeyed_first}
 use Rattle.jfr_renumber.proofs.FieldLaws.{fields_shape, layouts_row}
 use Rattle.jfr_renumber.proofs.fields.put_fields.Goals as goal
 
