@@ -21,6 +21,7 @@ use Rattle.jfr_layout.specs.declared.field_layout.FieldLayout.{FieldLayout}
 use Rattle.jfr_value.specs.declared.leaf.LeafKind.TheVariants as leaf_kinds
 use Rattle.jfr_value.specs.Values.{Value, Values, Single, Group, Nil, Cons, bytes_of, bytes_of_all, key_of, shape_of, shapes_of, IsBase, IsHead, IsSingle}
 use Rattle.jfr_value.specs.Nodes.{EndsAt, IsNode, IsRow, NodeAt, node_at}
+use Rattle.jfr_value.proofs.ChildLaws.{inline_known}
 use Rattle.jfr_value.proofs.LayoutLaws.{LayoutClass, layout_class}
 use Rattle.jfr_value.proofs.NodeLaws.{value_is}
 use Rattle.jfr_value.proofs.RowLaws.{row_stands, start_of}
@@ -160,6 +161,22 @@ fields_shape s kind e = by_marks s.array s.constant kind e
     by_marks false false kinds.Double e = cc
     by_marks false false kinds.Text e = cc
     by_marks false false kinds.Composite e = (refl, refl, refl)
+
+pub keyless_shape : (s : Shape) (kind : Kind) (first : Option ℕ) → IsKeyless (form_of s kind) first → (s.array ≡ false) × (s.constant ≡ false)
+keyless_shape s kind first h = by_marks s.array s.constant (inline_form kind) h
+  where
+    by_marks : (a o : Bool) (form : Form) → IsKeyless (if a then forms.Array else if o then forms.Key else form) first → (a ≡ false) × (o ≡ false)
+    by_marks true o form h = absurd h
+    by_marks false true form h = absurd h
+    by_marks false false form h = (refl, refl)
+
+-- The layout of an inline value is known.
+pub inline_layout : (k : Classes) (c : List ℕ) (n : NodeAt) (v : Value) (l : FieldLayout) → IsNode k c n v → l.shape ≡ n.shape → (l.shape.array ≡ false) × (l.shape.constant ≡ false) → (IsSome (find_class k n.shape.class) → IsFieldLayout k l) → IsFieldLayout k l
+inline_layout k c n v l i e m known =
+    let s : l.shape ≡ shape_of v = e ∙ i.shape in
+    let a = ap (λ (z : Shape). z.array) (sym s) ∙ m.0 in
+    let o = ap (λ (z : Shape). z.constant) (sym s) ∙ m.1 in
+    known (subst (λ (z : Shape). IsSome (find_class k z.class)) (sym i.shape) (inline_known k v a o i.fits))
 
 -- The first byte of what is at an offset.
 first_dropped : (c : List ℕ) (at : ℕ) → slice_get (drop at c) 0 ≡ slice_get c at

@@ -1,5 +1,5 @@
 -- The output chunk, one output record after another.
-use Rattle.std.specs.Prelude.{◌≡◌, ℕ, ◌+◌, ◌-◌, ◌<◌, ◌≤◌, ◌==◌, Bool, true, false, List, [], ◌∷◌, ◌++◌, length, drop, filter, find, replicate, slice_range, take, Option, Some, None, Contains, IfSome, slice_get, is_some, unwrap_or, if◌then◌else◌}
+use Rattle.std.specs.Prelude.{◌≡◌, ℕ, ◌+◌, ◌-◌, ◌≤◌, ◌==◌, Bool, true, false, List, [], ◌∷◌, ◌++◌, length, drop, filter, find, replicate, slice_range, take, Option, Some, None, Contains, IfSome, slice_get, is_some, unwrap_or, if◌then◌else◌}
 use Rattle.std.specs.List.{AllByRecursion, flat_map}
 use Rattle.std.proofs.Common.{ap, arith, refl, sym, ◌∙◌, subst, append_assoc, length-append}
 use Rattle.std.proofs.lemmas.Bool.{eqb-true}
@@ -41,12 +41,12 @@ use Rattle.jfr_output.proofs.PositionLaws.{last_next, last_none, moved_next, or_
 use Rattle.jfr_output.proofs.Widths.{size_width, spelled_length}
 use Rattle.jfr_renumber.specs.Meaning.{AreNewKeys}
 use Rattle.jfr_renumber.specs.Numbers.{NumberedPairs, number_of, numbers_of}
-use Rattle.jfr_renumber.specs.Renumber.{assembled_by, bytes_by, checkpoint_tail, event_bytes, firsts, group_bytes, new_bytes, new_key, new_key_of, renumber_of, used_keys, whole_bytes, written_by}
+use Rattle.jfr_renumber.specs.Renumber.{assembled_by, bytes_by, checkpoint_tail, event_bytes, firsts, group_bytes, new_bytes, new_key, new_key_of, renumber_of, whole_bytes, written_by}
 use Rattle.jfr_renumber.specs.Writing.{CanWrite, CheckpointFits, IsBody, IsWritten, Progress, with_record}
 use Rattle.jfr_renumber.proofs.AgreeLaws.{number_used, output_same}
 use Rattle.jfr_renumber.proofs.LawLaws.{new_keys_are}
 use Rattle.jfr_renumber.proofs.NewOutput.{find_in}
-use Rattle.jfr_renumber.proofs.NewPools.{groups_short, groups_spelled, spelled_pool}
+use Rattle.jfr_renumber.proofs.NewPools.{groups_short, groups_spelled}
 use Rattle.jfr_renumber.proofs.Rebuilt.{computed}
 use Rattle.jfr_renumber.proofs.Renumbered.{firsts_marked}
 

@@ -5,8 +5,9 @@ ghost use Rattle.jfr_chunk.specs.Written.{by_pool, sized};
 ghost use Rattle.jfr_laws.proofs.Standing.{EntryStands, LinkStands};
 ghost use Rattle.jfr_renumber.specs.Renumber.{checkpoint_tail, entry_bytes, group_bytes};
 
+use crate::fields::put_value;
 use crate::records::put_size;
-use crate::rewriting::{NewKeys, put_integer, put_rekeyed};
+use crate::rewriting::{NewKeys, put_integer};
 use jfr_base::NoMemory;
 use jfr_chunk::Chunk;
 use jfr_layout::Shape;
@@ -43,7 +44,7 @@ fn put_entry<N: NewKeys, L: Ledger>(
         end: entry.end,
     };
     put_integer(out, new.new_key(entry.class, entry.key))?;
-    put_rekeyed(out, chunk.classes(), node, new, steps)
+    put_value(out, chunk.classes(), node, new, steps)
 }
 
 // Appends the entries of a pool.

@@ -1,4 +1,4 @@
-//! The fields of events with new keys.
+//! Events and entries with new keys, field by field.
 ghost use Rattle.std.specs.Prelude.{◌≡◌, ℕ, ◌≤◌, ◌++◌, length, IfOk, IsSome, IsTrue, OnOk, Some, map, slice_get};
 ghost use Rattle.std.specs.List.{AllByRecursion};
 ghost use Rattle.jfr_base.specs.Formats.{int_at};
@@ -22,9 +22,9 @@ struct Fields<'a> {
     end: usize,
 }
 
-/// Appends a value with new keys, as `put_rekeyed` does. The fields of a composite value are passed one by one,
-/// because only arrays, strings that are keys and composite fields need a walk over their leaves.
-pub(crate) fn put_fields<N: NewKeys, L: Ledger>(
+/// Appends a value with new keys, as `put_rekeyed` does. Only arrays, strings that are keys and composite fields take a
+/// walk over their leaves.
+pub(crate) fn put_value<N: NewKeys, L: Ledger>(
     out: &mut Vec<u8>,
     classes: &Classes,
     node: Node<'_>,
@@ -36,18 +36,20 @@ pub(crate) fn put_fields<N: NewKeys, L: Ledger>(
     ensures ok { OnOk result (out.new.items ≡ out.old.items ++ rekeyed_bytes (N.keys new.now) classes.now node.entry.bytes.now (node_of node.entry)) }
 {
     let layout = layout_of(classes, node.shape);
-    match layout.form {
-        Form::Fields => {
-            let fields = Fields {
-                classes,
-                bytes: node.bytes,
-                end: node.end,
-            };
-            let layouts = classes.layouts(layout.class_index);
-            put_row(out, fields, layouts, node.at, new, steps)
-        }
-        _ => put_rekeyed(out, classes, node, new, steps),
+    if let Form::Fields = layout.form {
+        let fields = Fields {
+            classes,
+            bytes: node.bytes,
+            end: node.end,
+        };
+        let layouts = classes.layouts(layout.class_index);
+        return put_row(out, fields, layouts, node.at, new, steps);
     }
+    if is_keyless(layout.form, node.bytes, node.at) {
+        out.extend_from_slice(&node.bytes[node.at..node.end])?;
+        return Ok(());
+    }
+    put_rekeyed(out, classes, node, new, steps)
 }
 
 // Appends fields with these layouts, of which the first starts at `start`.

@@ -8,7 +8,7 @@ ghost use Rattle.jfr_chunk.specs.Parts.{Parts, events_of};
 ghost use Rattle.jfr_chunk.specs.Seen.{event_at};
 ghost use Rattle.jfr_renumber.specs.Renumber.{event_bytes};
 
-use crate::fields::put_fields;
+use crate::fields::put_value;
 use crate::rewriting::NewKeys;
 use jfr_base::{NoMemory, write_in};
 use jfr_chunk::{Chunk, Event};
@@ -36,7 +36,7 @@ pub(crate) fn put_event<N: NewKeys, L: Ledger>(
     let frame = event.frame;
     let from = out.len();
     out.extend_from_slice(&bytes[frame.at..frame.body])?;
-    put_fields(out, classes, event.node, new, steps)?;
+    put_value(out, classes, event.node, new, steps)?;
     out.extend_from_slice(&bytes[event.node.end..frame.end()])?;
     put_size(out, from, frame.type_at - frame.at);
     Ok(())

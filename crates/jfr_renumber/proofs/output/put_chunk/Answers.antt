@@ -1,4 +1,4 @@
-use Rattle.std.proofs.Common.{◌≡◌, ◌∙◌, ◌++◌, ap, drop}
+use Rattle.std.proofs.Common.{◌∙◌, ◌++◌, ap, drop}
 use Rattle.std.specs.Prelude.{unwrap_or}
 use Rattle.jfr_header.specs.Headers.{header_bytes}
 use Rattle.jfr_chunk.specs.Reach.{kept_by}

@@ -1,4 +1,4 @@
-use Rattle.std.proofs.Common.{◌≡◌, sym, subst, length, option_map, []}
+use Rattle.std.proofs.Common.{sym, subst, length, option_map, []}
 use Rattle.std.proofs.lemmas.Result.{on_ok_weaker}
 use Rattle.jfr_frame.specs.Records.{IsRecord}
 use Rattle.jfr_renumber.specs.Numbers.{numbers_of}

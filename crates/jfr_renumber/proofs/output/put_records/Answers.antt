@@ -1,4 +1,4 @@
-use Rattle.std.proofs.Common.{ap, ◌∙◌, ◌∷◌, ◌≡◌, sym, subst, length, option_map, ℕ, List}
+use Rattle.std.proofs.Common.{ap, ◌∙◌, sym, subst, length, ℕ, List}
 use Rattle.std.specs.Prelude.{Option}
 use Rattle.jfr_chunk.specs.Parts.{metadata_at}
 use Rattle.jfr_chunk.specs.Reach.{kept_by}
@@ -9,7 +9,7 @@ use Rattle.jfr_output.proofs.CursorLaws.{cursor_first}
 use Rattle.jfr_renumber.specs.Numbers.{numbers_of}
 use Rattle.jfr_renumber.specs.Renumber.{new_bytes}
 use Rattle.jfr_renumber.specs.Writing.{CanWrite, progress_of, with_record}
-use Rattle.jfr_renumber.proofs.WritingLaws.{Going, firsts_can, firsts_order, going_all, going_next, going_none, next_before, written_is}
+use Rattle.jfr_renumber.proofs.WritingLaws.{Going, firsts_can, firsts_order, going_next, going_none, next_before, written_is}
 use Rattle.jfr_renumber.proofs.output.put_records.Goals as goal
 
 pub output_records-init : goal.output_records-init

@@ -1,4 +1,3 @@
-use Rattle.std.proofs.Common.{ap, ◌∙◌}
 use Rattle.jfr_renumber.proofs.Renumbered.{is_renumbered}
 use Rattle.jfr_renumber.proofs.renumberer.renumbered.Goals as goal
 

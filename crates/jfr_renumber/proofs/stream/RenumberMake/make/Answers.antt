@@ -1,9 +1,6 @@
-use Rattle.std.proofs.Common.{rules, ap, ◌∙◌, ◌≡◌, subst}
-use Rattle.std.specs.Prelude.{None}
-use Rattle.jfr_chunk.specs.Refusal.{refusal_of}
+use Rattle.std.proofs.Common.{rules, ◌∙◌}
 use Rattle.jfr_output.proofs.RecordingLaws.{refused_by}
 use Rattle.jfr_renumber.proofs.HeadlineLaws.{made_of}
-use Rattle.jfr_renumber.specs.Renumbers.{renumbered}
 use Rattle.jfr_renumber.proofs.stream.RenumberMake.make.Goals as goal
 
 pub returns-in_err-chunk-clause-refused : goal.returns-in_err-chunk-clause-refused
