@@ -43,7 +43,8 @@ run() {
     own=$(awk "BEGIN { printf \"%.2f\", $own + $system }")
     mb=$(awk "BEGIN { printf \"%.0f\", $peak / 1024 }")
     case $status in
-        0 | 2 | 7) ;;
+        0 | 2) ;;
+        7) [ "$label" = verify ] || bound="$bound status" ;;
         5) wanting=$((wanting + 1)) ;;
         *) bound="$bound status" ;;
     esac
