@@ -1,7 +1,5 @@
 -- The fields of a value with new keys, one after another.
-use Rattle.std.specs.Prelude.{◌≡◌, ℕ, zero, suc, List, [], ◌++◌, Option, Some, ⊤}
-use Rattle.jfr_layout.specs.declared.form.Form.{Form}
-use Rattle.jfr_layout.specs.declared.form.Form.TheVariants as forms
+use Rattle.std.specs.Prelude.{ℕ, zero, suc, List, [], ◌++◌}
 use Rattle.jfr_value.specs.Values.{Values, Nil, Cons, bytes_of}
 use Rattle.jfr_renumber.specs.Rekeyed.{rekeyed}
 
@@ -10,10 +8,3 @@ abbrev pub rekeyed_first : (ℕ × ℕ → ℕ) → Values → ℕ → List ℕ
 rekeyed_first new vs zero = []
 rekeyed_first new Nil (suc n) = []
 rekeyed_first new (Cons v vs) (suc n) = bytes_of (rekeyed new v) ++ rekeyed_first new vs n
-
--- A value of this form that starts with this byte has no key: a number, or a string that isn't a key.
-abbrev pub IsKeyless : Form → Option ℕ → Type 0
-IsKeyless forms.Integer first = ⊤
-IsKeyless (forms.Raw count) first = ⊤
-IsKeyless forms.Text first = first ≡ Some 2 → ⊥
-IsKeyless _ first = ⊥

@@ -5,7 +5,7 @@ ghost use Rattle.jfr_renumber.specs.Firsts.{AddsFirst, firsts_by};
 ghost use Rattle.jfr_renumber.specs.Numbers.{number_of};
 ghost use Rattle.jfr_renumber.specs.Renumber.{firsts, new_key_of};
 
-use crate::numbered::NumberedKeys;
+use crate::entry_keys::EntryKeys;
 use crate::rewriting::NewKeys;
 use jfr_base::NoMemory;
 use jfr_chunk::Chunk;
@@ -26,7 +26,7 @@ pub(crate) fn first_entries(
     alloc: Global,
     chunk: &Chunk<'_>,
     marks: &Marks,
-    keys: &NumberedKeys,
+    keys: &EntryKeys<'_>,
 ) -> Result<Vec<EntryAt>, NoMemory>
     requires { length marks.now ≡ length chunk.now.entries }
     ensures { IfOk result (λ es. (flags : List Bool) → marks.now ≡ reached_marks chunk.now (kept_by chunk.now flags) → ((t : ℕ × ℕ) → number_of keys.now t ≡ new_key_of chunk.now (kept_by chunk.now flags) t) → es.items ≡ firsts chunk.now (kept_by chunk.now flags)) }

@@ -8,6 +8,8 @@
 #![tactic(auto)]
 
 mod checkpoints;
+mod entry_keys;
+mod field;
 mod fields;
 mod finding;
 mod firsts;

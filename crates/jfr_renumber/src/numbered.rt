@@ -14,10 +14,8 @@ use jfr_base::NoMemory;
 use jfr_chunk::{Chunk, Kept};
 use jfr_pool::EntryAt;
 use jfr_reach::Marks;
-use jfr_value::Steps;
 use std::alloc::Global;
 use std::marker::Model;
-use std::sync::ledger::Ledger;
 
 /// The new keys of all classes and keys that are used.
 #[derive(Drop)]
@@ -40,12 +38,11 @@ impl Model for NumberedKeys {
 
 impl NumberedKeys {
     /// Gives new keys to all that the kept events, and the entries that they reach, refer to.
-    pub(crate) fn make<L: Ledger>(
+    pub(crate) fn make(
         alloc: Global,
         chunk: &Chunk<'_>,
         kept: &Kept,
         marks: &Marks,
-        steps: &mut Steps<L>,
     ) -> Result<NumberedKeys, NoMemory>
         requires kept { length kept.now ≡ length (events_of chunk.now) }
         requires marks { marks.now ≡ reached_marks chunk.now (kept_by chunk.now kept.now) }
@@ -53,7 +50,7 @@ impl NumberedKeys {
         ensures { IfOk result (λ k. (t : ℕ × ℕ) → number_of k t ≡ new_key_of chunk.now (kept_by chunk.now kept.now) t) }
     {
         chunk.parts_stand();
-        let mut pairs = missing_keys(alloc, chunk, kept, marks, steps)?;
+        let mut pairs = missing_keys(alloc, chunk, kept, marks)?;
         push_reached(&mut pairs, chunk, marks)?;
         put_in_order(&mut pairs);
         let keys = with_values(alloc, chunk, &pairs)?;

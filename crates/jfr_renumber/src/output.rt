@@ -12,7 +12,7 @@ ghost use Rattle.jfr_renumber.specs.Renumber.{checkpoint_tail, firsts, new_bytes
 ghost use Rattle.jfr_renumber.specs.Writing.{CanWrite, CheckpointFits, IsBody, IsWritten, progress_of};
 
 use crate::checkpoints::{OutputCheckpoint, put_checkpoint};
-use crate::numbered::NumberedKeys;
+use crate::entry_keys::EntryKeys;
 use crate::records::put_chunk_event;
 use jfr_base::NoMemory;
 use jfr_chunk::{Chunk, Kept};
@@ -26,7 +26,7 @@ use std::sync::ledger::Ledger;
 #[derive(Clone, Copy)]
 pub(crate) struct Constants<'e> {
     pub(crate) entries: &'e [EntryAt],
-    pub(crate) keys: &'e NumberedKeys,
+    pub(crate) keys: &'e EntryKeys<'e>,
 }
 
 /// The output so far: its bytes, of which the first 68 are for the header, and the offsets of the newest

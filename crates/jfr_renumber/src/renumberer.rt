@@ -2,11 +2,12 @@
 ghost use Rattle.std.specs.Prelude.{◌≡◌, ℕ, ◌<◌, length, IfOk};
 ghost use Rattle.jfr_chunk.specs.Chosen.{kept_of};
 ghost use Rattle.jfr_chunk.specs.Parts.{events_of};
-ghost use Rattle.jfr_chunk.specs.Reach.{kept_by};
+ghost use Rattle.jfr_chunk.specs.Reach.{kept_by, reached_marks};
 ghost use Rattle.jfr_renumber.specs.Meaning.{IsRenumbered};
 ghost use Rattle.jfr_renumber.specs.Numbers.{number_of};
 ghost use Rattle.jfr_renumber.specs.Renumber.{new_key_of, renumber_of};
 
+use crate::entry_keys::EntryKeys;
 use crate::firsts::first_entries;
 use crate::numbered::NumberedKeys;
 use crate::output::{Constants, put_chunk};
@@ -112,13 +113,33 @@ fn renumbered<L: Ledger>(
     let mut steps: Steps<L> = Steps::new(blank);
     let mut marks = Marks::make(alloc, chunk.pools())?;
     marks.mark(chunk, kept, &mut steps);
-    let keys = NumberedKeys::make(alloc, chunk, kept, &marks, &mut steps)?;
-    let entries = first_entries(alloc, chunk, &marks, &keys)?;
+    let keys = NumberedKeys::make(alloc, chunk, kept, &marks)?;
+    let bytes = put_output(alloc, room, chunk, kept, &marks, &keys, &mut steps)?;
+    Ok(Renumberer { keys, bytes })
+}
+
+// Writes the output with these new keys.
+fn put_output<L: Ledger>(
+    alloc: Global,
+    room: Vec<u8>,
+    chunk: &Chunk<'_>,
+    kept: &Kept,
+    marks: &Marks,
+    keys: &NumberedKeys,
+    steps: &mut Steps<L>,
+) -> Result<Vec<u8>, NoMemory>
+    requires kept { length kept.now ≡ length (events_of chunk.now) }
+    requires size { length marks.now ≡ length chunk.now.entries }
+    requires marks { marks.now ≡ reached_marks chunk.now (kept_by chunk.now kept.now) }
+    requires keys { (t : ℕ × ℕ) → number_of keys.now t ≡ new_key_of chunk.now (kept_by chunk.now kept.now) t }
+    ensures { IfOk result (λ out. out.items ≡ renumber_of chunk.now (kept_by chunk.now kept.now)) }
+{
+    let new = EntryKeys::make(alloc, keys, chunk.pools())?;
+    let entries = first_entries(alloc, chunk, marks, &new)?;
     let slim = slim_metadata(alloc, chunk, kept)?;
     let constants = Constants {
         entries: &entries,
-        keys: &keys,
+        keys: &new,
     };
-    let bytes = put_chunk(room, chunk, kept, slim.as_deref(), constants, &mut steps)?;
-    Ok(Renumberer { keys, bytes })
+    put_chunk(room, chunk, kept, slim.as_deref(), constants, steps)
 }

@@ -80,6 +80,10 @@ fn put_string<N: NewKeys>(out: &mut Vec<u8>, leaf: Leaf<'_>, new: &N) -> Result<
 pub(crate) fn put_integer(out: &mut Vec<u8>, value: u64) -> Result<(), AllocError>
     ensures ok { OnOk result (out.new.items ≡ out.old.items ++ spell value) }
 {
+    if value < 128 {
+        out.push(value as u8)?;
+        return Ok(());
+    }
     let mut spelled = [0; 9];
     let len = write_var(value, &mut spelled);
     out.extend_from_slice(&spelled[..len])

@@ -1,5 +1,8 @@
 //! The classes and keys that are used.
-ghost use Rattle.std.specs.Prelude.{◌≡◌, ◌<◌, ℕ, length, map, filter, false, option_to_list, Contains, IfOk};
+ghost use Rattle.std.specs.Prelude.{◌≡◌, ◌<◌, ℕ, [], ◌∷◌, length, map, filter, false, option_to_list, Contains, IfOk};
+ghost use Rattle.jfr_layout.specs.Classes.{Sound};
+ghost use Rattle.jfr_value.specs.Nodes.{IsValue, node_of, targets};
+ghost use Rattle.jfr_value.specs.Visits.{TakesAll};
 ghost use Rattle.jfr_pool.specs.Entries.{entry_node};
 ghost use Rattle.jfr_chunk.specs.Parts.{events_of};
 ghost use Rattle.jfr_chunk.specs.Reach.{all_targets, kept_by, nodes_of, reached_marks};
@@ -8,11 +11,11 @@ ghost use Rattle.jfr_renumber.specs.Renumber.{used_keys};
 
 use jfr_base::NoMemory;
 use jfr_chunk::{Chunk, Kept};
+use jfr_layout::Classes;
 use jfr_pool::Pools;
 use jfr_reach::Marks;
-use jfr_value::{Steps, Visit, visit_targets};
+use jfr_value::{Node, Visit, end_visiting, layout_of};
 use std::alloc::Global;
-use std::sync::ledger::Ledger;
 
 /// The classes and keys that are referred to and have no entry in force. Once it runs out of memory the list
 /// has failed.
@@ -43,12 +46,11 @@ impl Visit<Pools> for Missing {
 
 /// The classes and keys without an entry in force to which the kept events, and the entries that they reach,
 /// refer, one for each reference.
-pub(crate) fn missing_keys<L: Ledger>(
+pub(crate) fn missing_keys(
     alloc: Global,
     chunk: &Chunk<'_>,
     kept: &Kept,
     marks: &Marks,
-    steps: &mut Steps<L>,
 ) -> Result<Vec<(u64, u64)>, NoMemory>
     requires kept { length kept.now ≡ length (events_of chunk.now) }
     requires marks { marks.now ≡ reached_marks chunk.now (kept_by chunk.now kept.now) }
@@ -60,10 +62,10 @@ pub(crate) fn missing_keys<L: Ledger>(
         failed: false,
     };
     for number in 0..kept.len() {
-        list_event(&mut list, chunk, kept, number, steps);
+        list_event(&mut list, chunk, kept, number);
     }
     for entry in 0..chunk.pools().len() {
-        list_entry(&mut list, chunk, marks, entry, steps);
+        list_entry(&mut list, chunk, marks, entry);
     }
     if list.failed {
         return Err(NoMemory);
@@ -72,41 +74,43 @@ pub(crate) fn missing_keys<L: Ledger>(
 }
 
 // Lists what the event with this number refers to, if it is kept.
-fn list_event<L: Ledger>(
-    list: &mut Missing,
-    chunk: &Chunk<'_>,
-    kept: &Kept,
-    number: usize,
-    steps: &mut Steps<L>,
-)
+fn list_event(list: &mut Missing, chunk: &Chunk<'_>, kept: &Kept, number: usize)
     ensures { Lists chunk.now.entries (all_targets chunk.now (nodes_of (option_to_list (flagged kept.now (events_of chunk.now) number)))) list.old list.new }
 {
     match kept.get(number) {
         Some(true) => {}
         _ => return,
     }
+    chunk.parts_stand();
     if let Some(event) = chunk.event(number) {
-        visit_targets(chunk.classes(), event.node, list, chunk.pools(), steps);
+        list_value(list, chunk.classes(), chunk.pools(), event.node);
     }
 }
 
 // Lists what the entry with this number refers to, if it is reached.
-fn list_entry<L: Ledger>(
-    list: &mut Missing,
-    chunk: &Chunk<'_>,
-    marks: &Marks,
-    number: usize,
-    steps: &mut Steps<L>,
-)
+fn list_entry(list: &mut Missing, chunk: &Chunk<'_>, marks: &Marks, number: usize)
     requires { number < length marks.now }
     ensures { Lists chunk.now.entries (all_targets chunk.now (map entry_node (option_to_list (flagged marks.now chunk.now.entries number)))) list.old list.new }
 {
     if !marks.is_reached(number) {
         return;
     }
+    chunk.parts_stand();
     if let Some(node) = chunk.entry_node(number) {
-        visit_targets(chunk.classes(), node, list, chunk.pools(), steps);
+        list_value(list, chunk.classes(), chunk.pools(), node);
     }
+}
+
+// Lists what an inline value refers to.
+fn list_value(list: &mut Missing, classes: &Classes, pools: &Pools, node: Node<'_>)
+    requires sound { Sound classes.now }
+    requires value { IsValue classes.now node }
+    requires array { node.shape.array ≡ false }
+    requires constant { node.shape.constant ≡ false }
+    ensures { TakesAll (λ t old new. Lists pools.now (t ∷ []) old new) (targets classes.now node.entry.bytes.now (node_of node.entry)) list.old list.new }
+{
+    let layout = layout_of(classes, node.shape);
+    let _end = end_visiting(classes, &layout, node.bytes, node.at, node.end, list, pools);
 }
 
 /// Sorts classes and keys, and leaves out repeated ones.

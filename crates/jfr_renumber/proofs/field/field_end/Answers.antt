@@ -1,7 +1,7 @@
 use Rattle.std.proofs.Common.{arith, sym, ◌∙◌}
 use Rattle.jfr_value.proofs.PartLaws.{end_seen}
-use Rattle.jfr_renumber.proofs.FieldLaws.{integer_end, integer_there}
-use Rattle.jfr_renumber.proofs.fields.field_end.Goals as goal
+use Rattle.jfr_renumber.proofs.BaseLaws.{integer_end, integer_there}
+use Rattle.jfr_renumber.proofs.field.field_end.Goals as goal
 
 pub integer_at-requires-clause-there : goal.integer_at-requires-clause-there
 integer_at-requires-clause-there c =

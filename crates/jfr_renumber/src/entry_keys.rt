@@ -1,0 +1,76 @@
+//! The new keys of entries.
+ghost use Rattle.std.specs.Prelude.{◌≡◌, map, IfOk};
+ghost use Rattle.jfr_renumber.specs.Numbers.{numbers_of};
+ghost use Rattle.jfr_renumber.specs.Renumber.{pair_of};
+
+use crate::numbered::NumberedKeys;
+use crate::rewriting::NewKeys;
+use jfr_base::NoMemory;
+use jfr_pool::{EntryAt, Pools};
+use std::alloc::Global;
+use std::marker::Model;
+
+/// The new keys of a chunk. The one of a class and key that have an entry is found by the entry's number; only
+/// others are searched for.
+#[derive(Drop)]
+pub(crate) struct EntryKeys<'k> {
+    keys: &'k NumberedKeys,
+    pools: &'k Pools,
+    by_entry: Vec<u64>,
+}
+
+impl<'k> Model for EntryKeys<'k> {
+    ghost use Rattle.std.specs.Prelude.{◌≡◌, map};
+    ghost use Rattle.jfr_renumber.specs.Numbers.{NumberedPairs, numbers_of};
+    ghost use Rattle.jfr_renumber.specs.Renumber.{pair_of};
+
+    ghost Value = { NumberedPairs };
+
+    ghost view = { λ k. k.keys.now };
+
+    ghost invariant = { λ k. k.by_entry.items ≡ map (λ e. numbers_of k.keys.now (pair_of e)) k.pools.now };
+}
+
+impl<'k> EntryKeys<'k> {
+    /// Finds the new key of each entry.
+    pub(crate) fn make(
+        alloc: Global,
+        keys: &'k NumberedKeys,
+        pools: &'k Pools,
+    ) -> Result<EntryKeys<'k>, NoMemory>
+        ensures { IfOk result (λ made. made ≡ keys.now) }
+    {
+        let by_entry = keys_of(alloc, keys, pools.as_slice())?;
+        Ok(EntryKeys {
+            keys,
+            pools,
+            by_entry,
+        })
+    }
+}
+
+impl<'k> NewKeys for EntryKeys<'k> {
+    ghost use Rattle.jfr_renumber.specs.Numbers.{numbers_of};
+
+    ghost keys = { numbers_of };
+
+    /// The new key of a class and a key, or 0 if they aren't used.
+    #[inline]
+    fn new_key(&self, class: u64, key: u64) -> u64 {
+        match self.pools.entry(class, key) {
+            Some(number) => self.by_entry[number],
+            None => self.keys.new_key(class, key),
+        }
+    }
+}
+
+// The new key of each of these entries.
+fn keys_of(alloc: Global, keys: &NumberedKeys, entries: &[EntryAt]) -> Result<Vec<u64>, NoMemory>
+    ensures { IfOk result (λ found. found.items ≡ map (λ e. numbers_of keys.now (pair_of e)) entries.now) }
+{
+    let mut found = Vec::with_capacity(alloc, entries.len())?;
+    for entry in entries {
+        found.push(keys.new_key(entry.class, entry.key))?;
+    }
+    Ok(found)
+}
