@@ -10,7 +10,7 @@ use Rattle.jfr_value.specs.Reading.{value_format}
 use Rattle.jfr_value.proofs.DepthLaws.{fits_good}
 use Rattle.jfr_value.specs.Leaves.{leaves_at}
 use Rattle.jfr_build.specs.LeafWords.{AreWordsOf}
-use Rattle.jfr_build.specs.Taking.{took, value_taken}
+use Rattle.jfr_build.specs.Taking.{value_taken}
 use Rattle.jfr_build.specs.Laws.{TakenIsRead, TakesExactly}
 use Rattle.jfr_build.proofs.SoundLaws.{value_sound}
 use Rattle.jfr_build.proofs.WholeLaws.{value_all}

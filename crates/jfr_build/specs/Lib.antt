@@ -11,4 +11,7 @@ pub mod Described
 pub mod Built
 pub mod Pooled
 pub mod Builds
+pub mod Accepted
+pub mod Endings
+pub mod Streams
 pub mod Laws

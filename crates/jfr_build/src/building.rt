@@ -1,5 +1,6 @@
 //! Building a chunk.
 ghost use Rattle.std.specs.Prelude.{◌≡◌, ◌∷◌, ◌+◌, ◌<◌, ◌^◌, [], nat_lt, IfOk, MatchResult, None, Some, Ok, option_map, if◌then◌else◌};
+ghost use Rattle.jfr_build.specs.Accepted.{IsBuiltOf};
 ghost use Rattle.jfr_build.specs.Built.{chunk_with, header_with, record_of};
 ghost use Rattle.jfr_build.specs.Builds.{IsFault, build_lines, build_of, chunk_of, if_small, line_count};
 ghost use Rattle.jfr_build.specs.LineValues.{first_bad_value};
@@ -19,7 +20,7 @@ use jfr_layout::Classes;
 use std::alloc::Global;
 
 /// A text has fewer bytes than this.
-const TEXT_LIMIT: usize = 1 << 30;
+pub(crate) const TEXT_LIMIT: usize = 1 << 30;
 
 /// What follows the size of the checkpoint, before its pools: the type, and start, duration, delta and type
 /// byte, all 0.
@@ -32,8 +33,11 @@ const CHECKPOINT_HEAD: [u8; 5] = [CHECKPOINT_TYPE as u8, 0, 0, 0, 0];
 /// of [`jfr_layout::Classes::make`], for the line of its class or field; `ValueBad` for the first constant or
 /// event whose words aren't those of the leaves of one value of its class; `TooLarge` if the strings and the
 /// tree of the metadata take 2^29 bytes or more, or the chunk 2^30 or more.
+///
+/// What is built is accepted, and has exactly the classes, the events and the constants of the lines.
 pub fn build(alloc: Global, text: &[u8]) -> Result<Vec<u8>, BuildFault>
     ensures exact { MatchResult result (λ chunk. build_of text.now ≡ Ok chunk.items) (IsFault (build_of text.now)) }
+    ensures accepted { IfOk result (λ chunk. IsBuiltOf text.now chunk.items) }
 {
     if text.len() >= TEXT_LIMIT {
         return Err(too_large(0));

@@ -1,8 +1,10 @@
-//! Laws of words and values. The functions do nothing; their contracts are the laws.
-ghost use Rattle.std.specs.Prelude.{List, ℕ};
+//! Laws of words, values and chunks. The functions do nothing; their contracts are the laws.
+ghost use Rattle.std.specs.Prelude.{◌≡◌, List, Ok, ℕ};
 ghost use Rattle.jfr_layout.specs.Classes.{Classes, Sound};
 ghost use Rattle.jfr_layout.specs.declared.shape.Shape.{Shape};
 ghost use Rattle.jfr_value.specs.Values.{Value};
+ghost use Rattle.jfr_build.specs.Accepted.{IsBuiltOf};
+ghost use Rattle.jfr_build.specs.Builds.{build_of};
 ghost use Rattle.jfr_build.specs.Laws.{TakenIsRead, TakesExactly};
 
 /// Words are taken as a value of a shape exactly if they are those of its leaves, one for each, in order.
@@ -14,4 +16,10 @@ pub fn words_are_taken()
 /// and the value of each entry, are read with the leaves of their lines.
 pub fn taken_values_are_read()
     ensures { (k : Classes) (s : Shape) (words : List (List ℕ)) (v : Value) → Sound k → TakenIsRead k s words v }
+{}
+
+/// A chunk that is built is accepted. Its classes are those of the lines, its events are the events of the
+/// lines in order, and its constants are those of the lines, class by class.
+pub fn built_is_accepted()
+    ensures { (text chunk : List ℕ) → build_of text ≡ Ok chunk → IsBuiltOf text chunk }
 {}

@@ -1,16 +1,18 @@
 //! A builder of recordings: a text with a line for each class, field, constant and event becomes a chunk.
 //!
-//! `build` is the only call. Read `specs/Builds.antt` first: what is built of a text, and why a text is
-//! refused. Then read `specs/Pieces.antt` and `specs/Lines.antt`: what the lines of a text mean;
-//! `specs/ClassLines.antt`: the classes of the lines; `specs/LeafWords.antt`: the words of leaves;
-//! `specs/Taking.antt` and `specs/LineValues.antt`: the values of words and lines; and
-//! `specs/Described.antt` and `specs/Built.antt`: the bytes of the chunk. The laws are about the values
-//! that words are taken as.
+//! `build` makes the chunk of a text, and `build_stream` does so with files. Read `specs/Builds.antt` first: what is
+//! built of a text, and why a text is refused; then `specs/Accepted.antt`: what the chunk is to a reader, and
+//! `specs/Streams.antt`: what is done with the files. What the lines mean is in `specs/Pieces.antt`,
+//! `specs/Lines.antt` and `specs/ClassLines.antt`; the words of leaves in `specs/LeafWords.antt`; the values of
+//! words and lines in `specs/Taking.antt` and `specs/LineValues.antt`; and the bytes of the chunk in
+//! `specs/Described.antt` and `specs/Built.antt`. The laws are about the values that words are taken as, and about
+//! the chunk.
 #![tactic(auto)]
 
 mod building;
 mod class_lines;
 mod described;
+mod ending;
 mod laws;
 mod leaf;
 mod line;
@@ -23,8 +25,12 @@ mod pools;
 mod quoted;
 mod reason;
 mod records;
+mod stream;
 mod value;
+mod writing;
 
 pub use building::build;
-pub use laws::{taken_values_are_read, words_are_taken};
+pub use ending::BuildEnding;
+pub use laws::{built_is_accepted, taken_values_are_read, words_are_taken};
 pub use reason::{BuildFault, BuildReason};
+pub use stream::build_stream;

@@ -1,16 +1,18 @@
 use Rattle.std.proofs.Common.{◌≡◌, Ok, ap, subst, sym, ◌∙◌}
 use Rattle.std.specs.Prelude.{MatchResult}
 use Rattle.jfr_build.specs.Builds.{IsFault, build_lines, line_count}
+use Rattle.jfr_build.proofs.AcceptedLaws.{accepted_by}
 use Rattle.jfr_build.proofs.ChunkLaws.{bad_line, text_lines, text_too_large}
 use Rattle.jfr_build.proofs.building.build.Goals as goal
 
 pub returns-then-text-ge-TEXT_LIMIT : goal.returns-then-text-ge-TEXT_LIMIT
-returns-then-text-ge-TEXT_LIMIT c = record { exact = rw c.too_large.ensures (text_too_large c.args.text.now c.if-text-ge-TEXT_LIMIT.true) }
+returns-then-text-ge-TEXT_LIMIT c = record { exact = rw c.too_large.ensures (text_too_large c.args.text.now c.if-text-ge-TEXT_LIMIT.true); accepted = tt }
 
 pub returns-in-Ok : goal.returns-in-Ok
 returns-in-Ok c =
     let e = text_lines c.args.text.now c.if-text-ge-TEXT_LIMIT.false ∙ (ap (build_lines (line_count c.args.text.now)) (c.in-Ok.ensures.exact ∙ ap (λ z. Ok z) (sym c.deref.ensures.value)) ∙ ap (λ n. build_lines n (Ok c.deref.result.now)) (sym c.line_count.ensures)) in
-    record { exact = subst (λ z. MatchResult c.build_lines.result (λ chunk. z ≡ Ok chunk.items) (IsFault z)) (sym e) c.build_lines.ensures.exact }
+    let exact = subst (λ z. MatchResult c.build_lines.result (λ chunk. z ≡ Ok chunk.items) (IsFault z)) (sym e) c.build_lines.ensures.exact in
+    record { exact = exact; accepted = accepted_by c.build_lines.result c.args.text.now exact }
 
 pub returns-in-Err : goal.returns-in-Err
-returns-in-Err c = record { exact = bad_line c.args.text.now c.in-Err.fault c.if-text-ge-TEXT_LIMIT.false c.in-Err.ensures.exact }
+returns-in-Err c = record { exact = bad_line c.args.text.now c.in-Err.fault c.if-text-ge-TEXT_LIMIT.false c.in-Err.ensures.exact; accepted = tt }

@@ -1,0 +1,104 @@
+-- What `build_stream` does with a text file and an output file.
+use Rattle.std.specs.Prelude.{◌≡◌, ⊤, ℕ, Bool, IsTrue, List, [], ◌∷◌, Vec, Option, None, Some, option_map, Result, Ok, Err}
+use Rattle.std.specs.declared.alloc.Global.{Global}
+use Rattle.jfr_outside.specs.World.{World, State, file}
+use Rattle.jfr_outside.specs.declared.fault.Fault.{Fault}
+use Rattle.jfr_header.specs.Taking.{Tells, IsKept}
+use Rattle.jfr_header.specs.Endings.{after_write}
+use Rattle.jfr_header.specs.declared.ending.Ending.{Ending}
+use Rattle.jfr_header.specs.declared.ending.Ending.TheVariants as endings
+use Rattle.jfr_plan.specs.Ends.{Fine}
+use Rattle.jfr_plan.specs.Effects.{Effect, Create, Append, Finish, AtEnd, Plan, alone, needing}
+use Rattle.jfr_plan.specs.Walks.{File}
+use Rattle.jfr_plan.specs.Outcomes.{Counted, Kept, Rises}
+use Rattle.jfr_plan.specs.Clauses.{CanRead, Task}
+use Rattle.jfr_build.specs.declared.reason.BuildReason.{BuildReason}
+use Rattle.jfr_build.specs.declared.ending.BuildEnding.{BuildEnding}
+use Rattle.jfr_build.specs.declared.ending.BuildEnding.TheVariants.{Done, Refused, ReadFault, WriteFault, Memory}
+use Rattle.jfr_build.specs.Builds.{Build, build_of, refused}
+use Rattle.jfr_build.specs.Accepted.{IsBuiltOf}
+
+-- The effects that write a file.
+abbrev pub writes : List ℕ → List ℕ → List Effect
+writes name bytes = Create name ∷ Append bytes ∷ Finish ∷ []
+
+-- The ending of a part whose write had this result.
+abbrev pub as_ending : Result (Unit {0}) Fault → Result (Unit {0}) Ending
+as_ending (Ok x) = Ok x
+as_ending (Err fault) = Err (after_write fault)
+
+-- The plan for what is built of a text, if there is one: the chunk is written. A text that is refused has no
+-- effect and no end; the refusal is the answer.
+abbrev pub plan_by : List ℕ → Option Build → Plan
+plan_by out None = record { steps = []; end = None }
+plan_by out (Some (Ok chunk)) = record { steps = needing AtEnd (writes out chunk); end = Some Fine }
+plan_by out (Some (Err refusal)) = record { steps = []; end = None }
+
+-- The plan for the text in a file, if the file exists.
+abbrev pub building : List ℕ → Option (List ℕ) → Plan
+building out text = plan_by out (option_map build_of text)
+
+-- The text in a file is built, and the chunk is written to the output.
+abbrev pub builds : List ℕ → List ℕ → Task
+builds text out = record {
+  plan = λ w. building out (file w text);
+  Halts = λ steady w v s t. (t ≡ s) × (IsTrue steady → file w text ≡ None);
+  Readable = CanRead text;
+  target = File;
+}
+
+-- The ending isn't a refusal, and this holds of it.
+abbrev pub IfNotRefused : BuildEnding → (Ending → Type 0) → Type 0
+IfNotRefused Done P = P endings.Done
+IfNotRefused (Refused line reason) P = ⊤
+IfNotRefused ReadFault P = P endings.ReadFault
+IfNotRefused WriteFault P = P endings.WriteFault
+IfNotRefused Memory P = P endings.Memory
+
+-- The ending is a refusal, and this holds of it.
+abbrev pub IfRefused : BuildEnding → (ℕ → BuildReason → Type 0) → Type 0
+IfRefused (Refused line reason) P = P line reason
+IfRefused _ P = ⊤
+
+-- The file exists, and its text is refused for this line and reason.
+abbrev pub IsRefusedText : Option (List ℕ) → ℕ → BuildReason → Type 0
+IsRefusedText text line reason = option_map build_of text ≡ Some (refused line reason)
+
+-- A text is refused: the files and the open output are unchanged, and no fault was counted.
+pub record Refuses (text : List ℕ) (line : ℕ) (reason : BuildReason) (a b : State) : Type 0 where
+  pub text_is : Tells a b (λ w v. IsRefusedText (file w text) line reason × IsKept w v)
+  pub counts : Counted Kept Kept Kept (alone a) (alone b)
+
+-- The output has the chunk that is built of the text: a chunk that is accepted, with exactly the classes, the
+-- events and the constants of the lines.
+pub record Builds (text out : List ℕ) (w v : World) : Type 0 where
+  pub bytes : List ℕ
+  pub read : file w text ≡ Some bytes
+  pub chunk : List ℕ
+  pub exact : build_of bytes ≡ Ok chunk
+  pub written : file v out ≡ Some chunk
+  pub built : IsBuiltOf bytes chunk
+
+-- If no fault was counted, the ending depends only on the text, or memory ran out.
+pub data IsDecided (text : Option (List ℕ)) (ending : BuildEnding) : Type 0 where
+  ByChunk : (chunk : List ℕ) → option_map build_of text ≡ Some (Ok chunk) → ending ≡ Done → IsDecided text ending
+  ByRefusal : (line : ℕ) → (reason : BuildReason) → IsRefusedText text line reason → ending ≡ Refused line reason → IsDecided text ending
+  ForMemory : ending ≡ Memory → IsDecided text ending
+
+-- What is known of the text after it was read and built, or after this failed.
+abbrev pub TextBuilt : Bool → List ℕ → Result (Vec ℕ Global) BuildEnding → World → World → Type 0
+TextBuilt steady text (Ok chunk) w v = (option_map build_of (file w text) ≡ Some (Ok chunk.items)) × IsKept w v
+TextBuilt steady text (Err (Refused line reason)) w v = IsRefusedText (file w text) line reason × IsKept w v
+TextBuilt steady text (Err ReadFault) w v = (IsTrue steady → file w text ≡ None) × IsKept w v
+TextBuilt steady text (Err Memory) w v = IsKept w v
+TextBuilt steady text (Err Done) w v = ⊥
+TextBuilt steady text (Err WriteFault) w v = ⊥
+
+-- The count of read faults rises if a read failed, and no other count changes.
+abbrev pub TextCounts : {T : Type 0} → Result T BuildEnding → State → State → Type 0
+TextCounts (Ok x) a b = Counted Kept Kept Kept (alone a) (alone b)
+TextCounts (Err (Refused line reason)) a b = Counted Kept Kept Kept (alone a) (alone b)
+TextCounts (Err ReadFault) a b = Counted Rises Kept Kept (alone a) (alone b)
+TextCounts (Err Memory) a b = Counted Kept Kept Kept (alone a) (alone b)
+TextCounts (Err Done) a b = ⊥
+TextCounts (Err WriteFault) a b = ⊥
