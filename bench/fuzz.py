@@ -1,11 +1,14 @@
 #!/usr/bin/env python3
-"""Runs the commands on mutated recordings: fuzz.py [--jobs N] [--inputs N] PROGRAM SECONDS SEED FILE..
+"""Runs the commands on mutated recordings and texts: fuzz.py [--jobs N] [--inputs N] [--texts] PROGRAM SECONDS SEED FILE..
 
 Takes the given recordings and small ones of hostile.py, changes one in some places (mutations.py: bits, integers at
 their limits, pieces moved, repeated and cut; half the time records, classes and values besides, with sizes, positions
 and deltas that are true again), and runs commands on the outcome, with 1 GB of memory: `summary` first. On an input that
 it accepts come `print --json` and scrub, a scrub with one option, and half of the other commands that read chunks; on
-one that it refuses, and those are four of five, one of all these. The choice rotates with the input's number. Wrong is
+one that it refuses, and those are four of five, one of all these. The choice rotates with the input's number.
+
+Every fifth input, or with --texts each, is a text for `build` instead, which is one of those below with changes in its
+lines, words and bytes. If a recording is built of it, `summary` and `scrub` have to accept that. Wrong is
 
 - a signal, more than 20 seconds, a status that isn't one of the command's, 5 of a command other than print and stacks;
 - more than 20 times the input's size and 64 MB of memory of a command other than print and stacks;
@@ -17,7 +20,9 @@ one that it refuses, and those are four of five, one of all these. The choice ro
 - a scrub that its receipts don't verify, and one with a byte changed, in it or in the receipts, that they verify, but
   of which `print --json` shows something else;
 - lines of `stacks` that aren't texts with counts, in order, or that count more events than there are;
-- parts, or files joined, that aren't the input again.
+- parts, or files joined, that aren't the input again;
+- an output of `build` if it refuses a text, a line that isn't there, or a recording with another number of events than
+  the text has lines of them.
 
 With --jobs N, N processes work at once, each on every Nth input; with --inputs N it stops after N inputs, if
 SECONDS are enough for them. Inputs have numbers: the seed and the files determine each, and which commands are run on it.
@@ -43,13 +48,105 @@ from concurrent.futures import ProcessPoolExecutor
 sys.path.insert(0, os.path.dirname(os.path.realpath(__file__)))
 sys.dont_write_bytecode = True
 import hostile
-from mutations import mutated, parsed_or_none
+from mutations import mutated, mutated_text, parsed_or_none
 
 LARGEST_TEXT = 64 << 20
 REFUSAL = re.compile(r"chunk [0-9]+ offset [0-9]+: [A-Za-z]+\n")
 DOUBT = re.compile(r"chunk [0-9]+: [A-Za-z]+\n")
+BAD_LINE = re.compile(r"line ([0-9]+): [A-Za-z]+\n")
 STACK = re.compile(rb"[^ ]* ([1-9][0-9]*)\n")
 KEY = re.compile(rb'("class":"(?:[^"\\]|\\.)*"),"key":\d+')
+
+# Texts for `build`, besides the small ones of hostile.py.
+TEXTS = [
+    """class 5 long
+event 8 t.A
+field n 5 -
+record 8 300
+""",
+    """class 2 boolean
+class 3 byte
+class 4 char
+class 5 short
+class 6 int
+class 7 long
+class 8 float
+class 9 double
+class 10 java.lang.String
+event 20 t.All
+field truth 2 -
+field byte 3 -
+field char 4 -
+field short 5 -
+field int 6 -
+field long 7 -
+field float 8 -
+field double 9 -
+field text 10 -
+record 20 true -128 65535 -32768 2147483647 -9223372036854775808 0x7fc00000 0xfff0000000000000 "a\\u0020\\"\\\\\\u007f\u00e9"
+record 20 false 127 0 32767 -2147483648 9223372036854775807 0x00000000 0x8000000000000000 null
+record 20 false 0 1 -1 -1 0 0x3fc00000 0x3ff8000000000000 #7
+constant 10 7 "seven"
+constant 10 8 ""
+constant 10 9 #7
+""",
+    """class 7 long
+class 10 java.lang.String
+class 30 java.lang.Thread
+field javaName 10 -
+field osName 10 -
+class 31 t.Pair
+field one 7 -
+field other 30 -
+
+event 9223372036854775807 t.Many
+field eventThread 30 c
+field longs 7 a
+field texts 10 ca
+field pairs 31 a
+field pair 31 -
+field threads 30 ca
+constant 30 1 "main" null
+constant 30 9223372036854775807 #3 ""
+record 9223372036854775807 #1 [3 1 2 3 [2 #3 #4 [2 7 "a" "b" 8 null #3 9 "x" "y" [0
+record 9223372036854775807 #0 [0 [0 [0 0 null null [2 #1 #0
+
+constant 31 1 5 "n" "o"
+constant 10 3 "t"
+constant 30 1 "again" #3""",
+    """event 100 jdk.Empty
+class 200 t.Unused
+record 100
+record 100
+constant 200 1
+constant 200 0
+""",
+    """class 10 java.lang.String
+class 21 t.Trace
+field frames 22 a
+class 22 t.Frame
+field method 23 c
+class 23 t.Method
+field type 24 c
+field name 25 c
+class 24 t.Type
+field name 25 c
+class 25 t.Symbol
+field string 10 -
+event 20 jdk.Sample
+field stackTrace 21 c
+record 20 #1
+record 20 #2
+constant 21 1 [2 #1 #2
+constant 21 2 [0
+constant 23 1 #1 #1
+constant 23 2 #1 #2
+constant 24 1 #3
+constant 25 1 "run"
+constant 25 2 "main"
+constant 25 3 "app/Main"
+""",
+]
 
 
 class Wrong(Exception):
@@ -132,7 +229,8 @@ class Trial:
             return status, line
         if status not in statuses:
             raise Wrong("%s: status %d, %s" % (label, status, line.strip()))
-        if (status == 2) != bool(REFUSAL.fullmatch(line)) or (status == 7) != bool(DOUBT.fullmatch(line)) or status == 0 and line:
+        said = {2: REFUSAL, 7: DOUBT, 8: BAD_LINE}
+        if any((status == one) != bool(form.fullmatch(line)) for one, form in said.items()) or status == 0 and line:
             raise Wrong("%s: status %d, said %r" % (label, status, line))
         if most is not None and used.ru_maxrss * 1024 > most:
             raise Wrong("%s takes %d KB" % (label, used.ru_maxrss))
@@ -282,6 +380,25 @@ class Trial:
             if not self.data.startswith(made) or cut[0] == 0 and made != self.data:
                 raise Wrong("disassemble or assemble makes other bytes")
 
+    def tried_text(self, data):
+        """The runs on a text for `build`."""
+        most = 20 * len(data) + (64 << 20)
+        with open(self.source, "wb") as file:
+            file.write(data)
+        built = self.fresh("built.jfr")
+        status, line = self.run("build", ["build", self.source, built], (0, 5, 8), most=most)
+        self.tally.reasons["text: " + (line.split()[-1] if line else "built")] += 1
+        lines = data.split(b"\n")
+        if status == 8 and (os.path.exists(built) or int(BAD_LINE.fullmatch(line)[1]) > len(lines)):
+            raise Wrong("build refuses a text, but makes an output or says a line that isn't there: %s" % line.strip())
+        if status:
+            return
+        self.run("summary, built", ["summary", built], (0,), self.totals, most)
+        for name, many in ("bytes", os.path.getsize(built)), ("events", sum(one.startswith(b"record ") for one in lines)):
+            if b"\n%s %d\n" % (name.encode(), many) not in self.totals.bytes():
+                raise Wrong("summary shows other %s of what build makes than %d" % (name, many))
+        self.run("scrub, built", ["scrub", built, self.fresh("out.jfr")], (0,), most=most)
+
     def tried(self, data, number, option, rng):
         """The runs on the input of this number; some of them have this option."""
         self.data, self.most = data, 20 * len(data) + (64 << 20)
@@ -330,6 +447,12 @@ def seeds_of(files):
     return seeds
 
 
+def text_seeds():
+    """The texts above, and the small ones of hostile.py."""
+    small = (make(0.0000005) for make in hostile.TEXTS.values())
+    return [text.encode() for text in TEXTS] + [text for text in small if len(text) < 5000]
+
+
 class Task:
     """The inputs of a run, which several processes share."""
 
@@ -338,6 +461,7 @@ class Task:
         self.seconds, self.inputs, self.jobs = given.seconds, given.inputs, given.jobs
         self.seeds = seeds_of(given.files)
         self.parsed = [parsed_or_none(data) for data in self.seeds]
+        self.texts, self.only_texts = text_seeds(), given.texts
 
     def numbers(self, job):
         """The numbers of a process's inputs, until the seconds are over."""
@@ -356,10 +480,15 @@ class Task:
             trial = Trial(self.program, work, tally)
             for number in self.numbers(job):
                 rng = random.Random("%d %d" % (self.seed, number))
-                data, option = mutated(rng, self.seeds, self.parsed), option_of(rng)
+                is_text = self.only_texts or number % 5 == 4
+                data = mutated_text(rng, self.texts) if is_text else mutated(rng, self.seeds, self.parsed)
+                option = ("a text",) if is_text else option_of(rng)
                 tally.inputs, tally.size = tally.inputs + 1, tally.size + len(data)
                 try:
-                    trial.tried(data, number, option, rng)
+                    if is_text:
+                        trial.tried_text(data)
+                    else:
+                        trial.tried(data, number, option, rng)
                 except Wrong as error:
                     self.keep(number, data, "%s; %s" % (error, option))
                     tally.wrong += 1
@@ -387,13 +516,14 @@ def tallied(task):
 
 
 def main(words):
-    parser = argparse.ArgumentParser(usage="fuzz.py [--jobs N] [--inputs N] PROGRAM SECONDS SEED FILE..")
+    parser = argparse.ArgumentParser(usage="fuzz.py [--jobs N] [--inputs N] [--texts] PROGRAM SECONDS SEED FILE..")
     parser.add_argument("program")
     parser.add_argument("seconds", type=float)
     parser.add_argument("seed", type=int)
     parser.add_argument("files", nargs="*")
     parser.add_argument("--jobs", type=int, default=1)
     parser.add_argument("--inputs", type=int)
+    parser.add_argument("--texts", action="store_true")
     task = Task(parser.parse_intermixed_args(words))
     start = time.monotonic()
     tally = tallied(task)
@@ -404,7 +534,7 @@ def main(words):
     print("| command | status | runs |\n|---|---|---:|")
     for (label, status), many in sorted(tally.counts.items(), key=str):
         print("| %s | %s | %d |" % (label, status, many))
-    print("| answer of summary | inputs |\n|---|---:|")
+    print("| answer of summary, or to a text | inputs |\n|---|---:|")
     for reason, many in tally.reasons.most_common():
         print("| %s | %d |" % (reason, many))
     return 1 if tally.wrong else 0

@@ -4,7 +4,9 @@
 The recording is spelled by the rules of docs/FORMAT.md, with all sizes, positions and deltas true unless its kind
 says otherwise. SIZE scales what is large in it, from 0 to 1; without it 1, so that the largest recordings are chunks
 of the greatest size. Writes the recording to OUT and prints nothing; the status is 1 where there is no such kind.
+A kind whose name begins with text_ makes a text for the command `build` instead.
 """
+import math
 import struct
 import sys
 
@@ -564,6 +566,162 @@ def cut(kind):
     return chunk(described, checkpoint(), record(EVENT, held[kind]), at=HEADER + len(described))
 
 
+# Texts for `build`.
+
+
+def text_of(*lines):
+    """A text of lines, some of which are already joined by newlines."""
+    return "\n".join(lines).encode() + b"\n"
+
+
+def numbered(form, many):
+    """Lines of this form with the numbers from 0 on."""
+    return "\n".join(form % n for n in range(many))
+
+
+EVENT_OF_LONGS = "class %d long\nevent %d t.E\nfield all %d a" % (LONG, EVENT, LONG)
+EVENT_OF_TEXT = "class %d java.lang.String\nevent %d t.E\nfield text %d -" % (STRING, EVENT, STRING)
+
+
+def text_records(size):
+    """A million records of a number each."""
+    head = "class %d long\nevent %d t.E\nfield n %d -" % (LONG, EVENT, LONG)
+    return text_of(head, numbered("record %d %%d" % EVENT, count(10**6, size)))
+
+
+def text_empty_records(size):
+    """Ten million records without leaves, each of as few bytes as a line can have."""
+    return text_of("event 2 t.E", "\n".join(["record 2"] * count(10**7, size)))
+
+
+def text_constants(size):
+    """A million constants of a class, each a reference of nine bytes."""
+    head = "class %d t.Node\nfield next %d c" % (NODE, NODE)
+    return text_of(head, numbered("constant %d %%d #%d" % (NODE, 2**62), count(10**6, size)))
+
+
+def text_classes(size):
+    """A million event classes, and a record of each, in the reverse order."""
+    many = count(10**6, size)
+    records = "\n".join("record %d" % (100 + n) for n in reversed(range(many)))
+    return text_of("\n".join("event %d t.C%d" % (100 + n, n) for n in range(many)), records)
+
+
+def text_pools(size):
+    """A million classes without fields, and a constant of each, in the reverse order."""
+    many = count(10**6, size)
+    constants = "\n".join("constant %d 1" % (100 + n) for n in reversed(range(many)))
+    return text_of("\n".join("class %d t.C" % (100 + n) for n in range(many)), constants)
+
+
+def text_turns(size):
+    """A million constants of a thousand classes in turn, so that each line is of another pool than the one before."""
+    many = range(round(math.sqrt(count(10**6, size))))
+    classes = "\n".join("class %d t.C" % (100 + n) for n in many)
+    return text_of(classes, "\n".join("constant %d %d" % (100 + n, key) for key in many for n in many))
+
+
+def text_fields(size):
+    """An event class with a million fields, and a record."""
+    many = count(10**6, size)
+    return text_of("class %d byte\nevent %d t.E" % (BYTE, EVENT), numbered("field f%%d %d -" % BYTE, many), "record %d%s" % (EVENT, " 1" * many))
+
+
+def text_line(size):
+    """A line of 100 megabytes, nearly all of it a quoted text."""
+    return text_of(EVENT_OF_TEXT, 'record %d "%s"' % (EVENT, "a" * count(10**8, size)))
+
+
+def text_escapes(size):
+    """A quoted text of 100 megabytes in which each character is escaped."""
+    return text_of(EVENT_OF_TEXT, 'record %d "%s"' % (EVENT, "\\u0020" * (count(10**8, size) // 6)))
+
+
+def text_words(size):
+    """A line of 100 megabytes with the items of an array."""
+    many = count(10**8, size) // 2
+    return text_of(EVENT_OF_LONGS, "record %d [%d%s" % (EVENT, many, " 1" * many))
+
+
+def text_grows(size):
+    """An array of numbers of nine bytes each, written in three, so that the chunk has more than 2^30 bytes."""
+    many = count(2**30 // 9 + 1, size)
+    return text_of(EVENT_OF_LONGS, "record %d [%d%s" % (EVENT, many, " -1" * many))
+
+
+def text_newlines(size):
+    """Nothing but newlines, at full size as many as a text may have."""
+    return b"\n" * (count(2**30, size) - 1)
+
+
+def text_too_large(size):
+    """Nothing but newlines, at full size one more than a text may have."""
+    return b"\n" * count(2**30, size)
+
+
+def text_names(size):
+    """512 classes with different names of a megabyte each, at full size more than the metadata may have."""
+    long = "n" * count(2**20, size)
+    return text_of("\n".join("class %d %s%d" % (n, long, n) for n in range(512)))
+
+
+def inline_text(steps, fields, *last):
+    """The classes of a chain of this many inline steps with this many fields at each, the first of events; and these lines."""
+    lines = ["class %d byte" % BYTE]
+    for step in range(steps):
+        lines.append("%s %d t.L%d" % ("class" if step else "event", 100 + step, step))
+        lines += ["field f%d %d -" % (n, 101 + step) for n in range(fields)]
+    return text_of(*lines, "class %d t.L%d\nfield n %d -" % (100 + steps, steps, BYTE), *last)
+
+
+def text_inline_32(size):
+    """A chain of 32 inline steps, and a million records."""
+    return inline_text(32, 1, "\n".join(["record 100 1"] * count(10**6, size)))
+
+
+def text_inline_33(size):
+    """A chain of 33 inline steps, one too many, and a million records."""
+    return inline_text(33, 1, "\n".join(["record 100 1"] * count(10**6, size)))
+
+
+def text_inline_wide(size):
+    """A chain of 20 inline steps with two fields at each, and a record with a million leaves."""
+    steps = round(math.log2(count(2**20, size)))
+    return inline_text(steps, 2, "record 100" + " 1" * 2**steps)
+
+
+def text_inline_short(size):
+    """A chain of 32 inline steps with two fields at each, and a record without most of its 2^32 leaves."""
+    return inline_text(32, 2, "record 100" + " 1" * count(10**6, size))
+
+
+def text_count(size):
+    """The greatest count of an array, without items."""
+    return text_of(EVENT_OF_LONGS, "record %d [%d" % (EVENT, 2**63 - 1))
+
+
+def text_counts(size):
+    """A million empty arrays in an array, and then one with the greatest count, but without items."""
+    head = "class %d long\nclass %d t.Many\nfield all %d a\nevent %d t.E\nfield all %d a" % (LONG, NODE, LONG, EVENT, NODE)
+    many = count(10**6, size)
+    return text_of(head, "record %d [%d%s [%d" % (EVENT, 2**63 - 1, " [0" * many, 2**63 - 1))
+
+
+def text_spaces(size):
+    """A line of 100 megabytes of spaces, which are empty words."""
+    return text_of(EVENT_OF_LONGS, "record %d [%d%s" % (EVENT, 2**63 - 1, " " * count(10**8, size)))
+
+
+def text_not_utf8(size):
+    """A line of 100 megabytes, of which the last character is cut."""
+    return text_of(EVENT_OF_TEXT, "record %d \"%s" % (EVENT, "a" * count(10**8, size)))[:-1] + b"\xe2\x82"
+
+
+TEXTS = {make.__name__: make for make in (
+    text_records, text_empty_records, text_constants, text_classes, text_pools, text_turns, text_fields, text_line,
+    text_escapes, text_words, text_grows, text_newlines, text_too_large, text_names, text_inline_32, text_inline_33,
+    text_inline_wide, text_inline_short, text_count, text_counts, text_spaces, text_not_utf8,
+)}
 KINDS = {make.__name__: make for make in (
     constants, distinct_constants, events, checkpoints, inert_checkpoints, inert_empty_checkpoints, pools,
     references, array, array_short, strings, elements, attributes, long_key, long_names, alike_fields, classes,
@@ -579,13 +737,14 @@ for place in ("kind", "key", "length", "utf8", "utf16", "latin1"):
 
 
 def main(words):
+    all_kinds = {**KINDS, **TEXTS}
     if not words:
-        print("\n".join(KINDS))
+        print("\n".join(all_kinds))
         return 0
-    if len(words) not in (2, 3) or words[1] not in KINDS:
+    if len(words) not in (2, 3) or words[1] not in all_kinds:
         print("usage: hostile.py OUT KIND [SIZE]", file=sys.stderr)
         return 1
-    made = KINDS[words[1]](float(words[2]) if len(words) == 3 else 1.0)
+    made = all_kinds[words[1]](float(words[2]) if len(words) == 3 else 1.0)
     with open(words[0], "wb") as file:
         file.write(made)
     return 0

@@ -6,6 +6,10 @@
 # has to end with status 0, 2, 5 or (verify) 7, in 20 seconds of processor time, and with a peak of at most 20 times the file's size
 # and 64 MB of memory. The seconds are of processor time, since those of the clock depend on what else the machine does.
 #
+# Of a kind that is a text for `build`, runs that command, which has to end with status 0, 5 or 8, and then `summary` and
+# `scrub` on what it made, which they have to accept. For the text of a million records the bounds of `build` are 2 seconds
+# and 10 times the file's size.
+#
 # With ONLY, a pattern as 'scrub*', just the commands whose label it matches.
 #
 # Prints a row for each run: kind, bytes, command, status, seconds of the clock and of the processor, peak memory with
@@ -28,7 +32,7 @@ missed=0
 
 # One run: run LABEL WORD.., with its row.
 run() {
-    local label=$1 clock own system peak status mb bound='' line
+    local label=$1 clock own system peak status mb bound='' line most=20 times=20
     shift
     # shellcheck disable=SC2053 # it is a pattern
     [[ $label == ${ONLY-*} ]] || return 0
@@ -39,17 +43,22 @@ run() {
         exec /usr/bin/time -q -o "$work/took" -f '%e %U %S %M' timeout "${LIMIT:-120}" "$program" "$@"
     ) >/dev/null 2>"$work/said"
     status=$?
+    ended=$status
     read -r clock own system peak <<<"$(tail -n 1 "$work/took")"
     own=$(awk "BEGIN { printf \"%.2f\", $own + $system }")
     mb=$(awk "BEGIN { printf \"%.0f\", $peak / 1024 }")
+    if [ "$kind:$label" = text_records:build ]; then most=2 times=10; fi
     case $status in
-        0 | 2) ;;
+        0) ;;
+        # A recording that `build` made is accepted.
+        2) [[ $kind != text_* ]] || bound="$bound status" ;;
         7) [ "$label" = verify ] || bound="$bound status" ;;
+        8) [ "$label" = build ] || bound="$bound status" ;;
         5) wanting=$((wanting + 1)) ;;
         *) bound="$bound status" ;;
     esac
-    if awk "BEGIN { exit !($own > 20) }"; then bound="$bound seconds"; fi
-    if [ "$peak" -gt $((size * 20 / 1024 + 65536)) ]; then bound="$bound memory"; fi
+    if awk "BEGIN { exit !($own > $most) }"; then bound="$bound seconds"; fi
+    if [ "$peak" -gt $((size * times / 1024 + 65536)) ]; then bound="$bound memory"; fi
     line=$(head -c 80 "$work/said" | tr '\n' ' ')
     echo "| $kind | $size | $label | $status | $clock | $own | $mb | $(awk "BEGIN { printf \"%.1f\", $peak * 1024 / $size }") | ${line% } | ${bound# } |"
     runs=$((runs + 1))
@@ -62,6 +71,18 @@ for kind in "${kinds[@]}"; do
     file=$work/$kind.jfr
     "$python" "$here/hostile.py" "$file" "$kind" "$scale" || { echo "$kind isn't made" >&2; exit 1; }
     size=$(stat -c %s "$file")
+    if [[ $kind == text_* ]]; then
+        ended=''
+        run build build "$file" "$work/out.jfr"
+        if [ "$ended" = 0 ]; then
+            mv "$work/out.jfr" "$file"
+            size=$(stat -c %s "$file")
+            run 'summary, built' summary "$file"
+            run 'scrub, built' scrub "$file" "$work/out.jfr"
+        fi
+        rm -f "$file"
+        continue
+    fi
     run summary summary "$file"
     run metadata metadata "$file"
     run print print "$file"

@@ -1,8 +1,9 @@
-"""Changes recordings: what fuzz.py does to its inputs.
+"""Changes recordings and texts: what fuzz.py does to its inputs.
 
 A recording is taken apart into chunks, and a chunk into its header and its records, each a type, a body, and whether it
 is the metadata record or in the chain. `mutated` changes bytes, records, the strings and elements of the metadata, the
 entries of pools and the values of events, and `joined` puts together what is left with true sizes, positions and deltas.
+`mutated_text` changes lines, words and bytes of a text for `build`.
 """
 import struct
 
@@ -18,6 +19,16 @@ WORDS = ["", "0", "1", "2", "true", "false", "5", "10", "11", "20", "101", "9223
          "jdk.jfr.Event", "jdk.jfr.Category", "name", "id", "class", "field", "annotation", "superType", "dimension",
          "constantPool", "value", "value-0", "value-1", "eventThread", "javaName", "startTime", "duration", "metadata",
          "\u0000", "\"\\\u007f", "\U0001F600"]
+
+# Words of a text for `build`, right and wrong ones.
+TEXT_WORDS = ["", "-", "c", "a", "ca", "ac", "class", "event", "field", "constant", "record", "0", "-0", "1", "-1", "+1", "2", "5",
+              "127", "128", "-128", "-129", "32767", "32768", "-32768", "-32769", "65535", "65536", "2147483647", "2147483648",
+              "-2147483648", "-2147483649", "9223372036854775807", "9223372036854775808", "-9223372036854775808",
+              "-9223372036854775809", "0000000000000000005", "00000000000000000005", "true", "false", "True", "null",
+              "0x3fc00000", "0x3FC00000", "0x3fc0000", "0x3ff0000000000000", "3ff0000000000000", "#0", "#1", "#", "#-1", "#00005",
+              "#9223372036854775807", "#9223372036854775808", "[0", "[1", "[2", "[3", "[", "[9223372036854775807",
+              "[9223372036854775808", '""', '"', '"""', '"a', '"a"', '"a"b', '"\\u0020"', '"\\u007f"', '"\\u007F"', '"\\u0080"',
+              '"\\u0021"', '"\\u0000\\u001f"', '"\\n"', '"\\""', '"\\\\"', '"\\"', '"\u2028\U0001F600"', "\u00e9", "\t", "a\r", "\0", "\x7f"]
 
 
 # Recordings as parts.
@@ -442,6 +453,47 @@ def mutated(rng, seeds, parsed):
             others = [record for record in records if record[2] != "metadata"]
             change_bytes(rng, rng.choice(others or records)[1], seeds)
     return joined(chunks)
+
+
+def sort_of(word):
+    """Words of one sort begin alike, so one often can be in the place of another."""
+    return "0" if word[:1].isdigit() or word[:1] == b"-" and word[1:2].isdigit() else word[:1]
+
+
+def change_words(rng, words, others):
+    """One change of a line's words; most new ones are of the sort of the old one, so that many values stay values."""
+    way = rng.random()
+    if way < 0.1:
+        change_list(rng, words, bytes)
+        return
+    # The first word, without which the line has no meaning, is changed least.
+    at = max(rng.randrange(len(words)) for _ in range(3))
+    new = others if rng.random() < 0.5 else [word.encode() for word in TEXT_WORDS]
+    if way < 0.8:
+        new = [word for word in new if sort_of(word) == sort_of(words[at])] or new
+    words[at : at + (way < 0.95)] = [rng.choice(new)]
+
+
+def mutated_text(rng, texts):
+    """A text for `build` with some changes."""
+    lines = rng.choice(texts).split(b"\n")
+    for _ in range(rng.choice((1, 1, 1, 2, 2, 3, 4, 8))):
+        if not lines:
+            lines.append(b"")
+        at, way = rng.randrange(len(lines)), rng.random()
+        if way < 0.1:
+            change_list(rng, lines, bytes)
+        elif way < 0.15:
+            lines.insert(at, rng.choice(rng.choice(texts).split(b"\n")))
+        elif way < 0.9:
+            words = lines[at].split(b" ")
+            change_words(rng, words, b" ".join(lines).split(b" "))
+            lines[at] = b" ".join(words)
+        else:
+            changed = bytearray(lines[at])
+            change_bytes(rng, changed, texts)
+            lines[at] = bytes(changed)
+    return b"\n".join(lines)
 
 
 def parsed_or_none(data):

@@ -10,7 +10,7 @@ _jfr() {
 
     if ((COMP_CWORD == 1)); then
         compopt +o default 2>/dev/null
-        mapfile -t COMPREPLY < <(compgen -W 'print summary metadata scrub disassemble assemble sample receipt verify stacks' -- "$current")
+        mapfile -t COMPREPLY < <(compgen -W 'print summary metadata scrub disassemble assemble sample receipt verify build stacks' -- "$current")
         return
     fi
 
@@ -42,6 +42,7 @@ _jfr() {
             names=(file)
             ;;
         assemble) names=(folder file) ;;
+        build) names=(file file) ;;
         sample) ;;
         # A command of the JDK's: names of files, by default.
         *) return ;;

@@ -1,9 +1,8 @@
 -- What a check leaves.
 use Rattle.std.specs.Prelude.{◌≡◌, ℕ, List, [], true, Option, None, Some, IsTrue, IfSome, IsSome}
-use Rattle.std.proofs.Common.{ap, refl, sym, subst, ◌∙◌}
+use Rattle.std.proofs.Common.{ap, refl, subst, ◌∙◌}
 use Rattle.jfr_base.specs.declared.flaw.Refusal.{Refusal}
-use Rattle.jfr_outside.specs.World.{World, State, SinkState, Told, file}
-use Rattle.jfr_outside.specs.Counts.{Rose}
+use Rattle.jfr_outside.specs.World.{World, State, SinkState, Told}
 use Rattle.jfr_header.specs.Taking.{IsKept, Tells}
 use Rattle.jfr_header.specs.declared.ending.Ending.{Ending}
 use Rattle.jfr_header.specs.declared.ending.Ending.TheVariants.{Done, Refused, ReadFault, WriteFault, TooManyParts, Memory}
@@ -11,22 +10,20 @@ use Rattle.jfr_filter.specs.Filters.{Given}
 use Rattle.jfr_plan.specs.Ends.{Fine, Way, Ends, NotRead, NotWritten, NoRoom, way_of}
 use Rattle.jfr_plan.specs.Ends as ends
 use Rattle.jfr_plan.specs.Effects.{Stand, Write, outside, stand}
-use Rattle.jfr_plan.specs.Walks.{Text}
-use Rattle.jfr_plan.specs.Outcomes.{Tallied}
 use Rattle.jfr_verify.specs.declared.doubt.Doubt.{Doubt}
 use Rattle.jfr_verify.specs.declared.verdict.Verdict.{Verdict}
 use Rattle.jfr_verify.specs.declared.verdict.Verdict.TheVariants as verdicts
 use Rattle.jfr_verify.specs.Faults.{Counts}
-use Rattle.jfr_verify.specs.Verdicts.{AllVerified, IfDecided, IfVerified, LacksOne, Three, VerdictOf, no_input, no_output, no_receipt, three}
+use Rattle.jfr_verify.specs.Verdicts.{AllVerified, LacksOne, Three, VerdictOf, no_input, no_output, no_receipt, three}
 use Rattle.jfr_words.specs.declared.order.Order.{Order}
 use Rattle.jfr_words.specs.declared.order.Order.TheVariants as orders
 use Rattle.jfr_words.specs.Words.{file_name}
 use Rattle.jfr_cli.specs.Texts.{IsWritten}
-use Rattle.jfr_cli.specs.Works.{Work, CanCheck, Checks, LeftBy, verdict_plan, verified_line}
+use Rattle.jfr_cli.specs.Works.{Work, CanCheck, Checks, LeftBy, verified_line}
 use Rattle.jfr_cli.specs.Runs.{Carries, Doubts}
 
 -- Without a change of the files and of the open output, only the text can have changed.
-stand_kept : (w v : World) (x y : Option (List ℕ)) → IsKept w v → y ≡ x → stand v y ≡ stand w x
+pub stand_kept : (w v : World) (x y : Option (List ℕ)) → IsKept w v → y ≡ x → stand v y ≡ stand w x
 stand_kept w v x y k e = ap (λ f. record { files = f; output = v.output; text = y; sound = true }) k.0 ∙ (ap (λ o. record { files = w.files; output = o; text = y; sound = true }) k.1 ∙ ap (stand w) e)
 
 module _ (g : Given) (input output receipt : List ℕ) (a b : State) (s z : SinkState) (kept : Tells a b IsKept) where

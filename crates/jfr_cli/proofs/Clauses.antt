@@ -1,7 +1,7 @@
 -- The separate clauses of the top call, from the one that has all cases.
-use Rattle.std.specs.Prelude.{◌≡◌, ◌<◌, ◌≤◌, ◌⊎◌, ℕ, List, [], length, true, false, Option, None, Some, IfSome}
+use Rattle.std.specs.Prelude.{◌≡◌, ◌<◌, ◌≤◌, ◌⊎◌, ℕ, List, [], length, true, false, Option, None, Some, IfSome, Ok, Err, option_map}
 use Rattle.std.proofs.Common.{ap, arith, refl, sym, ◌∙◌, subst, inl, inr}
-use Rattle.jfr_outside.specs.World.{World, State, SinkState, Told}
+use Rattle.jfr_outside.specs.World.{World, State, SinkState, Told, file}
 use Rattle.jfr_outside.specs.Counts.{Rose}
 use Rattle.jfr_base.specs.declared.flaw.Refusal.{Refusal}
 use Rattle.jfr_header.specs.declared.ending.Ending.{Ending}
@@ -11,8 +11,8 @@ use Rattle.jfr_plan.specs.Ends.{End, Fine, way_of}
 use Rattle.jfr_plan.specs.Ends as ends
 use Rattle.jfr_plan.specs.Effects.{Effect, Outside, Stand, effects, stand}
 use Rattle.jfr_plan.specs.Walks.{Target, File, Parts, Text, plan_in}
-use Rattle.jfr_plan.specs.Outcomes.{SomeDone, AllDone, Tallied}
-use Rattle.jfr_plan.specs.Clauses.{ForMemory, write_count}
+use Rattle.jfr_plan.specs.Outcomes.{Counted, Kept, SomeDone, AllDone, Tallied}
+use Rattle.jfr_plan.specs.Clauses.{write_count}
 use Rattle.jfr_plan.proofs.Clauses as plan
 use Rattle.jfr_output.specs.Recordings.{IsByPlan}
 use Rattle.jfr_scrub.specs.Headline.{Scrubs}
@@ -26,30 +26,19 @@ use Rattle.jfr_verify.specs.declared.verdict.Verdict.{Verdict}
 use Rattle.jfr_verify.specs.declared.verdict.Verdict.TheVariants as verdicts
 use Rattle.jfr_verify.specs.Recordings.{recording_of}
 use Rattle.jfr_verify.specs.Verdicts.{AllVerified, AreScrubs, HasOneVerdict, HasVerifiedScrubs, Three, VerdictOf, three}
-use Rattle.jfr_cli.specs.Works.{Work, Over, Joins, Alone, Checks, Plans, StopsAs, work_of, verdict_plan, target_of, text_on, Leaves, KeepsSink, KeepsPlace, CanReadAll, CanCreateFor}
+use Rattle.jfr_build.specs.declared.reason.BuildReason.{BuildReason}
+use Rattle.jfr_build.specs.Builds.{Build, build_of}
+use Rattle.jfr_build.specs.Streams as streams
+use Rattle.jfr_build.specs.Streams.{IsRefusedText, building, plan_by}
+use Rattle.jfr_cli.specs.Works.{Work, Over, Joins, Alone, Checks, Builds, Plans, StopsAs, work_of, verdict_plan, target_of, text_on, Leaves, KeepsSink, KeepsPlace, CanReadAll, CanCreateFor}
 use Rattle.jfr_cli.specs.declared.answer.Answer.{Answer}
 use Rattle.jfr_cli.specs.declared.answer.Answer.TheVariants as answer_kinds
-use Rattle.jfr_cli.specs.Answers.{status_of, line_of, answer_status, answer_line, doubt_line, usage_line, read_line, write_line, memory_line, parts_line, IsAnswered, Fully, IsSaid, IsMemorySaid}
+use Rattle.jfr_cli.specs.Answers.{status_of, line_of, answer_status, answer_line, doubt_line, unbuilt_line, usage_line, read_line, write_line, memory_line, parts_line, IsAnswered, Fully, IsSaid, IsMemorySaid}
 use Rattle.jfr_cli.specs.Answers as answers
 use Rattle.jfr_cli.proofs.Leaving.{told_by}
 use Rattle.jfr_cli.proofs.Counting.{none_rose, tallied_once, text_leaves, place_passed, sink_passed, writes_stay}
-use Rattle.jfr_cli.specs.Runs.{Carries, Obeys, NoOrder, NotRead, CarriedOut, Under, Ended, Halted, Broken, StandsPartly, Prefix, Whole, Met, Torn, CountsOnce, Doubts, HasStatus, IsCheck, IsDoubted, IsVerdictStatus, ByEnd, ByMemory, status_of_end, status_of_verdict, IsRefused}
+use Rattle.jfr_cli.specs.Runs.{Carries, Obeys, NoOrder, NotRead, CarriedOut, Under, Ended, Halted, Broken, StandsPartly, Prefix, Whole, Met, Torn, CarriesTo, CountsOnce, Doubts, HasStatus, IsCheck, IsDoubted, IsUnbuilt, IsVerdictStatus, Unbuilds, ByEnd, ByMemory, status_of_end, status_of_verdict, IsRefused}
 use Rattle.jfr_cli.specs.Runs as runs
-
--- The words are a usage error and nothing is done; or memory ran out while they were read, and nothing is
--- done; or they are an order, which is carried out. The status and the line are those of the ending.
-pub data Answers (words : List (List ℕ)) (answer : ℕ) (a b : Outside) (e f : SinkState) : Type 0 where
-  Usage : order_of words ≡ None → b ≡ a → IsAnswered 1 (Some usage_line) answer e f → Answers words answer a b e f
-  Unread : b ≡ a → IsAnswered 5 (Some memory_line) answer e f → Answers words answer a b e f
-  Carried : (o : Order) → order_of words ≡ Some o → (end : Ending) → Carries o end a b → IsAnswered (status_of end) (line_of end) answer e f → Answers words answer a b e f
-  Questioned : (o : Order) → order_of words ≡ Some o → (chunk : ℕ) → (doubt : Doubt) → Doubts (work_of o) chunk doubt a b → IsAnswered 7 (Some (doubt_line chunk doubt)) answer e f → Answers words answer a b e f
-
-pub answers_by : (words : List (List ℕ)) (x : Answer) (answer : ℕ) (a b : Outside) (e f : SinkState) → Obeys words x a b → IsAnswered (answer_status x) (answer_line x) answer e f → Answers words answer a b e f
-answers_by words x answer a b e f (NoOrder o is s) t = Usage o s (subst (λ x. IsAnswered (answer_status x) (answer_line x) answer e f) is t)
-answers_by words x answer a b e f (NotRead is s) t = Unread s (subst (λ x. IsAnswered (answer_status x) (answer_line x) answer e f) is t)
-answers_by words answer_kinds.Usage answer a b e f (CarriedOut o known c) t = absurd c
-answers_by words (answer_kinds.Ended end) answer a b e f (CarriedOut o known c) t = Carried o known end c t
-answers_by words (answer_kinds.Doubted chunk doubt) answer a b e f (CarriedOut o known c) t = Questioned o known chunk doubt c t
 
 -- The state after an ending, if memory ran out for its line.
 partly : (k : Work) (end : Ending) (a b : Outside) → Leaves k (way_of end) a b → Tallied (target_of k) (way_of end) a b → StandsPartly k a b
@@ -73,6 +62,7 @@ unchanged k a = Prefix (none a.place.told k)
     none (Some w) (Joins folder output) = nothing (effects (assembling folder output w.files).steps) (stand w None)
     none (Some w) (Alone p) = nothing (effects p.steps) (stand w a.sink.written)
     none (Some w) (Checks g input output receipt) = refl
+    none (Some w) (Builds text output) = nothing (effects (building output (file w text)).steps) (stand w None)
 
 -- A doubt changes nothing.
 doubt_partly : (k : Work) (chunk : ℕ) (doubt : Doubt) (a b : Outside) → Doubts k chunk doubt a b → StandsPartly k a b
@@ -83,6 +73,18 @@ doubt_partly (Checks g input output receipt) chunk doubt a b d =
     Prefix
     (told_by a.place.told b.place.told (λ w v. VerdictOf g (three input output receipt w) (verdicts.Doubted chunk doubt) × (stand v b.sink.written ≡ stand w a.sink.written)) (λ w v. stand v b.sink.written ≡ stand w a.sink.written) d.verdict
     (λ w v x. x.1))
+doubt_partly (Builds text output) chunk doubt a b d = absurd d.check
+
+-- A refused text changes nothing.
+refusal_partly : (k : Work) (line : ℕ) (reason : BuildReason) (a b : Outside) → Unbuilds k line reason a b → StandsPartly k a b
+refusal_partly (Over r input) line reason a b d = absurd d.build
+refusal_partly (Joins folder output) line reason a b d = absurd d.build
+refusal_partly (Alone p) line reason a b d = absurd d.build
+refusal_partly (Checks g input output receipt) line reason a b d = absurd d.build
+refusal_partly (Builds text output) line reason a b d =
+    Prefix
+    (told_by a.place.told b.place.told (λ w v. IsRefusedText (file w text) line reason × (stand v None ≡ stand w None)) (λ w v. SomeDone (effects (building output (file w text)).steps) (stand w None) (stand v None)) d.refused
+    (λ w v x. record { first = []; rest = effects (building output (file w text)).steps; parts = refl; stands = x.1 }))
 
 -- If memory ran out, any end may be planned.
 five : {r : ℕ} {e f : SinkState} {line : Option (List ℕ)} → IsAnswered 5 line r e f → r ≡ 5
@@ -95,6 +97,7 @@ any_end (Some w) (Over r input) p = ByMemory p
 any_end (Some w) (Joins folder output) p = ByMemory p
 any_end (Some w) (Alone plan) p = ByMemory p
 any_end (Some w) (Checks g input output receipt) p = runs.ForMemory p
+any_end (Some w) (Builds text output) p = runs.OutOfMemory p
 
 -- Which endings have a status.
 done_status : (e : Ending) → status_of e ≡ 0 → e ≡ Done
@@ -163,6 +166,20 @@ verdict_end (verdicts.Doubted chunk doubt) e h = cc
 verdict_end verdicts.ReadFault e h = cc
 verdict_end verdicts.Memory e h = cc
 
+-- A text whose plan has an end is built, and the end is that of success.
+built_end : (text output : List ℕ) (w : World) (r : ℕ) (x : End) → r ≡ status_of_end x → (building output (file w text)).end ≡ Some x → HasStatus (Builds text output) r w
+built_end text output w r x p h = by_build (option_map build_of (file w text)) refl h
+  where
+    by_build : (o : Option Build) → option_map build_of (file w text) ≡ o → (plan_by output o).end ≡ Some x → HasStatus (Builds text output) r w
+    by_build None e h = cc
+    by_build (Some (Err refusal)) e h = cc
+    by_build (Some (Ok chunk)) e h = runs.ByChunk chunk e (p ∙ ap status_of_end (fine x h))
+      where
+        fine : (x : End) → ◌≡◌ {A = Option End} (Some Fine) (Some x) → x ≡ Fine
+        fine Fine h = refl
+        fine (ends.Refused q) h = cc
+        fine ends.TooMany h = cc
+
 -- The ending is the plan's, and its status is answered.
 planned : (k : Work) (a b : Outside) (r : ℕ) (x : End) → r ≡ status_of_end x → Ended k x a b → IfSome a.place.told (HasStatus k r)
 planned k a b r x p h = from_told a.place.told b.place.told (λ w v. Plans k w (λ q. AllDone q x (stand w (text_on (target_of k) a.sink)) (stand v (text_on (target_of k) b.sink)))) (HasStatus k r) h (λ w v. by_work k w (stand w (text_on (target_of k) a.sink)) (stand v (text_on (target_of k) b.sink)))
@@ -172,6 +189,7 @@ planned k a b r x p h = from_told a.place.told b.place.told (λ w v. Plans k w (
     by_work (Joins folder output) w s t d = ByEnd x d.end p
     by_work (Alone q) w s t d = ByEnd x d.end p
     by_work (Checks g input output receipt) w s t d = runs.ByVerdict d.0 d.1 (p ∙ sym (verdict_end d.0 x d.2.end))
+    by_work (Builds text output) w s t d = built_end text output w r x p d.end
 
 -- A doubt is the verdict of a check.
 doubted_status : (k : Work) (chunk : ℕ) (doubt : Doubt) (a b : Outside) (r : ℕ) → r ≡ 7 → Doubts k chunk doubt a b → IfSome a.place.told (HasStatus k r)
@@ -181,6 +199,17 @@ doubted_status (Alone q) chunk doubt a b r p d = absurd d.check
 doubted_status (Checks g input output receipt) chunk doubt a b r p d =
     from_told a.place.told b.place.told (λ w v. VerdictOf g (three input output receipt w) (verdicts.Doubted chunk doubt) × (stand v b.sink.written ≡ stand w a.sink.written)) (HasStatus (Checks g input output receipt) r) d.verdict
     (λ w v x. runs.ByVerdict (verdicts.Doubted chunk doubt) x.0 p)
+doubted_status (Builds text output) chunk doubt a b r p d = absurd d.check
+
+-- A refusal is what is built of a text.
+unbuilt_status : (k : Work) (line : ℕ) (reason : BuildReason) (a b : Outside) (r : ℕ) → r ≡ 8 → Unbuilds k line reason a b → IfSome a.place.told (HasStatus k r)
+unbuilt_status (Over rule input) line reason a b r p d = absurd d.build
+unbuilt_status (Joins folder output) line reason a b r p d = absurd d.build
+unbuilt_status (Alone q) line reason a b r p d = absurd d.build
+unbuilt_status (Checks g input output receipt) line reason a b r p d = absurd d.build
+unbuilt_status (Builds text output) line reason a b r p d =
+    from_told a.place.told b.place.told (λ w v. IsRefusedText (file w text) line reason × (stand v None ≡ stand w None)) (HasStatus (Builds text output) r) d.refused
+    (λ w v x. runs.ByRefusal (record { line = line; reason = reason }) x.0 p)
 
 complete_by : (k : Work) (end : Ending) (a b : Outside) (r : ℕ) (e f : SinkState) → IsAnswered (status_of end) (line_of end) r e f → Leaves k (way_of end) a b → Tallied (target_of k) (way_of end) a b
     → (Rose a.place.read_faults b.place.read_faults → ⊥) → (Rose (write_count (target_of k) a) (write_count (target_of k) b) → ⊥) → IfSome a.place.told (HasStatus k r)
@@ -242,27 +271,37 @@ keeps_place (Over rule input) s z h = tt
 keeps_place (Joins folder output) s z h = tt
 keeps_place (Alone p) s z h = h
 keeps_place (Checks g input output receipt) s z h = tt
+keeps_place (Builds text output) s z h = tt
 
 check_sink : (k : Work) (s z : SinkState) → IsCheck k → KeepsSink (target_of k) s z
 check_sink (Over rule input) s z c = absurd c
 check_sink (Joins folder output) s z c = absurd c
 check_sink (Alone p) s z c = absurd c
 check_sink (Checks g input output receipt) s z c = tt
+check_sink (Builds text output) s z c = absurd c
 
 check_place : (k : Work) (s z : State) → IsCheck k → KeepsPlace k s z
 check_place (Over rule input) s z c = absurd c
 check_place (Joins folder output) s z c = absurd c
 check_place (Alone p) s z c = absurd c
 check_place (Checks g input output receipt) s z c = tt
+check_place (Builds text output) s z c = absurd c
 
--- No ending has the status of a doubt.
-no_doubt_status : (x : Ending) → status_of x ≡ 7 → ⊥
-no_doubt_status Done h = omega (arith, h)
-no_doubt_status (Refused r) h = omega (arith, h)
-no_doubt_status ReadFault h = omega (arith, h)
-no_doubt_status WriteFault h = omega (arith, h)
-no_doubt_status Memory h = omega (arith, h)
-no_doubt_status TooManyParts h = omega (arith, h)
+build_place : (k : Work) (s z : State) → runs.IsBuild k → KeepsPlace k s z
+build_place (Over rule input) s z c = absurd c
+build_place (Joins folder output) s z c = absurd c
+build_place (Alone p) s z c = absurd c
+build_place (Checks g input output receipt) s z c = absurd c
+build_place (Builds text output) s z c = tt
+
+-- The status of an ending is at most 6.
+ending_status : (x : Ending) → status_of x ≤ 6
+ending_status Done = omega arith
+ending_status (Refused r) = omega arith
+ending_status ReadFault = omega arith
+ending_status WriteFault = omega arith
+ending_status Memory = omega arith
+ending_status TooManyParts = omega arith
 
 by_plan : (end : Ending) → (status_of end ≡ 0) ⊎ (status_of end ≡ 2) → IsByPlan end
 by_plan Done h = tt
@@ -276,20 +315,68 @@ by_plan TooManyParts (inr h) = absurd (omega (arith, h))
 by_plan Memory (inl h) = absurd (omega (arith, h))
 by_plan Memory (inr h) = absurd (omega (arith, h))
 
--- A doubt has the status 7, or 5 if memory ran out.
-not_seven : {r : ℕ} {line : Option (List ℕ)} {e f : SinkState} → IsAnswered 7 line r e f → (n : ℕ) → r ≡ n → (n ≡ 7 → ⊥) → (n ≡ 5 → ⊥) → ⊥
-not_seven (Fully p q) n h no_doubt room = no_doubt (sym h ∙ p)
-not_seven (answers.ForMemory p q) n h no_doubt room = room (sym h ∙ p)
+-- A doubt, or a text that is refused, with its status: nothing was done, and no fault was counted.
+pub record Judged (o : Order) (status : ℕ) (a b : Outside) : Type 0 where
+  pub low : 7 ≤ status
+  pub high : status ≤ 8
+  pub partly_done : StandsPartly (work_of o) a b
+  pub counts : Counted Kept Kept Kept a b
+  pub sink : KeepsSink (target_of (work_of o)) a.sink b.sink
+  pub place : KeepsPlace (work_of o) a.place b.place
+  pub has_status : IfSome a.place.told (HasStatus (work_of o) status)
+
+judged_doubt : (o : Order) (chunk : ℕ) (doubt : Doubt) (a b : Outside) → Doubts (work_of o) chunk doubt a b → Judged o 7 a b
+judged_doubt o chunk doubt a b d = record {
+  low = omega arith;
+  high = omega arith;
+  partly_done = doubt_partly (work_of o) chunk doubt a b d;
+  counts = d.counts;
+  sink = check_sink (work_of o) a.sink b.sink d.check;
+  place = check_place (work_of o) a.place b.place d.check;
+  has_status = doubted_status (work_of o) chunk doubt a b 7 refl d;
+}
+
+judged_refusal : (o : Order) (line : ℕ) (reason : BuildReason) (a b : Outside) → Unbuilds (work_of o) line reason a b → Judged o 8 a b
+judged_refusal o line reason a b d = record {
+  low = omega arith;
+  high = omega arith;
+  partly_done = refusal_partly (work_of o) line reason a b d;
+  counts = d.counts;
+  sink = keeps_sink (target_of (work_of o)) a.sink b.sink d.sink;
+  place = build_place (work_of o) a.place b.place d.build;
+  has_status = unbuilt_status (work_of o) line reason a b 8 refl d;
+}
+
+-- The words are a usage error and nothing is done; or memory ran out while they were read, and nothing is
+-- done; or they are an order, which is carried out. The status and the line are those of the ending, of the
+-- doubt or of the text's refusal.
+pub data Answers (words : List (List ℕ)) (answer : ℕ) (a b : Outside) (e f : SinkState) : Type 0 where
+  Usage : order_of words ≡ None → b ≡ a → IsAnswered 1 (Some usage_line) answer e f → Answers words answer a b e f
+  Unread : b ≡ a → IsAnswered 5 (Some memory_line) answer e f → Answers words answer a b e f
+  Carried : (o : Order) → order_of words ≡ Some o → (end : Ending) → Carries o end a b → IsAnswered (status_of end) (line_of end) answer e f → Answers words answer a b e f
+  Stayed : (o : Order) → order_of words ≡ Some o → (x : Answer) → CarriesTo o x a b → Judged o (answer_status x) a b → IsAnswered (answer_status x) (answer_line x) answer e f → Answers words answer a b e f
+
+pub answers_by : (words : List (List ℕ)) (x : Answer) (answer : ℕ) (a b : Outside) (e f : SinkState) → Obeys words x a b → IsAnswered (answer_status x) (answer_line x) answer e f → Answers words answer a b e f
+answers_by words x answer a b e f (NoOrder o is s) t = Usage o s (subst (λ x. IsAnswered (answer_status x) (answer_line x) answer e f) is t)
+answers_by words x answer a b e f (NotRead is s) t = Unread s (subst (λ x. IsAnswered (answer_status x) (answer_line x) answer e f) is t)
+answers_by words answer_kinds.Usage answer a b e f (CarriedOut o known c) t = absurd c
+answers_by words (answer_kinds.Ended end) answer a b e f (CarriedOut o known c) t = Carried o known end c t
+answers_by words (answer_kinds.Doubted chunk doubt) answer a b e f (CarriedOut o known c) t = Stayed o known (answer_kinds.Doubted chunk doubt) c (judged_doubt o chunk doubt a b c) t
+answers_by words (answer_kinds.Unbuilt line reason) answer a b e f (CarriedOut o known c) t = Stayed o known (answer_kinds.Unbuilt line reason) c (judged_refusal o line reason a b c) t
+
+-- The status of such an answer is its own, or 5 if memory ran out.
+not_stayed : {o : Order} {r : ℕ} {a b : Outside} {e f : SinkState} (x : Answer) → Judged o (answer_status x) a b → IsAnswered (answer_status x) (answer_line x) r e f → r < 7 → (r ≡ 5 → ⊥) → ⊥
+not_stayed x j (Fully p q) less room = omega (arith, j.low, p, less)
+not_stayed x j (answers.ForMemory p q) less room = room p
 
 module _ {ws : List (List ℕ)} {r : ℕ} {a b : Outside} {e f : SinkState} where
-  obeyed : Answers ws r a b e f → (n : ℕ) → r ≡ n → (n ≡ 1 → ⊥) → (n ≡ 5 → ⊥) → (n ≡ 7 → ⊥) → Obeyed ws n a b e f
-  obeyed (Usage o s (Fully p q)) n h no_usage room no_doubt = absurd (no_usage (sym h ∙ p))
-  obeyed (Usage o s (answers.ForMemory p q)) n h no_usage room no_doubt = absurd (room (sym h ∙ p))
-  obeyed (Unread s t) n h no_usage room no_doubt = absurd (room (sym h ∙ five t))
-  obeyed (Carried o is end c (answers.ForMemory p q)) n h no_usage room no_doubt = absurd (room (sym h ∙ p))
-  obeyed (Carried o is end c (Fully p q)) n h no_usage room no_doubt = record { order = o; is = is; end = end; carries = c; status_is = sym p ∙ h; said = q }
-  obeyed (Questioned o is chunk doubt d (Fully p q)) n h no_usage room no_doubt = absurd (no_doubt (sym h ∙ p))
-  obeyed (Questioned o is chunk doubt d (answers.ForMemory p q)) n h no_usage room no_doubt = absurd (room (sym h ∙ p))
+  obeyed : Answers ws r a b e f → (n : ℕ) → r ≡ n → (n ≡ 1 → ⊥) → (n ≡ 5 → ⊥) → n < 7 → Obeyed ws n a b e f
+  obeyed (Usage o s (Fully p q)) n h no_usage room small = absurd (no_usage (sym h ∙ p))
+  obeyed (Usage o s (answers.ForMemory p q)) n h no_usage room small = absurd (room (sym h ∙ p))
+  obeyed (Unread s t) n h no_usage room small = absurd (room (sym h ∙ five t))
+  obeyed (Carried o is end c (answers.ForMemory p q)) n h no_usage room small = absurd (room (sym h ∙ p))
+  obeyed (Carried o is end c (Fully p q)) n h no_usage room small = record { order = o; is = is; end = end; carries = c; status_is = sym p ∙ h; said = q }
+  obeyed (Stayed o is x d j t) n h no_usage room small = absurd (not_stayed x j t (omega (arith, h, small)) (λ m. room (sym h ∙ m)))
 
   pub usage_told : Answers ws r a b e f → r ≡ 1 → (order_of ws ≡ None) × IsSaid usage_line e f
   usage_told (Usage o s (Fully p q)) h = (o, q)
@@ -305,55 +392,54 @@ module _ {ws : List (List ℕ)} {r : ℕ} {a b : Outside} {e f : SinkState} wher
       never WriteFault k = omega (arith, k)
       never Memory k = omega (arith, k)
       never TooManyParts k = omega (arith, k)
-  usage_told (Questioned o is chunk doubt d (Fully p q)) h = absurd (omega (arith, p, h))
-  usage_told (Questioned o is chunk doubt d (answers.ForMemory p q)) h = absurd (omega (arith, p, h))
+  usage_told (Stayed o is x d j t) h = absurd (not_stayed x j t (omega (arith, h)) (λ m. omega (arith, m, h)))
 
   pub usage_only : Answers ws r a b e f → order_of ws ≡ None → (r ≡ 1) ⊎ (r ≡ 5)
   usage_only (Usage o s (Fully p q)) h = inl p
   usage_only (Usage o s (answers.ForMemory p q)) h = inr p
   usage_only (Unread s t) h = inr (five t)
   usage_only (Carried o is end c t) h = cc
-  usage_only (Questioned o is chunk doubt d t) h = cc
+  usage_only (Stayed o is x d j t) h = cc
 
   pub untouched : Answers ws r a b e f → order_of ws ≡ None → b ≡ a
   untouched (Usage o s t) h = s
   untouched (Unread s t) h = s
   untouched (Carried o is end c t) h = cc
-  untouched (Questioned o is chunk doubt d t) h = cc
+  untouched (Stayed o is x d j t) h = cc
 
   pub done_told : Answers ws r a b e f → r ≡ 0 → Under ws (λ o. Ended (work_of o) Fine a b) × (f ≡ e)
   done_told x h =
-      let k = obeyed x 0 h (λ z. omega (arith, z)) (λ z. omega (arith, z)) (λ z. omega (arith, z)) in
+      let k = obeyed x 0 h (λ z. omega (arith, z)) (λ z. omega (arith, z)) (omega arith) in
       let d = done_status k.end k.status_is in
       ((k.order, k.is, left ws 0 a b e f k Done d), said_by ws 0 a b e f k Done d)
 
   pub refused_told : Answers ws r a b e f → r ≡ 2 → Under ws (λ o. IsRefused (work_of o) a b e f)
   refused_told x h =
-      let k = obeyed x 2 h (λ z. omega (arith, z)) (λ z. omega (arith, z)) (λ z. omega (arith, z)) in
+      let k = obeyed x 2 h (λ z. omega (arith, z)) (λ z. omega (arith, z)) (omega arith) in
       let d = refused_status k.end k.status_is in
       (k.order, k.is, record { refusal = d.0; ended = left ws 2 a b e f k (Refused d.0) d.1; said = said_by ws 2 a b e f k (Refused d.0) d.1 })
 
   pub halted_told : Answers ws r a b e f → r ≡ 3 → Under ws (λ o. Halted (work_of o) a b) × IsSaid read_line e f × Rose a.place.read_faults b.place.read_faults
   halted_told x h =
-      let k = obeyed x 3 h (λ z. omega (arith, z)) (λ z. omega (arith, z)) (λ z. omega (arith, z)) in
+      let k = obeyed x 3 h (λ z. omega (arith, z)) (λ z. omega (arith, z)) (omega arith) in
       let d = read_status k.end k.status_is in
       ((k.order, k.is, left ws 3 a b e f k ReadFault d), said_by ws 3 a b e f k ReadFault d, plan.read_rose (target_of (work_of k.order)) ReadFault a b (counted ws 3 a b e f k ReadFault d) refl)
 
   pub broken_told : Answers ws r a b e f → r ≡ 4 → Under ws (λ o. Broken (work_of o) a b) × IsSaid write_line e f × Under ws (λ o. Rose (write_count (target_of (work_of o)) a) (write_count (target_of (work_of o)) b))
   broken_told x h =
-      let k = obeyed x 4 h (λ z. omega (arith, z)) (λ z. omega (arith, z)) (λ z. omega (arith, z)) in
+      let k = obeyed x 4 h (λ z. omega (arith, z)) (λ z. omega (arith, z)) (omega arith) in
       let d = write_status k.end k.status_is in
       ((k.order, k.is, left ws 4 a b e f k WriteFault d), said_by ws 4 a b e f k WriteFault d, (k.order, k.is, plan.write_rose (target_of (work_of k.order)) WriteFault a b (counted ws 4 a b e f k WriteFault d) refl))
 
   pub parts_told : Answers ws r a b e f → r ≡ 6 → Under ws (λ o. Ended (work_of o) ends.TooMany a b) × IsSaid parts_line e f
   parts_told x h =
-      let k = obeyed x 6 h (λ z. omega (arith, z)) (λ z. omega (arith, z)) (λ z. omega (arith, z)) in
+      let k = obeyed x 6 h (λ z. omega (arith, z)) (λ z. omega (arith, z)) (omega arith) in
       let d = parts_status k.end k.status_is in
       ((k.order, k.is, left ws 6 a b e f k TooManyParts d), said_by ws 6 a b e f k TooManyParts d)
 
   pub only_parts : Answers ws r a b e f → r ≡ 6 → Under ws (λ o. target_of (work_of o) ≡ Parts)
   only_parts x h =
-      let k = obeyed x 6 h (λ z. omega (arith, z)) (λ z. omega (arith, z)) (λ z. omega (arith, z)) in
+      let k = obeyed x 6 h (λ z. omega (arith, z)) (λ z. omega (arith, z)) (omega arith) in
       let c = counted ws 6 a b e f k TooManyParts (parts_status k.end k.status_is) in
       (k.order, k.is, c.0)
 
@@ -361,7 +447,7 @@ module _ {ws : List (List ℕ)} {r : ℕ} {a b : Outside} {e f : SinkState} wher
   memory_told (Usage p s t) h o is = cc
   memory_told (Unread s t) h o is = subst (λ z. StandsPartly (work_of o) a z) (sym s) (unchanged (work_of o) a)
   memory_told (Carried p known end c t) h o is = subst (λ z. StandsPartly (work_of z) a b) (order_same ws p o known is) (partly (work_of p) end a b c.leaves c.counts)
-  memory_told (Questioned p known chunk doubt d t) h o is = subst (λ z. StandsPartly (work_of z) a b) (order_same ws p o known is) (doubt_partly (work_of p) chunk doubt a b d)
+  memory_told (Stayed p known x d j t) h o is = subst (λ z. StandsPartly (work_of z) a b) (order_same ws p o known is) j.partly_done
 
   pub memory_said : Answers ws r a b e f → r ≡ 5 → IsMemorySaid e f
   memory_said (Usage o s (Fully p q)) h = absurd (omega (arith, p, h))
@@ -370,58 +456,65 @@ module _ {ws : List (List ℕ)} {r : ℕ} {a b : Outside} {e f : SinkState} wher
   memory_said (Unread s (answers.ForMemory p q)) h = q
   memory_said (Carried o is end c (answers.ForMemory p q)) h = q
   memory_said (Carried o is end c (Fully p q)) h = no_room_said end e f (sym p ∙ h) q
-  memory_said (Questioned o is chunk doubt d (answers.ForMemory p q)) h = q
-  memory_said (Questioned o is chunk doubt d (Fully p q)) h = absurd (omega (arith, p, h))
+  memory_said (Stayed o is x d j (answers.ForMemory p q)) h = q
+  memory_said (Stayed o is x d j (Fully p q)) h = absurd (omega (arith, j.low, p, h))
 
   pub doubted_told : Answers ws r a b e f → r ≡ 7 → Under ws (λ o. IsDoubted (work_of o) a b e f)
   doubted_told (Usage o s (Fully p q)) h = absurd (omega (arith, p, h))
   doubted_told (Usage o s (answers.ForMemory p q)) h = absurd (omega (arith, p, h))
   doubted_told (Unread s t) h = absurd (omega (arith, five t, h))
-  doubted_told (Carried o is end c (Fully p q)) h = absurd (no_doubt_status end (sym p ∙ h))
+  doubted_told (Carried o is end c (Fully p q)) h = absurd (omega (arith, ending_status end, p, h))
   doubted_told (Carried o is end c (answers.ForMemory p q)) h = absurd (omega (arith, p, h))
-  doubted_told (Questioned o is chunk doubt d (Fully p q)) h = (o, is, record { chunk = chunk; doubt = doubt; doubts = d; said = q })
-  doubted_told (Questioned o is chunk doubt d (answers.ForMemory p q)) h = absurd (omega (arith, p, h))
+  doubted_told (Stayed o is (answer_kinds.Doubted chunk doubt) d j (Fully p q)) h = (o, is, record { chunk = chunk; doubt = doubt; doubts = d; said = q })
+  doubted_told (Stayed o is (answer_kinds.Unbuilt line reason) d j (Fully p q)) h = absurd (omega (arith, p, h))
+  doubted_told (Stayed o is (answer_kinds.Ended end) d j (Fully p q)) h = absurd (omega (arith, ending_status end, j.low))
+  doubted_told (Stayed o is answer_kinds.Usage d j (Fully p q)) h = absurd d
+  doubted_told (Stayed o is x d j (answers.ForMemory p q)) h = absurd (omega (arith, p, h))
 
-  pub statuses : Answers ws r a b e f → r ≤ 7
+  pub unbuilt_told : Answers ws r a b e f → r ≡ 8 → Under ws (λ o. IsUnbuilt (work_of o) a b e f)
+  unbuilt_told (Usage o s (Fully p q)) h = absurd (omega (arith, p, h))
+  unbuilt_told (Usage o s (answers.ForMemory p q)) h = absurd (omega (arith, p, h))
+  unbuilt_told (Unread s t) h = absurd (omega (arith, five t, h))
+  unbuilt_told (Carried o is end c (Fully p q)) h = absurd (omega (arith, ending_status end, p, h))
+  unbuilt_told (Carried o is end c (answers.ForMemory p q)) h = absurd (omega (arith, p, h))
+  unbuilt_told (Stayed o is (answer_kinds.Unbuilt line reason) d j (Fully p q)) h = (o, is, record { line = line; reason = reason; unbuilds = d; said = q })
+  unbuilt_told (Stayed o is (answer_kinds.Doubted chunk doubt) d j (Fully p q)) h = absurd (omega (arith, p, h))
+  unbuilt_told (Stayed o is (answer_kinds.Ended end) d j (Fully p q)) h = absurd (omega (arith, ending_status end, j.low))
+  unbuilt_told (Stayed o is answer_kinds.Usage d j (Fully p q)) h = absurd d
+  unbuilt_told (Stayed o is x d j (answers.ForMemory p q)) h = absurd (omega (arith, p, h))
+
+  pub statuses : Answers ws r a b e f → r ≤ 8
   statuses (Usage o s (Fully p q)) = omega (arith, p)
   statuses (Usage o s (answers.ForMemory p q)) = omega (arith, p)
   statuses (Unread s t) = omega (arith, five t)
   statuses (Carried o is end c (answers.ForMemory p q)) = omega (arith, p)
-  statuses (Questioned o is chunk doubt d (Fully p q)) = omega (arith, p)
-  statuses (Questioned o is chunk doubt d (answers.ForMemory p q)) = omega (arith, p)
-  statuses (Carried o is end c (Fully p q)) = bound end p
-    where
-      bound : (x : Ending) → r ≡ status_of x → r ≤ 7
-      bound Done k = omega (arith, k)
-      bound (Refused x) k = omega (arith, k)
-      bound ReadFault k = omega (arith, k)
-      bound WriteFault k = omega (arith, k)
-      bound Memory k = omega (arith, k)
-      bound TooManyParts k = omega (arith, k)
+  statuses (Carried o is end c (Fully p q)) = omega (arith, ending_status end, p)
+  statuses (Stayed o is x d j (answers.ForMemory p q)) = omega (arith, p)
+  statuses (Stayed o is x d j (Fully p q)) = omega (arith, j.high, p)
 
   pub no_read_passed : Answers ws r a b e f → a.place.read_faults < b.place.read_faults → (r ≡ 3) ⊎ (r ≡ 5)
   no_read_passed (Usage o s t) l = absurd (not_less a.place.read_faults b.place.read_faults (ap (λ (z : Outside). z.place.read_faults) s) l)
   no_read_passed (Unread s t) l = inr (five t)
   no_read_passed (Carried o is end c t) l = passed r 3 ReadFault end e f refl (plan.no_read_passed (target_of (work_of o)) end a b c.counts l) t
-  no_read_passed (Questioned o is chunk doubt d t) l = absurd (not_less a.place.read_faults b.place.read_faults d.counts.0 l)
+  no_read_passed (Stayed o is x d j t) l = absurd (not_less a.place.read_faults b.place.read_faults j.counts.0 l)
 
   pub no_write_passed : Answers ws r a b e f → a.place.write_faults < b.place.write_faults → (r ≡ 4) ⊎ (r ≡ 5)
   no_write_passed (Usage o s t) l = absurd (not_less a.place.write_faults b.place.write_faults (ap (λ (z : Outside). z.place.write_faults) s) l)
   no_write_passed (Unread s t) l = inr (five t)
   no_write_passed (Carried o is end c t) l = passed r 4 WriteFault end e f refl (place_passed (target_of (work_of o)) end a b c.counts l) t
-  no_write_passed (Questioned o is chunk doubt d t) l = absurd (not_less a.place.write_faults b.place.write_faults d.counts.1 l)
+  no_write_passed (Stayed o is x d j t) l = absurd (not_less a.place.write_faults b.place.write_faults j.counts.1 l)
 
   pub no_text_passed : Answers ws r a b e f → a.sink.faults < b.sink.faults → (r ≡ 4) ⊎ (r ≡ 5)
   no_text_passed (Usage o s t) l = absurd (not_less a.sink.faults b.sink.faults (ap (λ (z : Outside). z.sink.faults) s) l)
   no_text_passed (Unread s t) l = inr (five t)
   no_text_passed (Carried o is end c t) l = passed r 4 WriteFault end e f refl (sink_passed (target_of (work_of o)) end a b c.counts l) t
-  no_text_passed (Questioned o is chunk doubt d t) l = absurd (not_less a.sink.faults b.sink.faults d.counts.2 l)
+  no_text_passed (Stayed o is x d j t) l = absurd (not_less a.sink.faults b.sink.faults j.counts.2 l)
 
   pub one_count : Answers ws r a b e f → CountsOnce a b
   one_count (Usage o s t) = runs.NoneRose (none_rose a b s)
   one_count (Unread s t) = runs.NoneRose (none_rose a b s)
   one_count (Carried o is end c t) = tallied_once (target_of (work_of o)) (way_of end) a b c.counts
-  one_count (Questioned o is chunk doubt d t) = runs.NoneRose d.counts
+  one_count (Stayed o is x d j t) = runs.NoneRose j.counts
 
   pub text_writes : Answers ws r a b e f → (o : Order) → order_of ws ≡ Some o → target_of (work_of o) ≡ Text → b.place.write_faults ≡ a.place.write_faults
   text_writes (Usage p s t) o is text = cc
@@ -429,13 +522,13 @@ module _ {ws : List (List ℕ)} {r : ℕ} {a b : Outside} {e f : SinkState} wher
   text_writes (Carried p known end c t) o is text =
       let target = ap (λ z. target_of (work_of z)) (order_same ws p o known is) ∙ text in
       text_leaves (way_of end) a b (subst (λ z. Tallied z (way_of end) a b) target c.counts)
-  text_writes (Questioned p known chunk doubt d t) o is text = d.counts.1
+  text_writes (Stayed p known x d j t) o is text = j.counts.1
 
   pub same_told : Answers ws r a b e f → b.place.steady ≡ a.place.steady
   same_told (Usage o s t) = ap (λ (z : Outside). z.place.steady) s
   same_told (Unread s t) = ap (λ (z : Outside). z.place.steady) s
   same_told (Carried o is end c t) = plan.same_clause (target_of (work_of o)) (way_of end) a b c.counts
-  same_told (Questioned o is chunk doubt d t) = d.counts.3
+  same_told (Stayed o is x d j t) = j.counts.3
 
   pub complete : Answers ws r a b e f → (o : Order) → order_of ws ≡ Some o → (Rose a.place.read_faults b.place.read_faults → ⊥) → (Rose (write_count (target_of (work_of o)) a) (write_count (target_of (work_of o)) b) → ⊥) → IfSome a.place.told (HasStatus (work_of o) r)
   complete (Usage p s t) o is h i = cc
@@ -444,8 +537,8 @@ module _ {ws : List (List ℕ)} {r : ℕ} {a b : Outside} {e f : SinkState} wher
       let same = order_same ws p o known is in
       subst (λ z. IfSome a.place.told (HasStatus (work_of z) r)) same
       (complete_by (work_of p) end a b r e f t c.leaves c.counts h (subst (λ z. Rose (write_count (target_of (work_of z)) a) (write_count (target_of (work_of z)) b) → ⊥) (sym same) i))
-  complete (Questioned p known chunk doubt d (Fully m q)) o is h i = subst (λ z. IfSome a.place.told (HasStatus (work_of z) r)) (order_same ws p o known is) (doubted_status (work_of p) chunk doubt a b r m d)
-  complete (Questioned p known chunk doubt d (answers.ForMemory m q)) o is h i = any_end a.place.told (work_of o) m
+  complete (Stayed p known x d j (Fully m q)) o is h i = subst (λ z. IfSome a.place.told (HasStatus (work_of z) r)) (order_same ws p o known is) (subst (λ n. IfSome a.place.told (HasStatus (work_of p) n)) (sym m) j.has_status)
+  complete (Stayed p known x d j (answers.ForMemory m q)) o is h i = any_end a.place.told (work_of o) m
 
   pub can_read : Answers ws r a b e f → (o : Order) → order_of ws ≡ Some o → CanReadAll (work_of o) a.place → (r ≡ 3 → ⊥) × (b.place.read_faults ≡ a.place.read_faults)
   can_read (Usage p s t) o is can = cc
@@ -453,7 +546,7 @@ module _ {ws : List (List ℕ)} {r : ℕ} {a b : Outside} {e f : SinkState} wher
   can_read (Carried p known end c t) o is can =
       let n = c.can_read (subst (λ z. CanReadAll (work_of z) a.place) (sym (order_same ws p o known is)) can) in
       (not_read r e f end n t, plan.reads_clause (target_of (work_of p)) end a b c.counts n)
-  can_read (Questioned p known chunk doubt d t) o is can = ((λ h. not_seven t 3 h (λ z. omega (arith, z)) (λ z. omega (arith, z))), d.counts.0)
+  can_read (Stayed p known x d j t) o is can = ((λ h. not_stayed x j t (omega (arith, h)) (λ m. omega (arith, m, h))), j.counts.0)
 
   pub can_create : Answers ws r a b e f → (o : Order) → order_of ws ≡ Some o → CanCreateFor o a.place → (r ≡ 4 → ⊥) × (b.place.write_faults ≡ a.place.write_faults)
   can_create (Usage p s t) o is can = cc
@@ -461,27 +554,27 @@ module _ {ws : List (List ℕ)} {r : ℕ} {a b : Outside} {e f : SinkState} wher
   can_create (Carried p known end c t) o is can =
       let n = c.can_create (subst (λ z. CanCreateFor z a.place) (sym (order_same ws p o known is)) can) in
       (not_write r e f end n t, writes_stay (target_of (work_of p)) end a b c.counts n)
-  can_create (Questioned p known chunk doubt d t) o is can = ((λ h. not_seven t 4 h (λ z. omega (arith, z)) (λ z. omega (arith, z))), d.counts.1)
+  can_create (Stayed p known x d j t) o is can = ((λ h. not_stayed x j t (omega (arith, h)) (λ m. omega (arith, m, h))), j.counts.1)
 
   pub sink_told : Answers ws r a b e f → (o : Order) → order_of ws ≡ Some o → KeepsSink (target_of (work_of o)) a.sink b.sink
   sink_told (Usage p s t) o is = cc
   sink_told (Unread s t) o is = keeps_sink (target_of (work_of o)) a.sink b.sink (ap (λ (z : Outside). z.sink) s)
   sink_told (Carried p known end c t) o is = subst (λ z. KeepsSink (target_of (work_of z)) a.sink b.sink) (order_same ws p o known is) c.sink
-  sink_told (Questioned p known chunk doubt d t) o is = subst (λ z. KeepsSink (target_of (work_of z)) a.sink b.sink) (order_same ws p o known is) (check_sink (work_of p) a.sink b.sink d.check)
+  sink_told (Stayed p known x d j t) o is = subst (λ z. KeepsSink (target_of (work_of z)) a.sink b.sink) (order_same ws p o known is) j.sink
 
   pub place_told : Answers ws r a b e f → (o : Order) → order_of ws ≡ Some o → KeepsPlace (work_of o) a.place b.place
   place_told (Usage p s t) o is = cc
   place_told (Unread s t) o is = keeps_place (work_of o) a.place b.place (ap (λ (z : Outside). z.place) s)
   place_told (Carried p known end c t) o is = subst (λ z. KeepsPlace (work_of z) a.place b.place) (order_same ws p o known is) c.place
-  place_told (Questioned p known chunk doubt d t) o is = subst (λ z. KeepsPlace (work_of z) a.place b.place) (order_same ws p o known is) (check_place (work_of p) a.place b.place d.check)
+  place_told (Stayed p known x d j t) o is = subst (λ z. KeepsPlace (work_of z) a.place b.place) (order_same ws p o known is) j.place
 
   -- What an order wrote that ended as its plan does.
   wrote_told : Answers ws r a b e f → (r ≡ 0) ⊎ (r ≡ 2) → (k : Order) → order_of ws ≡ Some k → (end : Ending) × IsByPlan end × runs.Wrote k end a.place b.place
   wrote_told (Usage p s t) h k is = cc
   wrote_told (Unread s t) (inl h) k is = absurd (omega (arith, five t, h))
   wrote_told (Unread s t) (inr h) k is = absurd (omega (arith, five t, h))
-  wrote_told (Questioned p known chunk doubt d t) (inl h) k is = absurd (not_seven t 0 h (λ z. omega (arith, z)) (λ z. omega (arith, z)))
-  wrote_told (Questioned p known chunk doubt d t) (inr h) k is = absurd (not_seven t 2 h (λ z. omega (arith, z)) (λ z. omega (arith, z)))
+  wrote_told (Stayed p known x d j t) (inl h) k is = absurd (not_stayed x j t (omega (arith, h)) (λ m. omega (arith, m, h)))
+  wrote_told (Stayed p known x d j t) (inr h) k is = absurd (not_stayed x j t (omega (arith, h)) (λ m. omega (arith, m, h)))
   wrote_told (Carried p known end c (answers.ForMemory m q)) (inl h) k is = absurd (omega (arith, m, h))
   wrote_told (Carried p known end c (answers.ForMemory m q)) (inr h) k is = absurd (omega (arith, m, h))
   wrote_told (Carried p known end c (Fully m q)) h k is = (end, by_plan end (planned_status m h), subst (λ z. runs.Wrote z end a.place b.place) (order_same ws p k known is) c.wrote)
@@ -498,8 +591,14 @@ module _ {ws : List (List ℕ)} {r : ℕ} {a b : Outside} {e f : SinkState} wher
 
   pub verified_told : Answers ws r a b e f → r ≡ 0 → (g : Given) (i o p : List ℕ) → order_of ws ≡ Some (orders.Verify g i o p) → IfSome a.place.told (λ w. (count : ℕ) × AllVerified g (three (file_name i) (file_name o) (file_name p) w) count)
   verified_told x h g i o p is =
-      let k = obeyed x 0 h (λ z. omega (arith, z)) (λ z. omega (arith, z)) (λ z. omega (arith, z)) in
+      let k = obeyed x 0 h (λ z. omega (arith, z)) (λ z. omega (arith, z)) (omega arith) in
       let w = subst (λ z. runs.Wrote z k.end a.place b.place) (order_same ws k.order (orders.Verify g i o p) k.is is) k.carries.wrote in
+      w (done_status k.end k.status_is)
+
+  pub built_told : Answers ws r a b e f → r ≡ 0 → (text output : List ℕ) → order_of ws ≡ Some (orders.Build text output) → Told a.place.told b.place.told (streams.Builds (file_name text) (file_name output))
+  built_told x h text output is =
+      let k = obeyed x 0 h (λ z. omega (arith, z)) (λ z. omega (arith, z)) (omega arith) in
+      let w = subst (λ z. runs.Wrote z k.end a.place b.place) (order_same ws k.order (orders.Build text output) k.is is) k.carries.wrote in
       w (done_status k.end k.status_is)
 
   pub scrubs_told : ((g : Given) (t : Three) → HasOneVerdict g t) → ((g : Given) (t : Three) → HasVerifiedScrubs g t) → Answers ws r a b e f → (g : Given) (i o p : List ℕ) → order_of ws ≡ Some (orders.Verify g i o p)

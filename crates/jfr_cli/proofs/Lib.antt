@@ -5,4 +5,5 @@ pub mod Counting
 mod Rows
 pub mod Sampling
 pub mod Checking
+pub mod Building
 pub mod Clauses

@@ -5,7 +5,7 @@ use Rattle.jfr_base.specs.declared.reason.Reason.TheVariants.{NoChunk, PoolType,
 use Rattle.jfr_header.specs.declared.ending.Ending.TheVariants.{Done, Refused, ReadFault, WriteFault, TooManyParts, Memory}
 use Rattle.jfr_cli.specs.Answers.{line_of, status_of, usage_line}
 
-usage_row : usage_line ≡ codes "usage: jfr print|summary|metadata|scrub|disassemble|assemble|sample|receipt|verify|stacks\n"
+usage_row : usage_line ≡ codes "usage: jfr print|summary|metadata|scrub|disassemble|assemble|sample|receipt|verify|build|stacks\n"
 usage_row = refl
 
 done_row : status_of Done ≡ 0

@@ -10,6 +10,8 @@ use Rattle.jfr_header.specs.declared.ending.Ending.TheVariants.{Done, Refused, R
 use Rattle.jfr_show.specs.Texts.{newline}
 use Rattle.jfr_verify.specs.declared.doubt.Doubt.{Doubt}
 use Rattle.jfr_verify.specs.Doubts.{doubt_name}
+use Rattle.jfr_build.specs.declared.reason.BuildReason.{BuildReason}
+use Rattle.jfr_build.specs.Reasons.{build_name}
 use Rattle.jfr_cli.specs.declared.answer.Answer.{Answer}
 use Rattle.jfr_cli.specs.declared.answer.Answer.TheVariants as answers
 
@@ -24,7 +26,7 @@ status_of TooManyParts = 6
 
 -- The line if the words aren't an order.
 abbrev pub usage_line : List ℕ
-usage_line = codes "usage: jfr print|summary|metadata|scrub|disassemble|assemble|sample|receipt|verify|stacks" ++ newline
+usage_line = codes "usage: jfr print|summary|metadata|scrub|disassemble|assemble|sample|receipt|verify|build|stacks" ++ newline
 
 -- The line of a refused recording: the number of the chunk, the offset in it, and the name of the reason.
 abbrev pub refusal_line : Refusal → List ℕ
@@ -33,6 +35,10 @@ refusal_line r = codes "chunk " ++ (decimal r.chunk ++ (codes " offset " ++ (dec
 -- The line of a doubt: the number of the chunk, and the name of the doubt.
 abbrev pub doubt_line : ℕ → Doubt → List ℕ
 doubt_line chunk doubt = codes "chunk " ++ (decimal chunk ++ (codes ": " ++ (doubt_name doubt ++ newline)))
+
+-- The line of a text that is refused: the number of its line, and the name of the reason.
+abbrev pub unbuilt_line : ℕ → BuildReason → List ℕ
+unbuilt_line line reason = codes "line " ++ (decimal line ++ (codes ": " ++ (build_name reason ++ newline)))
 
 -- The line of a read fault.
 abbrev pub read_line : List ℕ
@@ -64,11 +70,13 @@ abbrev pub answer_status : Answer → ℕ
 answer_status answers.Usage = 1
 answer_status (answers.Ended e) = status_of e
 answer_status (answers.Doubted chunk doubt) = 7
+answer_status (answers.Unbuilt line reason) = 8
 
 abbrev pub answer_line : Answer → Option (List ℕ)
 answer_line answers.Usage = Some usage_line
 answer_line (answers.Ended e) = line_of e
 answer_line (answers.Doubted chunk doubt) = Some (doubt_line chunk doubt)
+answer_line (answers.Unbuilt line reason) = Some (unbuilt_line line reason)
 
 -- The line was written to the sink. If the sink's count of faults rose, perhaps only a prefix of it was.
 pub data IsSaid (line : List ℕ) (a b : SinkState) : Type 0 where

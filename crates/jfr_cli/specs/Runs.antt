@@ -1,7 +1,7 @@
 -- What the program does and returns.
-use Rattle.std.specs.Prelude.{◌≡◌, ◌≢◌, ℕ, true, false, List, Option, None, Some, IfSome, ⊤}
+use Rattle.std.specs.Prelude.{◌≡◌, ◌≢◌, ℕ, true, false, List, Option, None, Some, option_map, IfSome, Ok, Err, ⊤}
 use Rattle.jfr_base.specs.declared.flaw.Refusal.{Refusal}
-use Rattle.jfr_outside.specs.World.{World, State, SinkState, Told}
+use Rattle.jfr_outside.specs.World.{World, State, SinkState, Told, file}
 use Rattle.jfr_outside.specs.Counts.{Rose}
 use Rattle.jfr_header.specs.declared.ending.Ending.{Ending}
 use Rattle.jfr_header.specs.declared.ending.Ending.TheVariants as ending
@@ -23,13 +23,18 @@ use Rattle.jfr_verify.specs.declared.doubt.Doubt.{Doubt}
 use Rattle.jfr_verify.specs.declared.verdict.Verdict.{Verdict}
 use Rattle.jfr_verify.specs.declared.verdict.Verdict.TheVariants as verdicts
 use Rattle.jfr_verify.specs.Verdicts.{AllVerified, Three, VerdictOf, three}
-use Rattle.jfr_cli.specs.Works.{Work, Over, Joins, Alone, Checks, work_of, target_of, Stands, Leaves, KeepsSink, KeepsPlace, CanReadAll, CanCreateFor}
+use Rattle.jfr_build.specs.declared.reason.BuildReason.{BuildReason}
+use Rattle.jfr_build.specs.Builds as builds
+use Rattle.jfr_build.specs.Builds.{build_of}
+use Rattle.jfr_build.specs.Streams as streams
+use Rattle.jfr_build.specs.Streams.{IsRefusedText}
+use Rattle.jfr_cli.specs.Works.{Work, Over, Joins, Alone, Checks, Builds, work_of, target_of, Stands, Leaves, KeepsSink, KeepsPlace, CanReadAll, CanCreateFor}
 use Rattle.jfr_cli.specs.declared.answer.Answer.{Answer}
 use Rattle.jfr_cli.specs.declared.answer.Answer.TheVariants as answers
-use Rattle.jfr_cli.specs.Answers.{doubt_line, refusal_line, IsSaid}
+use Rattle.jfr_cli.specs.Answers.{doubt_line, refusal_line, unbuilt_line, IsSaid}
 
--- If a scrub ends as its plan does, the output is the scrub of the input, or its renumbering. If a check ends well, each chunk of
--- the output is verified.
+-- If a scrub ends as its plan does, the output is the scrub of the input, or its renumbering. If a check ends
+-- well, each chunk of the output is verified; if a build does, the output has the chunk of the text.
 abbrev pub Wrote : Order → Ending → State → State → Type 0
 Wrote (orders.Scrub g false input output) e a b = IsByPlan e → Told a.told b.told (Scrubs g (file_name input) (file_name output))
 Wrote (orders.Scrub g true input output) e a b = IsByPlan e → Told a.told b.told (Renumbers g (file_name input) (file_name output))
@@ -42,6 +47,7 @@ Wrote (orders.Sample seed events) e a b = ⊤
 Wrote (orders.Receipt g input receipt) e a b = ⊤
 Wrote (orders.Verify g input output receipt) e a b = e ≡ ending.Done → IfSome a.told (λ w. (count : ℕ) × AllVerified g (three (file_name input) (file_name output) (file_name receipt) w) count)
 Wrote (orders.Stacks g file) e a b = ⊤
+Wrote (orders.Build text output) e a b = e ≡ ending.Done → Told a.told b.told (streams.Builds (file_name text) (file_name output))
 
 -- The verdict of the check is a doubt about a chunk.
 abbrev pub IsInDoubt : Work → ℕ → Doubt → World → Type 0
@@ -60,6 +66,23 @@ pub record Doubts (k : Work) (chunk : ℕ) (doubt : Doubt) (a b : Outside) : Typ
   pub verdict : Stands k a b (λ w v s t. IsInDoubt k chunk doubt w × (t ≡ s))
   pub counts : Counted Kept Kept Kept a b
 
+-- The work is the building of a text that is refused for this line and reason.
+abbrev pub IsUnbuilding : Work → ℕ → BuildReason → World → Type 0
+IsUnbuilding (Builds text output) line reason w = IsRefusedText (file w text) line reason
+IsUnbuilding _ line reason w = ⊥
+
+-- The work is the building of a text.
+abbrev pub IsBuild : Work → Type 0
+IsBuild (Builds text output) = ⊤
+IsBuild _ = ⊥
+
+-- A text is refused. The files, the open output and the output sink are as before, and no fault was counted.
+pub record Unbuilds (k : Work) (line : ℕ) (reason : BuildReason) (a b : Outside) : Type 0 where
+  pub build : IsBuild k
+  pub refused : Stands k a b (λ w v s t. IsUnbuilding k line reason w × (t ≡ s))
+  pub sink : b.sink ≡ a.sink
+  pub counts : Counted Kept Kept Kept a b
+
 -- The state and the counts of faults after an order, for each ending.
 pub record Carries (o : Order) (e : Ending) (a b : Outside) : Type 0 where
   pub leaves : Leaves (work_of o) (way_of e) a b
@@ -75,6 +98,7 @@ abbrev pub CarriesTo : Order → Answer → Outside → Outside → Type 0
 CarriesTo o answers.Usage a b = ⊥
 CarriesTo o (answers.Ended end) a b = Carries o end a b
 CarriesTo o (answers.Doubted chunk doubt) a b = Doubts (work_of o) chunk doubt a b
+CarriesTo o (answers.Unbuilt line reason) a b = Unbuilds (work_of o) line reason a b
 
 -- The words aren't an order and nothing is done; or memory ran out while they were read, and nothing is done;
 -- or they are an order, which is carried out.
@@ -144,12 +168,19 @@ pub data IsVerdictStatus (g : Given) (t : Three) (answer : ℕ) : Type 0 where
   ByVerdict : (x : Verdict) → VerdictOf g t x → answer ≡ status_of_verdict x → IsVerdictStatus g t answer
   ForMemory : answer ≡ 5 → IsVerdictStatus g t answer
 
+-- The status is that of what is built of the text in a file, or memory ran out.
+pub data IsBuildStatus (text : Option (List ℕ)) (answer : ℕ) : Type 0 where
+  ByChunk : (chunk : List ℕ) → option_map build_of text ≡ Some (Ok chunk) → answer ≡ 0 → IsBuildStatus text answer
+  ByRefusal : (refusal : builds.Refusal) → option_map build_of text ≡ Some (Err refusal) → answer ≡ 8 → IsBuildStatus text answer
+  OutOfMemory : answer ≡ 5 → IsBuildStatus text answer
+
 -- The status is the one with which the work ends if nothing fails, or memory ran out.
 abbrev pub HasStatus : Work → ℕ → World → Type 0
 HasStatus (Over r input) answer w = IsPlannedStatus (plan_in r input w).end answer
 HasStatus (Joins folder output) answer w = IsPlannedStatus (assembling folder output w.files).end answer
 HasStatus (Alone p) answer w = IsPlannedStatus p.end answer
 HasStatus (Checks g input output receipt) answer w = IsVerdictStatus g (three input output receipt w) answer
+HasStatus (Builds text output) answer w = IsBuildStatus (file w text) answer
 
 -- The check has a doubt, and the line says so.
 pub record IsDoubted (k : Work) (a b : Outside) (e f : SinkState) : Type 0 where
@@ -157,6 +188,13 @@ pub record IsDoubted (k : Work) (a b : Outside) (e f : SinkState) : Type 0 where
   pub doubt : Doubt
   pub doubts : Doubts k chunk doubt a b
   pub said : IsSaid (doubt_line chunk doubt) e f
+
+-- A text is refused, and the line says so.
+pub record IsUnbuilt (k : Work) (a b : Outside) (e f : SinkState) : Type 0 where
+  pub line : ℕ
+  pub reason : BuildReason
+  pub unbuilds : Unbuilds k line reason a b
+  pub said : IsSaid (unbuilt_line line reason) e f
 
 -- A chunk of the recording is refused: this is the plan's end, all its effects are done, and the line says
 -- so.

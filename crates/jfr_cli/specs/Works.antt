@@ -19,6 +19,7 @@ use Rattle.jfr_verify.specs.declared.verdict.Verdict.TheVariants.{Verified}
 use Rattle.jfr_verify.specs.declared.verdict.Verdict.TheVariants as verdicts
 use Rattle.jfr_verify.specs.Verdicts.{LacksOne, VerdictOf, three}
 use Rattle.jfr_receipt.specs.Receipting.{receipting}
+use Rattle.jfr_build.specs.Streams.{building}
 use Rattle.jfr_report.specs.Reports.{printing, summing, describing, folding}
 use Rattle.jfr_demo.specs.Demo.{sampled}
 use Rattle.jfr_words.specs.declared.order.Order.{Order}
@@ -26,12 +27,14 @@ use Rattle.jfr_words.specs.declared.order.Order.TheVariants as orders
 use Rattle.jfr_words.specs.Words.{file_name}
 
 -- The work of an order: a rule over one recording, the files of a folder joined to an output, a plan that
--- needs no file, or a check of three files with a filter: the input, the output and its receipts.
+-- needs no file, a check of three files with a filter (the input, the output and its receipts), or the
+-- building of a text file and an output.
 pub data Work : Type 0 where
   Over : Rule → List ℕ → Work
   Joins : List ℕ → List ℕ → Work
   Alone : Plan → Work
   Checks : Given → List ℕ → List ℕ → List ℕ → Work
+  Builds : List ℕ → List ℕ → Work
 
 -- The sample's text is written.
 abbrev pub sample_plan : List ℕ → Plan
@@ -65,14 +68,16 @@ work_of (orders.Sample seed events) = Alone (sample_plan (sampled seed events))
 work_of (orders.Receipt g input receipt) = Over (receipting g (file_name receipt)) (file_name input)
 work_of (orders.Verify g input output receipt) = Checks g (file_name input) (file_name output) (file_name receipt)
 work_of (orders.Stacks g file) = Over (folding g) (file_name file)
+work_of (orders.Build text output) = Builds (file_name text) (file_name output)
 
 -- The claim holds of the plan of the work, given the files of a place. A check has the plan of its verdict, of
--- which there is at most one.
+-- which there is at most one. The plan of a text that is refused has no end; the refusal is the answer.
 abbrev pub Plans : Work → World → (Plan → Type 0) → Type 0
 Plans (Over r input) w P = P (plan_in r input w)
 Plans (Joins folder output) w P = P (assembling folder output w.files)
 Plans (Alone p) w P = P p
 Plans (Checks g input output receipt) w P = (x : Verdict) × VerdictOf g (three input output receipt w) x × P (verdict_plan x)
+Plans (Builds text output) w P = P (building output (file w text))
 
 -- The target of the work: a file, parts, or text.
 abbrev pub target_of : Work → Target
@@ -80,13 +85,16 @@ target_of (Over r input) = r.target
 target_of (Joins folder output) = File
 target_of (Alone p) = Text
 target_of (Checks g input output receipt) = Text
+target_of (Builds text output) = File
 
--- The state after a read fault. It can't happen if no file is read, and changes nothing in a check.
+-- The state after a read fault. It can't happen if no file is read, and nothing was done yet in a check or a
+-- build.
 abbrev pub HaltsAs : Bool → Work → World → World → Stand → Stand → Type 0
 HaltsAs steady (Over r input) w v s t = HaltedIn steady r [] (file w input) v.input s t
 HaltsAs steady (Joins folder output) w v s t = Unfinished steady (effects (assembling folder output w.files).steps) s t
 HaltsAs steady (Alone p) w v s t = ⊥
 HaltsAs steady (Checks g input output receipt) w v s t = (t ≡ s) × (IsTrue steady → LacksOne (three input output receipt w))
+HaltsAs steady (Builds text output) w v s t = (t ≡ s) × (IsTrue steady → file w text ≡ None)
 
 -- The state after memory ran out: the first effects are done. A check has only one, which is its last step.
 abbrev pub StopsAs : Work → World → Stand → Stand → Type 0
@@ -94,6 +102,7 @@ StopsAs (Over r input) w s t = SomeDone (effects (plan_in r input w).steps) s t
 StopsAs (Joins folder output) w s t = SomeDone (effects (assembling folder output w.files).steps) s t
 StopsAs (Alone p) w s t = SomeDone (effects p.steps) s t
 StopsAs (Checks g input output receipt) w s t = t ≡ s
+StopsAs (Builds text output) w s t = SomeDone (effects (building output (file w text)).steps) s t
 
 -- The text on the output sink, for work that writes text.
 abbrev pub text_on : Target → SinkState → Option (List ℕ)
@@ -127,6 +136,7 @@ KeepsPlace (Over r input) a b = ⊤
 KeepsPlace (Joins folder output) a b = ⊤
 KeepsPlace (Alone p) a b = b ≡ a
 KeepsPlace (Checks g input output receipt) a b = ⊤
+KeepsPlace (Builds text output) a b = ⊤
 
 -- The place is steady, and the three files of a check exist.
 pub record CanCheck (input output receipt : List ℕ) (s : State) : Type 0 where
@@ -143,6 +153,7 @@ CanReadAll (Over r input) a = CanRead input a
 CanReadAll (Joins folder output) a = IsTrue a.steady × IsSome a.told
 CanReadAll (Alone p) a = ⊤
 CanReadAll (Checks g input output receipt) a = CanCheck input output receipt a
+CanReadAll (Builds text output) a = CanRead text a
 
 -- The place is steady, no output is open, and the names that the order creates are new. Never true for an
 -- order that writes text, whose write faults are those of the output stream.
@@ -157,3 +168,4 @@ CanCreateFor (orders.Sample seed events) a = ⊥
 CanCreateFor (orders.Receipt g input receipt) a = CanCreate (file_name receipt) a
 CanCreateFor (orders.Verify g input output receipt) a = ⊥
 CanCreateFor (orders.Stacks g file) a = ⊥
+CanCreateFor (orders.Build text output) a = CanCreate (file_name output) a

@@ -1,4 +1,5 @@
 //! How the program ends.
+use jfr_build::BuildReason;
 use jfr_header::Ending;
 use jfr_verify::Doubt;
 
@@ -11,4 +12,6 @@ pub enum Answer {
     Ended(Ending),
     /// A check has a doubt about the chunk with this number.
     Doubted { chunk: u64, doubt: Doubt },
+    /// A text that was to be built is refused for the line with this number.
+    Unbuilt { line: u64, reason: BuildReason },
 }

@@ -10,6 +10,7 @@ ghost use Rattle.jfr_cli.specs.Texts.{IsWritten};
 ghost use Rattle.jfr_cli.specs.Works.{verified_line};
 
 use crate::answer::Answer;
+use jfr_build::{BuildEnding, build_stream};
 use jfr_demo::sample_text;
 use jfr_filter::Filter;
 use jfr_header::Ending;
@@ -80,6 +81,7 @@ pub(crate) fn carry_out<P: Place, O: Sink>(
             verify(alloc, place, out, filter, &names)
         }
         Order::Stacks { filter, file } => Answer::Ended(stacks(alloc, place, out, filter, file)),
+        Order::Build { text, output } => build(alloc, place, out, text, output),
     }
 }
 
@@ -205,6 +207,24 @@ fn say_text<O: Sink>(out: &mut O, text: &str) -> Ending
     match out.write(text.as_bytes()) {
         Ok(()) => Ending::Done,
         Err(fault) => Ending::of_write(fault),
+    }
+}
+
+fn build<P: Place, O: Sink>(
+    alloc: Global,
+    place: &mut P,
+    _out: &mut O,
+    text: &Text,
+    output: &Text,
+) -> Answer
+    ensures { CarriesTo (orders.Build text.now output.now) result (outside (P.state place.old) (O.state _out.old)) (outside (P.state place.new) (O.state _out.new)) }
+{
+    match build_stream(alloc, place, text.as_str(), output.as_str()) {
+        BuildEnding::Done => Answer::Ended(Ending::Done),
+        BuildEnding::Refused { line, reason } => Answer::Unbuilt { line, reason },
+        BuildEnding::ReadFault => Answer::Ended(Ending::ReadFault),
+        BuildEnding::WriteFault => Answer::Ended(Ending::WriteFault),
+        BuildEnding::Memory => Answer::Ended(Ending::Memory),
     }
 }
 

@@ -1,9 +1,10 @@
 //! The exit status of an ending, and its line on the error sink.
 ghost use Rattle.std.specs.Prelude.{◌≡◌, ℕ, List, Some, IfOk, string_bytes};
-ghost use Rattle.jfr_cli.specs.Answers.{status_of, line_of, answer_status, answer_line, doubt_line, usage_line, refusal_line, IsAnswered};
+ghost use Rattle.jfr_cli.specs.Answers.{status_of, line_of, answer_status, answer_line, doubt_line, unbuilt_line, usage_line, refusal_line, IsAnswered};
 
 use crate::answer::Answer;
 use jfr_base::Refusal;
+use jfr_build::BuildReason;
 use jfr_header::Ending;
 use jfr_outside::{Fault, Sink};
 use jfr_verify::Doubt;
@@ -30,6 +31,9 @@ const TOO_MANY_PARTS: u8 = 6;
 /// The status if a check has a doubt about an output.
 const DOUBTED: u8 = 7;
 
+/// The status if a text that was to be built is refused.
+const UNBUILT: u8 = 8;
+
 /// Writes the line of an answer, if it has one, and returns the status.
 pub fn say_answer<E: Sink>(alloc: Global, err: &mut E, answer: Answer) -> u8
     ensures { IsAnswered (answer_status answer) (answer_line answer) result (E.state err.old) (E.state err.new) }
@@ -38,6 +42,7 @@ pub fn say_answer<E: Sink>(alloc: Global, err: &mut E, answer: Answer) -> u8
         Answer::Usage => say_usage(err),
         Answer::Ended(ending) => say_ending(alloc, err, ending),
         Answer::Doubted { chunk, doubt } => say_doubt(alloc, err, chunk, doubt),
+        Answer::Unbuilt { line, reason } => say_unbuilt(alloc, err, line, reason),
     }
 }
 
@@ -47,7 +52,7 @@ fn say_usage<E: Sink>(err: &mut E) -> u8
 {
     say_line(
         err,
-        "usage: jfr print|summary|metadata|scrub|disassemble|assemble|sample|receipt|verify|stacks\n",
+        "usage: jfr print|summary|metadata|scrub|disassemble|assemble|sample|receipt|verify|build|stacks\n",
         USAGE,
     )
 }
@@ -79,6 +84,21 @@ fn doubt_text(alloc: Global, chunk: u64, doubt: Doubt) -> Result<String, AllocEr
 {
     let name = doubt.name();
     format!(in alloc; "chunk {chunk}: {name}\n")
+}
+
+// Writes the line of a text that is refused, and returns its status.
+fn say_unbuilt<E: Sink>(alloc: Global, err: &mut E, line: u64, reason: BuildReason) -> u8
+    ensures { IsAnswered 8 (Some (unbuilt_line line reason)) result (E.state err.old) (E.state err.new) }
+{
+    say_made(err, unbuilt_text(alloc, line, reason), UNBUILT)
+}
+
+// The line of a text that is refused.
+fn unbuilt_text(alloc: Global, line: u64, reason: BuildReason) -> Result<String, AllocError>
+    ensures { IfOk result (λ text. string_bytes text ≡ unbuilt_line line reason) }
+{
+    let name = reason.name();
+    format!(in alloc; "line {line}: {name}\n")
 }
 
 // The line of a refused recording.

@@ -1,5 +1,5 @@
 //! The top call.
-ghost use Rattle.std.specs.Prelude.{◌≡◌, ◌≢◌, ◌<◌, ◌≤◌, ◌⊎◌, ℕ, List, None, Some, IfSome, true, false};
+ghost use Rattle.std.specs.Prelude.{◌≡◌, ◌≢◌, ◌<◌, ◌≤◌, ◌⊎◌, ℕ, List, None, Some, Ok, IfSome, true, false};
 ghost use Rattle.jfr_outside.specs.Counts.{Rose};
 ghost use Rattle.jfr_outside.specs.World.{Told};
 ghost use Rattle.jfr_header.specs.Fronts.{Whole};
@@ -18,13 +18,17 @@ ghost use Rattle.jfr_renumber.specs.Headline.{IsRenumberedOutput, Renumbers};
 ghost use Rattle.jfr_renumber.specs.Renumbers.{renumbered};
 ghost use Rattle.jfr_receipt.specs.Receipting.{IsReceipted, scrub_receipt};
 ghost use Rattle.jfr_verify.specs.Verdicts.{AllVerified, AreScrubs, three};
+ghost use Rattle.jfr_build.specs.Accepted.{IsBuiltOf};
+ghost use Rattle.jfr_build.specs.Builds.{build_of};
+ghost use Rattle.jfr_build.specs.Streams.{Builds};
 ghost use Rattle.jfr_cli.specs.Works.{work_of, target_of, KeepsSink, KeepsPlace, CanReadAll, CanCreateFor};
 ghost use Rattle.jfr_cli.specs.Answers.{usage_line, read_line, write_line, parts_line, IsSaid, IsMemorySaid};
-ghost use Rattle.jfr_cli.specs.Runs.{Obeys, Under, Ended, Halted, Broken, StandsPartly, CountsOnce, HasStatus, IsDoubted, IsRefused};
+ghost use Rattle.jfr_cli.specs.Runs.{Obeys, Under, Ended, Halted, Broken, StandsPartly, CountsOnce, HasStatus, IsDoubted, IsRefused, IsUnbuilt};
 
 use crate::answer::Answer;
 use crate::carry::carry_out;
 use crate::say::say_answer;
+use jfr_build::built_is_accepted;
 use jfr_header::Ending;
 use jfr_outside::{Place, Sink, Words};
 use jfr_verify::{kept_is_passed, scrubs_are_verified, verdict_is_unique};
@@ -44,7 +48,7 @@ fn obey<P: Place, O: Sink>(alloc: Global, words: &Words, place: &mut P, out: &mu
 
 /// Carries out the order that the words give, over a place and the output sink. Unless it succeeds, writes a
 /// line to the error sink. Returns the exit status: 0 done, 1 usage error, 2 recording refused, 3 read fault,
-/// 4 write fault, 5 out of memory, 6 too many parts, 7 a doubt about an output.
+/// 4 write fault, 5 out of memory, 6 too many parts, 7 a doubt about an output, 8 a text that isn't built.
 pub fn run<P: Place, O: Sink, E: Sink>(
     alloc: Global,
     words: &Words,
@@ -82,6 +86,13 @@ pub fn run<P: Place, O: Sink, E: Sink>(
         → (Rose (P.state place.old).read_faults (P.state place.new).read_faults → ⊥) → (Rose (O.state out.old).faults (O.state out.new).faults → ⊥)
         → IfSome (P.state place.old).told (λ w. AreScrubs g (three (file_name input) (file_name output) (file_name receipt) w) → (result ≡ 0) ⊎ (result ≡ 5)) }
 
+    // With 0 the output of a build has the chunk of the text: a chunk that is accepted, with exactly the
+    // classes, the events and the constants of the lines. `each_built` says it of every chunk of which the
+    // clauses of the other statuses speak.
+    ensures built { result ≡ 0 → (text output : List ℕ) → order_of words.now ≡ Some (orders.Build text output)
+        → Told (P.state place.old).told (P.state place.new).told (Builds (file_name text) (file_name output)) }
+    ensures each_built { (text chunk : List ℕ) → build_of text ≡ Ok chunk → IsBuiltOf text chunk }
+
     // The state after each status, and the line on the error sink.
     ensures done { result ≡ 0 → Under words.now (λ o. Ended (work_of o) Fine (outside (P.state place.old) (O.state out.old)) (outside (P.state place.new) (O.state out.new))) }
     ensures done_silent { result ≡ 0 → E.state err.new ≡ E.state err.old }
@@ -94,9 +105,10 @@ pub fn run<P: Place, O: Sink, E: Sink>(
     ensures too_many_said { result ≡ 6 → IsSaid parts_line (E.state err.old) (E.state err.new) }
     ensures parts { result ≡ 6 → Under words.now (λ o. target_of (work_of o) ≡ Parts) }
     ensures doubted { result ≡ 7 → Under words.now (λ o. IsDoubted (work_of o) (outside (P.state place.old) (O.state out.old)) (outside (P.state place.new) (O.state out.new)) (E.state err.old) (E.state err.new)) }
+    ensures unbuilt { result ≡ 8 → Under words.now (λ o. IsUnbuilt (work_of o) (outside (P.state place.old) (O.state out.old)) (outside (P.state place.new) (O.state out.new)) (E.state err.old) (E.state err.new)) }
     ensures memory { result ≡ 5 → (o : Order) → order_of words.now ≡ Some o → StandsPartly (work_of o) (outside (P.state place.old) (O.state out.old)) (outside (P.state place.new) (O.state out.new)) }
     ensures memory_said { result ≡ 5 → IsMemorySaid (E.state err.old) (E.state err.new) }
-    ensures statuses { result ≤ 7 }
+    ensures statuses { result ≤ 8 }
 
     // A fault is answered only if it was counted, and none is passed over.
     ensures read_fault { result ≡ 3 → Rose (P.state place.old).read_faults (P.state place.new).read_faults }
@@ -125,6 +137,7 @@ pub fn run<P: Place, O: Sink, E: Sink>(
     kept_is_passed();
     verdict_is_unique();
     scrubs_are_verified();
+    built_is_accepted();
     let answer = obey(alloc, words, place, out);
     say_answer(alloc, err, answer)
 }

@@ -221,7 +221,7 @@ fn the_first_event_decides(rt: HostRuntime) -> Result<(), Fail> {
 #[test]
 fn other_words_are_a_usage_fault(rt: HostRuntime) -> Result<(), Fail> {
     let usage =
-        "usage: jfr print|summary|metadata|scrub|disassemble|assemble|sample|receipt|verify|stacks\n";
+        "usage: jfr print|summary|metadata|scrub|disassemble|assemble|sample|receipt|verify|build|stacks\n";
     for line in [
         &[][..],
         &["--help"][..],

@@ -114,6 +114,10 @@ const LINES: &[(&str, &str)] = &[
         "stacks --categories --events --events A a",
         "stacks 101000 of a",
     ),
+    ("build t", "Usage"),
+    ("build t o x", "Usage"),
+    ("build --json t o", "Usage"),
+    ("build t o", "build t to o"),
 ];
 
 // The words of a line; none of the empty one.
@@ -230,6 +234,9 @@ fn text_of(alloc: Global, order: &Order) -> Result<String, Fail> {
             let options = options_of(alloc, filter)?;
             let text = format!(in alloc; "stacks {} of {}", options.as_str(), file.as_str())?;
             Ok(text)
+        }
+        Order::Build { text, output } => {
+            Ok(format!(in alloc; "build {} to {}", text.as_str(), output.as_str())?)
         }
     }
 }

@@ -189,7 +189,8 @@ order_usable (command ∷ rest) =
     (gives_if IsUsableOrder (bytes_eq command (codes "sample")) _ _ (sample_usable rest)
     (gives_if IsUsableOrder (bytes_eq command (codes "receipt")) _ _ (filtered_usable receipt_named (λ g words. gives_map IsUsableOrder _ (two_names words) (λ names. tt)) nothing_given rest)
     (gives_if IsUsableOrder (bytes_eq command (codes "verify")) _ _ (filtered_usable verification_named (λ g words. gives_map IsUsableOrder _ (three_names words) (λ names. tt)) nothing_given rest)
-    (gives_if IsUsableOrder (bytes_eq command (codes "stacks")) _ None (stacks_usable nothing_given rest) tt)))))))))
+    (gives_if IsUsableOrder (bytes_eq command (codes "stacks")) _ _ (stacks_usable nothing_given rest)
+    (gives_if IsUsableOrder (bytes_eq command (codes "build")) _ None (gives_map IsUsableOrder _ (two_names rest) (λ names. tt)) tt))))))))))
 
 pub usable_read : (words : List (List ℕ)) (r : Result Order WordsFault) → IsRead (order_of words) r (λ order. order) → IfOk r IsUsableOrder
 usable_read words (Ok order) e = let P : Option Order → Type 0 = Gives IsUsableOrder in subst P e (order_usable words)

@@ -1,7 +1,7 @@
 -- The orders of some lines.
 use Rattle.std.specs.Prelude.{◌≡◌, ◌^◌, true, false, [], ◌∷◌, codes, Some, None, refl}
 use Rattle.jfr_filter.specs.Filters.{nothing_given}
-use Rattle.jfr_words.specs.declared.order.Order.TheVariants.{Print, Summary, Metadata, Scrub, Disassemble, Assemble, Sample, Receipt, Verify, Stacks}
+use Rattle.jfr_words.specs.declared.order.Order.TheVariants.{Print, Summary, Metadata, Scrub, Disassemble, Assemble, Sample, Receipt, Verify, Stacks, Build}
 use Rattle.jfr_words.specs.Numbers.{number_of}
 use Rattle.jfr_words.specs.Words.{order_of}
 
@@ -141,6 +141,10 @@ dashed_folder_row = refl
 assemble_row : order_of (codes "assemble" ∷ codes "parts" ∷ codes "b" ∷ []) ≡ Some (Assemble (codes "parts") (codes "b"))
 unfolding order_of
 assemble_row = refl
+
+build_row : order_of (codes "build" ∷ codes "a" ∷ codes "b" ∷ []) ≡ Some (Build (codes "a") (codes "b"))
+unfolding order_of
+build_row = refl
 
 sample_row : order_of (codes "sample" ∷ codes "4294967295" ∷ codes "1000000" ∷ []) ≡ Some (Sample 4294967295 1000000)
 unfolding order_of number_of

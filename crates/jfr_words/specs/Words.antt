@@ -5,7 +5,7 @@ use Rattle.std.specs.Str.{bytes_eq}
 use Rattle.jfr_filter.specs.Filters.{Given, nothing_given}
 use Rattle.jfr_split.specs.Parts.{IsUsable}
 use Rattle.jfr_words.specs.declared.order.Order.{Order}
-use Rattle.jfr_words.specs.declared.order.Order.TheVariants.{Print, Summary, Metadata, Disassemble, Assemble, Sample, Receipt, Verify}
+use Rattle.jfr_words.specs.declared.order.Order.TheVariants.{Print, Summary, Metadata, Disassemble, Assemble, Sample, Receipt, Verify, Build}
 use Rattle.jfr_words.specs.declared.order.WordsFault.{WordsFault}
 use Rattle.jfr_words.specs.declared.order.WordsFault.TheVariants.{Usage, Memory}
 use Rattle.jfr_words.specs.Filtered.{filtered_from}
@@ -47,6 +47,10 @@ verification_named g words = option_map (λ names. Verify g names.0 names.1 name
 abbrev pub verification_of : List (List ℕ) → Option Order
 verification_of words = filtered_from verification_named nothing_given words
 
+-- The order of the words after `build`: the text and the output.
+abbrev pub building_of : List (List ℕ) → Option Order
+building_of words = option_map (λ names. Build names.0 names.1) (two_names words)
+
 -- The order of the words. The first one is the command.
 unfoldable pub order_of : List (List ℕ) → Option Order
 order_of [] = None
@@ -61,6 +65,7 @@ order_of (command ∷ rest) =
     if bytes_eq command (codes "receipt") then receipt_of rest else
     if bytes_eq command (codes "verify") then verification_of rest else
     if bytes_eq command (codes "stacks") then stacks_from nothing_given rest else
+    if bytes_eq command (codes "build") then building_of rest else
     None
 
 -- The name of a file is the word in UTF-8.

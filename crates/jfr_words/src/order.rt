@@ -65,6 +65,11 @@ pub enum Order {
         filter: Filter,
         file: Text,
     },
+    /// Builds a recording of the lines of a text.
+    Build {
+        text: Text,
+        output: Text,
+    },
 }
 
 /// Why the words gave no order.

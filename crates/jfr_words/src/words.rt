@@ -1,7 +1,7 @@
 //! Reading the words of the command line as an order.
 ghost use Rattle.std.specs.Prelude.{IfOk, ◌∷◌};
 ghost use Rattle.std.specs.Str.{chars};
-ghost use Rattle.jfr_words.specs.Words.{order_of, summary_of, metadata_of, assembly_of, receipt_of, verification_of, IsRead, IsUsableOrder};
+ghost use Rattle.jfr_words.specs.Words.{order_of, summary_of, metadata_of, assembly_of, receipt_of, verification_of, building_of, IsRead, IsUsableOrder};
 
 use crate::filter::read_filter;
 use crate::left::Left;
@@ -42,6 +42,7 @@ fn read_command(alloc: Global, command: &str, left: &mut Left<'_>) -> Result<Ord
         "receipt" => read_receipt(alloc, left),
         "verify" => read_verification(alloc, left),
         "stacks" => read_stacks(alloc, left),
+        "build" => read_building(alloc, left),
         _ => Err(WordsFault::Usage),
     }
 }
@@ -90,4 +91,11 @@ fn read_verification(alloc: Global, left: &mut Left<'_>) -> Result<Order, WordsF
         output,
         receipt,
     })
+}
+
+fn read_building(alloc: Global, left: &mut Left<'_>) -> Result<Order, WordsFault>
+    ensures { IsRead (building_of left.old) result (λ order. order) }
+{
+    let (text, output) = read_two_names(alloc, left)?;
+    Ok(Order::Build { text, output })
 }

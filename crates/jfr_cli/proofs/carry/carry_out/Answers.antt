@@ -56,3 +56,9 @@ returns-in-Stacks g c =
     let a = outside (g.P.Place.state c.args.place.now) (g.O.Sink.state c.args.out.now) in
     let b = outside (g.P.Place.state c.stacks.new.place) (g.O.Sink.state c.stacks.new.out) in
     subst (λ o. Carries o c.stacks.result a b) (sym c.in-Stacks.is) c.stacks.ensures
+
+pub returns-in-Build : goal.returns-in-Build
+returns-in-Build g c =
+    let a = outside (g.P.Place.state c.args.place.now) (g.O.Sink.state c.args.out.now) in
+    let b = outside (g.P.Place.state c.build.new.place) (g.O.Sink.state c.build.new._out) in
+    subst (λ o. CarriesTo o c.build.result a b) (sym c.in-Build.is) c.build.ensures

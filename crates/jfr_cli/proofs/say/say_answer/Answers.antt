@@ -10,3 +10,6 @@ returns-in-Ended g c = subst (λ x. IsAnswered (answer_status x) (answer_line x)
 
 pub returns-in-Doubted : goal.returns-in-Doubted
 returns-in-Doubted g c = subst (λ x. IsAnswered (answer_status x) (answer_line x) c.say_doubt.result (g.E.Sink.state c.args.err.now) (g.E.Sink.state c.say_doubt.new.err)) (sym c.in-Doubted.is) c.say_doubt.ensures
+
+pub returns-in-Unbuilt : goal.returns-in-Unbuilt
+returns-in-Unbuilt g c = subst (λ x. IsAnswered (answer_status x) (answer_line x) c.say_unbuilt.result (g.E.Sink.state c.args.err.now) (g.E.Sink.state c.say_unbuilt.new.err)) (sym c.in-Unbuilt.is) c.say_unbuilt.ensures

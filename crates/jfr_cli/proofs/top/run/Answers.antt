@@ -3,7 +3,7 @@ use Rattle.jfr_plan.specs.Effects.{Outside, outside}
 use Rattle.jfr_scrub.proofs.AgainLaws.{is_scrubbed}
 use Rattle.jfr_renumber.proofs.HeadlineLaws.{is_output}
 use Rattle.jfr_receipt.proofs.ReceiptLaws.{is_receipted}
-use Rattle.jfr_cli.proofs.Clauses.{Answers, answers_by, only_parts, text_writes, usage_told, usage_only, untouched, headline_told, done_told, refused_told, halted_told, broken_told, parts_told, memory_told, memory_said, statuses, no_read_passed, no_write_passed, no_text_passed, one_count, complete, can_read, can_create, sink_told, place_told, same_told, doubted_told, renumbered_told, verified_told, scrubs_told}
+use Rattle.jfr_cli.proofs.Clauses.{Answers, answers_by, only_parts, text_writes, usage_told, usage_only, untouched, headline_told, done_told, refused_told, halted_told, broken_told, parts_told, memory_told, memory_said, statuses, no_read_passed, no_write_passed, no_text_passed, one_count, complete, can_read, can_create, sink_told, place_told, same_told, doubted_told, renumbered_told, verified_told, scrubs_told, built_told, unbuilt_told}
 use Rattle.jfr_cli.proofs.top.run.Given.{Over}
 use Rattle.jfr_cli.proofs.top.run.Goals as goal
 
@@ -42,6 +42,15 @@ returns-clause-scrubs_verified g c = scrubs_told c.verdict_is_unique.ensures.one
 
 pub returns-clause-doubted : goal.returns-clause-doubted
 returns-clause-doubted g c = doubted_told (answered g c)
+
+pub returns-clause-built : goal.returns-clause-built
+returns-clause-built g c = built_told (answered g c)
+
+pub returns-clause-each_built : goal.returns-clause-each_built
+returns-clause-each_built g c = c.built_is_accepted.ensures
+
+pub returns-clause-unbuilt : goal.returns-clause-unbuilt
+returns-clause-unbuilt g c = unbuilt_told (answered g c)
 
 pub returns-clause-done : goal.returns-clause-done
 returns-clause-done g c = λ h. (done_told (answered g c) h).0

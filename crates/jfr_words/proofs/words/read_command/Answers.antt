@@ -45,6 +45,10 @@ pub returns-in-stacks : goal.returns-in-stacks
 unfolding order_of
 returns-in-stacks c = subst (λ o. IsRead o c.read_stacks.result (λ order. order)) (sym (order_at c.args.left.now _ (codes "stacks") refl c.in-stacks.is)) c.read_stacks.ensures
 
+pub returns-in-build : goal.returns-in-build
+unfolding order_of
+returns-in-build c = subst (λ o. IsRead o c.read_building.result (λ order. order)) (sym (order_at c.args.left.now _ (codes "build") refl c.in-build.is)) c.read_building.ensures
+
 pub returns-in_default : goal.returns-in_default
 unfolding order_of
 returns-in_default c =
@@ -59,4 +63,5 @@ returns-in_default c =
       is_other _ (codes "receipt") c.utf8.command refl c.in_default.not-receipt,
       is_other _ (codes "verify") c.utf8.command refl c.in_default.not-verify,
       is_other _ (codes "stacks") c.utf8.command refl c.in_default.not-stacks,
+      is_other _ (codes "build") c.utf8.command refl c.in_default.not-build,
     )

@@ -1,0 +1,83 @@
+// Recordings that are built of texts.
+use crate::runs::says;
+use jfr_outside::MemoryPlace;
+use std::alloc::Global;
+use std::test::Fail;
+
+// One event with one field.
+const TEXT: &str = "class 5 long\nevent 8 t.A\nfield n 5 -\nrecord 8 300\n";
+
+// The event and the checkpoint, at the end of the chunk.
+const RECORDS: &[u8] =
+    b"\x88\x80\x80\x80\x00\x08\xac\x02\x8b\x80\x80\x80\x00\x01\x00\x00\x00\x00\x00";
+
+// Texts that are refused, and the lines that say so.
+const REFUSED: [(&[u8], &str); 12] = [
+    (
+        b"class 5 long\nevent 8 t.A\nfield n 5 -\nrecord 8 x\n",
+        "line 4: ValueBad\n",
+    ),
+    (
+        b"class 5 long\nevent 8 t.A\nfield n 6 -\nrecord 8 300\n",
+        "line 3: UnknownType\n",
+    ),
+    (b"class 5 long\nclass 5 int\n", "line 2: ClassTwice\n"),
+    (b"\xef\xbb\xbfclass 5 long\n", "line 1: LineBad\n"),
+    (
+        b"class 5 long\r\nevent 8 t.A\r\nfield n 5 -\r\n",
+        "line 3: LineBad\n",
+    ),
+    (b"class\t5 long\n", "line 1: LineBad\n"),
+    (b"class  5 long\n", "line 1: LineBad\n"),
+    (b"\n\nclass 5 \xff\n", "line 3: LineBad\n"),
+    (b"record 8 1\nclass 5 long\n", "line 2: LineBad\n"),
+    (
+        b"class 6 java.lang.String\nconstant 6 1 \"a\n",
+        "line 2: ValueBad\n",
+    ),
+    (
+        b"class 5 long\nclass 9 a\nfield n 5 a\nconstant 9 1 [9223372036854775807 1 2",
+        "line 4: ValueBad\n",
+    ),
+    (b"class 9223372036854775808 long", "line 1: LineBad\n"),
+];
+
+// A place with the text.
+fn texts(alloc: Global) -> Result<MemoryPlace, Fail> {
+    let mut place = MemoryPlace::new(alloc);
+    place.put("t", TEXT.as_bytes())?;
+    Ok(place)
+}
+
+#[test]
+fn a_text_is_built(rt: HostRuntime) -> Result<(), Fail> {
+    let alloc = rt.alloc();
+    let mut place = texts(alloc)?;
+    for (line, status, text, fault) in [
+        (&["build", "t", "o"][..], 0, "", ""),
+        (&["print", "o"][..], 0, "t.A {\n  n = 300\n}\n", ""),
+        (&["scrub", "o", "p"][..], 0, "", ""),
+        (&["print", "p"][..], 0, "t.A {\n  n = 300\n}\n", ""),
+        (&["build", "t", "o"][..], 4, "", "write fault\n"),
+        (&["build", "none", "q"][..], 3, "", "read fault\n"),
+    ] {
+        says(&rt, alloc, &mut place, line, status, text, fault)?;
+    }
+    let built = place.file("o").ok_or("no output")?;
+    assert_eq!(&rt; built.len(), 212);
+    assert!(&rt; built.ends_with(RECORDS));
+    assert!(&rt; place.file("q").is_none());
+    Ok(())
+}
+
+#[test]
+fn texts_are_refused(rt: HostRuntime) -> Result<(), Fail> {
+    let alloc = rt.alloc();
+    for (text, fault) in REFUSED.iter() {
+        let mut place = MemoryPlace::new(alloc);
+        place.put("t", text)?;
+        says(&rt, alloc, &mut place, &["build", "t", "o"], 8, "", fault)?;
+        assert!(&rt; place.file("o").is_none());
+    }
+    Ok(())
+}
