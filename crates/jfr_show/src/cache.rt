@@ -18,10 +18,10 @@ use jfr_chunk::Chunk;
 use std::alloc::Global;
 
 /// The number of slots.
-const PLACES: usize = 2048;
+pub(crate) const PLACES: usize = 2048;
 
 /// The most bytes that a text in the cache may have.
-const LONGEST: usize = 4096;
+pub(crate) const LONGEST: usize = 4096;
 
 /// The text of the reference to a class and a key, with this number of references still to be followed, at
 /// this level.
@@ -113,6 +113,6 @@ impl TextCache {
 
 /// The slot for a class and a key. The keys of a class are often consecutive numbers, which get different
 /// slots.
-fn place_of(class: u64, key: u64) -> usize {
+pub(crate) fn place_of(class: u64, key: u64) -> usize {
     (key.wrapping_add(class.wrapping_mul(389)) % PLACES as u64) as usize
 }

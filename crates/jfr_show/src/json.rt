@@ -8,15 +8,18 @@
 //! So `MemberOrder` holds, for each class, the sorted order of its fields and the text before each value. It
 //! comes from a map of `serde_json`: once a chunk for a class whose fields all have short names, and for any
 //! other class anew for each value. `places.rt` finds where each field of a value starts, so that the fields
-//! can be written in any order.
+//! can be written in any order. `JsonCache` keeps the JSON of references for the next events.
 ghost use Rattle.std.specs.Prelude.{◌≡◌, ◌≤◌, ◌++◌, Some, IfOk, OnOk, slice_get, string_bytes};
 ghost use Rattle.serde_json.specs.Written.{compact_text};
 ghost use Rattle.jfr_chunk.specs.Parts.{events_of};
 ghost use Rattle.jfr_chunk.specs.Seen.{event_at};
 ghost use Rattle.jfr_value.specs.Nodes.{node_of};
+ghost use Rattle.jfr_show.specs.CachedJson.{AreCachedJson};
 ghost use Rattle.jfr_show.specs.Json.{event_data, event_json};
 ghost use Rattle.jfr_show.specs.Orders.{IsSource};
 
+mod cache;
+mod event;
 mod leaf;
 mod order;
 mod places;
@@ -28,6 +31,8 @@ mod value;
 use crate::TextBuilder;
 use crate::depth::Reach;
 use crate::reference::class_name;
+use cache::JsonCache;
+use event::push_event_node;
 use jfr_base::{NoMemory, Text};
 use jfr_chunk::{Chunk, Event};
 use jfr_path::fields_of;
@@ -36,23 +41,24 @@ use source::Source;
 use std::alloc::Global;
 use std::marker::Model;
 use string::push_string;
-use value::push_node;
 
 /// The initial capacity for a line.
 const LINE: usize = 1024;
 
-/// Writes events of a chunk as lines of JSON. Contracts see the chunk.
+/// Writes events of a chunk as lines of JSON, and keeps the JSON of their references. Contracts see the chunk.
 #[derive(Drop)]
 pub struct JsonWriter<'c, 'a> {
     alloc: Global,
     chunk: &'c Chunk<'a>,
     orders: Vec<Option<MemberOrder>>,
+    cache: JsonCache,
 }
 
 impl<'c, 'a> Model for JsonWriter<'c, 'a> {
     ghost use Rattle.std.specs.Coded.{codes};
     ghost use Rattle.jfr_meta.specs.Trees.{tree_code};
     ghost use Rattle.jfr_chunk.specs.Parts.{Parts};
+    ghost use Rattle.jfr_show.specs.CachedJson.{AreCachedJson};
     ghost use Rattle.jfr_show.specs.Orders.{AreOrders};
 
     ghost Value = { Parts };
@@ -61,7 +67,7 @@ impl<'c, 'a> Model for JsonWriter<'c, 'a> {
 
     ghost view = { λ w. w.chunk.now };
 
-    ghost invariant = { λ w. AreOrders w.chunk.now.classes w.orders.items };
+    ghost invariant = { λ w. AreOrders w.chunk.now.classes w.orders.items × AreCachedJson w.chunk.now w.cache };
 }
 
 impl<'c, 'a> JsonWriter<'c, 'a> {
@@ -73,14 +79,21 @@ impl<'c, 'a> JsonWriter<'c, 'a> {
             alloc,
             chunk,
             orders: orders_of(alloc, chunk.classes())?,
+            cache: JsonCache::new(alloc)?,
         })
     }
 
     /// Adds the line with the JSON of an event, in which references are followed to this depth.
-    pub fn show(&self, event: &Event<'_>, depth: u8, out: &mut TextBuilder) -> Result<(), NoMemory>
-        requires event { slice_get (events_of self.now) event.now.number ≡ Some (event_at event.now) }
+    pub fn show(
+        &mut self,
+        event: &Event<'_>,
+        depth: u8,
+        out: &mut TextBuilder,
+    ) -> Result<(), NoMemory>
+        requires event { slice_get (events_of self.old) event.now.number ≡ Some (event_at event.now) }
         requires depth { depth ≤ 8 }
-        ensures ok { OnOk result (out.new ≡ out.old ++ event_json self.now depth (node_of event.now.node)) }
+        ensures ok { OnOk result (out.new ≡ out.old ++ event_json self.old depth (node_of event.now.node)) }
+        ensures same { self.new ≡ self.old }
     {
         let source = Source {
             alloc: self.alloc,
@@ -88,7 +101,7 @@ impl<'c, 'a> JsonWriter<'c, 'a> {
             orders: &self.orders,
         };
         let mut line = String::with_capacity(self.alloc, LINE)?;
-        push_event(&source, event, depth, &mut line)?;
+        push_event(&source, &mut self.cache, event, depth, &mut line)?;
         out.push_str(line.as_str())?;
         out.push_ascii("\n")
     }
@@ -106,7 +119,7 @@ pub fn show_json(
     requires depth { depth ≤ 8 }
     ensures ok { OnOk result (out.new ≡ out.old ++ event_json chunk.now depth (node_of event.now.node)) }
 {
-    let writer = JsonWriter::new(alloc, chunk)?;
+    let mut writer = JsonWriter::new(alloc, chunk)?;
     writer.show(event, depth, out)
 }
 
@@ -129,13 +142,16 @@ pub fn event_json(
 /// Adds the JSON of an event: the name of its class, and its fields.
 fn push_event(
     source: &Source<'_, '_>,
+    cache: &mut JsonCache,
     event: &Event<'_>,
     depth: u8,
     out: &mut String,
 ) -> Result<(), NoMemory>
     requires event { slice_get (events_of source.now.chunk.now) event.now.number ≡ Some (event_at event.now) }
     requires source { IsSource source.now }
+    requires cached { AreCachedJson source.now.chunk.now cache.old }
     ensures ok { OnOk result (string_bytes out.new ≡ string_bytes out.old ++ compact_text (event_data source.now.chunk.now depth (node_of event.now.node))) }
+    ensures cached { AreCachedJson source.now.chunk.now cache.new }
 {
     let node = fields_of(source.chunk, event);
     out.push_str("{\"type\":")?;
@@ -145,7 +161,7 @@ fn push_event(
         out,
     )?;
     out.push_str(",\"values\":")?;
-    push_node(source, &node, Reach::of_event(depth), out)?;
+    push_event_node(source, cache, &node, Reach::of_event(depth), out)?;
     out.push_str("}")?;
     Ok(())
 }

@@ -6,9 +6,10 @@ ghost use Rattle.jfr_value.specs.Values.{Values};
 ghost use Rattle.jfr_value.specs.Visits.{field_shapes};
 ghost use Rattle.jfr_show.specs.Orders.{starts};
 
+use crate::reading::integer_at;
 use jfr_base::NoMemory;
 use jfr_chunk::Chunk;
-use jfr_layout::FieldLayout;
+use jfr_layout::{FieldLayout, Form};
 use jfr_value::end_of;
 use std::alloc::Global;
 
@@ -46,6 +47,29 @@ pub(crate) fn field_places(
 
 /// Where the value with this layout ends that starts at `at` and ends by `limit`.
 fn end_at(chunk: &Chunk<'_>, layout: &FieldLayout, at: usize, limit: usize) -> usize
+    requires sound { Sound chunk.now.classes }
+    requires layout { IsFieldLayout chunk.now.classes layout.now }
+    requires order { at ≤ limit }
+    requires within { limit ≤ length chunk.now.bytes }
+    requires stands { (to : ℕ) × EndsAt chunk.now.classes chunk.now.bytes layout.now.shape at to × (to ≤ limit) }
+    ensures { (to : ℕ) → EndsAt chunk.now.classes chunk.now.bytes layout.now.shape at to → to ≤ limit → result ≡ to }
+{
+    match layout.form {
+        Form::Integer => {
+            let number = integer_at(chunk, at, limit);
+            number.end
+        }
+        Form::Key => {
+            let key = integer_at(chunk, at, limit);
+            key.end
+        }
+        Form::Raw(count) => at + usize::from(count),
+        _ => other_end(chunk, layout, at, limit),
+    }
+}
+
+/// Where the value ends, whatever its layout is.
+fn other_end(chunk: &Chunk<'_>, layout: &FieldLayout, at: usize, limit: usize) -> usize
     requires sound { Sound chunk.now.classes }
     requires layout { IsFieldLayout chunk.now.classes layout.now }
     requires order { at ≤ limit }

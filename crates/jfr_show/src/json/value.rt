@@ -44,7 +44,7 @@ pub(crate) fn push_node(
 
 /// Adds the value with this layout that starts at `at` and ends by `limit`. Returns where it ends.
 #[cycle(json)]
-fn push_value(
+pub(crate) fn push_value(
     source: &Source<'_, '_>,
     layout: &FieldLayout,
     at: usize,
@@ -213,7 +213,7 @@ fn push_comma(later: bool, out: &mut String) -> Result<(), NoMemory>
 
 /// Adds the JSON of the reference to a class and a key.
 #[cycle(json)]
-fn push_referred(
+pub(crate) fn push_referred(
     source: &Source<'_, '_>,
     class: u64,
     key: u64,

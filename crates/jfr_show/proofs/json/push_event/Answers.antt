@@ -17,9 +17,10 @@ returns c =
     let was = string_bytes c.args.out.now in
     let name = sym (encodes-chars c.class_name.result.now c.class_name.utf8) ∙ ap encode_utf8_all c.class_name.ensures in
     let named = c.in_ok-push_string.ensures.ok ∙ ap (λ z. string_bytes c.push_str.new.self ++ compact_text (string z)) name in
-    let values = c.in_ok-push_node.ensures.ok ∙ ap (λ (z : Reach). string_bytes c.push_str-2.new.self ++ compact_text (node_json p (referred_json p z.references) m)) c.of_event.ensures in
+    let values = c.in_ok-push_event_node.ensures.ok ∙ ap (λ (z : Reach). string_bytes c.push_str-2.new.self ++ compact_text (node_json p (referred_json p z.references) m)) c.of_event.ensures in
     record {
-      ok = parts_added was (string_bytes c.push_str.new.self) (string_bytes c.push_string.new.out) (string_bytes c.push_str-2.new.self) (string_bytes c.push_node.new.out) (string_bytes c.push_str-3.new.self) (codes "{\"type\":") (compact_text (text_json (class_name p.classes m.shape.class))) (codes ",\"values\":") (compact_text (node_json p (referred_json p c.args.depth) m)) (codes "}")
+      ok = parts_added was (string_bytes c.push_str.new.self) (string_bytes c.push_string.new.out) (string_bytes c.push_str-2.new.self) (string_bytes c.push_event_node.new.out) (string_bytes c.push_str-3.new.self) (codes "{\"type\":") (compact_text (text_json (class_name p.classes m.shape.class))) (codes ",\"values\":") (compact_text (node_json p (referred_json p c.args.depth) m)) (codes "}")
           c.in_ok-push_str.ensures.bytes named c.in_ok-push_str-2.ensures.bytes values c.in_ok-push_str-3.ensures.bytes
           ∙ (ap (λ z. was ++ z) (event_text p c.args.depth m) ∙ ap (λ (n : NodeAt). was ++ compact_text (event_data p c.args.depth n)) c.fields_of-node.ensures.exact);
+      cached = c.in_ok-push_event_node.ensures.cached;
     }

@@ -11,10 +11,10 @@ use Rattle.jfr_show.proofs.JsonLaws.{line_is}
 use Rattle.jfr_show.proofs.json.JsonWriter.show.Goals as goal
 
 pub push_event-requires-clause-source : goal.push_event-requires-clause-source
-push_event-requires-clause-source c = subst (AreOrders c.self.inside.chunk.now.classes) (sym c.deref.ensures.value) c.self.invariant
+push_event-requires-clause-source c = subst (AreOrders c.self.inside.chunk.now.classes) (sym c.deref.ensures.value) c.self.invariant.0
 
-pub returns : goal.returns
-returns c =
+pub returns-clause-ok : goal.returns-clause-ok
+returns-clause-ok c =
     let n = node_of c.args.event.now.node in
     let line = compact_text (event_data c.args.self.now c.args.depth n) in
     let written : string_bytes c.push_event.new.out ≡ line =
@@ -22,4 +22,4 @@ returns c =
     ∙ (ap (λ z. z ++ compact_text (event_data c.self.inside.chunk.now c.args.depth n)) c.in_ok-line.ensures.bytes
     ∙ ap (λ (p : Parts). compact_text (event_data p c.args.depth n)) c.self.view_is) in
     let whole = ap (λ z. z ++ newline) (c.in_ok-push_str.ensures.ok ∙ ap (λ z. c.args.out.now ++ chars z) (c.as_str.ensures.value ∙ written)) ∙ (append_assoc c.args.out.now (chars line) newline ∙ ap (λ z. c.args.out.now ++ z) (sym (line_is c.args.self.now c.args.depth n))) in
-    record { ok = subst (λ z. OnOk c.push_ascii.result (c.push_ascii.new.self ≡ z)) whole c.push_ascii.ensures.ok }
+    subst (λ z. OnOk c.push_ascii.result (c.push_ascii.new.self ≡ z)) whole c.push_ascii.ensures.ok

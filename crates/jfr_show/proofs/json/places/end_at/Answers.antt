@@ -1,22 +1,33 @@
-use Rattle.std.proofs.Common.{ap, sym, ◌∙◌}
-use Rattle.jfr_base.specs.Formats.{run, seen}
-use Rattle.jfr_value.specs.Reading.{value_format}
-use Rattle.jfr_value.proofs.PartLaws.{end_seen}
+use Rattle.jfr_value.specs.Walks.{IsLayoutIfKnown}
+use Rattle.jfr_show.proofs.LayoutForms.{integer_stands, key_stands, is_integer, is_reference}
 use Rattle.jfr_show.proofs.json.places.end_at.Goals as goal
 
-pub unreachable-requires : goal.unreachable-requires
-unreachable-requires c =
+pub integer_at-number-requires-clause-stands : goal.integer_at-number-requires-clause-stands
+integer_at-number-requires-clause-stands c =
     let p = c.args.chunk.now in
-    let s = c.args.layout.now.shape in
     let t = c.requires.stands in
-    let r = end_seen p.classes p.bytes s c.args.at c.args.limit t.0 c.requires.sound t.1 t.2 c.requires.within in
-    let e = c.end_of.ensures.exact ∙ (ap (λ z. seen (run (value_format z s) c.bytes.result.now c.args.limit c.args.at)) c.classes.ensures ∙ (ap (λ z. seen (run (value_format p.classes s) z c.args.limit c.args.at)) c.bytes.ensures.exact ∙ r)) in
-    cc (sym c.in-Err.is ∙ e)
+    let s = c.requires.layout in
+    let known : IsLayoutIfKnown p.classes c.args.layout.now = record { form = s.form; of_class = λ o h. s } in
+    integer_stands p.classes p.bytes c.args.at t.0 c.args.limit c.args.layout.now t.2 c.requires.within known t.1.0 t.1.1 c.in-Integer.is
 
-pub returns : goal.returns
-returns c = λ to t l.
+pub integer_at-key-requires-clause-stands : goal.integer_at-key-requires-clause-stands
+integer_at-key-requires-clause-stands c =
+    let p = c.args.chunk.now in
+    let t = c.requires.stands in
+    let s = c.requires.layout in
+    let known : IsLayoutIfKnown p.classes c.args.layout.now = record { form = s.form; of_class = λ o h. s } in
+    key_stands p.classes p.bytes c.args.at t.0 c.args.limit c.args.layout.now t.2 c.requires.within known t.1.0 t.1.1 c.in-Key.is
+
+pub returns-in-Integer : goal.returns-in-Integer
+returns-in-Integer c = λ to t l.
     (let p = c.args.chunk.now in
-    let s = c.args.layout.now.shape in
-    let r = end_seen p.classes p.bytes s c.args.at c.args.limit to c.requires.sound t l c.requires.within in
-    let e = c.end_of.ensures.exact ∙ (ap (λ z. seen (run (value_format z s) c.bytes.result.now c.args.limit c.args.at)) c.classes.ensures ∙ (ap (λ z. seen (run (value_format p.classes s) z c.args.limit c.args.at)) c.bytes.ensures.exact ∙ r)) in
-    cc (sym c.in-Ok.is ∙ e))
+    let s = c.requires.layout in
+    let known : IsLayoutIfKnown p.classes c.args.layout.now = record { form = s.form; of_class = λ o h. s } in
+    (is_integer p.classes p.bytes c.args.at to c.args.limit c.args.layout.now l c.requires.within known t.0 t.1 c.in-Integer.is c.integer_at-number.result c.integer_at-number.ensures).ends)
+
+pub returns-in-Key : goal.returns-in-Key
+returns-in-Key c = λ to t l.
+    (let p = c.args.chunk.now in
+    let s = c.requires.layout in
+    let known : IsLayoutIfKnown p.classes c.args.layout.now = record { form = s.form; of_class = λ o h. s } in
+    (is_reference p.classes p.bytes c.args.at to c.args.limit c.args.layout.now l c.requires.within known t.0 t.1 c.in-Key.is c.integer_at-key.result c.integer_at-key.ensures).ends)
