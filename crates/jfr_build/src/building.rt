@@ -48,7 +48,7 @@ pub fn build(alloc: Global, text: &[u8]) -> Result<Vec<u8>, BuildFault>
     }
 }
 
-/// The refusal of something that is too large.
+/// The refusal, at this line, of a text, metadata or a chunk that is too large.
 fn too_large(line: u64) -> BuildFault
     ensures { result ≡ BuildFault.Refused line BuildReason.TooLarge }
 {
@@ -69,7 +69,7 @@ fn line_count(text: &[u8]) -> u64
     newlines + 1
 }
 
-/// The chunk of lines, `count` with those that are empty.
+/// The chunk of these lines. `count` is the number of all lines of the text, with the empty ones.
 fn build_lines(alloc: Global, lines: &[NumberedLine<'_>], count: u64) -> Result<Vec<u8>, BuildFault>
     ensures exact { MatchResult result (λ chunk. build_lines count (Ok lines.now) ≡ Ok chunk.items) (IsFault (build_lines count (Ok lines.now))) }
 {

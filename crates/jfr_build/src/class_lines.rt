@@ -14,7 +14,7 @@ use std::alloc::Global;
 /// The super type of an event class.
 const EVENT: &str = "jdk.jfr.Event";
 
-/// The classes of the lines, if they are sound. Otherwise the first flaw is at the line of its class or field.
+/// The classes of the lines. If they aren't sound, the refusal names the line of the first flaw's class or field.
 pub fn make_classes(alloc: Global, lines: &[NumberedLine<'_>]) -> Result<Classes, BuildFault>
     ensures ok { OnOk result (Sound (classes_in lines.now)) }
     ensures exact { IfOk result (λ classes. classes ≡ classes_in lines.now) }
@@ -82,7 +82,7 @@ fn fields_from(alloc: Global, lines: &[NumberedLine<'_>], from: usize) -> Result
     Ok(fields)
 }
 
-/// The number of the line of the class with this index, or of its field with this number.
+/// The line number of the class with this index or, with `field`, of that field of the class.
 fn line_at(lines: &[NumberedLine<'_>], class: usize, field: Option<usize>) -> u64
     ensures { result ≡ line_at lines.now class field }
 {
@@ -98,7 +98,7 @@ fn line_at(lines: &[NumberedLine<'_>], class: usize, field: Option<usize>) -> u6
     0
 }
 
-/// The number of the line with this index, or of the line of a field that follows it.
+/// The number of the line with this index or, with `field`, of that field's line after it.
 fn number_after(lines: &[NumberedLine<'_>], at: usize, field: Option<usize>) -> u64
     requires { at < length lines.now }
     ensures { result ≡ option_map_or (λ l. l.number) (slice_get (drop at lines.now) (option_map_or (λ n. suc n) field 0)) 0 }

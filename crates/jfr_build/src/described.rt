@@ -37,10 +37,10 @@ const DIMENSION: u64 = 10;
 
 const ONE: u64 = 11;
 
-/// The record takes fewer bytes than this.
+/// A metadata record has at most this many bytes.
 const RECORD_LIMIT: usize = 1 << 30;
 
-/// The metadata record of the classes, which are returned with it. `None` if its strings and its tree take
+/// Makes the metadata record of the classes, and gives the classes back. `None` if its strings and its tree take
 /// 2^29 bytes or more.
 pub fn metadata_record(
     alloc: Global,

@@ -7,7 +7,7 @@ ghost use Rattle.jfr_build.specs.Accepted.{IsBuiltOf};
 ghost use Rattle.jfr_build.specs.Builds.{build_of};
 ghost use Rattle.jfr_build.specs.Laws.{TakenIsRead, TakesExactly};
 
-/// Words are taken as a value of a shape exactly if they are those of its leaves, one for each, in order.
+/// Words give a value of a shape exactly if they are the words of its leaves, one for each, in order.
 pub fn words_are_taken()
     ensures { (k : Classes) (s : Shape) (words : List (List ℕ)) (v : Value) → Sound k → TakesExactly k s words v }
 {}

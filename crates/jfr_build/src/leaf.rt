@@ -12,7 +12,7 @@ use jfr_layout::Kind;
 use jfr_text::{EMPTY_BYTE, KEY_BYTE, NULL_BYTE, UTF8_BYTE};
 use std::alloc::AllocError;
 
-/// The id after a mark.
+/// The id after the `#` or `[` with which a word begins.
 pub fn id_after(word: &str, mark: char) -> Option<u64>
     requires { mark < 128 }
     ensures { result ≡ id_after mark word.now }
@@ -183,7 +183,7 @@ fn byte_of(word: &str) -> Option<u8>
     Some(number as u8)
 }
 
-/// Appends the value of a base name. The bytes of a quoted text replace those of `text`.
+/// Appends the value that a word spells for a base name. `text` is scratch memory for the text of a quoted word.
 pub fn push_base(
     out: &mut Vec<u8>,
     kind: Kind,

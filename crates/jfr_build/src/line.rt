@@ -25,7 +25,7 @@ impl<'a> Model for Name<'a> {
 }
 
 impl<'a> Name<'a> {
-    /// The name that a word is; `None` exactly if the word is empty.
+    /// The word as a name; `None` exactly if it is empty.
     pub fn of(word: &'a str) -> Option<Name<'a>>
         ensures { result ≡ name_of word.now }
     {

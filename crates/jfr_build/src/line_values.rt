@@ -16,8 +16,8 @@ use jfr_layout::{Classes, FieldLayout, Shape};
 use jfr_value::layout_of;
 use std::alloc::Global;
 
-/// Checks the values of all constants and events. Refused for the first constant of an unknown class, record
-/// of a class that isn't one of events, or line whose words aren't those of the leaves of one value.
+/// Checks the values of all constants and events. Refused for the first line that is a constant of an unknown
+/// class, is a record of a class that isn't an event class, or has words that aren't those of one value.
 pub fn check_values(
     alloc: Global,
     classes: &Classes,
@@ -38,7 +38,7 @@ pub fn check_values(
     Ok(())
 }
 
-/// Whether the line should have a value, and has none.
+/// Whether the line is a constant or an event, but its words aren't those of one value of its class.
 fn is_bad_value(classes: &Classes, line: &Line<'_>, out: &mut Output) -> Result<bool, NoMemory>
     ensures ok { IfOk result (λ bad. bad ≡ is_bad_value classes.now line.now) }
 {

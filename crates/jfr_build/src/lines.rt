@@ -15,7 +15,7 @@ pub struct NumberedLine<'a> {
     pub line: Line<'a>,
 }
 
-/// A line that isn't empty, and the newline after it, have at least this many bytes.
+/// The fewest bytes of a line that isn't empty, with its newline.
 const LEAST_LEN: usize = 9;
 
 /// Whether the line is a class.
@@ -28,7 +28,7 @@ pub fn is_class(line: &Line<'_>) -> bool
     }
 }
 
-/// Whether the line has a value.
+/// Whether the line is a constant or an event.
 pub fn has_value(line: &Line<'_>) -> bool
     ensures { result ≡ has_value line.now }
 {
@@ -38,7 +38,7 @@ pub fn has_value(line: &Line<'_>) -> bool
     }
 }
 
-/// Whether there was a class, and whether there was a value.
+/// Whether a class came before, and whether a constant or an event did.
 #[derive(Clone, Copy)]
 struct Before {
     class: bool,

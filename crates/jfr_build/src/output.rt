@@ -49,7 +49,7 @@ impl<T: Drop> From<AllocFailed<T>> for ValueFault {
     }
 }
 
-/// What is written. Contracts see its bytes.
+/// The bytes written so far. Contracts see them.
 #[derive(Drop)]
 pub struct Output {
     bytes: Vec<u8>,

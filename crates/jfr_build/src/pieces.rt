@@ -98,7 +98,7 @@ impl<'a> WordsLeft<'a> {
         }
     }
 
-    /// Some value exactly if no word is left.
+    /// `Some` exactly if no word is left.
     pub fn end(&self) -> Option<()>
         ensures none { OnSome result (self.now ≡ []) }
         ensures some { IfNone result (self.now ≡ [] → ⊥) }

@@ -111,7 +111,7 @@ pub fn pools_of(
     requires good { first_bad_value classes.now lines.now ≡ None }
     ensures ok { IfOk result (λ bytes. bytes.items ≡ pools_of classes.now lines.now) }
 {
-    // For its range: no pool has more entries than a `usize` can count.
+    // Shows the prover that there are at most `usize::MAX` lines, so no pool has more entries.
     let _count = lines.len();
     let mut pools = Pools::new(alloc);
     let mut value = Output::new(alloc);

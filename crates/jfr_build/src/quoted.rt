@@ -19,7 +19,7 @@ pub enum Quoted {
     SecondZero,
     /// Before the third of four digits.
     High,
-    /// Before the last of four digits, after this one.
+    /// Before the last of four digits; this is the value of the third.
     Low(u8),
     /// After the second quote.
     Closed,

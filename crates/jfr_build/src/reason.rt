@@ -48,8 +48,8 @@ impl BuildReason {
 /// Why a text isn't built, or that memory ran out.
 #[derive(Clone, Copy, Debug, PartialEq, Eq)]
 pub enum BuildFault {
-    /// The text is refused for the line with this number, counted from 1. If the text itself is too large, the
-    /// number is 0; if what is built of it is, it is the number of lines.
+    /// The text is refused for the line with this number, counted from 1. The number is 0 if the text is too
+    /// large, and that of the last line if its metadata or its chunk is.
     Refused { line: u64, reason: BuildReason },
     /// Memory ran out.
     Memory,

@@ -34,14 +34,14 @@ fn build_file<P: Place>(alloc: Global, place: &mut P, name: &str) -> Result<Vec<
 /// Builds a recording of the text in a file: reads the text whole, and writes its chunk to a new file.
 pub fn build_stream<P: Place>(alloc: Global, place: &mut P, text: &str, out: &str) -> BuildEnding
     // If it is Done, the output has the chunk of the text, which is accepted and has exactly the classes, the
-    // events and the constants of the lines. So has each chunk that is built.
+    // events and the constants of the lines. `each` says the same of every chunk that is built of any text.
     ensures built { result ≡ BuildEnding.Done → Tells (P.state place.old) (P.state place.new) (Builds text.now out.now) }
     ensures each { (bytes chunk : List ℕ) → build_of bytes ≡ Ok chunk → IsBuiltOf bytes chunk }
 
-    // A text is refused exactly for its line and reason, and nothing is written.
+    // If a text is refused, the line and the reason are the right ones, and nothing is written.
     ensures refused { IfRefused result (λ line reason. Refuses text.now line reason (P.state place.old) (P.state place.new)) }
 
-    // What is done outside otherwise, and which counts rose.
+    // What was done otherwise, and which counts rose.
     ensures ran { IfNotRefused result (λ ending. Ran (builds text.now out.now) ending (alone (P.state place.old)) (alone (P.state place.new))) }
 
     // Without a fault the text decides how it ends, unless memory runs out.
@@ -49,7 +49,7 @@ pub fn build_stream<P: Place>(alloc: Global, place: &mut P, text: &str, out: &st
         → (Rose (P.state place.old).write_faults (P.state place.new).write_faults → ⊥)
         → IfSome (P.state place.old).told (λ w. IsDecided (file w text.now) result) }
 
-    // The call causes no fault by itself.
+    // If the text can be read and the output created, no fault occurs.
     ensures can_read { CanRead text.now (P.state place.old)
         → (result ≢ BuildEnding.ReadFault) × ((P.state place.new).read_faults ≡ (P.state place.old).read_faults) }
     ensures can_create { CanCreate out.now (P.state place.old)

@@ -28,7 +28,7 @@ pub fn push_value(
     requires layout { IsFieldLayout classes.now layout.now }
     ensures exact { Writes (wrote out.old (value_taken classes.now layout.now.shape words.old)) result out.new words.new }
 {
-    // For its contract: the classes are sound.
+    // Shows the prover that the classes are sound.
     let _count = classes.len();
     push_layout(classes, layout, words, out, LEVELS)
 }

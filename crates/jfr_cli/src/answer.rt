@@ -3,7 +3,7 @@ use jfr_build::BuildReason;
 use jfr_header::Ending;
 use jfr_verify::Doubt;
 
-/// How the program ends: by how it carries out its order, or because there is none.
+/// How the program ends: how the order ended, or that the words aren't one.
 #[derive(Clone, Copy, Debug)]
 pub enum Answer {
     /// The words aren't an order.
@@ -12,6 +12,6 @@ pub enum Answer {
     Ended(Ending),
     /// A check has a doubt about the chunk with this number.
     Doubted { chunk: u64, doubt: Doubt },
-    /// A text that was to be built is refused for the line with this number.
+    /// A text for `build` is refused at the line with this number.
     Unbuilt { line: u64, reason: BuildReason },
 }

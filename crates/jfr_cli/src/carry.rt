@@ -1,5 +1,5 @@
-//! Each order as a call. If an order doesn't touch the place or the sink, the parameter is there only for the
-//! contract, which says that it is unchanged; its name begins with `_`.
+//! Each order as a call. Some orders don't touch the place or the sink. They take it only so that the contract can
+//! say that it is unchanged; the parameter's name then begins with `_`.
 ghost use Rattle.jfr_plan.specs.Effects.{outside};
 ghost use Rattle.jfr_words.specs.Words.{IsUsableOrder};
 ghost use Rattle.jfr_words.specs.declared.order.Order.TheVariants as orders;

@@ -31,7 +31,7 @@ const TOO_MANY_PARTS: u8 = 6;
 /// The status if a check has a doubt about an output.
 const DOUBTED: u8 = 7;
 
-/// The status if a text that was to be built is refused.
+/// The status if `build` refuses a text.
 const UNBUILT: u8 = 8;
 
 /// Writes the line of an answer, if it has one, and returns the status.
@@ -109,7 +109,7 @@ fn refusal_text(alloc: Global, refusal: &Refusal) -> Result<String, AllocError>
     format!(in alloc; "chunk {chunk} offset {offset}: {name}\n")
 }
 
-// Writes a line if there was memory for it, or else the line for running out of memory.
+// Writes the line. If there was no memory to make it, writes `out of memory` instead.
 fn say_made<E: Sink>(err: &mut E, made: Result<String, AllocError>, status: u8) -> u8
     ensures { (line : List ℕ) → IfOk made (λ text. string_bytes text ≡ line) → IsAnswered status (Some line) result (E.state err.old) (E.state err.new) }
 {

@@ -63,14 +63,14 @@ pub fn run<P: Place, O: Sink, E: Sink>(
 
     // With 0 and 2 the output of a scrub holds the scrub of each chunk before the first refused one: a chunk
     // that is accepted again, with exactly the events that the filter keeps and exactly the constants that
-    // they reach, and of the same meaning. `each` says it of every chunk of which the clauses of the other
-    // statuses speak.
+    // they reach, and of the same meaning. `each` says the same of every chunk, so also of what other statuses
+    // leave.
     ensures headline { (result ≡ 0) ⊎ (result ≡ 2) → (g : Given) (input output : List ℕ) → order_of words.now ≡ Some (orders.Scrub g false input output)
         → Told (P.state place.old).told (P.state place.new).told (Scrubs g (file_name input) (file_name output)) }
     ensures each { (g : Given) (c : List ℕ) → Whole c → refusal_of c ≡ None → IsScrubbed g c (scrubbed g c) }
 
-    // With `--renumber yes` the output is the same but for the keys of constants, and no longer: one constant is
-    // left of those of a class with equal values.
+    // With `--renumber yes` the output means the same except for the keys of constants, and isn't longer: constants
+    // of a class with equal values are merged.
     ensures renumbered { (result ≡ 0) ⊎ (result ≡ 2) → (g : Given) (input output : List ℕ) → order_of words.now ≡ Some (orders.Scrub g true input output)
         → Told (P.state place.old).told (P.state place.new).told (Renumbers g (file_name input) (file_name output)) }
     ensures each_renumbered { (g : Given) (c : List ℕ) → Whole c → refusal_of c ≡ None → IsRenumberedOutput g c (renumbered g c) }
@@ -79,7 +79,8 @@ pub fn run<P: Place, O: Sink, E: Sink>(
     ensures each_receipt { (g : Given) (c : List ℕ) → Whole c → refusal_of c ≡ None → IsReceipted g c (scrub_receipt g c) }
 
     // With 0 a check found that each chunk of the output means the same as one of the input with the events
-    // that the filter keeps, whoever made it; and it finds so of the output of a scrub with its own receipts.
+    // that the filter keeps, whoever made it. Without a fault it finds this of a scrub with its own receipts,
+    // unless memory runs out.
     ensures verified { result ≡ 0 → (g : Given) (input output receipt : List ℕ) → order_of words.now ≡ Some (orders.Verify g input output receipt)
         → IfSome (P.state place.old).told (λ w. (count : ℕ) × AllVerified g (three (file_name input) (file_name output) (file_name receipt) w) count) }
     ensures scrubs_verified { (g : Given) (input output receipt : List ℕ) → order_of words.now ≡ Some (orders.Verify g input output receipt)
@@ -87,8 +88,8 @@ pub fn run<P: Place, O: Sink, E: Sink>(
         → IfSome (P.state place.old).told (λ w. AreScrubs g (three (file_name input) (file_name output) (file_name receipt) w) → (result ≡ 0) ⊎ (result ≡ 5)) }
 
     // With 0 the output of a build has the chunk of the text: a chunk that is accepted, with exactly the
-    // classes, the events and the constants of the lines. `each_built` says it of every chunk of which the
-    // clauses of the other statuses speak.
+    // classes, the events and the constants of the lines. `each_built` says the same of every chunk that is
+    // built, so also of what other statuses leave.
     ensures built { result ≡ 0 → (text output : List ℕ) → order_of words.now ≡ Some (orders.Build text output)
         → Told (P.state place.old).told (P.state place.new).told (Builds (file_name text) (file_name output)) }
     ensures each_built { (text chunk : List ℕ) → build_of text ≡ Ok chunk → IsBuiltOf text chunk }
@@ -110,7 +111,7 @@ pub fn run<P: Place, O: Sink, E: Sink>(
     ensures memory_said { result ≡ 5 → IsMemorySaid (E.state err.old) (E.state err.new) }
     ensures statuses { result ≤ 8 }
 
-    // A fault is answered only if it was counted, and none is passed over.
+    // Status 3 or 4 comes only if a fault was counted, and a counted fault gives 3, 4 or 5.
     ensures read_fault { result ≡ 3 → Rose (P.state place.old).read_faults (P.state place.new).read_faults }
     ensures write_fault { result ≡ 4 → Under words.now (λ o. Rose (write_count (target_of (work_of o)) (outside (P.state place.old) (O.state out.old))) (write_count (target_of (work_of o)) (outside (P.state place.new) (O.state out.new)))) }
     ensures no_read_passed { (P.state place.old).read_faults < (P.state place.new).read_faults → (result ≡ 3) ⊎ (result ≡ 5) }
@@ -125,11 +126,11 @@ pub fn run<P: Place, O: Sink, E: Sink>(
         → (Rose (write_count (target_of (work_of o)) (outside (P.state place.old) (O.state out.old))) (write_count (target_of (work_of o)) (outside (P.state place.new) (O.state out.new))) → ⊥)
         → IfSome (P.state place.old).told (HasStatus (work_of o) result) }
 
-    // The program itself causes no fault.
+    // If the files can be read and created, no fault occurs.
     ensures can_read { (o : Order) → order_of words.now ≡ Some o → CanReadAll (work_of o) (P.state place.old) → (result ≢ 3) × ((P.state place.new).read_faults ≡ (P.state place.old).read_faults) }
     ensures can_create { (o : Order) → order_of words.now ≡ Some o → CanCreateFor o (P.state place.old) → (result ≢ 4) × ((P.state place.new).write_faults ≡ (P.state place.old).write_faults) }
 
-    // An order that writes files leaves the output sink as it was, and one that reads no file leaves the place.
+    // An order that writes files leaves the output sink unchanged; one that reads no file leaves the place unchanged.
     ensures out { (o : Order) → order_of words.now ≡ Some o → KeepsSink (target_of (work_of o)) (O.state out.old) (O.state out.new) }
     ensures place { (o : Order) → order_of words.now ≡ Some o → KeepsPlace (work_of o) (P.state place.old) (P.state place.new) }
     ensures same { (P.state place.new).steady ≡ (P.state place.old).steady }
