@@ -194,8 +194,8 @@ class Trial:
         os.mkdir(self.name("in"))
         os.mkdir(self.folder)
         self.nowhere = os.open(os.devnull, os.O_WRONLY)
-        names = "said", "totals", "lines", "told", "nothing"
-        self.said, self.totals, self.lines, self.told, self.nothing = map(Stream, map(self.name, names))
+        names = "said", "totals", "lines", "other", "nothing"
+        self.said, self.totals, self.lines, self.other, self.nothing = map(Stream, map(self.name, names))
         self.child = None
         self.late = False
         signal.signal(signal.SIGALRM, self.end)
@@ -303,8 +303,8 @@ class Trial:
         all_printed = self.print_json()
         out = self.scrub()
         if out and all_printed:
-            self.run("print --json, scrubbed", ["print", "--json", out], (0,), self.told)
-            if self.told.bytes() != self.lines.bytes():
+            self.run("print --json, scrubbed", ["print", "--json", out], (0,), self.other)
+            if self.other.bytes() != self.lines.bytes():
                 raise Wrong("print --json tells something else of the scrub's output")
 
     def printed(self, name, text):
@@ -321,7 +321,7 @@ class Trial:
             raise Wrong("new keys make more bytes")
         if not self.bytes_of("new.jfr"):
             return
-        shown, its = self.printed("out.jfr", self.lines), self.printed("new.jfr", self.told)
+        shown, its = self.printed("out.jfr", self.lines), self.printed("new.jfr", self.other)
         if None not in (shown, its) and KEY.sub(rb"\1", shown) != KEY.sub(rb"\1", its):
             raise Wrong("print --json shows other values with new keys")
 
@@ -331,13 +331,13 @@ class Trial:
         self.run("scrub", ["scrub", *filters, self.source, out], (0, 2), most=self.most)
         self.agrees("receipt", self.run("receipt", ["receipt", *filters, self.source, receipt], (0, 2), most=self.most), self.verdict)
         words = ["verify", *filters, self.source, out, receipt]
-        answer = self.run("verify", words, (0, 2, 7), self.told, self.most)
+        answer = self.run("verify", words, (0, 2, 7), self.other, self.most)
         status = answer[0]
         if status != 7:
             self.agrees("verify", answer, self.verdict)
         elif self.verdict[0] == 0:
             raise Wrong("verify doubts a scrub: %s" % answer[1])
-        if status == 0 and b"\nchunks %s\n" % self.told.bytes()[len(b"verified "):-1] not in self.totals.bytes():
+        if status == 0 and b"\nchunks %s\n" % self.other.bytes()[len(b"verified "):-1] not in self.totals.bytes():
             raise Wrong("verify counts other chunks than summary")
         shown = self.printed("out.jfr", self.lines) if self.bytes_of("out.jfr") else None
         for name in ("out.jfr", "receipt"):
@@ -347,17 +347,17 @@ class Trial:
                 with open(self.name(name), "wb") as file:
                     file.write(data[:at] + bytes([data[at] ^ rng.randrange(1, 256)]) + data[at + 1 :])
                 passed = self.run("verify, %s changed" % name, words, (0, 7), self.nothing, self.most)[0] == 0
-                if passed and shown is not None and self.printed("out.jfr", self.told) != shown:
+                if passed and shown is not None and self.printed("out.jfr", self.other) != shown:
                     raise Wrong("verify passes %s with byte %d changed" % (name, at))
                 with open(self.name(name), "wb") as file:
                     file.write(data)
 
     def stacks(self):
-        answer = self.run("stacks", ["stacks", self.source], (0, 2, 5), self.told)
+        answer = self.run("stacks", ["stacks", self.source], (0, 2, 5), self.other)
         if answer[0] in (4, 5):
             return
         self.agrees("stacks", answer, self.verdict)
-        lines = self.told.bytes().splitlines(keepends=True)
+        lines = self.other.bytes().splitlines(keepends=True)
         found = list(map(STACK.fullmatch, lines))
         texts = [line[: line.rindex(b" ")] for line in lines]
         if not all(found) or texts != sorted(set(texts)):

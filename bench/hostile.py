@@ -584,7 +584,7 @@ EVENT_OF_TEXT = "class %d java.lang.String\nevent %d t.E\nfield text %d -" % (ST
 
 
 def text_records(size):
-    """A million records of a number each."""
+    """A million records with one number each."""
     head = "class %d long\nevent %d t.E\nfield n %d -" % (LONG, EVENT, LONG)
     return text_of(head, numbered("record %d %%d" % EVENT, count(10**6, size)))
 
@@ -650,7 +650,7 @@ def text_grows(size):
 
 
 def text_newlines(size):
-    """Nothing but newlines, at full size as many as a text may have."""
+    """Nothing but newlines; at full size the longest text that isn't too large."""
     return b"\n" * (count(2**30, size) - 1)
 
 
