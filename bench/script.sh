@@ -54,7 +54,7 @@ check 'a copy' 0 'one summary x' "${with[@]}" NUMBER=two ../second/jfr summary x
 echo '// changed' >>crates/jfr_base/src/lib.rt
 check 'other sources, no toolchain' 0 'built of other sources' "${without[@]}" ./jfr summary x
 check 'other sources, JFR_BUILD=0' 0 'one summary x' "${with[@]}" NUMBER=two JFR_BUILD=0 ./jfr summary x
-check 'a build that fails' 70 'jfr was not built' "${with[@]}" FAIL=1 ./jfr summary x
+check 'a build that fails' 70 'the program was not built' "${with[@]}" FAIL=1 ./jfr summary x
 check 'after it' 0 'one summary x' "${with[@]}" JFR_BUILD=0 ./jfr summary x
 check 'a build that is interrupted' 130 'interrupted' "${with[@]}" SLOW=9 NUMBER=two timeout --preserve-status -s INT 3 ./jfr summary x
 check 'after it' 0 'one summary x' "${without[@]}" ./jfr summary x
