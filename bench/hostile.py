@@ -509,6 +509,37 @@ def frame_ring(size):
     ]))
 
 
+# Constants that all are used, for new keys.
+
+
+def used(values, most=LIMIT):
+    """A chunk with constants of these spelled strings, with the keys from 0, and an event that refers to each."""
+    described = metadata(event_class(("all", STRING, {"constant": True, "array": True})))
+    keys = [integer(key) for key in range(len(values))]
+    event = record(EVENT, integer(len(keys)) + b"".join(keys))
+    return chunk(described, event, checkpoint([pool(STRING, list(enumerate(values)))]), most=most)
+
+
+def equal_constants(size):
+    """Two million equal strings of a byte."""
+    return used([text("a")] * count(2 * 10**6, size))
+
+
+def alike_constants(size):
+    """Two million strings that begin with the same 300 characters."""
+    return used([text("a" * 300 + "%07d" % n) for n in range(count(2 * 10**6, size))])
+
+
+def equal_megabytes(size):
+    """A thousand equal strings of a megabyte."""
+    return used([text("a" * count(10**6, size))] * 1000)
+
+
+def alike_megabytes(size):
+    """A thousand strings of a megabyte, which differ in their last characters."""
+    return used([text("a" * count(10**6, size) + "%03d" % n) for n in range(1000)])
+
+
 def chunks(size):
     """100,000 small chunks."""
     of = Strings()
@@ -727,7 +758,8 @@ KINDS = {make.__name__: make for make in (
     references, array, array_short, strings, elements, attributes, long_key, long_names, alike_fields, classes,
     same_names, fields, categories, long_categories, long_class_names, alike_classes, inline_32, inline_33,
     inline_wide, inline_array, ring, string_ring, fan, chain, thread_name, shared_name, shared_text,
-    stacks, long_stack, long_methods, frame_ring, chunks,
+    stacks, long_stack, long_methods, frame_ring, equal_constants, alike_constants, equal_megabytes, alike_megabytes,
+    chunks,
     delta_self, delta_forward, delta_amid,
 )}
 for place in ("strings", "string", "attributes", "children", "pools", "entries", "items", "bytes", "units", "characters"):
