@@ -4,7 +4,8 @@
 # For each file: each command ends with status 0. A scrub of a scrub's output gives the same bytes. The JDK's own
 # `jfr summary` counts the same events in the file, in what a scrub without options made of it and in its parts
 # together; in a scrub that keeps only the most frequent type of event it counts those; and `summary` has the
-# same counts. The parts joined are the file again, byte for byte. On a file of less than a megabyte the values of
+# same counts. So does the JDK's reader of events (Events.java) in a scrub's chunks one by one; how many events it misses
+# in the scrub as a whole is only said (docs/VENDORS.md has the reason). The parts joined are the file again, byte for byte. On a file of less than a megabyte the values of
 # `print --json` are those that the JDK prints (values.py).
 #
 # Prints a row for each command: seconds, MB of the file a second, bytes written to the output stream or to files,
@@ -93,6 +94,20 @@ counts() {
              END { for (type in sum) print type, sum[type] }' | sort
 }
 
+# The events of recordings and their numbers together, as the JDK's reader gives them.
+events() { "${jdk%jfr}java" "$here/Events.java" "$@" | LC_ALL=C sort; }
+
+# Reads a scrub as a whole and chunk by chunk.
+read_scrub() {
+    local missed
+    rm -rf "$work/chunks"; mkdir "$work/chunks"
+    "$program" disassemble --output "$work/chunks" --max-chunks 1 "$1"
+    events "$work/chunks"/* >"$work/read"
+    LC_ALL=C sort "$work/counts" | diff - "$work/read" >"$work/diff" || { fail "the JDK's reader gives other events"; head -n 10 "$work/diff"; }
+    missed=$(LC_ALL=C join -a 1 "$work/read" <(events "$1") | awk '{ sum += $2 - $3 } END { print sum + 0 }')
+    [ "$missed" = 0 ] || echo "$name: the JDK's reader misses $missed events of the scrub as a whole"
+}
+
 # Compares events and their numbers: those of the file, and others of this name.
 same_counts() { diff "$1" "$2" >"$work/diff" || { fail "other events: $3"; head -n 10 "$work/diff"; }; }
 
@@ -109,6 +124,7 @@ commands() {
         "$program" scrub "$work/out.jfr" "$work/again.jfr"
         cmp -s "$work/out.jfr" "$work/again.jfr" || fail "a second scrub differs"
         [ -z "$has_jfr" ] || same_counts "$work/counts" <(counts "$work/out.jfr") scrub
+        [ -z "$has_jfr" ] || read_scrub "$work/out.jfr"
     fi
     if [ -n "$type" ] && row "scrub of one type" scrub --include-events "$type" "$file" "$made/out.jfr" -- scrub --include-events "$type" "$file" "$made/jdk.jfr"; then
         same_counts "$work/one" <(counts "$made/out.jfr") "scrub of $type"

@@ -77,6 +77,18 @@ check 'a blank after a comma' 1 'belongs to the pattern' <<<'test ! -e new.jfr'
 run tenant 'nobody-*' "$file" new.jfr
 check 'a pattern that matches nothing' 0 'matches no thread' <<<'test -s new.jfr; rm new.jfr'
 
+# Chunks of which the JDK's reader misses events: an earlier one has no event of a type.
+types=$'class 5 long\nevent 8 jdk.CPULoad\nfield n 5 -\nevent 9 jdk.Shutdown\nfield n 5 -'
+printf '%s\n' "$types" 'record 8 1' >first
+printf '%s\n' "$types" 'record 8 1' 'record 9 1' >second
+for text in first second; do ./send/jfr build "$text" "$text.jfr" || exit 1; done
+cat first.jfr second.jfr >missed.jfr
+cat second.jfr first.jfr >read.jfr
+run vendor missed.jfr missed.out
+check 'events that the JDK misses' 0 'misses the events of jdk.Shutdown, as' <<<'test -s missed.out'
+run vendor read.jfr read.out
+check 'events that it reads' 0 'events are left' <<<'! grep -q WARNING said.err'
+
 # Names.
 cp -- "$file" $' two\nlines "ä".jfr'
 run vendor $' two\nlines "ä".jfr' $'of \n.jfr'

@@ -13,6 +13,8 @@ mod left;
 #[cfg(test)]
 mod nested;
 #[cfg(test)]
+mod parts;
+#[cfg(test)]
 mod runs;
 #[cfg(test)]
 mod scrub;
