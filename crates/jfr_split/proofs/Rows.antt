@@ -1,5 +1,5 @@
 -- The names of some parts.
-use Rattle.std.specs.Prelude.{◌≡◌, ℕ, codes, Some, None, true, false, refl}
+use Rattle.std.specs.Prelude.{◌≡◌, codes, Some, None, true, false, refl}
 use Rattle.jfr_split.specs.Names.{is_joined, part_name, stem}
 
 -- In a folder: the file's name without its folders and without `.jfr`, and the number in six digits.

@@ -9,7 +9,7 @@ ghost use Rattle.jfr_split.specs.Clauses.{CanCreateAll};
 
 use crate::SplitRule;
 use crate::part::{Part, next_part};
-use crate::writing::{close_part, write_chunk};
+use crate::writing::{Split, close_part, write_chunk};
 use jfr_header::Ending;
 use jfr_outside::{Place, Sink};
 use jfr_plan::{Discard, Position, Stage, run_stage};
@@ -18,11 +18,9 @@ use std::alloc::Global;
 // The stage that writes each chunk to its part.
 #[derive(Drop)]
 struct Splitting<'a> {
-    alloc: Global,
-    file: &'a str,
-    rule: &'a SplitRule,
+    split: Split<'a>,
     part: Part,
-    ghost usable: { IsUsable rule.now },
+    ghost usable: { IsUsable split.rule.now },
 }
 
 impl Stage for Splitting<'_> {
@@ -30,9 +28,9 @@ impl Stage for Splitting<'_> {
     ghost use Rattle.jfr_split.specs.Splits.{splitting};
     ghost use Rattle.jfr_split.specs.Parts.{part_of};
 
-    ghost rule = { λ s. splitting s.rule.now s.file.now };
+    ghost rule = { λ s. splitting s.split.rule.now s.split.file.now };
 
-    ghost seen = { λ s before. part_of s.rule.now before ≡ s.part };
+    ghost seen = { λ s before. part_of s.split.rule.now before ≡ s.part };
 
     fn opened<P: Place, O: Sink>(&self, _place: &mut P, _out: &mut O) -> Result<(), Ending> {
         Ok(())
@@ -45,8 +43,8 @@ impl Stage for Splitting<'_> {
         chunk: &[u8],
         _number: u64,
     ) -> Result<(), Ending> {
-        write_chunk(self.alloc, place, self.rule, self.file, &self.part, chunk)?;
-        self.part = next_part(self.rule, &self.part, chunk);
+        write_chunk(self.split, place, &self.part, chunk)?;
+        self.part = next_part(self.split.rule, &self.part, chunk);
         Ok(())
     }
 
@@ -72,9 +70,7 @@ pub fn disassemble<P: Place>(alloc: Global, place: &mut P, file: &str, rule: &Sp
         → (result ≢ Ending.WriteFault) × ((P.state place.new).write_faults ≡ (P.state place.old).write_faults) }
 {
     let mut stage = Splitting {
-        alloc,
-        file,
-        rule,
+        split: Split { alloc, file, rule },
         part: Part::none(),
     };
     let mut at = Position::first(alloc);

@@ -16,6 +16,14 @@ use jfr_header::Ending;
 use jfr_outside::Place;
 use std::alloc::Global;
 
+/// What stays the same while a recording is split: its name, and the rule.
+#[derive(Clone, Copy)]
+pub struct Split<'a> {
+    pub alloc: Global,
+    pub file: &'a str,
+    pub rule: &'a SplitRule,
+}
+
 /// Finishes the last part, if there is one.
 pub fn close_part<P: Place>(place: &mut P, part: &Part) -> Result<(), Ending>
     ensures told { (sink : SinkState) → PartLeaves (Goes (closing part.now)) result
@@ -30,68 +38,59 @@ pub fn close_part<P: Place>(place: &mut P, part: &Part) -> Result<(), Ending>
 }
 
 // Finishes the last part and creates the next one.
-fn open_part<P: Place>(
-    alloc: Global,
-    place: &mut P,
-    rule: &SplitRule,
-    file: &str,
-    part: &Part,
-) -> Result<(), Ending>
+fn open_part<P: Place>(split: Split<'_>, place: &mut P, part: &Part) -> Result<(), Ending>
     requires { part.now.number + 1 ≤ 999999 }
     ensures told { (sink : SinkState) → PartLeaves
-        (Goes (closing part.now ++ Create (part_name (folder_of rule.now) file.now (part.now.number + 1)) ∷ [])) result
+        (Goes (closing part.now ++ Create (part_name (folder_of split.entry.rule.now) split.entry.file.now (part.now.number + 1)) ∷ [])) result
         (outside (P.state place.old) sink) (outside (P.state place.new) sink) }
     ensures counts { (sink : SinkState) → PartTallied Parts result
         (outside (P.state place.old) sink) (outside (P.state place.new) sink) }
 {
     close_part(place, part)?;
-    let name = part_string(alloc, folder_name(rule), file, part.number + 1)?;
+    let folder = folder_name(split.rule);
+    let name = part_string(split.alloc, folder, split.file, part.number + 1)?;
     create_output(place, name.as_str())
 }
 
 // Starts a new part with the chunk, if there may be one more.
 fn begin_part<P: Place>(
-    alloc: Global,
+    split: Split<'_>,
     place: &mut P,
-    rule: &SplitRule,
-    file: &str,
     part: &Part,
     chunk: &[u8],
 ) -> Result<(), Ending>
-    requires { IsUsable rule.now }
-    ensures room { OnOk result (part.now.number < rule.now.max_parts) }
+    requires { IsUsable split.rule.now }
+    ensures room { OnOk result (part.now.number < split.entry.rule.now.max_parts) }
     ensures told { (sink : SinkState) → PartLeaves
-        (asks_new rule.now (part_name (folder_of rule.now) file.now) part.now chunk.now) result
+        (asks_new split.entry.rule.now (part_name (folder_of split.entry.rule.now) split.entry.file.now) part.now chunk.now) result
         (outside (P.state place.old) sink) (outside (P.state place.new) sink) }
     ensures counts { (sink : SinkState) → PartTallied Parts result
         (outside (P.state place.old) sink) (outside (P.state place.new) sink) }
 {
-    if rule.max_parts <= part.number {
+    if split.rule.max_parts <= part.number {
         return Err(Ending::TooManyParts);
     }
-    open_part(alloc, place, rule, file, part)?;
+    open_part(split, place, part)?;
     append_chunk(place, chunk)
 }
 
 /// Appends the chunk to its part, which is created first if the chunk starts it.
 pub fn write_chunk<P: Place>(
-    alloc: Global,
+    split: Split<'_>,
     place: &mut P,
-    rule: &SplitRule,
-    file: &str,
     part: &Part,
     chunk: &[u8],
 ) -> Result<(), Ending>
-    requires { IsUsable rule.now }
-    ensures room { OnOk result (begins rule.now part.now chunk.now ≡ true → part.now.number < rule.now.max_parts) }
+    requires { IsUsable split.rule.now }
+    ensures room { OnOk result (begins split.entry.rule.now part.now chunk.now ≡ true → part.now.number < split.entry.rule.now.max_parts) }
     ensures told { (sink : SinkState) → PartLeaves
-        (asks_part rule.now (part_name (folder_of rule.now) file.now) (begins rule.now part.now chunk.now) part.now chunk.now) result
+        (asks_part split.entry.rule.now (part_name (folder_of split.entry.rule.now) split.entry.file.now) (begins split.entry.rule.now part.now chunk.now) part.now chunk.now) result
         (outside (P.state place.old) sink) (outside (P.state place.new) sink) }
     ensures counts { (sink : SinkState) → PartTallied Parts result
         (outside (P.state place.old) sink) (outside (P.state place.new) sink) }
 {
-    if starts_part(rule, part, chunk) {
-        return begin_part(alloc, place, rule, file, part, chunk);
+    if starts_part(split.rule, part, chunk) {
+        return begin_part(split, place, part, chunk);
     }
     append_chunk(place, chunk)
 }

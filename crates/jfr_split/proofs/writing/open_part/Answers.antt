@@ -12,12 +12,12 @@ use Rattle.jfr_split.proofs.writing.open_part.Goals as goal
 pub returns-in_err-close_part-clause-told : goal.returns-in_err-close_part-clause-told
 returns-in_err-close_part-clause-told g c = λ sink.
     let p = err_from_is_err_and c.from_residual.result c.from_residual.ensures.1 in
-    rw (p.1, p.2) (leaves_more (closing c.args.part.now) (Create (part_name (folder_of c.args.rule.now) c.args.file.now (c.args.part.now.number + 1)) ∷ []) _ (outside (g.P.Place.state c.args.place.now) sink) (outside (g.P.Place.state c.close_part.new.place) sink) (c.in_err-close_part.ensures.told sink))
+    rw (p.1, p.2) (leaves_more (closing c.args.part.now) (Create (part_name (folder_of c.args.split.rule.now) c.args.split.file.now (c.args.part.now.number + 1)) ∷ []) _ (outside (g.P.Place.state c.args.place.now) sink) (outside (g.P.Place.state c.close_part.new.place) sink) (c.in_err-close_part.ensures.told sink))
 
 pub returns-in_err-name-clause-told : goal.returns-in_err-name-clause-told
 returns-in_err-name-clause-told g c = λ sink.
     let p = err_from_is_err_and c.from_residual-in_err-name.result c.from_residual-in_err-name.ensures.1 in
-    rw (p.1, p.2) (leaves_none (closing c.args.part.now) (Create (part_name (folder_of c.args.rule.now) c.args.file.now (c.args.part.now.number + 1)) ∷ []) _ (outside (g.P.Place.state c.args.place.now) sink) (outside (g.P.Place.state c.close_part.new.place) sink) (c.in_ok-close_part.ensures.told sink))
+    rw (p.1, p.2) (leaves_none (closing c.args.part.now) (Create (part_name (folder_of c.args.split.rule.now) c.args.split.file.now (c.args.part.now.number + 1)) ∷ []) _ (outside (g.P.Place.state c.args.place.now) sink) (outside (g.P.Place.state c.close_part.new.place) sink) (c.in_ok-close_part.ensures.told sink))
 
 pub returns-in_err-name-clause-counts : goal.returns-in_err-name-clause-counts
 returns-in_err-name-clause-counts g c = λ sink.
@@ -29,8 +29,8 @@ returns-clause-told g c = λ sink.
     let x = outside (g.P.Place.state c.args.place.now) sink in
     let y = outside (g.P.Place.state c.close_part.new.place) sink in
     let z = outside (g.P.Place.state c.create_output.new.place) sink in
-    leaves_then (closing c.args.part.now) (Create (part_name (folder_of c.args.rule.now) c.args.file.now (c.args.part.now.number + 1)) ∷ []) _ c.create_output.result x y z (c.in_ok-close_part.ensures.counts sink).3 (c.in_ok-close_part.ensures.told sink)
-    (subst (λ (n : List ℕ). PartLeaves (Goes (Create n ∷ [])) c.create_output.result y z) (c.as_str.ensures.value ∙ c.in_ok-name.ensures ∙ ap (λ (o : Option (List ℕ)). part_name o c.args.file.now (c.args.part.now.number + 1)) c.folder_name.ensures) (c.create_output.ensures.told sink))
+    leaves_then (closing c.args.part.now) (Create (part_name (folder_of c.args.split.rule.now) c.args.split.file.now (c.args.part.now.number + 1)) ∷ []) _ c.create_output.result x y z (c.in_ok-close_part.ensures.counts sink).3 (c.in_ok-close_part.ensures.told sink)
+    (subst (λ (n : List ℕ). PartLeaves (Goes (Create n ∷ [])) c.create_output.result y z) (c.as_str.ensures.value ∙ c.in_ok-name.ensures ∙ ap (λ (o : Option (List ℕ)). part_name o c.args.split.file.now (c.args.part.now.number + 1)) c.folder_name-folder.ensures) (c.create_output.ensures.told sink))
 
 pub returns-clause-counts : goal.returns-clause-counts
 returns-clause-counts g c = λ sink.
