@@ -2,15 +2,25 @@
 ghost use Rattle.std.specs.Prelude.{◌≡◌, ◌≤◌, is_some, length, map, IfOk, IsSome};
 ghost use Rattle.jfr_base.specs.Formats.{run, times};
 ghost use Rattle.jfr_frame.specs.Records.{IsRecord, record_end};
-ghost use Rattle.jfr_layout.specs.Classes.{find_class};
-ghost use Rattle.jfr_pool.specs.Entries.{checkpoint_format, constant_format, entries_from, pool_format};
+ghost use Rattle.jfr_layout.specs.Classes.{IsFieldLayout, Sound, find_class};
+ghost use Rattle.jfr_pool.specs.Entries.{checkpoint_format, constant_format, entries_from, inline, pool_format};
 ghost use Rattle.jfr_pool.specs.Listing.{Adds, count_format, entry_alone, entry_in, integer_by, listed, pool_entries, single};
 
 use crate::EntryAt;
 use jfr_base::{Flaw, ReadFault, Reason, Var, read_within};
 use jfr_frame::Framed;
-use jfr_layout::{Classes, Shape};
-use jfr_value::end_of;
+use jfr_layout::{Classes, FieldLayout, Shape};
+use jfr_value::{end_by_layout, layout_of};
+
+/// What stays the same while a checkpoint's body is read: the chunk, its classes, and the offset at which the
+/// checkpoint's record ends.
+#[derive(Clone, Copy)]
+struct Body<'a> {
+    chunk: &'a [u8],
+    classes: &'a Classes,
+    limit: usize,
+    ghost within: { limit ≤ length chunk.now },
+}
 
 /// A pool: its class, the number of its checkpoint in the chain, in the order of the file, and its own number
 /// in the checkpoint, both from 0.
@@ -34,15 +44,12 @@ pub(crate) fn read_checkpoint(
 {
     let limit = frame.end();
     let count = pool_count(chunk, frame.body, limit)?;
-    let to = read_pools(
+    let body = Body {
         chunk,
         classes,
-        number,
-        count.value,
-        count.end,
         limit,
-        entries,
-    )?;
+    };
+    let to = read_pools(body, number, count, entries)?;
     if to < limit {
         return Err(ReadFault::Flawed(Flaw {
             offset: to as u64,
@@ -71,32 +78,20 @@ fn pool_count(chunk: &[u8], at: usize, limit: usize) -> Result<Var, Flaw>
     Ok(count)
 }
 
-/// Adds the entries of `count` pools, and returns where they end.
+/// Adds the entries of a checkpoint's pools, which come after their count, and returns where they end.
 fn read_pools(
-    chunk: &[u8],
-    classes: &Classes,
+    body: Body<'_>,
     checkpoint: usize,
-    count: u64,
-    at: usize,
-    limit: usize,
+    count: Var,
     entries: &mut Vec<EntryAt>,
 ) -> Result<usize, ReadFault>
-    requires order { at ≤ limit }
-    requires within { limit ≤ length chunk.now }
-    ensures exact { Adds (listed (entries_from checkpoint 0) (run (times count (pool_format classes.now)) chunk.now limit at)) entries.old.items entries.new.items result }
-    ensures range { IfOk result (λ to. to ≤ limit) }
+    requires order { count.end ≤ body.limit }
+    ensures exact { Adds (listed (entries_from checkpoint 0) (run (times count.value (pool_format body.entry.classes.now)) body.entry.chunk.now body.entry.limit count.end)) entries.old.items entries.new.items result }
+    ensures range { IfOk result (λ to. to ≤ body.entry.limit) }
 {
-    let mut to = at;
-    for number in 0..count {
-        to = read_pool(
-            chunk,
-            classes,
-            checkpoint,
-            number as usize,
-            to,
-            limit,
-            entries,
-        )?;
+    let mut to = count.end;
+    for number in 0..count.value {
+        to = read_pool(body, checkpoint, number as usize, to, entries)?;
     }
     Ok(to)
 }
@@ -104,33 +99,31 @@ fn read_pools(
 /// Adds the entries of the pool with this number, and returns where it ends. The pool is refused if its class
 /// isn't known.
 fn read_pool(
-    chunk: &[u8],
-    classes: &Classes,
+    body: Body<'_>,
     checkpoint: usize,
     number: usize,
     at: usize,
-    limit: usize,
     entries: &mut Vec<EntryAt>,
 ) -> Result<usize, ReadFault>
-    requires order { at ≤ limit }
-    requires within { limit ≤ length chunk.now }
-    ensures exact { Adds (listed (pool_entries checkpoint number) (run (pool_format classes.now) chunk.now limit at)) entries.old.items entries.new.items result }
-    ensures range { IfOk result (λ to. to ≤ limit) }
+    requires order { at ≤ body.limit }
+    ensures exact { Adds (listed (pool_entries checkpoint number) (run (pool_format body.entry.classes.now) body.entry.chunk.now body.entry.limit at)) entries.old.items entries.new.items result }
+    ensures range { IfOk result (λ to. to ≤ body.entry.limit) }
 {
-    let class = read_within(chunk, at, limit)?;
-    if !is_known(classes, class.value) {
+    let class = read_within(body.chunk, at, body.limit)?;
+    if !is_known(body.classes, class.value) {
         return Err(ReadFault::Flawed(Flaw {
             offset: at as u64,
             reason: Reason::PoolType,
         }));
     }
-    let count = read_within(chunk, class.end, limit)?;
+    let count = read_within(body.chunk, class.end, body.limit)?;
     let pool = PoolId {
         class: class.value,
         checkpoint,
         number,
     };
-    read_entries(chunk, classes, pool, count.value, count.end, limit, entries)
+    let layout = layout_of(body.classes, Shape::inline(class.value));
+    read_entries(body, pool, &layout, count, entries)
 }
 
 /// Whether there is a class with this id.
@@ -140,47 +133,47 @@ fn is_known(classes: &Classes, class: u64) -> bool
     classes.find(class).is_some()
 }
 
-/// Adds `count` entries of a pool, and returns where they end.
+/// Adds the entries of a pool, which come after their count, and returns where they end. Their values have
+/// this layout.
 fn read_entries(
-    chunk: &[u8],
-    classes: &Classes,
+    body: Body<'_>,
     pool: PoolId,
-    count: u64,
-    at: usize,
-    limit: usize,
+    layout: &FieldLayout,
+    count: Var,
     entries: &mut Vec<EntryAt>,
 ) -> Result<usize, ReadFault>
-    requires known { IsSome (find_class classes.now pool.class) }
-    requires order { at ≤ limit }
-    requires within { limit ≤ length chunk.now }
-    ensures exact { Adds (listed (map (entry_in pool)) (run (times count (constant_format classes.now pool.class)) chunk.now limit at)) entries.old.items entries.new.items result }
-    ensures range { IfOk result (λ to. to ≤ limit) }
+    requires sound { Sound body.classes.now }
+    requires layout { IsFieldLayout body.classes.now layout.now }
+    requires shape { layout.now.shape ≡ inline pool.class }
+    requires order { count.end ≤ body.limit }
+    ensures exact { Adds (listed (map (entry_in pool)) (run (times count.value (constant_format body.entry.classes.now pool.class)) body.entry.chunk.now body.entry.limit count.end)) entries.old.items entries.new.items result }
+    ensures range { IfOk result (λ to. to ≤ body.entry.limit) }
 {
-    let mut to = at;
-    for _ in 0..count {
-        let entry = read_entry(chunk, classes, pool, to, limit)?;
+    let mut to = count.end;
+    for _ in 0..count.value {
+        let entry = read_entry(body, pool, layout, to)?;
         entries.push(entry)?;
         to = entry.end;
     }
     Ok(to)
 }
 
-/// The entry that starts at the offset `at`: its key, and its value.
+/// The entry that starts at the offset `at`: its key, and its value, which has this layout.
 fn read_entry(
-    chunk: &[u8],
-    classes: &Classes,
+    body: Body<'_>,
     pool: PoolId,
+    layout: &FieldLayout,
     at: usize,
-    limit: usize,
 ) -> Result<EntryAt, Flaw>
-    requires known { IsSome (find_class classes.now pool.class) }
-    requires order { at ≤ limit }
-    requires within { limit ≤ length chunk.now }
-    ensures exact { listed (entry_alone pool) (run (constant_format classes.now pool.class) chunk.now limit at) ≡ single result }
-    ensures range { IfOk result (λ e. e.end ≤ limit) }
+    requires sound { Sound body.classes.now }
+    requires layout { IsFieldLayout body.classes.now layout.now }
+    requires shape { layout.now.shape ≡ inline pool.class }
+    requires order { at ≤ body.limit }
+    ensures exact { listed (entry_alone pool) (run (constant_format body.entry.classes.now pool.class) body.entry.chunk.now body.entry.limit at) ≡ single result }
+    ensures range { IfOk result (λ e. e.end ≤ body.entry.limit) }
 {
-    let key = read_within(chunk, at, limit)?;
-    let end = end_of(classes, Shape::inline(pool.class), chunk, key.end, limit)?;
+    let key = read_within(body.chunk, at, body.limit)?;
+    let end = end_by_layout(body.classes, layout, body.chunk, key.end, body.limit)?;
     Ok(EntryAt {
         class: pool.class,
         key: key.value,

@@ -37,6 +37,15 @@ pub(crate) enum Progress<'a> {
     Found(Leaf<'a>),
 }
 
+/// What a frame of items still has, as in `Frame::Items`.
+#[derive(Clone, Copy)]
+struct RemainingItems {
+    shape: Shape,
+    place: usize,
+    left: u64,
+    levels: u32,
+}
+
 /// The next leaf.
 pub(crate) fn next_in<'a>(cursor: &mut Cursor, walk: &Walk<'_, 'a, ()>) -> Option<Leaf<'a>>
     requires sound { Sound walk.now.classes.now }
@@ -78,7 +87,16 @@ fn advance<'a>(cursor: &mut Cursor, walk: &Walk<'_, 'a, ()>) -> Progress<'a>
                 left,
                 levels,
             },
-        ) => next_item(cursor, walk, shape, place, left, levels),
+        ) => next_item(
+            cursor,
+            walk,
+            RemainingItems {
+                shape,
+                place,
+                left,
+                levels,
+            },
+        ),
     }
 }
 
@@ -114,28 +132,25 @@ fn next_field<'a>(
 fn next_item<'a>(
     cursor: &mut Cursor,
     walk: &Walk<'_, 'a, ()>,
-    shape: Shape,
-    place: usize,
-    left: u64,
-    levels: u32,
+    items: RemainingItems,
 ) -> Progress<'a>
     requires sound { Sound walk.now.classes.now }
     requires frames { AreFrames walk.now.classes.now 0 cursor.old.stack }
-    requires frame { IsFrame walk.now.classes.now (length cursor.old.stack + 1) (Items shape place left levels) }
-    requires left { (vs : Values) × IsRow walk.now.classes.now walk.now.bytes.now cursor.old.at walk.now.end (frame_shapes walk.now.classes.now (Items shape place left levels) ++ shapes_left walk.now.classes.now cursor.old.stack) vs }
+    requires frame { IsFrame walk.now.classes.now (length cursor.old.stack + 1) (Items items.shape items.place items.left items.levels) }
+    requires left { (vs : Values) × IsRow walk.now.classes.now walk.now.bytes.now cursor.old.at walk.now.end (frame_shapes walk.now.classes.now (Items items.shape items.place items.left items.levels) ++ shapes_left walk.now.classes.now cursor.old.stack) vs }
     ensures frames { AreFrames walk.now.classes.now 0 cursor.new.stack }
-    ensures left { (vs : Values) → IsRow walk.now.classes.now walk.now.bytes.now cursor.old.at walk.now.end (frame_shapes walk.now.classes.now (Items shape place left levels) ++ shapes_left walk.now.classes.now cursor.old.stack) vs → GoesOn walk.now.classes.now walk.now.bytes.now walk.now.end cursor.old.at vs (size_of_all vs + (length cursor.old.stack + 1)) cursor.new result }
+    ensures left { (vs : Values) → IsRow walk.now.classes.now walk.now.bytes.now cursor.old.at walk.now.end (frame_shapes walk.now.classes.now (Items items.shape items.place items.left items.levels) ++ shapes_left walk.now.classes.now cursor.old.stack) vs → GoesOn walk.now.classes.now walk.now.bytes.now walk.now.end cursor.old.at vs (size_of_all vs + (length cursor.old.stack + 1)) cursor.new result }
 {
-    if left == 0 {
+    if items.left == 0 {
         return Progress::Onward;
     }
     cursor.stack.push(Frame::Items {
-        shape,
-        place,
-        left: left - 1,
-        levels,
+        shape: items.shape,
+        place: items.place,
+        left: items.left - 1,
+        levels: items.levels,
     });
-    enter(cursor, walk, shape, place, levels)
+    enter(cursor, walk, items.shape, items.place, items.levels)
 }
 
 /// Enters the next value, which has this shape.

@@ -1,6 +1,6 @@
 //! The walk to a value's end, over bytes of which nothing is known: it finds the value's end or a flaw. On the
 //! way it passes the value's references to a visitor. jfr_chunk uses it for each event (`end_visiting`),
-//! jfr_pool for each constant, and jfr_show to find an object's fields (`end_of`).
+//! jfr_pool for each constant (`end_by_layout`), and jfr_show to find an object's fields (`end_of`).
 ghost use Rattle.std.specs.Prelude.{◌≡◌, ◌⊎◌, ℕ, ◌+◌, ◌≤◌, ◌<◌, length, IfOk, IfErr, Ok, IfSome, IsSome, IsTrue, ◌↔◌, slice_get, true};
 ghost use Rattle.std.specs.List.{AllByRecursion};
 ghost use Rattle.jfr_base.specs.Formats.{run, seen};
@@ -13,6 +13,7 @@ ghost use Rattle.jfr_value.specs.Values.{IsHollow, IsHollowArray, IsPlaced};
 ghost use Rattle.jfr_value.specs.Reading.{base_format, class_format, row_format, shape_format, value_format};
 ghost use Rattle.jfr_value.specs.Visits.{TakesAll, TakesRead, TakesReadAll};
 ghost use Rattle.jfr_value.specs.Walks.{Room};
+ghost use Rattle.jfr_value.specs.declared.walk.TheConstants.{INNER_LEVELS};
 
 use crate::Visit;
 use crate::fused::fused_end;
@@ -44,13 +45,35 @@ pub fn end_of(
     ensures exact { result ≡ seen (run (value_format classes.now shape) bytes.now end at) }
 {
     let layout = layout_of(classes, shape);
+    end_by_layout(classes, &layout, bytes, at, end)
+}
+
+/// The offset after the value with this layout that starts at the offset `at`, as `end_of` returns it. A
+/// caller that reads many values of a class looks up the class only once, by `layout_of`.
+#[inline]
+pub fn end_by_layout(
+    classes: &Classes,
+    layout: &FieldLayout,
+    bytes: &[u8],
+    at: usize,
+    end: usize,
+) -> Result<usize, Flaw>
+    requires sound { Sound classes.now }
+    requires layout { IsFieldLayout classes.now layout.now }
+    requires order { at ≤ end }
+    requires within { end ≤ length bytes.now }
+    ensures ok { IfOk result (λ to. EndsAt classes.now bytes.now layout.now.shape at to × (to ≤ end)) }
+    ensures refused { IfErr result (IsRefused classes.now bytes.now layout.now.shape at end) }
+    ensures reason { IfErr result (λ flaw. IsValueReason flaw.reason) }
+    ensures exact { result ≡ seen (run (value_format classes.now layout.now.shape) bytes.now end at) }
+{
     let walk = Walk {
         classes,
         bytes,
         end,
         with: &(),
     };
-    value_end(walk, &layout, at, &mut NoVisit)
+    value_end(walk, layout, at, &mut NoVisit)
 }
 
 /// The offset after a value, as `end_of` returns it. The class and the key of each reference, and of each
@@ -106,7 +129,7 @@ fn value_end<C, V: Visit<C>>(
     match layout.form {
         Form::Fields => {
             let class_layout = walk.classes.class_layout(layout.class_index);
-            whole_row_end(walk, class_layout, at, LEVELS - 1, visitor)
+            whole_row_end(walk, class_layout, at, visitor)
         }
         _ => other_end(walk, layout, at, visitor),
     }
@@ -349,22 +372,21 @@ fn whole_row_end<C, V: Visit<C>>(
     walk: Walk<'_, '_, C>,
     class_layout: &ClassLayout,
     at: usize,
-    levels: u32,
     visitor: &mut V,
 ) -> Result<usize, Flaw>
     requires layouts { AllByRecursion (IsFieldLayout walk.classes.now) class_layout.now.layouts.items }
-    requires room { AllByRecursion (λ s. Room walk.classes.now levels s.shape) class_layout.now.layouts.items }
+    requires room { AllByRecursion (λ s. Room walk.classes.now INNER_LEVELS s.shape) class_layout.now.layouts.items }
     requires fused_fields { AreFused class_layout.now.layouts.items class_layout.now.fused_fields.items }
     requires order { at ≤ walk.end }
     requires ready { V.ready visitor.old walk.with.now }
-    ensures exact { result ≡ seen (run (row_format (levels + 1) walk.entry.classes.now class_layout.now.layouts.items) walk.entry.bytes.now walk.entry.end at) }
+    ensures exact { result ≡ seen (run (row_format (INNER_LEVELS + 1) walk.entry.classes.now class_layout.now.layouts.items) walk.entry.bytes.now walk.entry.end at) }
     ensures range { IfOk result (λ to. (at ≤ to) × (to ≤ walk.entry.end)) }
-    ensures visited { TakesReadAll (V.takes walk.entry.with.now) (run (row_format (levels + 1) walk.entry.classes.now class_layout.now.layouts.items) walk.entry.bytes.now walk.entry.end at) visitor.old visitor.new }
+    ensures visited { TakesReadAll (V.takes walk.entry.with.now) (run (row_format (INNER_LEVELS + 1) walk.entry.classes.now class_layout.now.layouts.items) walk.entry.bytes.now walk.entry.end at) visitor.old visitor.new }
     ensures ready { V.ready visitor.new walk.entry.with.now }
 {
     let mut to = at;
     for fused in &class_layout.fused_fields {
-        to = fused_end(walk, class_layout, fused, to, levels, visitor)?;
+        to = fused_end(walk, class_layout, fused, to, visitor)?;
     }
     Ok(to)
 }

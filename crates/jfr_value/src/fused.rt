@@ -8,12 +8,13 @@ ghost use Rattle.jfr_layout.specs.Fused.{IsEventPrelude, IsFused, passed_by};
 ghost use Rattle.jfr_value.specs.Reading.{row_format};
 ghost use Rattle.jfr_value.specs.Visits.{TakesReadAll};
 ghost use Rattle.jfr_value.specs.Walks.{Room};
+ghost use Rattle.jfr_value.specs.declared.walk.TheConstants.{INNER_LEVELS};
 
 use crate::Visit;
 use crate::extent::fields_end;
 use crate::integers::{integer_end, integers_end};
 use crate::keys::{key_end, text_end};
-use crate::walk::Walk;
+use crate::walk::{INNER_LEVELS, Walk};
 use jfr_base::Flaw;
 use jfr_layout::{ClassLayout, FusedFields, FusedKind};
 
@@ -24,17 +25,16 @@ pub(crate) fn fused_end<C, V: Visit<C>>(
     class_layout: &ClassLayout,
     fused: &FusedFields,
     at: usize,
-    levels: u32,
     visitor: &mut V,
 ) -> Result<usize, Flaw>
     requires layouts { AllByRecursion (IsFieldLayout walk.classes.now) class_layout.now.layouts.items }
-    requires room { AllByRecursion (λ s. Room walk.classes.now levels s.shape) class_layout.now.layouts.items }
+    requires room { AllByRecursion (λ s. Room walk.classes.now INNER_LEVELS s.shape) class_layout.now.layouts.items }
     requires fused { IsFused class_layout.now.layouts.items fused.now }
     requires order { at ≤ walk.end }
     requires ready { V.ready visitor.old walk.with.now }
-    ensures exact { result ≡ seen (run (row_format (levels + 1) walk.entry.classes.now (passed_by class_layout.now.layouts.items fused.now)) walk.entry.bytes.now walk.entry.end at) }
+    ensures exact { result ≡ seen (run (row_format (INNER_LEVELS + 1) walk.entry.classes.now (passed_by class_layout.now.layouts.items fused.now)) walk.entry.bytes.now walk.entry.end at) }
     ensures range { IfOk result (λ to. (at ≤ to) × (to ≤ walk.entry.end)) }
-    ensures visited { TakesReadAll (V.takes walk.entry.with.now) (run (row_format (levels + 1) walk.entry.classes.now (passed_by class_layout.now.layouts.items fused.now)) walk.entry.bytes.now walk.entry.end at) visitor.old visitor.new }
+    ensures visited { TakesReadAll (V.takes walk.entry.with.now) (run (row_format (INNER_LEVELS + 1) walk.entry.classes.now (passed_by class_layout.now.layouts.items fused.now)) walk.entry.bytes.now walk.entry.end at) visitor.old visitor.new }
     ensures ready { V.ready visitor.new walk.entry.with.now }
 {
     match fused.kind {
@@ -48,7 +48,7 @@ pub(crate) fn fused_end<C, V: Visit<C>>(
         FusedKind::Raw(count) if usize::from(count) <= walk.end - at => Ok(at + usize::from(count)),
         FusedKind::Key(class) => key_end(walk, class, at, visitor),
         FusedKind::Text(class) => text_end(walk, class, at, visitor),
-        _ => each_end(walk, class_layout, fused, at, levels, visitor),
+        _ => each_end(walk, class_layout, fused, at, visitor),
     }
 }
 
@@ -60,21 +60,20 @@ fn each_end<C, V: Visit<C>>(
     class_layout: &ClassLayout,
     fused: &FusedFields,
     at: usize,
-    levels: u32,
     visitor: &mut V,
 ) -> Result<usize, Flaw>
     requires layouts { AllByRecursion (IsFieldLayout walk.classes.now) class_layout.now.layouts.items }
-    requires room { AllByRecursion (λ s. Room walk.classes.now levels s.shape) class_layout.now.layouts.items }
+    requires room { AllByRecursion (λ s. Room walk.classes.now INNER_LEVELS s.shape) class_layout.now.layouts.items }
     requires fused { IsFused class_layout.now.layouts.items fused.now }
     requires order { at ≤ walk.end }
     requires ready { V.ready visitor.old walk.with.now }
-    ensures exact { result ≡ seen (run (row_format (levels + 1) walk.entry.classes.now (passed_by class_layout.now.layouts.items fused.now)) walk.entry.bytes.now walk.entry.end at) }
+    ensures exact { result ≡ seen (run (row_format (INNER_LEVELS + 1) walk.entry.classes.now (passed_by class_layout.now.layouts.items fused.now)) walk.entry.bytes.now walk.entry.end at) }
     ensures range { IfOk result (λ to. (at ≤ to) × (to ≤ walk.entry.end)) }
-    ensures visited { TakesReadAll (V.takes walk.entry.with.now) (run (row_format (levels + 1) walk.entry.classes.now (passed_by class_layout.now.layouts.items fused.now)) walk.entry.bytes.now walk.entry.end at) visitor.old visitor.new }
+    ensures visited { TakesReadAll (V.takes walk.entry.with.now) (run (row_format (INNER_LEVELS + 1) walk.entry.classes.now (passed_by class_layout.now.layouts.items fused.now)) walk.entry.bytes.now walk.entry.end at) visitor.old visitor.new }
     ensures ready { V.ready visitor.new walk.entry.with.now }
 {
     let fields = &class_layout.layouts[fused.first..fused.first + fused.fields];
-    let to = fields_end(&walk, fields, at, levels, visitor)?;
+    let to = fields_end(&walk, fields, at, INNER_LEVELS, visitor)?;
     Ok(to)
 }
 

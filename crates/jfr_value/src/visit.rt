@@ -35,6 +35,13 @@ pub trait Visit<C> {
         ensures takes { takes with.now (class, key) self.old self.new };
 }
 
+/// Where a value or fields start, and the most composite classes that can be nested from there on.
+#[derive(Clone, Copy)]
+struct Start {
+    at: usize,
+    levels: u32,
+}
+
 /// Passes the class and the key of each reference of a node, and of each string that is a key, to the
 /// visitor, from left to right. It counts a step for each leaf, and allocates nothing. The node must be one
 /// of a value.
@@ -58,7 +65,11 @@ pub fn visit_targets<C, V: Visit<C>, L: Ledger>(
         end: node.end,
         with,
     };
-    let _end = visit_value(&walk, &layout, node.at, LEVELS, visitor, steps);
+    let start = Start {
+        at: node.at,
+        levels: LEVELS,
+    };
+    let _end = visit_value(&walk, &layout, start, visitor, steps);
 }
 
 /// Visits a value with this layout, and returns where it ends.
@@ -67,26 +78,31 @@ pub fn visit_targets<C, V: Visit<C>, L: Ledger>(
 fn visit_value<C, V: Visit<C>, L: Ledger>(
     walk: &Walk<'_, '_, C>,
     layout: &FieldLayout,
-    at: usize,
-    levels: u32,
+    start: Start,
     visitor: &mut V,
     steps: &mut Steps<L>,
 ) -> usize
     requires sound { Sound walk.now.classes.now }
     requires layout { IsLayoutIfKnown walk.now.classes.now layout.now }
-    requires room { Room walk.now.classes.now levels layout.now.shape }
-    requires stands { (to : ℕ) × EndsAt walk.now.classes.now walk.now.bytes.now layout.now.shape at to × (to ≤ walk.now.end) }
+    requires room { Room walk.now.classes.now start.levels layout.now.shape }
+    requires stands { (to : ℕ) × EndsAt walk.now.classes.now walk.now.bytes.now layout.now.shape start.at to × (to ≤ walk.now.end) }
     requires ready { V.ready visitor.old walk.now.with.now }
-    ensures visited { (to : ℕ) (v : Value) → IsNode walk.now.classes.now walk.now.bytes.now (node_at layout.now.shape at to) v → to ≤ walk.now.end
-        → (result ≡ to) × TakesAll (V.takes walk.now.with.now) (targets_of v) visitor.old visitor.new × (steps.new ≡ steps.old + length (leaves_at at v)) }
+    ensures visited { (to : ℕ) (v : Value) → IsNode walk.now.classes.now walk.now.bytes.now (node_at layout.now.shape start.at to) v → to ≤ walk.now.end
+        → (result ≡ to) × TakesAll (V.takes walk.now.with.now) (targets_of v) visitor.old visitor.new × (steps.new ≡ steps.old + length (leaves_at start.at v)) }
     ensures ready { V.ready visitor.new walk.now.with.now }
 {
     match layout.form {
-        Form::Integer | Form::Raw(_) => visit_plain(walk, layout.kind, at, steps),
-        Form::Key => visit_key(walk, layout.shape.class, at, visitor, steps),
-        Form::Text => visit_string(walk, layout.shape.class, at, visitor, steps),
-        Form::Fields => visit_fields(walk, layout.class_index, at, levels - 1, visitor, steps),
-        Form::Array => visit_array(walk, layout, at, levels, visitor, steps),
+        Form::Integer | Form::Raw(_) => visit_plain(walk, layout.kind, start.at, steps),
+        Form::Key => visit_key(walk, layout.shape.class, start.at, visitor, steps),
+        Form::Text => visit_string(walk, layout.shape.class, start.at, visitor, steps),
+        Form::Fields => {
+            let fields = Start {
+                at: start.at,
+                levels: start.levels - 1,
+            };
+            visit_fields(walk, layout.class_index, fields, visitor, steps)
+        }
+        Form::Array => visit_array(walk, layout, start, visitor, steps),
     }
 }
 
@@ -95,23 +111,26 @@ fn visit_value<C, V: Visit<C>, L: Ledger>(
 fn visit_fields<C, V: Visit<C>, L: Ledger>(
     walk: &Walk<'_, '_, C>,
     place: usize,
-    at: usize,
-    levels: u32,
+    start: Start,
     visitor: &mut V,
     steps: &mut Steps<L>,
 ) -> usize
     requires sound { Sound walk.now.classes.now }
     requires placed { place < length walk.now.classes.now }
-    requires room { AllByRecursion (Room walk.now.classes.now levels) (field_shapes walk.now.classes.now place) }
-    requires stand { (to : ℕ) × (vs : Values) × IsRow walk.now.classes.now walk.now.bytes.now at to (field_shapes walk.now.classes.now place) vs × (to ≤ walk.now.end) }
+    requires room { AllByRecursion (Room walk.now.classes.now start.levels) (field_shapes walk.now.classes.now place) }
+    requires stand { (to : ℕ) × (vs : Values) × IsRow walk.now.classes.now walk.now.bytes.now start.at to (field_shapes walk.now.classes.now place) vs × (to ≤ walk.now.end) }
     requires ready { V.ready visitor.old walk.now.with.now }
-    ensures visited { (to : ℕ) (vs : Values) → IsRow walk.now.classes.now walk.now.bytes.now at to (field_shapes walk.now.classes.now place) vs → to ≤ walk.now.end
-        → (result ≡ to) × TakesAll (V.takes walk.now.with.now) (targets_of_all vs) visitor.old visitor.new × (steps.new ≡ steps.old + length (leaves_from at vs)) }
+    ensures visited { (to : ℕ) (vs : Values) → IsRow walk.now.classes.now walk.now.bytes.now start.at to (field_shapes walk.now.classes.now place) vs → to ≤ walk.now.end
+        → (result ≡ to) × TakesAll (V.takes walk.now.with.now) (targets_of_all vs) visitor.old visitor.new × (steps.new ≡ steps.old + length (leaves_from start.at vs)) }
     ensures ready { V.ready visitor.new walk.now.with.now }
 {
-    let mut to = at;
+    let mut to = start.at;
     for layout in walk.classes.layouts(place) {
-        to = visit_value(walk, layout, to, levels, visitor, steps);
+        let field = Start {
+            at: to,
+            levels: start.levels,
+        };
+        to = visit_value(walk, layout, field, visitor, steps);
     }
     to
 }
@@ -121,22 +140,21 @@ fn visit_fields<C, V: Visit<C>, L: Ledger>(
 fn visit_array<C, V: Visit<C>, L: Ledger>(
     walk: &Walk<'_, '_, C>,
     layout: &FieldLayout,
-    at: usize,
-    levels: u32,
+    start: Start,
     visitor: &mut V,
     steps: &mut Steps<L>,
 ) -> usize
     requires sound { Sound walk.now.classes.now }
     requires array { layout.now.shape.array ≡ true }
     requires layout { IsLayoutIfKnown walk.now.classes.now layout.now }
-    requires room { Room walk.now.classes.now levels layout.now.shape }
-    requires stands { (to : ℕ) × EndsAt walk.now.classes.now walk.now.bytes.now layout.now.shape at to × (to ≤ walk.now.end) }
+    requires room { Room walk.now.classes.now start.levels layout.now.shape }
+    requires stands { (to : ℕ) × EndsAt walk.now.classes.now walk.now.bytes.now layout.now.shape start.at to × (to ≤ walk.now.end) }
     requires ready { V.ready visitor.old walk.now.with.now }
-    ensures visited { (to : ℕ) (v : Value) → IsNode walk.now.classes.now walk.now.bytes.now (node_at layout.now.shape at to) v → to ≤ walk.now.end
-        → (result ≡ to) × TakesAll (V.takes walk.now.with.now) (targets_of v) visitor.old visitor.new × (steps.new ≡ steps.old + length (leaves_at at v)) }
+    ensures visited { (to : ℕ) (v : Value) → IsNode walk.now.classes.now walk.now.bytes.now (node_at layout.now.shape start.at to) v → to ≤ walk.now.end
+        → (result ≡ to) × TakesAll (V.takes walk.now.with.now) (targets_of v) visitor.old visitor.new × (steps.new ≡ steps.old + length (leaves_at start.at v)) }
     ensures ready { V.ready visitor.new walk.now.with.now }
 {
-    let Ok(count) = read_within(walk.bytes, at, walk.end) else {
+    let Ok(count) = read_within(walk.bytes, start.at, walk.end) else {
         unreachable!()
     };
     steps.tick();
@@ -149,7 +167,11 @@ fn visit_array<C, V: Visit<C>, L: Ledger>(
     let item = item_layout(layout);
     let mut to = count.end;
     'items: for _ in 0..count.value {
-        to = visit_value(walk, &item, to, levels, visitor, steps);
+        let next = Start {
+            at: to,
+            levels: start.levels,
+        };
+        to = visit_value(walk, &item, next, visitor, steps);
     }
     to
 }

@@ -8,6 +8,9 @@ use std::alloc::AllocError;
 /// steps.
 pub(crate) const LEVELS: u32 = 33;
 
+/// The most composite classes that can be nested in the fields of the outermost.
+pub(crate) const INNER_LEVELS: u32 = LEVELS - 1;
+
 /// What stays the same during a walk over a value: the classes, the bytes of the chunk, the offset by which
 /// the value has to end, and what the visitor looks at. The inlined walk over an event passes this by value,
 /// so that all of it stays in registers; recursive calls pass it by reference.

@@ -7,7 +7,7 @@ use Rattle.jfr_pool.proofs.checkpoint.read_entries.Given as goal
 
 abbrev pub invariant-loop : goal.invariant-loop
 invariant-loop l = record {
-  upto : l.to ≤ l.limit;
-  adding : Adding (listed (map (entry_in l.pool)) (run (times l.count (constant_format l.classes l.pool.class)) l.chunk l.limit l.at)) l.fn.entries.items l.entries.items
-      (listed (map (entry_in l.pool)) (run (times (l.count - l.counter) (constant_format l.classes l.pool.class)) l.chunk l.limit l.to));
+  upto : l.to ≤ l.body.limit;
+  adding : Adding (listed (map (entry_in l.pool)) (run (times l.fn.count.value (constant_format l.body.classes.now l.pool.class)) l.body.chunk.now l.body.limit l.fn.count.end)) l.fn.entries.items l.entries.items
+      (listed (map (entry_in l.pool)) (run (times (l.fn.count.value - l.counter) (constant_format l.body.classes.now l.pool.class)) l.body.chunk.now l.body.limit l.to));
 }

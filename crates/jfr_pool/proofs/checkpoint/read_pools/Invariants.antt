@@ -7,7 +7,7 @@ use Rattle.jfr_pool.proofs.checkpoint.read_pools.Given as goal
 
 abbrev pub invariant-loop-number : goal.invariant-loop-number
 invariant-loop-number l = record {
-  upto : l.to ≤ l.limit;
-  adding : Adding (listed (entries_from l.checkpoint 0) (run (times l.count (pool_format l.classes)) l.chunk l.limit l.at)) l.fn.entries.items l.entries.items
-      (listed (entries_from l.checkpoint l.number) (run (times (l.count - l.number) (pool_format l.classes)) l.chunk l.limit l.to));
+  upto : l.to ≤ l.body.limit;
+  adding : Adding (listed (entries_from l.checkpoint 0) (run (times l.fn.count.value (pool_format l.body.classes.now)) l.body.chunk.now l.body.limit l.fn.count.end)) l.fn.entries.items l.entries.items
+      (listed (entries_from l.checkpoint l.number) (run (times (l.fn.count.value - l.number) (pool_format l.body.classes.now)) l.body.chunk.now l.body.limit l.to));
 }

@@ -1,6 +1,7 @@
 use Rattle.std.proofs.Common.{◌≡◌, ◌+◌, ◌≤◌}
 use Rattle.jfr_base.specs.Formats.{run, seen}
 use Rattle.jfr_value.specs.Reading.{row_format}
+use Rattle.jfr_value.specs.declared.walk.TheConstants.{INNER_LEVELS}
 use Rattle.jfr_value.proofs.FusedLaws.{left_by}
 use Rattle.jfr_value.proofs.TakingLaws.{TakesLeft}
 use Rattle.jfr_value.proofs.extent.whole_row_end.Given as goal
@@ -9,8 +10,8 @@ abbrev pub invariant-loop-fused : goal.invariant-loop-fused
 invariant-loop-fused g l = record {
   from : l.at ≤ l.to;
   upto : l.to ≤ l.walk.end;
-  same : seen (run (row_format (l.levels + 1) l.walk.classes.now (left_by l.class_layout.layouts.items l.class_layout.fused_fields.items l.fused-index)) l.walk.bytes.now l.walk.end l.to) ≡ seen (run (row_format (l.levels + 1) l.walk.classes.now l.class_layout.layouts.items) l.walk.bytes.now l.walk.end l.at);
+  same : seen (run (row_format (INNER_LEVELS + 1) l.walk.classes.now (left_by l.class_layout.layouts.items l.class_layout.fused_fields.items l.fused-index)) l.walk.bytes.now l.walk.end l.to) ≡ seen (run (row_format (INNER_LEVELS + 1) l.walk.classes.now l.class_layout.layouts.items) l.walk.bytes.now l.walk.end l.at);
   ready : g.V.Visit.ready l.visitor l.walk.with.now;
-  left : TakesLeft (g.V.Visit.takes l.walk.with.now) (run (row_format (l.levels + 1) l.walk.classes.now l.class_layout.layouts.items) l.walk.bytes.now l.walk.end l.at)
-      (run (row_format (l.levels + 1) l.walk.classes.now (left_by l.class_layout.layouts.items l.class_layout.fused_fields.items l.fused-index)) l.walk.bytes.now l.walk.end l.to) l.initial.visitor l.visitor;
+  left : TakesLeft (g.V.Visit.takes l.walk.with.now) (run (row_format (INNER_LEVELS + 1) l.walk.classes.now l.class_layout.layouts.items) l.walk.bytes.now l.walk.end l.at)
+      (run (row_format (INNER_LEVELS + 1) l.walk.classes.now (left_by l.class_layout.layouts.items l.class_layout.fused_fields.items l.fused-index)) l.walk.bytes.now l.walk.end l.to) l.initial.visitor l.visitor;
 }

@@ -8,13 +8,13 @@ use Rattle.jfr_value.proofs.VisitLaws.{Left}
 use Rattle.jfr_value.proofs.visit.+visits.Given as goal
 
 abbrev pub decreases-visit_array : goal.decreases-visit_array
-decreases-visit_array g l = 4 * l.levels + 1
+decreases-visit_array g l = 4 * l.start.levels + 1
 
 abbrev pub decreases-visit_fields : goal.decreases-visit_fields
-decreases-visit_fields g l = 4 * l.levels + 3
+decreases-visit_fields g l = 4 * l.start.levels + 3
 
 abbrev pub decreases-visit_value : goal.decreases-visit_value
-decreases-visit_value g l = 4 * l.levels + (if l.layout.now.shape.array then 2 else 0)
+decreases-visit_value g l = 4 * l.start.levels + (if l.layout.now.shape.array then 2 else 0)
 
 abbrev pub invariant-visit_array-items : goal.invariant-visit_array-items
 invariant-visit_array-items g l = record {
@@ -26,6 +26,6 @@ invariant-visit_array-items g l = record {
 abbrev pub invariant-visit_fields-loop-layout : goal.invariant-visit_fields-loop-layout
 invariant-visit_fields-loop-layout g l = record {
   ready : g.V.Visit.ready l.visitor l.walk.with.now;
-  left : (to : ℕ) (vs : Values) → IsRow l.walk.classes.now l.walk.bytes.now l.at to (field_shapes l.walk.classes.now l.place) vs → to ≤ l.walk.end
-      → Left (g.V.Visit.takes l.walk.with.now) l.walk.classes.now l.walk.bytes.now l.at to vs l.initial.visitor l.initial.steps (drop l.layout-index (field_shapes l.walk.classes.now l.place)) l.to l.visitor l.steps;
+  left : (to : ℕ) (vs : Values) → IsRow l.walk.classes.now l.walk.bytes.now l.start.at to (field_shapes l.walk.classes.now l.place) vs → to ≤ l.walk.end
+      → Left (g.V.Visit.takes l.walk.with.now) l.walk.classes.now l.walk.bytes.now l.start.at to vs l.initial.visitor l.initial.steps (drop l.layout-index (field_shapes l.walk.classes.now l.place)) l.to l.visitor l.steps;
 }
