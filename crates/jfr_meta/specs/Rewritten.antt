@@ -9,7 +9,7 @@ use Rattle.jfr_meta.specs.Written.{tree_bytes}
 use Rattle.jfr_meta.specs.Slimmed.{renumbered, uses}
 use Rattle.jfr_meta.specs.NewTables.{Tabled, number_in}
 
--- The texts of the strings with these old indices were added to the table, and then `spelled`, a function of
+-- The texts of the strings with these old indices were added to the table, and `spelled`, a function of
 -- the new indices, was written. It depends on no new index except those of these strings.
 pub record Wrote (texts : List (List ℕ)) (is : List ℕ) (spelled : (ℕ → ℕ) → List ℕ) (old new : NewTree) : Type 0 where
   pub tabled : Tabled texts is old.table new.table

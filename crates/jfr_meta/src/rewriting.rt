@@ -85,7 +85,7 @@ fn push_elements<'a>(
     Ok(())
 }
 
-/// Writes elements that aren't all children of one element.
+/// Writes some of the children of an element.
 pub(crate) fn push_each<'a>(
     tree: &mut NewTree<'a>,
     strings: &'a Words,
