@@ -1,4 +1,4 @@
--- Bytes below 128 are their own characters, however a string spells them; UTF-8 spells its own text.
+-- Payloads that are the text of their string: bytes below 128, of each kind of string, and UTF-8.
 use Rattle.std.specs.Prelude.{◌≡◌, ℕ, ◌+◌, ◌*◌, ◌%◌, ◌^◌, ◌<◌, List, [], ◌∷◌, length, Some, false}
 use Rattle.std.specs.Char.Utf16.{utf16_lossy_chars, is_high_surrogate}
 use Rattle.std.specs.List.{AllByRecursion}
@@ -17,17 +17,18 @@ use Rattle.jfr_text.specs.Strings.{SpellAll, low_units, text_of}
 use Rattle.jfr_text.proofs.DecodingSteps.{decode_none, decode_lone, lone_char}
 use Rattle.jfr_text.proofs.SpellLaws.{spelled_first}
 
+-- The bytes are ASCII.
 abbrev AreBelow : List ℕ → Type 0
 AreBelow bytes = AllByRecursion (λ b. b < 128) bytes
 
--- Each is an integer by itself.
+-- Each byte is an integer by itself.
 spelled : (bytes : List ℕ) → AreBelow bytes → SpellAll bytes bytes
 spelled [] all = refl
 spelled (b ∷ bytes) all =
     let worth : b ≡ b % 128 + 128 * 0 = omega (arith, all.0) in
     (b ∷ [], bytes, refl, record { form = all.0; worth = worth }, spelled bytes all.1)
 
--- The low 16 bits of it are it.
+-- No byte has more than 16 bits.
 low : (bytes : List ℕ) → AreBelow bytes → low_units bytes ≡ bytes
 low [] all = refl
 low (b ∷ bytes) all =
@@ -37,17 +38,17 @@ low (b ∷ bytes) all =
 not_high : (b : ℕ) → b < 128 → is_high_surrogate b ≡ false
 not_high b small = grind (arith, nat_tests)
 
-alone : (b : ℕ) → b < 128 → lone_char b ≡ b
-alone b small = grind (arith, nat_tests)
+lone : (b : ℕ) → b < 128 → lone_char b ≡ b
+lone b small = grind (arith, nat_tests)
 
--- As a unit of UTF-16 it is the character.
+-- Each byte is the unit of a character, and no surrogate.
 decoded : (bytes : List ℕ) → AreBelow bytes → utf16_lossy_chars bytes ≡ bytes
 decoded [] all = decode_none [] refl
 decoded (b ∷ bytes) all =
     decode_lone (b ∷ bytes) bytes b refl (not_high b all.0)
-    ∙ (ap (λ c. c ∷ utf16_lossy_chars bytes) (alone b all.0) ∙ ap (λ cs. b ∷ cs) (decoded bytes all.1))
+    ∙ (ap (λ c. c ∷ utf16_lossy_chars bytes) (lone b all.0) ∙ ap (λ cs. b ∷ cs) (decoded bytes all.1))
 
--- If there is an integer for each byte, these are the text.
+-- If there is an integer for each byte, the bytes are the text.
 units_text : (bytes : List ℕ) → IsAscii bytes → utf16_lossy_chars (low_units (first_integers (length bytes) bytes)) ≡ bytes
 units_text bytes ascii =
     let all : AreBelow bytes = recursion_from_All (λ b. b < 128) bytes (All-from_ascii bytes ascii) in
@@ -60,6 +61,6 @@ units_payload span kind count ascii =
     ap (λ k. text_of (content_by k span)) kind
     ∙ (ap (λ n. Some (utf16_lossy_chars (low_units (first_integers n bytes)))) count ∙ ap (λ cs. Some cs) (units_text bytes ascii))
 
--- Nothing is lost of bytes that are UTF-8.
+-- UTF-8 has no piece that is replaced.
 pub utf8_text : (bytes : List ℕ) → IsUtf8 bytes → lossy_chars bytes ≡ chars bytes
 utf8_text bytes utf8 = subst (λ t. lossy_chars t ≡ chars t) utf8.1.1 (lossy_chars-encode utf8.0 utf8.1.0 ∙ sym (chars-encodes utf8.0 utf8.1.0))
