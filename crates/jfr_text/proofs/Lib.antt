@@ -1,4 +1,5 @@
 pub mod AnswerLaws
+pub mod AsciiLaws
 pub mod DecodingSteps
 pub mod EqualLists
 pub mod IntegerSteps
