@@ -1,11 +1,11 @@
 -- Characters that are added to a text.
-use Rattle.std.specs.Prelude.{◌≡◌, ℕ, zero, suc, ◌+◌, ◌*◌, true, List, [], ◌∷◌, ◌++◌, IsTrue, nat_lt, replicate}
+use Rattle.std.specs.Prelude.{◌≡◌, ℕ, zero, suc, ◌+◌, ◌*◌, ◌<◌, ◌≤◌, true, List, [], ◌∷◌, ◌++◌, IsTrue, nat_lt, replicate, take}
 use Rattle.std.specs.List.{list_all}
 use Rattle.std.specs.Str.{chars, IsUtf8, IsAscii}
 use Rattle.std.proofs.Common.{ap, arith, refl, sym, ◌∙◌}
 use Rattle.std.proofs.lemmas.Bool.{and_parts}
 use Rattle.std.proofs.lemmas.Bool.Decides.{nat_tests}
-use Rattle.std.proofs.lemmas.List.{append_assoc, append-nil}
+use Rattle.std.proofs.lemmas.List.{append_assoc, append-nil, take-replicate}
 use Rattle.std.proofs.lemmas.Str.{chars-append, chars-encodes, chars-IsAscii}
 use lib.Utf8.{scalar, scalars, encode}
 
@@ -26,7 +26,7 @@ grown_char was old new c v u s e =
     let one : chars (encode c) ≡ c ∷ [] = ap chars (sym (append-nil (encode c))) ∙ chars-encodes (c ∷ []) t in
     grown was old new (encode c) v u e ∙ ap (λ z. was ++ z) one
 
--- So many levels, and one more.
+-- Two spaces for each level.
 abbrev spaces : ℕ → List ℕ
 spaces n = replicate n 32
 
@@ -39,3 +39,8 @@ two_more (suc m) = ap (λ (z : List ℕ). 32 ∷ z) (two_more m)
 
 pub indent_more : (start now : List ℕ) (n : ℕ) → now ≡ start ++ replicate (2 * n) 32 → now ++ 32 ∷ 32 ∷ [] ≡ start ++ replicate (2 * (n + 1)) 32
 indent_more start now n e = ap (λ z. z ++ two) e ∙ (append_assoc start (spaces (2 * n)) two ∙ ap (λ z. start ++ z) (two_more (2 * n) ∙ (let q : suc (suc (2 * n)) ≡ 2 * (n + 1) = omega arith in ap spaces q)))
+
+pub indent_part : (start now : List ℕ) (n level : ℕ) → n < level → now ≡ start ++ replicate (2 * n) 32 → (k : ℕ) × (now ≡ start ++ take k (replicate (2 * level) 32))
+indent_part start now n level less e =
+    let bound : 2 * n ≤ 2 * level = omega arith in
+    (2 * n, e ∙ ap (λ z. start ++ z) (sym (take-replicate (2 * n) (2 * level) 32 bound)))

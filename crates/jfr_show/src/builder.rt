@@ -1,5 +1,5 @@
 //! A text that grows at its end.
-ghost use Rattle.std.specs.Prelude.{◌≡◌, ◌<◌, [], ◌∷◌, ◌++◌, IsTrue, IfOk, OnOk, decimal, string_bytes};
+ghost use Rattle.std.specs.Prelude.{◌≡◌, ◌<◌, [], ◌∷◌, ◌++◌, ℕ, IsTrue, IfOk, OnErr, OnOk, decimal, string_bytes, take};
 ghost use Rattle.std.specs.Char.{digit_char};
 ghost use Rattle.std.specs.Fmt.{signed_decimal};
 ghost use Rattle.std.specs.Str.{chars, encode_utf8_all};
@@ -11,8 +11,8 @@ use jfr_text::Characters;
 use std::alloc::Global;
 use std::marker::Model;
 
-/// A text that grows at its end. Contracts see it as the list of its characters. After memory runs out nothing
-/// is promised about its contents.
+/// A text that grows at its end. Contracts see it as the list of its characters. A call for which memory runs
+/// out adds at most the first characters of what it should add.
 #[derive(Drop)]
 pub struct TextBuilder {
     text: String,
@@ -75,6 +75,7 @@ impl TextBuilder {
     /// Adds a text.
     pub fn push_str(&mut self, text: &str) -> Result<(), NoMemory>
         ensures ok { OnOk result (self.new ≡ self.old ++ chars text.now) }
+        ensures unchanged { OnErr result (self.new ≡ self.old) }
     {
         self.text.push_str(text)?;
         Ok(())
@@ -84,6 +85,7 @@ impl TextBuilder {
     pub fn push_ascii(&mut self, text: &str) -> Result<(), NoMemory>
         requires ascii { IsTrue (is_ascii text.now) }
         ensures ok { OnOk result (self.new ≡ self.old ++ text.now) }
+        ensures unchanged { OnErr result (self.new ≡ self.old) }
     {
         self.text.push_str(text)?;
         Ok(())
@@ -92,6 +94,7 @@ impl TextBuilder {
     /// Adds a character.
     pub fn push(&mut self, character: char) -> Result<(), NoMemory>
         ensures ok { OnOk result (self.new ≡ self.old ++ character ∷ []) }
+        ensures unchanged { OnErr result (self.new ≡ self.old) }
     {
         self.text.push(character)?;
         Ok(())
@@ -110,6 +113,7 @@ impl TextBuilder {
     /// Adds an unsigned number in decimal.
     pub fn push_number(&mut self, number: u64) -> Result<(), NoMemory>
         ensures ok { OnOk result (self.new ≡ self.old ++ decimal number) }
+        ensures unchanged { OnErr result (self.new ≡ self.old) }
     {
         let mut buffer = Buffer::new();
         self.text.push_str(buffer.format(number))?;
@@ -119,6 +123,7 @@ impl TextBuilder {
     /// Adds a signed number in decimal.
     pub fn push_signed(&mut self, number: i64) -> Result<(), NoMemory>
         ensures ok { OnOk result (self.new ≡ self.old ++ signed_decimal number) }
+        ensures unchanged { OnErr result (self.new ≡ self.old) }
     {
         let mut buffer = Buffer::new();
         self.text.push_str(buffer.format(number))?;
@@ -128,6 +133,7 @@ impl TextBuilder {
     /// Adds the two hexadecimal digits of a byte.
     pub fn push_hex(&mut self, byte: u8) -> Result<(), NoMemory>
         ensures ok { OnOk result (self.new ≡ self.old ++ hex_byte byte) }
+        ensures part { OnErr result ((n : ℕ) × (self.new ≡ self.old ++ take n (hex_byte byte))) }
     {
         self.push(digit_of(byte / 16))?;
         self.push(digit_of(byte % 16))
@@ -136,6 +142,7 @@ impl TextBuilder {
     /// Adds two spaces for each level.
     pub fn push_indent(&mut self, level: usize) -> Result<(), NoMemory>
         ensures ok { OnOk result (self.new ≡ self.old ++ indent level) }
+        ensures part { OnErr result ((n : ℕ) × (self.new ≡ self.old ++ take n (indent level))) }
     {
         for _ in 0..level {
             self.push_ascii("  ")?;

@@ -20,7 +20,7 @@ pub(crate) fn read<'a>(alloc: Global, bytes: &'a [u8]) -> Result<Chunk<'a>, Read
     Chunk::read(alloc, bytes)
 }
 
-// The text of the event of a number in the chunk of these bytes.
+// The text of event `number` of the chunk with these bytes.
 fn text_of(alloc: Global, bytes: &[u8], number: usize, depth: u8) -> Result<Text, Fail>
     requires { depth ≤ 8 }
 {
@@ -29,7 +29,7 @@ fn text_of(alloc: Global, bytes: &[u8], number: usize, depth: u8) -> Result<Text
     Ok(event_text(alloc, &chunk, &event, depth)?)
 }
 
-// Adds the text of the event of a number.
+// Adds the text of event `number`.
 fn add_text(
     chunk: &Chunk<'_>,
     number: usize,
@@ -44,7 +44,7 @@ fn add_text(
     }
 }
 
-// Compares the text of the event of a number.
+// Compares the text of event `number`.
 fn compare(
     rt: &impl Abort,
     alloc: Global,

@@ -10,7 +10,7 @@ use std::alloc::Global;
 use std::process::Abort;
 use std::test::Fail;
 
-// The line of the event of a number in the chunk of these bytes.
+// The line of event `number` of the chunk with these bytes.
 fn line_of(alloc: Global, bytes: &[u8], number: usize, depth: u8) -> Result<Text, Fail>
     requires { depth ≤ 8 }
 {
@@ -19,7 +19,7 @@ fn line_of(alloc: Global, bytes: &[u8], number: usize, depth: u8) -> Result<Text
     Ok(event_json(alloc, &chunk, &event, depth)?)
 }
 
-// Compares the line of the event of a number.
+// Compares the line of event `number`.
 fn compare(
     rt: &impl Abort,
     alloc: Global,
