@@ -47,50 +47,6 @@ lists_more es ts us a b c x y = record {
     only_by e t (inl i) = first_by t (x.only (y.went e) t i)
     only_by e t (inr i) = inr (there t (in_right (filter (is_missing es) ts) (filter (is_missing es) us) t (contains_in (filter (is_missing es) us) t i)))
 
--- One visit.
-pub visited_entry : (es : List EntryAt) (t : ℕ × ℕ) (list : Missing) → is_some (number_in_force es t) ≡ true → Lists es (t ∷ []) list list
-visited_entry es t list e = record { went = λ f. f; kept = λ f u c. c; joined = λ f u c. absurd (contains_in [] u (subst (λ z. Contains z u) none c)); only = λ f u c. inl c }
-  where
-    none : filter (is_missing es) (t ∷ []) ≡ []
-    none = ap (λ b. if not b then t ∷ [] else []) e
-
-module _ (es : List EntryAt) (t : ℕ × ℕ) (e : is_some (number_in_force es t) ≡ false) where
-  is_one : filter (is_missing es) (t ∷ []) ≡ t ∷ []
-  is_one = ap (λ b. if not b then t ∷ [] else []) e
-
-  one_in : (u : ℕ × ℕ) → Contains (filter (is_missing es) (t ∷ [])) u → t ≡ u
-  one_in u c = by_case (subst (λ z. In z u) is_one (contains_in (filter (is_missing es) (t ∷ [])) u c))
-    where
-      by_case : In (t ∷ []) u → t ≡ u
-      by_case (inl q) = q
-      by_case (inr i) = absurd i
-
-  pub visited_again : (list : Missing) → Contains list.keys.items t → Lists es (t ∷ []) list list
-  visited_again list h = record { went = λ f. f; kept = λ f u c. c; joined = λ f u c. subst (λ z. Contains list.keys.items z) (one_in u c) h; only = λ f u c. inl c }
-
-  pub visited_new : (old new : Missing) → new.failed ≡ old.failed → new.keys.items ≡ old.keys.items ++ t ∷ [] → Lists es (t ∷ []) old new
-  visited_new old new f g = record {
-    went = λ h. sym f ∙ h;
-    kept = λ h u c. back u (in_left old.keys.items (t ∷ []) u (contains_in old.keys.items u c));
-    joined = λ h u c. back u (in_right old.keys.items (t ∷ []) u (inl (one_in u c)));
-    only = λ h u c. by_case u (in_cases old.keys.items (t ∷ []) u (contains_in (old.keys.items ++ t ∷ []) u (subst (λ z. Contains z u) g c)));
-  }
-    where
-      back : (u : ℕ × ℕ) → In (old.keys.items ++ t ∷ []) u → Contains new.keys.items u
-      back u i = subst (λ z. Contains z u) (sym g) (in_contains (old.keys.items ++ t ∷ []) u i)
-
-      by_case : (u : ℕ × ℕ) → In old.keys.items u ⊎ In (t ∷ []) u → Contains old.keys.items u ⊎ Contains (filter (is_missing es) (t ∷ [])) u
-      by_case u (inl i) = inl (in_contains old.keys.items u i)
-      by_case u (inr i) = inr (subst (λ z. Contains z u) (sym is_one) (in_contains (t ∷ []) u i))
-
-  pub visited_failed : (old new : Missing) → new.failed ≡ true → Lists es (t ∷ []) old new
-  visited_failed old new f = record {
-    went = λ h. (let q : true ≡ false = sym f ∙ h in cc);
-    kept = λ h u c. (let q : true ≡ false = sym f ∙ h in cc);
-    joined = λ h u c. (let q : true ≡ false = sym f ∙ h in cc);
-    only = λ h u c. (let q : true ≡ false = sym f ∙ h in cc);
-  }
-
 -- What a visit takes is listed.
 pub lists_all : (es : List EntryAt) (ts : List (ℕ × ℕ)) (a b : Missing) → TakesAll (λ t old new. Lists es (t ∷ []) old new) ts a b → Lists es ts a b
 lists_all es [] a b h = subst (Lists es [] a) h (lists_none es a)
