@@ -1,13 +1,15 @@
 -- Fields, one after another, with new keys.
-use Rattle.std.specs.Prelude.{◌≡◌, ℕ, zero, suc, ◌+◌, ◌≤◌, Bool, true, false, List, [], ◌∷◌, ◌++◌, length, map, slice_get, Some, IfSome, IsSome, if◌then◌else◌}
+use Rattle.std.specs.Prelude.{◌≡◌, ℕ, zero, suc, ◌+◌, ◌-◌, ◌<◌, ◌≤◌, Bool, true, false, List, [], ◌∷◌, ◌++◌, length, map, slice_get, slice_index, slice_range, Some, IfSome, IsSome, if◌then◌else◌}
 use Rattle.std.specs.Option.{option_map_or}
-use Rattle.std.proofs.Common.{ap, append-nil, arith, refl, sym, subst, ◌∙◌, inl, inr}
+use Rattle.std.proofs.Common.{ap, append-nil, arith, length-append, refl, sym, subst, ◌∙◌, inl, inr}
 use Rattle.std.specs.List.{AllByRecursion}
 use Rattle.std.proofs.lemmas.List.{append_assoc, length-map}
 use Rattle.jfr_base.specs.declared.integer.Var.{Var}
 use Rattle.jfr_base.specs.Integer.{IntAt, Spells, spell}
 use Rattle.jfr_base.specs.Formats.{int_at}
 use Rattle.jfr_base.proofs.OneAnswer.{int_computed}
+use Rattle.jfr_base.proofs.Ranges.{range_length, range_one}
+use Rattle.jfr_base.proofs.Shorts.{one_byte}
 use Rattle.jfr_base.proofs.RunLaws.{stands_split}
 use Rattle.jfr_layout.specs.Classes.{AreFieldLayouts, Class, Classes, Field, IsFieldLayout, Sound, find_class, form_of, inline_form, kind_of}
 use Rattle.jfr_layout.specs.declared.form.Form.TheVariants as forms
@@ -24,6 +26,7 @@ use Rattle.jfr_value.proofs.NodeLaws.{value_is}
 use Rattle.jfr_value.proofs.RowLaws.{row_stands, start_of}
 use Rattle.jfr_renumber.specs.Fields.{rekeyed_first}
 use Rattle.jfr_renumber.specs.Rekeyed.{rekeyed, rekeyed_all, rekeyed_bytes}
+use Rattle.jfr_renumber.proofs.RewritingLaws.{spell_small}
 
 -- The node of a value, with new keys.
 pub rekeyed_is : (new : ℕ × ℕ → ℕ) (k : Classes) (c : List ℕ) (n : NodeAt) (v : Value) → Sound k → IsNode k c n v → rekeyed_bytes new k c n ≡ bytes_of (rekeyed new v)
@@ -177,6 +180,33 @@ key_written new k c at to end s r m old now sound l w t a o f e h =
     let q = key_field new k c at to end s t.0 l w t.1 a o in
     let x : r ≡ record { value = q.key; end = to } = (let y : Some r ≡ Some (record { value = q.key; end = to }) = sym f ∙ q.found in cc) in
     (ap (λ (z : Var). z.end) x, h ∙ ap (λ z. old ++ z) (ap spell (e ∙ ap (λ (z : Var). new (s.class, z.value)) x) ∙ sym (rekeyed_is new k c (node_at s at to) t.0 sound t.1 ∙ q.bytes)))
+
+-- The key 0 in one byte stays the same if its new key is 0.
+pub null_same : (new : ℕ × ℕ → ℕ) (k : Classes) (c : List ℕ) (at to end : ℕ) (s : Shape) → Sound k → at < end → end ≤ length c → slice_index c at ≡ 0 → new (s.class, 0) ≡ 0 → s.array ≡ false → s.constant ≡ true → EndsAt k c s at to → to ≤ end
+    → (at + 1 ≡ to) × (rekeyed_bytes new k c (node_at s at to) ≡ slice_range c at to)
+null_same new k c at to end s sound h w z n a o t l =
+    let found : int_at c at end ≡ Some (record { value = 0; end = at + 1 }) = one_byte c at end h w (omega (arith, z)) ∙ ap (λ v. Some (record { value = v; end = at + 1 })) z in
+    let q = key_written new k c at to end s (record { value = 0; end = at + 1 }) 0 [] (spell 0) sound l w t a o found (sym n) refl in
+    let one : slice_range c at to ≡ 0 ∷ [] = ap (slice_range c at) (sym q.0) ∙ (range_one c at (omega (arith, h, w)) ∙ ap (λ v. v ∷ []) z) in
+    (q.0, sym q.1 ∙ (spell_small 0 (omega arith) ∙ sym one))
+
+-- Where the last value of a row ends.
+start_all : (at : ℕ) (vs : Values) (n : ℕ) → length (shapes_of vs) ≡ n → start_of at vs n ≡ at + length (bytes_of_all vs)
+start_all at Nil zero e = omega arith
+start_all at Nil (suc n) e = cc
+start_all at (Cons v vs) zero e = cc
+start_all at (Cons v vs) (suc n) e =
+    let i : start_of (at + length (bytes_of v)) vs n ≡ (at + length (bytes_of v)) + length (bytes_of_all vs) = start_all (at + length (bytes_of v)) vs n (omega arith) in
+    let l : length (bytes_of v ++ bytes_of_all vs) ≡ length (bytes_of v) + length (bytes_of_all vs) = length-append (bytes_of v) (bytes_of_all vs) in
+    omega arith
+
+pub row_end : (k : Classes) (c : List ℕ) (at to : ℕ) (ls : List FieldLayout) (vs : Values) (n : ℕ) → IsRow k c at to (map (λ s. s.shape) ls) vs → n ≡ length ls → start_of at vs n ≡ to
+row_end k c at to ls vs n r e =
+    let w : length (shapes_of vs) ≡ length ls = ap (λ (z : List Shape). length z) r.of_shapes ∙ length-map ls (λ (s : FieldLayout). s.shape) in
+    let a : start_of at vs n ≡ at + length (bytes_of_all vs) = start_all at vs n (w ∙ sym e) in
+    let b : length (bytes_of_all vs) ≡ to - at = ap length (sym r.bytes) ∙ range_length c at to r.within in
+    let o = r.order in
+    omega arith
 
 -- The row of an object's fields, by the layouts of its class.
 pub layouts_row : (new : ℕ × ℕ → ℕ) (k : Classes) (c : List ℕ) (n : NodeAt) (v : Value) (l : FieldLayout) (ls : List FieldLayout) → Sound k → IsNode k c n v → l.shape ≡ n.shape → IsFieldLayout k l → forms.Fields ≡ l.form → IfSome (slice_get k l.class_index) (λ d. AreFieldLayouts k d.fields ls)

@@ -1,7 +1,7 @@
 -- What is listed of nodes.
-use Rattle.std.specs.Prelude.{◌≡◌, ℕ, zero, suc, ◌+◌, ◌<◌, ◌≤◌, Bool, true, false, List, [], ◌∷◌, ◌++◌, length, map, filter, take, slice_get, Option, Some, None, option_to_list, option_and_then, if◌then◌else◌}
+use Rattle.std.specs.Prelude.{◌≡◌, ℕ, zero, suc, ◌+◌, ◌<◌, ◌≤◌, Bool, true, false, List, [], ◌∷◌, ◌++◌, length, map, filter, take, slice_get, Option, Some, None, option_to_list, option_and_then, Contains, ◌⊎◌, if◌then◌else◌}
 use Rattle.std.specs.Option.{option_map}
-use Rattle.std.proofs.Common.{ap, arith, refl, sym, ◌∙◌, subst, append_assoc, append-nil}
+use Rattle.std.proofs.Common.{ap, arith, refl, sym, ◌∙◌, subst, append_assoc, append-nil, inl, inr}
 use Rattle.std.proofs.lemmas.List.{map-append, take_all}
 use Rattle.std.proofs.lemmas.Option.{slice_get-get_or}
 use Rattle.std.proofs.lemmas.List.Elements.{filter-append}
@@ -12,19 +12,40 @@ use Rattle.jfr_pool.specs.declared.entry.EntryAt.{EntryAt}
 use Rattle.jfr_pool.specs.Entries.{entry_node}
 use Rattle.jfr_chunk.specs.Parts.{Parts, EventAt, events_of}
 use Rattle.jfr_worklist.specs.Marks.{is_marked}
+use Rattle.jfr_worklist.proofs.Members.{In, contains_in, in_contains, in_left, in_right, in_cases}
 use Rattle.jfr_chunk.specs.Reach.{all_targets, kept_by, marked, nodes_of, reached_marks, remain}
 use Rattle.jfr_renumber.specs.declared.used.Missing.{Missing}
 use Rattle.jfr_renumber.specs.Missing.{Lists, flagged, is_missing}
 use Rattle.jfr_renumber.specs.Renumber.{used_keys}
 
 lists_none : (es : List EntryAt) (list : Missing) → Lists es [] list list
-lists_none es list = record { went = λ e. e; joined = λ e. sym (append-nil list.keys.items) }
+lists_none es list = record { went = λ e. e; kept = λ e t c. c; joined = λ e t c. absurd (contains_in [] t c); only = λ e t c. inl c }
 
 lists_more : (es : List EntryAt) (ts us : List (ℕ × ℕ)) (a b c : Missing) → Lists es ts a b → Lists es us b c → Lists es (ts ++ us) a c
 lists_more es ts us a b c x y = record {
   went = λ e. x.went (y.went e);
-  joined = λ e. y.joined e ∙ (ap (λ z. z ++ filter (is_missing es) us) (x.joined (y.went e)) ∙ (append_assoc a.keys.items (filter (is_missing es) ts) (filter (is_missing es) us) ∙ ap (λ z. a.keys.items ++ z) (sym (filter-append (is_missing es) ts us))));
+  kept = λ e t i. y.kept e t (x.kept (y.went e) t i);
+  joined = λ e t i. joined_by e t (in_cases (filter (is_missing es) ts) (filter (is_missing es) us) t (subst (λ z. In z t) both (contains_in (filter (is_missing es) (ts ++ us)) t i)));
+  only = λ e t i. only_by e t (y.only e t i);
 }
+  where
+    both : filter (is_missing es) (ts ++ us) ≡ (filter (is_missing es) ts) ++ (filter (is_missing es) us)
+    both = filter-append (is_missing es) ts us
+
+    joined_by : c.failed ≡ false → (t : ℕ × ℕ) → In (filter (is_missing es) ts) t ⊎ In (filter (is_missing es) us) t → Contains c.keys.items t
+    joined_by e t (inl i) = y.kept e t (x.joined (y.went e) t (in_contains (filter (is_missing es) ts) t i))
+    joined_by e t (inr i) = y.joined e t (in_contains (filter (is_missing es) us) t i)
+
+    there : (t : ℕ × ℕ) → In ((filter (is_missing es) ts) ++ (filter (is_missing es) us)) t → Contains (filter (is_missing es) (ts ++ us)) t
+    there t i = subst (λ z. Contains z t) (sym both) (in_contains ((filter (is_missing es) ts) ++ (filter (is_missing es) us)) t i)
+
+    first_by : (t : ℕ × ℕ) → Contains a.keys.items t ⊎ Contains (filter (is_missing es) ts) t → Contains a.keys.items t ⊎ Contains (filter (is_missing es) (ts ++ us)) t
+    first_by t (inl i) = inl i
+    first_by t (inr i) = inr (there t (in_left (filter (is_missing es) ts) (filter (is_missing es) us) t (contains_in (filter (is_missing es) ts) t i)))
+
+    only_by : c.failed ≡ false → (t : ℕ × ℕ) → Contains b.keys.items t ⊎ Contains (filter (is_missing es) us) t → Contains a.keys.items t ⊎ Contains (filter (is_missing es) (ts ++ us)) t
+    only_by e t (inl i) = first_by t (x.only (y.went e) t i)
+    only_by e t (inr i) = inr (there t (in_right (filter (is_missing es) ts) (filter (is_missing es) us) t (contains_in (filter (is_missing es) us) t i)))
 
 -- What a visit takes is listed.
 pub lists_all : (es : List EntryAt) (ts : List (ℕ × ℕ)) (a b : Missing) → TakesAll (λ t old new. Lists es (t ∷ []) old new) ts a b → Lists es ts a b
@@ -86,12 +107,26 @@ nodes_append : (es fs : List EventAt) → nodes_of (es ++ fs) ≡ nodes_of es ++
 nodes_append [] fs = refl
 nodes_append (e ∷ es) fs = ap (λ z. e.node ∷ z) (nodes_append es fs)
 
--- The list holds what is missing of these, unless it failed.
+-- Unless it failed, the list holds what is missing of these, and nothing else.
 abbrev pub Holds : Parts → List (ℕ × ℕ) → Missing → Type 0
-Holds p ts list = list.failed ≡ false → list.keys.items ≡ filter (is_missing p.entries) ts
+Holds p ts list = list.failed ≡ false → ((t : ℕ × ℕ) → Contains (filter (is_missing p.entries) ts) t → Contains list.keys.items t) × ((t : ℕ × ℕ) → Contains list.keys.items t → Contains (filter (is_missing p.entries) ts) t)
 
 holds_more : (p : Parts) (ts us : List (ℕ × ℕ)) (a b : Missing) → Holds p ts a → Lists p.entries us a b → Holds p (ts ++ us) b
-holds_more p ts us a b h l e = l.joined e ∙ (ap (λ z. z ++ filter (is_missing p.entries) us) (h (l.went e)) ∙ sym (filter-append (is_missing p.entries) ts us))
+holds_more p ts us a b h l = λ e. ((λ t c. all_by e t (in_cases (filter (is_missing p.entries) ts) (filter (is_missing p.entries) us) t (subst (λ z. In z t) both (contains_in (filter (is_missing p.entries) (ts ++ us)) t c)))), (λ t c. only_by e t (l.only e t c)))
+  where
+    both : filter (is_missing p.entries) (ts ++ us) ≡ (filter (is_missing p.entries) ts) ++ (filter (is_missing p.entries) us)
+    both = filter-append (is_missing p.entries) ts us
+
+    all_by : b.failed ≡ false → (t : ℕ × ℕ) → In (filter (is_missing p.entries) ts) t ⊎ In (filter (is_missing p.entries) us) t → Contains b.keys.items t
+    all_by e t (inl i) = l.kept e t ((h (l.went e)).0 t (in_contains (filter (is_missing p.entries) ts) t i))
+    all_by e t (inr i) = l.joined e t (in_contains (filter (is_missing p.entries) us) t i)
+
+    there : (t : ℕ × ℕ) → In ((filter (is_missing p.entries) ts) ++ (filter (is_missing p.entries) us)) t → Contains (filter (is_missing p.entries) (ts ++ us)) t
+    there t i = subst (λ z. Contains z t) (sym both) (in_contains ((filter (is_missing p.entries) ts) ++ (filter (is_missing p.entries) us)) t i)
+
+    only_by : b.failed ≡ false → (t : ℕ × ℕ) → Contains a.keys.items t ⊎ Contains (filter (is_missing p.entries) us) t → Contains (filter (is_missing p.entries) (ts ++ us)) t
+    only_by e t (inl i) = there t (in_left (filter (is_missing p.entries) ts) (filter (is_missing p.entries) us) t (contains_in (filter (is_missing p.entries) ts) t ((h (l.went e)).1 t i)))
+    only_by e t (inr i) = there t (in_right (filter (is_missing p.entries) ts) (filter (is_missing p.entries) us) t (contains_in (filter (is_missing p.entries) us) t i))
 
 pub event_next : (p : Parts) (flags : List Bool) (n : ℕ) (a b : Missing) → n < length flags → Holds p (all_targets p (nodes_of (marked (take n flags) (events_of p)))) a
     → Lists p.entries (all_targets p (nodes_of (option_to_list (flagged flags (events_of p) n)))) a b → Holds p (all_targets p (nodes_of (marked (take (n + 1) flags) (events_of p)))) b
@@ -101,6 +136,9 @@ event_next p flags n a b w h l =
     let e : all_targets p (nodes_of (marked (take (n + 1) flags) (events_of p))) ≡ all_targets p (nodes_of these) ++ all_targets p (nodes_of next) =
     ap (λ z. all_targets p (nodes_of z)) (marked_up flags (events_of p) n w) ∙ (ap (all_targets p) (nodes_append these next) ∙ targets_append p (nodes_of these) (nodes_of next)) in
     subst (λ z. Holds p z b) (sym e) (holds_more p (all_targets p (nodes_of these)) (all_targets p (nodes_of next)) a b h l)
+
+pub entries_begun : (p : Parts) (flags : List Bool) (n : ℕ) (list : Missing) → length flags ≤ n → Holds p (all_targets p (nodes_of (marked (take n flags) (events_of p)))) list → Holds p (all_targets p (nodes_of (kept_by p flags) ++ [])) list
+entries_begun p flags n list w h = subst (λ z. Holds p (all_targets p z) list) (ap (λ z. nodes_of (marked z (events_of p))) (take_all n flags w) ∙ sym (append-nil (nodes_of (kept_by p flags)))) h
 
 pub entry_next : (p : Parts) (ns : List NodeAt) (flags : List Bool) (n : ℕ) (a b : Missing) → n < length flags → Holds p (all_targets p (ns ++ map entry_node (marked (take n flags) p.entries))) a
     → Lists p.entries (all_targets p (map entry_node (option_to_list (flagged flags p.entries n)))) a b → Holds p (all_targets p (ns ++ map entry_node (marked (take (n + 1) flags) p.entries))) b

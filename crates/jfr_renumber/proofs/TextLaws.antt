@@ -1,9 +1,9 @@
 -- Strings with new keys.
-use Rattle.std.specs.Prelude.{◌≡◌, ℕ, ◌+◌, ◌-◌, ◌<◌, ◌≤◌, List, [], ◌∷◌, ◌++◌, length, slice_index, slice_range, None, Some, IsSome}
+use Rattle.std.specs.Prelude.{◌≡◌, ℕ, ◌+◌, ◌-◌, ◌<◌, ◌≤◌, List, [], ◌∷◌, ◌++◌, length, slice_index, slice_range, None, Ok, Some, IsSome}
 use Rattle.std.proofs.Common.{ap, arith, refl, sym, subst, ◌∙◌}
 use Rattle.jfr_base.specs.declared.integer.Var.{Var}
 use Rattle.jfr_base.specs.Integer.{IntAt, Spells, spell}
-use Rattle.jfr_base.specs.Formats.{int_at}
+use Rattle.jfr_base.specs.Formats.{int_at, run, seen}
 use Rattle.jfr_base.proofs.OneAnswer.{int_computed}
 use Rattle.jfr_base.proofs.Ranges.{range_cons, range_length}
 use Rattle.jfr_text.specs.Strings.{IsString, Content, Key, Null, Empty, Utf8, Units, Latin}
@@ -14,7 +14,10 @@ use Rattle.jfr_layout.specs.declared.field_layout.FieldLayout.{FieldLayout}
 use Rattle.jfr_value.specs.declared.leaf.LeafKind.TheVariants as leaf_kinds
 use Rattle.jfr_value.specs.Values.{Value, Single, bytes_of, key_of, IsBase}
 use Rattle.jfr_value.specs.Nodes.{EndsAt, IsNode, node_at}
+use Rattle.jfr_value.specs.Reading.{base_format, value_format}
 use Rattle.jfr_value.proofs.FormLaws.{inline_there, text_kind}
+use Rattle.jfr_value.proofs.LayoutEnds.{text_ends}
+use Rattle.jfr_value.proofs.PartLaws.{end_seen}
 use Rattle.jfr_renumber.specs.Rekeyed.{rekeyed, rekeyed_bytes}
 use Rattle.jfr_renumber.proofs.BaseLaws.{base_field}
 use Rattle.jfr_renumber.proofs.FieldLaws.{rekeyed_is}
@@ -105,3 +108,8 @@ module _ (k : Classes) (c : List ℕ) (at to : ℕ) (l : FieldLayout) (y : IsFie
       rekeyed_is new k c (node_at l.shape at to) t.0 sound t.1
       ∙ (ap (λ z. bytes_of (rekeyed new z)) q.value
       ∙ ap (λ z. bytes_of (rekeyed new (Single l.shape (leaf_kinds.Base l.kind) (slice_range c at to) z))) (string_other (slice_range c at to) (slice_range c (at + 1) to) (slice_index c at) q.content q.string q.bytes (λ e. n (omega arith, e))))
+
+  -- Where it ends.
+  pub text_ended : (end : ℕ) → Sound k → EndsAt k c l.shape at to → to ≤ end → end ≤ length c → seen (run (base_format kinds.Text) c end at) ≡ Ok to
+  unfolding value_format
+  text_ended end sound t h w = text_ends k l 33 c end at (record { form = y.form; of_class = λ o. y }) f ∙ end_seen k c l.shape at end to sound t h w

@@ -148,16 +148,35 @@ module _ (p : Parts) (a : AreParts p) (flags marks : List Bool) (m : marks ≡ r
   abbrev kept : List EventAt
   kept = kept_by p flags
 
-  all_is : (ms l : List (ℕ × ℕ)) → ms ≡ filter (is_missing p.entries) (used_keys p kept) → l ≡ ms ++ map pair_of (marked marks p.entries) → l ≡ filter (is_missing p.entries) (used_keys p kept) ++ map pair_of (remain p kept)
-  unfolding remain
-  all_is ms l e f = f ∙ (ap (λ z. z ++ map pair_of (marked marks p.entries)) e ∙ ap (λ z. filter (is_missing p.entries) (used_keys p kept) ++ map pair_of (marked z p.entries)) m)
+  abbrev missing : List (ℕ × ℕ)
+  missing = filter (is_missing p.entries) (used_keys p kept)
 
-  pub they_are : (ms l ps qs : List (ℕ × ℕ)) (ks js : List UsedKey) → ms ≡ filter (is_missing p.entries) (used_keys p kept) → l ≡ ms ++ map pair_of (marked marks p.entries) → IsRising ps → ((t : ℕ × ℕ) → Contains l t → Contains ps t) → ((t : ℕ × ℕ) → Contains ps t → Contains l t)
-      → qs ≡ ps → map pair_at ks ≡ qs → AllByRecursion (HasValue p) ks → js ≡ ks → ArePairsOf (together p) (used_keys p kept) js
-  they_are ms l ps qs ks js e f r on off q b v j =
-      let x = all_is ms l e f in
+  abbrev reached : List (ℕ × ℕ)
+  reached = map pair_of (remain p kept)
+
+  rest_is : map pair_of (marked marks p.entries) ≡ reached
+  unfolding remain
+  rest_is = ap (λ z. map pair_of (marked z p.entries)) m
+
+  from_all : (ms l : List (ℕ × ℕ)) → ((t : ℕ × ℕ) → Contains missing t → Contains ms t) → l ≡ ms ++ map pair_of (marked marks p.entries) → (t : ℕ × ℕ) → Contains (missing ++ reached) t → Contains l t
+  from_all ms l e f t c = subst (λ z. Contains z t) (sym (f ∙ ap (λ z. ms ++ z) rest_is)) (in_contains (ms ++ reached) t (by_case (in_cases missing reached t (contains_in (missing ++ reached) t c))))
+    where
+      by_case : In missing t ⊎ In reached t → In (ms ++ reached) t
+      by_case (inl i) = in_left ms reached t (contains_in ms t (e t (in_contains missing t i)))
+      by_case (inr i) = in_right ms reached t i
+
+  to_all : (ms l : List (ℕ × ℕ)) → ((t : ℕ × ℕ) → Contains ms t → Contains missing t) → l ≡ ms ++ map pair_of (marked marks p.entries) → (t : ℕ × ℕ) → Contains l t → Contains (missing ++ reached) t
+  to_all ms l e f t c = in_contains (missing ++ reached) t (by_case (in_cases ms reached t (contains_in (ms ++ reached) t (subst (λ z. Contains z t) (f ∙ ap (λ z. ms ++ z) rest_is) c))))
+    where
+      by_case : In ms t ⊎ In reached t → In (missing ++ reached) t
+      by_case (inl i) = in_left missing reached t (contains_in missing t (e t (in_contains ms t i)))
+      by_case (inr i) = in_right missing reached t i
+
+  pub they_are : (ms l ps qs : List (ℕ × ℕ)) (ks js : List UsedKey) → ((t : ℕ × ℕ) → Contains missing t → Contains ms t) → ((t : ℕ × ℕ) → Contains ms t → Contains missing t) → l ≡ ms ++ map pair_of (marked marks p.entries) → IsRising ps
+      → ((t : ℕ × ℕ) → Contains l t → Contains ps t) → ((t : ℕ × ℕ) → Contains ps t → Contains l t) → qs ≡ ps → map pair_at ks ≡ qs → AllByRecursion (HasValue p) ks → js ≡ ks → ArePairsOf (together p) (used_keys p kept) js
+  they_are ms l ps qs ks js d e f r on off q b v j =
       subst (ArePairsOf (together p) (used_keys p kept)) (sym j)
-      (are_pairs p (standing p a) kept (kept_nodes p a kept (chosen_events p flags)) ps ks r (λ t c. on t (subst (λ z. Contains z t) (sym x) c)) (λ t c. subst (λ z. Contains z t) x (off t c)) (b ∙ q) v)
+      (are_pairs p (standing p a) kept (kept_nodes p a kept (chosen_events p flags)) ps ks r (λ t c. on t (from_all ms l d f t c)) (λ t c. to_all ms l e f t (off t c)) (b ∙ q) v)
 
   pub used_by : (js ks : List UsedKey) → ArePairsOf (together p) (used_keys p kept) js → js ≡ ks → (t : ℕ × ℕ) → Contains (map pair_at ks) t ↔ Used p kept t
   used_by js ks are j t = subst (λ z. Contains (map pair_at z) t ↔ Used p kept t) j (there, back)
@@ -173,12 +192,12 @@ module _ (p : Parts) (a : AreParts p) (flags marks : List Bool) (m : marks ≡ r
           in_contains (map pair_at js) t (subst (In (map pair_at js)) r.2 (map_in pair_at js r.0 (contains_in js r.0 r.1)))
 
   -- So the numbers of the pairs are the new keys of all that is used.
-  pub all_numbered : (ms l ps qs : List (ℕ × ℕ)) (ks js : List UsedKey) (ns : List ℕ) → ms ≡ filter (is_missing p.entries) (used_keys p kept) → l ≡ ms ++ map pair_of (marked marks p.entries) → IsRising ps → ((t : ℕ × ℕ) → Contains l t → Contains ps t) → ((t : ℕ × ℕ) → Contains ps t → Contains l t)
+  pub all_numbered : (ms l ps qs : List (ℕ × ℕ)) (ks js : List UsedKey) (ns : List ℕ) → ((t : ℕ × ℕ) → Contains missing t → Contains ms t) → ((t : ℕ × ℕ) → Contains ms t → Contains missing t) → l ≡ ms ++ map pair_of (marked marks p.entries) → IsRising ps → ((t : ℕ × ℕ) → Contains l t → Contains ps t) → ((t : ℕ × ℕ) → Contains ps t → Contains l t)
       → qs ≡ ps → map pair_at ks ≡ qs → AllByRecursion (HasValue p) ks → js ≡ ks
       → ((test : ℕ × ℕ → ℕ × ℕ → Bool) (us : List (ℕ × ℕ)) → Together test → ArePairsOf test us js → ns ≡ pair_numbers test us js)
       → IsNumbered p kept ps ns
-  all_numbered ms l ps qs ks js ns e f r on off q b v j given =
-      let are = they_are ms l ps qs ks js e f r on off q b v j in
+  all_numbered ms l ps qs ks js ns d e f r on off q b v j given =
+      let are = they_are ms l ps qs ks js d e f r on off q b v j in
       let pairs : map pair_at js ≡ ps = ap (map pair_at) j ∙ (b ∙ q) in
       let numbers : ns ≡ map (new_key p kept) ps =
       given (together p) (used_keys p kept) (together_is p) are ∙ (numbers_are p kept js ∙ (sym (map_map (new_key p kept) pair_at js) ∙ ap (map (new_key p kept)) pairs)) in

@@ -1,5 +1,5 @@
 -- The classes and keys that are referred to and have no entry in force.
-use Rattle.std.specs.Prelude.{◌≡◌, ◌⊎◌, ◌<◌, ⊤, ℕ, Bool, false, List, [], ◌∷◌, ◌++◌, filter, Option, None, not, is_some, slice_get, option_and_then, if◌then◌else◌}
+use Rattle.std.specs.Prelude.{◌≡◌, ◌⊎◌, ◌<◌, ⊤, ℕ, Bool, false, List, [], ◌∷◌, Contains, filter, Option, None, not, is_some, slice_get, option_and_then, if◌then◌else◌}
 use Rattle.std.specs.List.{AllByRecursion}
 use Rattle.std.specs.declared.cmp.Ordering.{Ordering}
 use Rattle.std.specs.Ordering.{nat_cmp, ordering_then}
@@ -15,10 +15,12 @@ is_missing es t = not (is_some (number_in_force es t))
 abbrev pub flagged : {X : Type 0} → List Bool → List X → ℕ → Option X
 flagged flags xs i = option_and_then (λ keep. if keep then slice_get xs i else None) (slice_get flags i)
 
--- Unless memory ran out, the listed ones without an entry in force have been added.
+-- Unless memory ran out, the list has those that it had, these that have no entry, and no others.
 pub record Lists (es : List EntryAt) (ts : List (ℕ × ℕ)) (old new : Missing) : Type 0 where
   pub went : new.failed ≡ false → old.failed ≡ false
-  pub joined : new.failed ≡ false → new.keys.items ≡ old.keys.items ++ filter (is_missing es) ts
+  pub kept : new.failed ≡ false → (t : ℕ × ℕ) → Contains old.keys.items t → Contains new.keys.items t
+  pub joined : new.failed ≡ false → (t : ℕ × ℕ) → Contains (filter (is_missing es) ts) t → Contains new.keys.items t
+  pub only : new.failed ≡ false → (t : ℕ × ℕ) → Contains new.keys.items t → Contains old.keys.items t ⊎ Contains (filter (is_missing es) ts) t
 
 -- A class and a key are before others: the class is smaller, or it is the same and the key is smaller.
 abbrev pub Earlier : ℕ × ℕ → ℕ × ℕ → Type 0

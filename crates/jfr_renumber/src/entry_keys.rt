@@ -62,6 +62,10 @@ impl<'k> NewKeys for EntryKeys<'k> {
             None => self.keys.new_key(class, key),
         }
     }
+
+    fn zero_stays(&self) {
+        self.keys.zero_stays();
+    }
 }
 
 // The new key of each of these entries.

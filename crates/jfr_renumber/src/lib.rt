@@ -20,6 +20,7 @@ mod output;
 mod records;
 mod renumberer;
 mod rewriting;
+mod same;
 mod stream;
 mod used;
 mod values;

@@ -25,15 +25,15 @@ pub(crate) struct NumberedKeys {
 }
 
 impl Model for NumberedKeys {
-    ghost use Rattle.std.specs.Prelude.{◌≡◌, length};
+    ghost use Rattle.std.specs.Prelude.{◌≡◌, ℕ, length};
     ghost use Rattle.jfr_renumber.specs.Missing.{IsRising};
-    ghost use Rattle.jfr_renumber.specs.Numbers.{NumberedPairs};
+    ghost use Rattle.jfr_renumber.specs.Numbers.{NumberedPairs, numbers_of};
 
     ghost Value = { NumberedPairs };
 
     ghost view = { λ k. record { pairs = k.pairs.items; numbers = k.numbers.items } };
 
-    ghost invariant = { λ k. IsRising k.pairs.items × (length k.numbers.items ≡ length k.pairs.items) };
+    ghost invariant = { λ k. IsRising k.pairs.items × (length k.numbers.items ≡ length k.pairs.items) × ((class : ℕ) → numbers_of (record { pairs = k.pairs.items; numbers = k.numbers.items }) (class, 0) ≡ 0) };
 }
 
 impl NumberedKeys {
@@ -75,6 +75,10 @@ impl NewKeys for NumberedKeys {
     /// The new key of a class and a key, or 0 if they aren't used.
     fn new_key(&self, class: u64, key: u64) -> u64 {
         self.get(class, key).unwrap_or(0)
+    }
+
+    fn zero_stays(&self) {
+        let _pairs = &self.pairs;
     }
 }
 

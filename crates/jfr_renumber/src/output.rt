@@ -22,11 +22,14 @@ use jfr_pool::{EntryAt, Link};
 use jfr_value::Steps;
 use std::sync::ledger::Ledger;
 
-/// The constants of the output: its entries, and the new keys of all that is used.
+/// What an output chunk is made from: the chunk, the new metadata record, if there is one, the entries of the
+/// output, and the new keys of all that is used.
 #[derive(Clone, Copy)]
-pub(crate) struct Constants<'e> {
-    pub(crate) entries: &'e [EntryAt],
-    pub(crate) keys: &'e EntryKeys<'e>,
+pub(crate) struct Source<'s> {
+    pub(crate) chunk: &'s Chunk<'s>,
+    pub(crate) slim: Option<&'s [u8]>,
+    pub(crate) entries: &'s [EntryAt],
+    pub(crate) keys: &'s EntryKeys<'s>,
 }
 
 /// The output so far: its bytes, of which the first 68 are for the header, and the offsets of the newest
@@ -38,22 +41,20 @@ pub(crate) struct Output {
     metadata: Option<usize>,
 }
 
-/// Writes the output chunk into `out`, which is cleared first: the kept events, the metadata record, which is
-/// `slim` if there is one, and the checkpoints with these constants.
+/// Writes the output chunk into `out`, which is cleared first: the kept events, the metadata record, and the
+/// checkpoints.
 pub(crate) fn put_chunk<L: Ledger>(
     mut out: Vec<u8>,
-    chunk: &Chunk<'_>,
+    source: Source<'_>,
     kept: &Kept,
-    slim: Option<&[u8]>,
-    constants: Constants<'_>,
     steps: &mut Steps<L>,
 ) -> Result<Vec<u8>, NoMemory>
-    requires slim { option_map (λ s. s.now) slim ≡ new_metadata chunk.now kept.now }
-    requires entries { constants.entries.now ≡ firsts chunk.now (kept_by chunk.now kept.now) }
-    requires keys { (t : ℕ × ℕ) → number_of constants.keys.now t ≡ new_key_of chunk.now (kept_by chunk.now kept.now) t }
-    ensures { IfOk result (λ out. out.items ≡ renumber_of chunk.now (kept_by chunk.now kept.now)) }
+    requires slim { option_map (λ s. s.now) source.slim ≡ new_metadata source.chunk.now kept.now }
+    requires entries { source.entries.now ≡ firsts source.chunk.now (kept_by source.chunk.now kept.now) }
+    requires keys { (t : ℕ × ℕ) → number_of source.keys.now t ≡ new_key_of source.chunk.now (kept_by source.chunk.now kept.now) t }
+    ensures { IfOk result (λ out. out.items ≡ renumber_of source.entry.chunk.now (kept_by source.entry.chunk.now kept.now)) }
 {
-    chunk.parts_stand();
+    source.chunk.parts_stand();
     out.clear();
     out.extend_from_slice(&[0; 68])?;
     let mut output = Output {
@@ -61,13 +62,13 @@ pub(crate) fn put_chunk<L: Ledger>(
         newest: None,
         metadata: None,
     };
-    put_records(&mut output, chunk, kept, slim, constants, steps)?;
+    put_records(&mut output, source, kept, steps)?;
     let Output {
         mut bytes,
         newest,
         metadata,
     } = output;
-    let header = output_header(chunk.header(), bytes.len(), newest, metadata);
+    let header = output_header(source.chunk.header(), bytes.len(), newest, metadata);
     put_header(&mut bytes, &header);
     Ok(bytes)
 }
@@ -75,26 +76,28 @@ pub(crate) fn put_chunk<L: Ledger>(
 // Writes all output records.
 fn put_records<L: Ledger>(
     output: &mut Output,
-    chunk: &Chunk<'_>,
+    source: Source<'_>,
     kept: &Kept,
-    slim: Option<&[u8]>,
-    constants: Constants<'_>,
     steps: &mut Steps<L>,
 ) -> Result<(), NoMemory>
     requires empty { progress_of output.old ≡ record { bytes = replicate 68 0; newest = None; metadata = None } }
-    requires slim { option_map (λ s. s.now) slim ≡ new_metadata chunk.now kept.now }
-    requires entries { constants.entries.now ≡ firsts chunk.now (kept_by chunk.now kept.now) }
-    requires below { (t : ℕ × ℕ) → numbers_of constants.keys.now t ≤ t.1 }
-    ensures ok { OnOk result (IsBody chunk.now (new_bytes (numbers_of constants.entry.keys.now) chunk.now (kept_by chunk.now kept.now) constants.entry.entries.now) (output_records chunk.now (kept_by chunk.now kept.now)) (progress_of output.new)) }
+    requires slim { option_map (λ s. s.now) source.slim ≡ new_metadata source.chunk.now kept.now }
+    requires entries { source.entries.now ≡ firsts source.chunk.now (kept_by source.chunk.now kept.now) }
+    requires below { (t : ℕ × ℕ) → numbers_of source.keys.now t ≤ t.1 }
+    ensures ok { OnOk result (IsBody source.entry.chunk.now (new_bytes (numbers_of source.entry.keys.now) source.entry.chunk.now (kept_by source.entry.chunk.now kept.now) source.entry.entries.now) (output_records source.entry.chunk.now (kept_by source.entry.chunk.now kept.now)) (progress_of output.new)) }
 {
-    chunk.parts_stand();
+    source.chunk.parts_stand();
     let mut cursor = Cursor {
         frame: 0,
         event: 0,
         link: 0,
     };
-    'output_records: while let Some(output_record) = next_output_record(chunk, kept, &mut cursor) {
-        put_record(output, chunk, slim, constants, output_record, steps)?;
+    'output_records: while let Some(output_record) = next_output_record(
+        source.chunk,
+        kept,
+        &mut cursor,
+    ) {
+        put_record(output, source, output_record, steps)?;
     }
     Ok(())
 }
@@ -102,27 +105,28 @@ fn put_records<L: Ledger>(
 // Writes an output record.
 fn put_record<L: Ledger>(
     output: &mut Output,
-    chunk: &Chunk<'_>,
-    slim: Option<&[u8]>,
-    constants: Constants<'_>,
+    source: Source<'_>,
     output_record: OutputRecord,
     steps: &mut Steps<L>,
 ) -> Result<(), NoMemory>
-    requires order { NotFalling 0 constants.entries.now }
-    requires below { (t : ℕ × ℕ) → numbers_of constants.keys.now t ≤ t.1 }
+    requires order { NotFalling 0 source.entries.now }
+    requires below { (t : ℕ × ℕ) → numbers_of source.keys.now t ≤ t.1 }
     requires before { IsBefore output.old.newest (length output.old.bytes.items) }
-    requires can { CanWrite (numbers_of constants.keys.now) chunk.now constants.entries.now (output_record_as (option_map (λ s. s.now) slim) output_record) (length output.old.bytes.items) output.old.newest }
-    ensures ok { OnOk result ((flags : List Bool) → IsWritten (numbers_of constants.entry.keys.now) chunk.now flags constants.entry.entries.now (option_map (λ s. s.now) slim.entry) output_record (progress_of output.old) (progress_of output.new)) }
+    requires can { CanWrite (numbers_of source.keys.now) source.chunk.now source.entries.now (output_record_as (option_map (λ s. s.now) source.slim) output_record) (length output.old.bytes.items) output.old.newest }
+    ensures ok { OnOk result ((flags : List Bool) → IsWritten (numbers_of source.entry.keys.now) source.entry.chunk.now flags source.entry.entries.now (option_map (λ s. s.now) source.entry.slim) output_record (progress_of output.old) (progress_of output.new)) }
 {
-    chunk.parts_stand();
+    source.chunk.parts_stand();
     match output_record {
         OutputRecord::Event(number, _) => {
-            put_chunk_event(&mut output.bytes, chunk, number, constants.keys, steps)
+            put_chunk_event(&mut output.bytes, source.chunk, number, source.keys, steps)
         }
-        OutputRecord::Metadata(frame) => put_metadata(output, chunk.bytes(), frame, slim),
-        OutputRecord::Chained(number, link) => {
-            put_link(output, chunk, constants, number, link, steps)
-        }
+        OutputRecord::Metadata(frame) => put_metadata(
+            output,
+            source.chunk.bytes(),
+            frame,
+            source.slim,
+        ),
+        OutputRecord::Chained(number, link) => { put_link(output, source, number, link, steps) }
     }
 }
 
@@ -146,24 +150,29 @@ fn put_metadata(
 // Writes a chained checkpoint.
 fn put_link<L: Ledger>(
     output: &mut Output,
-    chunk: &Chunk<'_>,
-    constants: Constants<'_>,
+    source: Source<'_>,
     number: usize,
     link: Link,
     steps: &mut Steps<L>,
 ) -> Result<(), NoMemory>
-    requires order { NotFalling 0 constants.entries.now }
+    requires order { NotFalling 0 source.entries.now }
     requires before { IsBefore output.old.newest (length output.old.bytes.items) }
-    requires can { CheckpointFits (numbers_of constants.keys.now) chunk.now link (distance (length output.old.bytes.items) output.old.newest) (filter (λ e. e.checkpoint == number) constants.entries.now) }
-    ensures ok { OnOk result (progress_of output.new ≡ record { bytes = output.old.bytes.items ++ sized (link.frame.type_at - link.frame.at) (checkpoint_tail (numbers_of constants.entry.keys.now) chunk.now link (distance (length output.old.bytes.items) output.old.newest) (groups_of constants.entry.entries.now number)); newest = Some (length output.old.bytes.items); metadata = output.old.metadata }) }
+    requires can { CheckpointFits (numbers_of source.keys.now) source.chunk.now link (distance (length output.old.bytes.items) output.old.newest) (filter (λ e. e.checkpoint == number) source.entries.now) }
+    ensures ok { OnOk result (progress_of output.new ≡ record { bytes = output.old.bytes.items ++ sized (link.frame.type_at - link.frame.at) (checkpoint_tail (numbers_of source.entry.keys.now) source.entry.chunk.now link (distance (length output.old.bytes.items) output.old.newest) (groups_of source.entry.entries.now number)); newest = Some (length output.old.bytes.items); metadata = output.old.metadata }) }
 {
     let at = output.bytes.len();
     let checkpoint = OutputCheckpoint {
         link,
         delta: delta_to(output.newest, at),
-        entries: entries_of(constants.entries, number),
+        entries: entries_of(source.entries, number),
     };
-    put_checkpoint(&mut output.bytes, chunk, checkpoint, constants.keys, steps)?;
+    put_checkpoint(
+        &mut output.bytes,
+        source.chunk,
+        checkpoint,
+        source.keys,
+        steps,
+    )?;
     output.newest = Some(at);
     Ok(())
 }

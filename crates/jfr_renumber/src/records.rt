@@ -8,7 +8,8 @@ ghost use Rattle.jfr_chunk.specs.Parts.{Parts, events_of};
 ghost use Rattle.jfr_chunk.specs.Seen.{event_at};
 ghost use Rattle.jfr_renumber.specs.Renumber.{event_bytes};
 
-use crate::fields::put_value;
+use crate::field::Fields;
+use crate::fields::{Passed, pass_value};
 use crate::rewriting::NewKeys;
 use jfr_base::{NoMemory, write_in};
 use jfr_chunk::{Chunk, Event};
@@ -32,13 +33,22 @@ pub(crate) fn put_event<N: NewKeys, L: Ledger>(
     requires below { (t : ℕ × ℕ) → N.keys new.now t ≤ t.1 }
     ensures ok { OnOk result ((p : Parts) → p.classes ≡ classes.now → p.bytes ≡ event.entry.node.bytes.now → out.new.items ≡ out.old.items ++ event_bytes (N.keys new.now) p (event_at event.entry)) }
 {
-    let bytes = event.node.bytes;
+    let node = event.node;
     let frame = event.frame;
-    let from = out.len();
-    out.extend_from_slice(&bytes[frame.at..frame.body])?;
-    put_value(out, classes, event.node, new, steps)?;
-    out.extend_from_slice(&bytes[event.node.end..frame.end()])?;
-    put_size(out, from, frame.type_at - frame.at);
+    let start = out.len();
+    let fields = Fields {
+        classes,
+        bytes: node.bytes,
+        end: node.end,
+        new,
+    };
+    let passed = Passed {
+        from: frame.at,
+        at: node.at,
+    };
+    let from = pass_value(out, fields, node.shape, passed, steps)?;
+    out.extend_from_slice(&node.bytes[from..frame.end()])?;
+    put_size(out, start, frame.type_at - frame.at);
     Ok(())
 }
 

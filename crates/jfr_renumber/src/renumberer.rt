@@ -10,7 +10,7 @@ ghost use Rattle.jfr_renumber.specs.Renumber.{new_key_of, renumber_of};
 use crate::entry_keys::EntryKeys;
 use crate::firsts::first_entries;
 use crate::numbered::NumberedKeys;
-use crate::output::{Constants, put_chunk};
+use crate::output::{Source, put_chunk};
 use jfr_base::NoMemory;
 use jfr_chunk::{Chunk, Kept};
 use jfr_filter::Filter;
@@ -114,32 +114,46 @@ fn renumbered<L: Ledger>(
     let mut marks = Marks::make(alloc, chunk.pools())?;
     marks.mark(chunk, kept, &mut steps);
     let keys = NumberedKeys::make(alloc, chunk, kept, &marks)?;
-    let bytes = put_output(alloc, room, chunk, kept, &marks, &keys, &mut steps)?;
+    let chosen = Chosen {
+        chunk,
+        kept,
+        marks: &marks,
+    };
+    let bytes = put_output(alloc, room, chosen, &keys, &mut steps)?;
     Ok(Renumberer { keys, bytes })
+}
+
+// A chunk, its events that are kept, and the entries that these reach.
+#[derive(Clone, Copy)]
+struct Chosen<'c> {
+    chunk: &'c Chunk<'c>,
+    kept: &'c Kept,
+    marks: &'c Marks,
 }
 
 // Writes the output with these new keys.
 fn put_output<L: Ledger>(
     alloc: Global,
     room: Vec<u8>,
-    chunk: &Chunk<'_>,
-    kept: &Kept,
-    marks: &Marks,
+    chosen: Chosen<'_>,
     keys: &NumberedKeys,
     steps: &mut Steps<L>,
 ) -> Result<Vec<u8>, NoMemory>
-    requires kept { length kept.now ≡ length (events_of chunk.now) }
-    requires size { length marks.now ≡ length chunk.now.entries }
-    requires marks { marks.now ≡ reached_marks chunk.now (kept_by chunk.now kept.now) }
-    requires keys { (t : ℕ × ℕ) → number_of keys.now t ≡ new_key_of chunk.now (kept_by chunk.now kept.now) t }
-    ensures { IfOk result (λ out. out.items ≡ renumber_of chunk.now (kept_by chunk.now kept.now)) }
+    requires kept { length chosen.kept.now ≡ length (events_of chosen.chunk.now) }
+    requires size { length chosen.marks.now ≡ length chosen.chunk.now.entries }
+    requires marks { chosen.marks.now ≡ reached_marks chosen.chunk.now (kept_by chosen.chunk.now chosen.kept.now) }
+    requires keys { (t : ℕ × ℕ) → number_of keys.now t ≡ new_key_of chosen.chunk.now (kept_by chosen.chunk.now chosen.kept.now) t }
+    ensures { IfOk result (λ out. out.items ≡ renumber_of chosen.entry.chunk.now (kept_by chosen.entry.chunk.now chosen.entry.kept.now)) }
 {
+    let chunk = chosen.chunk;
     let new = EntryKeys::make(alloc, keys, chunk.pools())?;
-    let entries = first_entries(alloc, chunk, marks, &new)?;
-    let slim = slim_metadata(alloc, chunk, kept)?;
-    let constants = Constants {
+    let entries = first_entries(alloc, chunk, chosen.marks, &new)?;
+    let slim = slim_metadata(alloc, chunk, chosen.kept)?;
+    let source = Source {
+        chunk,
+        slim: slim.as_deref(),
         entries: &entries,
         keys: &new,
     };
-    put_chunk(room, chunk, kept, slim.as_deref(), constants, steps)
+    put_chunk(room, source, chosen.kept, steps)
 }

@@ -26,6 +26,10 @@ pub(crate) trait NewKeys {
     /// The new key of a class and a key.
     fn new_key(&self, class: u64, key: u64) -> u64
         ensures { result ≡ keys self.now (class, key) };
+
+    /// The law that the key 0 stays 0.
+    fn zero_stays(&self)
+        ensures { (class : ℕ) → keys self.now (class, 0) ≡ 0 };
 }
 
 /// Appends a value with new keys.

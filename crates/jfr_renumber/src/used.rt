@@ -1,5 +1,5 @@
 //! The classes and keys that are used.
-ghost use Rattle.std.specs.Prelude.{◌≡◌, ◌<◌, ℕ, [], ◌∷◌, length, map, filter, false, option_to_list, Contains, IfOk};
+ghost use Rattle.std.specs.Prelude.{◌≡◌, ◌<◌, ℕ, [], ◌∷◌, length, map, filter, false, option_to_list, Contains, IfOk, IsTrue};
 ghost use Rattle.jfr_layout.specs.Classes.{Sound};
 ghost use Rattle.jfr_value.specs.Nodes.{IsValue, node_of, targets};
 ghost use Rattle.jfr_value.specs.Visits.{TakesAll};
@@ -33,9 +33,13 @@ impl Visit<Pools> for Missing {
 
     ghost takes = { λ pools target old new. Lists pools (target ∷ []) old new };
 
-    /// Adds a class and a key that have no entry in force.
+    /// Adds a class and a key that have no entry in force. Most are the key 0 of the class before, which is not
+    /// added again.
     fn visit(&mut self, pools: &Pools, class: u64, key: u64) {
         if pools.entry(class, key).is_some() {
+            return;
+        }
+        if is_last(&self.keys, class, key) {
             return;
         }
         if self.keys.push((class, key)).is_err() {
@@ -44,8 +48,18 @@ impl Visit<Pools> for Missing {
     }
 }
 
+// Whether a class and a key are the last ones of these.
+fn is_last(keys: &[(u64, u64)], class: u64, key: u64) -> bool
+    ensures { IsTrue result → Contains keys.now (class, key) }
+{
+    match keys.last() {
+        Some(last) => last.0 == class && last.1 == key,
+        None => false,
+    }
+}
+
 /// The classes and keys without an entry in force to which the kept events, and the entries that they reach,
-/// refer, one for each reference.
+/// refer. Some may be there more than once.
 pub(crate) fn missing_keys(
     alloc: Global,
     chunk: &Chunk<'_>,
@@ -55,7 +69,8 @@ pub(crate) fn missing_keys(
     requires kept { length kept.now ≡ length (events_of chunk.now) }
     requires marks { marks.now ≡ reached_marks chunk.now (kept_by chunk.now kept.now) }
     requires size { length marks.now ≡ length chunk.now.entries }
-    ensures ok { IfOk result (λ keys. keys.items ≡ filter (is_missing chunk.now.entries) (used_keys chunk.now (kept_by chunk.now kept.now))) }
+    ensures all { IfOk result (λ keys. (t : ℕ × ℕ) → Contains (filter (is_missing chunk.now.entries) (used_keys chunk.now (kept_by chunk.now kept.now))) t → Contains keys.items t) }
+    ensures only { IfOk result (λ keys. (t : ℕ × ℕ) → Contains keys.items t → Contains (filter (is_missing chunk.now.entries) (used_keys chunk.now (kept_by chunk.now kept.now))) t) }
 {
     let mut list = Missing {
         keys: Vec::new(alloc),

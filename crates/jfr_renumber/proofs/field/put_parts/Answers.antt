@@ -16,5 +16,5 @@ pub returns : goal.returns
 returns g c = record {
   ok = λ to t l.
       (let e = c.field_end-end.ensures.exact to t l in
-      (e, c.in_ok-put_rekeyed.ensures.ok ∙ ap (λ z. c.args.out.now.items ++ rekeyed_bytes (g.N.NewKeys.keys c.args.new.now) c.args.fields.classes.now c.args.fields.bytes.now (node_at c.args.layout.now.shape c.args.at z)) e));
+      (e, c.in_ok-put_rekeyed.ensures.ok ∙ ap (λ z. c.args.out.now.items ++ rekeyed_bytes (g.N.NewKeys.keys c.args.fields.new.now) c.args.fields.classes.now c.args.fields.bytes.now (node_at c.args.layout.now.shape c.args.at z)) e));
 }

@@ -10,14 +10,14 @@ use Rattle.jfr_renumber.proofs.WritingLaws.{all_assembled, all_renumbered, numbe
 use Rattle.jfr_renumber.proofs.output.put_chunk.Goals as goal
 
 pub put_records-requires-clause-below : goal.put_records-requires-clause-below
-put_records-requires-clause-below g c = numbers_below c.args.chunk.now c.parts_stand.ensures.parts c.args.kept.now c.args.constants.keys.now c.requires.keys
+put_records-requires-clause-below g c = numbers_below c.args.source.chunk.now c.parts_stand.ensures.parts c.args.kept.now c.args.source.keys.now c.requires.keys
 
 pub returns : goal.returns
 returns g c =
-    let p = c.args.chunk.now in
+    let p = c.args.source.chunk.now in
     let flags = c.args.kept.now in
-    let keys = c.args.constants.keys.now in
-    let entries = c.args.constants.entries.now in
+    let keys = c.args.source.keys.now in
+    let entries = c.args.source.entries.now in
     let output = c.put_records.new.output in
     let size = c.len.ensures ∙ output.bytes.ok.0 in
     let header = c.output_header-header.ensures ∙ ap (λ n. header_bytes (record (c.header.result.now) { size = n; pools = unwrap_or output.newest 0; metadata = unwrap_or output.metadata 0 })) size in

@@ -10,9 +10,9 @@ use Rattle.jfr_renumber.proofs.output.put_records.Given as goal
 
 abbrev pub invariant-output_records : goal.invariant-output_records
 invariant-output_records g l = record {
-  cursor : IsCursor l.chunk l.kept l.cursor;
-  output : Going l.chunk (new_bytes (numbers_of l.constants.keys.now) l.chunk (kept_by l.chunk l.kept) l.constants.entries.now) (CanWrite (numbers_of l.constants.keys.now) l.chunk l.constants.entries.now) (output_records l.chunk (kept_by l.chunk l.kept)) (still_output_records l.chunk l.kept l.cursor) (progress_of l.output);
+  cursor : IsCursor l.source.chunk.now l.kept l.cursor;
+  output : Going l.source.chunk.now (new_bytes (numbers_of l.source.keys.now) l.source.chunk.now (kept_by l.source.chunk.now l.kept) l.source.entries.now) (CanWrite (numbers_of l.source.keys.now) l.source.chunk.now l.source.entries.now) (output_records l.source.chunk.now (kept_by l.source.chunk.now l.kept)) (still_output_records l.source.chunk.now l.kept l.cursor) (progress_of l.output);
 }
 
 abbrev pub decreases-output_records : goal.decreases-output_records
-decreases-output_records g l = length (still_output_records l.chunk l.kept l.cursor)
+decreases-output_records g l = length (still_output_records l.source.chunk.now l.kept l.cursor)

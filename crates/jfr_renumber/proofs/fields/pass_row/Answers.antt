@@ -7,9 +7,9 @@ use Rattle.jfr_value.proofs.LayoutLaws.{layout_there, layouts_at, no_layout}
 use Rattle.jfr_value.proofs.RowLaws.{shapes_get, start_of}
 use Rattle.jfr_renumber.specs.Fields.{rekeyed_first}
 use Rattle.jfr_renumber.specs.Rekeyed.{rekeyed, rekeyed_bytes}
-use Rattle.jfr_renumber.proofs.FieldLaws.{field_at, rekeyed_is}
+use Rattle.jfr_renumber.proofs.FieldLaws.{field_at, rekeyed_is, row_end}
 use Rattle.jfr_renumber.proofs.PassedLaws.{row_begun}
-use Rattle.jfr_renumber.proofs.fields.put_row.Goals as goal
+use Rattle.jfr_renumber.proofs.fields.pass_row.Goals as goal
 
 pub pass_field-requires-clause-layout : goal.pass_field-requires-clause-layout
 pass_field-requires-clause-layout g c = layouts_at c.args.fields.classes.now c.args.layouts.now c.loop-i.i c.requires.layouts (omega arith)
@@ -19,7 +19,7 @@ pass_field-requires-clause-order g c =
     let ls = c.args.layouts.now in
     let i = c.loop-i.i in
     let r = c.requires.row in
-    let f = field_at (g.N.NewKeys.keys c.args.new.now) c.args.fields.classes.now c.args.fields.bytes.now c.args.start c.args.fields.end (map (λ s. s.shape) ls) r.0 i (get_or ls i no_layout).shape r.1 (shapes_get ls i (get_or ls i no_layout) (layout_there ls i (omega arith))) in
+    let f = field_at (g.N.NewKeys.keys c.args.fields.new.now) c.args.fields.classes.now c.args.fields.bytes.now c.args.start.at c.args.fields.end (map (λ s. s.shape) ls) r.0 i (get_or ls i no_layout).shape r.1 (shapes_get ls i (get_or ls i no_layout) (layout_there ls i (omega arith))) in
     let a = (c.loop-i.invariant r.0 r.1).0 in
     let o = f.node.order in
     let w = f.within in
@@ -31,15 +31,15 @@ pass_field-requires-clause-there g c =
     let i = c.loop-i.i in
     let r = c.requires.row in
     let s = (get_or ls i no_layout).shape in
-    let f = field_at (g.N.NewKeys.keys c.args.new.now) c.args.fields.classes.now c.args.fields.bytes.now c.args.start c.args.fields.end (map (λ s. s.shape) ls) r.0 i s r.1 (shapes_get ls i (get_or ls i no_layout) (layout_there ls i (omega arith))) in
+    let f = field_at (g.N.NewKeys.keys c.args.fields.new.now) c.args.fields.classes.now c.args.fields.bytes.now c.args.start.at c.args.fields.end (map (λ s. s.shape) ls) r.0 i s r.1 (shapes_get ls i (get_or ls i no_layout) (layout_there ls i (omega arith))) in
     let a = (c.loop-i.invariant r.0 r.1).0 in
-    (start_of c.args.start r.0 (i + 1), (f.value, subst (λ z. IsNode c.args.fields.classes.now c.args.fields.bytes.now (node_at s z (start_of c.args.start r.0 (i + 1))) f.value) (sym a) f.node), f.within)
+    (start_of c.args.start.at r.0 (i + 1), (f.value, subst (λ z. IsNode c.args.fields.classes.now c.args.fields.bytes.now (node_at s z (start_of c.args.start.at r.0 (i + 1))) f.value) (sym a) f.node), f.within)
 
 pub pass_field-requires-clause-from : goal.pass_field-requires-clause-from
 pass_field-requires-clause-from g c = (c.loop-i.invariant c.requires.row.0 c.requires.row.1).1
 
 pub loop-i-init : goal.loop-i-init
-loop-i-init g c = λ vs r. row_begun c.args.fields.bytes.now c.args.out.now.items c.args.start c.args.fields.end r.order
+loop-i-init g c = λ vs r. row_begun c.args.fields.bytes.now c.args.out.now.items c.args.start.from c.args.start.at c.args.fields.end c.requires.from r.order
 
 pub loop-i-preserved : goal.loop-i-preserved
 loop-i-preserved g c = λ vs r.
@@ -47,15 +47,15 @@ loop-i-preserved g c = λ vs r.
     let i = c.loop-i.i in
     let k = c.args.fields.classes.now in
     let x = c.args.fields.bytes.now in
-    let new = g.N.NewKeys.keys c.args.new.now in
+    let new = g.N.NewKeys.keys c.args.fields.new.now in
     let s = (get_or ls i no_layout).shape in
-    let f = field_at new k x c.args.start c.args.fields.end (map (λ s. s.shape) ls) vs i s r (shapes_get ls i (get_or ls i no_layout) (layout_there ls i (omega arith))) in
+    let f = field_at new k x c.args.start.at c.args.fields.end (map (λ s. s.shape) ls) vs i s r (shapes_get ls i (get_or ls i no_layout) (layout_there ls i (omega arith))) in
     let a = c.loop-i.invariant vs r in
-    let to = start_of c.args.start vs (i + 1) in
+    let to = start_of c.args.start.at vs (i + 1) in
     let n = subst (λ z. IsNode k x (node_at s z to) f.value) (sym a.0) f.node in
     let w = c.in_ok-pass_field.ensures.ok to (f.value, n) f.within in
     let p = c.pass_field.new.passed in
-    let old = c.args.out.now.items in
+    let old = c.args.out.now.items ++ slice_range x c.args.start.from c.args.start.at in
     let all : c.pass_field.new.out.items ++ slice_range x p.from to ≡ old ++ rekeyed_first new vs (i + 1) =
     w.2 ∙ (ap (λ z. z ++ rekeyed_bytes new k x (node_at s c.loop-i.passed.at to)) a.3 ∙ (ap (λ z. (old ++ rekeyed_first new vs i) ++ z) (rekeyed_is new k x (node_at s c.loop-i.passed.at to) f.value c.requires.sound n)
     ∙ (append_assoc old (rekeyed_first new vs i) (bytes_of (rekeyed new f.value)) ∙ ap (λ z. old ++ z) (sym f.next)))) in (
@@ -69,5 +69,8 @@ pub returns : goal.returns
 returns g c = record {
   ok = λ vs r.
       (let i : c.loop-i.i ≡ length c.args.layouts.now = omega (arith, c.loop-i-test.false, c.loop-i.auto.i-end) in
-      c.in_ok-extend_from_slice.ensures.items ∙ ((c.loop-i.invariant vs r).3 ∙ ap (λ z. c.args.out.now.items ++ rekeyed_first (g.N.NewKeys.keys c.args.new.now) vs z) i));
+      let a = c.loop-i.invariant vs r in
+      let e = a.0 ∙ row_end c.args.fields.classes.now c.args.fields.bytes.now c.args.start.at c.args.fields.end c.args.layouts.now vs c.loop-i.i r i in
+      let old = c.args.out.now.items ++ slice_range c.args.fields.bytes.now c.args.start.from c.args.start.at in
+      (subst (λ z. c.loop-i.passed.from ≤ z) e a.1, ap (λ z. c.loop-i.out.items ++ slice_range c.args.fields.bytes.now c.loop-i.passed.from z) (sym e) ∙ (a.3 ∙ ap (λ z. old ++ rekeyed_first (g.N.NewKeys.keys c.args.fields.new.now) vs z) i)));
 }

@@ -1,0 +1,11 @@
+use Rattle.jfr_value.specs.Nodes.{node_at}
+use Rattle.jfr_renumber.specs.Rekeyed.{rekeyed_bytes}
+use Rattle.jfr_renumber.proofs.PassedLaws.{whole_written}
+use Rattle.jfr_renumber.proofs.fields.pass_leaves.Goals as goal
+
+pub returns : goal.returns
+returns g c = record {
+  ok = whole_written c.args.fields.bytes.now c.args.out.now.items c.extend_from_slice.new.self.items c.put_rekeyed.new.out.items
+      (rekeyed_bytes (g.N.NewKeys.keys c.args.fields.new.now) c.args.fields.classes.now c.args.fields.bytes.now (node_at c.args.shape c.args.start.at c.args.fields.end))
+      c.args.start.from c.args.start.at c.args.fields.end c.in_ok-extend_from_slice.ensures.items c.in_ok-put_rekeyed.ensures.ok;
+}
