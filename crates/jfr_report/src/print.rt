@@ -76,7 +76,12 @@ impl Report for Printing<'_> {
         _number: u64,
     ) -> Result<(), Ending> {
         let kept = choose(alloc, chunk, self.filter)?;
-        print_kept(alloc, out, &mut self.page, chunk, &kept, self.style)
+        let selection = Selection {
+            chunk,
+            kept: &kept,
+            style: self.style,
+        };
+        print_kept(alloc, out, &mut self.page, &selection)
     }
 
     fn end<O: Sink>(&self, _alloc: Global, _out: &mut O) -> Result<(), Ending> {
@@ -84,38 +89,42 @@ impl Report for Printing<'_> {
     }
 }
 
+/// The kept events of a chunk, and how they are shown.
+#[derive(Drop)]
+struct Selection<'s, 'a> {
+    chunk: &'s Chunk<'a>,
+    kept: &'s Kept,
+    style: Style,
+}
+
 /// Shows the kept events of a chunk, with a new writer.
 fn print_kept<O: Sink>(
     alloc: Global,
     out: &mut O,
     page: &mut TextBuilder,
-    chunk: &Chunk<'_>,
-    kept: &Kept,
-    style: Style,
+    selection: &Selection<'_, '_>,
 ) -> Result<(), Ending>
-    ensures texts { TextLeaves (events_bytes style.json style.depth chunk.now (kept_by chunk.now kept.now)) result (O.state out.old).written (O.state out.new).written }
+    ensures texts { TextLeaves (events_bytes selection.now.style.json selection.now.style.depth selection.now.chunk.now (kept_by selection.now.chunk.now selection.now.kept.now)) result (O.state out.old).written (O.state out.new).written }
     ensures faults { TextCounted result (O.state out.old).faults (O.state out.new).faults }
 {
-    let mut writer = writer_of(alloc, chunk, style.json)?;
-    print_events(out, page, chunk, kept, style, &mut writer)
+    let mut writer = writer_of(alloc, selection.chunk, selection.style.json)?;
+    print_events(out, page, selection, &mut writer)
 }
 
 /// Shows the kept events of a chunk, with this writer.
 fn print_events<O: Sink>(
     out: &mut O,
     page: &mut TextBuilder,
-    chunk: &Chunk<'_>,
-    kept: &Kept,
-    style: Style,
+    selection: &Selection<'_, '_>,
     writer: &mut Writer<'_, '_>,
 ) -> Result<(), Ending>
-    requires writer { writer.old ≡ writer_of style.json chunk.now }
-    ensures texts { TextLeaves (events_bytes style.json style.depth chunk.now (kept_by chunk.now kept.now)) result (O.state out.old).written (O.state out.new).written }
+    requires writer { writer.old ≡ writer_of selection.now.style.json selection.now.chunk.now }
+    ensures texts { TextLeaves (events_bytes selection.now.style.json selection.now.style.depth selection.now.chunk.now (kept_by selection.now.chunk.now selection.now.kept.now)) result (O.state out.old).written (O.state out.new).written }
     ensures faults { TextCounted result (O.state out.old).faults (O.state out.new).faults }
 {
     page.clear();
-    for number in 0..chunk.event_count() {
-        print_if_kept(out, page, chunk, kept, style, writer, number)?;
+    for number in 0..selection.chunk.event_count() {
+        print_if_kept(out, page, selection, writer, number)?;
     }
     write_page(out, page)
 }
@@ -139,50 +148,47 @@ fn writer_of<'c, 'a>(
 fn print_if_kept<O: Sink>(
     out: &mut O,
     page: &mut TextBuilder,
-    chunk: &Chunk<'_>,
-    kept: &Kept,
-    style: Style,
+    selection: &Selection<'_, '_>,
     writer: &mut Writer<'_, '_>,
     number: usize,
 ) -> Result<(), Ending>
-    requires writer { writer.old ≡ writer_of style.json chunk.now }
-    requires number { number < length (events_of chunk.now) }
+    requires writer { writer.old ≡ writer_of selection.now.style.json selection.now.chunk.now }
+    requires number { number < length (events_of selection.now.chunk.now) }
     ensures texts { (all : List (List ℕ)) (before : Option (List ℕ))
         → IsGathered all before (O.state out.old).written (encode_utf8_all page.old)
-        (events_bytes style.json style.depth chunk.now (marked (drop number kept.now) (drop number (events_of chunk.now))))
+        (events_bytes selection.now.style.json selection.now.style.depth selection.now.chunk.now (marked (drop number selection.now.kept.now) (drop number (events_of selection.now.chunk.now))))
         → PageLeaves all before result (encode_utf8_all page.new)
-        (events_bytes style.json style.depth chunk.now (marked (drop (number + 1) kept.now) (drop (number + 1) (events_of chunk.now)))) (O.state out.new).written }
+        (events_bytes selection.now.style.json selection.now.style.depth selection.now.chunk.now (marked (drop (number + 1) selection.now.kept.now) (drop (number + 1) (events_of selection.now.chunk.now)))) (O.state out.new).written }
     ensures faults { TextCounted result (O.state out.old).faults (O.state out.new).faults }
     ensures same { writer.new ≡ writer.old }
 {
-    let keep = kept.get(number).unwrap_or(false);
+    let keep = selection.kept.get(number).unwrap_or(false);
     if !keep {
         return Ok(());
     }
-    let Some(event) = chunk.event(number) else {
+    let Some(event) = selection.chunk.event(number) else {
         unreachable!()
     };
-    print_event(out, page, chunk, &event, style, writer)
+    print_event(out, page, selection, &event, writer)
 }
 
 /// Adds an event to the page, and writes the page if it is full.
 fn print_event<O: Sink>(
     out: &mut O,
     page: &mut TextBuilder,
-    chunk: &Chunk<'_>,
+    selection: &Selection<'_, '_>,
     event: &Event<'_>,
-    style: Style,
     writer: &mut Writer<'_, '_>,
 ) -> Result<(), Ending>
-    requires writer { writer.old ≡ writer_of style.json chunk.now }
-    requires event { slice_get (events_of chunk.now) event.now.number ≡ Some (event_at event.now) }
+    requires writer { writer.old ≡ writer_of selection.now.style.json selection.now.chunk.now }
+    requires event { slice_get (events_of selection.now.chunk.now) event.now.number ≡ Some (event_at event.now) }
     ensures texts { (all rest : List (List ℕ)) (before : Option (List ℕ))
-        → IsGathered all before (O.state out.old).written (encode_utf8_all page.old) (event_bytes style.json style.depth chunk.now (node_of event.now.node) ∷ rest)
+        → IsGathered all before (O.state out.old).written (encode_utf8_all page.old) (event_bytes selection.now.style.json selection.now.style.depth selection.now.chunk.now (node_of event.now.node) ∷ rest)
         → PageLeaves all before result (encode_utf8_all page.new) rest (O.state out.new).written }
     ensures faults { TextCounted result (O.state out.old).faults (O.state out.new).faults }
     ensures same { writer.new ≡ writer.old }
 {
-    writer.show(event, style.depth, page)?;
+    writer.show(event, selection.style.depth, page)?;
     write_full_page(out, page)
 }
 

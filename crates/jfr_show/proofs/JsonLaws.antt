@@ -1,5 +1,5 @@
 -- The JSON of the value at an offset, by what was read there, and of one item more.
-use Rattle.std.specs.Prelude.{◌≡◌, ◌≢◌, ℕ, zero, suc, ◌+◌, ◌≤◌, Bool, true, false, List, [], ◌∷◌, ◌++◌, length, codes, decimal, Some, None, Ok, slice_range, is_some, if◌then◌else◌}
+use Rattle.std.specs.Prelude.{◌≡◌, ◌≢◌, ℕ, zero, suc, ◌+◌, Bool, true, false, List, [], ◌∷◌, ◌++◌, length, codes, decimal, Some, None, Ok, slice_range, is_some, if◌then◌else◌}
 use Rattle.std.specs.Option.{option_map_or}
 use Rattle.std.specs.Str.{chars}
 use Rattle.std.proofs.Common.{ap, refl, sym, ◌∙◌}
@@ -65,7 +65,7 @@ module _ (k : Classes) (refer : ℕ × ℕ → Data) where
       n ∙ (a ∙ (ap (λ z. z ++ text) b ∙ append_assoc was (91 ∷ []) text))
 
 -- What was added for the value of a layout.
-module _ (k : Classes) (refer : ℕ × ℕ → Data) (c : List ℕ) (at to end : ℕ) (s : FieldLayout) (l : to ≤ end) (w : end ≤ length c) (is : IsLayoutIfKnown k s) (v : Value) (i : IsNode k c (node_at s.shape at to) v) (was new : List ℕ) where
+module _ (k : Classes) (refer : ℕ × ℕ → Data) (c : List ℕ) (at to : ℕ) (s : FieldLayout) (is : IsLayoutIfKnown k s) (v : Value) (i : IsNode k c (node_at s.shape at to) v) (was new : List ℕ) where
   -- It ends there, and its JSON was added.
   abbrev pub IsMade : ℕ → Type 0
   IsMade ended = (ended ≡ to) × (new ≡ was ++ compact_text (json_of k refer v))
@@ -73,30 +73,30 @@ module _ (k : Classes) (refer : ℕ × ℕ → Data) (c : List ℕ) (at to end :
   as_text : (d : Data) → json_of k refer v ≡ d → new ≡ was ++ compact_text d → new ≡ was ++ compact_text (json_of k refer v)
   as_text d e h = h ∙ ap (λ z. was ++ compact_text z) (sym e)
 
-  pub integer_made : s.form ≡ forms.Integer → (n : Var) → int_at c at end ≡ Some n → ((bytes : List ℕ) → worth_within 8 bytes ≡ n.value → new ≡ was ++ compact_text (base_json s.kind bytes)) → IsMade n.end
+  pub integer_made : s.form ≡ forms.Integer → (n : Var) → int_at c at (length c) ≡ Some n → ((bytes : List ℕ) → worth_within 8 bytes ≡ n.value → new ≡ was ++ compact_text (base_json s.kind bytes)) → IsMade n.end
   integer_made e n r h =
-      let f = is_integer k c at to end s l w is v i e n r in
+      let f = is_integer k c at to s is v i e n r in
       (f.ends, as_text (base_json s.kind (slice_range c at to)) (ap (json_of k refer) f.value) (h (slice_range c at to) f.worth))
 
-  pub raw_made : (n : ℕ) → s.form ≡ forms.Raw n → (bytes : List ℕ) → bytes ≡ slice_range c at (at + n) → new ≡ was ++ compact_text (base_json s.kind bytes) → IsMade (at + length bytes)
+  pub raw_made : (n : ℕ) → s.form ≡ forms.Raw n → (bytes : List ℕ) → bytes ≡ slice_range c at (at + n) → new ≡ was ++ compact_text (base_json s.kind bytes) → IsMade (at + n)
   raw_made n e bytes b h =
-      let f = is_raw k c at to end s l w is v i n e in
+      let f = is_raw k c at to s is v i n e in
       let there : bytes ≡ slice_range c at to = b ∙ ap (λ z. slice_range c at z) f.ends in
-      (ap (λ z. at + length z) there ∙ (ap (λ z. at + z) f.count ∙ f.ends), as_text (base_json s.kind bytes) (ap (json_of k refer) f.value ∙ ap (base_json s.kind) (sym there)) h)
+      (f.ends, as_text (base_json s.kind bytes) (ap (json_of k refer) f.value ∙ ap (base_json s.kind) (sym there)) h)
 
-  pub reference_made : s.form ≡ forms.Key → (n : Var) → int_at c at end ≡ Some n → new ≡ was ++ compact_text (refer (s.shape.class, n.value)) → IsMade n.end
+  pub reference_made : s.form ≡ forms.Key → (n : Var) → int_at c at (length c) ≡ Some n → new ≡ was ++ compact_text (refer (s.shape.class, n.value)) → IsMade n.end
   reference_made e n r h =
-      let f = is_reference k c at to end s l w is v i e n r in
+      let f = is_reference k c at to s is v i e n r in
       (f.ends, as_text (refer (s.shape.class, n.value)) (ap (json_of k refer) f.value) h)
 
-  pub key_made : s.form ≡ forms.Text → (span : StringSpan) → run (string_format true) c end at ≡ Ok (record { value = content_of span; place = span.end }) → span.kind ≡ span_kinds.Key → new ≡ was ++ compact_text (refer (s.shape.class, span.key)) → IsMade span.end
+  pub key_made : s.form ≡ forms.Text → (span : StringSpan) → run (string_format true) c (length c) at ≡ Ok (record { value = content_of span; place = span.end }) → span.kind ≡ span_kinds.Key → new ≡ was ++ compact_text (refer (s.shape.class, span.key)) → IsMade span.end
   key_made e span r q h =
-      let f = is_text k c at to end s l w is v i e (content_of span) span.end r in
+      let f = is_text k c at to s is v i e (content_of span) span.end r in
       (f.ends, as_text (refer (s.shape.class, span.key)) (ap (json_of k refer) f.value ∙ ap (λ z. json_of k refer (Single s.shape (leaf_kinds.Base kinds.Text) (slice_range c at to) z)) (key_in span q)) h)
 
-  pub string_made : s.form ≡ forms.Text → (span : StringSpan) → run (string_format true) c end at ≡ Ok (record { value = content_of span; place = span.end }) → span.kind ≢ span_kinds.Key → new ≡ was ++ compact_text (option_map_or text_json (strings.text_of (content_of span)) null) → IsMade span.end
+  pub string_made : s.form ≡ forms.Text → (span : StringSpan) → run (string_format true) c (length c) at ≡ Ok (record { value = content_of span; place = span.end }) → span.kind ≢ span_kinds.Key → new ≡ was ++ compact_text (option_map_or text_json (strings.text_of (content_of span)) null) → IsMade span.end
   string_made e span r q h =
-      let f = is_text k c at to end s l w is v i e (content_of span) span.end r in
+      let f = is_text k c at to s is v i e (content_of span) span.end r in
       (f.ends, as_text (option_map_or text_json (strings.text_of (content_of span)) null) (ap (json_of k refer) f.value ∙ (ap (λ z. json_of k refer (Single s.shape (leaf_kinds.Base kinds.Text) (slice_range c at to) z)) (no_key span q) ∙ ap (λ z. option_map_or text_json z null) f.text)) h)
 
 -- Two values between literals.

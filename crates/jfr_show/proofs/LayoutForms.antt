@@ -1,6 +1,7 @@
 -- Which value is at an offset, by its layout; and that what is read there is the value's.
-use Rattle.std.specs.Prelude.{◌≡◌, ℕ, ◌+◌, ◌≤◌, true, false, List, [], length, slice_range, slice_get, map, replicate, Some, None, Ok, IsSome, IsOk}
+use Rattle.std.specs.Prelude.{◌≡◌, ℕ, ◌+◌, ◌-◌, ◌≤◌, ◌<◌, true, false, List, [], length, slice_range, slice_get, map, replicate, Some, None, Ok, IsSome, IsOk}
 use Rattle.std.proofs.Common.{ap, arith, refl, sym, ◌∙◌, subst}
+use Rattle.std.specs.List.{AllByRecursion}
 use Rattle.std.specs.Option.{option_map_or}
 use Rattle.jfr_base.specs.declared.integer.Var.{Var}
 use Rattle.jfr_base.specs.Integer.{worth_within}
@@ -18,9 +19,10 @@ use Rattle.jfr_value.specs.declared.leaf.LeafKind.TheVariants as leaf_kinds
 use Rattle.jfr_value.specs.Values.{Value, Values, Single, Group, key_of}
 use Rattle.jfr_value.specs.Visits.{field_shapes}
 use Rattle.jfr_value.specs.Nodes.{node_at, IsNode, IsRow}
-use Rattle.jfr_value.specs.Walks.{IsLayoutIfKnown}
+use Rattle.jfr_value.specs.Walks.{IsLayoutIfKnown, Room}
 use Rattle.jfr_value.proofs.FormLaws.{IsInline, Inline, inline_there, key_there, text_kind, fields_kind}
-use Rattle.jfr_value.proofs.VisitLaws.{InlineNode, inline_node}
+use Rattle.jfr_value.proofs.StackLaws.{inner_room}
+use Rattle.jfr_value.proofs.VisitLaws.{InlineNode, inline_node, room_within}
 use Rattle.jfr_show.specs.Leaves.{text_spelled}
 use Rattle.jfr_show.proofs.FormLaws.{IntegerForm, RawForm, TextForm, array_form, key_form, integer_form, raw_form, text_form, fields_form}
 
@@ -28,14 +30,24 @@ use Rattle.jfr_show.proofs.FormLaws.{IntegerForm, RawForm, TextForm, array_form,
 shapes_at : (k : Classes) (place : ℕ) (d : Class) → slice_get k place ≡ Some d → field_shapes k place ≡ map (λ f. f.shape) d.fields
 shapes_at k place d e = ap (λ o. option_map_or (λ c. map (λ f. f.shape) c.fields) o []) e
 
-module _ (k : Classes) (c : List ℕ) (at to end : ℕ) (s : FieldLayout) (l : to ≤ end) (w : end ≤ length c) (is : IsLayoutIfKnown k s) (v : Value) (i : IsNode k c (node_at s.shape at to) v) where
+module _ (k : Classes) (c : List ℕ) (at to : ℕ) (s : FieldLayout) (is : IsLayoutIfKnown k s) (v : Value) (i : IsNode k c (node_at s.shape at to) v) where
+  -- A value is read up to the end of the chunk.
+  abbrev end : ℕ
+  end = length c
+
+  abbrev l : to ≤ end
+  l = i.within
+
+  w : end ≤ length c
+  w = omega arith
+
   abbrev bytes_there : List ℕ
   bytes_there = slice_range c at to
 
   abbrev inline : (f : Form) → s.form ≡ f → IsInline f → Inline s f
   inline f e x = inline_there s is.form f e x
 
-  pub inline_layout : (f : Form) → s.form ≡ f → IsInline f → InlineNode k c at to end s.shape l w s.class_index s.kind
+  inline_layout : (f : Form) → s.form ≡ f → IsInline f → InlineNode k c at to end s.shape l w s.class_index s.kind
   inline_layout f e x = let m = inline f e x in inline_node k c at to end s.shape l w v s.class_index s.kind s.form i m.array m.constant is
 
   -- An integer.
@@ -126,6 +138,7 @@ module _ (k : Classes) (c : List ℕ) (at to end : ℕ) (s : FieldLayout) (l : t
     pub class : Class
     pub found : find_class k s.shape.class ≡ Some class
     pub there : slice_get k s.class_index ≡ Some class
+    pub placed : s.class_index < length k
     pub parts : Values
     pub row : IsRow k c at to (field_shapes k s.class_index) parts
     pub value : v ≡ Group s.shape [] parts
@@ -140,10 +153,19 @@ module _ (k : Classes) (c : List ℕ) (at to end : ℕ) (s : FieldLayout) (l : t
         class = d.class;
         found = d.found;
         there = d.there;
+        placed = d.within;
         parts = f.parts;
         row = subst (λ z. IsRow k c at to z f.parts) (sym (shapes_at k s.class_index d.class d.there)) f.row;
         value = f.value;
       }
+
+  -- And the room for the fields.
+  pub composite_room : s.form ≡ forms.Fields → (levels : ℕ) → Room k levels s.shape → (1 ≤ levels) × AllByRecursion (Room k (levels - 1)) (field_shapes k s.class_index)
+  composite_room e levels r =
+      let m = inline forms.Fields e tt in
+      let d = inline_layout forms.Fields e tt in
+      let q = fields_kind s.kind m.form in
+      ((inner_room k levels s.shape d.class r m.constant d.found (sym d.kind_is ∙ q)).0, room_within k c at to end s.shape l w s.class_index s.kind levels d q m.constant r)
 
   -- An array: the items after its count.
   pub array_stands : s.shape.array ≡ true → IsSome (int_at c at end)

@@ -1,6 +1,6 @@
 -- A loop over consecutive values: those that are left, and the result so far.
 use Rattle.std.specs.Prelude.{◌≡◌, ℕ, ◌+◌, ◌≤◌, List, [], ◌∷◌, length}
-use Rattle.std.proofs.Common.{ap, arith, refl, sym, ◌∙◌, subst}
+use Rattle.std.proofs.Common.{ap, refl, sym, ◌∙◌, subst}
 use Rattle.jfr_layout.specs.Classes.{Classes}
 use Rattle.jfr_layout.specs.declared.shape.Shape.{Shape}
 use Rattle.jfr_value.specs.Values.{Value, Values, Nil, Cons, shapes_of, bytes_of}
@@ -46,16 +46,15 @@ module _ {A : Type 0} (k : Classes) (c : List ℕ) (to : ℕ) (whole : A) where
       record { place = from + length (bytes_of g.value); value = g.value; node = record { shape = sym g.shape; order = g.stands.order; within = g.stands.within; bytes = g.stands.bytes; fits = g.fits }; within = g.row.order }
 
   -- What is left after this value is added to the result.
-  pub left_goes : (onto next : A → Values → A) (s : Shape) (ss us : List Shape) (from : ℕ) (made : A) (limit end : ℕ) (new : A)
-      → Left k c to whole onto us from made → us ≡ s ∷ ss → to ≤ limit
-      → ((p : ℕ) (v : Value) → IsNode k c (node_at s from p) v → p ≤ limit → (end ≡ p) × ((vs : Values) → onto made (Cons v vs) ≡ next new vs))
+  pub left_goes : (onto next : A → Values → A) (s : Shape) (ss us : List Shape) (from : ℕ) (made : A) (end : ℕ) (new : A)
+      → Left k c to whole onto us from made → us ≡ s ∷ ss
+      → ((p : ℕ) (v : Value) → IsNode k c (node_at s from p) v → (end ≡ p) × ((vs : Values) → onto made (Cons v vs) ≡ next new vs))
       → Left k c to whole next ss end new
-  left_goes onto next s ss us from made limit end new f d l x =
+  left_goes onto next s ss us from made end new f d x =
       let h = first_of k c from to s ss f.others (subst (λ z. IsRow k c from to z f.others) d f.row) in
       let p = from + length (bytes_of h.value) in
       let n : IsNode k c (node_at s from p) h.value = record { shape = sym h.shape; order = h.stands.order; within = h.stands.within; bytes = h.stands.bytes; fits = h.fits } in
-      let m : p ≤ limit = (let q = h.row.order in omega arith) in
-      let t = x p h.value n m in
+      let t = x p h.value n in
       record {
         others = h.others;
         row = subst (λ q. IsRow k c q to ss h.others) (sym t.0) h.row;

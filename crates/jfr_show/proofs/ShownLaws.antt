@@ -1,5 +1,5 @@
 -- The text of the value at an offset, by what was read there.
-use Rattle.std.specs.Prelude.{◌≡◌, ◌≢◌, ℕ, ◌+◌, ◌≤◌, true, false, List, [], ◌++◌, length, codes, Some, None, Ok, slice_range, if◌then◌else◌}
+use Rattle.std.specs.Prelude.{◌≡◌, ◌≢◌, ℕ, ◌+◌, true, false, List, [], ◌++◌, length, codes, Some, None, Ok, slice_range, if◌then◌else◌}
 use Rattle.std.specs.Option.{option_map_or}
 use Rattle.std.proofs.Common.{ap, refl, sym, ◌∙◌}
 use Rattle.jfr_base.specs.declared.integer.Var.{Var}
@@ -53,7 +53,7 @@ module _ (k : Classes) (refer : ℕ → ℕ × ℕ → List ℕ) (level : ℕ) w
       ap (shown k refer level) e ∙ ap (λ z. if z then items_shown level texts else option_map_or (λ c. fields_shown level c texts) (find_class k s.class) []) a
 
 -- What was added for the value of a layout.
-module _ (k : Classes) (refer : ℕ → ℕ × ℕ → List ℕ) (level : ℕ) (c : List ℕ) (at to end : ℕ) (s : FieldLayout) (l : to ≤ end) (w : end ≤ length c) (is : IsLayoutIfKnown k s) (v : Value) (i : IsNode k c (node_at s.shape at to) v) (was new : List ℕ) where
+module _ (k : Classes) (refer : ℕ → ℕ × ℕ → List ℕ) (level : ℕ) (c : List ℕ) (at to : ℕ) (s : FieldLayout) (is : IsLayoutIfKnown k s) (v : Value) (i : IsNode k c (node_at s.shape at to) v) (was new : List ℕ) where
   -- It ends there, and its text was added.
   abbrev pub IsShown : ℕ → Type 0
   IsShown ended = (ended ≡ to) × (new ≡ was ++ shown k refer level v)
@@ -61,28 +61,28 @@ module _ (k : Classes) (refer : ℕ → ℕ × ℕ → List ℕ) (level : ℕ) (
   as_text : (text : List ℕ) → shown k refer level v ≡ text → new ≡ was ++ text → new ≡ was ++ shown k refer level v
   as_text text e h = h ∙ ap (λ z. was ++ z) (sym e)
 
-  pub integer_shown : s.form ≡ forms.Integer → (n : Var) → int_at c at end ≡ Some n → ((bytes : List ℕ) → worth_within 8 bytes ≡ n.value → new ≡ was ++ base_shown s.kind bytes) → IsShown n.end
+  pub integer_shown : s.form ≡ forms.Integer → (n : Var) → int_at c at (length c) ≡ Some n → ((bytes : List ℕ) → worth_within 8 bytes ≡ n.value → new ≡ was ++ base_shown s.kind bytes) → IsShown n.end
   integer_shown e n r h =
-      let f = is_integer k c at to end s l w is v i e n r in
+      let f = is_integer k c at to s is v i e n r in
       (f.ends, as_text (base_shown s.kind (slice_range c at to)) (ap (shown k refer level) f.value) (h (slice_range c at to) f.worth))
 
-  pub raw_shown : (n : ℕ) → s.form ≡ forms.Raw n → (bytes : List ℕ) → bytes ≡ slice_range c at (at + n) → new ≡ was ++ base_shown s.kind bytes → IsShown (at + length bytes)
+  pub raw_shown : (n : ℕ) → s.form ≡ forms.Raw n → (bytes : List ℕ) → bytes ≡ slice_range c at (at + n) → new ≡ was ++ base_shown s.kind bytes → IsShown (at + n)
   raw_shown n e bytes b h =
-      let f = is_raw k c at to end s l w is v i n e in
+      let f = is_raw k c at to s is v i n e in
       let there : bytes ≡ slice_range c at to = b ∙ ap (λ z. slice_range c at z) f.ends in
-      (ap (λ z. at + length z) there ∙ (ap (λ z. at + z) f.count ∙ f.ends), as_text (base_shown s.kind bytes) (ap (shown k refer level) f.value ∙ ap (base_shown s.kind) (sym there)) h)
+      (f.ends, as_text (base_shown s.kind bytes) (ap (shown k refer level) f.value ∙ ap (base_shown s.kind) (sym there)) h)
 
-  pub reference_shown : s.form ≡ forms.Key → (n : Var) → int_at c at end ≡ Some n → new ≡ was ++ refer level (s.shape.class, n.value) → IsShown n.end
+  pub reference_shown : s.form ≡ forms.Key → (n : Var) → int_at c at (length c) ≡ Some n → new ≡ was ++ refer level (s.shape.class, n.value) → IsShown n.end
   reference_shown e n r h =
-      let f = is_reference k c at to end s l w is v i e n r in
+      let f = is_reference k c at to s is v i e n r in
       (f.ends, as_text (refer level (s.shape.class, n.value)) (ap (shown k refer level) f.value) h)
 
-  pub key_shown : s.form ≡ forms.Text → (span : StringSpan) → run (string_format true) c end at ≡ Ok (record { value = content_of span; place = span.end }) → span.kind ≡ span_kinds.Key → new ≡ was ++ refer level (s.shape.class, span.key) → IsShown span.end
+  pub key_shown : s.form ≡ forms.Text → (span : StringSpan) → run (string_format true) c (length c) at ≡ Ok (record { value = content_of span; place = span.end }) → span.kind ≡ span_kinds.Key → new ≡ was ++ refer level (s.shape.class, span.key) → IsShown span.end
   key_shown e span r q h =
-      let f = is_text k c at to end s l w is v i e (content_of span) span.end r in
+      let f = is_text k c at to s is v i e (content_of span) span.end r in
       (f.ends, as_text (refer level (s.shape.class, span.key)) (ap (shown k refer level) f.value ∙ ap (λ z. shown k refer level (Single s.shape (leaf_kinds.Base kinds.Text) (slice_range c at to) z)) (key_in span q)) h)
 
-  pub string_shown : s.form ≡ forms.Text → (span : StringSpan) → run (string_format true) c end at ≡ Ok (record { value = content_of span; place = span.end }) → span.kind ≢ span_kinds.Key → new ≡ was ++ option_map_or quoted (strings.text_of (content_of span)) (codes "null") → IsShown span.end
+  pub string_shown : s.form ≡ forms.Text → (span : StringSpan) → run (string_format true) c (length c) at ≡ Ok (record { value = content_of span; place = span.end }) → span.kind ≢ span_kinds.Key → new ≡ was ++ option_map_or quoted (strings.text_of (content_of span)) (codes "null") → IsShown span.end
   string_shown e span r q h =
-      let f = is_text k c at to end s l w is v i e (content_of span) span.end r in
+      let f = is_text k c at to s is v i e (content_of span) span.end r in
       (f.ends, as_text (option_map_or quoted (strings.text_of (content_of span)) (codes "null")) (ap (shown k refer level) f.value ∙ (ap (λ z. shown k refer level (Single s.shape (leaf_kinds.Base kinds.Text) (slice_range c at to) z)) (no_key span q) ∙ ap (λ z. option_map_or quoted z (codes "null")) f.text)) h)

@@ -3,18 +3,16 @@
 //! Many events refer to the same few constants, such as their threads. The text of a reference depends only
 //! on the chunk, the class and the key, the number of references still to be followed, and the level. So it
 //! can be used again if all these are equal. The cache has a fixed number of slots. The class and the key
-//! select the slot, and a newer text replaces an older one.
-ghost use Rattle.std.specs.Prelude.{◌≡◌, ◌+◌, ◌*◌, ◌≤◌, ◌++◌, IfOk, IfSome, OnOk};
+//! select the slot, and a newer text replaces an older one. A cache without slots keeps nothing.
+ghost use Rattle.std.specs.Prelude.{◌≡◌, IfOk, IfSome};
 ghost use Rattle.std.specs.Str.{chars};
 ghost use Rattle.jfr_chunk.specs.Parts.{Parts};
-ghost use Rattle.jfr_show.specs.Cache.{AreCached, IsCached};
+ghost use Rattle.jfr_show.specs.Cache.{AreCached, AreKept, IsCached};
 ghost use Rattle.jfr_show.specs.Shown.{referred};
 
 use crate::TextBuilder;
 use crate::depth::Depth;
-use crate::value::show_reference;
 use jfr_base::NoMemory;
-use jfr_chunk::Chunk;
 use std::alloc::Global;
 
 /// The number of slots.
@@ -34,11 +32,40 @@ pub(crate) struct CachedText {
     pub(crate) text: TextBuilder,
 }
 
-/// The texts of one chunk's references, each in its slot.
+/// The slots, each with a text of a reference of one chunk.
 #[derive(Drop)]
-pub(crate) struct TextCache {
+pub(crate) struct Slots {
     pub(crate) alloc: Global,
     pub(crate) places: Vec<Option<CachedText>>,
+}
+
+impl Slots {
+    /// Empty slots, for any chunk.
+    fn new(alloc: Global) -> Result<Slots, NoMemory>
+        ensures none { IfOk result (λ slots. (p : Parts) → AreKept p slots) }
+    {
+        let mut places = Vec::new(alloc);
+        for _ in 0..PLACES {
+            places.push(None)?;
+        }
+        Ok(Slots { alloc, places })
+    }
+
+    /// Keeps a text in its slot, unless it is too long.
+    fn keep(&mut self, cached: CachedText)
+        ensures cached { (p : Parts) → AreKept p self.old → IsCached p cached → AreKept p self.new }
+    {
+        let place = place_of(cached.class, cached.key);
+        if place < self.places.len() && cached.text.as_bytes().len() <= LONGEST {
+            self.places[place] = Some(cached);
+        }
+    }
+}
+
+/// The texts of one chunk's references, if they are kept.
+#[derive(Drop)]
+pub(crate) struct TextCache {
+    pub(crate) slots: Option<Slots>,
 }
 
 impl TextCache {
@@ -46,48 +73,33 @@ impl TextCache {
     pub(crate) fn new(alloc: Global) -> Result<TextCache, NoMemory>
         ensures none { IfOk result (λ cache. (p : Parts) → AreCached p cache) }
     {
-        let mut places = Vec::new(alloc);
-        for _ in 0..PLACES {
-            places.push(None)?;
-        }
-        Ok(TextCache { alloc, places })
+        let slots = Slots::new(alloc)?;
+        Ok(TextCache { slots: Some(slots) })
     }
 
-    /// Adds the text of the reference to a class and a key, and may keep it in the cache.
-    pub(crate) fn show(
-        &mut self,
-        chunk: &Chunk<'_>,
-        class: u64,
-        key: u64,
-        depth: Depth,
-        out: &mut TextBuilder,
-    ) -> Result<(), NoMemory>
-        requires cached { AreCached chunk.now self.old }
-        requires level { depth.level + 100 * depth.reach.references ≤ 1000 }
-        ensures ok { OnOk result (out.new ≡ out.old ++ referred chunk.now depth.reach.references depth.level (class, key)) }
-        ensures cached { AreCached chunk.now self.new }
+    /// A cache that keeps nothing. It allocates nothing.
+    pub(crate) fn none() -> TextCache
+        ensures none { (p : Parts) → AreCached p result }
     {
-        if let Some(text) = self.get(class, key, depth) {
-            return out.push_str(text);
+        TextCache { slots: None }
+    }
+
+    /// The allocator for the texts, if they are kept.
+    pub(crate) fn alloc(&self) -> Option<Global> {
+        match &self.slots {
+            Some(slots) => Some(slots.alloc),
+            None => None,
         }
-        let mut text = TextBuilder::new(self.alloc);
-        show_reference(chunk, class, key, depth, &mut text)?;
-        out.push_str(text.as_str())?;
-        self.keep(CachedText {
-            class,
-            key,
-            references: depth.reach.references,
-            level: depth.level,
-            text,
-        });
-        Ok(())
     }
 
     /// The text of the reference to a class and a key, if the cache has it.
-    fn get(&self, class: u64, key: u64, depth: Depth) -> Option<&str>
+    pub(crate) fn get(&self, class: u64, key: u64, depth: Depth) -> Option<&str>
         ensures shown { (p : Parts) → AreCached p self.now → IfSome result (λ text. chars text.now ≡ referred p depth.reach.references depth.level (class, key)) }
     {
-        let Some(Some(cached)) = self.places.get(place_of(class, key)) else {
+        let Some(slots) = &self.slots else {
+            return None;
+        };
+        let Some(Some(cached)) = slots.places.get(place_of(class, key)) else {
             return None;
         };
         if cached.key != key
@@ -100,13 +112,13 @@ impl TextCache {
         Some(cached.text.as_str())
     }
 
-    /// Keeps a text in its slot, unless it is too long.
-    fn keep(&mut self, cached: CachedText)
+    /// Keeps a text, if the cache has slots.
+    pub(crate) fn keep(&mut self, cached: CachedText)
         ensures cached { (p : Parts) → AreCached p self.old → IsCached p cached → AreCached p self.new }
     {
-        let place = place_of(cached.class, cached.key);
-        if place < self.places.len() && cached.text.as_bytes().len() <= LONGEST {
-            self.places[place] = Some(cached);
+        match &mut self.slots {
+            Some(slots) => slots.keep(cached),
+            None => {}
         }
     }
 }

@@ -2,6 +2,8 @@
 ghost use Rattle.std.specs.Prelude.{◌≡◌, ◌+◌, ◌-◌, ◌≤◌, false};
 ghost use Rattle.jfr_show.specs.Depths.{deepest};
 
+use jfr_chunk::Chunk;
+
 /// The most composite values that can be nested without following a reference: the outermost, and 32 inside
 /// it by inline steps (docs/FORMAT.md, Limits).
 const COMPOSITES: u32 = 33;
@@ -101,4 +103,11 @@ impl Depth {
             level: self.level,
         }
     }
+}
+
+/// A chunk, and the depth of a value in it that is shown.
+#[derive(Clone, Copy)]
+pub(crate) struct View<'s, 'a> {
+    pub(crate) chunk: &'s Chunk<'a>,
+    pub(crate) depth: Depth,
 }

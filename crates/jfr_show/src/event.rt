@@ -6,7 +6,8 @@ ghost use Rattle.jfr_value.specs.Nodes.{node_of};
 ghost use Rattle.jfr_show.specs.Shown.{event_shown};
 
 use crate::TextBuilder;
-use crate::depth::Depth;
+use crate::cache::TextCache;
+use crate::depth::{Depth, View};
 use crate::value::show_node;
 use jfr_base::{NoMemory, Text};
 use jfr_chunk::{Chunk, Event};
@@ -25,7 +26,11 @@ pub fn show_event(
     ensures ok { OnOk result (out.new ≡ out.old ++ event_shown chunk.now depth (node_of event.now.node)) }
 {
     let node = fields_of(chunk, event);
-    show_node(chunk, &node, Depth::of_event(depth), out)?;
+    let view = View {
+        chunk,
+        depth: Depth::of_event(depth),
+    };
+    show_node(&view, &mut TextCache::none(), &node, out)?;
     out.push_ascii("\n")
 }
 

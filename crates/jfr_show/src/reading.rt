@@ -1,5 +1,5 @@
 //! Reading parts of a chunk that are known to be there. These calls can't fail.
-ghost use Rattle.std.specs.Prelude.{◌≡◌, ◌+◌, ◌≤◌, length, true, slice_range, Some, Ok, IsSome, IsOk, IfSome, option_map};
+ghost use Rattle.std.specs.Prelude.{◌≡◌, ◌+◌, ◌≤◌, ◌<◌, ◌^◌, length, true, slice_range, Some, Ok, IsSome, IsOk, IfSome, option_map};
 ghost use Rattle.jfr_base.specs.Formats.{int_at, run};
 ghost use Rattle.jfr_text.specs.Spans.{content_of};
 ghost use Rattle.jfr_text.specs.Strings.{string_format};
@@ -11,29 +11,29 @@ use jfr_chunk::Chunk;
 use jfr_text::{StringSpan, read_string};
 use jfr_value::Node;
 
-/// The integer that starts at `at` and ends by `limit`.
+/// The integer that starts at `at`.
 #[inline(always)]
-pub(crate) fn integer_at(chunk: &Chunk<'_>, at: usize, limit: usize) -> Var
-    requires order { at ≤ limit }
-    requires within { limit ≤ length chunk.now.bytes }
-    requires stands { IsSome (int_at chunk.now.bytes at limit) }
-    ensures { int_at chunk.now.bytes at limit ≡ Some result }
+pub(crate) fn integer_at(chunk: &Chunk<'_>, at: usize) -> Var
+    requires within { at ≤ length chunk.now.bytes }
+    requires stands { IsSome (int_at chunk.now.bytes at (length chunk.now.bytes)) }
+    ensures { int_at chunk.now.bytes at (length chunk.now.bytes) ≡ Some result }
 {
-    match read_within(chunk.bytes(), at, limit) {
+    let bytes = chunk.bytes();
+    match read_within(bytes, at, bytes.len()) {
         Ok(number) => number,
         Err(_) => unreachable!(),
     }
 }
 
-/// The string that starts at `at` and ends by `limit`.
+/// The string that starts at `at`.
 #[inline(always)]
-pub(crate) fn string_at<'a>(chunk: &Chunk<'a>, at: usize, limit: usize) -> StringSpan<'a>
-    requires order { at ≤ limit }
-    requires within { limit ≤ length chunk.now.bytes }
-    requires stands { IsOk (run (string_format true) chunk.now.bytes limit at) }
-    ensures { run (string_format true) chunk.now.bytes limit at ≡ Ok (record { value = content_of result; place = result.end }) }
+pub(crate) fn string_at<'a>(chunk: &Chunk<'a>, at: usize) -> StringSpan<'a>
+    requires within { at ≤ length chunk.now.bytes }
+    requires stands { IsOk (run (string_format true) chunk.now.bytes (length chunk.now.bytes) at) }
+    ensures { run (string_format true) chunk.now.bytes (length chunk.now.bytes) at ≡ Ok (record { value = content_of result; place = result.end }) }
 {
-    match read_string(chunk.bytes(), at, limit) {
+    let bytes = chunk.bytes();
+    match read_string(bytes, at, bytes.len()) {
         Ok(string) => string,
         Err(_) => unreachable!(),
     }
@@ -43,7 +43,8 @@ pub(crate) fn string_at<'a>(chunk: &Chunk<'a>, at: usize, limit: usize) -> Strin
 #[inline(always)]
 pub(crate) fn bytes_at<'a>(chunk: &Chunk<'a>, at: usize, count: usize) -> &'a [u8]
     requires { at + count ≤ length chunk.now.bytes }
-    ensures { result.now ≡ slice_range chunk.now.bytes at (at + count) }
+    ensures exact { result.now ≡ slice_range chunk.now.bytes at (at + count) }
+    ensures fits { at + count < 2 ^ 64 }
 {
     &chunk.bytes()[at..at + count]
 }

@@ -48,7 +48,7 @@ pub(crate) fn push_event_node(
             match &source.orders[place] {
                 Some(order) => {
                     let _end = push_event_members(
-                        source, cache, order, place, node.at, node.end, reach, out,
+                        source, cache, order, place, node.at, reach, out,
                     )?;
                     Ok(())
                 }
@@ -66,24 +66,22 @@ fn push_event_members(
     order: &MemberOrder,
     place: usize,
     at: usize,
-    limit: usize,
     reach: Reach,
     out: &mut String,
 ) -> Result<usize, NoMemory>
     requires source { IsSource source.now }
     requires cached { AreCachedJson source.now.chunk.now cache.old }
-    requires within { limit ≤ length source.now.chunk.now.bytes }
     requires order { IsOrderAt source.now.chunk.now.classes place order.now }
     requires placed { place < length source.now.chunk.now.classes }
     requires inner { 1 ≤ reach.composites }
     requires room { AllByRecursion (Room source.now.chunk.now.classes (reach.composites - 1)) (field_shapes source.now.chunk.now.classes place) }
-    requires stand { (to : ℕ) × (vs : tree.Values) × IsRow source.now.chunk.now.classes source.now.chunk.now.bytes at to (field_shapes source.now.chunk.now.classes place) vs × (to ≤ limit) }
+    requires stand { (to : ℕ) × (vs : tree.Values) × IsRow source.now.chunk.now.classes source.now.chunk.now.bytes at to (field_shapes source.now.chunk.now.classes place) vs }
     requires composites { reach.composites ≤ 33 }
-    ensures ok { IfOk result (λ end. (to : ℕ) (vs : tree.Values) (class : Class) → IsRow source.now.chunk.now.classes source.now.chunk.now.bytes at to (field_shapes source.now.chunk.now.classes place) vs → to ≤ limit
+    ensures ok { IfOk result (λ end. (to : ℕ) (vs : tree.Values) (class : Class) → IsRow source.now.chunk.now.classes source.now.chunk.now.bytes at to (field_shapes source.now.chunk.now.classes place) vs
         → slice_get source.now.chunk.now.classes place ≡ Some class → (end ≡ to) × (string_bytes out.new ≡ string_bytes out.old ++ compact_text (object (members_with no_members class.fields (json_of_all source.now.chunk.now.classes (referred_json source.now.chunk.now reach.references) vs))))) }
     ensures cached { AreCachedJson source.now.chunk.now cache.new }
 {
-    let places = field_places(source.alloc, source.chunk, place, at, limit)?;
+    let places = field_places(source.alloc, source.chunk, place, at)?;
     let layouts = source.chunk.classes().layouts(place);
     let inner = reach.of_fields();
     out.push_str("{")?;
@@ -94,7 +92,6 @@ fn push_event_members(
             cache,
             &layouts[lead.field],
             places.starts[lead.field],
-            limit,
             inner,
             out,
         )?;
@@ -103,41 +100,39 @@ fn push_event_members(
     Ok(places.end)
 }
 
-/// Adds the value with this layout that starts at `at` and ends by `limit`. Returns where it ends.
+/// Adds the value with this layout that starts at `at`. Returns where it ends.
 fn push_field(
     source: &Source<'_, '_>,
     cache: &mut JsonCache,
     layout: &FieldLayout,
     at: usize,
-    limit: usize,
     reach: Reach,
     out: &mut String,
 ) -> Result<usize, NoMemory>
     requires source { IsSource source.now }
     requires cached { AreCachedJson source.now.chunk.now cache.old }
-    requires within { limit ≤ length source.now.chunk.now.bytes }
     requires layout { IsLayoutIfKnown source.now.chunk.now.classes layout.now }
     requires room { Room source.now.chunk.now.classes reach.composites layout.now.shape }
-    requires stands { (to : ℕ) × EndsAt source.now.chunk.now.classes source.now.chunk.now.bytes layout.now.shape at to × (to ≤ limit) }
+    requires stands { (to : ℕ) × EndsAt source.now.chunk.now.classes source.now.chunk.now.bytes layout.now.shape at to }
     requires composites { reach.composites ≤ 33 }
-    ensures ok { IfOk result (λ end. (to : ℕ) (v : tree.Value) → IsNode source.now.chunk.now.classes source.now.chunk.now.bytes (node_at layout.now.shape at to) v → to ≤ limit
+    ensures ok { IfOk result (λ end. (to : ℕ) (v : tree.Value) → IsNode source.now.chunk.now.classes source.now.chunk.now.bytes (node_at layout.now.shape at to) v
         → (end ≡ to) × (string_bytes out.new ≡ string_bytes out.old ++ compact_text (json_of source.now.chunk.now.classes (referred_json source.now.chunk.now reach.references) v))) }
     ensures cached { AreCachedJson source.now.chunk.now cache.new }
 {
     match layout.form {
         Form::Key => {
-            let key = integer_at(source.chunk, at, limit);
+            let key = integer_at(source.chunk, at);
             cache.push(source, layout.shape.class, key.value, reach, out)?;
             Ok(key.end)
         }
         Form::Text => {
-            let string = string_at(source.chunk, at, limit);
+            let string = string_at(source.chunk, at);
             match string.kind {
                 StringKind::Key => cache.push(source, layout.shape.class, string.key, reach, out)?,
                 _ => push_text(source.alloc, &string, out)?,
             }
             Ok(string.end)
         }
-        _ => push_value(source, layout, at, limit, reach, out),
+        _ => push_value(source, layout, at, reach, out),
     }
 }

@@ -20,23 +20,21 @@ pub(crate) struct Places {
     pub(crate) end: usize,
 }
 
-/// Where the fields of a value of the class with index `place` start. The first starts at `at`, and the last
-/// ends by `limit`.
+/// Where the fields of a value of the class with index `place` start. The first starts at `at`.
 pub(crate) fn field_places(
     alloc: Global,
     chunk: &Chunk<'_>,
     place: usize,
     at: usize,
-    limit: usize,
 ) -> Result<Places, NoMemory>
     requires sound { Sound chunk.now.classes }
-    requires within { limit ≤ length chunk.now.bytes }
     requires placed { place < length chunk.now.classes }
-    requires stand { (to : ℕ) × (vs : Values) × IsRow chunk.now.classes chunk.now.bytes at to (field_shapes chunk.now.classes place) vs × (to ≤ limit) }
-    ensures ok { IfOk result (λ places. (to : ℕ) (vs : Values) → IsRow chunk.now.classes chunk.now.bytes at to (field_shapes chunk.now.classes place) vs → to ≤ limit → (places.end ≡ to) × (places.starts.items ≡ starts at vs)) }
+    requires stand { (to : ℕ) × (vs : Values) × IsRow chunk.now.classes chunk.now.bytes at to (field_shapes chunk.now.classes place) vs }
+    ensures ok { IfOk result (λ places. (to : ℕ) (vs : Values) → IsRow chunk.now.classes chunk.now.bytes at to (field_shapes chunk.now.classes place) vs → (places.end ≡ to) × (places.starts.items ≡ starts at vs)) }
 {
     let layouts = chunk.classes().layouts(place);
     let mut starts = Vec::with_capacity(alloc, layouts.len())?;
+    let limit = chunk.bytes().len();
     let mut end = at;
     for layout in layouts {
         starts.push(end)?;
@@ -45,39 +43,39 @@ pub(crate) fn field_places(
     Ok(Places { starts, end })
 }
 
-/// Where the value with this layout ends that starts at `at` and ends by `limit`.
+/// Where the value with this layout ends that starts at `at`, in a chunk that ends at `limit`.
 fn end_at(chunk: &Chunk<'_>, layout: &FieldLayout, at: usize, limit: usize) -> usize
+    requires limit { limit ≡ length chunk.now.bytes }
     requires sound { Sound chunk.now.classes }
     requires layout { IsFieldLayout chunk.now.classes layout.now }
-    requires order { at ≤ limit }
-    requires within { limit ≤ length chunk.now.bytes }
-    requires stands { (to : ℕ) × EndsAt chunk.now.classes chunk.now.bytes layout.now.shape at to × (to ≤ limit) }
-    ensures { (to : ℕ) → EndsAt chunk.now.classes chunk.now.bytes layout.now.shape at to → to ≤ limit → result ≡ to }
+    requires within { at ≤ length chunk.now.bytes }
+    requires stands { (to : ℕ) × EndsAt chunk.now.classes chunk.now.bytes layout.now.shape at to }
+    ensures { (to : ℕ) → EndsAt chunk.now.classes chunk.now.bytes layout.now.shape at to → result ≡ to }
 {
     match layout.form {
         Form::Integer => {
-            let number = integer_at(chunk, at, limit);
+            let number = integer_at(chunk, at);
             number.end
         }
         Form::Key => {
-            let key = integer_at(chunk, at, limit);
+            let key = integer_at(chunk, at);
             key.end
         }
         Form::Raw(count) => at + usize::from(count),
-        _ => other_end(chunk, layout, at, limit),
+        _ => other_end(chunk, layout, at),
     }
 }
 
 /// Where the value ends, whatever its layout is.
-fn other_end(chunk: &Chunk<'_>, layout: &FieldLayout, at: usize, limit: usize) -> usize
+fn other_end(chunk: &Chunk<'_>, layout: &FieldLayout, at: usize) -> usize
     requires sound { Sound chunk.now.classes }
     requires layout { IsFieldLayout chunk.now.classes layout.now }
-    requires order { at ≤ limit }
-    requires within { limit ≤ length chunk.now.bytes }
-    requires stands { (to : ℕ) × EndsAt chunk.now.classes chunk.now.bytes layout.now.shape at to × (to ≤ limit) }
-    ensures { (to : ℕ) → EndsAt chunk.now.classes chunk.now.bytes layout.now.shape at to → to ≤ limit → result ≡ to }
+    requires within { at ≤ length chunk.now.bytes }
+    requires stands { (to : ℕ) × EndsAt chunk.now.classes chunk.now.bytes layout.now.shape at to }
+    ensures { (to : ℕ) → EndsAt chunk.now.classes chunk.now.bytes layout.now.shape at to → result ≡ to }
 {
-    match end_of(chunk.classes(), layout.shape, chunk.bytes(), at, limit) {
+    let bytes = chunk.bytes();
+    match end_of(chunk.classes(), layout.shape, bytes, at, bytes.len()) {
         Ok(end) => end,
         Err(_) => unreachable!(),
     }

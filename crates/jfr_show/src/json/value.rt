@@ -38,47 +38,46 @@ pub(crate) fn push_node(
     ensures ok { OnOk result (string_bytes out.new ≡ string_bytes out.old ++ compact_text (node_json source.now.chunk.now (referred_json source.now.chunk.now reach.references) (node_of node.now))) }
 {
     let layout = layout_of(source.chunk.classes(), node.shape);
-    let _end = push_value(source, &layout, node.at, node.end, reach, out)?;
+    let _end = push_value(source, &layout, node.at, reach, out)?;
     Ok(())
 }
 
-/// Adds the value with this layout that starts at `at` and ends by `limit`. Returns where it ends.
+/// Adds the value with this layout that starts at `at`. Returns where it ends.
 #[cycle(json)]
 pub(crate) fn push_value(
     source: &Source<'_, '_>,
     layout: &FieldLayout,
     at: usize,
-    limit: usize,
     reach: Reach,
     out: &mut String,
 ) -> Result<usize, NoMemory>
     requires source { IsSource source.now }
-    requires within { limit ≤ length source.now.chunk.now.bytes }
     requires layout { IsLayoutIfKnown source.now.chunk.now.classes layout.now }
     requires room { Room source.now.chunk.now.classes reach.composites layout.now.shape }
-    requires stands { (to : ℕ) × EndsAt source.now.chunk.now.classes source.now.chunk.now.bytes layout.now.shape at to × (to ≤ limit) }
+    requires stands { (to : ℕ) × EndsAt source.now.chunk.now.classes source.now.chunk.now.bytes layout.now.shape at to }
     requires composites { reach.composites ≤ 33 }
-    ensures ok { IfOk result (λ end. (to : ℕ) (v : tree.Value) → IsNode source.now.chunk.now.classes source.now.chunk.now.bytes (node_at layout.now.shape at to) v → to ≤ limit
+    ensures ok { IfOk result (λ end. (to : ℕ) (v : tree.Value) → IsNode source.now.chunk.now.classes source.now.chunk.now.bytes (node_at layout.now.shape at to) v
         → (end ≡ to) × (string_bytes out.new ≡ string_bytes out.old ++ compact_text (json_of source.now.chunk.now.classes (referred_json source.now.chunk.now reach.references) v))) }
 {
     match layout.form {
         Form::Integer => {
-            let number = integer_at(source.chunk, at, limit);
+            let number = integer_at(source.chunk, at);
             push_integer(layout.kind, number.value, out)?;
             Ok(number.end)
         }
         Form::Raw(count) => {
-            let bytes = bytes_at(source.chunk, at, usize::from(count));
+            let size = usize::from(count);
+            let bytes = bytes_at(source.chunk, at, size);
             push_raw(source.alloc, layout.kind, bytes, out)?;
-            Ok(at + bytes.len())
+            Ok(at + size)
         }
         Form::Key => {
-            let key = integer_at(source.chunk, at, limit);
+            let key = integer_at(source.chunk, at);
             push_referred(source, layout.shape.class, key.value, reach, out)?;
             Ok(key.end)
         }
         Form::Text => {
-            let string = string_at(source.chunk, at, limit);
+            let string = string_at(source.chunk, at);
             match string.kind {
                 StringKind::Key => push_referred(
                     source,
@@ -91,8 +90,8 @@ pub(crate) fn push_value(
             }
             Ok(string.end)
         }
-        Form::Fields => push_fields(source, layout.class_index, at, limit, reach, out),
-        Form::Array => push_items(source, layout, at, limit, reach, out),
+        Form::Fields => push_fields(source, layout.class_index, at, reach, out),
+        Form::Array => push_items(source, layout, at, reach, out),
     }
 }
 
@@ -102,26 +101,24 @@ fn push_fields(
     source: &Source<'_, '_>,
     place: usize,
     at: usize,
-    limit: usize,
     reach: Reach,
     out: &mut String,
 ) -> Result<usize, NoMemory>
     requires source { IsSource source.now }
-    requires within { limit ≤ length source.now.chunk.now.bytes }
     requires placed { place < length source.now.chunk.now.classes }
     requires inner { 1 ≤ reach.composites }
     requires room { AllByRecursion (Room source.now.chunk.now.classes (reach.composites - 1)) (field_shapes source.now.chunk.now.classes place) }
-    requires stand { (to : ℕ) × (vs : tree.Values) × IsRow source.now.chunk.now.classes source.now.chunk.now.bytes at to (field_shapes source.now.chunk.now.classes place) vs × (to ≤ limit) }
+    requires stand { (to : ℕ) × (vs : tree.Values) × IsRow source.now.chunk.now.classes source.now.chunk.now.bytes at to (field_shapes source.now.chunk.now.classes place) vs }
     requires composites { reach.composites ≤ 33 }
-    ensures ok { IfOk result (λ end. (to : ℕ) (vs : tree.Values) (class : Class) → IsRow source.now.chunk.now.classes source.now.chunk.now.bytes at to (field_shapes source.now.chunk.now.classes place) vs → to ≤ limit
+    ensures ok { IfOk result (λ end. (to : ℕ) (vs : tree.Values) (class : Class) → IsRow source.now.chunk.now.classes source.now.chunk.now.bytes at to (field_shapes source.now.chunk.now.classes place) vs
         → slice_get source.now.chunk.now.classes place ≡ Some class → (end ≡ to) × (string_bytes out.new ≡ string_bytes out.old ++ compact_text (object (members_with no_members class.fields (json_of_all source.now.chunk.now.classes (referred_json source.now.chunk.now reach.references) vs))))) }
 {
     match &source.orders[place] {
-        Some(order) => push_members(source, order, place, at, limit, reach, out),
+        Some(order) => push_members(source, order, place, at, reach, out),
         None => {
             let class = source.chunk.classes().class_at(place);
             let order = order_of(source.alloc, &class.fields)?;
-            push_members(source, &order, place, at, limit, reach, out)
+            push_members(source, &order, place, at, reach, out)
         }
     }
 }
@@ -133,22 +130,20 @@ fn push_members(
     order: &MemberOrder,
     place: usize,
     at: usize,
-    limit: usize,
     reach: Reach,
     out: &mut String,
 ) -> Result<usize, NoMemory>
     requires source { IsSource source.now }
-    requires within { limit ≤ length source.now.chunk.now.bytes }
     requires order { IsOrderAt source.now.chunk.now.classes place order.now }
     requires placed { place < length source.now.chunk.now.classes }
     requires inner { 1 ≤ reach.composites }
     requires room { AllByRecursion (Room source.now.chunk.now.classes (reach.composites - 1)) (field_shapes source.now.chunk.now.classes place) }
-    requires stand { (to : ℕ) × (vs : tree.Values) × IsRow source.now.chunk.now.classes source.now.chunk.now.bytes at to (field_shapes source.now.chunk.now.classes place) vs × (to ≤ limit) }
+    requires stand { (to : ℕ) × (vs : tree.Values) × IsRow source.now.chunk.now.classes source.now.chunk.now.bytes at to (field_shapes source.now.chunk.now.classes place) vs }
     requires composites { reach.composites ≤ 33 }
-    ensures ok { IfOk result (λ end. (to : ℕ) (vs : tree.Values) (class : Class) → IsRow source.now.chunk.now.classes source.now.chunk.now.bytes at to (field_shapes source.now.chunk.now.classes place) vs → to ≤ limit
+    ensures ok { IfOk result (λ end. (to : ℕ) (vs : tree.Values) (class : Class) → IsRow source.now.chunk.now.classes source.now.chunk.now.bytes at to (field_shapes source.now.chunk.now.classes place) vs
         → slice_get source.now.chunk.now.classes place ≡ Some class → (end ≡ to) × (string_bytes out.new ≡ string_bytes out.old ++ compact_text (object (members_with no_members class.fields (json_of_all source.now.chunk.now.classes (referred_json source.now.chunk.now reach.references) vs))))) }
 {
-    let places = field_places(source.alloc, source.chunk, place, at, limit)?;
+    let places = field_places(source.alloc, source.chunk, place, at)?;
     let layouts = source.chunk.classes().layouts(place);
     let inner = reach.of_fields();
     out.push_str("{")?;
@@ -158,7 +153,6 @@ fn push_members(
             source,
             &layouts[lead.field],
             places.starts[lead.field],
-            limit,
             inner,
             out,
         )?;
@@ -173,28 +167,26 @@ fn push_items(
     source: &Source<'_, '_>,
     layout: &FieldLayout,
     at: usize,
-    limit: usize,
     reach: Reach,
     out: &mut String,
 ) -> Result<usize, NoMemory>
     requires source { IsSource source.now }
-    requires within { limit ≤ length source.now.chunk.now.bytes }
     requires array { layout.now.shape.array ≡ true }
     requires layout { IsLayoutIfKnown source.now.chunk.now.classes layout.now }
     requires room { Room source.now.chunk.now.classes reach.composites layout.now.shape }
-    requires stands { (to : ℕ) × EndsAt source.now.chunk.now.classes source.now.chunk.now.bytes layout.now.shape at to × (to ≤ limit) }
+    requires stands { (to : ℕ) × EndsAt source.now.chunk.now.classes source.now.chunk.now.bytes layout.now.shape at to }
     requires composites { reach.composites ≤ 33 }
-    ensures ok { IfOk result (λ end. (to : ℕ) (v : tree.Value) → IsNode source.now.chunk.now.classes source.now.chunk.now.bytes (node_at layout.now.shape at to) v → to ≤ limit
+    ensures ok { IfOk result (λ end. (to : ℕ) (v : tree.Value) → IsNode source.now.chunk.now.classes source.now.chunk.now.bytes (node_at layout.now.shape at to) v
         → (end ≡ to) × (string_bytes out.new ≡ string_bytes out.old ++ compact_text (json_of source.now.chunk.now.classes (referred_json source.now.chunk.now reach.references) v))) }
 {
-    let count = integer_at(source.chunk, at, limit);
+    let count = integer_at(source.chunk, at);
     out.push_str("[")?;
     let item = item_layout(layout);
     let mut to = count.end;
     let mut later = false;
     'items: for _ in 0..count.value {
         push_comma(later, out)?;
-        to = push_value(source, &item, to, limit, reach, out)?;
+        to = push_value(source, &item, to, reach, out)?;
         later = true;
     }
     out.push_str("]")?;

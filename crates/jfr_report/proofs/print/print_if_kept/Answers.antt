@@ -10,14 +10,14 @@ use Rattle.jfr_report.proofs.print.print_if_kept.Goals as goal
 
 pub returns-then-not-keep-clause-texts : goal.returns-then-not-keep-clause-texts
 returns-then-not-keep-clause-texts g c = λ all before i.
-    subst (λ ms. IsGathered all before (g.O.Sink.state c.args.out.now).written (encode_utf8_all c.args.page.now) (events_bytes c.args.style.json c.args.style.depth c.args.chunk.now ms))
-    (kept_skips c.args.kept.now (events_of c.args.chunk.now) c.args.number (ap (λ o. unwrap_or o false) (sym c.get.ensures) ∙ (sym c.unwrap_or-keep.ensures ∙ c.if-not-keep.true))) i
+    subst (λ ms. IsGathered all before (g.O.Sink.state c.args.out.now).written (encode_utf8_all c.args.page.now) (events_bytes c.args.selection.now.style.json c.args.selection.now.style.depth c.args.selection.now.chunk.now ms))
+    (kept_skips c.args.selection.now.kept.now (events_of c.args.selection.now.chunk.now) c.args.number (ap (λ o. unwrap_or o false) (sym c.get.ensures) ∙ (sym c.unwrap_or-keep.ensures ∙ c.if-not-keep.true))) i
 
 pub unreachable-requires : goal.unreachable-requires
-unreachable-requires g c = no_member (events_of c.args.chunk.now) c.args.number (sym c.in_default.ensures.exact) c.requires.number
+unreachable-requires g c = no_member (events_of c.args.selection.now.chunk.now) c.args.number (sym c.in_default.ensures.exact) c.requires.number
 
 pub returns-clause-texts : goal.returns-clause-texts
 returns-clause-texts g c = λ all before i.
-    c.print_event.ensures.texts all (events_bytes c.args.style.json c.args.style.depth c.args.chunk.now (marked (drop (c.args.number + 1) c.args.kept.now) (drop (c.args.number + 1) (events_of c.args.chunk.now)))) before
-    (subst (λ ms. IsGathered all before (g.O.Sink.state c.args.out.now).written (encode_utf8_all c.args.page.now) (events_bytes c.args.style.json c.args.style.depth c.args.chunk.now ms))
-    (kept_takes c.args.kept.now (events_of c.args.chunk.now) (event_at c.in-Some.event) c.args.number (ap (λ o. unwrap_or o false) (sym c.get.ensures) ∙ (sym c.unwrap_or-keep.ensures ∙ c.if-not-keep.false)) (sym c.in-Some.ensures.exact)) i)
+    c.print_event.ensures.texts all (events_bytes c.args.selection.now.style.json c.args.selection.now.style.depth c.args.selection.now.chunk.now (marked (drop (c.args.number + 1) c.args.selection.now.kept.now) (drop (c.args.number + 1) (events_of c.args.selection.now.chunk.now)))) before
+    (subst (λ ms. IsGathered all before (g.O.Sink.state c.args.out.now).written (encode_utf8_all c.args.page.now) (events_bytes c.args.selection.now.style.json c.args.selection.now.style.depth c.args.selection.now.chunk.now ms))
+    (kept_takes c.args.selection.now.kept.now (events_of c.args.selection.now.chunk.now) (event_at c.in-Some.event) c.args.number (ap (λ o. unwrap_or o false) (sym c.get.ensures) ∙ (sym c.unwrap_or-keep.ensures ∙ c.if-not-keep.false)) (sym c.in-Some.ensures.exact)) i)

@@ -8,7 +8,7 @@ integer_at-number-requires-clause-stands c =
     let t = c.requires.stands in
     let s = c.requires.layout in
     let known : IsLayoutIfKnown p.classes c.args.layout.now = record { form = s.form; of_class = λ o h. s } in
-    integer_stands p.classes p.bytes c.args.at t.0 c.args.limit c.args.layout.now t.2 c.requires.within known t.1.0 t.1.1 c.in-Integer.is
+    integer_stands p.classes p.bytes c.args.at t.0 c.args.layout.now known t.1.0 t.1.1 c.in-Integer.is
 
 pub integer_at-key-requires-clause-stands : goal.integer_at-key-requires-clause-stands
 integer_at-key-requires-clause-stands c =
@@ -16,18 +16,18 @@ integer_at-key-requires-clause-stands c =
     let t = c.requires.stands in
     let s = c.requires.layout in
     let known : IsLayoutIfKnown p.classes c.args.layout.now = record { form = s.form; of_class = λ o h. s } in
-    key_stands p.classes p.bytes c.args.at t.0 c.args.limit c.args.layout.now t.2 c.requires.within known t.1.0 t.1.1 c.in-Key.is
+    key_stands p.classes p.bytes c.args.at t.0 c.args.layout.now known t.1.0 t.1.1 c.in-Key.is
 
 pub returns-in-Integer : goal.returns-in-Integer
-returns-in-Integer c = λ to t l.
+returns-in-Integer c = λ to t.
     (let p = c.args.chunk.now in
     let s = c.requires.layout in
     let known : IsLayoutIfKnown p.classes c.args.layout.now = record { form = s.form; of_class = λ o h. s } in
-    (is_integer p.classes p.bytes c.args.at to c.args.limit c.args.layout.now l c.requires.within known t.0 t.1 c.in-Integer.is c.integer_at-number.result c.integer_at-number.ensures).ends)
+    (is_integer p.classes p.bytes c.args.at to c.args.layout.now known t.0 t.1 c.in-Integer.is c.integer_at-number.result c.integer_at-number.ensures).ends)
 
 pub returns-in-Key : goal.returns-in-Key
-returns-in-Key c = λ to t l.
+returns-in-Key c = λ to t.
     (let p = c.args.chunk.now in
     let s = c.requires.layout in
     let known : IsLayoutIfKnown p.classes c.args.layout.now = record { form = s.form; of_class = λ o h. s } in
-    (is_reference p.classes p.bytes c.args.at to c.args.limit c.args.layout.now l c.requires.within known t.0 t.1 c.in-Key.is c.integer_at-key.result c.integer_at-key.ensures).ends)
+    (is_reference p.classes p.bytes c.args.at to c.args.layout.now known t.0 t.1 c.in-Key.is c.integer_at-key.result c.integer_at-key.ensures).ends)

@@ -1,4 +1,4 @@
-use Rattle.std.proofs.Common.{◌≡◌, ℕ, ◌+◌, ◌*◌, ◌-◌, ◌≤◌, ◌++◌, drop, false, if◌then◌else◌}
+use Rattle.std.proofs.Common.{◌≡◌, ℕ, ◌+◌, ◌*◌, ◌-◌, ◌++◌, drop, false, if◌then◌else◌}
 use Rattle.std.specs.Prelude.{map, replicate, string_bytes}
 use Rattle.serde_json.specs.View.{items_of}
 use Rattle.serde_json.specs.Written.{items_text}
@@ -32,11 +32,11 @@ abbrev pub decreases-push_node : goal.decreases-push_node
 decreases-push_node l = 400 * l.reach.references + 5 * l.reach.composites + 5
 
 abbrev pub invariant-push_items-items : goal.invariant-push_items-items
-invariant-push_items-items l = (to : ℕ) (vs : Values) → IsRow l.source.chunk.now.classes l.source.chunk.now.bytes l.initial.to to (replicate l.end (item_of l.layout.shape)) vs → to ≤ l.limit
+invariant-push_items-items l = (to : ℕ) (vs : Values) → IsRow l.source.chunk.now.classes l.source.chunk.now.bytes l.initial.to to (replicate l.end (item_of l.layout.shape)) vs
     → Left l.source.chunk.now.classes l.source.chunk.now.bytes to (string_bytes l.initial.out ++ items_text false (items_of (json_of_all l.source.chunk.now.classes (referred_json l.source.chunk.now l.reach.references) vs)))
     (onto_items l.source.chunk.now.classes (referred_json l.source.chunk.now l.reach.references) l.later) (replicate (l.end - l.counter) (item_of l.layout.shape)) l.to (string_bytes l.out)
 
 abbrev pub invariant-push_members-loop-lead : goal.invariant-push_members-loop-lead
-invariant-push_members-loop-lead l = (to : ℕ) (vs : Values) → IsRow l.source.chunk.now.classes l.source.chunk.now.bytes l.at to (field_shapes l.source.chunk.now.classes l.place) vs → to ≤ l.limit
+invariant-push_members-loop-lead l = (to : ℕ) (vs : Values) → IsRow l.source.chunk.now.classes l.source.chunk.now.bytes l.at to (field_shapes l.source.chunk.now.classes l.place) vs
     → string_bytes l.out ++ laid_out (map lead_of (drop l.lead-index l.lead-items)) (json_of_all l.source.chunk.now.classes (referred_json l.source.chunk.now l.fn.reach.references) vs)
     ≡ string_bytes l.initial.out ++ laid_out (map lead_of l.lead-items) (json_of_all l.source.chunk.now.classes (referred_json l.source.chunk.now l.fn.reach.references) vs)

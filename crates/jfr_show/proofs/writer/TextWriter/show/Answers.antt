@@ -13,8 +13,8 @@ returns-clause-ok c =
     let p = c.self.inside.chunk.now in
     let n = node_of c.args.event.now.node in
     let value = node_shown p (referred p c.args.depth) 0 n in
-    let shown : c.show_event_node.new.out ≡ c.args.out.now ++ value =
-    c.in_ok-show_event_node.ensures.ok
+    let shown : c.show_node.new.out ≡ c.args.out.now ++ value =
+    c.in_ok-show_node.ensures.ok
     ∙ (ap (λ (z : Depth). c.args.out.now ++ node_shown p (referred p z.reach.references) z.level (node_of c.fields_of-node.result)) c.of_event.ensures
     ∙ ap (λ z. c.args.out.now ++ node_shown p (referred p c.args.depth) 0 z) c.fields_of-node.ensures.exact) in
     let whole = ap (λ z. z ++ newline) shown ∙ (append_assoc c.args.out.now value newline ∙ ap (λ z. c.args.out.now ++ z) (sym (event_is p c.args.depth n) ∙ ap (λ (q : Parts). event_shown q c.args.depth n) c.self.view_is)) in
