@@ -4,6 +4,7 @@ mod RankLaws
 mod VerifiedLaws
 mod MarkLaws
 mod LineLaws
+mod SizeLaws
 mod SpellingLaws
 mod AddedLaws
 mod WalkLaws

@@ -8,6 +8,7 @@ pub mod Decided
 pub mod SameEvents
 pub mod Closed
 pub mod Added
+pub mod Compact
 pub mod Reading
 pub mod Parents
 pub mod Claims

@@ -15,6 +15,7 @@ mod checker;
 mod claims;
 mod classes;
 mod closed;
+mod compact;
 mod comparer;
 mod confirm;
 mod copies;

@@ -1,8 +1,9 @@
 //! The lines of a receipt while they are made.
-ghost use Rattle.std.specs.Prelude.{◌≡◌, ◌+◌, ◌<◌, ◌≤◌, [], ◌∷◌, ◌++◌, false, true, length, replicate, slice_set, vec_len, vec_capacity, IfOk};
+ghost use Rattle.std.specs.Prelude.{◌≡◌, ◌+◌, ◌^◌, ◌<◌, ◌≤◌, [], ◌∷◌, ◌++◌, false, true, length, replicate, slice_set, vec_len, vec_capacity, IfOk};
 ghost use Rattle.jfr_worklist.specs.Worklists.{marked_count};
-ghost use Rattle.jfr_verify.specs.Receipts.{new_lines};
+ghost use Rattle.jfr_verify.specs.Receipts.{new_lines, parent_number};
 
+use crate::compact::CompactLine;
 use crate::{Line, Parent};
 use jfr_base::NoMemory;
 use std::alloc::Global;
@@ -13,16 +14,19 @@ pub(crate) struct Lines {
     /// For each entry, whether it has a line.
     pub flags: Vec<bool>,
     /// The lines, in the order in which they were made.
-    pub items: Vec<Line>,
+    pub items: Vec<CompactLine>,
     /// The parent that the next lines will name.
     pub parent: Parent,
     ghost room: { length flags.items ≤ vec_capacity items },
     ghost each: { vec_len items ≡ marked_count flags.items },
+    ghost few: { length flags.items ≤ 2 ^ 31 },
+    ghost low: { parent_number parent < 2 ^ 31 },
 }
 
 impl Lines {
     /// No lines, for a chunk with this number of entries. Allocates all the memory that `put` needs.
     pub fn new(alloc: Global, count: usize) -> Result<Lines, NoMemory>
+        requires { count ≤ 2 ^ 31 }
         ensures flags { IfOk result (λ lines. lines.flags.items ≡ replicate count false) }
         ensures none { IfOk result (λ lines. lines.items.items ≡ []) }
     {
@@ -45,19 +49,17 @@ impl Lines {
     {
         if !self.flags[number] {
             self.flags[number] = true;
-            push_within(
-                &mut self.items,
-                Line {
-                    entry: number,
-                    parent: self.parent,
-                },
-            );
+            let line = Line {
+                entry: number,
+                parent: self.parent,
+            };
+            push_within(&mut self.items, CompactLine::of(line));
         }
     }
 }
 
 /// Appends a line to a list that has room for it, so that nothing is allocated.
-fn push_within(list: &mut Vec<Line>, line: Line)
+fn push_within(list: &mut Vec<CompactLine>, line: CompactLine)
     requires { vec_len list.old < vec_capacity list.old }
     ensures items { list.new.items ≡ list.old.items ++ line ∷ [] }
     ensures len { vec_len list.new ≡ vec_len list.old + 1 }

@@ -4,8 +4,9 @@ ghost use Rattle.std.specs.List.{flat_map};
 ghost use Rattle.jfr_base.specs.Integer.{spell};
 ghost use Rattle.jfr_verify.specs.Receipts.{line_bytes, parent_kind, parent_number, receipt_of};
 
+use crate::Parent;
+use crate::compact::CompactLine;
 use crate::walk::lines_in;
-use crate::{Line, Parent};
 use jfr_base::{NoMemory, write_var};
 use jfr_chunk::Chunk;
 use std::alloc::{AllocError, Global};
@@ -48,10 +49,11 @@ pub fn receipt_of(alloc: Global, chunk: &Chunk<'_>) -> Result<Receipt, NoMemory>
 }
 
 /// Appends lines.
-fn push_lines(out: &mut Vec<u8>, lines: &[Line]) -> Result<(), AllocError>
+fn push_lines(out: &mut Vec<u8>, lines: &[CompactLine]) -> Result<(), AllocError>
     ensures ok { OnOk result (out.new.items ≡ out.old.items ++ flat_map line_bytes lines.now) }
 {
-    for line in lines {
+    for compact in lines {
+        let line = compact.line();
         push_integer(out, line.entry as u64)?;
         push_parent(out, line.parent)?;
     }

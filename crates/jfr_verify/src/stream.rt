@@ -23,6 +23,14 @@ use std::alloc::Global;
 /// All receipts together have fewer bytes than this.
 const RECEIPT_LIMIT: usize = 1 << 40;
 
+/// The names of the files to check.
+#[derive(Clone, Copy)]
+struct Names<'n> {
+    input: &'n str,
+    output: &'n str,
+    receipt: &'n str,
+}
+
 // Reads the input, and compares each of its chunks.
 fn compare_input<P: Place>(
     alloc: Global,
@@ -60,25 +68,23 @@ fn compare_input<P: Place>(
 fn verify_files<P: Place>(
     alloc: Global,
     place: &mut P,
-    input: &str,
-    output: &str,
-    receipt: &str,
+    names: Names<'_>,
     filter: &Filter,
 ) -> Verdict
-    ensures told { Tells (P.state place.old) (P.state place.new) (VerdictIn filter.now input.now output.now receipt.now result) }
+    ensures told { Tells (P.state place.old) (P.state place.new) (VerdictIn filter.now names.entry.input.now names.entry.output.now names.entry.receipt.now result) }
     ensures counts { Counts result (P.state place.old) (P.state place.new) }
-    ensures steady { IsTrue (P.state place.old).steady → result ≡ Verdict.ReadFault → IfSome (P.state place.old).told (λ w. LacksOne (three input.now output.now receipt.now w)) }
+    ensures steady { IsTrue (P.state place.old).steady → result ≡ Verdict.ReadFault → IfSome (P.state place.old).told (λ w. LacksOne (three names.entry.input.now names.entry.output.now names.entry.receipt.now w)) }
 {
-    let receipts = match read_file(alloc, place, receipt, RECEIPT_LIMIT) {
+    let receipts = match read_file(alloc, place, names.receipt, RECEIPT_LIMIT) {
         Ok(receipts) => receipts,
         Err(fault) => return Verdict::of_receipts(fault),
     };
-    let outputs = match read_outputs(alloc, place, output) {
+    let outputs = match read_outputs(alloc, place, names.output) {
         Ok(outputs) => outputs,
         Err(verdict) => return verdict,
     };
     let mut comparer = Comparer::new(alloc, filter, &outputs, &receipts);
-    compare_input(alloc, place, input, &mut comparer)
+    compare_input(alloc, place, names.input, &mut comparer)
 }
 
 /// Checks that an output means the same as its input with the events that the filter keeps, by the receipts of
@@ -109,5 +115,10 @@ pub fn verify_stream<P: Place>(
     // On a steady place no read fails if the three files exist.
     ensures steady { IsTrue (P.state place.old).steady → result ≡ Verdict.ReadFault → IfSome (P.state place.old).told (λ w. LacksOne (three input.now output.now receipt.now w)) }
 {
-    verify_files(alloc, place, input, output, receipt, filter)
+    let names = Names {
+        input,
+        output,
+        receipt,
+    };
+    verify_files(alloc, place, names, filter)
 }

@@ -1,6 +1,6 @@
 //! The walk that makes the lines of a chunk's receipt: it starts at the events and follows references from
 //! entry to entry.
-ghost use Rattle.std.specs.Prelude.{◌≡◌, ◌<◌, [], All, length, Some, None, slice_get, IfOk};
+ghost use Rattle.std.specs.Prelude.{◌≡◌, ◌^◌, ◌<◌, [], All, length, Some, None, slice_get, IfOk};
 ghost use Rattle.jfr_value.specs.Nodes.{IsValue, node_of};
 ghost use Rattle.jfr_worklist.specs.Marks.{marked_at};
 ghost use Rattle.jfr_chunk.specs.Parts.{EventAt, events_of};
@@ -50,6 +50,8 @@ pub(crate) fn lines_in<L: Ledger>(
     requires some { 0 < blank.parts }
     ensures { IfOk result (λ lines. lines.items.items ≡ lines_of chunk.now) }
 {
+    // The numbers of events and of entries are below that of the bytes.
+    chunk.bytes();
     let mut lines = Lines::new(alloc, chunk.pools().len())?;
     let mut steps: Steps<L> = Steps::new(blank);
     add_events(&mut lines, chunk);
@@ -61,6 +63,7 @@ pub(crate) fn lines_in<L: Ledger>(
 fn add_events(lines: &mut Lines, chunk: &Chunk<'_>)
     requires marks { lines.old.flags.items ≡ no_marks chunk.now }
     requires none { lines.old.items.items ≡ [] }
+    requires few { length (events_of chunk.now) < 2 ^ 31 }
     ensures marks { lines.new.flags.items ≡ marked_at (no_marks chunk.now) (roots chunk.now (events_of chunk.now)) }
     ensures lines { lines.new.items.items ≡ event_lines chunk.now (no_marks chunk.now) 0 (events_of chunk.now) }
 {
@@ -72,6 +75,7 @@ fn add_events(lines: &mut Lines, chunk: &Chunk<'_>)
 /// Adds lines for what event `number` refers to.
 fn add_event(lines: &mut Lines, chunk: &Chunk<'_>, number: usize)
     requires size { length lines.old.flags.items ≡ length chunk.now.entries }
+    requires low { number < 2 ^ 31 }
     ensures adds { (e : EventAt) → slice_get (events_of chunk.now) number ≡ Some e → AddsOf (kinds.OfEvent number) (node_entries chunk.now.entries chunk.now.classes chunk.now.bytes e.node) lines.old lines.new }
     ensures none { slice_get (events_of chunk.now) number ≡ None → lines.new ≡ lines.old }
 {
@@ -98,8 +102,8 @@ fn add_entries<L: Ledger>(lines: &mut Lines, chunk: &Chunk<'_>, steps: &mut Step
 {
     let mut next: usize = 0;
     while next < lines.items.len() {
-        let number = lines.items[next].entry;
-        add_entry(lines, chunk, number, steps);
+        let line = lines.items[next].line();
+        add_entry(lines, chunk, line.entry, steps);
         next += 1;
     }
 }
@@ -107,6 +111,7 @@ fn add_entries<L: Ledger>(lines: &mut Lines, chunk: &Chunk<'_>, steps: &mut Step
 /// Adds lines for what entry `number` refers to.
 fn add_entry<L: Ledger>(lines: &mut Lines, chunk: &Chunk<'_>, number: usize, steps: &mut Steps<L>)
     requires size { length lines.old.flags.items ≡ length chunk.now.entries }
+    requires low { number < 2 ^ 31 }
     ensures { AddsOf (kinds.OfEntry number) (next_entries chunk.now number) lines.old lines.new }
 {
     lines.parent = Parent::OfEntry(number);

@@ -1,4 +1,4 @@
-use Rattle.std.proofs.Common.{◌≡◌, ◌<◌, ◌≤◌, length, slice_get, Some, vec_len, arith}
+use Rattle.std.proofs.Common.{◌≡◌, ◌<◌, ◌≤◌, length, slice_get, Some, vec_len, arith, ap, sym, ◌∙◌}
 use Rattle.jfr_worklist.specs.Worklists.{marked_count}
 use Rattle.jfr_worklist.proofs.Counts.{count_le}
 use Rattle.jfr_verify.proofs.WalkLaws.{get_here, in_lines_next, in_lines_ends}
@@ -17,9 +17,10 @@ loop-next-preserved g c =
     let b = count_le c.loop-next.lines.flags.items in
     let s : length c.loop-next.lines.flags.items ≡ length c.args.chunk.now.entries = c.loop-next.invariant.size in
     let h : c.loop-next.next < length c.args.chunk.now.entries = omega arith in
-    let e : slice_get c.loop-next.lines.items.items c.loop-next.next ≡ Some c.index.result.now = get_here c.args.chunk.now c.loop-next.lines.items.items c.loop-next.next c.index.result.now (omega arith) c.index.ensures in
+    let e : slice_get c.loop-next.lines.items.items c.loop-next.next ≡ Some c.line-line.result =
+    get_here c.args.chunk.now c.loop-next.lines.items.items c.loop-next.next c.index.result.now (omega arith) c.index.ensures ∙ ap (λ z. Some z) (sym c.line-line.ensures.exact) in
     in_lines_next c.args.chunk.now c.args.lines.now.flags.items c.loop-next.lines.flags.items c.add_entry.new.lines.flags.items c.args.lines.now.items.items c.loop-next.lines.items.items c.add_entry.new.lines.items.items
-    c.loop-next.next c.index.result.now e h c.loop-next.invariant c.add_entry.ensures.marks c.add_entry.ensures.lines
+    c.loop-next.next c.line-line.result e h c.loop-next.invariant c.add_entry.ensures.marks c.add_entry.ensures.lines
 
 pub returns : goal.returns
 returns g c =

@@ -4,7 +4,7 @@ use Rattle.jfr_verify.proofs.WalkLaws.{in_events_size, in_events_next, some_at}
 use Rattle.jfr_verify.proofs.walk.add_events.Goals as goal
 
 pub add_event-requires : goal.add_event-requires
-add_event-requires c = record { size = in_events_size c.args.chunk.now c.loop-number.number c.loop-number.lines.flags.items c.loop-number.lines.items.items c.loop-number.invariant }
+add_event-requires c = record { size = in_events_size c.args.chunk.now c.loop-number.number c.loop-number.lines.flags.items c.loop-number.lines.items.items c.loop-number.invariant; low = omega (arith, c.requires.few) }
 
 pub loop-number-preserved : goal.loop-number-preserved
 loop-number-preserved c =

@@ -1,5 +1,5 @@
 -- An entry without a line has room for one.
-use Rattle.std.proofs.Common.{◌≡◌, ◌≤◌, length, slice_index_or, slice_set, false, true, vec_len, vec_capacity, arith, ap, sym, ◌∙◌}
+use Rattle.std.proofs.Common.{◌≡◌, ◌≤◌, ◌^◌, length, slice_index_or, slice_set, false, true, vec_len, vec_capacity, arith, ap, sym, ◌∙◌}
 use Rattle.std.proofs.lemmas.List.{length-set}
 use Rattle.jfr_worklist.specs.Marks.{is_marked}
 use Rattle.jfr_worklist.specs.Worklists.{marked_count}
@@ -24,4 +24,5 @@ invariant_of-self c =
     let a : vec_len c.args.self.now.items ≡ marked_count c.args.self.now.flags.items = c.args.self.now.each in
     let b : length c.args.self.now.flags.items ≤ vec_capacity c.args.self.now.items = c.args.self.now.room in
     let d = c.push_within.ensures in
-    record { room = omega arith; each = omega arith }
+    let f : length c.args.self.now.flags.items ≤ 2 ^ 31 = c.args.self.now.few in
+    record { room = omega arith; each = omega arith; few = omega arith; low = c.args.self.now.low }
