@@ -40,7 +40,15 @@ pub(crate) fn carry_out<P: Place, O: Sink>(
             depth,
             json,
             file,
-        } => Answer::Ended(print(alloc, place, out, filter, *depth, *json, file)),
+        } => {
+            let events = Events {
+                file,
+                filter,
+                depth: *depth,
+                json: *json,
+            };
+            Answer::Ended(print(alloc, place, out, &events))
+        }
         Order::Summary { file } => Answer::Ended(summary(alloc, place, out, file)),
         Order::Metadata { file } => Answer::Ended(metadata(alloc, place, out, file)),
         Order::Scrub {
@@ -49,10 +57,11 @@ pub(crate) fn carry_out<P: Place, O: Sink>(
             input,
             output,
         } => {
+            let files = Files { input, output };
             if *new_keys {
-                Answer::Ended(renumber(alloc, place, out, filter, input, output))
+                Answer::Ended(renumber(alloc, place, out, filter, &files))
             } else {
-                Answer::Ended(scrub(alloc, place, out, filter, input, output))
+                Answer::Ended(scrub(alloc, place, out, filter, &files))
             }
         }
         Order::Disassemble { file, rule } => Answer::Ended(split(alloc, place, out, file, rule)),
@@ -66,37 +75,55 @@ pub(crate) fn carry_out<P: Place, O: Sink>(
             filter,
             input,
             receipt,
-        } => Answer::Ended(make_receipt(alloc, place, out, filter, input, receipt)),
+        } => {
+            let files = Files {
+                input,
+                output: receipt,
+            };
+            Answer::Ended(make_receipt(alloc, place, out, filter, &files))
+        }
         Order::Verify {
             filter,
             input,
             output,
             receipt,
         } => {
-            let names = Names {
+            let files = CheckedFiles {
                 input,
                 output,
                 receipt,
             };
-            verify(alloc, place, out, filter, &names)
+            verify(alloc, place, out, filter, &files)
         }
         Order::Stacks { filter, file } => Answer::Ended(stacks(alloc, place, out, filter, file)),
         Order::Build { text, output } => build(alloc, place, out, text, output),
     }
 }
 
+/// The events that are printed, and how.
+#[derive(Clone, Copy)]
+struct Events<'a> {
+    file: &'a Text,
+    filter: &'a Filter,
+    depth: u8,
+    json: bool,
+}
+
 fn print<P: Place, O: Sink>(
     alloc: Global,
     place: &mut P,
     out: &mut O,
-    filter: &Filter,
-    depth: u8,
-    json: bool,
-    file: &Text,
+    events: &Events<'_>,
 ) -> Ending
-    requires depth { depth ≤ 8 }
-    ensures { Carries (orders.Print filter.now depth json file.now) result (outside (P.state place.old) (O.state out.old)) (outside (P.state place.new) (O.state out.new)) }
+    requires depth { events.now.depth ≤ 8 }
+    ensures { Carries (orders.Print events.now.filter.now events.now.depth events.now.json events.now.file.now) result (outside (P.state place.old) (O.state out.old)) (outside (P.state place.new) (O.state out.new)) }
 {
+    let Events {
+        file,
+        filter,
+        depth,
+        json,
+    } = *events;
     print_stream(alloc, place, out, file.as_str(), filter, depth, json)
 }
 
@@ -124,16 +151,23 @@ fn stacks<P: Place, O: Sink>(
     stacks_stream(alloc, place, out, file.as_str(), filter)
 }
 
+/// The names of a recording, and of what is made of it.
+#[derive(Clone, Copy)]
+struct Files<'a> {
+    input: &'a Text,
+    output: &'a Text,
+}
+
 fn scrub<P: Place, O: Sink>(
     alloc: Global,
     place: &mut P,
     _out: &mut O,
     filter: &Filter,
-    input: &Text,
-    output: &Text,
+    files: &Files<'_>,
 ) -> Ending
-    ensures { Carries (orders.Scrub filter.now false input.now output.now) result (outside (P.state place.old) (O.state _out.old)) (outside (P.state place.new) (O.state _out.new)) }
+    ensures { Carries (orders.Scrub filter.now false files.now.input.now files.now.output.now) result (outside (P.state place.old) (O.state _out.old)) (outside (P.state place.new) (O.state _out.new)) }
 {
+    let Files { input, output } = *files;
     scrub_stream(alloc, place, input.as_str(), output.as_str(), filter)
 }
 
@@ -142,11 +176,11 @@ fn renumber<P: Place, O: Sink>(
     place: &mut P,
     _out: &mut O,
     filter: &Filter,
-    input: &Text,
-    output: &Text,
+    files: &Files<'_>,
 ) -> Ending
-    ensures { Carries (orders.Scrub filter.now true input.now output.now) result (outside (P.state place.old) (O.state _out.old)) (outside (P.state place.new) (O.state _out.new)) }
+    ensures { Carries (orders.Scrub filter.now true files.now.input.now files.now.output.now) result (outside (P.state place.old) (O.state _out.old)) (outside (P.state place.new) (O.state _out.new)) }
 {
+    let Files { input, output } = *files;
     renumber_stream(alloc, place, input.as_str(), output.as_str(), filter)
 }
 
@@ -155,17 +189,17 @@ fn make_receipt<P: Place, O: Sink>(
     place: &mut P,
     _out: &mut O,
     filter: &Filter,
-    input: &Text,
-    receipt: &Text,
+    files: &Files<'_>,
 ) -> Ending
-    ensures { Carries (orders.Receipt filter.now input.now receipt.now) result (outside (P.state place.old) (O.state _out.old)) (outside (P.state place.new) (O.state _out.new)) }
+    ensures { Carries (orders.Receipt filter.now files.now.input.now files.now.output.now) result (outside (P.state place.old) (O.state _out.old)) (outside (P.state place.new) (O.state _out.new)) }
 {
-    receipt_stream(alloc, place, input.as_str(), receipt.as_str(), filter)
+    let Files { input, output } = *files;
+    receipt_stream(alloc, place, input.as_str(), output.as_str(), filter)
 }
 
-/// The names of the files of a check.
+/// The names of a recording, of its scrub, and of the receipts.
 #[derive(Clone, Copy)]
-struct Names<'a> {
+struct CheckedFiles<'a> {
     input: &'a Text,
     output: &'a Text,
     receipt: &'a Text,
@@ -176,12 +210,12 @@ fn verify<P: Place, O: Sink>(
     place: &mut P,
     out: &mut O,
     filter: &Filter,
-    names: &Names<'_>,
+    files: &CheckedFiles<'_>,
 ) -> Answer
-    ensures { CarriesTo (orders.Verify filter.now names.now.input.now names.now.output.now names.now.receipt.now) result (outside (P.state place.old) (O.state out.old)) (outside (P.state place.new) (O.state out.new)) }
+    ensures { CarriesTo (orders.Verify filter.now files.now.input.now files.now.output.now files.now.receipt.now) result (outside (P.state place.old) (O.state out.old)) (outside (P.state place.new) (O.state out.new)) }
 {
-    let (input, output) = (names.input.as_str(), names.output.as_str());
-    match verify_stream(alloc, place, input, output, names.receipt.as_str(), filter) {
+    let (input, output) = (files.input.as_str(), files.output.as_str());
+    match verify_stream(alloc, place, input, output, files.receipt.as_str(), filter) {
         Verdict::Verified(count) => Answer::Ended(say_verified(alloc, out, count)),
         Verdict::Doubted { chunk, doubt } => Answer::Doubted { chunk, doubt },
         Verdict::Refused(refusal) => Answer::Ended(Ending::Refused(refusal)),

@@ -14,13 +14,13 @@ pub returns : goal.returns
 returns g c =
     let p = g.P.Place.state c.args.place.now in
     let q = g.P.Place.state c.receipt_stream.new.place in
-    let input = named c.as_str.result.now c.args.input.now c.as_str.utf8 c.as_str.ensures in
-    let receipt = named c.as_str-2.result.now c.args.receipt.now c.as_str-2.utf8 c.as_str-2.ensures in
+    let input = named c.as_str.result.now c.args.files.now.input.now c.as_str.utf8 c.as_str.ensures in
+    let receipt = named c.as_str-2.result.now c.args.files.now.output.now c.as_str-2.utf8 c.as_str-2.ensures in
     let ran =
-    subst (λ z. Ran (over (receipting c.args.filter.now (file_name c.args.receipt.now)) z) c.receipt_stream.result (alone p) (alone q)) input
+    subst (λ z. Ran (over (receipting c.args.filter.now (file_name c.args.files.now.output.now)) z) c.receipt_stream.result (alone p) (alone q)) input
     (subst (λ z. Ran (over (receipting c.args.filter.now z) c.as_str.result.now) c.receipt_stream.result (alone p) (alone q)) receipt c.receipt_stream.ensures.ran) in
     record {
-      leaves = over_leaves (receipting c.args.filter.now (file_name c.args.receipt.now)) (file_name c.args.input.now) (way_of c.receipt_stream.result) p q None None ran.told;
+      leaves = over_leaves (receipting c.args.filter.now (file_name c.args.files.now.output.now)) (file_name c.args.files.now.input.now) (way_of c.receipt_stream.result) p q None None ran.told;
       counts = lifted (way_of c.receipt_stream.result) p q (g.O.Sink.state c.args._out.now) ran.counts;
       sink = refl;
       place = tt;

@@ -12,9 +12,9 @@ pub returns : goal.returns
 returns g c =
     let a = outside (g.P.Place.state c.args.place.now) (g.O.Sink.state c.args.out.now) in
     let b = outside (g.P.Place.state c.print_stream.new.place) (g.O.Sink.state c.print_stream.new.out) in
-    let ran = subst (λ z. Ran (over (printing c.args.filter.now c.args.depth c.args.json) z) c.print_stream.result a b) (named c.as_str.result.now c.args.file.now c.as_str.utf8 c.as_str.ensures) c.print_stream.ensures.ran in
+    let ran = subst (λ z. Ran (over (printing c.args.events.now.filter.now c.args.events.now.depth c.args.events.now.json) z) c.print_stream.result a b) (named c.as_str.result.now c.args.events.now.file.now c.as_str.utf8 c.as_str.ensures) c.print_stream.ensures.ran in
     record {
-      leaves = over_leaves (printing c.args.filter.now c.args.depth c.args.json) (file_name c.args.file.now) (way_of c.print_stream.result) a.place b.place a.sink.written b.sink.written ran.told;
+      leaves = over_leaves (printing c.args.events.now.filter.now c.args.events.now.depth c.args.events.now.json) (file_name c.args.events.now.file.now) (way_of c.print_stream.result) a.place b.place a.sink.written b.sink.written ran.told;
       counts = ran.counts;
       sink = tt;
       place = tt;

@@ -17,18 +17,18 @@ pub returns : goal.returns
 returns g c =
     let p = g.P.Place.state c.args.place.now in
     let q = g.P.Place.state c.renumber_stream.new.place in
-    let input = named c.as_str.result.now c.args.input.now c.as_str.utf8 c.as_str.ensures in
-    let output = named c.as_str-2.result.now c.args.output.now c.as_str-2.utf8 c.as_str-2.ensures in
+    let input = named c.as_str.result.now c.args.files.now.input.now c.as_str.utf8 c.as_str.ensures in
+    let output = named c.as_str-2.result.now c.args.files.now.output.now c.as_str-2.utf8 c.as_str-2.ensures in
     let ran =
-    subst (λ z. Ran (over (renumbering c.args.filter.now (file_name c.args.output.now)) z) c.renumber_stream.result (alone p) (alone q)) input
+    subst (λ z. Ran (over (renumbering c.args.filter.now (file_name c.args.files.now.output.now)) z) c.renumber_stream.result (alone p) (alone q)) input
     (subst (λ z. Ran (over (renumbering c.args.filter.now z) c.as_str.result.now) c.renumber_stream.result (alone p) (alone q)) output c.renumber_stream.ensures.ran) in
     record {
-      leaves = over_leaves (renumbering c.args.filter.now (file_name c.args.output.now)) (file_name c.args.input.now) (way_of c.renumber_stream.result) p q None None ran.told;
+      leaves = over_leaves (renumbering c.args.filter.now (file_name c.args.files.now.output.now)) (file_name c.args.files.now.input.now) (way_of c.renumber_stream.result) p q None None ran.told;
       counts = lifted (way_of c.renumber_stream.result) p q (g.O.Sink.state c.args._out.now) ran.counts;
       sink = refl;
       place = tt;
       wrote =
-          subst (λ z. IsByPlan c.renumber_stream.result → Told p.told q.told (Renumbers c.args.filter.now z (file_name c.args.output.now))) input
+          subst (λ z. IsByPlan c.renumber_stream.result → Told p.told q.told (Renumbers c.args.filter.now z (file_name c.args.files.now.output.now))) input
           (subst (λ z. IsByPlan c.renumber_stream.result → Told p.told q.told (Renumbers c.args.filter.now c.as_str.result.now z)) output c.renumber_stream.ensures.headline);
       can_read = λ can. (ran.can_read can).0;
       can_create = λ can. (c.renumber_stream.ensures.can_create (subst (λ z. CanCreate z p) (sym output) can)).0;

@@ -9,7 +9,7 @@ use Rattle.jfr_cli.proofs.carry.verify.Goals as goal
 pub returns-in-Verified : goal.returns-in-Verified
 returns-in-Verified g c =
     let f = c.args.filter.now in
-    let n = c.args.names.now in
+    let n = c.args.files.now in
     let p = g.P.Place.state c.args.place.now in
     let q = g.P.Place.state c.verify_stream.new.place in
     let s = g.O.Sink.state c.args.out.now in
@@ -29,7 +29,7 @@ returns-in-Verified g c =
 pub returns-in-Doubted : goal.returns-in-Doubted
 returns-in-Doubted g c =
     let f = c.args.filter.now in
-    let n = c.args.names.now in
+    let n = c.args.files.now in
     let p = g.P.Place.state c.args.place.now in
     let q = g.P.Place.state c.verify_stream.new.place in
     let s = g.O.Sink.state c.args.out.now in
@@ -46,7 +46,7 @@ returns-in-Doubted g c =
 pub returns-in-Refused : goal.returns-in-Refused
 returns-in-Refused g c =
     let f = c.args.filter.now in
-    let n = c.args.names.now in
+    let n = c.args.files.now in
     let p = g.P.Place.state c.args.place.now in
     let q = g.P.Place.state c.verify_stream.new.place in
     let s = g.O.Sink.state c.args.out.now in
@@ -63,7 +63,7 @@ returns-in-Refused g c =
 pub returns-in-ReadFault : goal.returns-in-ReadFault
 returns-in-ReadFault g c =
     let f = c.args.filter.now in
-    let n = c.args.names.now in
+    let n = c.args.files.now in
     let p = g.P.Place.state c.args.place.now in
     let q = g.P.Place.state c.verify_stream.new.place in
     let s = g.O.Sink.state c.args.out.now in
@@ -80,7 +80,7 @@ returns-in-ReadFault g c =
 pub returns-in-Memory : goal.returns-in-Memory
 returns-in-Memory g c =
     let f = c.args.filter.now in
-    let n = c.args.names.now in
+    let n = c.args.files.now in
     let p = g.P.Place.state c.args.place.now in
     let q = g.P.Place.state c.verify_stream.new.place in
     let s = g.O.Sink.state c.args.out.now in
