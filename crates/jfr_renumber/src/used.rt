@@ -35,6 +35,7 @@ impl Visit<Pools> for Missing {
 
     /// Adds a class and a key that have no entry in force. Most are the key 0 of the class before, which is not
     /// added again.
+    #[inline(always)]
     fn visit(&mut self, pools: &Pools, class: u64, key: u64) {
         if pools.entry(class, key).is_some() {
             return;
