@@ -19,7 +19,6 @@ ghost use Rattle.jfr_show.specs.Json.{event_data, event_json};
 ghost use Rattle.jfr_show.specs.Orders.{IsSource};
 
 mod cache;
-mod event;
 mod leaf;
 mod order;
 mod places;
@@ -32,7 +31,6 @@ use crate::TextBuilder;
 use crate::depth::Reach;
 use crate::reference::class_name;
 use cache::JsonCache;
-use event::push_event_node;
 use jfr_base::{NoMemory, Text};
 use jfr_chunk::{Chunk, Event};
 use jfr_path::fields_of;
@@ -41,6 +39,7 @@ use source::Source;
 use std::alloc::Global;
 use std::marker::Model;
 use string::push_string;
+use value::push_node;
 
 /// The initial capacity for a line.
 const LINE: usize = 1024;
@@ -99,9 +98,10 @@ impl<'c, 'a> JsonWriter<'c, 'a> {
             alloc: self.alloc,
             chunk: self.chunk,
             orders: &self.orders,
+            reach: Reach::of_event(depth),
         };
         let mut line = String::with_capacity(self.alloc, LINE)?;
-        push_event(&source, &mut self.cache, event, depth, &mut line)?;
+        push_event(&source, &mut self.cache, event, &mut line)?;
         out.push_str(line.as_str())?;
         out.push_ascii("\n")
     }
@@ -144,13 +144,13 @@ fn push_event(
     source: &Source<'_, '_>,
     cache: &mut JsonCache,
     event: &Event<'_>,
-    depth: u8,
     out: &mut String,
 ) -> Result<(), NoMemory>
     requires event { slice_get (events_of source.now.chunk.now) event.now.number ≡ Some (event_at event.now) }
     requires source { IsSource source.now }
+    requires composites { source.now.reach.composites ≡ 33 }
     requires cached { AreCachedJson source.now.chunk.now cache.old }
-    ensures ok { OnOk result (string_bytes out.new ≡ string_bytes out.old ++ compact_text (event_data source.now.chunk.now depth (node_of event.now.node))) }
+    ensures ok { OnOk result (string_bytes out.new ≡ string_bytes out.old ++ compact_text (event_data source.now.chunk.now source.now.reach.references (node_of event.now.node))) }
     ensures cached { AreCachedJson source.now.chunk.now cache.new }
 {
     let node = fields_of(source.chunk, event);
@@ -161,7 +161,7 @@ fn push_event(
         out,
     )?;
     out.push_str(",\"values\":")?;
-    push_event_node(source, cache, &node, Reach::of_event(depth), out)?;
+    push_node(source, cache, &node, out)?;
     out.push_str("}")?;
     Ok(())
 }

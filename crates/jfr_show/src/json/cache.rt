@@ -1,15 +1,12 @@
 //! A cache of the JSON of references, for the events of one chunk.
 //!
 //! It is to JSON what `TextCache` is to text, without levels.
-ghost use Rattle.std.specs.Prelude.{◌≡◌, ◌++◌, IfOk, IfSome, OnOk, string_bytes};
+ghost use Rattle.std.specs.Prelude.{◌≡◌, IfOk, IfSome};
 ghost use Rattle.serde_json.specs.Written.{compact_text};
 ghost use Rattle.jfr_chunk.specs.Parts.{Parts};
 ghost use Rattle.jfr_show.specs.CachedJson.{AreCachedJson, IsCachedJson};
 ghost use Rattle.jfr_show.specs.Json.{referred_json};
-ghost use Rattle.jfr_show.specs.Orders.{IsSource};
 
-use super::source::Source;
-use super::value::push_referred;
 use crate::cache::{LONGEST, PLACES, place_of};
 use crate::depth::Reach;
 use jfr_base::NoMemory;
@@ -42,38 +39,8 @@ impl JsonCache {
         Ok(JsonCache { places })
     }
 
-    /// Adds the JSON of the reference to a class and a key, and may keep it in the cache.
-    pub(crate) fn push(
-        &mut self,
-        source: &Source<'_, '_>,
-        class: u64,
-        key: u64,
-        reach: Reach,
-        out: &mut String,
-    ) -> Result<(), NoMemory>
-        requires source { IsSource source.now }
-        requires cached { AreCachedJson source.now.chunk.now self.old }
-        ensures ok { OnOk result (string_bytes out.new ≡ string_bytes out.old ++ compact_text (referred_json source.now.chunk.now reach.references (class, key))) }
-        ensures cached { AreCachedJson source.now.chunk.now self.new }
-    {
-        if let Some(text) = self.get(class, key, reach) {
-            out.push_str(text)?;
-            return Ok(());
-        }
-        let mut text = String::new(source.alloc);
-        push_referred(source, class, key, reach, &mut text)?;
-        out.push_str(text.as_str())?;
-        self.keep(CachedJson {
-            class,
-            key,
-            references: reach.references,
-            text,
-        });
-        Ok(())
-    }
-
     /// The JSON of the reference to a class and a key, if the cache has it.
-    fn get(&self, class: u64, key: u64, reach: Reach) -> Option<&str>
+    pub(crate) fn get(&self, class: u64, key: u64, reach: Reach) -> Option<&str>
         ensures written { (p : Parts) → AreCachedJson p self.now → IfSome result (λ text. text.now ≡ compact_text (referred_json p reach.references (class, key))) }
     {
         let Some(Some(cached)) = self.places.get(place_of(class, key)) else {
@@ -86,7 +53,7 @@ impl JsonCache {
     }
 
     /// Keeps a text in its slot, unless it is too long.
-    fn keep(&mut self, cached: CachedJson)
+    pub(crate) fn keep(&mut self, cached: CachedJson)
         ensures cached { (p : Parts) → AreCachedJson p self.old → IsCachedJson p cached → AreCachedJson p self.new }
     {
         let place = place_of(cached.class, cached.key);

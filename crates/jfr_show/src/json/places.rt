@@ -4,7 +4,7 @@ ghost use Rattle.jfr_layout.specs.Classes.{IsFieldLayout, Sound};
 ghost use Rattle.jfr_value.specs.Nodes.{EndsAt, IsRow};
 ghost use Rattle.jfr_value.specs.Values.{Values};
 ghost use Rattle.jfr_value.specs.Visits.{field_shapes};
-ghost use Rattle.jfr_show.specs.Orders.{starts};
+ghost use Rattle.jfr_show.specs.Orders.{ArePlaces};
 
 use crate::reading::integer_at;
 use jfr_base::NoMemory;
@@ -13,9 +13,10 @@ use jfr_layout::{FieldLayout, Form};
 use jfr_value::end_of;
 use std::alloc::Global;
 
-/// Where each field of a value starts, and where the last one ends.
+/// The index of a value's class, where each field of the value starts, and where the last one ends.
 #[derive(Drop)]
 pub(crate) struct Places {
+    pub(crate) place: usize,
     pub(crate) starts: Vec<usize>,
     pub(crate) end: usize,
 }
@@ -30,7 +31,8 @@ pub(crate) fn field_places(
     requires sound { Sound chunk.now.classes }
     requires placed { place < length chunk.now.classes }
     requires stand { (to : ℕ) × (vs : Values) × IsRow chunk.now.classes chunk.now.bytes at to (field_shapes chunk.now.classes place) vs }
-    ensures ok { IfOk result (λ places. (to : ℕ) (vs : Values) → IsRow chunk.now.classes chunk.now.bytes at to (field_shapes chunk.now.classes place) vs → (places.end ≡ to) × (places.starts.items ≡ starts at vs)) }
+    ensures class { IfOk result (λ places. places.place ≡ place) }
+    ensures ok { IfOk result (λ places. (to : ℕ) (vs : Values) → IsRow chunk.now.classes chunk.now.bytes at to (field_shapes chunk.now.classes place) vs → ArePlaces places at to vs) }
 {
     let layouts = chunk.classes().layouts(place);
     let mut starts = Vec::with_capacity(alloc, layouts.len())?;
@@ -40,7 +42,7 @@ pub(crate) fn field_places(
         starts.push(end)?;
         end = end_at(chunk, layout, end, limit);
     }
-    Ok(Places { starts, end })
+    Ok(Places { place, starts, end })
 }
 
 /// Where the value with this layout ends that starts at `at`, in a chunk that ends at `limit`.

@@ -8,15 +8,16 @@ ghost use Rattle.jfr_value.specs.Nodes.{EndsAt, IsNode, IsRow, IsValue, node_at,
 ghost use Rattle.jfr_value.specs.Values as tree;
 ghost use Rattle.jfr_value.specs.Visits.{field_shapes};
 ghost use Rattle.jfr_value.specs.Walks.{IsLayoutIfKnown, Room};
+ghost use Rattle.jfr_show.specs.CachedJson.{AreCachedJson};
 ghost use Rattle.jfr_show.specs.Json.{json_of, json_of_all, members_with, node_json, referred_json};
-ghost use Rattle.jfr_show.specs.Orders.{IsOrderAt, IsSource};
+ghost use Rattle.jfr_show.specs.Orders.{ArePlaces, IsOrderAt, IsSource};
 
+use super::cache::{CachedJson, JsonCache};
 use super::leaf::{push_integer, push_raw, push_text};
 use super::order::{MemberOrder, order_of};
-use super::places::field_places;
+use super::places::{Places, field_places};
 use super::reference::{push_missing, push_reference};
 use super::source::Source;
-use crate::depth::Reach;
 use crate::reading::{bytes_at, constant, integer_at, string_at};
 use jfr_base::NoMemory;
 use jfr_layout::{FieldLayout, Form};
@@ -27,37 +28,41 @@ use jfr_value::{Node, item_layout, layout_of};
 #[cycle(json)]
 pub(crate) fn push_node(
     source: &Source<'_, '_>,
+    cache: &mut JsonCache,
     node: &Node<'_>,
-    reach: Reach,
     out: &mut String,
 ) -> Result<(), NoMemory>
     requires source { IsSource source.now }
+    requires cached { AreCachedJson source.now.chunk.now cache.old }
     requires of_chunk { node.now.bytes.now ≡ source.now.chunk.now.bytes }
     requires value { IsValue source.now.chunk.now.classes node.now }
-    requires composites { reach.composites ≡ 33 }
-    ensures ok { OnOk result (string_bytes out.new ≡ string_bytes out.old ++ compact_text (node_json source.now.chunk.now (referred_json source.now.chunk.now reach.references) (node_of node.now))) }
+    requires composites { source.now.reach.composites ≡ 33 }
+    ensures ok { OnOk result (string_bytes out.new ≡ string_bytes out.old ++ compact_text (node_json source.now.chunk.now (referred_json source.now.chunk.now source.now.reach.references) (node_of node.now))) }
+    ensures cached { AreCachedJson source.now.chunk.now cache.new }
 {
     let layout = layout_of(source.chunk.classes(), node.shape);
-    let _end = push_value(source, &layout, node.at, reach, out)?;
+    let _end = push_value(source, cache, &layout, node.at, out)?;
     Ok(())
 }
 
 /// Adds the value with this layout that starts at `at`. Returns where it ends.
 #[cycle(json)]
-pub(crate) fn push_value(
+fn push_value(
     source: &Source<'_, '_>,
+    cache: &mut JsonCache,
     layout: &FieldLayout,
     at: usize,
-    reach: Reach,
     out: &mut String,
 ) -> Result<usize, NoMemory>
     requires source { IsSource source.now }
+    requires cached { AreCachedJson source.now.chunk.now cache.old }
     requires layout { IsLayoutIfKnown source.now.chunk.now.classes layout.now }
-    requires room { Room source.now.chunk.now.classes reach.composites layout.now.shape }
+    requires room { Room source.now.chunk.now.classes source.now.reach.composites layout.now.shape }
     requires stands { (to : ℕ) × EndsAt source.now.chunk.now.classes source.now.chunk.now.bytes layout.now.shape at to }
-    requires composites { reach.composites ≤ 33 }
+    requires composites { source.now.reach.composites ≤ 33 }
     ensures ok { IfOk result (λ end. (to : ℕ) (v : tree.Value) → IsNode source.now.chunk.now.classes source.now.chunk.now.bytes (node_at layout.now.shape at to) v
-        → (end ≡ to) × (string_bytes out.new ≡ string_bytes out.old ++ compact_text (json_of source.now.chunk.now.classes (referred_json source.now.chunk.now reach.references) v))) }
+        → (end ≡ to) × (string_bytes out.new ≡ string_bytes out.old ++ compact_text (json_of source.now.chunk.now.classes (referred_json source.now.chunk.now source.now.reach.references) v))) }
+    ensures cached { AreCachedJson source.now.chunk.now cache.new }
 {
     match layout.form {
         Form::Integer => {
@@ -73,25 +78,21 @@ pub(crate) fn push_value(
         }
         Form::Key => {
             let key = integer_at(source.chunk, at);
-            push_referred(source, layout.shape.class, key.value, reach, out)?;
+            push_referred(source, cache, layout.shape.class, key.value, out)?;
             Ok(key.end)
         }
         Form::Text => {
             let string = string_at(source.chunk, at);
             match string.kind {
-                StringKind::Key => push_referred(
-                    source,
-                    layout.shape.class,
-                    string.key,
-                    reach,
-                    out,
-                )?,
+                StringKind::Key => {
+                    push_referred(source, cache, layout.shape.class, string.key, out)?
+                }
                 _ => push_text(source.alloc, &string, out)?,
             }
             Ok(string.end)
         }
-        Form::Fields => push_fields(source, layout.class_index, at, reach, out),
-        Form::Array => push_items(source, layout, at, reach, out),
+        Form::Fields => push_fields(source, cache, layout.class_index, at, out),
+        Form::Array => push_items(source, cache, layout, at, out),
     }
 }
 
@@ -99,63 +100,87 @@ pub(crate) fn push_value(
 #[cycle(json)]
 fn push_fields(
     source: &Source<'_, '_>,
+    cache: &mut JsonCache,
     place: usize,
     at: usize,
-    reach: Reach,
     out: &mut String,
 ) -> Result<usize, NoMemory>
     requires source { IsSource source.now }
+    requires cached { AreCachedJson source.now.chunk.now cache.old }
     requires placed { place < length source.now.chunk.now.classes }
-    requires inner { 1 ≤ reach.composites }
-    requires room { AllByRecursion (Room source.now.chunk.now.classes (reach.composites - 1)) (field_shapes source.now.chunk.now.classes place) }
+    requires inner { 1 ≤ source.now.reach.composites }
+    requires room { AllByRecursion (Room source.now.chunk.now.classes (source.now.reach.composites - 1)) (field_shapes source.now.chunk.now.classes place) }
     requires stand { (to : ℕ) × (vs : tree.Values) × IsRow source.now.chunk.now.classes source.now.chunk.now.bytes at to (field_shapes source.now.chunk.now.classes place) vs }
-    requires composites { reach.composites ≤ 33 }
+    requires composites { source.now.reach.composites ≤ 33 }
     ensures ok { IfOk result (λ end. (to : ℕ) (vs : tree.Values) (class : Class) → IsRow source.now.chunk.now.classes source.now.chunk.now.bytes at to (field_shapes source.now.chunk.now.classes place) vs
-        → slice_get source.now.chunk.now.classes place ≡ Some class → (end ≡ to) × (string_bytes out.new ≡ string_bytes out.old ++ compact_text (object (members_with no_members class.fields (json_of_all source.now.chunk.now.classes (referred_json source.now.chunk.now reach.references) vs))))) }
+        → slice_get source.now.chunk.now.classes place ≡ Some class → (end ≡ to) × (string_bytes out.new ≡ string_bytes out.old ++ compact_text (object (members_with no_members class.fields (json_of_all source.now.chunk.now.classes (referred_json source.now.chunk.now source.now.reach.references) vs))))) }
+    ensures cached { AreCachedJson source.now.chunk.now cache.new }
 {
-    match &source.orders[place] {
-        Some(order) => push_members(source, order, place, at, reach, out),
+    let places = field_places(source.alloc, source.chunk, place, at)?;
+    push_object(source, cache, &places, out)
+}
+
+/// Adds a value whose fields are at these places. Returns where it ends.
+#[cycle(json)]
+fn push_object(
+    source: &Source<'_, '_>,
+    cache: &mut JsonCache,
+    places: &Places,
+    out: &mut String,
+) -> Result<usize, NoMemory>
+    requires source { IsSource source.now }
+    requires cached { AreCachedJson source.now.chunk.now cache.old }
+    requires placed { places.now.place < length source.now.chunk.now.classes }
+    requires inner { 1 ≤ source.now.reach.composites }
+    requires room { AllByRecursion (Room source.now.chunk.now.classes (source.now.reach.composites - 1)) (field_shapes source.now.chunk.now.classes places.now.place) }
+    requires stand { (at : ℕ) × (to : ℕ) × (vs : tree.Values) × IsRow source.now.chunk.now.classes source.now.chunk.now.bytes at to (field_shapes source.now.chunk.now.classes places.now.place) vs × ArePlaces places.now at to vs }
+    requires composites { source.now.reach.composites ≤ 33 }
+    ensures ok { IfOk result (λ end. (at to : ℕ) (vs : tree.Values) (class : Class) → IsRow source.now.chunk.now.classes source.now.chunk.now.bytes at to (field_shapes source.now.chunk.now.classes places.now.place) vs → ArePlaces places.now at to vs
+        → slice_get source.now.chunk.now.classes places.now.place ≡ Some class → (end ≡ to) × (string_bytes out.new ≡ string_bytes out.old ++ compact_text (object (members_with no_members class.fields (json_of_all source.now.chunk.now.classes (referred_json source.now.chunk.now source.now.reach.references) vs))))) }
+    ensures cached { AreCachedJson source.now.chunk.now cache.new }
+{
+    match &source.orders[places.place] {
+        Some(order) => push_members(source, cache, order, places, out),
         None => {
-            let class = source.chunk.classes().class_at(place);
+            let class = source.chunk.classes().class_at(places.place);
             let order = order_of(source.alloc, &class.fields)?;
-            push_members(source, &order, place, at, reach, out)
+            push_members(source, cache, &order, places, out)
         }
     }
 }
 
-/// Adds a value of the class with index `place`, its fields in this order. Returns where it ends.
+/// Adds a value whose fields are at these places, in this order. Returns where it ends.
 #[cycle(json)]
 fn push_members(
     source: &Source<'_, '_>,
+    cache: &mut JsonCache,
     order: &MemberOrder,
-    place: usize,
-    at: usize,
-    reach: Reach,
+    places: &Places,
     out: &mut String,
 ) -> Result<usize, NoMemory>
     requires source { IsSource source.now }
-    requires order { IsOrderAt source.now.chunk.now.classes place order.now }
-    requires placed { place < length source.now.chunk.now.classes }
-    requires inner { 1 ≤ reach.composites }
-    requires room { AllByRecursion (Room source.now.chunk.now.classes (reach.composites - 1)) (field_shapes source.now.chunk.now.classes place) }
-    requires stand { (to : ℕ) × (vs : tree.Values) × IsRow source.now.chunk.now.classes source.now.chunk.now.bytes at to (field_shapes source.now.chunk.now.classes place) vs }
-    requires composites { reach.composites ≤ 33 }
-    ensures ok { IfOk result (λ end. (to : ℕ) (vs : tree.Values) (class : Class) → IsRow source.now.chunk.now.classes source.now.chunk.now.bytes at to (field_shapes source.now.chunk.now.classes place) vs
-        → slice_get source.now.chunk.now.classes place ≡ Some class → (end ≡ to) × (string_bytes out.new ≡ string_bytes out.old ++ compact_text (object (members_with no_members class.fields (json_of_all source.now.chunk.now.classes (referred_json source.now.chunk.now reach.references) vs))))) }
+    requires cached { AreCachedJson source.now.chunk.now cache.old }
+    requires order { IsOrderAt source.now.chunk.now.classes places.now.place order.now }
+    requires placed { places.now.place < length source.now.chunk.now.classes }
+    requires inner { 1 ≤ source.now.reach.composites }
+    requires room { AllByRecursion (Room source.now.chunk.now.classes (source.now.reach.composites - 1)) (field_shapes source.now.chunk.now.classes places.now.place) }
+    requires stand { (at : ℕ) × (to : ℕ) × (vs : tree.Values) × IsRow source.now.chunk.now.classes source.now.chunk.now.bytes at to (field_shapes source.now.chunk.now.classes places.now.place) vs × ArePlaces places.now at to vs }
+    requires composites { source.now.reach.composites ≤ 33 }
+    ensures ok { IfOk result (λ end. (at to : ℕ) (vs : tree.Values) (class : Class) → IsRow source.now.chunk.now.classes source.now.chunk.now.bytes at to (field_shapes source.now.chunk.now.classes places.now.place) vs → ArePlaces places.now at to vs
+        → slice_get source.now.chunk.now.classes places.now.place ≡ Some class → (end ≡ to) × (string_bytes out.new ≡ string_bytes out.old ++ compact_text (object (members_with no_members class.fields (json_of_all source.now.chunk.now.classes (referred_json source.now.chunk.now source.now.reach.references) vs))))) }
+    ensures cached { AreCachedJson source.now.chunk.now cache.new }
 {
-    let places = field_places(source.alloc, source.chunk, place, at)?;
-    let layouts = source.chunk.classes().layouts(place);
-    let inner = reach.of_fields();
+    let layouts = source.chunk.classes().layouts(places.place);
+    let inner = source.reach.of_fields();
+    let deeper = Source {
+        reach: inner,
+        ..*source
+    };
     out.push_str("{")?;
     for lead in &order.leads {
         out.push_str(lead.text.as_str())?;
-        let _end = push_value(
-            source,
-            &layouts[lead.field],
-            places.starts[lead.field],
-            inner,
-            out,
-        )?;
+        let layout = &layouts[lead.field];
+        let _end = push_value(&deeper, cache, layout, places.starts[lead.field], out)?;
     }
     out.push_str("}")?;
     Ok(places.end)
@@ -165,19 +190,21 @@ fn push_members(
 #[cycle(json)]
 fn push_items(
     source: &Source<'_, '_>,
+    cache: &mut JsonCache,
     layout: &FieldLayout,
     at: usize,
-    reach: Reach,
     out: &mut String,
 ) -> Result<usize, NoMemory>
     requires source { IsSource source.now }
+    requires cached { AreCachedJson source.now.chunk.now cache.old }
     requires array { layout.now.shape.array ≡ true }
     requires layout { IsLayoutIfKnown source.now.chunk.now.classes layout.now }
-    requires room { Room source.now.chunk.now.classes reach.composites layout.now.shape }
+    requires room { Room source.now.chunk.now.classes source.now.reach.composites layout.now.shape }
     requires stands { (to : ℕ) × EndsAt source.now.chunk.now.classes source.now.chunk.now.bytes layout.now.shape at to }
-    requires composites { reach.composites ≤ 33 }
+    requires composites { source.now.reach.composites ≤ 33 }
     ensures ok { IfOk result (λ end. (to : ℕ) (v : tree.Value) → IsNode source.now.chunk.now.classes source.now.chunk.now.bytes (node_at layout.now.shape at to) v
-        → (end ≡ to) × (string_bytes out.new ≡ string_bytes out.old ++ compact_text (json_of source.now.chunk.now.classes (referred_json source.now.chunk.now reach.references) v))) }
+        → (end ≡ to) × (string_bytes out.new ≡ string_bytes out.old ++ compact_text (json_of source.now.chunk.now.classes (referred_json source.now.chunk.now source.now.reach.references) v))) }
+    ensures cached { AreCachedJson source.now.chunk.now cache.new }
 {
     let count = integer_at(source.chunk, at);
     out.push_str("[")?;
@@ -186,7 +213,7 @@ fn push_items(
     let mut later = false;
     'items: for _ in 0..count.value {
         push_comma(later, out)?;
-        to = push_value(source, &item, to, reach, out)?;
+        to = push_value(source, cache, &item, to, out)?;
         later = true;
     }
     out.push_str("]")?;
@@ -203,23 +230,57 @@ fn push_comma(later: bool, out: &mut String) -> Result<(), NoMemory>
     Ok(())
 }
 
-/// Adds the JSON of the reference to a class and a key.
+/// Adds the JSON of the reference to a class and a key, from the cache if it is there. If not, the cache may
+/// keep it.
 #[cycle(json)]
-pub(crate) fn push_referred(
+fn push_referred(
     source: &Source<'_, '_>,
+    cache: &mut JsonCache,
     class: u64,
     key: u64,
-    reach: Reach,
     out: &mut String,
 ) -> Result<(), NoMemory>
     requires source { IsSource source.now }
-    ensures ok { OnOk result (string_bytes out.new ≡ string_bytes out.old ++ compact_text (referred_json source.now.chunk.now reach.references (class, key))) }
+    requires cached { AreCachedJson source.now.chunk.now cache.old }
+    ensures ok { OnOk result (string_bytes out.new ≡ string_bytes out.old ++ compact_text (referred_json source.now.chunk.now source.now.reach.references (class, key))) }
+    ensures cached { AreCachedJson source.now.chunk.now cache.new }
+{
+    if let Some(text) = cache.get(class, key, source.reach) {
+        out.push_str(text)?;
+        return Ok(());
+    }
+    let mut text = String::new(source.alloc);
+    push_constant(source, cache, class, key, &mut text)?;
+    out.push_str(text.as_str())?;
+    cache.keep(CachedJson {
+        class,
+        key,
+        references: source.reach.references,
+        text,
+    });
+    Ok(())
+}
+
+/// Adds the JSON of the reference to a class and a key.
+#[cycle(json)]
+fn push_constant(
+    source: &Source<'_, '_>,
+    cache: &mut JsonCache,
+    class: u64,
+    key: u64,
+    out: &mut String,
+) -> Result<(), NoMemory>
+    requires source { IsSource source.now }
+    requires cached { AreCachedJson source.now.chunk.now cache.old }
+    ensures ok { OnOk result (string_bytes out.new ≡ string_bytes out.old ++ compact_text (referred_json source.now.chunk.now source.now.reach.references (class, key))) }
+    ensures cached { AreCachedJson source.now.chunk.now cache.new }
 {
     let Some(node) = constant(source.chunk, class, key) else {
         return push_missing(source, class, key, out);
     };
-    if reach.references == 0 {
+    if source.reach.references == 0 {
         return push_reference(source, class, key, out);
     }
-    push_node(source, &node, reach.of_constant(), out)
+    let reach = source.reach.of_constant();
+    push_node(&Source { reach, ..*source }, cache, &node, out)
 }

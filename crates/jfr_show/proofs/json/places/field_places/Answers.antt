@@ -1,4 +1,4 @@
-use Rattle.std.proofs.Common.{ap, arith, subst, get_or}
+use Rattle.std.proofs.Common.{ap, arith, refl, subst, get_or}
 use Rattle.std.specs.Prelude.{slice_get, IfSome}
 use Rattle.jfr_layout.specs.Classes.{AreFieldLayouts}
 use Rattle.jfr_value.proofs.LayoutLaws.{few_fields, field_of, no_layout}
@@ -55,4 +55,4 @@ returns c =
     let b = c.args.chunk.now.bytes in
     let layouts : IfSome (slice_get k c.args.place) (λ d. AreFieldLayouts k d.fields c.layouts-layouts.result.now) = subst (λ z. IfSome (slice_get z c.args.place) (λ d. AreFieldLayouts z d.fields c.layouts-layouts.result.now)) c.classes.ensures c.layouts-layouts.ensures.exact in
     let past = fields_past k c.args.place c.loop-layout.layout-index c.requires.placed (few_fields k c.args.place c.loop-layout.layout-index c.layouts-layouts.result.now c.requires.placed layouts c.loop-layout-test.false) in
-    record { ok = λ to vs r. left_ends k b to _ (onto_starts k b c.loop-layout.end) _ c.loop-layout.end c.loop-layout.starts.items (c.loop-layout.invariant to vs r) past (no_starts k b c.loop-layout.end c.loop-layout.starts.items) }
+    record { class = refl; ok = λ to vs r. left_ends k b to _ (onto_starts k b c.loop-layout.end) _ c.loop-layout.end c.loop-layout.starts.items (c.loop-layout.invariant to vs r) past (no_starts k b c.loop-layout.end c.loop-layout.starts.items) }

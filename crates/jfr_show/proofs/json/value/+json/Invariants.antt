@@ -6,37 +6,50 @@ use Rattle.jfr_layout.specs.Classes.{item_of}
 use Rattle.jfr_value.specs.Nodes.{IsRow}
 use Rattle.jfr_value.specs.Values.{Values}
 use Rattle.jfr_value.specs.Visits.{field_shapes}
+use Rattle.jfr_show.specs.CachedJson.{AreCachedJson}
 use Rattle.jfr_show.specs.Json.{json_of_all, referred_json}
-use Rattle.jfr_show.specs.Orders.{laid_out, lead_of}
+use Rattle.jfr_show.specs.Orders.{ArePlaces, laid_out, lead_of}
 use Rattle.jfr_show.proofs.JsonLaws.{onto_items}
 use Rattle.jfr_show.proofs.LeftLaws.{Left}
 use Rattle.jfr_show.proofs.json.value.+json.Given as goal
 
 -- References first, then composite values, then the steps within one.
+abbrev pub decreases-push_constant : goal.decreases-push_constant
+decreases-push_constant l = 400 * l.source.now.reach.references
+
 abbrev pub decreases-push_referred : goal.decreases-push_referred
-decreases-push_referred l = 400 * l.reach.references
+decreases-push_referred l = 400 * l.source.now.reach.references + 1
 
 abbrev pub decreases-push_members : goal.decreases-push_members
-decreases-push_members l = 400 * l.reach.references + 5 * l.reach.composites
+decreases-push_members l = 400 * l.source.now.reach.references + 6 * l.source.now.reach.composites
+
+abbrev pub decreases-push_object : goal.decreases-push_object
+decreases-push_object l = 400 * l.source.now.reach.references + 6 * l.source.now.reach.composites + 1
 
 abbrev pub decreases-push_fields : goal.decreases-push_fields
-decreases-push_fields l = 400 * l.reach.references + 5 * l.reach.composites + 1
+decreases-push_fields l = 400 * l.source.now.reach.references + 6 * l.source.now.reach.composites + 2
 
 abbrev pub decreases-push_items : goal.decreases-push_items
-decreases-push_items l = 400 * l.reach.references + 5 * l.reach.composites + 3
+decreases-push_items l = 400 * l.source.now.reach.references + 6 * l.source.now.reach.composites + 4
 
 abbrev pub decreases-push_value : goal.decreases-push_value
-decreases-push_value l = 400 * l.reach.references + 5 * l.reach.composites + (if l.layout.now.shape.array then 4 else 2)
+decreases-push_value l = 400 * l.source.now.reach.references + 6 * l.source.now.reach.composites + (if l.layout.now.shape.array then 5 else 3)
 
 abbrev pub decreases-push_node : goal.decreases-push_node
-decreases-push_node l = 400 * l.reach.references + 5 * l.reach.composites + 5
+decreases-push_node l = 400 * l.source.now.reach.references + 6 * l.source.now.reach.composites + 6
 
 abbrev pub invariant-push_items-items : goal.invariant-push_items-items
-invariant-push_items-items l = (to : ℕ) (vs : Values) → IsRow l.source.chunk.now.classes l.source.chunk.now.bytes l.initial.to to (replicate l.end (item_of l.layout.shape)) vs
-    → Left l.source.chunk.now.classes l.source.chunk.now.bytes to (string_bytes l.initial.out ++ items_text false (items_of (json_of_all l.source.chunk.now.classes (referred_json l.source.chunk.now l.reach.references) vs)))
-    (onto_items l.source.chunk.now.classes (referred_json l.source.chunk.now l.reach.references) l.later) (replicate (l.end - l.counter) (item_of l.layout.shape)) l.to (string_bytes l.out)
+invariant-push_items-items l = record {
+  cached : AreCachedJson l.source.chunk.now l.cache;
+  left : (to : ℕ) (vs : Values) → IsRow l.source.chunk.now.classes l.source.chunk.now.bytes l.initial.to to (replicate l.end (item_of l.layout.shape)) vs
+      → Left l.source.chunk.now.classes l.source.chunk.now.bytes to (string_bytes l.initial.out ++ items_text false (items_of (json_of_all l.source.chunk.now.classes (referred_json l.source.chunk.now l.source.reach.references) vs)))
+      (onto_items l.source.chunk.now.classes (referred_json l.source.chunk.now l.source.reach.references) l.later) (replicate (l.end - l.counter) (item_of l.layout.shape)) l.to (string_bytes l.out);
+}
 
 abbrev pub invariant-push_members-loop-lead : goal.invariant-push_members-loop-lead
-invariant-push_members-loop-lead l = (to : ℕ) (vs : Values) → IsRow l.source.chunk.now.classes l.source.chunk.now.bytes l.at to (field_shapes l.source.chunk.now.classes l.place) vs
-    → string_bytes l.out ++ laid_out (map lead_of (drop l.lead-index l.lead-items)) (json_of_all l.source.chunk.now.classes (referred_json l.source.chunk.now l.fn.reach.references) vs)
-    ≡ string_bytes l.initial.out ++ laid_out (map lead_of l.lead-items) (json_of_all l.source.chunk.now.classes (referred_json l.source.chunk.now l.fn.reach.references) vs)
+invariant-push_members-loop-lead l = record {
+  cached : AreCachedJson l.source.chunk.now l.cache;
+  laid : (at to : ℕ) (vs : Values) → IsRow l.source.chunk.now.classes l.source.chunk.now.bytes at to (field_shapes l.source.chunk.now.classes l.places.place) vs → ArePlaces l.places at to vs
+      → string_bytes l.out ++ laid_out (map lead_of (drop l.lead-index l.lead-items)) (json_of_all l.source.chunk.now.classes (referred_json l.source.chunk.now l.source.reach.references) vs)
+      ≡ string_bytes l.initial.out ++ laid_out (map lead_of l.lead-items) (json_of_all l.source.chunk.now.classes (referred_json l.source.chunk.now l.source.reach.references) vs);
+}
