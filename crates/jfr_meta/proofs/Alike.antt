@@ -1,17 +1,16 @@
 -- Two elements over two tables of strings that say the same: they describe the same.
-use Rattle.std.specs.Prelude.{◌≡◌, ℕ, zero, suc, ◌+◌, Bool, true, false, List, [], ◌∷◌, ◌++◌, length, map, filter, find, Option, Some, None, is_some, option_map, option_and_then, if◌then◌else◌, codes, ⊤}
-use Rattle.std.specs.List.{AllZip, AllByRecursion, filter_map, flat_map}
+use Rattle.std.specs.Prelude.{◌≡◌, ℕ, zero, suc, ◌+◌, Bool, true, false, List, [], ◌∷◌, ◌++◌, length, find, Option, Some, None, is_some, option_map, option_and_then, codes, ⊤}
+use Rattle.std.specs.List.{AllZip, filter_map, flat_map}
 use Rattle.std.specs.Option.{option_map_or, option_to_list}
 use Rattle.std.specs.Str.{bytes_eq}
-use Rattle.std.proofs.Common.{ap, refl, sym, ◌∙◌, subst}
+use Rattle.std.proofs.Common.{ap, refl, ◌∙◌}
 use Rattle.jfr_base.specs.declared.flaw.Flaw.{Flaw}
 use Rattle.jfr_base.specs.declared.reason.Reason.{Reason}
 use Rattle.jfr_base.specs.declared.reason.Reason.TheVariants.{ClassBad, FieldBad}
 use Rattle.jfr_layout.specs.Classes.{Class, Field}
-use Rattle.jfr_layout.specs.declared.shape.Shape.{Shape}
-use Rattle.jfr_meta.specs.Trees.{Tree, Node, Trees, Nil, Cons, list_of, place_of, name_of, pairs_of, children_of}
+use Rattle.jfr_meta.specs.Trees.{Tree, Node, Trees, Nil, Cons, list_of, name_of, pairs_of, children_of}
 use Rattle.jfr_meta.specs.Attributes.{text_at, first_value, not_empty, attribute, named, id_of, flag_of, values_from, value_key, or_else, values_of}
-use Rattle.jfr_meta.specs.Described.{class_elements, field_elements, id_attribute, class_head, shape_of, field_of, flaw_unless, field_flaws, class_flaws, is_category_id, is_category, annotations_of, category_annotation, categories_of, class_with, class_of}
+use Rattle.jfr_meta.specs.Described.{class_elements, field_elements, id_attribute, class_head, shape_of, field_of, flaw_unless, field_flaws, class_flaws, is_category_id, is_category, annotations_of, category_annotation, categories_of, class_of}
 use Rattle.jfr_meta.proofs.Lists.{filter_zip, find_zip, filter_map_zip, Beside, zip_length, flat_map_none, nothing_each}
 
 module _ (texts table : List (List ℕ)) where

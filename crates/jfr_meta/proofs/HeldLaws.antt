@@ -1,6 +1,6 @@
 -- Which classes of a metadata record that was read stay.
-use Rattle.std.specs.Prelude.{◌≡◌, ℕ, Bool, List, Option, Some, Result, Ok, Err, IfOk}
-use Rattle.std.proofs.Common.{ap, refl, sym, ◌∙◌, subst}
+use Rattle.std.specs.Prelude.{◌≡◌, ℕ, Bool, List, Some, Result, Ok, Err, IfOk}
+use Rattle.std.proofs.Common.{sym, ◌∙◌, subst}
 use Rattle.jfr_layout.specs.Classes.{Classes}
 use Rattle.jfr_meta.specs.Trees.{Tree, place_of}
 use Rattle.jfr_meta.specs.Body.{Body}

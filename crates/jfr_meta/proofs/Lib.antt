@@ -28,3 +28,4 @@ pub mod HeldLaws
 pub mod NewTableLaws
 pub mod Depths
 pub mod WithinLaws
+pub mod RewriteLaws

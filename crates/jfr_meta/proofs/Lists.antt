@@ -1,7 +1,7 @@
 -- Members of lists, and two lists whose members are related one by one.
-use Rattle.std.specs.Prelude.{◌≡◌, ℕ, zero, suc, ◌+◌, ◌<◌, Bool, true, false, not, ◌||◌, List, [], ◌∷◌, ◌++◌, length, map, filter, find, Option, Some, None, Contains, slice_get, ◌⊎◌, ⊤, if◌then◌else◌}
-use Rattle.std.specs.List.{AllZip, AllByRecursion, filter_map, cons_option, flat_map, list_any}
-use Rattle.std.proofs.Common.{ap, refl, sym, ◌∙◌, arith, subst, inl, inr}
+use Rattle.std.specs.Prelude.{◌≡◌, suc, Bool, true, false, not, ◌||◌, List, [], ◌∷◌, ◌++◌, length, map, filter, find, Option, Some, None, ◌⊎◌, ⊤, if◌then◌else◌}
+use Rattle.std.specs.List.{AllZip, AllByRecursion, filter_map, cons_option, flat_map}
+use Rattle.std.proofs.Common.{ap, refl, sym, ◌∙◌, subst, inl, inr}
 use Rattle.jfr_worklist.proofs.Members.{In}
 
 pub in_map : {A B : Type 0} (f : A → B) (xs : List A) (x : A) → In xs x → In (map f xs) (f x)

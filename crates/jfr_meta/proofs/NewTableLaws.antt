@@ -10,17 +10,16 @@ use Rattle.std.specs.Ordering.{nat_cmp}
 use Rattle.std.specs.declared.alloc.Global.{Global}
 use Rattle.std.specs.Str.{bytes_eq, chars, encode_utf8_all, IsUtf8}
 use Rattle.std.proofs.Common.{ap, refl, sym, ◌∙◌, subst, inl, inr, append_assoc, append-nil}
-use Rattle.std.proofs.lemmas.Grind.{flat_map-append}
 use Rattle.std.proofs.lemmas.List.{map-append}
 use Rattle.std.proofs.lemmas.Slice.Eq.{bytes_eq-Decides}
 use Rattle.jfr_layout.specs.Names.{value_under}
 use Rattle.jfr_layout.proofs.Numbered.{number_added, number_each, number_found, number_kept}
 use Rattle.jfr_meta.specs.declared.tabling.NewTable.{NewTable}
 use Rattle.jfr_meta.specs.Attributes.{text_at}
-use Rattle.jfr_meta.specs.Trees.{Tree, Node, Trees, Nil, Cons, list_of, trees_of, tree, place_of, name_of, pairs_of, children_of}
-use Rattle.jfr_meta.specs.Slimmed.{with_children, firsts, index_in, uses, all_uses, renumbered, all_renumbered}
+use Rattle.jfr_meta.specs.Trees.{Tree, Node, Trees, Nil, Cons, list_of, trees_of, children_of}
+use Rattle.jfr_meta.specs.Slimmed.{with_children, firsts, index_in, uses, all_uses}
 use Rattle.jfr_meta.specs.NewTables.{has_text, with_text, added, number_in, IsTable, Tabled}
-use Rattle.jfr_worklist.proofs.Members.{In, in_left, in_right}
+use Rattle.jfr_worklist.proofs.Members.{In}
 
 same_text : (x y : List ℕ) → bytes_eq x y ≡ true → x ≡ y
 same_text x y = (bytes_eq-Decides x y).0
@@ -164,39 +163,10 @@ all_pass (x ∷ xs) = ap (λ z. x ∷ z) (all_pass xs)
 pub added_all : (xs : List (List ℕ)) → added [] xs ≡ firsts xs
 added_all xs = added_firsts [] xs ∙ all_pass (firsts xs)
 
--- A tree that is renumbered the same way at each index that it uses.
-module _ (f g : ℕ → ℕ) where
-  abbrev Agrees : List ℕ → Type 0
-  Agrees is = (i : ℕ) → In is i → f i ≡ g i
-
-  abbrev two : ℕ × ℕ → List ℕ
-  two p = p.0 ∷ p.1 ∷ []
-
-  pub same_pairs : (ps : List (ℕ × ℕ)) → Agrees (flat_map two ps) → map {B = ℕ × ℕ} (λ p. (f p.0, f p.1)) ps ≡ map {B = ℕ × ℕ} (λ p. (g p.0, g p.1)) ps
-  same_pairs [] h = refl
-  same_pairs (p ∷ ps) h = λ i. (h p.0 (inl refl) i, h p.1 (inr (inl refl)) i) ∷ same_pairs ps (λ j k. h j (inr (inr k))) i
-
-  mutual
-    pub same_renumbered : (t : Tree) → Agrees (uses t) → renumbered f t ≡ renumbered g t
-    same_renumbered (Node place name pairs children) h =
-        λ i. Node place (h name (inl refl) i) (same_pairs pairs (λ j k. h j (inr (in_left (flat_map two pairs) (all_uses children) j k))) i) (all_same_renumbered children (λ j k. h j (inr (in_right (flat_map two pairs) (all_uses children) j k))) i)
-
-    all_same_renumbered : (ts : Trees) → Agrees (all_uses ts) → all_renumbered f ts ≡ all_renumbered g ts
-    all_same_renumbered Nil h = refl
-    all_same_renumbered (Cons t ts) h = λ i. Cons (same_renumbered t (λ j k. h j (in_left (uses t) (all_uses ts) j k)) i) (all_same_renumbered ts (λ j k. h j (in_right (uses t) (all_uses ts) j k)) i)
-
-  pub same_each : (ts : List Tree) → Agrees (flat_map uses ts) → map (renumbered f) ts ≡ map (renumbered g) ts
-  same_each [] h = refl
-  same_each (t ∷ ts) h = λ i. same_renumbered t (λ j k. h j (in_left (uses t) (flat_map uses ts) j k)) i ∷ same_each ts (λ j k. h j (in_right (uses t) (flat_map uses ts) j k)) i
-
 -- Children as a list.
-uses_each : (ts : List Tree) → all_uses (trees_of ts) ≡ flat_map uses ts
+pub uses_each : (ts : List Tree) → all_uses (trees_of ts) ≡ flat_map uses ts
 uses_each [] = refl
 uses_each (t ∷ ts) = ap (λ z. uses t ++ z) (uses_each ts)
-
-renumbered_each : (f : ℕ → ℕ) (ts : List Tree) → all_renumbered f (trees_of ts) ≡ trees_of (map (renumbered f) ts)
-renumbered_each f [] = refl
-renumbered_each f (t ∷ ts) = ap (λ z. Cons (renumbered f t) z) (renumbered_each f ts)
 
 trees_back : (ts : Trees) → trees_of (list_of ts) ≡ ts
 trees_back Nil = refl
@@ -244,90 +214,6 @@ module _ (texts : List (List ℕ)) where
       let h : has_text b.words (text_at texts i) ≡ true = ap (λ z. has_text z (text_at texts i)) p.words ∙ has_added a.words (map (text_at texts) xs) (text_at texts i) (in_texts xs i j) in
       let r = stays_added b.words (map (text_at texts) ys) (text_at texts i) h in
       sym (ap (λ z. index_in z (text_at texts i)) q.words ∙ r.0)
-
-  -- An element is made of its parts.
-  pub element_made : (t : Tree) (cs : List Tree) (a b c d : NewTable) (name : ℕ) (pairs : List (ℕ × ℕ)) (made : List Tree) → Tabled texts (name_of t ∷ []) a b → Tabled texts (flat_map (λ (p : ℕ × ℕ). p.0 ∷ p.1 ∷ []) (pairs_of t)) b c → Tabled texts (flat_map uses cs) c d
-      → name ≡ number_in b.words texts (name_of t) → pairs ≡ map (λ p. (number_in c.words texts p.0, number_in c.words texts p.1)) (pairs_of t) → made ≡ map (renumbered (number_in d.words texts)) cs
-      → (tree (place_of t) name pairs made ≡ renumbered (number_in d.words texts) (with_children cs t)) × Tabled texts (uses (with_children cs t)) a d
-  element_made (Node place n ps ts) cs a b c d name pairs made p q r e f g = (
-    (λ i. Node place (named i) (paired i) (listed i)),
-    tabled_as (n ∷ [] ++ (flat_map two ps ++ flat_map uses cs)) (n ∷ (flat_map two ps ++ all_uses (trees_of cs))) a d (ap (λ z. n ∷ (flat_map two ps ++ z)) (sym (uses_each cs)))
-        (tabled_then (n ∷ []) (flat_map two ps ++ flat_map uses cs) a b d p rest),
-  )
-    where
-      two : ℕ × ℕ → List ℕ
-      two p = p.0 ∷ p.1 ∷ []
-
-      rest : Tabled texts (flat_map two ps ++ flat_map uses cs) b d
-      rest = tabled_then (flat_map two ps) (flat_map uses cs) b c d q r
-
-      named : name ≡ number_in d.words texts n
-      named = e ∙ number_stays (n ∷ []) (flat_map two ps ++ flat_map uses cs) a b d p rest n (inl refl)
-
-      paired : pairs ≡ map (λ p. (number_in d.words texts p.0, number_in d.words texts p.1)) ps
-      paired = f ∙ same_pairs (number_in c.words texts) (number_in d.words texts) ps (number_stays (flat_map two ps) (flat_map uses cs) b c d q r)
-
-      listed : trees_of made ≡ all_renumbered (number_in d.words texts) (trees_of cs)
-      listed = ap trees_of g ∙ sym (renumbered_each (number_in d.words texts) cs)
-
-  -- The same, with the parts given by equations.
-  pub element_told : (t : Tree) (cs : List Tree) (a b c d : NewTable) (at index name : ℕ) (ps pairs : List (ℕ × ℕ)) (made : List Tree) (result : Tree) → at ≡ place_of t → index ≡ name_of t → ps ≡ pairs_of t → Tabled texts (index ∷ []) a b
-      → Tabled texts (flat_map (λ (p : ℕ × ℕ). p.0 ∷ p.1 ∷ []) ps) b c → Tabled texts (flat_map uses cs) c d → name ≡ number_in b.words texts index → pairs ≡ map (λ p. (number_in c.words texts p.0, number_in c.words texts p.1)) ps
-      → made ≡ map (renumbered (number_in d.words texts)) cs → result ≡ tree at name pairs made → (result ≡ renumbered (number_in d.words texts) (with_children cs t)) × Tabled texts (uses (with_children cs t)) a d
-  element_told t cs a b c d at index name ps pairs made result e1 e2 e3 p q r f g h k =
-      let two : ℕ × ℕ → List ℕ = λ p. p.0 ∷ p.1 ∷ [] in
-      let pair : ℕ × ℕ → ℕ × ℕ = λ p. (number_in c.words texts p.0, number_in c.words texts p.1) in
-      let m = element_made t cs a b c d name pairs made (subst (λ z. Tabled texts (z ∷ []) a b) e2 p) (subst (λ z. Tabled texts (flat_map two z) b c) e3 q) r (f ∙ ap (number_in b.words texts) e2) (g ∙ ap (map pair) e3) h in
-      (k ∙ (ap (λ z. tree z name pairs made) e1 ∙ m.0), m.1)
-
-  -- And with the children that it has.
-  pub same_made : (t u made : Tree) (a d : NewTable) → u ≡ t → (made ≡ renumbered (number_in d.words texts) u) × Tabled texts (uses u) a d → (made ≡ renumbered (number_in d.words texts) t) × Tabled texts (uses t) a d
-  same_made t u made a d e h = subst (λ z. (made ≡ renumbered (number_in d.words texts) z) × Tabled texts (uses z) a d) e h
-
-  -- Elements that are made one after another.
-  pub record Making (ts items : List Tree) (a b : NewTable) : Type 0 where
-    pub made : items ≡ map (renumbered (number_in b.words texts)) ts
-    pub tabled : Tabled texts (flat_map uses ts) a b
-
-  pub making_starts : (made : List Tree) (a : NewTable) → made ≡ [] → IsTable texts a → Making [] made a a
-  making_starts made a e t = record { made = e; tabled = tabled_none a t }
-
-  pub making_next : (ts made : List Tree) (t item : Tree) (later : List Tree) (a b c : NewTable) → Making ts made a b → item ≡ renumbered (number_in c.words texts) t → Tabled texts (uses t) b c → later ≡ made ++ item ∷ [] → Making (ts ++ t ∷ []) later a c
-  making_next ts made t item later a b c m e p l = record {
-    made = l
-        ∙ ((λ i. (m.made ∙ same_each (number_in b.words texts) (number_in c.words texts) ts (number_stays (flat_map uses ts) (uses t) a b c m.tabled p)) i ++ e i ∷ [])
-        ∙ sym (map-append (renumbered (number_in c.words texts)) ts (t ∷ [])));
-    tabled = tabled_as (flat_map uses ts ++ uses t) (flat_map uses (ts ++ t ∷ [])) a c (sym (flat_map-append uses ts (t ∷ []) ∙ ap (λ z. flat_map uses ts ++ z) (append-nil (uses t)))) (tabled_then (flat_map uses ts) (uses t) a b c m.tabled p);
-  }
-
-  pub making_as : (ts us made : List Tree) (a b : NewTable) → ts ≡ us → Making ts made a b → Making us made a b
-  making_as ts us made a b e m = subst (λ z. Making z made a b) e m
-
-  -- Attributes that are made one after another.
-  pub record Pairing (ps items : List (ℕ × ℕ)) (a b : NewTable) : Type 0 where
-    pub made : items ≡ map (λ p. (number_in b.words texts p.0, number_in b.words texts p.1)) ps
-    pub tabled : Tabled texts (flat_map (λ (p : ℕ × ℕ). p.0 ∷ p.1 ∷ []) ps) a b
-
-  pub pairing_starts : (made : List (ℕ × ℕ)) (a : NewTable) → made ≡ [] → IsTable texts a → Pairing [] made a a
-  pairing_starts made a e t = record { made = e; tabled = tabled_none a t }
-
-  pub pairing_next : (ps made : List (ℕ × ℕ)) (p : ℕ × ℕ) (key value : ℕ) (later : List (ℕ × ℕ)) (a b c d : NewTable) → Pairing ps made a b → Tabled texts (p.0 ∷ []) b c → Tabled texts (p.1 ∷ []) c d
-      → key ≡ number_in c.words texts p.0 → value ≡ number_in d.words texts p.1 → later ≡ made ++ (key, value) ∷ [] → Pairing (ps ++ p ∷ []) later a d
-  pairing_next ps made p key value later a b c d m q r e f l = record {
-    made = l
-        ∙ ((λ i. (m.made ∙ same_pairs (number_in b.words texts) (number_in d.words texts) ps (number_stays (flat_map two ps) (p.0 ∷ p.1 ∷ []) a b d m.tabled both)) i ++ ((e ∙ number_stays (p.0 ∷ []) (p.1 ∷ []) b c d q r p.0 (inl refl)) i, f i) ∷ [])
-        ∙ sym (map-append (λ p. (number_in d.words texts p.0, number_in d.words texts p.1)) ps (p ∷ [])));
-    tabled = tabled_as (flat_map two ps ++ two p) (flat_map two (ps ++ p ∷ [])) a d (sym (flat_map-append two ps (p ∷ []))) (tabled_then (flat_map two ps) (two p) a b d m.tabled both);
-  }
-    where
-      two : ℕ × ℕ → List ℕ
-      two p = p.0 ∷ p.1 ∷ []
-
-      both : Tabled texts (p.0 ∷ p.1 ∷ []) b d
-      both = tabled_then (p.0 ∷ []) (p.1 ∷ []) b c d q r
-
-  pub pairing_as : (ps qs made : List (ℕ × ℕ)) (a b : NewTable) → ps ≡ qs → Pairing ps made a b → Pairing qs made a b
-  pairing_as ps qs made a b e m = subst (λ z. Pairing z made a b) e m
 
   -- No table yet.
   pub no_table : (t : NewTable) (count : ℕ) → t.words ≡ [] → t.numbers.items ≡ replicate count None → tree.IsEmpty t.by_text → IsTable texts t

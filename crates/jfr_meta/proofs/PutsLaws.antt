@@ -1,11 +1,11 @@
 -- What is put one after another.
-use Rattle.std.specs.Prelude.{◌≡◌, ◌↔◌, ℕ, zero, suc, ◌+◌, ◌<◌, ◌≤◌, Bool, true, false, not, ◌&&◌, ◌||◌, ◌==◌, nat_lt, List, [], ◌∷◌, ◌++◌, length, take, map, filter, replicate, slice_get, slice_index, Option, Some, None, Ok, IfSome, ◌⊎◌, if◌then◌else◌, codes}
-use Rattle.std.specs.List.{flat_map, filter_map, cons_option, AllByRecursion}
+use Rattle.std.specs.Prelude.{◌≡◌, ◌↔◌, ℕ, zero, suc, ◌+◌, ◌<◌, ◌≤◌, Bool, true, false, not, ◌&&◌, ◌||◌, ◌==◌, nat_lt, List, [], ◌∷◌, ◌++◌, length, take, map, filter, replicate, slice_get, slice_index, Option, Some, None, IfSome, if◌then◌else◌, codes}
+use Rattle.std.specs.List.{flat_map, filter_map, cons_option}
 use Rattle.std.specs.Option.{option_map_or, option_to_list}
-use Rattle.std.proofs.Common.{ap, refl, sym, ◌∙◌, arith, subst, get_or, append-nil, append_assoc}
-use Rattle.std.proofs.lemmas.Bool.{eqb-true, eqb-false, eq-eqb}
+use Rattle.std.proofs.Common.{ap, refl, sym, ◌∙◌, arith, subst, append-nil}
+use Rattle.std.proofs.lemmas.Bool.{eqb-true, eq-eqb}
 use Rattle.std.proofs.lemmas.Bool.Decides.{nat_tests}
-use Rattle.std.proofs.lemmas.List.{length-set, length-replicate, take_all}
+use Rattle.std.proofs.lemmas.List.{length-replicate, take_all}
 use Rattle.std.proofs.lemmas.List.Elements.{filter_map-append}
 use Rattle.std.proofs.lemmas.Grind.{flat_map-append}
 use Rattle.jfr_layout.specs.Classes.{Class, Classes, Sound, class_index, is_event_class}
@@ -14,12 +14,12 @@ use Rattle.jfr_layout.proofs.SoundLaws.{stand_once}
 use Rattle.jfr_meta.specs.Trees.{Tree, Node, Trees, Nil, Cons, list_of, children_of}
 use Rattle.jfr_meta.specs.Described.{id_attribute}
 use Rattle.jfr_worklist.specs.Marks.{add, those, is_marked, IsMarked, marked_at, led_to, swept}
-use Rattle.jfr_worklist.specs.Worklists.{ordered, ordered_all}
+use Rattle.jfr_worklist.specs.Worklists.{ordered_all}
 use Rattle.jfr_worklist.specs.Putting.{Puts}
 use Rattle.jfr_meta.specs.Stays.{below, all_below, ids_below, ids_with, first_ids, next_classes, stay_marks, marked_below}
 use Rattle.jfr_worklist.specs.declared.worklist.Worklist.{Worklist}
-use Rattle.jfr_worklist.proofs.Members.{In, in_those}
-use Rattle.jfr_worklist.proofs.SweepLaws.{Reach, AllBelow, marks_reach}
+use Rattle.jfr_worklist.proofs.Members.{in_those}
+use Rattle.jfr_worklist.proofs.SweepLaws.{AllBelow, marks_reach}
 use Rattle.jfr_worklist.proofs.WalkLaws.{Walking, all_size, walking_ends, started, went_on}
 use Rattle.jfr_meta.proofs.StayLaws.{index_at}
 

@@ -1,23 +1,22 @@
 -- The tree without the class elements that don't stay describes the classes that stay.
-use Rattle.std.specs.Prelude.{◌≡◌, ℕ, zero, suc, ◌+◌, Bool, true, false, not, ◌&&◌, ◌||◌, ◌==◌, List, [], ◌∷◌, ◌++◌, length, map, filter, find, Option, Some, None, is_some, option_map, option_and_then, if◌then◌else◌, codes, slice_get, Contains, ◌⊎◌}
-use Rattle.std.specs.List.{AllZip, AllByRecursion, filter_map, flat_map, list_any, cons_option}
+use Rattle.std.specs.Prelude.{◌≡◌, ℕ, suc, Bool, true, false, ◌&&◌, ◌||◌, ◌==◌, List, [], ◌∷◌, ◌++◌, filter, find, Option, Some, None, is_some, option_map, option_and_then, if◌then◌else◌, codes, slice_get, Contains}
+use Rattle.std.specs.List.{AllByRecursion, filter_map, flat_map, list_any, cons_option}
 use Rattle.std.specs.Option.{option_map_or}
 use Rattle.std.specs.Str.{bytes_eq}
 use Rattle.std.proofs.Common.{ap, refl, sym, ◌∙◌, subst, inl, inr}
-use Rattle.std.proofs.lemmas.Bool.{eqb-true, eqb-false}
+use Rattle.std.proofs.lemmas.Bool.{eqb-true}
 use Rattle.jfr_base.specs.declared.flaw.Flaw.{Flaw}
 use Rattle.jfr_base.specs.declared.reason.Reason.{Reason}
 use Rattle.jfr_base.specs.declared.reason.Reason.TheVariants.{ClassBad}
 use Rattle.jfr_layout.specs.Classes.{Class, Classes, Field, Sound, find_class, has_id}
-use Rattle.jfr_layout.specs.declared.shape.Shape.{Shape}
 use Rattle.jfr_layout.proofs.SoundLaws.{are_known}
-use Rattle.jfr_meta.specs.Trees.{Tree, Node, Trees, Nil, Cons, list_of, trees_of, place_of, name_of, pairs_of, children_of, list_of-trees_of}
+use Rattle.jfr_meta.specs.Trees.{Tree, Node, Trees, Nil, Cons, list_of, name_of, pairs_of, children_of, list_of-trees_of}
 use Rattle.jfr_meta.specs.Attributes.{text_at, attribute, named, first_value, flag_of, values_of}
-use Rattle.jfr_meta.specs.Described.{class_elements, field_elements, id_attribute, class_head, shape_of, field_of, flaw_unless, field_flaws, class_flaws, heads, is_category_id, is_category_head, is_category, annotations_of, category_annotation, categories_of, class_with, class_of, classes_of}
+use Rattle.jfr_meta.specs.Described.{class_elements, field_elements, id_attribute, class_head, shape_of, field_of, flaw_unless, field_flaws, class_flaws, heads, is_category_id, is_category_head, is_category, annotations_of, categories_of, class_with, class_of, classes_of}
 use Rattle.jfr_layout.specs.Staying.{staying, IsClosed}
-use Rattle.jfr_meta.specs.Stays.{below, all_below, ids_below, HasHead, HasNamed}
-use Rattle.jfr_meta.specs.Slimmed.{with_children, is_named, head_stays, element_stays, first_changed, slim_holder, slim_root}
-use Rattle.jfr_worklist.proofs.Members.{In, get_in, in_contains, in_left, in_right}
+use Rattle.jfr_meta.specs.Stays.{below, all_below, ids_below, HasHead}
+use Rattle.jfr_meta.specs.Slimmed.{is_named, head_stays, element_stays, first_changed, slim_holder, slim_root}
+use Rattle.jfr_worklist.proofs.Members.{In, get_in, in_contains, in_right}
 use Rattle.jfr_meta.proofs.Lists.{in_filter, in_filter_map, filter_map_in, all_members, all_in, filter_both, filter_map_filter, same_filter_map, same_find}
 
 -- The first that passes, changed, is the first that passes among those of which it was changed.

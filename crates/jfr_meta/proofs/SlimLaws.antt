@@ -1,16 +1,15 @@
 -- The slim body describes the classes that stay.
-use Rattle.std.specs.Prelude.{◌≡◌, ℕ, ◌≤◌, Bool, true, false, List, [], ◌∷◌, ◌++◌, length, map, filter, Option, Some, None, Result, Ok, Err, option_map, Contains}
+use Rattle.std.specs.Prelude.{◌≡◌, ℕ, Bool, true, List, [], ◌∷◌, ◌++◌, map, filter, Option, Some, None, Ok, option_map, Contains}
 use Rattle.std.specs.List.{AllZip, AllByRecursion, filter_map, flat_map}
 use Rattle.std.proofs.Common.{ap, refl, sym, ◌∙◌, arith, subst}
 use Rattle.jfr_base.specs.declared.flaw.Flaw.{Flaw}
-use Rattle.jfr_layout.specs.Classes.{Class, Classes, ClassFlaw, Sound, class_faults, has_id}
+use Rattle.jfr_layout.specs.Classes.{Classes, Sound, class_faults, has_id}
 use Rattle.jfr_meta.specs.Trees.{Tree, place_of}
 use Rattle.jfr_meta.specs.Body.{Body}
 use Rattle.jfr_meta.specs.Described.{class_elements, class_flaws, class_head, class_of, heads, classes_of, placed, list_flaws, tree_flaws, first_or, classes_told, described}
-use Rattle.jfr_meta.specs.Written.{IsText, HasIndices, depth}
 use Rattle.jfr_meta.proofs.Told.{no_flaws}
-use Rattle.jfr_layout.specs.Staying.{staying, IsClosed}
-use Rattle.jfr_meta.specs.Stays.{ids_below, HasHead, HasNamed}
+use Rattle.jfr_layout.specs.Staying.{staying}
+use Rattle.jfr_meta.specs.Stays.{ids_below, HasHead}
 use Rattle.jfr_meta.specs.Slimmed.{head_stays, slim_root, table_of, retabled, slim_body, IsSlim}
 use Rattle.jfr_layout.proofs.StayingLaws.{staying_sound}
 use Rattle.jfr_meta.proofs.Lists.{Beside, nothing_each, all_filter, filter_map_zip, flat_map_none}

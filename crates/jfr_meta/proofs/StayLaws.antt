@@ -1,17 +1,17 @@
 -- The classes that are marked are the least set with three properties.
-use Rattle.std.specs.Prelude.{◌≡◌, ◌↔◌, ℕ, zero, suc, ◌<◌, Bool, true, false, not, ◌||◌, ◌==◌, List, [], ◌∷◌, length, map, filter, find, Option, Some, None, is_some, option_map, slice_get, Contains, ◌⊎◌, if◌then◌else◌}
-use Rattle.std.specs.List.{AllByRecursion, filter_map, cons_option, flat_map, list_any}
+use Rattle.std.specs.Prelude.{◌≡◌, ◌↔◌, ℕ, zero, suc, Bool, true, false, not, ◌||◌, ◌==◌, List, [], ◌∷◌, length, map, filter, Option, Some, None, option_map, slice_get, Contains}
+use Rattle.std.specs.List.{AllByRecursion, filter_map, cons_option}
 use Rattle.std.specs.Option.{option_map_or}
-use Rattle.std.proofs.Common.{ap, refl, sym, ◌∙◌, arith, subst, inl, inr}
+use Rattle.std.proofs.Common.{ap, refl, sym, ◌∙◌, subst, inl, inr}
 use Rattle.std.proofs.lemmas.Bool.{eqb-true, eq-eqb}
 use Rattle.std.proofs.lemmas.List.Quantifiers.{position-Some}
 use Rattle.std.proofs.lemmas.Option.{slice_get_within, get_or_from_slice_get}
-use Rattle.jfr_layout.specs.Classes.{Class, Classes, Sound, find_class, class_index, has_id, is_event_class}
+use Rattle.jfr_layout.specs.Classes.{Class, Classes, Sound, class_index, has_id, is_event_class}
 use Rattle.jfr_layout.proofs.Lists.{present}
 use Rattle.jfr_layout.proofs.SoundLaws.{stand_once}
 use Rattle.jfr_meta.specs.Trees.{Tree}
 use Rattle.jfr_meta.specs.Described.{class_head, class_flaws, class_with, class_of, classes_of, heads}
-use Rattle.jfr_worklist.specs.Marks.{add, those, is_marked, IsMarked}
+use Rattle.jfr_worklist.specs.Marks.{those, is_marked, IsMarked}
 use Rattle.jfr_meta.specs.Stays.{ids_below, HasHead, HasNamed, IsStay, first_ids, next_classes, stay_marks, stay_of}
 use Rattle.jfr_worklist.proofs.Members.{In, contains_in, in_contains, get_in, those_in, in_those}
 use Rattle.jfr_meta.proofs.Lists.{in_map, in_filter, filter_in, all_in, all_members}

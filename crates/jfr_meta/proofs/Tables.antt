@@ -1,14 +1,14 @@
 -- A tree over the table of the texts that it uses.
-use Rattle.std.specs.Prelude.{◌≡◌, ℕ, zero, suc, ◌+◌, ◌<◌, ◌≤◌, max, Bool, true, false, not, ◌||◌, List, [], ◌∷◌, ◌++◌, length, map, filter, get_or, if◌then◌else◌, ◌⊎◌, codes, ⊤}
+use Rattle.std.specs.Prelude.{◌≡◌, ℕ, zero, suc, ◌<◌, ◌≤◌, max, Bool, true, false, not, List, [], ◌∷◌, length, map, filter, if◌then◌else◌, ◌⊎◌, codes}
 use Rattle.std.specs.List.{AllZip, AllByRecursion, flat_map}
-use Rattle.std.specs.Str.{bytes_eq, chars, IsUtf8}
-use Rattle.std.proofs.Common.{ap, refl, sym, ◌∙◌, arith, subst, inl, inr}
+use Rattle.std.specs.Str.{bytes_eq}
+use Rattle.std.proofs.Common.{ap, refl, sym, ◌∙◌, arith, inl, inr}
 use Rattle.std.proofs.lemmas.Slice.Eq.{bytes_eq-Decides}
 use Rattle.std.proofs.lemmas.Str.{chars-nil}
-use Rattle.jfr_meta.specs.Trees.{Tree, Node, Trees, Nil, Cons, list_of, trees_of, place_of, name_of, pairs_of, children_of}
+use Rattle.jfr_meta.specs.Trees.{Tree, Node, Trees, Nil, Cons, list_of, trees_of}
 use Rattle.jfr_meta.specs.Attributes.{text_at}
 use Rattle.jfr_meta.specs.Written.{IsText, HasIndices, HaveIndices, depth, depths}
-use Rattle.jfr_meta.specs.Slimmed.{with_children, is_named, element_stays, first_changed, slim_holder, slim_root, uses, all_uses, firsts, table_of, index_in, renumbered, all_renumbered, retabled}
+use Rattle.jfr_meta.specs.Slimmed.{is_named, element_stays, first_changed, slim_holder, slim_root, uses, all_uses, firsts, table_of, index_in, renumbered, all_renumbered, retabled}
 use Rattle.jfr_worklist.proofs.Members.{In, in_left, in_right}
 use Rattle.jfr_meta.proofs.Lists.{in_map, filter_in, all_filter}
 use Rattle.jfr_meta.proofs.Alike.{Alike, AllAlike, SamePair}

@@ -1,17 +1,17 @@
 -- A record that is written if there is room for it.
-use Rattle.std.specs.Prelude.{◌≡◌, ℕ, ◌+◌, ◌^◌, ◌<◌, ◌≤◌, Bool, true, false, not, ◌&&◌, ◌||◌, nat_lt, nat_le, List, [], ◌∷◌, ◌++◌, length, map, filter, take, Option, Some, None, option_map, Result, Ok, Err, IfOk, IfSome, slice_get, if◌then◌else◌, codes}
-use Rattle.std.specs.List.{AllByRecursion, list_all, list_any, flat_map}
+use Rattle.std.specs.Prelude.{◌≡◌, ℕ, ◌+◌, ◌^◌, ◌<◌, ◌≤◌, Bool, true, false, not, ◌&&◌, ◌||◌, nat_lt, nat_le, List, [], ◌∷◌, ◌++◌, length, map, take, Option, Some, None, Result, Ok, Err, IfOk, IfSome, slice_get, if◌then◌else◌}
+use Rattle.std.specs.List.{AllByRecursion, list_all, list_any}
 use Rattle.std.specs.Str.{chars}
 use lib.Utf8.{scalars}
 use Rattle.std.proofs.lemmas.Str.{chars-encodes}
-use Rattle.std.proofs.Common.{ap, refl, sym, ◌∙◌, subst, arith, length-append}
+use Rattle.std.proofs.Common.{ap, refl, sym, ◌∙◌, arith, length-append}
 use Rattle.std.proofs.lemmas.Bool.Decides.{nat_tests}
 use Rattle.jfr_base.specs.Integer.{spell_in}
 use Rattle.jfr_meta.specs.Attributes.{text_at}
 use Rattle.jfr_meta.specs.Trees.{Tree}
 use Rattle.jfr_meta.specs.Body.{Body}
-use Rattle.jfr_meta.specs.Written.{HasIndices, IsText, ReadsBack, body_bytes, depth, record_bytes, table_bytes}
-use Rattle.jfr_meta.specs.Slimmed.{bytes_of_body, first_changed, is_named, renumbered, retabled, slim_body, slim_holder, slim_in, slim_root, table_len, table_of, uses}
+use Rattle.jfr_meta.specs.Written.{HasIndices, IsText, body_bytes, depth, record_bytes, table_bytes}
+use Rattle.jfr_meta.specs.Slimmed.{first_changed, renumbered, retabled, slim_body, slim_in, slim_root, table_of, uses}
 use Rattle.jfr_meta.specs.NewTables.{added, number_in}
 use Rattle.jfr_meta.proofs.Judging.{take_next}
 use Rattle.jfr_meta.proofs.NewTableLaws.{added_all}
@@ -58,17 +58,6 @@ if_ok_some P Q (Ok (Some x)) f h = f x h
 if_ok_some P Q (Err e) f h = h
 
 -- One member more.
-pub filter_next : {A : Type 0} (p : A → Bool) (xs : List A) (i : ℕ) (x : A) → slice_get xs i ≡ Some x → p x ≡ true → filter p (take i xs) ++ x ∷ [] ≡ filter p (take (i + 1) xs)
-filter_next p xs i x e t = sym (ap (filter p) (take_next xs i x e) ∙ (filter_append (take i xs) ∙ ap (λ b. filter p (take i xs) ++ (if b then x ∷ [] else [])) t))
-  where
-    filter_append : (ys : List _) → filter p (ys ++ x ∷ []) ≡ filter p ys ++ filter p (x ∷ [])
-    filter_append [] = refl
-    filter_append (y ∷ ys) = by_test (p y) (filter_append ys)
-      where
-        by_test : (b : Bool) → filter p (ys ++ x ∷ []) ≡ filter p ys ++ filter p (x ∷ []) → (if b then y ∷ filter p (ys ++ x ∷ []) else filter p (ys ++ x ∷ [])) ≡ (if b then y ∷ filter p ys else filter p ys) ++ filter p (x ∷ [])
-        by_test true f = ap (λ z. y ∷ z) f
-        by_test false f = f
-
 pub any_next : {A : Type 0} (p : A → Bool) (xs : List A) (i : ℕ) (x : A) → slice_get xs i ≡ Some x → (list_any p (take i xs) || p x) ≡ list_any p (take (i + 1) xs)
 any_next p xs i x e = sym (ap (list_any p) (take_next xs i x e) ∙ any_append (take i xs))
   where

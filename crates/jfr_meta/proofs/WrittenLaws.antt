@@ -7,7 +7,7 @@ use Rattle.std.proofs.lemmas.Str.{encodes-chars, chars-nil}
 use Rattle.jfr_base.specs.Integer.{spell, spell_in}
 use Rattle.jfr_meta.specs.Trees.{Tree, Node, Trees, Nil, Cons, list_of, name_of, pairs_of, children_of, count, counts, counts_of}
 use Rattle.jfr_meta.specs.Body.{how_many}
-use Rattle.jfr_meta.specs.Written.{text_bytes, pair_bytes, tree_bytes, trees_bytes, table_bytes, body_bytes, record_bytes, capped}
+use Rattle.jfr_meta.specs.Written.{text_bytes, pair_bytes, tree_bytes, trees_bytes, table_bytes, body_bytes, opening_bytes, record_bytes, capped}
 use Rattle.jfr_meta.proofs.Texts.{no_length}
 
 -- Children are fewer than the element with them.
@@ -104,13 +104,22 @@ body_measured start duration id strings root =
     let c = spell (length strings) in
     omega (arith, length-append (spell start) (spell duration ++ (spell id ++ (c ++ t))), length-append (spell duration) (spell id ++ (c ++ t)), length-append (spell id) (c ++ t), length-append c t)
 
-pub body_written : (o : List ℕ) (start duration id : ℕ) (strings : List (List ℕ)) (root : Tree)
-    → (((((o ++ spell start) ++ spell duration) ++ spell id) ++ spell (length strings)) ++ flat_map text_bytes strings) ++ tree_bytes root ≡ o ++ body_bytes start duration id strings root
-body_written o start duration id strings root = simp append_assoc
+opening_parts : (o a s d i n x : List ℕ) → (((((((o ++ a) ++ 0 ∷ []) ++ s) ++ d) ++ i) ++ n) ++ x) ≡ o ++ (a ++ (0 ∷ (s ++ (d ++ (i ++ (n ++ x))))))
+opening_parts o a s d i n x = simp append_assoc
 
-pub record_written : (size start duration id : ℕ) (strings : List (List ℕ)) (root : Tree) (p q r : List ℕ) → p ≡ [] ++ spell_in 5 size → q ≡ p ++ 0 ∷ [] → r ≡ q ++ body_bytes start duration id strings root
+pub opening_steps : (size start duration id n : ℕ) (strings : List (List ℕ)) (o p q r s t u v : List ℕ) → p ≡ o ++ spell_in 5 size → q ≡ p ++ 0 ∷ [] → r ≡ q ++ spell start → s ≡ r ++ spell duration → t ≡ s ++ spell id
+    → u ≡ t ++ spell n → n ≡ length strings → v ≡ u ++ flat_map text_bytes strings → v ≡ o ++ opening_bytes size start duration id strings
+opening_steps size start duration id n strings o p q r s t u v e1 e2 e3 e4 e5 e6 e7 e8 =
+    let k : v ≡ ((((((o ++ spell_in 5 size) ++ 0 ∷ []) ++ spell start) ++ spell duration) ++ spell id) ++ spell (length strings)) ++ flat_map text_bytes strings = cc in
+    k ∙ opening_parts o (spell_in 5 size) (spell start) (spell duration) (spell id) (spell (length strings)) (flat_map text_bytes strings)
+
+tree_after : (a s d i n x t : List ℕ) → (a ++ (0 ∷ (s ++ (d ++ (i ++ (n ++ x)))))) ++ t ≡ a ++ (0 ∷ (s ++ (d ++ (i ++ (n ++ (x ++ t))))))
+tree_after a s d i n x t = simp append_assoc
+
+-- The opening and the tree are the record.
+pub record_written : (size start duration id : ℕ) (strings : List (List ℕ)) (root : Tree) (o p r tree : List ℕ) → o ≡ [] → p ≡ o ++ opening_bytes size start duration id strings → r ≡ p ++ tree → tree ≡ tree_bytes root
     → size ≡ 6 + length (body_bytes start duration id strings root) → r ≡ record_bytes start duration id strings root
-record_written size start duration id strings root p q r e f g h =
+record_written size start duration id strings root o p r tree n e f g h =
     let b = body_bytes start duration id strings root in
-    let k : r ≡ (spell_in 5 size ++ 0 ∷ []) ++ b = cc in
-    k ∙ (append_assoc (spell_in 5 size) (0 ∷ []) b ∙ ap (λ z. spell_in 5 z ++ (0 ∷ b)) h)
+    let k : r ≡ opening_bytes size start duration id strings ++ tree_bytes root = f ∙ (λ i. (e ∙ ap (λ z. z ++ opening_bytes size start duration id strings) n) i ++ g i) in
+    k ∙ (tree_after (spell_in 5 size) (spell start) (spell duration) (spell id) (spell (length strings)) (flat_map text_bytes strings) (tree_bytes root) ∙ ap (λ z. spell_in 5 z ++ (0 ∷ b)) h)

@@ -12,3 +12,4 @@ pub mod Stays
 pub mod Held
 pub mod Slimmed
 pub mod NewTables
+pub mod Rewritten

@@ -1,18 +1,17 @@
 -- The metadata record with only the class elements of a set of ids, and a table of only the strings that it
 -- uses.
-use Rattle.std.specs.Prelude.{◌≡◌, ℕ, suc, ◌+◌, ◌^◌, ◌<◌, ◌≤◌, Bool, true, false, not, ◌&&◌, ◌||◌, nat_lt, nat_le, List, [], ◌∷◌, ◌++◌, length, map, filter, Option, Some, None, Result, Ok, if◌then◌else◌, codes}
+use Rattle.std.specs.Prelude.{◌≡◌, ℕ, suc, ◌+◌, ◌^◌, ◌≤◌, Bool, false, not, ◌&&◌, ◌||◌, nat_lt, nat_le, List, [], ◌∷◌, ◌++◌, length, map, filter, Option, Some, None, Ok, if◌then◌else◌, codes}
 use Rattle.std.specs.List.{flat_map, AllByRecursion}
 use Rattle.std.specs.Option.{option_map_or}
 use Rattle.std.specs.Str.{bytes_eq}
 use Rattle.jfr_base.specs.Integer.{spell_in}
-use Rattle.jfr_layout.specs.Classes.{Class, Classes}
-use Rattle.jfr_meta.specs.Trees.{Tree, Node, Trees, Nil, Cons, place_of, name_of, pairs_of, children_of, tree, list_of, trees_of}
+use Rattle.jfr_layout.specs.Classes.{Classes}
+use Rattle.jfr_meta.specs.Trees.{Tree, Node, Trees, Nil, Cons, place_of, name_of, pairs_of, children_of, tree}
 use Rattle.jfr_meta.specs.Attributes.{text_at}
 use Rattle.jfr_meta.specs.Body.{Body}
-use Rattle.jfr_meta.specs.Described.{class_head, class_elements, described}
+use Rattle.jfr_meta.specs.Described.{class_head, described}
 use Rattle.jfr_meta.specs.Written.{IsText, HasIndices, depth, body_bytes, table_bytes}
 use Rattle.jfr_layout.specs.Staying.{staying}
-use Rattle.jfr_meta.specs.Stays.{HasNamed}
 
 -- The element with these children in place of its own.
 abbrev pub with_children : List Tree → Tree → Tree

@@ -51,6 +51,10 @@ body_bytes start duration id strings root = spell start ++ (spell duration ++ (s
 abbrev pub record_bytes : ℕ → ℕ → ℕ → List (List ℕ) → Tree → List ℕ
 record_bytes start duration id strings root = spell_in 5 (6 + length (body_bytes start duration id strings root)) ++ (0 ∷ body_bytes start duration id strings root)
 
+-- What precedes the tree in a record of this size.
+abbrev pub opening_bytes : ℕ → ℕ → ℕ → ℕ → List (List ℕ) → List ℕ
+opening_bytes size start duration id strings = spell_in 5 size ++ (0 ∷ (spell start ++ (spell duration ++ (spell id ++ (spell (length strings) ++ flat_map text_bytes strings)))))
+
 -- The number of levels of a tree.
 abbrev mutual
   pub depth : Tree → ℕ

@@ -29,6 +29,16 @@ const PAIR_LEN: usize = 2;
 /// The fewest bytes that an element can have.
 const ELEMENT_LEN: usize = 3;
 
+/// What reading the tree of a body needs: the bytes of the body, which ends at `end`, and the number of its
+/// strings.
+#[derive(Clone, Copy)]
+struct Reader<'a> {
+    alloc: Global,
+    bytes: &'a [u8],
+    end: usize,
+    strings: u64,
+}
+
 /// The integers before the strings, and the offset after them.
 #[derive(Clone, Copy)]
 struct Head {
@@ -72,7 +82,13 @@ pub(crate) fn read_body(
 {
     let head = read_head(bytes, at, end)?;
     let (strings, place) = read_strings(alloc, bytes, head.end, end, head.count)?;
-    let (root, place) = read_element(alloc, bytes, place, end, head.count, LEVELS)?;
+    let reader = Reader {
+        alloc,
+        bytes,
+        end,
+        strings: head.count,
+    };
+    let (root, place) = read_element(reader, place, LEVELS)?;
     if place < end {
         return Err(ReadFault::Flawed(Flaw {
             offset: place as u64,
@@ -88,15 +104,15 @@ pub(crate) fn read_body(
     })
 }
 
-/// Reads an index into a table of `limit` strings.
-fn read_index(bytes: &[u8], at: usize, end: usize, limit: u64) -> Result<Var, Flaw>
-    requires order { at ≤ end }
-    requires within { end ≤ length bytes.now }
-    ensures exact { var_answer result ≡ run (index limit) bytes.now end at }
-    ensures range { IfOk result (λ v. (at < v.end) × (v.end ≤ end)) }
+/// Reads an index into the table of strings.
+fn read_index(reader: Reader<'_>, at: usize) -> Result<Var, Flaw>
+    requires order { at ≤ reader.end }
+    requires within { reader.end ≤ length reader.bytes.now }
+    ensures exact { var_answer result ≡ run (index reader.entry.strings) reader.entry.bytes.now reader.entry.end at }
+    ensures range { IfOk result (λ v. (at < v.end) × (v.end ≤ reader.entry.end)) }
 {
-    let index = read_within(bytes, at, end)?;
-    if index.value < limit {
+    let index = read_within(reader.bytes, at, reader.end)?;
+    if index.value < reader.strings {
         Ok(index)
     } else {
         Err(Flaw {
@@ -108,25 +124,18 @@ fn read_index(bytes: &[u8], at: usize, end: usize, limit: u64) -> Result<Var, Fl
 
 /// Reads `count` attributes. Allocates at once for the most attributes that the bytes left can hold, so that
 /// the list never grows.
-fn read_pairs(
-    alloc: Global,
-    bytes: &[u8],
-    at: usize,
-    end: usize,
-    limit: u64,
-    count: u64,
-) -> Result<(Pairs, usize), ReadFault>
-    requires order { at ≤ end }
-    requires within { end ≤ length bytes.now }
-    ensures exact { Tells (run (times count (pair limit)) bytes.now end at) result }
-    ensures range { IfOk result (λ r. (at ≤ r.1) × (r.1 ≤ end)) }
+fn read_pairs(reader: Reader<'_>, at: usize, count: u64) -> Result<(Pairs, usize), ReadFault>
+    requires order { at ≤ reader.end }
+    requires within { reader.end ≤ length reader.bytes.now }
+    ensures exact { Tells (run (times count (pair reader.entry.strings)) reader.entry.bytes.now reader.entry.end at) result }
+    ensures range { IfOk result (λ r. (at ≤ r.1) × (r.1 ≤ reader.entry.end)) }
 {
-    let room = count.min(((end - at) / PAIR_LEN) as u64) as usize;
-    let mut pairs = Pairs::with_room(alloc, room)?;
+    let room = count.min(((reader.end - at) / PAIR_LEN) as u64) as usize;
+    let mut pairs = Pairs::with_room(reader.alloc, room)?;
     let mut place = at;
     for _ in 0..count {
-        let key = read_index(bytes, place, end, limit)?;
-        let value = read_index(bytes, key.end, end, limit)?;
+        let key = read_index(reader, place)?;
+        let value = read_index(reader, key.end)?;
         pairs.push(key.value, value.value)?;
         place = value.end;
     }
@@ -135,18 +144,11 @@ fn read_pairs(
 
 /// Reads the element that starts at `at` and has at most `levels` levels.
 #[cycle(elements)]
-fn read_element(
-    alloc: Global,
-    bytes: &[u8],
-    at: usize,
-    end: usize,
-    limit: u64,
-    levels: u32,
-) -> Result<(Element, usize), ReadFault>
-    requires order { at ≤ end }
-    requires within { end ≤ length bytes.now }
-    ensures exact { Tells (run (element_format levels limit) bytes.now end at) result }
-    ensures range { IfOk result (λ r. (at ≤ r.1) × (r.1 ≤ end)) }
+fn read_element(reader: Reader<'_>, at: usize, levels: u32) -> Result<(Element, usize), ReadFault>
+    requires order { at ≤ reader.end }
+    requires within { reader.end ≤ length reader.bytes.now }
+    ensures exact { Tells (run (element_format levels reader.entry.strings) reader.entry.bytes.now reader.entry.end at) result }
+    ensures range { IfOk result (λ r. (at ≤ r.1) × (r.1 ≤ reader.entry.end)) }
 {
     if levels == 0 {
         return Err(ReadFault::Flawed(Flaw {
@@ -154,19 +156,11 @@ fn read_element(
             reason: Reason::TreeDeep,
         }));
     }
-    let name = read_index(bytes, at, end, limit)?;
-    let attributes = read_within(bytes, name.end, end)?;
-    let (pairs, place) = read_pairs(alloc, bytes, attributes.end, end, limit, attributes.value)?;
-    let count = read_within(bytes, place, end)?;
-    let (children, place) = read_elements(
-        alloc,
-        bytes,
-        count.end,
-        end,
-        limit,
-        count.value,
-        levels - 1,
-    )?;
+    let name = read_index(reader, at)?;
+    let attributes = read_within(reader.bytes, name.end, reader.end)?;
+    let (pairs, place) = read_pairs(reader, attributes.end, attributes.value)?;
+    let count = read_within(reader.bytes, place, reader.end)?;
+    let (children, place) = read_elements(reader, count.end, count.value, levels - 1)?;
     Ok((Element::new(at, name.value, pairs, children), place))
 }
 
@@ -174,24 +168,21 @@ fn read_element(
 /// the bytes left can hold, so that the list never grows.
 #[cycle(elements)]
 fn read_elements(
-    alloc: Global,
-    bytes: &[u8],
+    reader: Reader<'_>,
     at: usize,
-    end: usize,
-    limit: u64,
     count: u64,
     levels: u32,
 ) -> Result<(Elements, usize), ReadFault>
-    requires order { at ≤ end }
-    requires within { end ≤ length bytes.now }
-    ensures exact { Tells (run (times count (element_format levels limit)) bytes.now end at) result }
-    ensures range { IfOk result (λ r. (at ≤ r.1) × (r.1 ≤ end)) }
+    requires order { at ≤ reader.end }
+    requires within { reader.end ≤ length reader.bytes.now }
+    ensures exact { Tells (run (times count (element_format levels reader.entry.strings)) reader.entry.bytes.now reader.entry.end at) result }
+    ensures range { IfOk result (λ r. (at ≤ r.1) × (r.1 ≤ reader.entry.end)) }
 {
-    let room = count.min(((end - at) / ELEMENT_LEN) as u64) as usize;
-    let mut elements = Elements::with_room(alloc, room)?;
+    let room = count.min(((reader.end - at) / ELEMENT_LEN) as u64) as usize;
+    let mut elements = Elements::with_room(reader.alloc, room)?;
     let mut place = at;
     for _ in 0..count {
-        let (element, next) = read_element(alloc, bytes, place, end, limit, levels)?;
+        let (element, next) = read_element(reader, place, levels)?;
         elements.push(element)?;
         place = next;
     }

@@ -20,6 +20,7 @@ mod metadata;
 mod named;
 mod names;
 mod pairs;
+mod rewriting;
 mod slimming;
 mod stay;
 mod strings;

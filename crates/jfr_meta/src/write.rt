@@ -3,7 +3,7 @@ ghost use Rattle.std.specs.Prelude.{◌≡◌, ◌+◌, ◌-◌, ◌^◌, ◌<�
 ghost use Rattle.std.specs.List.{flat_map, AllByRecursion};
 ghost use Rattle.std.specs.Str.{chars};
 ghost use Rattle.jfr_base.specs.Integer.{spell, spell_in, FitsIn};
-ghost use Rattle.jfr_meta.specs.Written.{IsText, text_bytes, pair_bytes, tree_bytes, table_bytes, body_bytes, record_bytes, capped, depth, HasIndices, ReadsBack};
+ghost use Rattle.jfr_meta.specs.Written.{IsText, text_bytes, pair_bytes, tree_bytes, table_bytes, opening_bytes, record_bytes, capped, depth, HasIndices, ReadsBack};
 
 use crate::attributes::text_at;
 use crate::{Element, Elements, Pairs};
@@ -15,7 +15,15 @@ use std::alloc::{AllocError, Global};
 /// The number of bytes that the size of a record takes.
 const SIZE_LEN: usize = 5;
 
-fn push_integer(out: &mut Vec<u8>, value: u64) -> Result<(), AllocError>
+/// The integers of a body before its strings, except for their number.
+#[derive(Clone, Copy)]
+pub(crate) struct Stamp {
+    pub start: u64,
+    pub duration: u64,
+    pub id: u64,
+}
+
+pub(crate) fn push_integer(out: &mut Vec<u8>, value: u64) -> Result<(), AllocError>
     ensures ok { OnOk result (out.new.items ≡ out.old.items ++ spell value) }
 {
     let mut spelled = [0; 9];
@@ -98,7 +106,7 @@ fn text_len(text: &str) -> u64
     len.saturating_add(var_len(len) as u64 + 1)
 }
 
-fn texts_len(strings: &Words) -> u64
+pub(crate) fn texts_len(strings: &Words) -> u64
     ensures { result ≡ capped (length (flat_map text_bytes strings.now)) }
 {
     let mut len: u64 = 0;
@@ -152,23 +160,25 @@ pub fn metadata_len(strings: &Words, root: &Element) -> u64
     texts_len(strings).saturating_add(element_len(root))
 }
 
-fn push_body(
+/// Writes all of a record of `size` bytes before its tree.
+pub(crate) fn push_opening(
     out: &mut Vec<u8>,
-    start: u64,
-    duration: u64,
-    id: u64,
+    size: u64,
+    stamp: Stamp,
     strings: &Words,
-    root: &Element,
 ) -> Result<(), AllocError>
+    requires { FitsIn size 5 }
     ensures texts { OnOk result (AllByRecursion IsText strings.now) }
-    ensures ok { OnOk result (out.new.items ≡ out.old.items ++ body_bytes start duration id strings.now root.now) }
+    ensures ok { OnOk result (out.new.items ≡ out.old.items ++ opening_bytes size stamp.start stamp.duration stamp.id strings.now) }
 {
-    push_integer(out, start)?;
-    push_integer(out, duration)?;
-    push_integer(out, id)?;
+    push_size(out, size)?;
+    // The type is its own spelling.
+    out.push(METADATA_TYPE as u8)?;
+    push_integer(out, stamp.start)?;
+    push_integer(out, stamp.duration)?;
+    push_integer(out, stamp.id)?;
     push_integer(out, strings.len() as u64)?;
-    push_texts(out, strings)?;
-    push_element(out, root)
+    push_texts(out, strings)
 }
 
 /// The metadata record with these strings and this tree. Its size takes five bytes; every other integer has
@@ -192,10 +202,13 @@ pub fn write_metadata(
     let count = strings.len() as u64;
     let head = var_len(start) + var_len(duration) + var_len(id) + var_len(count);
     let size = metadata_len(strings, root) + head as u64 + 6;
-    let mut out = Vec::new(alloc);
-    push_size(&mut out, size)?;
-    // The type is its own spelling.
-    out.push(METADATA_TYPE as u8)?;
-    push_body(&mut out, start, duration, id, strings, root)?;
+    let stamp = Stamp {
+        start,
+        duration,
+        id,
+    };
+    let mut out = Vec::with_capacity(alloc, size as usize)?;
+    push_opening(&mut out, size, stamp, strings)?;
+    push_element(&mut out, root)?;
     Ok(out)
 }

@@ -10,4 +10,4 @@ abbrev pub decreases-read_elements : goal.decreases-read_elements
 decreases-read_elements l = 2 * l.levels + 1
 
 abbrev pub invariant-read_elements-loop : goal.invariant-read_elements-loop
-invariant-read_elements-loop l = Reading (element_format l.levels l.limit) l.bytes l.end l.at l.count l.counter l.place l.elements
+invariant-read_elements-loop l = Reading (element_format l.levels l.reader.strings) l.reader.bytes.now l.reader.end l.at l.count l.counter l.place l.elements

@@ -3,4 +3,4 @@ use Rattle.jfr_meta.proofs.Runs.{Reading}
 use Rattle.jfr_meta.proofs.body.read_pairs.Given as goal
 
 abbrev pub invariant-loop : goal.invariant-loop
-invariant-loop l = Reading (pair l.limit) l.bytes l.end l.at l.count l.counter l.place l.pairs
+invariant-loop l = Reading (pair l.reader.strings) l.reader.bytes.now l.reader.end l.at l.count l.counter l.place l.pairs

@@ -1,5 +1,3 @@
-use Rattle.std.proofs.Common.{◌≡◌, true, false}
-use Rattle.jfr_worklist.specs.Marks.{is_marked}
 use Rattle.jfr_meta.specs.Stays.{is_in}
 use Rattle.jfr_meta.proofs.PutsLaws.{added, not_added}
 use Rattle.jfr_meta.proofs.stay.add_marked.Goals as goal

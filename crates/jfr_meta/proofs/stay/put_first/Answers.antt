@@ -1,4 +1,4 @@
-use Rattle.std.proofs.Common.{◌≡◌, ◌<◌, ◌≤◌, length, arith, ◌∙◌}
+use Rattle.std.proofs.Common.{arith, ◌∙◌}
 use Rattle.jfr_meta.specs.Stays.{is_in}
 use Rattle.jfr_meta.proofs.PutsLaws.{puts_none, first_next, first_end, first_size}
 use Rattle.jfr_meta.proofs.stay.put_first.Goals as goal

@@ -1,0 +1,101 @@
+//! Writing a tree of elements with indices into a new table of strings.
+ghost use Rattle.std.specs.Prelude.{[], ◌∷◌, length, map, OnOk};
+ghost use Rattle.jfr_base.specs.Integer.{spell};
+ghost use Rattle.jfr_meta.specs.NewTables.{IsTable};
+ghost use Rattle.jfr_meta.specs.Rewritten.{Wrote, WroteHead, WrotePairs, WroteTree, WroteTrees};
+
+use crate::tabling::NewTable;
+use crate::write::push_integer;
+use crate::{Element, Elements, Pairs};
+use jfr_base::{NoMemory, Words};
+use std::alloc::Global;
+
+/// The bytes of a tree so far, and the table of strings to which its indices lead. Each index of the old
+/// table is replaced as it is written, so that no second tree is made.
+#[derive(Drop)]
+pub(crate) struct NewTree<'a> {
+    pub alloc: Global,
+    pub table: NewTable<'a>,
+    pub bytes: Vec<u8>,
+}
+
+/// Writes the new index of the string with an old one.
+fn push_index<'a>(tree: &mut NewTree<'a>, strings: &'a Words, index: u64) -> Result<(), NoMemory>
+    requires { IsTable strings.now tree.old.table }
+    ensures ok { OnOk result (Wrote strings.now (index ∷ []) (λ f. spell (f index)) tree.old tree.new) }
+{
+    let number = tree.table.number(tree.alloc, strings, index)?;
+    push_integer(&mut tree.bytes, number)?;
+    Ok(())
+}
+
+fn push_pairs<'a>(tree: &mut NewTree<'a>, strings: &'a Words, pairs: &Pairs) -> Result<(), NoMemory>
+    requires { IsTable strings.now tree.old.table }
+    ensures ok { OnOk result (WrotePairs strings.now pairs.now tree.old tree.new) }
+{
+    for pair in pairs.as_slice() {
+        push_index(tree, strings, pair.0)?;
+        push_index(tree, strings, pair.1)?;
+    }
+    Ok(())
+}
+
+/// Writes all of an element before its children, of which it has this number.
+pub(crate) fn push_head<'a>(
+    tree: &mut NewTree<'a>,
+    strings: &'a Words,
+    element: &Element,
+    children: usize,
+) -> Result<(), NoMemory>
+    requires { IsTable strings.now tree.old.table }
+    ensures ok { OnOk result (WroteHead strings.now element.now children tree.old tree.new) }
+{
+    push_index(tree, strings, element.name())?;
+    push_integer(&mut tree.bytes, element.attributes().len() as u64)?;
+    push_pairs(tree, strings, element.attributes())?;
+    push_integer(&mut tree.bytes, children as u64)?;
+    Ok(())
+}
+
+#[cycle(rewriting)]
+pub(crate) fn push_element<'a>(
+    tree: &mut NewTree<'a>,
+    strings: &'a Words,
+    element: &Element,
+) -> Result<(), NoMemory>
+    requires { IsTable strings.now tree.old.table }
+    ensures ok { OnOk result (WroteTree strings.now element.now tree.old tree.new) }
+{
+    push_head(tree, strings, element, element.children().len())?;
+    push_elements(tree, strings, element.children())
+}
+
+#[cycle(rewriting)]
+fn push_elements<'a>(
+    tree: &mut NewTree<'a>,
+    strings: &'a Words,
+    elements: &Elements,
+) -> Result<(), NoMemory>
+    requires { IsTable strings.now tree.old.table }
+    ensures ok { OnOk result (WroteTrees strings.now elements.now tree.old tree.new) }
+{
+    for element in elements.as_slice() {
+        push_element(tree, strings, element)?;
+    }
+    Ok(())
+}
+
+/// Writes some of the children of an element.
+pub(crate) fn push_each<'a>(
+    tree: &mut NewTree<'a>,
+    strings: &'a Words,
+    elements: &[&Element],
+) -> Result<(), NoMemory>
+    requires { IsTable strings.now tree.old.table }
+    ensures ok { OnOk result (WroteTrees strings.now (map (λ e. e.now) elements.now) tree.old tree.new) }
+{
+    for element in elements {
+        push_element(tree, strings, element)?;
+    }
+    Ok(())
+}
