@@ -109,9 +109,12 @@ class_of texts hs t = option_map (class_with texts hs t) (class_head texts t)
 unfoldable pub classes_of : List (List ℕ) → List Tree → Classes
 classes_of texts ts = filter_map (class_of texts (heads texts ts)) ts
 
--- The strings with these indices are the name of the class, and its categories in order.
+-- The strings with these indices are the name of the class, that of its super type if it has one, those of its
+-- fields in order, and its categories in order.
 pub record IsNamedBy (texts : List (List ℕ)) (class : Class) (names : ClassNames) : Type 0 where
   pub name : text_at texts names.name ≡ class.name
+  pub super_name : option_map (text_at texts) names.super_name ≡ class.super_name
+  pub fields : map (text_at texts) names.fields.items ≡ map (λ f. f.name) class.fields
   pub categories : map (text_at texts) names.categories.items ≡ class.categories
 
 -- The offset of a class element, or of its field element with this number.

@@ -1,27 +1,67 @@
 //! The strings that name the classes of a chunk.
-ghost use Rattle.std.specs.Prelude.{◌≡◌, ◌++◌, ℕ, List, Ok, map, IfOk, OnOk};
-ghost use Rattle.std.specs.List.{AllZip};
+ghost use Rattle.std.specs.Prelude.{◌≡◌, ◌++◌, ℕ, List, Ok, map, option_map, IfOk, OnOk};
+ghost use Rattle.std.specs.List.{AllZip, filter_map};
 ghost use Rattle.std.specs.Option.{option_to_list};
 ghost use Rattle.jfr_layout.specs.Classes.{Classes};
-ghost use Rattle.jfr_meta.specs.Described.{AreCategoryIds, IsNamedBy, class_elements, class_of, classes_of, classes_told};
+ghost use Rattle.jfr_meta.specs.Attributes.{text_at};
+ghost use Rattle.jfr_meta.specs.Described.{AreCategoryIds, IsNamedBy, class_elements, class_of, classes_of, classes_told, field_elements, field_of};
 ghost use Rattle.jfr_meta.specs.Trees.{place_of};
 
 use crate::Element;
 use crate::attributes::attribute_index;
 use crate::class::{category_ids, category_indices, class_head};
 use crate::described::class_elements;
+use crate::field::{named, shape_of};
 use jfr_base::{NoMemory, Words};
-use std::alloc::Global;
+use std::alloc::{AllocError, Global};
 use std::collections::BTreeSet;
 
-/// The indices, in the table of strings, of a class's name and categories. Many classes may share a long
-/// string. With its index, a result for its text can be found once and used for all of them.
+/// The indices, in the table of strings, of the strings that name a class and its parts. Many classes may share
+/// a long string. With its index, a result for its text can be found once and used for all of them.
 #[derive(Drop)]
 pub struct ClassNames {
     /// Its name.
     pub name: u64,
+    /// The name of its super type, if it has one.
+    pub super_name: Option<u64>,
+    /// The names of its fields, in order.
+    pub fields: Vec<u64>,
     /// Its categories, in order.
     pub categories: Vec<u64>,
+}
+
+/// The string that names the field of a field element, if the element describes a field.
+#[tactic(auto, unfolding(crate::specs::Described::field_of))]
+fn field_index(strings: &Words, element: &Element) -> Option<u64>
+    ensures { option_map (text_at strings.now) result ≡ option_map (λ f. f.name) (field_of strings.now element.now) }
+{
+    let index = attribute_index(strings, element, "name")?;
+    if shape_of(strings, element).is_none() {
+        return None;
+    }
+    Some(index)
+}
+
+/// Adds the string that names the field of a field element, if the element describes a field.
+fn add_field(strings: &Words, element: &Element, indices: &mut Vec<u64>) -> Result<(), AllocError>
+    ensures ok { OnOk result (map (text_at strings.now) indices.new.items ≡ map (text_at strings.now) indices.old.items ++ option_to_list (option_map (λ f. f.name) (field_of strings.now element.now))) }
+{
+    if let Some(index) = field_index(strings, element) {
+        indices.push(index)?;
+    }
+    Ok(())
+}
+
+/// The strings that name the fields of a class element, in order.
+fn field_indices(alloc: Global, strings: &Words, element: &Element) -> Result<Vec<u64>, AllocError>
+    ensures ok { IfOk result (λ indices. map (text_at strings.now) indices.items ≡ map (λ f. f.name) (filter_map (field_of strings.now) (field_elements strings.now element.now))) }
+{
+    let elements = named(alloc, strings, element, "field")?;
+    let mut indices = Vec::with_capacity(alloc, elements.len())?;
+    for field in &elements {
+        add_field(strings, field, &mut indices)?;
+    }
+    Ok(indices)
 }
 
 /// Adds the strings that name the class of a class element, if it has an id and a name.
@@ -41,8 +81,15 @@ fn add_names(
     let Some(name) = attribute_index(strings, element, "name") else {
         return Ok(());
     };
+    let super_name = attribute_index(strings, element, "superType");
+    let fields = field_indices(alloc, strings, element)?;
     let categories = category_indices(alloc, strings, ids, element)?;
-    names.push(ClassNames { name, categories })?;
+    names.push(ClassNames {
+        name,
+        super_name,
+        fields,
+        categories,
+    })?;
     Ok(())
 }
 

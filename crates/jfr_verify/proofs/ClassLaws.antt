@@ -1,9 +1,7 @@
--- Classes are compared part by part.
-use Rattle.std.specs.Prelude.{◌≡◌, ◌<◌, ◌≤◌, ◌+◌, ◌==◌, ℕ, zero, suc, Bool, true, false, List, [], ◌∷◌, length, slice_get, Some, None, Contains}
-use Rattle.std.specs.Str.{bytes_eq}
+-- Classes are looked up one by one.
+use Rattle.std.specs.Prelude.{◌≡◌, ◌<◌, ◌≤◌, ◌+◌, ◌==◌, ℕ, Bool, true, false, length, slice_get, Some, None, Contains}
 use Rattle.std.proofs.Common.{ap, arith, refl, sym, ◌∙◌, subst}
 use Rattle.std.proofs.lemmas.Option.{slice_get_within}
-use Rattle.std.proofs.lemmas.Slice.Eq.{bytes_eq-Decides}
 use Rattle.std.proofs.lemmas.List.Elements.{All-from_recursion, All-contains}
 use Rattle.jfr_layout.specs.Classes.{Class, Classes, Sound, find_class}
 use Rattle.jfr_layout.proofs.SoundLaws.{stand_once}
@@ -11,31 +9,6 @@ use Rattle.jfr_worklist.proofs.Members.{contains_in, in_contains, get_in}
 use Rattle.jfr_verify.specs.Checks.{HasClasses}
 use Rattle.jfr_verify.specs.Decided.{Decided}
 use Rattle.jfr_verify.proofs.AgreeLaws.{all_from_get, found_get, in_get}
-
-pub decided_text : (a b : List ℕ) (r : Bool) → r ≡ bytes_eq a b → Decided (a ≡ b) r
-decided_text a b true e = (bytes_eq-Decides a b).0 (sym e)
-decided_text a b false e = λ q. (let z : bytes_eq a b ≡ true = (bytes_eq-Decides a b).1 q in cc)
-
--- Up to a number, two lists have the same members.
-abbrev pub SameUpTo : {X : Type 0} → List X → List X → ℕ → Type 0
-SameUpTo xs ys n = (i : ℕ) → i < n → slice_get xs i ≡ slice_get ys i
-
-pub up_to_next : {X : Type 0} (xs ys : List X) (n : ℕ) → SameUpTo xs ys n → slice_get xs n ≡ slice_get ys n → SameUpTo xs ys (n + 1)
-up_to_next xs ys n f e i l = by_last (i == n) refl
-  where
-    by_last : (b : Bool) → (i == n) ≡ b → slice_get xs i ≡ slice_get ys i
-    by_last true q = let h : n ≡ i = grind (arith, q) in subst (λ z. slice_get xs z ≡ slice_get ys z) h e
-    by_last false q = f i (grind (arith, q))
-
-pub up_to_end : {X : Type 0} (xs ys : List X) (n : ℕ) → length xs ≡ length ys → length xs ≤ n → SameUpTo xs ys n → xs ≡ ys
-up_to_end [] [] n s l f = refl
-up_to_end [] (y ∷ ys) n s l f = absurd (omega (arith, s))
-up_to_end (x ∷ xs) [] n s l f = absurd (omega (arith, s))
-up_to_end {X = X} (x ∷ xs) (y ∷ ys) zero s l f = absurd (omega arith)
-up_to_end {X = X} (x ∷ xs) (y ∷ ys) (suc n) s l f =
-    let h : x ≡ y = (let z : Some x ≡ Some y = f 0 (omega arith) in cc) in
-    let t : xs ≡ ys = up_to_end xs ys n (omega (arith, s)) (omega arith) (λ i k. f (suc i) (omega (arith, k))) in
-    ap (λ z. z ∷ xs) h ∙ ap (λ z. y ∷ z) t
 
 module _ (k m : Classes) where
   -- Up to a number, the classes are in the other list.

@@ -16,6 +16,8 @@ mod CopyLaws
 mod ClosedLaws
 mod EventLaws
 mod ClassLaws
+mod EqualLaws
+mod NamedLaws
 mod ForceLaws
 mod CompleteLaws
 mod UniqueLaws
@@ -26,6 +28,7 @@ mod ScrubLaws
 mod OutputLaws
 mod ComparingLaws
 mod StreamLaws
+mod StringLaws
 mod VerdictLaws
 mod FileLaws
 mod CheckLaws

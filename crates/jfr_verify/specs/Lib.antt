@@ -6,6 +6,7 @@ pub mod Checked
 pub mod Streams
 pub mod Decided
 pub mod SameEvents
+pub mod Strings
 pub mod Closed
 pub mod Added
 pub mod Compact

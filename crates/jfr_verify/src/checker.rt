@@ -61,8 +61,8 @@ fn check_kept(
     requires { length kept.now ≡ length (events_of a.now) }
     ensures { IfOk result (Checked a.now b.now (kept_by a.now kept.now) receipt.now) }
 {
-    a.parts_stand();
-    if !has_classes(a.classes(), b.classes()) {
+    let known = has_classes(alloc, a, b)?;
+    if !known {
         return Ok(Err(Doubt::ClassesDiffer));
     }
     if !same_events(a, kept, b) {

@@ -1,125 +1,73 @@
 //! Whether each class of the output is a class of the input.
-ghost use Rattle.std.specs.Prelude.{◌≡◌};
-ghost use Rattle.jfr_layout.specs.Classes.{Sound};
+ghost use Rattle.std.specs.Prelude.{◌≡◌, ◌<◌, Some, length, slice_get, IfOk};
+ghost use Rattle.std.specs.List.{AllZip};
+ghost use Rattle.jfr_meta.specs.Described.{IsNamedBy};
 ghost use Rattle.jfr_verify.specs.Checks.{HasClasses};
 ghost use Rattle.jfr_verify.specs.Decided.{Decided};
 
-use jfr_base::{Text, Words};
-use jfr_layout::{ClassInfo, Classes, FieldInfo, Fields, Shape, is_text};
+use crate::named::{NamedClass, same_class};
+use crate::strings::Numbers;
+use jfr_base::NoMemory;
+use jfr_chunk::Chunk;
+use jfr_layout::Classes;
+use jfr_meta::ClassNames;
+use std::alloc::Global;
 
-/// Whether each class of the output is a class of the input.
-pub(crate) fn has_classes(a: &Classes, b: &Classes) -> bool
-    requires { Sound a.now }
-    ensures { Decided (HasClasses a.now b.now) result }
+/// Whether each class of the output `b` is a class of the input `a`. A string is compared by its text
+/// only when it gets its number, however many classes share it.
+pub(crate) fn has_classes(alloc: Global, a: &Chunk<'_>, b: &Chunk<'_>) -> Result<bool, NoMemory>
+    ensures { IfOk result (Decided (HasClasses a.now.classes b.now.classes)) }
 {
-    for number in 0..b.len() {
-        let Some(class) = b.get(number) else {
+    let numbers = Numbers::new(alloc, a.strings(), b.strings())?;
+    let a_names = a.class_names(alloc)?;
+    let b_names = b.class_names(alloc)?;
+    let a = NamedClasses {
+        classes: a.classes(),
+        names: &a_names,
+    };
+    let b = NamedClasses {
+        classes: b.classes(),
+        names: &b_names,
+    };
+    Ok(has_each(&numbers, a, b))
+}
+
+/// The classes of a chunk, and the strings that name each of them.
+#[derive(Clone, Copy)]
+struct NamedClasses<'c> {
+    classes: &'c Classes,
+    names: &'c [ClassNames],
+}
+
+impl<'c> NamedClasses<'c> {
+    /// The class with this index.
+    fn at(self, index: usize) -> NamedClass<'c>
+        requires within { index < length self.classes.now }
+        requires names { length self.names.now ≡ length self.classes.now }
+        ensures class { slice_get self.entry.classes.now index ≡ Some result.class.now }
+        ensures names { slice_get self.entry.names.now index ≡ Some result.names.now }
+    {
+        NamedClass {
+            class: self.classes.class_at(index),
+            names: &self.names[index],
+        }
+    }
+}
+
+/// Whether each class of `b` is in `a`. The numbers are those of the strings of both chunks.
+fn has_each(numbers: &Numbers<'_>, a: NamedClasses<'_>, b: NamedClasses<'_>) -> bool
+    requires a { AllZip (IsNamedBy numbers.now.one.now) a.classes.now a.names.now }
+    requires b { AllZip (IsNamedBy numbers.now.other.now) b.classes.now b.names.now }
+    ensures { Decided (HasClasses a.entry.classes.now b.entry.classes.now) result }
+{
+    for number in 0..b.classes.len() {
+        let class = b.at(number);
+        let Some(index) = a.classes.index_of(class.class.id) else {
             return false;
         };
-        let Some(same) = a.find(class.id) else {
-            return false;
-        };
-        if !same_class(same, class) {
+        if !same_class(numbers, a.at(index), class) {
             return false;
         }
     }
     true
-}
-
-/// Whether two texts are the same.
-fn same_text(a: &Text, b: &Text) -> bool
-    ensures { Decided (a.now ≡ b.now) result }
-{
-    is_text(a, b.as_str())
-}
-
-/// Whether two shapes are the same.
-fn same_shape(a: Shape, b: Shape) -> bool
-    ensures { Decided (a ≡ b) result }
-{
-    if a.class != b.class {
-        return false;
-    }
-    if a.constant != b.constant {
-        return false;
-    }
-    a.array == b.array
-}
-
-/// Whether two fields are the same.
-fn same_field(a: &FieldInfo, b: &FieldInfo) -> bool
-    ensures { Decided (a.now ≡ b.now) result }
-{
-    if !same_text(&a.name, &b.name) {
-        return false;
-    }
-    same_shape(a.shape, b.shape)
-}
-
-/// Whether two lists of fields are the same.
-fn same_fields(a: &Fields, b: &Fields) -> bool
-    ensures { Decided (a.now ≡ b.now) result }
-{
-    if a.len() != b.len() {
-        return false;
-    }
-    for number in 0..a.len() {
-        if !same_field(a.at(number), b.at(number)) {
-            return false;
-        }
-    }
-    true
-}
-
-/// Whether two lists of texts are the same.
-fn same_words(a: &Words, b: &Words) -> bool
-    ensures { Decided (a.now ≡ b.now) result }
-{
-    if a.len() != b.len() {
-        return false;
-    }
-    for number in 0..a.len() {
-        let Some(one) = a.text(number) else {
-            return false;
-        };
-        let Some(other) = b.text(number) else {
-            return false;
-        };
-        if !same_text(one, other) {
-            return false;
-        }
-    }
-    true
-}
-
-/// Whether two classes have the same super name, or both have none.
-fn same_super_name(a: &Option<Text>, b: &Option<Text>) -> bool
-    ensures { Decided (a.now ≡ b.now) result }
-{
-    match a {
-        None => b.is_none(),
-        Some(one) => match b {
-            None => false,
-            Some(other) => same_text(one, other),
-        },
-    }
-}
-
-/// Whether two classes are the same.
-fn same_class(a: &ClassInfo, b: &ClassInfo) -> bool
-    ensures { Decided (a.now ≡ b.now) result }
-{
-    if a.id != b.id {
-        return false;
-    }
-    if !same_text(&a.name, &b.name) {
-        return false;
-    }
-    if !same_super_name(&a.super_name, &b.super_name) {
-        return false;
-    }
-    if !same_fields(&a.fields, &b.fields) {
-        return false;
-    }
-    same_words(&a.categories, &b.categories)
 }

@@ -24,6 +24,7 @@ mod events;
 mod laws;
 mod line;
 mod lines;
+mod named;
 mod opening;
 mod outputs;
 mod parents;
@@ -31,6 +32,7 @@ mod prefix;
 mod reading;
 mod receipt;
 mod stream;
+mod strings;
 mod verdict;
 mod walk;
 

@@ -1,30 +1,27 @@
-use Rattle.std.proofs.Common.{sym, subst, true, false, Some, None}
-use Rattle.jfr_layout.specs.Classes.{Sound}
-use Rattle.jfr_verify.specs.Checks.{MarksOfCopies}
+use Rattle.std.proofs.Common.{sym, subst, Some, None}
+use Rattle.jfr_verify.specs.Checks.{HasClasses, MarksOfCopies}
+use Rattle.jfr_verify.specs.Decided.{Decided}
 use Rattle.jfr_verify.specs.Prefix.{ReceiptPrefix}
 use Rattle.jfr_verify.proofs.ClosedLaws.{closed_is}
-use Rattle.jfr_verify.proofs.ForceLaws.{all_in_force, not_closed, has_of}
+use Rattle.jfr_verify.proofs.ForceLaws.{all_in_force, not_closed}
 use Rattle.jfr_verify.proofs.checker.check_kept.Goals as goal
 
-pub has_classes-requires : goal.has_classes-requires
-has_classes-requires c = subst Sound (sym c.classes.ensures) c.parts_stand.ensures.sound
-
-pub returns-then-not-has_classes : goal.returns-then-not-has_classes
-returns-then-not-has_classes c = has_of c.classes.result.now c.classes-2.result.now c.args.a.now.classes c.args.b.now.classes false c.classes.ensures c.classes-2.ensures c.if-not-has_classes.ensures
+pub returns-then-not-known : goal.returns-then-not-known
+returns-then-not-known c = subst (Decided (HasClasses c.args.a.now.classes c.args.b.now.classes)) c.if-not-known.true c.in_ok-known.ensures
 
 pub returns-then-not-same_events : goal.returns-then-not-same_events
 returns-then-not-same_events c =
-    let has = has_of c.classes.result.now c.classes-2.result.now c.args.a.now.classes c.args.b.now.classes true c.classes.ensures c.classes-2.ensures c.if-not-has_classes.ensures in
+    let has = subst (Decided (HasClasses c.args.a.now.classes c.args.b.now.classes)) c.if-not-known.false c.in_ok-known.ensures in
     (has, c.if-not-same_events.ensures)
 
 pub returns-in_default : goal.returns-in_default
 returns-in_default c =
-    let has = has_of c.classes.result.now c.classes-2.result.now c.args.a.now.classes c.args.b.now.classes true c.classes.ensures c.classes-2.ensures c.if-not-has_classes.ensures in
+    let has = subst (Decided (HasClasses c.args.a.now.classes c.args.b.now.classes)) c.if-not-known.false c.in_ok-known.ensures in
     (has, c.if-not-same_events.ensures, (let z : MarksOfCopies c.args.a.now c.args.b.now None = subst (MarksOfCopies c.args.a.now c.args.b.now) c.in_default.is c.in_ok-marks.ensures in z))
 
 pub returns-then-not-is_closed : goal.returns-then-not-is_closed
 returns-then-not-is_closed c =
-    let has = has_of c.classes.result.now c.classes-2.result.now c.args.a.now.classes c.args.b.now.classes true c.classes.ensures c.classes-2.ensures c.if-not-has_classes.ensures in
+    let has = subst (Decided (HasClasses c.args.a.now.classes c.args.b.now.classes)) c.if-not-known.false c.in_ok-known.ensures in
     let m : MarksOfCopies c.args.a.now c.args.b.now (Some c.in-Some.marks) = subst (MarksOfCopies c.args.a.now c.args.b.now) c.in-Some.is c.in_ok-marks.ensures in
     (has, c.if-not-same_events.ensures, c.in-Some.marks.items, m.0, not_closed c.args.a.now _ c.in-Some.marks.items (sym c.if-not-is_closed.ensures))
 
@@ -35,7 +32,7 @@ receipt_prefix-requires c =
 
 pub returns-in-Some-2 : goal.returns-in-Some-2
 returns-in-Some-2 c =
-    let has = has_of c.classes.result.now c.classes-2.result.now c.args.a.now.classes c.args.b.now.classes true c.classes.ensures c.classes-2.ensures c.if-not-has_classes.ensures in
+    let has = subst (Decided (HasClasses c.args.a.now.classes c.args.b.now.classes)) c.if-not-known.false c.in_ok-known.ensures in
     let m : MarksOfCopies c.args.a.now c.args.b.now (Some c.in-Some.marks) = subst (MarksOfCopies c.args.a.now c.args.b.now) c.in-Some.is c.in_ok-marks.ensures in
     let s : ReceiptPrefix c.args.b.now c.args.receipt.now (Some c.in-Some-2.end) = subst (ReceiptPrefix c.args.b.now c.args.receipt.now) c.in-Some-2.is c.in_ok-end.ensures in (
       s.0,
@@ -51,7 +48,7 @@ returns-in-Some-2 c =
 
 pub returns-in-None : goal.returns-in-None
 returns-in-None c =
-    let has = has_of c.classes.result.now c.classes-2.result.now c.args.a.now.classes c.args.b.now.classes true c.classes.ensures c.classes-2.ensures c.if-not-has_classes.ensures in
+    let has = subst (Decided (HasClasses c.args.a.now.classes c.args.b.now.classes)) c.if-not-known.false c.in_ok-known.ensures in
     let m : MarksOfCopies c.args.a.now c.args.b.now (Some c.in-Some.marks) = subst (MarksOfCopies c.args.a.now c.args.b.now) c.in-Some.is c.in_ok-marks.ensures in
     let s : ReceiptPrefix c.args.b.now c.args.receipt.now None = subst (ReceiptPrefix c.args.b.now c.args.receipt.now) c.in-None.is c.in_ok-end.ensures in
     (has, c.if-not-same_events.ensures, c.in-Some.marks.items, m.0, closed_is c.args.a.now _ c.in-Some.marks.items m.1 (sym c.if-not-is_closed.ensures), s)

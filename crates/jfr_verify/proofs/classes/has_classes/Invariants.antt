@@ -1,5 +1,0 @@
-use Rattle.jfr_verify.proofs.ClassLaws.{HasUpTo}
-use Rattle.jfr_verify.proofs.classes.has_classes.Given as goal
-
-abbrev pub invariant-loop-number : goal.invariant-loop-number
-invariant-loop-number l = HasUpTo l.a l.b l.number
