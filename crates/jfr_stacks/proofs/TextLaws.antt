@@ -163,7 +163,7 @@ all_last p all items x e a = split items (subst (AllByRecursion (IsOf p)) e a)
     split [] a = (tt, a.0)
     split (y ∷ items) a = let h = split items a.1 in ((a.0, h.0), h.1)
 
--- The frames are the items of the value behind the field.
+-- The frames are the items of the value to which the field leads.
 pub frames_found : (p : Parts) (n field array : NodeAt) → Some field ≡ named_field p (codes "frames") n → array ≡ behind 16 p field → frames_in p n ≡ items_of p array
 frames_found p n field array e h = sym (ap (λ o. option_and_then (items_of p) (option_map (behind 16 p) o)) e) ∙ ap (items_of p) (sym h)
 
