@@ -88,6 +88,18 @@ run vendor missed.jfr missed.out
 check 'events that the JDK misses' 0 'misses the events of jdk.Shutdown, as' <<<'test -s missed.out'
 run vendor read.jfr read.out
 check 'events that it reads' 0 'events are left' <<<'! grep -q WARNING said.err'
+run jdk missed.out copy.out
+check 'jdk' 0 'of 1 chunks has another id' <<<'test "$(cmp -l missed.out copy.out | wc -l)" = 1'
+run jdk copy.out again.out
+check 'jdk, a copy' 0 'of 0 chunks' <<<'cmp copy.out again.out'
+run jdk copy.out again.out
+check 'jdk, an output that exists' 4 'exists already' <<<'cmp copy.out again.out'
+run jdk none.jfr new.jfr
+check 'jdk, no input' 3 'none.jfr' <<<'test ! -e new.jfr'
+run jdk first new.jfr
+check 'jdk, no recording' 2 "isn't a recording" <<<'test ! -e new.jfr'
+run jdk --x new.jfr
+check 'jdk, a name with -' 1 'usage' <<<'test ! -e new.jfr'
 
 # Names.
 cp -- "$file" $' two\nlines "ä".jfr'
