@@ -4,8 +4,8 @@
 # For each file: each command ends with status 0. A scrub of a scrub's output gives the same bytes. The JDK's own
 # `jfr summary` counts the same events in the file, in what a scrub without options made of it and in its parts
 # together; in a scrub that keeps only the most frequent type of event it counts those; and `summary` has the
-# same counts. So does the JDK's reader of events (Events.java) in a scrub's chunks one by one; how many events it misses
-# in the scrub as a whole is only said (docs/VENDORS.md has the reason). The parts joined are the file again, byte for byte. On a file of less than a megabyte the values of
+# same counts. So does the JDK's reader of events (Events.java) in a scrub's chunks one by one, and in the copy that
+# recipes/jdk makes; how many events it misses in the scrub as a whole is only said (docs/VENDORS.md has the reason). The parts joined are the file again, byte for byte. On a file of less than a megabyte the values of
 # `print --json` are those that the JDK prints (values.py).
 #
 # Prints a row for each command: seconds, MB of the file a second, bytes written to the output stream or to files,
@@ -97,13 +97,15 @@ counts() {
 # The events of recordings and their numbers together, as the JDK's reader gives them.
 events() { "${jdk%jfr}java" "$here/Events.java" "$@" | LC_ALL=C sort; }
 
-# Reads a scrub as a whole and chunk by chunk.
+# Reads a scrub chunk by chunk, in a copy by recipes/jdk, and as a whole.
 read_scrub() {
     local missed
-    rm -rf "$work/chunks"; mkdir "$work/chunks"
+    rm -rf "$work/chunks" "$work/copy.jfr"; mkdir "$work/chunks"
     "$program" disassemble --output "$work/chunks" --max-chunks 1 "$1"
     events "$work/chunks"/* >"$work/read"
-    LC_ALL=C sort "$work/counts" | diff - "$work/read" >"$work/diff" || { fail "the JDK's reader gives other events"; head -n 10 "$work/diff"; }
+    same_counts "$work/read" <(LC_ALL=C sort "$work/counts") "the JDK's reader, chunk by chunk"
+    "$here/../recipes/jdk" "$1" "$work/copy.jfr" 2>"$work/errors" || fail "recipes/jdk: $(cat "$work/errors")"
+    same_counts "$work/read" <(events "$work/copy.jfr") "the JDK's reader, recipes/jdk"
     missed=$(LC_ALL=C join -a 1 "$work/read" <(events "$1") | awk '{ sum += $2 - $3 } END { print sum + 0 }')
     [ "$missed" = 0 ] || echo "$name: the JDK's reader misses $missed events of the scrub as a whole"
 }
