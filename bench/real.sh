@@ -1,16 +1,17 @@
 #!/bin/bash
-# Times each command on recordings beside the JDK's, and checks what comes out: bench/real.sh PROGRAM FILE..
+# Times the commands that the JDK has, too, beside the JDK's, and checks what comes out: bench/real.sh PROGRAM FILE..
 #
 # For each file: each command ends with status 0. A scrub of a scrub's output gives the same bytes. The JDK's own
 # `jfr summary` counts the same events in the file, in what a scrub without options made of it and in its parts
-# together; in a scrub that keeps only the most frequent type of event it counts those; and `summary` has the
-# same counts. So does the JDK's reader of events (Events.java) in a scrub's chunks one by one, and in the copy that
-# recipes/jdk makes; how many events it misses in the scrub as a whole is only said (docs/VENDORS.md has the reason). The parts joined are the file again, byte for byte. On a file of less than a megabyte the values of
+# together; in a scrub that keeps only the most frequent type of event it counts those; and `summary` has the same
+# counts. So does the JDK's reader of events (Events.java) in a scrub's chunks one by one, and in the copy that
+# recipes/jdk makes; how many events it misses in the scrub as a whole is printed, and is no failure (docs/VENDORS.md has
+# the reason). The parts joined are the file again, byte for byte. On a file of less than a megabyte the values of
 # `print --json` are those that the JDK prints (values.py).
 #
 # Prints a row for each command: seconds, MB of the file a second, bytes written to the output stream or to files,
 # peak memory, and the seconds of the JDK's command, with how many times as long that takes. Seconds are the least and
-# the middle of five runs, or of RUNS; the two take turns, so that both meet a shared machine in the same minutes; texts
+# the middle of five runs, or of RUNS; this program and the JDK take turns, so that both meet a shared machine in the same minutes; texts
 # go to /dev/null. The row `cp` is a copy of the file, for comparison. With ONLY, a pattern as 'scrub*', just the rows
 # whose command it matches. The JDK is the one whose `jfr` is on the PATH, or in the folder JFR_BIN. Says what it skips
 # where a tool is missing.

@@ -89,15 +89,17 @@ check 'events that the JDK misses' 0 'misses the events of jdk.Shutdown, as' <<<
 run vendor read.jfr read.out
 check 'events that it reads' 0 'events are left' <<<'! grep -q WARNING said.err'
 run jdk missed.out copy.out
-check 'jdk' 0 'of 1 chunks has another id' <<<'test "$(cmp -l missed.out copy.out | wc -l)" = 1'
+check 'jdk' 0 'changed the metadata id of 1 chunks' <<<'test "$(cmp -l missed.out copy.out | wc -l)" = 1'
 run jdk copy.out again.out
-check 'jdk, a copy' 0 'of 0 chunks' <<<'cmp copy.out again.out'
+check 'jdk, a copy' 0 'id of 0 chunks' <<<'cmp copy.out again.out'
 run jdk copy.out again.out
 check 'jdk, an output that exists' 4 'exists already' <<<'cmp copy.out again.out'
 run jdk none.jfr new.jfr
-check 'jdk, no input' 3 'none.jfr' <<<'test ! -e new.jfr'
+check 'jdk, no input' 3 "can't be read" <<<'test ! -e new.jfr'
 run jdk first new.jfr
 check 'jdk, no recording' 2 "isn't a recording" <<<'test ! -e new.jfr'
+run jdk read.jfr none/new.jfr
+check 'jdk, no folder' 4 "can't be written" <<<'test ! -e none'
 run jdk --x new.jfr
 check 'jdk, a name with -' 1 'usage' <<<'test ! -e new.jfr'
 

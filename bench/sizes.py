@@ -1,9 +1,9 @@
 #!/usr/bin/env python3
 """Draws how seconds grow with the size of a recording: sizes.py ROWS OUT.svg
 
-ROWS are the rows that real.sh prints, of recordings of several sizes. Of each command named below that has rows with the
-JDK's seconds, draws two lines: this program's seconds and the JDK's, by the size of the recording. Both axes are
-logarithmic. The size is this program's MB/s times its seconds.
+ROWS are the rows that real.sh prints, of recordings of several sizes, among them each recording's row `cp`, which has its
+size. Of each command named below that has rows with the JDK's seconds, draws two lines: this program's seconds and the
+JDK's, by the size of the recording. Both axes are logarithmic.
 """
 import math
 import sys
@@ -15,14 +15,14 @@ LEFT, TOP, WIDTH, HEIGHT = 70, 30, 560, 380
 
 def points(rows):
     """For each command, the list of megabytes, this program's seconds and the JDK's."""
-    found = {name: [] for name in COLOURS}
-    for row in rows:
-        cells = [cell.strip() for cell in row.strip().strip("|").split("|")]
-        if len(cells) != 11 or cells[1] not in found or cells[7] in ("-", "the JDK's"):
-            continue
-        ours, speed, theirs = float(cells[2]), float(cells[4]), float(cells[7])
-        found[cells[1]].append((ours * speed, ours, theirs))
-    return {name: sorted(of) for name, of in found.items() if of}
+    table = [[cell.strip() for cell in row.strip().strip("|").split("|")] for row in rows]
+    table = [cells for cells in table if len(cells) == 11]
+    sizes = {cells[0]: int(cells[5]) / 1e6 for cells in table if cells[1] == "cp"}
+    found = {}
+    for name, command, ours, *_, theirs, _, _, _ in table:
+        if command in COLOURS and name in sizes and theirs != "-":
+            found.setdefault(command, []).append((sizes[name], max(0.001, float(ours)), float(theirs)))
+    return {command: sorted(of) for command, of in found.items()}
 
 
 def decades(least, greatest):
@@ -90,6 +90,9 @@ def main(words):
         return 1
     with open(words[0], encoding="utf-8") as rows:
         series = points(rows)
+    if not series:
+        print("sizes.py: no rows with a size and the JDK's seconds", file=sys.stderr)
+        return 1
     with open(words[1], "w", encoding="utf-8") as out:
         out.write(drawn(series))
     return 0
