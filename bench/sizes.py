@@ -80,7 +80,10 @@ def drawn(series):
     for above, end in zip(ends, ends[1:]):
         end[0] = max(end[0], above[0] + 16)
     for down, across, name, colour in ends:
-        parts.append(f'<text x="{across + 8:.1f}" y="{down + 4:.1f}" fill="{colour}">{escape(name)}</text>')
+        parts.append(
+            f'<text x="{across + 8:.1f}" y="{down + 4:.1f}" fill="{colour}" stroke="white" stroke-width="4"'
+            f' paint-order="stroke">{escape(name)}</text>'
+        )
     return "\n".join([*parts, "</svg>", ""])
 
 
