@@ -68,7 +68,7 @@ timed "$top/recipes/vendor" long.jfr whole.jfr
 row 'one run' 1 "$size" 1
 clock=0 own=0
 mkdir parts
-timed "$top/jfr" disassemble --output parts --max-size $((size / jobs / 4)) long.jfr
+timed "$top/jfr" disassemble --output parts --max-chunks 1000000 --max-size $((size / jobs / 4)) long.jfr
 split=$clock
 timed "$top/recipes/many" vendor parts scrubbed
 scrubbed=$clock
