@@ -11,3 +11,4 @@ pub mod CountLaws
 pub mod AgainLaws
 pub mod HeadlineLaws
 mod EndsWell
+mod PartLaws

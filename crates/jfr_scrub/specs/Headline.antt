@@ -40,6 +40,12 @@ pub record IsScrubOf (g : Given) (x y : List ℕ) : Type 0 where
 abbrev pub recording_scrubbed : Given → List ℕ → List ℕ
 recording_scrubbed g x = joined (map (scrubbed g) (before_refused refusal_of (cut x 0 true).chunks))
 
+-- Each part before the last is good.
+abbrev pub AllButLast : (List ℕ → Type 0) → List (List ℕ) → Type 0
+AllButLast Good [] = ⊤
+AllButLast Good (x ∷ []) = ⊤
+AllButLast Good (x ∷ y ∷ parts) = Good x × AllButLast Good (y ∷ parts)
+
 -- The output file is the scrub of the input.
 pub record Scrubs (g : Given) (input output : List ℕ) (w v : World) : Type 0 where
   pub recording : List ℕ

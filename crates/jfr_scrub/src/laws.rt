@@ -1,13 +1,13 @@
 //! Laws of scrubbed recordings. The functions do nothing; their contracts are the laws.
-ghost use Rattle.std.specs.Prelude.{◌≡◌, ◌↔◌, ℕ, List, [], Some, true};
+ghost use Rattle.std.specs.Prelude.{◌≡◌, ◌↔◌, ℕ, ◌+◌, ◌^◌, ◌≤◌, List, [], ◌++◌, length, map, Some, true};
 ghost use Rattle.jfr_filter.specs.Filters.{Given};
-ghost use Rattle.jfr_header.specs.Cuts.{cut};
+ghost use Rattle.jfr_header.specs.Cuts.{cut, joined};
 ghost use Rattle.jfr_plan.specs.Ends.{Fine};
 ghost use Rattle.jfr_plan.specs.Walks.{plan_after};
 ghost use Rattle.jfr_plan.specs.Accepted.{AllAccepted};
 ghost use Rattle.jfr_chunk.specs.Refusal.{refusal_of};
 ghost use Rattle.jfr_output.specs.Recordings.{before_refused};
-ghost use Rattle.jfr_scrub.specs.Headline.{IsScrubOf, recording_scrubbed};
+ghost use Rattle.jfr_scrub.specs.Headline.{AllButLast, IsScrubOf, recording_scrubbed};
 ghost use Rattle.jfr_scrub.specs.Scrubs.{scrubbing};
 
 /// The output of a recording is a recording, which is cut into exactly the chunks that are written, and each
@@ -28,4 +28,16 @@ pub fn scrubbing_ends_well(output: &[u8], recording: &[u8])
     ensures exactly { (g : Given) → ((plan_after (scrubbing g output.now) [] (Some recording.now)).end ≡ Some Fine) ↔ AllAccepted refusal_of recording.now }
     ensures all { (g : Given) → (plan_after (scrubbing g output.now) [] (Some recording.now)).end ≡ Some Fine
         → before_refused refusal_of (cut recording.now 0 true).chunks ≡ (cut recording.now 0 true).chunks }
+{}
+
+/// The outputs of a recording's parts, one after another, are the output of the whole, byte for byte. So the
+/// parts can be scrubbed one by one, or several at once. Each part but the last must be cut into chunks
+/// without a flaw, and none of them may be refused. If the last part has a flaw or a refused chunk, both
+/// outputs end before it. The parts have at most 2^40 bytes together, since a chunk that starts later is
+/// refused.
+pub fn parts_are_scrubbed_one_by_one()
+    ensures two { (g : Given) (x y : List ℕ) → AllAccepted refusal_of x → length x + length y ≤ 2 ^ 40
+        → recording_scrubbed g (x ++ y) ≡ recording_scrubbed g x ++ recording_scrubbed g y }
+    ensures all { (g : Given) (parts : List (List ℕ)) → AllButLast (AllAccepted refusal_of) parts → length (joined parts) ≤ 2 ^ 40
+        → recording_scrubbed g (joined parts) ≡ joined (map (recording_scrubbed g) parts) }
 {}
