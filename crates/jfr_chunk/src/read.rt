@@ -25,7 +25,7 @@ use jfr_frame::{Framed, Frames};
 use jfr_header::{Header, read_header};
 use jfr_layout::{Classes, FieldLayout};
 use jfr_pool::Pools;
-use jfr_value::end_visiting;
+use jfr_value::{Walk, end_visiting};
 use std::collections::BTreeMap;
 
 /// The header of a whole chunk.
@@ -78,12 +78,17 @@ pub(crate) fn read_events(
     let mut used = room.used;
     used.clear();
     let mut refs = ConstantRefs::new(room.numbers);
+    let reader = EventReader {
+        chunk,
+        classes,
+        pools,
+    };
     for number in 0..frames.len() {
         let frame = frames.at(number);
         let Some(layout) = classes.event_layout(frame.type_id) else {
             continue;
         };
-        let end = fields_end(chunk, classes, pools, &layout, frame, &mut refs)?;
+        let end = fields_end(reader, &layout, frame, &mut refs)?;
         let record = number as u32;
         if end < frame.end() {
             add_early(&mut early, record, end as u32)?;
@@ -125,23 +130,34 @@ fn add_early(early: &mut BTreeMap<u32, u32>, number: u32, end: u32) -> Result<()
     Ok(())
 }
 
+/// What stays the same while the events of a chunk are read.
+#[derive(Clone, Copy)]
+struct EventReader<'a> {
+    chunk: &'a [u8],
+    classes: &'a Classes,
+    pools: &'a Pools,
+}
+
 /// Where the fields of an event end. Adds the numbers of the entries to which they refer.
 #[inline]
 fn fields_end(
-    chunk: &[u8],
-    classes: &Classes,
-    pools: &Pools,
+    reader: EventReader<'_>,
     layout: &FieldLayout,
     frame: Framed,
     refs: &mut ConstantRefs,
 ) -> Result<usize, Flaw>
-    requires sound { Sound classes.now }
-    requires event { IsEventLayout classes.now frame.type_id layout.now }
-    requires record { IsRecord chunk.now frame }
-    requires entries { length pools.now < 2 ^ 32 }
-    ensures exact { result ≡ seen (run (value_format classes.now (inline frame.type_id)) chunk.now (record_end frame) frame.body) }
-    ensures refs_end { IfOk result (λ end. AddsRefs (node_entries pools.now classes.now chunk.now (node_at (inline frame.type_id) frame.body end)) refs.old refs.new) }
+    requires sound { Sound reader.classes.now }
+    requires event { IsEventLayout reader.classes.now frame.type_id layout.now }
+    requires record { IsRecord reader.chunk.now frame }
+    requires entries { length reader.pools.now < 2 ^ 32 }
+    ensures exact { result ≡ seen (run (value_format reader.classes.now (inline frame.type_id)) reader.chunk.now (record_end frame) frame.body) }
+    ensures refs_end { IfOk result (λ end. AddsRefs (node_entries reader.pools.now reader.classes.now reader.chunk.now (node_at (inline frame.type_id) frame.body end)) refs.old refs.new) }
 {
-    let end = frame.end();
-    end_visiting(classes, layout, chunk, frame.body, end, refs, pools)
+    let walk = Walk {
+        classes: reader.classes,
+        bytes: reader.chunk,
+        end: frame.end(),
+        with: reader.pools,
+    };
+    end_visiting(walk, layout, frame.body, refs)
 }

@@ -19,7 +19,7 @@ pub(crate) struct NewTree<'a> {
     pub bytes: Vec<u8>,
 }
 
-/// Writes the new index of the string with an old one.
+/// Writes the index that the string at `index` of the old table has in the new one.
 fn push_index<'a>(tree: &mut NewTree<'a>, strings: &'a Words, index: u64) -> Result<(), NoMemory>
     requires { IsTable strings.now tree.old.table }
     ensures ok { OnOk result (Wrote strings.now (index ∷ []) (λ f. spell (f index)) tree.old tree.new) }
@@ -40,7 +40,7 @@ fn push_pairs<'a>(tree: &mut NewTree<'a>, strings: &'a Words, pairs: &Pairs) -> 
     Ok(())
 }
 
-/// Writes all of an element before its children, of which it has this number.
+/// Writes an element's name and attributes, and the number of its children.
 pub(crate) fn push_head<'a>(
     tree: &mut NewTree<'a>,
     strings: &'a Words,
@@ -85,8 +85,8 @@ fn push_elements<'a>(
     Ok(())
 }
 
-/// Writes some of the children of an element.
-pub(crate) fn push_each<'a>(
+/// Writes those children of an element that were chosen.
+pub(crate) fn push_chosen<'a>(
     tree: &mut NewTree<'a>,
     strings: &'a Words,
     elements: &[&Element],

@@ -13,9 +13,9 @@ ghost use Rattle.jfr_meta.specs.Written.{HasIndices, IsText, ReadsBack, depth, r
 
 use crate::class::class_head;
 use crate::field::has_name;
-use crate::rewriting::{NewTree, push_each, push_element, push_head};
+use crate::rewriting::{NewTree, push_chosen, push_element, push_head};
 use crate::tabling::NewTable;
-use crate::write::{Stamp, push_opening, texts_len};
+use crate::write::{FRAME_LEN, Stamp, push_opening, texts_len};
 use crate::{Element, Elements, Ids, Metadata};
 use jfr_base::{NoMemory, Words, var_len};
 use std::alloc::{AllocError, Global};
@@ -64,11 +64,11 @@ fn push_holder<'a>(
 {
     let children = needed_children(tree.alloc, strings, stay, element)?;
     push_head(tree, strings, element, children.len())?;
-    push_each(tree, strings, &children)
+    push_chosen(tree, strings, &children)
 }
 
-/// Whether the element `metadata` was found before, or is this one.
-fn finds_holder(strings: &Words, element: &Element, found: bool) -> bool
+/// Whether the element `metadata` is this one or an earlier one.
+fn is_found_by(strings: &Words, element: &Element, found: bool) -> bool
     ensures { result ≡ (found || is_named strings.now (codes "metadata") element.now) }
 {
     if found {
@@ -111,7 +111,7 @@ fn push_top<'a>(
     let mut found = false;
     for element in elements.as_slice() {
         push_child(tree, strings, stay, element, found)?;
-        found = finds_holder(strings, element, found);
+        found = is_found_by(strings, element, found);
     }
     Ok(())
 }
@@ -150,10 +150,10 @@ fn written_within(
     }
     let count = strings.len() as u64;
     let head = var_len(stamp.start) + var_len(stamp.duration) + var_len(stamp.id) + var_len(count);
-    if len + head as u64 + 6 > room as u64 {
+    let size = len + (FRAME_LEN + head) as u64;
+    if size > room as u64 {
         return Ok(None);
     }
-    let size = len + head as u64 + 6;
     let mut bytes = Vec::with_capacity(alloc, size as usize)?;
     push_opening(&mut bytes, size, stamp, strings)?;
     bytes.extend_from_slice(tree)?;

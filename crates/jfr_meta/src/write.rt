@@ -15,6 +15,9 @@ use std::alloc::{AllocError, Global};
 /// The number of bytes that the size of a record takes.
 const SIZE_LEN: usize = 5;
 
+/// The number of bytes that the size and the type of a record take.
+pub(crate) const FRAME_LEN: usize = SIZE_LEN + 1;
+
 /// The integers of a body before its strings, except for their number.
 #[derive(Clone, Copy)]
 pub(crate) struct Stamp {
@@ -201,7 +204,7 @@ pub fn write_metadata(
 {
     let count = strings.len() as u64;
     let head = var_len(start) + var_len(duration) + var_len(id) + var_len(count);
-    let size = metadata_len(strings, root) + head as u64 + 6;
+    let size = metadata_len(strings, root) + (FRAME_LEN + head) as u64;
     let stamp = Stamp {
         start,
         duration,

@@ -14,140 +14,147 @@ use jfr_value::{Node, Steps, end_of};
 use std::alloc::AllocError;
 use std::sync::ledger::Ledger;
 
-/// The bytes of fields, which end by `end`, and the new keys.
-pub(crate) struct Fields<'a, N> {
+/// What stays the same while the fields of a value are written with new keys.
+pub(crate) struct RekeyContext<'a, N> {
     pub classes: &'a Classes,
     pub bytes: &'a [u8],
+    /// The offset by which the fields end.
     pub end: usize,
     pub new: &'a N,
 }
 
-impl<'a, N> Clone for Fields<'a, N> {
-    fn clone(&self) -> Result<Fields<'a, N>, AllocError> {
+impl<'a, N> Clone for RekeyContext<'a, N> {
+    fn clone(&self) -> Result<RekeyContext<'a, N>, AllocError> {
         Ok(*self)
     }
 }
 
-impl<'a, N> Copy for Fields<'a, N> {}
+impl<'a, N> Copy for RekeyContext<'a, N> {}
 
 /// Appends the field with this layout, which starts at `at`, and returns its end.
 pub(crate) fn put_field<N: NewKeys, L: Ledger>(
     out: &mut Vec<u8>,
-    fields: Fields<'_, N>,
+    context: RekeyContext<'_, N>,
     layout: &FieldLayout,
     at: usize,
     steps: &mut Steps<L>,
 ) -> Result<usize, NoMemory>
-    requires sound { Sound fields.classes.now }
-    requires layout { IsFieldLayout fields.classes.now layout.now }
-    requires order { at ≤ fields.end }
-    requires within { fields.end ≤ length fields.bytes.now }
-    requires there { (to : ℕ) × EndsAt fields.classes.now fields.bytes.now layout.now.shape at to × (to ≤ fields.end) }
-    ensures ok { IfOk result (λ end. (to : ℕ) → EndsAt fields.entry.classes.now fields.entry.bytes.now layout.now.shape at to → to ≤ fields.entry.end
-        → (end ≡ to) × (out.new.items ≡ out.old.items ++ rekeyed_bytes (N.keys fields.entry.new.now) fields.entry.classes.now fields.entry.bytes.now (node_at layout.now.shape at to))) }
+    requires sound { Sound context.classes.now }
+    requires layout { IsFieldLayout context.classes.now layout.now }
+    requires order { at ≤ context.end }
+    requires within { context.end ≤ length context.bytes.now }
+    requires there { (to : ℕ) × EndsAt context.classes.now context.bytes.now layout.now.shape at to × (to ≤ context.end) }
+    ensures ok { IfOk result (λ end. (to : ℕ) → EndsAt context.entry.classes.now context.entry.bytes.now layout.now.shape at to → to ≤ context.entry.end
+        → (end ≡ to) × (out.new.items ≡ out.old.items ++ rekeyed_bytes (N.keys context.entry.new.now) context.entry.classes.now context.entry.bytes.now (node_at layout.now.shape at to))) }
 {
     match layout.form {
         Form::Key => {
-            let key = integer_at(fields.bytes, at, fields.end);
-            put_integer(out, fields.new.new_key(layout.shape.class, key.value))?;
+            let key = integer_at(context.bytes, at, context.end);
+            put_integer(out, context.new.new_key(layout.shape.class, key.value))?;
             Ok(key.end)
         }
-        Form::Integer | Form::Raw(_) => put_same(out, fields, layout, at),
-        Form::Text => put_text(out, fields, layout, at),
-        Form::Array | Form::Fields => put_parts(out, fields, layout, at, steps),
+        Form::Integer | Form::Raw(_) => put_same(out, context, layout, at),
+        Form::Text => put_text(out, context, layout, at),
+        Form::Array | Form::Fields => put_parts(out, context, layout, at, steps),
     }
 }
 
 // Appends the string with this layout, with its new key if it is a key, and returns its end.
 fn put_text<N: NewKeys>(
     out: &mut Vec<u8>,
-    fields: Fields<'_, N>,
+    context: RekeyContext<'_, N>,
     layout: &FieldLayout,
     at: usize,
 ) -> Result<usize, NoMemory>
-    requires sound { Sound fields.classes.now }
-    requires layout { IsFieldLayout fields.classes.now layout.now }
+    requires sound { Sound context.classes.now }
+    requires layout { IsFieldLayout context.classes.now layout.now }
     requires text { layout.now.form ≡ forms.Text }
-    requires order { at ≤ fields.end }
-    requires within { fields.end ≤ length fields.bytes.now }
-    requires there { (to : ℕ) × EndsAt fields.classes.now fields.bytes.now layout.now.shape at to × (to ≤ fields.end) }
-    ensures ok { IfOk result (λ end. (to : ℕ) → EndsAt fields.entry.classes.now fields.entry.bytes.now layout.now.shape at to → to ≤ fields.entry.end
-        → (end ≡ to) × (out.new.items ≡ out.old.items ++ rekeyed_bytes (N.keys fields.entry.new.now) fields.entry.classes.now fields.entry.bytes.now (node_at layout.now.shape at to))) }
+    requires order { at ≤ context.end }
+    requires within { context.end ≤ length context.bytes.now }
+    requires there { (to : ℕ) × EndsAt context.classes.now context.bytes.now layout.now.shape at to × (to ≤ context.end) }
+    ensures ok { IfOk result (λ end. (to : ℕ) → EndsAt context.entry.classes.now context.entry.bytes.now layout.now.shape at to → to ≤ context.entry.end
+        → (end ≡ to) × (out.new.items ≡ out.old.items ++ rekeyed_bytes (N.keys context.entry.new.now) context.entry.classes.now context.entry.bytes.now (node_at layout.now.shape at to))) }
 {
-    if is_key(fields.bytes, at, fields.end) {
-        let key = integer_at(fields.bytes, at + 1, fields.end);
+    if is_key(context.bytes, at, context.end) {
+        let key = integer_at(context.bytes, at + 1, context.end);
         out.push(KEY)?;
-        put_integer(out, fields.new.new_key(layout.shape.class, key.value))?;
+        put_integer(out, context.new.new_key(layout.shape.class, key.value))?;
         return Ok(key.end);
     }
-    put_same(out, fields, layout, at)
+    put_same(out, context, layout, at)
 }
 
 // Appends the field with this layout unchanged, and returns its end.
 fn put_same<N>(
     out: &mut Vec<u8>,
-    fields: Fields<'_, N>,
+    context: RekeyContext<'_, N>,
     layout: &FieldLayout,
     at: usize,
 ) -> Result<usize, NoMemory>
-    requires sound { Sound fields.classes.now }
-    requires layout { IsFieldLayout fields.classes.now layout.now }
-    requires order { at ≤ fields.end }
-    requires within { fields.end ≤ length fields.bytes.now }
-    requires there { (to : ℕ) × EndsAt fields.classes.now fields.bytes.now layout.now.shape at to × (to ≤ fields.end) }
-    ensures ok { IfOk result (λ end. (to : ℕ) → EndsAt fields.entry.classes.now fields.entry.bytes.now layout.now.shape at to → to ≤ fields.entry.end
-        → (end ≡ to) × (out.new.items ≡ out.old.items ++ slice_range fields.entry.bytes.now at to)) }
+    requires sound { Sound context.classes.now }
+    requires layout { IsFieldLayout context.classes.now layout.now }
+    requires order { at ≤ context.end }
+    requires within { context.end ≤ length context.bytes.now }
+    requires there { (to : ℕ) × EndsAt context.classes.now context.bytes.now layout.now.shape at to × (to ≤ context.end) }
+    ensures ok { IfOk result (λ end. (to : ℕ) → EndsAt context.entry.classes.now context.entry.bytes.now layout.now.shape at to → to ≤ context.entry.end
+        → (end ≡ to) × (out.new.items ≡ out.old.items ++ slice_range context.entry.bytes.now at to)) }
 {
-    let end = field_end(fields, layout, at);
-    out.extend_from_slice(&fields.bytes[at..end])?;
+    let end = field_end(context, layout, at);
+    out.extend_from_slice(&context.bytes[at..end])?;
     Ok(end)
 }
 
 // Appends the field with this layout leaf by leaf, and returns its end.
 fn put_parts<N: NewKeys, L: Ledger>(
     out: &mut Vec<u8>,
-    fields: Fields<'_, N>,
+    context: RekeyContext<'_, N>,
     layout: &FieldLayout,
     at: usize,
     steps: &mut Steps<L>,
 ) -> Result<usize, NoMemory>
-    requires sound { Sound fields.classes.now }
-    requires layout { IsFieldLayout fields.classes.now layout.now }
-    requires order { at ≤ fields.end }
-    requires within { fields.end ≤ length fields.bytes.now }
-    requires there { (to : ℕ) × EndsAt fields.classes.now fields.bytes.now layout.now.shape at to × (to ≤ fields.end) }
-    ensures ok { IfOk result (λ end. (to : ℕ) → EndsAt fields.entry.classes.now fields.entry.bytes.now layout.now.shape at to → to ≤ fields.entry.end
-        → (end ≡ to) × (out.new.items ≡ out.old.items ++ rekeyed_bytes (N.keys fields.entry.new.now) fields.entry.classes.now fields.entry.bytes.now (node_at layout.now.shape at to))) }
+    requires sound { Sound context.classes.now }
+    requires layout { IsFieldLayout context.classes.now layout.now }
+    requires order { at ≤ context.end }
+    requires within { context.end ≤ length context.bytes.now }
+    requires there { (to : ℕ) × EndsAt context.classes.now context.bytes.now layout.now.shape at to × (to ≤ context.end) }
+    ensures ok { IfOk result (λ end. (to : ℕ) → EndsAt context.entry.classes.now context.entry.bytes.now layout.now.shape at to → to ≤ context.entry.end
+        → (end ≡ to) × (out.new.items ≡ out.old.items ++ rekeyed_bytes (N.keys context.entry.new.now) context.entry.classes.now context.entry.bytes.now (node_at layout.now.shape at to))) }
 {
-    let end = field_end(fields, layout, at);
+    let end = field_end(context, layout, at);
     let field = Node {
         shape: layout.shape,
-        bytes: fields.bytes,
+        bytes: context.bytes,
         at,
         end,
     };
-    put_rekeyed(out, fields.classes, field, fields.new, steps)?;
+    put_rekeyed(out, context.classes, field, context.new, steps)?;
     Ok(end)
 }
 
 /// The end of the field with this layout, which starts at `at`.
 #[inline(always)]
-pub(crate) fn field_end<N>(fields: Fields<'_, N>, layout: &FieldLayout, at: usize) -> usize
-    requires sound { Sound fields.classes.now }
-    requires layout { IsFieldLayout fields.classes.now layout.now }
-    requires order { at ≤ fields.end }
-    requires within { fields.end ≤ length fields.bytes.now }
-    requires there { (to : ℕ) × EndsAt fields.classes.now fields.bytes.now layout.now.shape at to × (to ≤ fields.end) }
-    ensures exact { (to : ℕ) → EndsAt fields.entry.classes.now fields.entry.bytes.now layout.now.shape at to → to ≤ fields.entry.end → result ≡ to }
-    ensures range { (at ≤ result) × (result ≤ fields.entry.end) }
+pub(crate) fn field_end<N>(context: RekeyContext<'_, N>, layout: &FieldLayout, at: usize) -> usize
+    requires sound { Sound context.classes.now }
+    requires layout { IsFieldLayout context.classes.now layout.now }
+    requires order { at ≤ context.end }
+    requires within { context.end ≤ length context.bytes.now }
+    requires there { (to : ℕ) × EndsAt context.classes.now context.bytes.now layout.now.shape at to × (to ≤ context.end) }
+    ensures exact { (to : ℕ) → EndsAt context.entry.classes.now context.entry.bytes.now layout.now.shape at to → to ≤ context.entry.end → result ≡ to }
+    ensures range { (at ≤ result) × (result ≤ context.entry.end) }
 {
     if let Form::Integer = layout.form {
-        return integer_at(fields.bytes, at, fields.end).end;
+        return integer_at(context.bytes, at, context.end).end;
     }
     if let Form::Raw(count) = layout.form {
         return at + usize::from(count);
     }
-    match end_of(fields.classes, layout.shape, fields.bytes, at, fields.end) {
+    match end_of(
+        context.classes,
+        layout.shape,
+        context.bytes,
+        at,
+        context.end,
+    ) {
         Ok(end) => end,
         Err(_) => unreachable!(),
     }

@@ -36,7 +36,7 @@ pub(crate) fn put_event<N: NewKeys, L: Ledger>(
     let node = event.node;
     let frame = event.frame;
     let start = out.len();
-    let fields = Fields {
+    let context = RekeyContext {
         classes,
         bytes: node.bytes,
         end: node.end,
@@ -46,7 +46,7 @@ pub(crate) fn put_event<N: NewKeys, L: Ledger>(
         from: frame.at,
         at: node.at,
     };
-    let from = pass_value(out, fields, node.shape, passed, steps)?;
+    let from = pass_value(out, context, node.shape, passed, steps)?;
     out.extend_from_slice(&node.bytes[from..frame.end()])?;
     put_size(out, start, frame.type_at - frame.at);
     Ok(())

@@ -1,4 +1,4 @@
-//! Fields whose bytes stay the same.
+//! Fields whose bytes new keys don't change.
 ghost use Rattle.std.specs.Prelude.{◌≡◌, ◌↔◌, ℕ, ◌<◌, ◌≤◌, length, IfSome, IsOk, IsTrue, Ok, slice_index, slice_range};
 ghost use Rattle.jfr_base.specs.Formats.{run, seen};
 ghost use Rattle.jfr_layout.specs.Classes.{IsFieldLayout, Sound};
@@ -8,47 +8,52 @@ ghost use Rattle.jfr_value.specs.Nodes.{EndsAt, node_at};
 ghost use Rattle.jfr_value.specs.Reading.{base_format};
 ghost use Rattle.jfr_renumber.specs.Rekeyed.{rekeyed_bytes};
 
-use crate::field::{Fields, field_end};
+use crate::field::{RekeyContext, field_end};
 use crate::rewriting::NewKeys;
 use jfr_layout::{FieldLayout, Form};
 use jfr_text::{is_bare, is_key, read_string, short_units_end};
 
-/// The end of the field with this layout, which starts at `at`, if its bytes stay the same: those of a number,
-/// of a string that isn't a key, and of a key 0 in one byte.
+/// `Some` with the end of the field that starts at `at`, if new keys don't change it: a number, a string that
+/// isn't a key, or the key 0 in one byte.
 #[inline(always)]
 pub(crate) fn same_end<N: NewKeys>(
-    fields: Fields<'_, N>,
+    context: RekeyContext<'_, N>,
     layout: &FieldLayout,
     at: usize,
 ) -> Option<usize>
-    requires sound { Sound fields.classes.now }
-    requires layout { IsFieldLayout fields.classes.now layout.now }
-    requires order { at ≤ fields.end }
-    requires within { fields.end ≤ length fields.bytes.now }
-    requires there { (to : ℕ) × EndsAt fields.classes.now fields.bytes.now layout.now.shape at to × (to ≤ fields.end) }
-    ensures exact { IfSome result (λ end. (to : ℕ) → EndsAt fields.entry.classes.now fields.entry.bytes.now layout.now.shape at to → to ≤ fields.entry.end
-        → (end ≡ to) × (rekeyed_bytes (N.keys fields.entry.new.now) fields.entry.classes.now fields.entry.bytes.now (node_at layout.now.shape at to) ≡ slice_range fields.entry.bytes.now at to)) }
+    requires sound { Sound context.classes.now }
+    requires layout { IsFieldLayout context.classes.now layout.now }
+    requires order { at ≤ context.end }
+    requires within { context.end ≤ length context.bytes.now }
+    requires there { (to : ℕ) × EndsAt context.classes.now context.bytes.now layout.now.shape at to × (to ≤ context.end) }
+    ensures exact { IfSome result (λ end. (to : ℕ) → EndsAt context.entry.classes.now context.entry.bytes.now layout.now.shape at to → to ≤ context.entry.end
+        → (end ≡ to) × (rekeyed_bytes (N.keys context.entry.new.now) context.entry.classes.now context.entry.bytes.now (node_at layout.now.shape at to) ≡ slice_range context.entry.bytes.now at to)) }
 {
     match layout.form {
-        Form::Integer | Form::Raw(_) => Some(field_end(fields, layout, at)),
-        Form::Key => null_end(fields, layout, at),
-        Form::Text => plain_text_end(fields, layout, at),
+        Form::Integer | Form::Raw(_) => Some(field_end(context, layout, at)),
+        Form::Key => null_end(context, layout, at),
+        Form::Text => plain_text_end(context, layout, at),
         Form::Array | Form::Fields => None,
     }
 }
 
 // The end of the key at `at`, if it is 0 in one byte.
 #[inline(always)]
-fn null_end<N: NewKeys>(fields: Fields<'_, N>, layout: &FieldLayout, at: usize) -> Option<usize>
-    requires sound { Sound fields.classes.now }
-    requires layout { IsFieldLayout fields.classes.now layout.now }
+fn null_end<N: NewKeys>(
+    context: RekeyContext<'_, N>,
+    layout: &FieldLayout,
+    at: usize,
+) -> Option<usize>
+    requires sound { Sound context.classes.now }
+    requires layout { IsFieldLayout context.classes.now layout.now }
     requires key { layout.now.form ≡ forms.Key }
-    requires within { fields.end ≤ length fields.bytes.now }
-    ensures exact { IfSome result (λ end. (to : ℕ) → EndsAt fields.entry.classes.now fields.entry.bytes.now layout.now.shape at to → to ≤ fields.entry.end
-        → (end ≡ to) × (rekeyed_bytes (N.keys fields.entry.new.now) fields.entry.classes.now fields.entry.bytes.now (node_at layout.now.shape at to) ≡ slice_range fields.entry.bytes.now at to)) }
+    requires within { context.end ≤ length context.bytes.now }
+    ensures exact { IfSome result (λ end. (to : ℕ) → EndsAt context.entry.classes.now context.entry.bytes.now layout.now.shape at to → to ≤ context.entry.end
+        → (end ≡ to) × (rekeyed_bytes (N.keys context.entry.new.now) context.entry.classes.now context.entry.bytes.now (node_at layout.now.shape at to) ≡ slice_range context.entry.bytes.now at to)) }
 {
-    if is_zero(fields.bytes, at, fields.end) {
-        fields.new.zero_stays();
+    if is_zero(context.bytes, at, context.end) {
+        // A law: it does nothing.
+        context.new.zero_stays();
         return Some(at + 1);
     }
     None
@@ -66,23 +71,23 @@ fn is_zero(bytes: &[u8], at: usize, end: usize) -> bool
 // The end of the string at `at`, if it isn't a key.
 #[inline(always)]
 fn plain_text_end<N: NewKeys>(
-    fields: Fields<'_, N>,
+    context: RekeyContext<'_, N>,
     layout: &FieldLayout,
     at: usize,
 ) -> Option<usize>
-    requires sound { Sound fields.classes.now }
-    requires layout { IsFieldLayout fields.classes.now layout.now }
+    requires sound { Sound context.classes.now }
+    requires layout { IsFieldLayout context.classes.now layout.now }
     requires text { layout.now.form ≡ forms.Text }
-    requires order { at ≤ fields.end }
-    requires within { fields.end ≤ length fields.bytes.now }
-    requires there { (to : ℕ) × EndsAt fields.classes.now fields.bytes.now layout.now.shape at to × (to ≤ fields.end) }
-    ensures exact { IfSome result (λ end. (to : ℕ) → EndsAt fields.entry.classes.now fields.entry.bytes.now layout.now.shape at to → to ≤ fields.entry.end
-        → (end ≡ to) × (rekeyed_bytes (N.keys fields.entry.new.now) fields.entry.classes.now fields.entry.bytes.now (node_at layout.now.shape at to) ≡ slice_range fields.entry.bytes.now at to)) }
+    requires order { at ≤ context.end }
+    requires within { context.end ≤ length context.bytes.now }
+    requires there { (to : ℕ) × EndsAt context.classes.now context.bytes.now layout.now.shape at to × (to ≤ context.end) }
+    ensures exact { IfSome result (λ end. (to : ℕ) → EndsAt context.entry.classes.now context.entry.bytes.now layout.now.shape at to → to ≤ context.entry.end
+        → (end ≡ to) × (rekeyed_bytes (N.keys context.entry.new.now) context.entry.classes.now context.entry.bytes.now (node_at layout.now.shape at to) ≡ slice_range context.entry.bytes.now at to)) }
 {
-    if is_key(fields.bytes, at, fields.end) {
+    if is_key(context.bytes, at, context.end) {
         return None;
     }
-    Some(text_end(fields.bytes, at, fields.end))
+    Some(text_end(context.bytes, at, context.end))
 }
 
 // The end of the string at `at`. Most strings are null, empty, or UTF-16 in integers of one byte.

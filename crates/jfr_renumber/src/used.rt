@@ -14,7 +14,7 @@ use jfr_chunk::{Chunk, Kept};
 use jfr_layout::Classes;
 use jfr_pool::Pools;
 use jfr_reach::Marks;
-use jfr_value::{Node, Visit, end_visiting, layout_of};
+use jfr_value::{Node, Visit, Walk, end_visiting, layout_of};
 use std::alloc::Global;
 
 /// The classes and keys that are referred to and have no entry in force. Once it runs out of memory the list
@@ -126,7 +126,13 @@ fn list_value(list: &mut Missing, classes: &Classes, pools: &Pools, node: Node<'
     ensures { TakesAll (λ t old new. Lists pools.now (t ∷ []) old new) (targets classes.now node.entry.bytes.now (node_of node.entry)) list.old list.new }
 {
     let layout = layout_of(classes, node.shape);
-    let _end = end_visiting(classes, &layout, node.bytes, node.at, node.end, list, pools);
+    let walk = Walk {
+        classes,
+        bytes: node.bytes,
+        end: node.end,
+        with: pools,
+    };
+    let _end = end_visiting(walk, &layout, node.at, list);
 }
 
 /// Sorts classes and keys, and leaves out repeated ones.

@@ -35,7 +35,7 @@ passed_most test (x ∷ xs) = by_test (test x) (passed_most test xs)
     by_test true h = omega arith
     by_test false h = omega arith
 
--- The places of the checkpoints fall.
+-- The offsets of the checkpoints fall.
 chain_short : (c : List ℕ) (rs : List Framed) (at : ℕ) (ls : List Link) → IsChain c rs at ls → length ls ≤ at + 1
 chain_short c rs at [] h = absurd h
 chain_short c rs at (l ∷ []) h = omega arith

@@ -13,7 +13,7 @@ IsCached p t = t.text ≡ referred p t.references t.level (t.class, t.key)
 
 -- All texts in the slots are texts of this chunk.
 abbrev pub AreKept : Parts → Slots → Type 0
-AreKept p ts = AllByRecursion (λ o. IfSome o (IsCached p)) ts.places.items
+AreKept p ts = AllByRecursion (λ o. IfSome o (IsCached p)) ts.texts.items
 
 -- All texts in the cache are texts of this chunk.
 abbrev pub AreCached : Parts → TextCache → Type 0

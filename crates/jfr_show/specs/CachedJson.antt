@@ -13,4 +13,4 @@ IsCachedJson p t = string_bytes t.text ≡ compact_text (referred_json p t.refer
 
 -- All texts in the cache are JSON of this chunk.
 abbrev pub AreCachedJson : Parts → JsonCache → Type 0
-AreCachedJson p ts = AllByRecursion (λ o. IfSome o (IsCachedJson p)) ts.places.items
+AreCachedJson p ts = AllByRecursion (λ o. IfSome o (IsCachedJson p)) ts.texts.items

@@ -8,7 +8,7 @@ use Rattle.jfr_layout.specs.Classes.{Class, Classes, Field, Sound}
 use Rattle.jfr_value.specs.Values.{Values, Nil, Cons, bytes_of}
 use Rattle.jfr_show.specs.declared.json.order.Lead.{Lead}
 use Rattle.jfr_show.specs.declared.json.order.MemberOrder.{MemberOrder}
-use Rattle.jfr_show.specs.declared.json.places.Places.{Places}
+use Rattle.jfr_show.specs.declared.json.offsets.FieldOffsets.{FieldOffsets}
 use Rattle.jfr_show.specs.declared.json.source.Source.{Source}
 use Rattle.jfr_show.specs.Json.{members_with}
 
@@ -70,6 +70,6 @@ abbrev pub starts : ℕ → Values → List ℕ
 starts at Nil = []
 starts at (Cons v vs) = at ∷ starts (at + length (bytes_of v)) vs
 
--- These values start at these places, from `at` on, and end at `to`.
-abbrev pub ArePlaces : Places → ℕ → ℕ → Values → Type 0
-ArePlaces p at to vs = (p.end ≡ to) × (p.starts.items ≡ starts at vs)
+-- These values start at these offsets, from `at` on, and end at `to`.
+abbrev pub AreOffsets : FieldOffsets → ℕ → ℕ → Values → Type 0
+AreOffsets p at to vs = (p.end ≡ to) × (p.starts.items ≡ starts at vs)

@@ -16,7 +16,7 @@ use jfr_base::NoMemory;
 use std::alloc::Global;
 
 /// The number of slots.
-pub(crate) const PLACES: usize = 2048;
+pub(crate) const SLOTS: usize = 2048;
 
 /// The most bytes that a text in the cache may have.
 pub(crate) const LONGEST: usize = 4096;
@@ -36,7 +36,7 @@ pub(crate) struct CachedText {
 #[derive(Drop)]
 pub(crate) struct Slots {
     pub(crate) alloc: Global,
-    pub(crate) places: Vec<Option<CachedText>>,
+    pub(crate) texts: Vec<Option<CachedText>>,
 }
 
 impl Slots {
@@ -44,20 +44,20 @@ impl Slots {
     fn new(alloc: Global) -> Result<Slots, NoMemory>
         ensures none { IfOk result (λ slots. (p : Parts) → AreKept p slots) }
     {
-        let mut places = Vec::new(alloc);
-        for _ in 0..PLACES {
-            places.push(None)?;
+        let mut texts = Vec::new(alloc);
+        for _ in 0..SLOTS {
+            texts.push(None)?;
         }
-        Ok(Slots { alloc, places })
+        Ok(Slots { alloc, texts })
     }
 
     /// Keeps a text in its slot, unless it is too long.
     fn keep(&mut self, cached: CachedText)
         ensures cached { (p : Parts) → AreKept p self.old → IsCached p cached → AreKept p self.new }
     {
-        let place = place_of(cached.class, cached.key);
-        if place < self.places.len() && cached.text.as_bytes().len() <= LONGEST {
-            self.places[place] = Some(cached);
+        let slot = slot_of(cached.class, cached.key);
+        if slot < self.texts.len() && cached.text.as_bytes().len() <= LONGEST {
+            self.texts[slot] = Some(cached);
         }
     }
 }
@@ -99,7 +99,7 @@ impl TextCache {
         let Some(slots) = &self.slots else {
             return None;
         };
-        let Some(Some(cached)) = slots.places.get(place_of(class, key)) else {
+        let Some(Some(cached)) = slots.texts.get(slot_of(class, key)) else {
             return None;
         };
         if cached.key != key
@@ -125,6 +125,6 @@ impl TextCache {
 
 /// The slot for a class and a key. The keys of a class are often consecutive numbers, which get different
 /// slots.
-pub(crate) fn place_of(class: u64, key: u64) -> usize {
-    (key.wrapping_add(class.wrapping_mul(389)) % PLACES as u64) as usize
+pub(crate) fn slot_of(class: u64, key: u64) -> usize {
+    (key.wrapping_add(class.wrapping_mul(389)) % SLOTS as u64) as usize
 }

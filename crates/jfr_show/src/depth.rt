@@ -5,7 +5,7 @@ ghost use Rattle.jfr_show.specs.Depths.{deepest};
 use jfr_chunk::Chunk;
 
 /// The most composite values that can be nested without following a reference: the outermost, and 32 inside
-/// it by inline steps (docs/FORMAT.md, Limits).
+/// it by inline steps (docs/FORMAT.md, Classes and shapes).
 const COMPOSITES: u32 = 33;
 
 /// How deep the parts below a value may be.

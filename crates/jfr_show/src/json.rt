@@ -7,7 +7,7 @@
 //! `serde_json` sorts the members of an object by key, while the fields of a class have an order of their own.
 //! So `MemberOrder` holds, for each class, the sorted order of its fields and the text before each value. It
 //! comes from a map of `serde_json`: once a chunk for a class whose fields all have short names, and for any
-//! other class anew for each value. `places.rt` finds where each field of a value starts, so that the fields
+//! other class anew for each value. `offsets.rt` finds where each field of a value starts, so that the fields
 //! can be written in any order. `JsonCache` keeps the JSON of references for the next events.
 ghost use Rattle.std.specs.Prelude.{◌≡◌, ◌≤◌, ◌++◌, Some, IfOk, OnOk, slice_get, string_bytes};
 ghost use Rattle.serde_json.specs.Written.{compact_text};
@@ -20,8 +20,8 @@ ghost use Rattle.jfr_show.specs.Orders.{IsSource};
 
 mod cache;
 mod leaf;
+mod offsets;
 mod order;
-mod places;
 mod reference;
 mod source;
 mod string;

@@ -93,28 +93,28 @@ fn show_value(
     }
 }
 
-/// Adds a value of the class with index `place`. Returns where it ends.
+/// Adds a value of the class with index `class_index`. Returns where it ends.
 #[cycle(show)]
 fn show_fields(
     view: &View<'_, '_>,
     cache: &mut TextCache,
-    place: usize,
+    class_index: usize,
     at: usize,
     out: &mut TextBuilder,
 ) -> Result<usize, NoMemory>
     requires cached { AreCached view.now.chunk.now cache.old }
-    requires placed { place < length view.now.chunk.now.classes }
+    requires placed { class_index < length view.now.chunk.now.classes }
     requires inner { 1 ≤ view.now.depth.reach.composites }
-    requires room { AllByRecursion (Room view.now.chunk.now.classes (view.now.depth.reach.composites - 1)) (field_shapes view.now.chunk.now.classes place) }
-    requires stand { (to : ℕ) × (vs : Values) × IsRow view.now.chunk.now.classes view.now.chunk.now.bytes at to (field_shapes view.now.chunk.now.classes place) vs }
+    requires room { AllByRecursion (Room view.now.chunk.now.classes (view.now.depth.reach.composites - 1)) (field_shapes view.now.chunk.now.classes class_index) }
+    requires stand { (to : ℕ) × (vs : Values) × IsRow view.now.chunk.now.classes view.now.chunk.now.bytes at to (field_shapes view.now.chunk.now.classes class_index) vs }
     requires composites { view.now.depth.reach.composites ≤ 33 }
     requires level { deepest view.now.depth false ≤ 1000 }
-    ensures ok { IfOk result (λ end. (to : ℕ) (vs : Values) (class : Class) → IsRow view.now.chunk.now.classes view.now.chunk.now.bytes at to (field_shapes view.now.chunk.now.classes place) vs
-        → slice_get view.now.chunk.now.classes place ≡ Some class → (end ≡ to) × (out.new ≡ out.old ++ fields_shown view.now.depth.level class (shown_all view.now.chunk.now.classes (referred view.now.chunk.now view.now.depth.reach.references) (view.now.depth.level + 1) vs))) }
+    ensures ok { IfOk result (λ end. (to : ℕ) (vs : Values) (class : Class) → IsRow view.now.chunk.now.classes view.now.chunk.now.bytes at to (field_shapes view.now.chunk.now.classes class_index) vs
+        → slice_get view.now.chunk.now.classes class_index ≡ Some class → (end ≡ to) × (out.new ≡ out.old ++ fields_shown view.now.depth.level class (shown_all view.now.chunk.now.classes (referred view.now.chunk.now view.now.depth.reach.references) (view.now.depth.level + 1) vs))) }
     ensures cached { AreCached view.now.chunk.now cache.new }
 {
     let classes = view.chunk.classes();
-    let info = classes.class_at(place);
+    let info = classes.class_at(class_index);
     out.push_str(info.name.as_str())?;
     out.push_ascii(" {\n")?;
     let inner = view.depth.of_fields();
@@ -124,7 +124,7 @@ fn show_fields(
     };
     let mut to = at;
     let mut number = 0;
-    for layout in classes.layouts(place) {
+    for layout in classes.layouts(class_index) {
         out.push_indent(inner.level)?;
         out.push_str(info.fields.at(number).name.as_str())?;
         out.push_ascii(" = ")?;

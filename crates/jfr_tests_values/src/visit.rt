@@ -7,7 +7,7 @@ use crate::classes::{add, inline, items, reference};
 use crate::value::node_at_front;
 use jfr_base::{Flaw, Reason};
 use jfr_layout::{ClassFault, ClassList, Classes, Shape};
-use jfr_value::{Node, Steps, Visit, end_visiting, layout_of, visit_targets};
+use jfr_value::{Node, Steps, Visit, Walk, end_visiting, layout_of, visit_targets};
 use std::alloc::Global;
 use std::marker::Brand;
 use std::sync::ledger::{Blank, Ledger};
@@ -94,7 +94,13 @@ fn walk_to_end(
         failed: false,
     };
     let layout = layout_of(classes, shape);
-    let end = end_visiting(classes, &layout, bytes, 0, bytes.len(), &mut seen, &0);
+    let walk = Walk {
+        classes,
+        bytes,
+        end: bytes.len(),
+        with: &0,
+    };
+    let end = end_visiting(walk, &layout, 0, &mut seen);
     if seen.failed {
         None
     } else {

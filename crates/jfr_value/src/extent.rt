@@ -81,32 +81,22 @@ pub fn end_by_layout(
 /// them.
 #[inline(always)]
 pub fn end_visiting<C, V: Visit<C>>(
-    classes: &Classes,
+    walk: Walk<'_, '_, C>,
     layout: &FieldLayout,
-    bytes: &[u8],
     at: usize,
-    end: usize,
     visitor: &mut V,
-    with: &C,
 ) -> Result<usize, Flaw>
-    requires sound { Sound classes.now }
-    requires layout { IsFieldLayout classes.now layout.now }
-    requires order { at ≤ end }
-    requires within { end ≤ length bytes.now }
-    requires ready { V.ready visitor.old with.now }
-    ensures ok { IfOk result (λ to. EndsAt classes.now bytes.now layout.now.shape at to × (to ≤ end)) }
-    ensures refused { IfErr result (IsRefused classes.now bytes.now layout.now.shape at end) }
-    ensures exact { result ≡ seen (run (value_format classes.now layout.now.shape) bytes.now end at) }
+    requires sound { Sound walk.classes.now }
+    requires layout { IsFieldLayout walk.classes.now layout.now }
+    requires order { at ≤ walk.end }
+    requires ready { V.ready visitor.old walk.with.now }
+    ensures ok { IfOk result (λ to. EndsAt walk.entry.classes.now walk.entry.bytes.now layout.now.shape at to × (to ≤ walk.entry.end)) }
+    ensures refused { IfErr result (IsRefused walk.entry.classes.now walk.entry.bytes.now layout.now.shape at walk.entry.end) }
+    ensures exact { result ≡ seen (run (value_format walk.entry.classes.now layout.now.shape) walk.entry.bytes.now walk.entry.end at) }
     ensures reason { IfErr result (λ flaw. IsValueReason flaw.reason) }
-    ensures visited { IfOk result (λ to. TakesAll (V.takes with.now) (targets classes.now bytes.now (node_at layout.now.shape at to)) visitor.old visitor.new) }
-    ensures ready { V.ready visitor.new with.now }
+    ensures visited { IfOk result (λ to. TakesAll (V.takes walk.entry.with.now) (targets walk.entry.classes.now walk.entry.bytes.now (node_at layout.now.shape at to)) visitor.old visitor.new) }
+    ensures ready { V.ready visitor.new walk.entry.with.now }
 {
-    let walk = Walk {
-        classes,
-        bytes,
-        end,
-        with,
-    };
     value_end(walk, layout, at, visitor)
 }
 

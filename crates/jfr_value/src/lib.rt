@@ -36,3 +36,4 @@ pub use part::child;
 pub use reference::target;
 pub use steps::Steps;
 pub use visit::{Visit, visit_targets};
+pub use walk::Walk;

@@ -11,14 +11,17 @@ pub(crate) const LEVELS: u32 = 33;
 /// The most composite classes that can be nested in the fields of the outermost.
 pub(crate) const INNER_LEVELS: u32 = LEVELS - 1;
 
-/// What stays the same during a walk over a value: the classes, the bytes of the chunk, the offset by which
-/// the value has to end, and what the visitor looks at. The inlined walk over an event passes this by value,
-/// so that all of it stays in registers; recursive calls pass it by reference.
-pub(crate) struct Walk<'c, 'a, C> {
-    pub(crate) classes: &'c Classes,
-    pub(crate) bytes: &'a [u8],
-    pub(crate) end: usize,
-    pub(crate) with: &'c C,
+/// What stays the same during a walk over a value. The inlined walk over an event passes this by value, so
+/// that all of it stays in registers; recursive calls pass it by reference.
+pub struct Walk<'c, 'a, C> {
+    /// The classes of the chunk.
+    pub classes: &'c Classes,
+    /// The bytes of the chunk.
+    pub bytes: &'a [u8],
+    /// The offset by which the value has to end.
+    pub end: usize,
+    /// What the visitor looks at.
+    pub with: &'c C,
     ghost within: { end ≤ length bytes.now },
 }
 

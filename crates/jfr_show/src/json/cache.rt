@@ -7,7 +7,7 @@ ghost use Rattle.jfr_chunk.specs.Parts.{Parts};
 ghost use Rattle.jfr_show.specs.CachedJson.{AreCachedJson, IsCachedJson};
 ghost use Rattle.jfr_show.specs.Json.{referred_json};
 
-use crate::cache::{LONGEST, PLACES, place_of};
+use crate::cache::{LONGEST, SLOTS, slot_of};
 use crate::depth::Reach;
 use jfr_base::NoMemory;
 use std::alloc::Global;
@@ -24,7 +24,7 @@ pub(crate) struct CachedJson {
 /// The JSON of one chunk's references, each in its slot.
 #[derive(Drop)]
 pub(crate) struct JsonCache {
-    pub(crate) places: Vec<Option<CachedJson>>,
+    pub(crate) texts: Vec<Option<CachedJson>>,
 }
 
 impl JsonCache {
@@ -32,18 +32,18 @@ impl JsonCache {
     pub(crate) fn new(alloc: Global) -> Result<JsonCache, NoMemory>
         ensures none { IfOk result (λ cache. (p : Parts) → AreCachedJson p cache) }
     {
-        let mut places = Vec::new(alloc);
-        for _ in 0..PLACES {
-            places.push(None)?;
+        let mut texts = Vec::new(alloc);
+        for _ in 0..SLOTS {
+            texts.push(None)?;
         }
-        Ok(JsonCache { places })
+        Ok(JsonCache { texts })
     }
 
     /// The JSON of the reference to a class and a key, if the cache has it.
     pub(crate) fn get(&self, class: u64, key: u64, reach: Reach) -> Option<&str>
         ensures written { (p : Parts) → AreCachedJson p self.now → IfSome result (λ text. text.now ≡ compact_text (referred_json p reach.references (class, key))) }
     {
-        let Some(Some(cached)) = self.places.get(place_of(class, key)) else {
+        let Some(Some(cached)) = self.texts.get(slot_of(class, key)) else {
             return None;
         };
         if cached.key != key || cached.class != class || cached.references != reach.references {
@@ -56,9 +56,9 @@ impl JsonCache {
     pub(crate) fn keep(&mut self, cached: CachedJson)
         ensures cached { (p : Parts) → AreCachedJson p self.old → IsCachedJson p cached → AreCachedJson p self.new }
     {
-        let place = place_of(cached.class, cached.key);
-        if place < self.places.len() && cached.text.as_str().len() <= LONGEST {
-            self.places[place] = Some(cached);
+        let slot = slot_of(cached.class, cached.key);
+        if slot < self.texts.len() && cached.text.as_str().len() <= LONGEST {
+            self.texts[slot] = Some(cached);
         }
     }
 }

@@ -10,7 +10,7 @@ use crate::reference::class_name;
 use jfr_base::NoMemory;
 
 /// Adds the name of a class and a key.
-pub(crate) fn push_reference(
+pub(crate) fn push_name(
     source: &Source<'_, '_>,
     class: u64,
     key: u64,

@@ -10,13 +10,13 @@ ghost use Rattle.jfr_value.specs.Visits.{field_shapes};
 ghost use Rattle.jfr_value.specs.Walks.{IsLayoutIfKnown, Room};
 ghost use Rattle.jfr_show.specs.CachedJson.{AreCachedJson};
 ghost use Rattle.jfr_show.specs.Json.{json_of, json_of_all, members_with, node_json, referred_json};
-ghost use Rattle.jfr_show.specs.Orders.{ArePlaces, IsOrderAt, IsSource};
+ghost use Rattle.jfr_show.specs.Orders.{AreOffsets, IsOrderAt, IsSource};
 
 use super::cache::{CachedJson, JsonCache};
 use super::leaf::{push_integer, push_raw, push_text};
+use super::offsets::{FieldOffsets, field_offsets};
 use super::order::{MemberOrder, order_of};
-use super::places::{Places, field_places};
-use super::reference::{push_missing, push_reference};
+use super::reference::{push_missing, push_name};
 use super::source::Source;
 use crate::reading::{bytes_at, constant, integer_at, string_at};
 use jfr_base::NoMemory;
@@ -78,14 +78,14 @@ fn push_value(
         }
         Form::Key => {
             let key = integer_at(source.chunk, at);
-            push_referred(source, cache, layout.shape.class, key.value, out)?;
+            push_reference(source, cache, layout.shape.class, key.value, out)?;
             Ok(key.end)
         }
         Form::Text => {
             let string = string_at(source.chunk, at);
             match string.kind {
                 StringKind::Key => {
-                    push_referred(source, cache, layout.shape.class, string.key, out)?
+                    push_reference(source, cache, layout.shape.class, string.key, out)?
                 }
                 _ => push_text(source.alloc, &string, out)?,
             }
@@ -96,81 +96,81 @@ fn push_value(
     }
 }
 
-/// Adds a value of the class with index `place`. Returns where it ends.
+/// Adds a value of the class with index `class_index`. Returns where it ends.
 #[cycle(json)]
 fn push_fields(
     source: &Source<'_, '_>,
     cache: &mut JsonCache,
-    place: usize,
+    class_index: usize,
     at: usize,
     out: &mut String,
 ) -> Result<usize, NoMemory>
     requires source { IsSource source.now }
     requires cached { AreCachedJson source.now.chunk.now cache.old }
-    requires placed { place < length source.now.chunk.now.classes }
+    requires placed { class_index < length source.now.chunk.now.classes }
     requires inner { 1 ≤ source.now.reach.composites }
-    requires room { AllByRecursion (Room source.now.chunk.now.classes (source.now.reach.composites - 1)) (field_shapes source.now.chunk.now.classes place) }
-    requires stand { (to : ℕ) × (vs : tree.Values) × IsRow source.now.chunk.now.classes source.now.chunk.now.bytes at to (field_shapes source.now.chunk.now.classes place) vs }
+    requires room { AllByRecursion (Room source.now.chunk.now.classes (source.now.reach.composites - 1)) (field_shapes source.now.chunk.now.classes class_index) }
+    requires stand { (to : ℕ) × (vs : tree.Values) × IsRow source.now.chunk.now.classes source.now.chunk.now.bytes at to (field_shapes source.now.chunk.now.classes class_index) vs }
     requires composites { source.now.reach.composites ≤ 33 }
-    ensures ok { IfOk result (λ end. (to : ℕ) (vs : tree.Values) (class : Class) → IsRow source.now.chunk.now.classes source.now.chunk.now.bytes at to (field_shapes source.now.chunk.now.classes place) vs
-        → slice_get source.now.chunk.now.classes place ≡ Some class → (end ≡ to) × (string_bytes out.new ≡ string_bytes out.old ++ compact_text (object (members_with no_members class.fields (json_of_all source.now.chunk.now.classes (referred_json source.now.chunk.now source.now.reach.references) vs))))) }
+    ensures ok { IfOk result (λ end. (to : ℕ) (vs : tree.Values) (class : Class) → IsRow source.now.chunk.now.classes source.now.chunk.now.bytes at to (field_shapes source.now.chunk.now.classes class_index) vs
+        → slice_get source.now.chunk.now.classes class_index ≡ Some class → (end ≡ to) × (string_bytes out.new ≡ string_bytes out.old ++ compact_text (object (members_with no_members class.fields (json_of_all source.now.chunk.now.classes (referred_json source.now.chunk.now source.now.reach.references) vs))))) }
     ensures cached { AreCachedJson source.now.chunk.now cache.new }
 {
-    let places = field_places(source.alloc, source.chunk, place, at)?;
-    push_object(source, cache, &places, out)
+    let offsets = field_offsets(source.alloc, source.chunk, class_index, at)?;
+    push_object(source, cache, &offsets, out)
 }
 
-/// Adds a value whose fields are at these places. Returns where it ends.
+/// Adds a value whose fields are at these offsets. Returns where it ends.
 #[cycle(json)]
 fn push_object(
     source: &Source<'_, '_>,
     cache: &mut JsonCache,
-    places: &Places,
+    offsets: &FieldOffsets,
     out: &mut String,
 ) -> Result<usize, NoMemory>
     requires source { IsSource source.now }
     requires cached { AreCachedJson source.now.chunk.now cache.old }
-    requires placed { places.now.place < length source.now.chunk.now.classes }
+    requires placed { offsets.now.class_index < length source.now.chunk.now.classes }
     requires inner { 1 ≤ source.now.reach.composites }
-    requires room { AllByRecursion (Room source.now.chunk.now.classes (source.now.reach.composites - 1)) (field_shapes source.now.chunk.now.classes places.now.place) }
-    requires stand { (at : ℕ) × (to : ℕ) × (vs : tree.Values) × IsRow source.now.chunk.now.classes source.now.chunk.now.bytes at to (field_shapes source.now.chunk.now.classes places.now.place) vs × ArePlaces places.now at to vs }
+    requires room { AllByRecursion (Room source.now.chunk.now.classes (source.now.reach.composites - 1)) (field_shapes source.now.chunk.now.classes offsets.now.class_index) }
+    requires stand { (at : ℕ) × (to : ℕ) × (vs : tree.Values) × IsRow source.now.chunk.now.classes source.now.chunk.now.bytes at to (field_shapes source.now.chunk.now.classes offsets.now.class_index) vs × AreOffsets offsets.now at to vs }
     requires composites { source.now.reach.composites ≤ 33 }
-    ensures ok { IfOk result (λ end. (at to : ℕ) (vs : tree.Values) (class : Class) → IsRow source.now.chunk.now.classes source.now.chunk.now.bytes at to (field_shapes source.now.chunk.now.classes places.now.place) vs → ArePlaces places.now at to vs
-        → slice_get source.now.chunk.now.classes places.now.place ≡ Some class → (end ≡ to) × (string_bytes out.new ≡ string_bytes out.old ++ compact_text (object (members_with no_members class.fields (json_of_all source.now.chunk.now.classes (referred_json source.now.chunk.now source.now.reach.references) vs))))) }
+    ensures ok { IfOk result (λ end. (at to : ℕ) (vs : tree.Values) (class : Class) → IsRow source.now.chunk.now.classes source.now.chunk.now.bytes at to (field_shapes source.now.chunk.now.classes offsets.now.class_index) vs → AreOffsets offsets.now at to vs
+        → slice_get source.now.chunk.now.classes offsets.now.class_index ≡ Some class → (end ≡ to) × (string_bytes out.new ≡ string_bytes out.old ++ compact_text (object (members_with no_members class.fields (json_of_all source.now.chunk.now.classes (referred_json source.now.chunk.now source.now.reach.references) vs))))) }
     ensures cached { AreCachedJson source.now.chunk.now cache.new }
 {
-    match &source.orders[places.place] {
-        Some(order) => push_members(source, cache, order, places, out),
+    match &source.orders[offsets.class_index] {
+        Some(order) => push_members(source, cache, order, offsets, out),
         None => {
-            let class = source.chunk.classes().class_at(places.place);
+            let class = source.chunk.classes().class_at(offsets.class_index);
             let order = order_of(source.alloc, &class.fields)?;
-            push_members(source, cache, &order, places, out)
+            push_members(source, cache, &order, offsets, out)
         }
     }
 }
 
-/// Adds a value whose fields are at these places, in this order. Returns where it ends.
+/// Adds a value whose fields are at these offsets, in this order. Returns where it ends.
 #[cycle(json)]
 fn push_members(
     source: &Source<'_, '_>,
     cache: &mut JsonCache,
     order: &MemberOrder,
-    places: &Places,
+    offsets: &FieldOffsets,
     out: &mut String,
 ) -> Result<usize, NoMemory>
     requires source { IsSource source.now }
     requires cached { AreCachedJson source.now.chunk.now cache.old }
-    requires order { IsOrderAt source.now.chunk.now.classes places.now.place order.now }
-    requires placed { places.now.place < length source.now.chunk.now.classes }
+    requires order { IsOrderAt source.now.chunk.now.classes offsets.now.class_index order.now }
+    requires placed { offsets.now.class_index < length source.now.chunk.now.classes }
     requires inner { 1 ≤ source.now.reach.composites }
-    requires room { AllByRecursion (Room source.now.chunk.now.classes (source.now.reach.composites - 1)) (field_shapes source.now.chunk.now.classes places.now.place) }
-    requires stand { (at : ℕ) × (to : ℕ) × (vs : tree.Values) × IsRow source.now.chunk.now.classes source.now.chunk.now.bytes at to (field_shapes source.now.chunk.now.classes places.now.place) vs × ArePlaces places.now at to vs }
+    requires room { AllByRecursion (Room source.now.chunk.now.classes (source.now.reach.composites - 1)) (field_shapes source.now.chunk.now.classes offsets.now.class_index) }
+    requires stand { (at : ℕ) × (to : ℕ) × (vs : tree.Values) × IsRow source.now.chunk.now.classes source.now.chunk.now.bytes at to (field_shapes source.now.chunk.now.classes offsets.now.class_index) vs × AreOffsets offsets.now at to vs }
     requires composites { source.now.reach.composites ≤ 33 }
-    ensures ok { IfOk result (λ end. (at to : ℕ) (vs : tree.Values) (class : Class) → IsRow source.now.chunk.now.classes source.now.chunk.now.bytes at to (field_shapes source.now.chunk.now.classes places.now.place) vs → ArePlaces places.now at to vs
-        → slice_get source.now.chunk.now.classes places.now.place ≡ Some class → (end ≡ to) × (string_bytes out.new ≡ string_bytes out.old ++ compact_text (object (members_with no_members class.fields (json_of_all source.now.chunk.now.classes (referred_json source.now.chunk.now source.now.reach.references) vs))))) }
+    ensures ok { IfOk result (λ end. (at to : ℕ) (vs : tree.Values) (class : Class) → IsRow source.now.chunk.now.classes source.now.chunk.now.bytes at to (field_shapes source.now.chunk.now.classes offsets.now.class_index) vs → AreOffsets offsets.now at to vs
+        → slice_get source.now.chunk.now.classes offsets.now.class_index ≡ Some class → (end ≡ to) × (string_bytes out.new ≡ string_bytes out.old ++ compact_text (object (members_with no_members class.fields (json_of_all source.now.chunk.now.classes (referred_json source.now.chunk.now source.now.reach.references) vs))))) }
     ensures cached { AreCachedJson source.now.chunk.now cache.new }
 {
-    let layouts = source.chunk.classes().layouts(places.place);
+    let layouts = source.chunk.classes().layouts(offsets.class_index);
     let inner = source.reach.of_fields();
     let deeper = Source {
         reach: inner,
@@ -180,10 +180,10 @@ fn push_members(
     for lead in &order.leads {
         out.push_str(lead.text.as_str())?;
         let layout = &layouts[lead.field];
-        let _end = push_value(&deeper, cache, layout, places.starts[lead.field], out)?;
+        let _end = push_value(&deeper, cache, layout, offsets.starts[lead.field], out)?;
     }
     out.push_str("}")?;
-    Ok(places.end)
+    Ok(offsets.end)
 }
 
 /// Adds an array. Returns where it ends.
@@ -233,7 +233,7 @@ fn push_comma(later: bool, out: &mut String) -> Result<(), NoMemory>
 /// Adds the JSON of the reference to a class and a key, from the cache if it is there. If not, the cache may
 /// keep it.
 #[cycle(json)]
-fn push_referred(
+fn push_reference(
     source: &Source<'_, '_>,
     cache: &mut JsonCache,
     class: u64,
@@ -279,7 +279,7 @@ fn push_constant(
         return push_missing(source, class, key, out);
     };
     if source.reach.references == 0 {
-        return push_reference(source, class, key, out);
+        return push_name(source, class, key, out);
     }
     let reach = source.reach.of_constant();
     push_node(&Source { reach, ..*source }, cache, &node, out)

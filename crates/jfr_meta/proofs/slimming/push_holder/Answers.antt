@@ -15,9 +15,9 @@ returns c =
     let refs = c.in_ok-children.children.items in
     let kept = filter (element_stays texts (is_in c.args.stay.now)) (children_of t) in
     record {
-      ok = on_ok_so c.push_each.result
-          (λ w. tree_done texts t kept c.len.result c.args.tree.now c.push_head.new.tree c.push_each.new.tree
+      ok = on_ok_so c.push_chosen.result
+          (λ w. tree_done texts t kept c.len.result c.args.tree.now c.push_head.new.tree c.push_chosen.new.tree
           (c.len.ensures ∙ (sym c.deref.ensures.len ∙ (ap length c.deref.ensures.value ∙ (sym (length-map refs (λ e. e.now)) ∙ ap length c.in_ok-children.ensures.ok)))) c.in_ok-push_head.ensures.ok
-          (subst (λ z. WroteTrees texts z c.push_head.new.tree c.push_each.new.tree) (ap (map (λ e. e.now)) c.deref.ensures.value ∙ c.in_ok-children.ensures.ok) w))
-          c.push_each.ensures.ok;
+          (subst (λ z. WroteTrees texts z c.push_head.new.tree c.push_chosen.new.tree) (ap (map (λ e. e.now)) c.deref.ensures.value ∙ c.in_ok-children.ensures.ok) w))
+          c.push_chosen.ensures.ok;
     }

@@ -23,5 +23,5 @@ loop-element-preserved c =
     let found = c.loop-element.invariant.1 in
     let wrote = subst (λ b. WroteTree texts (slim_unless b texts stays x) c.loop-element.tree c.push_child.new.tree) found c.in_ok-push_child.ensures.ok in (
       trees_more texts (first_changed p f (take i ts)) (first_changed p f (take (i + 1) ts)) (slim_unless (list_any p (take i ts)) texts stays x) c.args.tree.now c.loop-element.tree c.push_child.new.tree (changed_next p f ts i x e) c.loop-element.invariant.0 wrote,
-      c.finds_holder-found.ensures ∙ (ap (λ b. b || p x) found ∙ any_next p ts i x e),
+      c.is_found_by-found.ensures ∙ (ap (λ b. b || p x) found ∙ any_next p ts i x e),
     )

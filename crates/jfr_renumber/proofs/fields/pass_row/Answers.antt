@@ -12,14 +12,14 @@ use Rattle.jfr_renumber.proofs.PassedLaws.{row_begun}
 use Rattle.jfr_renumber.proofs.fields.pass_row.Goals as goal
 
 pub pass_field-requires-clause-layout : goal.pass_field-requires-clause-layout
-pass_field-requires-clause-layout g c = layouts_at c.args.fields.classes.now c.args.layouts.now c.loop-i.i c.requires.layouts (omega arith)
+pass_field-requires-clause-layout g c = layouts_at c.args.context.classes.now c.args.layouts.now c.loop-i.i c.requires.layouts (omega arith)
 
 pub pass_field-requires-clause-order : goal.pass_field-requires-clause-order
 pass_field-requires-clause-order g c =
     let ls = c.args.layouts.now in
     let i = c.loop-i.i in
     let r = c.requires.row in
-    let f = field_at (g.N.NewKeys.keys c.args.fields.new.now) c.args.fields.classes.now c.args.fields.bytes.now c.args.start.at c.args.fields.end (map (λ s. s.shape) ls) r.0 i (get_or ls i no_layout).shape r.1 (shapes_get ls i (get_or ls i no_layout) (layout_there ls i (omega arith))) in
+    let f = field_at (g.N.NewKeys.keys c.args.context.new.now) c.args.context.classes.now c.args.context.bytes.now c.args.start.at c.args.context.end (map (λ s. s.shape) ls) r.0 i (get_or ls i no_layout).shape r.1 (shapes_get ls i (get_or ls i no_layout) (layout_there ls i (omega arith))) in
     let a = (c.loop-i.invariant r.0 r.1).0 in
     let o = f.node.order in
     let w = f.within in
@@ -31,25 +31,25 @@ pass_field-requires-clause-there g c =
     let i = c.loop-i.i in
     let r = c.requires.row in
     let s = (get_or ls i no_layout).shape in
-    let f = field_at (g.N.NewKeys.keys c.args.fields.new.now) c.args.fields.classes.now c.args.fields.bytes.now c.args.start.at c.args.fields.end (map (λ s. s.shape) ls) r.0 i s r.1 (shapes_get ls i (get_or ls i no_layout) (layout_there ls i (omega arith))) in
+    let f = field_at (g.N.NewKeys.keys c.args.context.new.now) c.args.context.classes.now c.args.context.bytes.now c.args.start.at c.args.context.end (map (λ s. s.shape) ls) r.0 i s r.1 (shapes_get ls i (get_or ls i no_layout) (layout_there ls i (omega arith))) in
     let a = (c.loop-i.invariant r.0 r.1).0 in
-    (start_of c.args.start.at r.0 (i + 1), (f.value, subst (λ z. IsNode c.args.fields.classes.now c.args.fields.bytes.now (node_at s z (start_of c.args.start.at r.0 (i + 1))) f.value) (sym a) f.node), f.within)
+    (start_of c.args.start.at r.0 (i + 1), (f.value, subst (λ z. IsNode c.args.context.classes.now c.args.context.bytes.now (node_at s z (start_of c.args.start.at r.0 (i + 1))) f.value) (sym a) f.node), f.within)
 
 pub pass_field-requires-clause-from : goal.pass_field-requires-clause-from
 pass_field-requires-clause-from g c = (c.loop-i.invariant c.requires.row.0 c.requires.row.1).1
 
 pub loop-i-init : goal.loop-i-init
-loop-i-init g c = λ vs r. row_begun c.args.fields.bytes.now c.args.out.now.items c.args.start.from c.args.start.at c.args.fields.end c.requires.from r.order
+loop-i-init g c = λ vs r. row_begun c.args.context.bytes.now c.args.out.now.items c.args.start.from c.args.start.at c.args.context.end c.requires.from r.order
 
 pub loop-i-preserved : goal.loop-i-preserved
 loop-i-preserved g c = λ vs r.
     (let ls = c.args.layouts.now in
     let i = c.loop-i.i in
-    let k = c.args.fields.classes.now in
-    let x = c.args.fields.bytes.now in
-    let new = g.N.NewKeys.keys c.args.fields.new.now in
+    let k = c.args.context.classes.now in
+    let x = c.args.context.bytes.now in
+    let new = g.N.NewKeys.keys c.args.context.new.now in
     let s = (get_or ls i no_layout).shape in
-    let f = field_at new k x c.args.start.at c.args.fields.end (map (λ s. s.shape) ls) vs i s r (shapes_get ls i (get_or ls i no_layout) (layout_there ls i (omega arith))) in
+    let f = field_at new k x c.args.start.at c.args.context.end (map (λ s. s.shape) ls) vs i s r (shapes_get ls i (get_or ls i no_layout) (layout_there ls i (omega arith))) in
     let a = c.loop-i.invariant vs r in
     let to = start_of c.args.start.at vs (i + 1) in
     let n = subst (λ z. IsNode k x (node_at s z to) f.value) (sym a.0) f.node in
@@ -61,7 +61,7 @@ loop-i-preserved g c = λ vs r.
     ∙ (append_assoc old (rekeyed_first new vs i) (bytes_of (rekeyed new f.value)) ∙ ap (λ z. old ++ z) (sym f.next)))) in (
       w.0,
       subst (λ z. p.from ≤ z) (sym w.0) w.1,
-      subst (λ z. z ≤ c.args.fields.end) (sym w.0) f.within,
+      subst (λ z. z ≤ c.args.context.end) (sym w.0) f.within,
       ap (λ z. c.pass_field.new.out.items ++ slice_range x p.from z) w.0 ∙ all,
     ))
 
@@ -70,7 +70,7 @@ returns g c = record {
   ok = λ vs r.
       (let i : c.loop-i.i ≡ length c.args.layouts.now = omega (arith, c.loop-i-test.false, c.loop-i.auto.i-end) in
       let a = c.loop-i.invariant vs r in
-      let e = a.0 ∙ row_end c.args.fields.classes.now c.args.fields.bytes.now c.args.start.at c.args.fields.end c.args.layouts.now vs c.loop-i.i r i in
-      let old = c.args.out.now.items ++ slice_range c.args.fields.bytes.now c.args.start.from c.args.start.at in
-      (subst (λ z. c.loop-i.passed.from ≤ z) e a.1, ap (λ z. c.loop-i.out.items ++ slice_range c.args.fields.bytes.now c.loop-i.passed.from z) (sym e) ∙ (a.3 ∙ ap (λ z. old ++ rekeyed_first (g.N.NewKeys.keys c.args.fields.new.now) vs z) i)));
+      let e = a.0 ∙ row_end c.args.context.classes.now c.args.context.bytes.now c.args.start.at c.args.context.end c.args.layouts.now vs c.loop-i.i r i in
+      let old = c.args.out.now.items ++ slice_range c.args.context.bytes.now c.args.start.from c.args.start.at in
+      (subst (λ z. c.loop-i.passed.from ≤ z) e a.1, ap (λ z. c.loop-i.out.items ++ slice_range c.args.context.bytes.now c.loop-i.passed.from z) (sym e) ∙ (a.3 ∙ ap (λ z. old ++ rekeyed_first (g.N.NewKeys.keys c.args.context.new.now) vs z) i)));
 }

@@ -7,6 +7,6 @@ use Rattle.jfr_renumber.proofs.fields.pass_row.Given as goal
 
 -- The next field starts where the passed ones end, and what is written and what is left to write are those.
 abbrev pub invariant-loop-i : goal.invariant-loop-i
-invariant-loop-i g l = (vs : Values) → IsRow l.fields.classes.now l.fields.bytes.now l.fn.start.at l.fields.end (map (λ s. s.shape) l.layouts) vs
-    → (l.passed.at ≡ start_of l.fn.start.at vs l.i) × (l.passed.from ≤ l.passed.at) × (l.passed.at ≤ l.fields.end)
-    × (l.out.items ++ slice_range l.fields.bytes.now l.passed.from l.passed.at ≡ (l.fn.out.items ++ slice_range l.fields.bytes.now l.fn.start.from l.fn.start.at) ++ rekeyed_first (g.N.NewKeys.keys l.fields.new.now) vs l.i)
+invariant-loop-i g l = (vs : Values) → IsRow l.context.classes.now l.context.bytes.now l.fn.start.at l.context.end (map (λ s. s.shape) l.layouts) vs
+    → (l.passed.at ≡ start_of l.fn.start.at vs l.i) × (l.passed.from ≤ l.passed.at) × (l.passed.at ≤ l.context.end)
+    × (l.out.items ++ slice_range l.context.bytes.now l.passed.from l.passed.at ≡ (l.fn.out.items ++ slice_range l.context.bytes.now l.fn.start.from l.fn.start.at) ++ rekeyed_first (g.N.NewKeys.keys l.context.new.now) vs l.i)

@@ -9,26 +9,26 @@ use Rattle.jfr_renumber.proofs.fields.pass_value.Goals as goal
 
 pub pass_row-requires-clause-row : goal.pass_row-requires-clause-row
 pass_row-requires-clause-row g c =
-    let k = c.args.fields.classes.now in
-    let x = c.args.fields.bytes.now in
-    let n = node_at c.args.shape c.args.start.at c.args.fields.end in
+    let k = c.args.context.classes.now in
+    let x = c.args.context.bytes.now in
+    let n = node_at c.args.shape c.args.start.at c.args.context.end in
     let l = c.layout_of-layout.result in
     let v = c.requires.value in
     let y = c.layout_of-layout.ensures in
     let m = fields_shape l.shape l.kind (sym c.in-Fields.is ∙ y.form) in
-    let r = layouts_row (g.N.NewKeys.keys c.args.fields.new.now) k x n v.0 l c.layouts-layouts.result.now c.requires.sound v.1 y.shape (inline_layout k x n v.0 l v.1 y.shape (m.0, m.1) y.known) (sym c.in-Fields.is) c.layouts-layouts.ensures.exact in
+    let r = layouts_row (g.N.NewKeys.keys c.args.context.new.now) k x n v.0 l c.layouts-layouts.result.now c.requires.sound v.1 y.shape (inline_layout k x n v.0 l v.1 y.shape (m.0, m.1) y.known) (sym c.in-Fields.is) c.layouts-layouts.ensures.exact in
     (r.0, r.1)
 
 pub returns-in-Fields : goal.returns-in-Fields
 returns-in-Fields g c =
-    let k = c.args.fields.classes.now in
-    let x = c.args.fields.bytes.now in
-    let n = node_at c.args.shape c.args.start.at c.args.fields.end in
+    let k = c.args.context.classes.now in
+    let x = c.args.context.bytes.now in
+    let n = node_at c.args.shape c.args.start.at c.args.context.end in
     let l = c.layout_of-layout.result in
     let v = c.requires.value in
     let y = c.layout_of-layout.ensures in
     let m = fields_shape l.shape l.kind (sym c.in-Fields.is ∙ y.form) in
-    let r = layouts_row (g.N.NewKeys.keys c.args.fields.new.now) k x n v.0 l c.layouts-layouts.result.now c.requires.sound v.1 y.shape (inline_layout k x n v.0 l v.1 y.shape (m.0, m.1) y.known) (sym c.in-Fields.is) c.layouts-layouts.ensures.exact in
+    let r = layouts_row (g.N.NewKeys.keys c.args.context.new.now) k x n v.0 l c.layouts-layouts.result.now c.requires.sound v.1 y.shape (inline_layout k x n v.0 l v.1 y.shape (m.0, m.1) y.known) (sym c.in-Fields.is) c.layouts-layouts.ensures.exact in
     record {
       ok = IfOk-weaker c.pass_row.result _ _ (λ from w.
           (let q = w r.0 r.1 in
@@ -39,23 +39,23 @@ pub pass_field-requires-clause-layout : goal.pass_field-requires-clause-layout
 pass_field-requires-clause-layout g c =
     let v = c.requires.value in
     let y = c.layout_of-layout.ensures in
-    base_layout c.args.fields.classes.now c.args.fields.bytes.now (node_at c.args.shape c.args.start.at c.args.fields.end) v.0 c.layout_of-layout.result v.1 y.shape y.form y.known c.in-Integer.is
+    base_layout c.args.context.classes.now c.args.context.bytes.now (node_at c.args.shape c.args.start.at c.args.context.end) v.0 c.layout_of-layout.result v.1 y.shape y.form y.known c.in-Integer.is
 
 pub pass_field-requires-clause-there : goal.pass_field-requires-clause-there
 pass_field-requires-clause-there g c =
     let v = c.requires.value in
-    (c.args.fields.end, (v.0, subst (λ z. IsNode c.args.fields.classes.now c.args.fields.bytes.now (node_at z c.args.start.at c.args.fields.end) v.0) (sym c.layout_of-layout.ensures.shape) v.1), omega arith)
+    (c.args.context.end, (v.0, subst (λ z. IsNode c.args.context.classes.now c.args.context.bytes.now (node_at z c.args.start.at c.args.context.end) v.0) (sym c.layout_of-layout.ensures.shape) v.1), omega arith)
 
 pub returns-in_ok-pass_field-in-Integer : goal.returns-in_ok-pass_field-in-Integer
 returns-in_ok-pass_field-in-Integer g c =
-    let k = c.args.fields.classes.now in
-    let x = c.args.fields.bytes.now in
+    let k = c.args.context.classes.now in
+    let x = c.args.context.bytes.now in
     let at = c.args.start.at in
-    let end = c.args.fields.end in
+    let end = c.args.context.end in
     let v = c.requires.value in
     let e = c.layout_of-layout.ensures.shape in
     let i : IsNode k x (node_at c.layout_of-layout.result.shape at end) v.0 = subst (λ z. IsNode k x (node_at z at end) v.0) (sym e) v.1 in
     let q = c.in_ok-pass_field-in-Integer.ensures.ok end (v.0, i) (omega arith) in
     record {
-      ok = (q.1, q.2 ∙ ap (λ z. (c.args.out.now.items ++ slice_range x c.args.start.from at) ++ rekeyed_bytes (g.N.NewKeys.keys c.args.fields.new.now) k x (node_at z at end)) e);
+      ok = (q.1, q.2 ∙ ap (λ z. (c.args.out.now.items ++ slice_range x c.args.start.from at) ++ rekeyed_bytes (g.N.NewKeys.keys c.args.context.new.now) k x (node_at z at end)) e);
     }

@@ -30,11 +30,11 @@ use Rattle.jfr_show.proofs.value.+show.Goals as goal
 pub show_fields-show_value-requires : goal.show_fields-show_value-requires
 show_fields-show_value-requires t c =
     let same : c.classes-classes.result.now ≡ c.args.view.now.chunk.now.classes = c.classes-classes.ensures in
-    let there : slice_get c.args.view.now.chunk.now.classes c.args.place ≡ Some c.class_at-info.result.now = ap (λ z. slice_get z c.args.place) (sym same) ∙ c.class_at-info.ensures in
-    let layouts : IfSome (slice_get c.args.view.now.chunk.now.classes c.args.place) (λ d. AreFieldLayouts c.args.view.now.chunk.now.classes d.fields c.layouts-layout-items.result.now) = subst (λ z. IfSome (slice_get z c.args.place) (λ d. AreFieldLayouts z d.fields c.layouts-layout-items.result.now)) same c.layouts-layout-items.ensures.exact in
+    let there : slice_get c.args.view.now.chunk.now.classes c.args.class_index ≡ Some c.class_at-info.result.now = ap (λ z. slice_get z c.args.class_index) (sym same) ∙ c.class_at-info.ensures in
+    let layouts : IfSome (slice_get c.args.view.now.chunk.now.classes c.args.class_index) (λ d. AreFieldLayouts c.args.view.now.chunk.now.classes d.fields c.layouts-layout-items.result.now) = subst (λ z. IfSome (slice_get z c.args.class_index) (λ d. AreFieldLayouts z d.fields c.layouts-layout-items.result.now)) same c.layouts-layout-items.ensures.exact in
     let layout = get_or c.layouts-layout-items.result.now c.loop-layout.layout-index no_layout in
-    let f = field_of c.args.view.now.chunk.now.classes c.args.place c.loop-layout.layout-index c.layouts-layout-items.result.now c.requires.placed layouts c.loop-layout-test.true in
-    let x = field_next c.args.view.now.chunk.now.classes c.args.place c.loop-layout.layout-index f.field layout.shape f.there f.shape in
+    let f = field_of c.args.view.now.chunk.now.classes c.args.class_index c.loop-layout.layout-index c.layouts-layout-items.result.now c.requires.placed layouts c.loop-layout-test.true in
+    let x = field_next c.args.view.now.chunk.now.classes c.args.class_index c.loop-layout.layout-index f.field layout.shape f.there f.shape in
     let references : c.of_fields-inner.result.reach.references ≡ c.args.view.now.depth.reach.references = ap (λ (z : Depth). z.reach.references) c.of_fields-inner.ensures in
     let composites : c.of_fields-inner.result.reach.composites ≡ c.args.view.now.depth.reach.composites - 1 = ap (λ (z : Depth). z.reach.composites) c.of_fields-inner.ensures in
     let deeper : c.of_fields-inner.result.level ≡ c.args.view.now.depth.level + 1 = ap (λ (z : Depth). z.level) c.of_fields-inner.ensures in
@@ -42,7 +42,7 @@ show_fields-show_value-requires t c =
     let h = left_there c.args.view.now.chunk.now.classes c.args.view.now.chunk.now.bytes r.0 _ _ layout.shape _ _ c.loop-layout.to c.loop-layout.out (c.loop-layout.invariant.left r.0 r.1 c.class_at-info.result.now r.2 there) x in
     let stands : (to : ℕ) × EndsAt c.args.view.now.chunk.now.classes c.args.view.now.chunk.now.bytes layout.shape c.loop-layout.to to = (h.place, (h.value, h.node)) in
     let known : IsLayoutIfKnown c.args.view.now.chunk.now.classes layout = (let s = f.of_class in record { form = s.form; of_class = λ o h. s }) in
-    let room : Room c.args.view.now.chunk.now.classes c.of_fields-inner.result.reach.composites layout.shape = subst (λ z. Room c.args.view.now.chunk.now.classes z layout.shape) (sym composites) (room_first (Room c.args.view.now.chunk.now.classes (c.args.view.now.depth.reach.composites - 1)) (field_shapes c.args.view.now.chunk.now.classes c.args.place) c.loop-layout.layout-index layout.shape _ c.requires.room x) in
+    let room : Room c.args.view.now.chunk.now.classes c.of_fields-inner.result.reach.composites layout.shape = subst (λ z. Room c.args.view.now.chunk.now.classes z layout.shape) (sym composites) (room_first (Room c.args.view.now.chunk.now.classes (c.args.view.now.depth.reach.composites - 1)) (field_shapes c.args.view.now.chunk.now.classes c.args.class_index) c.loop-layout.layout-index layout.shape _ c.requires.room x) in
     let cached = c.loop-layout.invariant.cached in
     search (rules, cached, stands, known, room, references, composites, deeper)
 
@@ -51,11 +51,11 @@ show_fields-loop-layout-preserved t c =
     let deep = c.of_fields-inner.ensures in
     let deeper : c.of_fields-inner.result.level ≡ c.args.view.now.depth.level + 1 = ap (λ (z : Depth). z.level) c.of_fields-inner.ensures in
     let same : c.classes-classes.result.now ≡ c.args.view.now.chunk.now.classes = c.classes-classes.ensures in
-    let there : slice_get c.args.view.now.chunk.now.classes c.args.place ≡ Some c.class_at-info.result.now = ap (λ z. slice_get z c.args.place) (sym same) ∙ c.class_at-info.ensures in
-    let layouts : IfSome (slice_get c.args.view.now.chunk.now.classes c.args.place) (λ d. AreFieldLayouts c.args.view.now.chunk.now.classes d.fields c.layouts-layout-items.result.now) = subst (λ z. IfSome (slice_get z c.args.place) (λ d. AreFieldLayouts z d.fields c.layouts-layout-items.result.now)) same c.layouts-layout-items.ensures.exact in
+    let there : slice_get c.args.view.now.chunk.now.classes c.args.class_index ≡ Some c.class_at-info.result.now = ap (λ z. slice_get z c.args.class_index) (sym same) ∙ c.class_at-info.ensures in
+    let layouts : IfSome (slice_get c.args.view.now.chunk.now.classes c.args.class_index) (λ d. AreFieldLayouts c.args.view.now.chunk.now.classes d.fields c.layouts-layout-items.result.now) = subst (λ z. IfSome (slice_get z c.args.class_index) (λ d. AreFieldLayouts z d.fields c.layouts-layout-items.result.now)) same c.layouts-layout-items.ensures.exact in
     let layout = get_or c.layouts-layout-items.result.now c.loop-layout.layout-index no_layout in
-    let f = field_of c.args.view.now.chunk.now.classes c.args.place c.loop-layout.layout-index c.layouts-layout-items.result.now c.requires.placed layouts c.loop-layout-test.true in
-    let x = field_next c.args.view.now.chunk.now.classes c.args.place c.loop-layout.layout-index f.field layout.shape f.there f.shape in
+    let f = field_of c.args.view.now.chunk.now.classes c.args.class_index c.loop-layout.layout-index c.layouts-layout-items.result.now c.requires.placed layouts c.loop-layout-test.true in
+    let x = field_next c.args.view.now.chunk.now.classes c.args.class_index c.loop-layout.layout-index f.field layout.shape f.there f.shape in
     record {
       cached = c.in_ok-to.ensures.cached;
       number = ap (λ z. z + 1) c.loop-layout.invariant.number;
@@ -76,13 +76,13 @@ show_fields-loop-layout-preserved t c =
 pub show_fields-returns : goal.show_fields-returns
 show_fields-returns t c =
     let same : c.classes-classes.result.now ≡ c.args.view.now.chunk.now.classes = c.classes-classes.ensures in
-    let there : slice_get c.args.view.now.chunk.now.classes c.args.place ≡ Some c.class_at-info.result.now = ap (λ z. slice_get z c.args.place) (sym same) ∙ c.class_at-info.ensures in
-    let layouts : IfSome (slice_get c.args.view.now.chunk.now.classes c.args.place) (λ d. AreFieldLayouts c.args.view.now.chunk.now.classes d.fields c.layouts-layout-items.result.now) = subst (λ z. IfSome (slice_get z c.args.place) (λ d. AreFieldLayouts z d.fields c.layouts-layout-items.result.now)) same c.layouts-layout-items.ensures.exact in
+    let there : slice_get c.args.view.now.chunk.now.classes c.args.class_index ≡ Some c.class_at-info.result.now = ap (λ z. slice_get z c.args.class_index) (sym same) ∙ c.class_at-info.ensures in
+    let layouts : IfSome (slice_get c.args.view.now.chunk.now.classes c.args.class_index) (λ d. AreFieldLayouts c.args.view.now.chunk.now.classes d.fields c.layouts-layout-items.result.now) = subst (λ z. IfSome (slice_get z c.args.class_index) (λ d. AreFieldLayouts z d.fields c.layouts-layout-items.result.now)) same c.layouts-layout-items.ensures.exact in
     record {
       cached = c.loop-layout.invariant.cached;
       ok = λ to vs class r q.
           let own : c.class_at-info.result.now ≡ class = (let z : Some c.class_at-info.result.now ≡ Some class = sym there ∙ q in cc) in
-          let past = fields_past c.args.view.now.chunk.now.classes c.args.place c.loop-layout.layout-index c.requires.placed (few_fields c.args.view.now.chunk.now.classes c.args.place c.loop-layout.layout-index c.layouts-layout-items.result.now c.requires.placed layouts c.loop-layout-test.false) in
+          let past = fields_past c.args.view.now.chunk.now.classes c.args.class_index c.loop-layout.layout-index c.requires.placed (few_fields c.args.view.now.chunk.now.classes c.args.class_index c.loop-layout.layout-index c.layouts-layout-items.result.now c.requires.placed layouts c.loop-layout-test.false) in
           let e = left_ends c.args.view.now.chunk.now.classes c.args.view.now.chunk.now.bytes to _ (onto_fields c.args.view.now.chunk.now.classes (referred c.args.view.now.chunk.now c.args.view.now.depth.reach.references) (c.args.view.now.depth.level + 1) (drop c.loop-layout.layout-index class.fields)) _ c.loop-layout.to c.loop-layout.out (c.loop-layout.invariant.left to vs class r q) past (no_fields c.args.view.now.chunk.now.classes (referred c.args.view.now.chunk.now c.args.view.now.depth.reach.references) (c.args.view.now.depth.level + 1) (drop c.loop-layout.layout-index class.fields) c.loop-layout.out) in
           let name : c.push_str.new.self ≡ c.args.out.now ++ class.name = c.in_ok-push_str.ensures.ok ∙ (ap (λ z. c.args.out.now ++ z) c.as_str.ensures ∙ ap (λ (z : Class). c.args.out.now ++ z.name) own) in
           (e.0, fields_close c.args.view.now.depth.level class (shown_all c.args.view.now.chunk.now.classes (referred c.args.view.now.chunk.now c.args.view.now.depth.reach.references) (c.args.view.now.depth.level + 1) vs) c.args.out.now c.push_str.new.self c.push_ascii.new.self c.loop-layout.out c.push_indent-2.new.self c.push_ascii-2.new.self name c.in_ok-push_ascii.ensures.ok e.1 c.in_ok-push_indent-2.ensures.ok c.in_ok-push_ascii-4.ensures.ok);

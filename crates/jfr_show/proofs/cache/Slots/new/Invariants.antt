@@ -5,4 +5,4 @@ use Rattle.jfr_show.specs.Cache.{IsCached}
 use Rattle.jfr_show.proofs.cache.Slots.new.Given as goal
 
 abbrev pub invariant-loop : goal.invariant-loop
-invariant-loop l = (p : Parts) → AllByRecursion (λ o. IfSome o (IsCached p)) l.places.items
+invariant-loop l = (p : Parts) → AllByRecursion (λ o. IfSome o (IsCached p)) l.texts.items

@@ -21,7 +21,7 @@ use Rattle.jfr_value.proofs.DepthLaws.{sound_inline}
 use Rattle.jfr_pool.specs.Entries.{in_force}
 use Rattle.jfr_show.specs.declared.depth.Reach.{Reach}
 use Rattle.jfr_show.specs.Json.{json_of, json_of_all, node_json, referred_json}
-use Rattle.jfr_show.specs.Orders.{ArePlaces, IsOrder, laid_out, lead_of, starts}
+use Rattle.jfr_show.specs.Orders.{AreOffsets, IsOrder, laid_out, lead_of, starts}
 use Rattle.jfr_show.proofs.LayoutForms.{composite_room, integer_stands, key_stands, text_stands, array_stands, is_composite, is_array, item_known}
 use Rattle.jfr_show.proofs.JsonLaws.{onto_items, one_item, items_between, integer_made, raw_made, reference_made, key_made, string_made, composite_json, array_json, missing_is, name_is, constant_is, node_json_is}
 use Rattle.jfr_show.proofs.ReferLaws.{by_answer, no_entry, entry_found}
@@ -104,7 +104,7 @@ push_constant-returns-in_default t c =
 pub push_constant-returns-then-source-eq0 : goal.push_constant-returns-then-source-eq0
 push_constant-returns-then-source-eq0 t c =
     let e = entry_found (in_force c.args.source.now.chunk.now.entries (c.args.class, c.args.key)) (node_of c.in-Some.node) (ap (option_map node_of) (sym c.in-Some.is) ∙ c.constant.ensures.exact) in
-    record { cached = c.requires.cached; ok = subst (λ z. OnOk c.push_reference.result (string_bytes c.push_reference.new.out ≡ string_bytes c.args.out.now ++ compact_text z)) (sym (name_is c.args.source.now.chunk.now c.args.source.now.reach.references (c.args.class, c.args.key) e.entry c.if-source-eq0.true e.there)) c.push_reference.ensures.ok }
+    record { cached = c.requires.cached; ok = subst (λ z. OnOk c.push_name.result (string_bytes c.push_name.new.out ≡ string_bytes c.args.out.now ++ compact_text z)) (sym (name_is c.args.source.now.chunk.now c.args.source.now.reach.references (c.args.class, c.args.key) e.entry c.if-source-eq0.true e.there)) c.push_name.ensures.ok }
 
 pub push_constant-returns : goal.push_constant-returns
 push_constant-returns t c =
@@ -152,13 +152,13 @@ push_value-returns-in_ok-push_raw-in-Raw t c =
     let count : c.from-size.result ≡ c.in-Raw.count = omega arith in
     record { cached = c.requires.cached; ok = λ to v i. raw_made c.args.source.now.chunk.now.classes (referred_json c.args.source.now.chunk.now c.args.source.now.reach.references) c.args.source.now.chunk.now.bytes c.args.at to c.args.layout.now c.requires.layout v i (string_bytes c.args.out.now) (string_bytes c.push_raw.new.out) c.from-size.result (c.in-Raw.is ∙ ap (λ z. forms.Raw z) (sym count)) c.bytes_at-bytes.result.now c.bytes_at-bytes.ensures.exact c.in_ok-push_raw-in-Raw.ensures.ok }
 
-pub push_value-returns-in_ok-push_referred-in-Key : goal.push_value-returns-in_ok-push_referred-in-Key
-push_value-returns-in_ok-push_referred-in-Key t c =
-    record { cached = c.in_ok-push_referred-in-Key.ensures.cached; ok = λ to v i. reference_made c.args.source.now.chunk.now.classes (referred_json c.args.source.now.chunk.now c.args.source.now.reach.references) c.args.source.now.chunk.now.bytes c.args.at to c.args.layout.now c.requires.layout v i (string_bytes c.args.out.now) (string_bytes c.push_referred.new.out) c.in-Key.is c.integer_at-key.result c.integer_at-key.ensures c.in_ok-push_referred-in-Key.ensures.ok }
+pub push_value-returns-in_ok-push_reference-in-Key : goal.push_value-returns-in_ok-push_reference-in-Key
+push_value-returns-in_ok-push_reference-in-Key t c =
+    record { cached = c.in_ok-push_reference-in-Key.ensures.cached; ok = λ to v i. reference_made c.args.source.now.chunk.now.classes (referred_json c.args.source.now.chunk.now c.args.source.now.reach.references) c.args.source.now.chunk.now.bytes c.args.at to c.args.layout.now c.requires.layout v i (string_bytes c.args.out.now) (string_bytes c.push_reference.new.out) c.in-Key.is c.integer_at-key.result c.integer_at-key.ensures c.in_ok-push_reference-in-Key.ensures.ok }
 
-pub push_value-returns-in_ok-push_referred-in-Key-kind : goal.push_value-returns-in_ok-push_referred-in-Key-kind
-push_value-returns-in_ok-push_referred-in-Key-kind t c =
-    record { cached = c.in_ok-push_referred-in-Key-kind.ensures.cached; ok = λ to v i. key_made c.args.source.now.chunk.now.classes (referred_json c.args.source.now.chunk.now c.args.source.now.reach.references) c.args.source.now.chunk.now.bytes c.args.at to c.args.layout.now c.requires.layout v i (string_bytes c.args.out.now) (string_bytes c.push_referred-in-Key-kind.new.out) c.in-Text.is c.string_at-string.result c.string_at-string.ensures c.in-Key-kind.is c.in_ok-push_referred-in-Key-kind.ensures.ok }
+pub push_value-returns-in_ok-push_reference-in-Key-kind : goal.push_value-returns-in_ok-push_reference-in-Key-kind
+push_value-returns-in_ok-push_reference-in-Key-kind t c =
+    record { cached = c.in_ok-push_reference-in-Key-kind.ensures.cached; ok = λ to v i. key_made c.args.source.now.chunk.now.classes (referred_json c.args.source.now.chunk.now c.args.source.now.reach.references) c.args.source.now.chunk.now.bytes c.args.at to c.args.layout.now c.requires.layout v i (string_bytes c.args.out.now) (string_bytes c.push_reference-in-Key-kind.new.out) c.in-Text.is c.string_at-string.result c.string_at-string.ensures c.in-Key-kind.is c.in_ok-push_reference-in-Key-kind.ensures.ok }
 
 pub push_value-returns-in_ok-push_text-in_default : goal.push_value-returns-in_ok-push_text-in_default
 push_value-returns-in_ok-push_text-in_default t c =
@@ -176,86 +176,86 @@ push_value-returns-in-Fields t c =
 
 pub push_fields-push_object-requires : goal.push_fields-push_object-requires
 push_fields-push_object-requires t c =
-    let e : c.in_ok-places.places.place ≡ c.args.place = c.in_ok-places.ensures.class in
+    let e : c.in_ok-offsets.offsets.class_index ≡ c.args.class_index = c.in_ok-offsets.ensures.class in
     let r = c.requires.stand in
-    let h = c.in_ok-places.ensures.ok r.0 r.1 r.2 in
-    let placed : c.in_ok-places.places.place < length c.args.source.now.chunk.now.classes = subst (λ z. z < length c.args.source.now.chunk.now.classes) (sym e) c.requires.placed in
-    let room : AllByRecursion (Room c.args.source.now.chunk.now.classes (c.args.source.now.reach.composites - 1)) (field_shapes c.args.source.now.chunk.now.classes c.in_ok-places.places.place) = subst (λ z. AllByRecursion (Room c.args.source.now.chunk.now.classes (c.args.source.now.reach.composites - 1)) (field_shapes c.args.source.now.chunk.now.classes z)) (sym e) c.requires.room in
-    let stand : (at : ℕ) × (to : ℕ) × (vs : Values) × IsRow c.args.source.now.chunk.now.classes c.args.source.now.chunk.now.bytes at to (field_shapes c.args.source.now.chunk.now.classes c.in_ok-places.places.place) vs × ArePlaces c.in_ok-places.places at to vs = (c.args.at, r.0, r.1, subst (λ z. IsRow c.args.source.now.chunk.now.classes c.args.source.now.chunk.now.bytes c.args.at r.0 (field_shapes c.args.source.now.chunk.now.classes z) r.1) (sym e) r.2, h) in
+    let h = c.in_ok-offsets.ensures.ok r.0 r.1 r.2 in
+    let placed : c.in_ok-offsets.offsets.class_index < length c.args.source.now.chunk.now.classes = subst (λ z. z < length c.args.source.now.chunk.now.classes) (sym e) c.requires.placed in
+    let room : AllByRecursion (Room c.args.source.now.chunk.now.classes (c.args.source.now.reach.composites - 1)) (field_shapes c.args.source.now.chunk.now.classes c.in_ok-offsets.offsets.class_index) = subst (λ z. AllByRecursion (Room c.args.source.now.chunk.now.classes (c.args.source.now.reach.composites - 1)) (field_shapes c.args.source.now.chunk.now.classes z)) (sym e) c.requires.room in
+    let stand : (at : ℕ) × (to : ℕ) × (vs : Values) × IsRow c.args.source.now.chunk.now.classes c.args.source.now.chunk.now.bytes at to (field_shapes c.args.source.now.chunk.now.classes c.in_ok-offsets.offsets.class_index) vs × AreOffsets c.in_ok-offsets.offsets at to vs = (c.args.at, r.0, r.1, subst (λ z. IsRow c.args.source.now.chunk.now.classes c.args.source.now.chunk.now.bytes c.args.at r.0 (field_shapes c.args.source.now.chunk.now.classes z) r.1) (sym e) r.2, h) in
     let cached = c.requires.cached in
     search (rules, cached, placed, room, stand)
 
 pub push_fields-returns : goal.push_fields-returns
 push_fields-returns t c =
-    let e : c.in_ok-places.places.place ≡ c.args.place = c.in_ok-places.ensures.class in
+    let e : c.in_ok-offsets.offsets.class_index ≡ c.args.class_index = c.in_ok-offsets.ensures.class in
     record {
       cached = c.push_object.ensures.cached;
       ok = by_answer c.push_object.result c.push_object.ensures.ok (λ end h to vs class r q.
-          h c.args.at to vs class (subst (λ z. IsRow c.args.source.now.chunk.now.classes c.args.source.now.chunk.now.bytes c.args.at to (field_shapes c.args.source.now.chunk.now.classes z) vs) (sym e) r) (c.in_ok-places.ensures.ok to vs r) (subst (λ z. slice_get c.args.source.now.chunk.now.classes z ≡ Some class) (sym e) q));
+          h c.args.at to vs class (subst (λ z. IsRow c.args.source.now.chunk.now.classes c.args.source.now.chunk.now.bytes c.args.at to (field_shapes c.args.source.now.chunk.now.classes z) vs) (sym e) r) (c.in_ok-offsets.ensures.ok to vs r) (subst (λ z. slice_get c.args.source.now.chunk.now.classes z ≡ Some class) (sym e) q));
     }
 
 pub push_members-offset_bounds-layouts-lead : goal.push_members-offset_bounds-layouts-lead
 push_members-offset_bounds-layouts-lead t c =
-    let layouts : IfSome (slice_get c.args.source.now.chunk.now.classes c.args.places.now.place) (λ d. AreFieldLayouts c.args.source.now.chunk.now.classes d.fields c.layouts-layouts.result.now) = subst (λ z. IfSome (slice_get z c.args.places.now.place) (λ d. AreFieldLayouts z d.fields c.layouts-layouts.result.now)) c.classes.ensures c.layouts-layouts.ensures.exact in
-    let o = ordered c.args.source.now.chunk.now.classes c.args.places.now.place c.args.order.now c.deref-lead-items.result.now c.requires.order c.requires.placed c.deref-lead-items.ensures.value in
+    let layouts : IfSome (slice_get c.args.source.now.chunk.now.classes c.args.offsets.now.class_index) (λ d. AreFieldLayouts c.args.source.now.chunk.now.classes d.fields c.layouts-layouts.result.now) = subst (λ z. IfSome (slice_get z c.args.offsets.now.class_index) (λ d. AreFieldLayouts z d.fields c.layouts-layouts.result.now)) c.classes.ensures c.layouts-layouts.ensures.exact in
+    let o = ordered c.args.source.now.chunk.now.classes c.args.offsets.now.class_index c.args.order.now c.deref-lead-items.result.now c.requires.order c.requires.placed c.deref-lead-items.ensures.value in
     let g = got c.deref-lead-items.result.now c.loop-lead.lead-index c.lead-item.result c.lead-item.result c.loop-lead-test.true c.lead-item.is in
-    let below : c.lead-item.result.field < length c.layouts-layouts.result.now = below_layouts c.args.source.now.chunk.now.classes c.args.places.now.place c.deref-lead-items.result.now c.loop-lead.lead-index c.lead-item.result c.layouts-layouts.result.now o c.requires.placed layouts g in
+    let below : c.lead-item.result.field < length c.layouts-layouts.result.now = below_layouts c.args.source.now.chunk.now.classes c.args.offsets.now.class_index c.deref-lead-items.result.now c.loop-lead.lead-index c.lead-item.result c.layouts-layouts.result.now o c.requires.placed layouts g in
     search (rules, below)
 
 pub push_members-bounds-layouts-lead : goal.push_members-bounds-layouts-lead
 push_members-bounds-layouts-lead t c =
-    let layouts : IfSome (slice_get c.args.source.now.chunk.now.classes c.args.places.now.place) (λ d. AreFieldLayouts c.args.source.now.chunk.now.classes d.fields c.layouts-layouts.result.now) = subst (λ z. IfSome (slice_get z c.args.places.now.place) (λ d. AreFieldLayouts z d.fields c.layouts-layouts.result.now)) c.classes.ensures c.layouts-layouts.ensures.exact in
-    let o = ordered c.args.source.now.chunk.now.classes c.args.places.now.place c.args.order.now c.deref-lead-items.result.now c.requires.order c.requires.placed c.deref-lead-items.ensures.value in
+    let layouts : IfSome (slice_get c.args.source.now.chunk.now.classes c.args.offsets.now.class_index) (λ d. AreFieldLayouts c.args.source.now.chunk.now.classes d.fields c.layouts-layouts.result.now) = subst (λ z. IfSome (slice_get z c.args.offsets.now.class_index) (λ d. AreFieldLayouts z d.fields c.layouts-layouts.result.now)) c.classes.ensures c.layouts-layouts.ensures.exact in
+    let o = ordered c.args.source.now.chunk.now.classes c.args.offsets.now.class_index c.args.order.now c.deref-lead-items.result.now c.requires.order c.requires.placed c.deref-lead-items.ensures.value in
     let g = got c.deref-lead-items.result.now c.loop-lead.lead-index c.lead-item.result c.lead-item.result c.loop-lead-test.true c.lead-item.is in
-    let below : c.lead-item.result.field < length c.layouts-layouts.result.now = below_layouts c.args.source.now.chunk.now.classes c.args.places.now.place c.deref-lead-items.result.now c.loop-lead.lead-index c.lead-item.result c.layouts-layouts.result.now o c.requires.placed layouts g in
+    let below : c.lead-item.result.field < length c.layouts-layouts.result.now = below_layouts c.args.source.now.chunk.now.classes c.args.offsets.now.class_index c.deref-lead-items.result.now c.loop-lead.lead-index c.lead-item.result c.layouts-layouts.result.now o c.requires.placed layouts g in
     search (rules, below)
 
 pub push_members-index-requires : goal.push_members-index-requires
 push_members-index-requires t c =
-    let layouts : IfSome (slice_get c.args.source.now.chunk.now.classes c.args.places.now.place) (λ d. AreFieldLayouts c.args.source.now.chunk.now.classes d.fields c.layouts-layouts.result.now) = subst (λ z. IfSome (slice_get z c.args.places.now.place) (λ d. AreFieldLayouts z d.fields c.layouts-layouts.result.now)) c.classes.ensures c.layouts-layouts.ensures.exact in
-    let o = ordered c.args.source.now.chunk.now.classes c.args.places.now.place c.args.order.now c.deref-lead-items.result.now c.requires.order c.requires.placed c.deref-lead-items.ensures.value in
+    let layouts : IfSome (slice_get c.args.source.now.chunk.now.classes c.args.offsets.now.class_index) (λ d. AreFieldLayouts c.args.source.now.chunk.now.classes d.fields c.layouts-layouts.result.now) = subst (λ z. IfSome (slice_get z c.args.offsets.now.class_index) (λ d. AreFieldLayouts z d.fields c.layouts-layouts.result.now)) c.classes.ensures c.layouts-layouts.ensures.exact in
+    let o = ordered c.args.source.now.chunk.now.classes c.args.offsets.now.class_index c.args.order.now c.deref-lead-items.result.now c.requires.order c.requires.placed c.deref-lead-items.ensures.value in
     let g = got c.deref-lead-items.result.now c.loop-lead.lead-index c.lead-item.result c.lead-item.result c.loop-lead-test.true c.lead-item.is in
-    let below : c.lead-item.result.field < length c.layouts-layouts.result.now = below_layouts c.args.source.now.chunk.now.classes c.args.places.now.place c.deref-lead-items.result.now c.loop-lead.lead-index c.lead-item.result c.layouts-layouts.result.now o c.requires.placed layouts g in
+    let below : c.lead-item.result.field < length c.layouts-layouts.result.now = below_layouts c.args.source.now.chunk.now.classes c.args.offsets.now.class_index c.deref-lead-items.result.now c.loop-lead.lead-index c.lead-item.result c.layouts-layouts.result.now o c.requires.placed layouts g in
     let r = c.requires.stand in
     let h = r.4 in
-    let count : length c.args.places.now.starts.items ≡ length o.class.fields = ap length h.1 ∙ (count_starts r.0 r.2 ∙ (ap length r.3.of_shapes ∙ shapes_count c.args.source.now.chunk.now.classes c.args.places.now.place o.class o.there)) in
-    let within : c.lead-item.result.field < length c.args.places.now.starts.items = omega (arith, count, below_fields c.args.source.now.chunk.now.classes c.args.places.now.place c.deref-lead-items.result.now c.loop-lead.lead-index c.lead-item.result o g) in
+    let count : length c.args.offsets.now.starts.items ≡ length o.class.fields = ap length h.1 ∙ (count_starts r.0 r.2 ∙ (ap length r.3.of_shapes ∙ shapes_count c.args.source.now.chunk.now.classes c.args.offsets.now.class_index o.class o.there)) in
+    let within : c.lead-item.result.field < length c.args.offsets.now.starts.items = omega (arith, count, below_fields c.args.source.now.chunk.now.classes c.args.offsets.now.class_index c.deref-lead-items.result.now c.loop-lead.lead-index c.lead-item.result o g) in
     search (rules, within)
 
 pub push_members-push_value-requires : goal.push_members-push_value-requires
 push_members-push_value-requires t c =
-    let layouts : IfSome (slice_get c.args.source.now.chunk.now.classes c.args.places.now.place) (λ d. AreFieldLayouts c.args.source.now.chunk.now.classes d.fields c.layouts-layouts.result.now) = subst (λ z. IfSome (slice_get z c.args.places.now.place) (λ d. AreFieldLayouts z d.fields c.layouts-layouts.result.now)) c.classes.ensures c.layouts-layouts.ensures.exact in
-    let o = ordered c.args.source.now.chunk.now.classes c.args.places.now.place c.args.order.now c.deref-lead-items.result.now c.requires.order c.requires.placed c.deref-lead-items.ensures.value in
+    let layouts : IfSome (slice_get c.args.source.now.chunk.now.classes c.args.offsets.now.class_index) (λ d. AreFieldLayouts c.args.source.now.chunk.now.classes d.fields c.layouts-layouts.result.now) = subst (λ z. IfSome (slice_get z c.args.offsets.now.class_index) (λ d. AreFieldLayouts z d.fields c.layouts-layouts.result.now)) c.classes.ensures c.layouts-layouts.ensures.exact in
+    let o = ordered c.args.source.now.chunk.now.classes c.args.offsets.now.class_index c.args.order.now c.deref-lead-items.result.now c.requires.order c.requires.placed c.deref-lead-items.ensures.value in
     let g = got c.deref-lead-items.result.now c.loop-lead.lead-index c.lead-item.result c.lead-item.result c.loop-lead-test.true c.lead-item.is in
-    let below : c.lead-item.result.field < length c.layouts-layouts.result.now = below_layouts c.args.source.now.chunk.now.classes c.args.places.now.place c.deref-lead-items.result.now c.loop-lead.lead-index c.lead-item.result c.layouts-layouts.result.now o c.requires.placed layouts g in
+    let below : c.lead-item.result.field < length c.layouts-layouts.result.now = below_layouts c.args.source.now.chunk.now.classes c.args.offsets.now.class_index c.deref-lead-items.result.now c.loop-lead.lead-index c.lead-item.result c.layouts-layouts.result.now o c.requires.placed layouts g in
     let layout = get_or c.layouts-layouts.result.now c.lead-item.result.field no_layout in
-    let f = field_of c.args.source.now.chunk.now.classes c.args.places.now.place c.lead-item.result.field c.layouts-layouts.result.now c.requires.placed layouts below in
-    let x = field_next c.args.source.now.chunk.now.classes c.args.places.now.place c.lead-item.result.field f.field layout.shape f.there f.shape in
+    let f = field_of c.args.source.now.chunk.now.classes c.args.offsets.now.class_index c.lead-item.result.field c.layouts-layouts.result.now c.requires.placed layouts below in
+    let x = field_next c.args.source.now.chunk.now.classes c.args.offsets.now.class_index c.lead-item.result.field f.field layout.shape f.there f.shape in
     let references : c.of_fields-inner.result.references ≡ c.args.source.now.reach.references = ap (λ (z : Reach). z.references) c.of_fields-inner.ensures in
     let composites : c.of_fields-inner.result.composites ≡ c.args.source.now.reach.composites - 1 = ap (λ (z : Reach). z.composites) c.of_fields-inner.ensures in
     let r = c.requires.stand in
     let h = r.4 in
-    let p = placed c.args.source.now.chunk.now.classes c.args.source.now.chunk.now.bytes r.0 r.1 (field_shapes c.args.source.now.chunk.now.classes c.args.places.now.place) r.2 c.lead-item.result.field layout.shape r.3 (drop_get (field_shapes c.args.source.now.chunk.now.classes c.args.places.now.place) c.lead-item.result.field layout.shape _ x) in
+    let p = placed c.args.source.now.chunk.now.classes c.args.source.now.chunk.now.bytes r.0 r.1 (field_shapes c.args.source.now.chunk.now.classes c.args.offsets.now.class_index) r.2 c.lead-item.result.field layout.shape r.3 (drop_get (field_shapes c.args.source.now.chunk.now.classes c.args.offsets.now.class_index) c.lead-item.result.field layout.shape _ x) in
     let begun : c.index.result.now ≡ p.place = got_is (starts r.0 r.2) c.lead-item.result.field c.index.result.now p.place c.index.result.now p.begins (c.index.ensures ∙ ap (λ z. get_or z c.lead-item.result.field c.index.result.now) h.1) in
     let stands : (to : ℕ) × EndsAt c.args.source.now.chunk.now.classes c.args.source.now.chunk.now.bytes layout.shape c.index.result.now to = (p.end, subst (λ z. EndsAt c.args.source.now.chunk.now.classes c.args.source.now.chunk.now.bytes layout.shape z p.end) (sym begun) (p.value, p.node)) in
     let known : IsLayoutIfKnown c.args.source.now.chunk.now.classes layout = (let s = f.of_class in record { form = s.form; of_class = λ o h. s }) in
-    let room : Room c.args.source.now.chunk.now.classes c.of_fields-inner.result.composites layout.shape = subst (λ z. Room c.args.source.now.chunk.now.classes z layout.shape) (sym composites) (room_first (Room c.args.source.now.chunk.now.classes (c.args.source.now.reach.composites - 1)) (field_shapes c.args.source.now.chunk.now.classes c.args.places.now.place) c.lead-item.result.field layout.shape _ c.requires.room x) in
+    let room : Room c.args.source.now.chunk.now.classes c.of_fields-inner.result.composites layout.shape = subst (λ z. Room c.args.source.now.chunk.now.classes z layout.shape) (sym composites) (room_first (Room c.args.source.now.chunk.now.classes (c.args.source.now.reach.composites - 1)) (field_shapes c.args.source.now.chunk.now.classes c.args.offsets.now.class_index) c.lead-item.result.field layout.shape _ c.requires.room x) in
     let cached = c.loop-lead.invariant.cached in
     search (rules, cached, stands, known, room, references, composites)
 
 pub push_members-loop-lead-preserved : goal.push_members-loop-lead-preserved
 push_members-loop-lead-preserved t c =
-    let layouts : IfSome (slice_get c.args.source.now.chunk.now.classes c.args.places.now.place) (λ d. AreFieldLayouts c.args.source.now.chunk.now.classes d.fields c.layouts-layouts.result.now) = subst (λ z. IfSome (slice_get z c.args.places.now.place) (λ d. AreFieldLayouts z d.fields c.layouts-layouts.result.now)) c.classes.ensures c.layouts-layouts.ensures.exact in
-    let o = ordered c.args.source.now.chunk.now.classes c.args.places.now.place c.args.order.now c.deref-lead-items.result.now c.requires.order c.requires.placed c.deref-lead-items.ensures.value in
+    let layouts : IfSome (slice_get c.args.source.now.chunk.now.classes c.args.offsets.now.class_index) (λ d. AreFieldLayouts c.args.source.now.chunk.now.classes d.fields c.layouts-layouts.result.now) = subst (λ z. IfSome (slice_get z c.args.offsets.now.class_index) (λ d. AreFieldLayouts z d.fields c.layouts-layouts.result.now)) c.classes.ensures c.layouts-layouts.ensures.exact in
+    let o = ordered c.args.source.now.chunk.now.classes c.args.offsets.now.class_index c.args.order.now c.deref-lead-items.result.now c.requires.order c.requires.placed c.deref-lead-items.ensures.value in
     let g = got c.deref-lead-items.result.now c.loop-lead.lead-index c.lead-item.result c.lead-item.result c.loop-lead-test.true c.lead-item.is in
-    let below : c.lead-item.result.field < length c.layouts-layouts.result.now = below_layouts c.args.source.now.chunk.now.classes c.args.places.now.place c.deref-lead-items.result.now c.loop-lead.lead-index c.lead-item.result c.layouts-layouts.result.now o c.requires.placed layouts g in
+    let below : c.lead-item.result.field < length c.layouts-layouts.result.now = below_layouts c.args.source.now.chunk.now.classes c.args.offsets.now.class_index c.deref-lead-items.result.now c.loop-lead.lead-index c.lead-item.result c.layouts-layouts.result.now o c.requires.placed layouts g in
     let layout = get_or c.layouts-layouts.result.now c.lead-item.result.field no_layout in
-    let f = field_of c.args.source.now.chunk.now.classes c.args.places.now.place c.lead-item.result.field c.layouts-layouts.result.now c.requires.placed layouts below in
-    let x = field_next c.args.source.now.chunk.now.classes c.args.places.now.place c.lead-item.result.field f.field layout.shape f.there f.shape in
+    let f = field_of c.args.source.now.chunk.now.classes c.args.offsets.now.class_index c.lead-item.result.field c.layouts-layouts.result.now c.requires.placed layouts below in
+    let x = field_next c.args.source.now.chunk.now.classes c.args.offsets.now.class_index c.lead-item.result.field f.field layout.shape f.there f.shape in
     record {
       cached = c.in_ok-_end.ensures.cached;
       laid = λ at to vs r h.
-          (let p = placed c.args.source.now.chunk.now.classes c.args.source.now.chunk.now.bytes at to (field_shapes c.args.source.now.chunk.now.classes c.args.places.now.place) vs c.lead-item.result.field layout.shape r (drop_get (field_shapes c.args.source.now.chunk.now.classes c.args.places.now.place) c.lead-item.result.field layout.shape _ x) in
+          (let p = placed c.args.source.now.chunk.now.classes c.args.source.now.chunk.now.bytes at to (field_shapes c.args.source.now.chunk.now.classes c.args.offsets.now.class_index) vs c.lead-item.result.field layout.shape r (drop_get (field_shapes c.args.source.now.chunk.now.classes c.args.offsets.now.class_index) c.lead-item.result.field layout.shape _ x) in
           let begun : c.index.result.now ≡ p.place = got_is (starts at vs) c.lead-item.result.field c.index.result.now p.place c.index.result.now p.begins (c.index.ensures ∙ ap (λ z. get_or z c.lead-item.result.field c.index.result.now) h.1) in
           let node : IsNode c.args.source.now.chunk.now.classes c.args.source.now.chunk.now.bytes (node_at layout.shape c.index.result.now p.end) p.value = subst (λ z. IsNode c.args.source.now.chunk.now.classes c.args.source.now.chunk.now.bytes (node_at layout.shape z p.end) p.value) (sym begun) p.node in
           let value = (c.in_ok-_end.ensures.ok p.end p.value node).1 ∙ ap (λ (z : Reach). string_bytes c.push_str-in-loop-lead.new.self ++ compact_text (json_of c.args.source.now.chunk.now.classes (referred_json c.args.source.now.chunk.now z.references) p.value)) c.of_fields-inner.ensures in
@@ -266,13 +266,13 @@ push_members-loop-lead-preserved t c =
 
 pub push_members-returns : goal.push_members-returns
 push_members-returns t c =
-    let o = ordered c.args.source.now.chunk.now.classes c.args.places.now.place c.args.order.now c.deref-lead-items.result.now c.requires.order c.requires.placed c.deref-lead-items.ensures.value in
+    let o = ordered c.args.source.now.chunk.now.classes c.args.offsets.now.class_index c.args.order.now c.deref-lead-items.result.now c.requires.order c.requires.placed c.deref-lead-items.ensures.value in
     record {
       cached = c.loop-lead.invariant.cached;
       ok = λ at to vs class r h q.
           let same : o.class ≡ class = (let z : Some o.class ≡ Some class = sym o.there ∙ q in cc) in
           let order = subst (λ (z : Class). IsOrder z.fields (map lead_of c.deref-lead-items.result.now)) same o.order in
-          let count = count_json c.args.source.now.chunk.now.classes (referred_json c.args.source.now.chunk.now c.args.source.now.reach.references) vs ∙ (ap length r.of_shapes ∙ shapes_count c.args.source.now.chunk.now.classes c.args.places.now.place class q) in
+          let count = count_json c.args.source.now.chunk.now.classes (referred_json c.args.source.now.chunk.now c.args.source.now.reach.references) vs ∙ (ap length r.of_shapes ∙ shapes_count c.args.source.now.chunk.now.classes c.args.offsets.now.class_index class q) in
           let none : drop c.loop-lead.lead-index c.deref-lead-items.result.now ≡ [] = drop_all c.loop-lead.lead-index c.deref-lead-items.result.now (omega arith) in (
             h.0,
             lay_all class.fields (map lead_of c.deref-lead-items.result.now) (json_of_all c.args.source.now.chunk.now.classes (referred_json c.args.source.now.chunk.now c.args.source.now.reach.references) vs) (string_bytes c.args.out.now) (string_bytes c.push_str.new.self) (string_bytes c.loop-lead.out) (string_bytes c.push_str-2.new.self) order count c.in_ok-push_str.ensures.bytes

@@ -8,7 +8,7 @@ use Rattle.jfr_value.specs.Values.{Values}
 use Rattle.jfr_value.specs.Visits.{field_shapes}
 use Rattle.jfr_show.specs.CachedJson.{AreCachedJson}
 use Rattle.jfr_show.specs.Json.{json_of_all, referred_json}
-use Rattle.jfr_show.specs.Orders.{ArePlaces, laid_out, lead_of}
+use Rattle.jfr_show.specs.Orders.{AreOffsets, laid_out, lead_of}
 use Rattle.jfr_show.proofs.JsonLaws.{onto_items}
 use Rattle.jfr_show.proofs.LeftLaws.{Left}
 use Rattle.jfr_show.proofs.json.value.+json.Given as goal
@@ -17,8 +17,8 @@ use Rattle.jfr_show.proofs.json.value.+json.Given as goal
 abbrev pub decreases-push_constant : goal.decreases-push_constant
 decreases-push_constant l = 400 * l.source.now.reach.references
 
-abbrev pub decreases-push_referred : goal.decreases-push_referred
-decreases-push_referred l = 400 * l.source.now.reach.references + 1
+abbrev pub decreases-push_reference : goal.decreases-push_reference
+decreases-push_reference l = 400 * l.source.now.reach.references + 1
 
 abbrev pub decreases-push_members : goal.decreases-push_members
 decreases-push_members l = 400 * l.source.now.reach.references + 6 * l.source.now.reach.composites
@@ -49,7 +49,7 @@ invariant-push_items-items l = record {
 abbrev pub invariant-push_members-loop-lead : goal.invariant-push_members-loop-lead
 invariant-push_members-loop-lead l = record {
   cached : AreCachedJson l.source.chunk.now l.cache;
-  laid : (at to : ℕ) (vs : Values) → IsRow l.source.chunk.now.classes l.source.chunk.now.bytes at to (field_shapes l.source.chunk.now.classes l.places.place) vs → ArePlaces l.places at to vs
+  laid : (at to : ℕ) (vs : Values) → IsRow l.source.chunk.now.classes l.source.chunk.now.bytes at to (field_shapes l.source.chunk.now.classes l.offsets.class_index) vs → AreOffsets l.offsets at to vs
       → string_bytes l.out ++ laid_out (map lead_of (drop l.lead-index l.lead-items)) (json_of_all l.source.chunk.now.classes (referred_json l.source.chunk.now l.source.reach.references) vs)
       ≡ string_bytes l.initial.out ++ laid_out (map lead_of l.lead-items) (json_of_all l.source.chunk.now.classes (referred_json l.source.chunk.now l.source.reach.references) vs);
 }

@@ -5,4 +5,4 @@ use Rattle.jfr_show.specs.CachedJson.{IsCachedJson}
 use Rattle.jfr_show.proofs.json.cache.JsonCache.new.Given as goal
 
 abbrev pub invariant-loop : goal.invariant-loop
-invariant-loop l = (p : Parts) → AllByRecursion (λ o. IfSome o (IsCachedJson p)) l.places.items
+invariant-loop l = (p : Parts) → AllByRecursion (λ o. IfSome o (IsCachedJson p)) l.texts.items

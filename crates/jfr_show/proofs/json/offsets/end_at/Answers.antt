@@ -1,6 +1,6 @@
 use Rattle.jfr_value.specs.Walks.{IsLayoutIfKnown}
 use Rattle.jfr_show.proofs.LayoutForms.{integer_stands, key_stands, is_integer, is_reference}
-use Rattle.jfr_show.proofs.json.places.end_at.Goals as goal
+use Rattle.jfr_show.proofs.json.offsets.end_at.Goals as goal
 
 pub integer_at-number-requires-clause-stands : goal.integer_at-number-requires-clause-stands
 integer_at-number-requires-clause-stands c =

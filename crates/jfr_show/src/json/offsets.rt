@@ -4,7 +4,7 @@ ghost use Rattle.jfr_layout.specs.Classes.{IsFieldLayout, Sound};
 ghost use Rattle.jfr_value.specs.Nodes.{EndsAt, IsRow};
 ghost use Rattle.jfr_value.specs.Values.{Values};
 ghost use Rattle.jfr_value.specs.Visits.{field_shapes};
-ghost use Rattle.jfr_show.specs.Orders.{ArePlaces};
+ghost use Rattle.jfr_show.specs.Orders.{AreOffsets};
 
 use crate::reading::integer_at;
 use jfr_base::NoMemory;
@@ -15,26 +15,26 @@ use std::alloc::Global;
 
 /// The index of a value's class, where each field of the value starts, and where the last one ends.
 #[derive(Drop)]
-pub(crate) struct Places {
-    pub(crate) place: usize,
+pub(crate) struct FieldOffsets {
+    pub(crate) class_index: usize,
     pub(crate) starts: Vec<usize>,
     pub(crate) end: usize,
 }
 
-/// Where the fields of a value of the class with index `place` start. The first starts at `at`.
-pub(crate) fn field_places(
+/// Where the fields of a value of the class with index `class_index` start. The first starts at `at`.
+pub(crate) fn field_offsets(
     alloc: Global,
     chunk: &Chunk<'_>,
-    place: usize,
+    class_index: usize,
     at: usize,
-) -> Result<Places, NoMemory>
+) -> Result<FieldOffsets, NoMemory>
     requires sound { Sound chunk.now.classes }
-    requires placed { place < length chunk.now.classes }
-    requires stand { (to : ℕ) × (vs : Values) × IsRow chunk.now.classes chunk.now.bytes at to (field_shapes chunk.now.classes place) vs }
-    ensures class { IfOk result (λ places. places.place ≡ place) }
-    ensures ok { IfOk result (λ places. (to : ℕ) (vs : Values) → IsRow chunk.now.classes chunk.now.bytes at to (field_shapes chunk.now.classes place) vs → ArePlaces places at to vs) }
+    requires placed { class_index < length chunk.now.classes }
+    requires stand { (to : ℕ) × (vs : Values) × IsRow chunk.now.classes chunk.now.bytes at to (field_shapes chunk.now.classes class_index) vs }
+    ensures class { IfOk result (λ offsets. offsets.class_index ≡ class_index) }
+    ensures ok { IfOk result (λ offsets. (to : ℕ) (vs : Values) → IsRow chunk.now.classes chunk.now.bytes at to (field_shapes chunk.now.classes class_index) vs → AreOffsets offsets at to vs) }
 {
-    let layouts = chunk.classes().layouts(place);
+    let layouts = chunk.classes().layouts(class_index);
     let mut starts = Vec::with_capacity(alloc, layouts.len())?;
     let limit = chunk.bytes().len();
     let mut end = at;
@@ -42,7 +42,11 @@ pub(crate) fn field_places(
         starts.push(end)?;
         end = end_at(chunk, layout, end, limit);
     }
-    Ok(Places { place, starts, end })
+    Ok(FieldOffsets {
+        class_index,
+        starts,
+        end,
+    })
 }
 
 /// Where the value with this layout ends that starts at `at`, in a chunk that ends at `limit`.

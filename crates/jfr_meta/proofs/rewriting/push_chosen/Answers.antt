@@ -1,7 +1,7 @@
 use Rattle.std.proofs.Common.{◌+◌, map, take, sym, arith}
 use Rattle.jfr_meta.proofs.Judging.{refs_next}
 use Rattle.jfr_meta.proofs.RewriteLaws.{trees_more}
-use Rattle.jfr_meta.proofs.rewriting.push_each.Goals as goal
+use Rattle.jfr_meta.proofs.rewriting.push_chosen.Goals as goal
 
 pub loop-element-preserved : goal.loop-element-preserved
 loop-element-preserved c =

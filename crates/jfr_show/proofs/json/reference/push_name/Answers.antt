@@ -6,7 +6,7 @@ use Rattle.serde_json.specs.Written.{compact_text}
 use Rattle.jfr_show.specs.Json.{text_json}
 use Rattle.jfr_show.specs.Names.{class_name}
 use Rattle.jfr_show.proofs.JsonLaws.{parts_added, reference_text}
-use Rattle.jfr_show.proofs.json.reference.push_reference.Goals as goal
+use Rattle.jfr_show.proofs.json.reference.push_name.Goals as goal
 
 pub returns : goal.returns
 returns c =

@@ -2,7 +2,7 @@ use Rattle.std.proofs.Common.{length, ap, arith, sym, ◌∙◌}
 use Rattle.jfr_base.specs.Formats.{run, seen}
 use Rattle.jfr_value.specs.Reading.{value_format}
 use Rattle.jfr_value.proofs.PartLaws.{end_seen}
-use Rattle.jfr_show.proofs.json.places.other_end.Goals as goal
+use Rattle.jfr_show.proofs.json.offsets.other_end.Goals as goal
 
 pub unreachable-requires : goal.unreachable-requires
 unreachable-requires c =
