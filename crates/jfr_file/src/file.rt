@@ -5,7 +5,7 @@ ghost use Rattle.jfr_outside.specs.Calls.{CountsRead};
 ghost use Rattle.jfr_header.specs.Taking.{Tells};
 ghost use Rattle.jfr_file.specs.Files.{Counted, FileRead, RestRead};
 
-use crate::buffer::Buffer;
+use jfr_header::Buffer;
 use jfr_outside::{Fault, Place};
 use std::alloc::Global;
 

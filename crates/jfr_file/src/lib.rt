@@ -3,7 +3,6 @@
 //! Read `specs/Files.antt` first: what each answer says about the file and the place.
 #![tactic(auto)]
 
-mod buffer;
 mod file;
 
 pub use file::{FileFault, read_file};

@@ -69,6 +69,15 @@ impl Buffer {
         &self.room[..self.count]
     }
 
+    /// The bytes, in their memory.
+    pub fn into_bytes(self) -> Vec<u8>
+        ensures { result.items ≡ self }
+    {
+        let Buffer { mut room, count } = self;
+        room.truncate(count);
+        room
+    }
+
     /// Drops the bytes, and keeps their memory.
     pub fn clear(&mut self)
         ensures { self.new ≡ [] }
@@ -76,9 +85,9 @@ impl Buffer {
         self.count = 0;
     }
 
-    // Reads once from the open input, up to a length of `until`, and returns the number of bytes read: 0 at
-    // the input's end.
-    fn read<P: Place>(&mut self, place: &mut P, until: usize) -> Result<usize, Fault>
+    /// Reads once from the open input, up to a length of `until`, and returns the number of bytes read: 0 at
+    /// the input's end.
+    pub fn read<P: Place>(&mut self, place: &mut P, until: usize) -> Result<usize, Fault>
         requires { length self.old < until }
         ensures moved { Tells (P.state place.old) (P.state place.new) (Moved self.old self.new) }
         ensures prefix { take (length self.old) self.new ≡ self.old }

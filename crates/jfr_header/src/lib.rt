@@ -1,7 +1,7 @@
 //! The header of a chunk, and how a recording is cut into chunks, one at a time.
 //!
 //! `read_header` and `write_header` are the layout of a header. `ChunkCutter` reads a recording from
-//! a place, chunk by chunk. Read `specs/Fronts.antt` first, then `specs/Cuts.antt` and
+//! a place, chunk by chunk, into a `Buffer`. Read `specs/Fronts.antt` first, then `specs/Cuts.antt` and
 //! `specs/Nexts.antt`.
 #![tactic(auto)]
 
@@ -12,6 +12,7 @@ mod header;
 mod judge;
 pub mod laws;
 
+pub use buffer::Buffer;
 pub use cutter::{ChunkCutter, Cut};
 pub use ending::Ending;
 pub use header::{Header, is_cut, read_header, write_header};

@@ -141,7 +141,7 @@ mutual
 
 -- Reading the parts of the body at their offsets.
 module _ (start duration id : ℕ) (strings : List (List ℕ)) (root : Tree) (x : List ℕ) (good : HasIndices (length strings) root) (shallow : depth root ≤ 16) (texts : AllByRecursion IsText strings) where
-  body_run : Stands x 6 (length x) (body_bytes start duration id strings root)
+  pub body_run : Stands x 6 (length x) (body_bytes start duration id strings root)
       → (t : Tree) × (bare t ≡ bare root) × (run meta_format x (length x) 6 ≡ ok (record { start = start; duration = duration; id = id; strings = strings; root = t }) (length x))
   body_run s =
       let n : ℕ = length x in
@@ -169,17 +169,17 @@ module _ (start duration id : ℕ) (strings : List (List ℕ)) (root : Tree) (x 
       let element = tree_run root count 16 x n v n w good shallow e.second w in
       (moved v root, moved_bare v root, whole_body x n 6 (start, duration, id, count) u strings v (moved v root) n head table element refl)
 
-stands_whole : (x : List ℕ) → Stands x 0 (length x) x
+pub stands_whole : (x : List ℕ) → Stands x 0 (length x) x
 stands_whole x = record { order = omega arith; within = omega arith; bytes = take_all (length x - 0) x (omega arith) }
 
-five_bytes : (v : ℕ) → length (spell_in 5 v) ≡ 5
+pub five_bytes : (v : ℕ) → length (spell_in 5 v) ≡ 5
 unfolding spell_in
 five_bytes v = refl
 
-abbrev zero_byte : List ℕ
+abbrev pub zero_byte : List ℕ
 zero_byte = 0 ∷ []
 
-zero_spelled : Spells (0 ∷ []) 0
+pub zero_spelled : Spells (0 ∷ []) 0
 unfolding spell
 zero_spelled = spell_spells 0
 

@@ -8,7 +8,7 @@ ghost use Rattle.jfr_chunk.specs.Parts.{Parts, events_of};
 ghost use Rattle.jfr_chunk.specs.Seen.{event_at};
 ghost use Rattle.jfr_renumber.specs.Renumber.{event_bytes};
 
-use crate::field::Fields;
+use crate::field::RekeyContext;
 use crate::fields::{Passed, pass_value};
 use crate::rewriting::NewKeys;
 use jfr_base::{NoMemory, write_in};

@@ -12,7 +12,7 @@ returns-clause-read_back c =
     let id = c.args.id in
     let strings = c.args.strings.now in
     let root = c.args.root.now in
-    let size = c.metadata_len.result + (c.var_len.result + c.var_len-2.result + c.var_len-3.result + c.var_len-4.result) + 6 in
+    let size = c.metadata_len.result + (6 + (c.var_len.result + c.var_len-2.result + c.var_len-3.result + c.var_len-4.result)) in
     let count : c.var_len-4.result ≡ length (spell (length strings)) = c.var_len-4.ensures.exact ∙ ap (λ n. length (spell n)) c.len-count.ensures in
     let whole : size ≡ 6 + length (body_bytes start duration id strings root) = omega (arith, body_measured start duration id strings root) in
     read_back start duration id strings root c.push_element.new.out.items c.requires.indices c.requires.depth c.requires.size c.in_ok-push_opening.ensures.texts
