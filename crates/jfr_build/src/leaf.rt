@@ -1,4 +1,4 @@
-//! The words of leaves.
+//! Values of the words of a text that are leaves: numbers, truth values and strings.
 ghost use Rattle.std.specs.Prelude.{◌≡◌, ◌<◌, ◌≤◌, ◌*◌, ◌^◌, ◌∷◌, ◌++◌, [], IfSome, OnOk, option_and_then, option_map};
 ghost use Rattle.jfr_base.specs.Integer.{spell};
 ghost use Rattle.jfr_build.specs.LeafWords.{base_of, below, content_of, hex_byte, hex_of, id_after, negated, signed_of, spelled_content, string_of, truth_of};
@@ -12,7 +12,7 @@ use jfr_layout::Kind;
 use jfr_text::{EMPTY_BYTE, KEY_BYTE, NULL_BYTE, UTF8_BYTE};
 use std::alloc::AllocError;
 
-/// The id after the `#` or `[` with which a word begins.
+/// The id that follows the `#` or `[` of a word; `None` if the word isn't this mark and an id.
 pub fn id_after(word: &str, mark: char) -> Option<u64>
     requires { mark < 128 }
     ensures { result ≡ id_after mark word.now }
@@ -20,7 +20,7 @@ pub fn id_after(word: &str, mark: char) -> Option<u64>
     id_of(word.strip_prefix(mark)?)
 }
 
-/// Half of the values of a signed kind are negative.
+/// How many values of a signed kind are negative.
 const BYTE_HALF: u64 = 1 << 7;
 
 const SHORT_HALF: u64 = 1 << 15;
@@ -29,10 +29,10 @@ const INT_HALF: u64 = 1 << 31;
 
 const LONG_HALF: u64 = 1 << 63;
 
-/// Every `char` is below this.
+/// One more than the greatest `char`.
 const CHAR_LIMIT: u64 = 1 << 16;
 
-/// A number below `half`, or with a minus at most `half`, in two's complement.
+/// The number that a word spells, if it is from `-half` to `half - 1`, in two's complement.
 fn signed_of(word: &str, half: u64) -> Option<u64>
     requires most { half ≤ 2 ^ 63 }
     requires some { 0 < half }
@@ -54,7 +54,7 @@ fn signed_of(word: &str, half: u64) -> Option<u64>
     }
 }
 
-/// The number with a minus, in two's complement.
+/// `-number`, in two's complement.
 fn negated(half: u64, number: u64) -> u64
     requires most { half ≤ 2 ^ 63 }
     requires fits { number ≤ half }
@@ -68,7 +68,7 @@ fn negated(half: u64, number: u64) -> u64
     half - number + half
 }
 
-/// The byte of a truth value.
+/// The byte of `true` or `false`; `None` for any other word.
 fn truth_of(word: &str) -> Option<u8>
     ensures { option_map (λ b. b ∷ []) result ≡ truth_of word.now }
 {
@@ -108,7 +108,7 @@ fn push_hex(out: &mut Vec<u8>, word: &str, count: usize) -> Result<(), ValueFaul
     Ok(())
 }
 
-/// Appends a byte, if there is one.
+/// Appends the byte. Fails if there is none.
 fn push_byte(out: &mut Vec<u8>, byte: Option<u8>) -> Result<(), ValueFault>
     ensures { Appends (option_map (λ b. b ∷ []) byte) result out.old.items out.new.items }
 {
@@ -119,7 +119,7 @@ fn push_byte(out: &mut Vec<u8>, byte: Option<u8>) -> Result<(), ValueFault>
     Ok(())
 }
 
-/// Appends a number in its shortest spelling, if there is one.
+/// Appends the number in its shortest encoding. Fails if there is none.
 fn push_number(out: &mut Vec<u8>, number: Option<u64>) -> Result<(), ValueFault>
     ensures { Appends (option_map spell number) result out.old.items out.new.items }
 {
@@ -143,7 +143,7 @@ fn push_text(out: &mut Vec<u8>, text: &[u8]) -> Result<(), AllocError>
     out.extend_from_slice(text)
 }
 
-/// Appends the string of a word: null, a key, or a text.
+/// Appends the string that a word spells: null, a key, or a quoted text. `text` is scratch memory.
 fn push_string(out: &mut Vec<u8>, word: &str, text: &mut Vec<u8>) -> Result<(), ValueFault>
     ensures { Appends (option_map spelled_content (string_of word.now)) result out.old.items out.new.items }
 {
@@ -183,7 +183,7 @@ fn byte_of(word: &str) -> Option<u8>
     Some(number as u8)
 }
 
-/// Appends the value that a word spells for a base name. `text` is scratch memory for the text of a quoted word.
+/// Appends the value of this kind that a word spells. `text` is scratch memory for a quoted word.
 pub fn push_base(
     out: &mut Vec<u8>,
     kind: Kind,

@@ -150,8 +150,8 @@ fn fields_end(
     requires event { IsEventLayout reader.classes.now frame.type_id layout.now }
     requires record { IsRecord reader.chunk.now frame }
     requires entries { length reader.pools.now < 2 ^ 32 }
-    ensures exact { result ≡ seen (run (value_format reader.classes.now (inline frame.type_id)) reader.chunk.now (record_end frame) frame.body) }
-    ensures refs_end { IfOk result (λ end. AddsRefs (node_entries reader.pools.now reader.classes.now reader.chunk.now (node_at (inline frame.type_id) frame.body end)) refs.old refs.new) }
+    ensures exact { result ≡ seen (run (value_format reader.entry.classes.now (inline frame.type_id)) reader.entry.chunk.now (record_end frame) frame.body) }
+    ensures refs_end { IfOk result (λ end. AddsRefs (node_entries reader.entry.pools.now reader.entry.classes.now reader.entry.chunk.now (node_at (inline frame.type_id) frame.body end)) refs.old refs.new) }
 {
     let walk = Walk {
         classes: reader.classes,

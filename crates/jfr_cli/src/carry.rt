@@ -1,5 +1,5 @@
-//! Each order as a call. Some orders don't touch the place or the sink. They take it only so that the contract can
-//! say that it is unchanged; the parameter's name then begins with `_`.
+//! Calls the command of each order. A function that doesn't use the place or the sink still takes it, so that its
+//! contract can say that it is unchanged; the parameter's name then begins with `_`.
 ghost use Rattle.jfr_plan.specs.Effects.{outside};
 ghost use Rattle.jfr_words.specs.Words.{IsUsableOrder};
 ghost use Rattle.jfr_words.specs.declared.order.Order.TheVariants as orders;
@@ -100,7 +100,7 @@ pub(crate) fn carry_out<P: Place, O: Sink>(
     }
 }
 
-/// The events that are printed, and how.
+/// What `print` shows: the kept events of a file, and how.
 #[derive(Clone, Copy)]
 struct Events<'a> {
     file: &'a Text,
@@ -151,7 +151,7 @@ fn stacks<P: Place, O: Sink>(
     stacks_stream(alloc, place, out, file.as_str(), filter)
 }
 
-/// The names of a recording, and of what is made of it.
+/// The names of the input, and of the file that is made of it.
 #[derive(Clone, Copy)]
 struct Files<'a> {
     input: &'a Text,
@@ -197,7 +197,7 @@ fn make_receipt<P: Place, O: Sink>(
     receipt_stream(alloc, place, input.as_str(), output.as_str(), filter)
 }
 
-/// The names of a recording, of its scrub, and of the receipts.
+/// The names of the original, of its scrub, and of the file with the receipts.
 #[derive(Clone, Copy)]
 struct CheckedFiles<'a> {
     input: &'a Text,
@@ -224,7 +224,7 @@ fn verify<P: Place, O: Sink>(
     }
 }
 
-/// Writes that this many chunks are verified.
+/// Writes the line that says how many chunks are verified.
 fn say_verified<O: Sink>(alloc: Global, out: &mut O, count: u64) -> Ending
     ensures { IsWritten (verified_line count) result (O.state out.old) (O.state out.new) }
 {
@@ -234,7 +234,6 @@ fn say_verified<O: Sink>(alloc: Global, out: &mut O, count: u64) -> Ending
     }
 }
 
-/// Writes a text to the output sink.
 fn say_text<O: Sink>(out: &mut O, text: &str) -> Ending
     ensures { IsWritten text.now result (O.state out.old) (O.state out.new) }
 {

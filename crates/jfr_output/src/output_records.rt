@@ -28,7 +28,8 @@ pub struct Cursor {
     pub link: usize,
 }
 
-/// The next output record, if there is one. A record is read only if all its bytes are written.
+/// The next output record, if there is one. Moves the cursor past it. Only kept events, and the metadata record,
+/// are read.
 #[inline(always)]
 pub fn next_output_record(chunk: &Chunk, kept: &Kept, cursor: &mut Cursor) -> Option<OutputRecord>
     requires { IsCursor chunk.now kept.now cursor.old }
@@ -81,8 +82,8 @@ fn pass_record(chunk: &Chunk, kept: &Kept, cursor: &mut Cursor, at: usize) -> Op
     chosen(link, event, is_metadata, chunk.frames(), number)
 }
 
-// The output record for the record with this number: always for a chained checkpoint and for the metadata
-// record, for another record if it is that of a kept event.
+// The output record for the record with this number: a chained checkpoint, the metadata record, or a kept event.
+// `None` for any other record.
 #[inline(always)]
 fn chosen(
     link: Option<(usize, Link)>,
@@ -103,8 +104,8 @@ fn chosen(
     Some(OutputRecord::Event(event?, frames.get(number)?))
 }
 
-// The number of the event that starts at this offset, if it is kept. If an event starts there, moves the
-// number past it.
+// The number of the event that starts at this offset, if it is kept. If an event starts there, whether it is kept
+// or not, `number` becomes that of the next event.
 #[inline(always)]
 fn pass_event(chunk: &Chunk, kept: &Kept, number: &mut usize, at: usize) -> Option<usize>
     ensures number { number.new ≡ event_behind (events_of chunk.now) number.old at }
@@ -112,8 +113,8 @@ fn pass_event(chunk: &Chunk, kept: &Kept, number: &mut usize, at: usize) -> Opti
 {
     let old = *number;
     let place = chunk.event_place(old)?;
-    // The second test never holds, since there is an event with this number. It shows that the sum can't
-    // overflow.
+    // The second condition never holds, since there is an event with this number. It is there for the proof that
+    // the sum can't overflow.
     if place != at || old >= chunk.event_count() {
         return None;
     }
@@ -125,7 +126,7 @@ fn pass_event(chunk: &Chunk, kept: &Kept, number: &mut usize, at: usize) -> Opti
     }
 }
 
-// The chained checkpoint that starts at this offset, with its number. Moves the number past it.
+// The chained checkpoint that starts at this offset, with its number. `number` then becomes that of the next one.
 #[inline(always)]
 fn pass_link(chain: &Chain, number: &mut usize, at: usize) -> Option<(usize, Link)>
     ensures number { number.new ≡ link_behind chain.now number.old at }
@@ -133,8 +134,8 @@ fn pass_link(chain: &Chain, number: &mut usize, at: usize) -> Option<(usize, Lin
 {
     let old = *number;
     let link = *chain.get(old)?;
-    // The second test never holds, since there is a link with this number. It shows that the sum can't
-    // overflow.
+    // The second condition never holds, since there is a link with this number. It is there for the proof that
+    // the sum can't overflow.
     if link.frame.at != at || old >= chain.len() {
         return None;
     }

@@ -1,4 +1,4 @@
-//! The entries that remain.
+//! The entries that remain in the output: those that a kept event reaches.
 ghost use Rattle.std.specs.Prelude.{◌≡◌, ◌<◌, ◌++◌, ◌==◌, [], ◌∷◌, filter, length, slice_get, Some, IfOk, IsTrue, OnOk, if◌then◌else◌};
 ghost use Rattle.jfr_chunk.specs.Reach.{marked};
 ghost use Rattle.jfr_output.specs.Remaining.{NotFalling, entries_in};
@@ -16,7 +16,7 @@ pub enum RemainingEntries<'p> {
 }
 
 impl RemainingEntries<'_> {
-    /// The entries.
+    /// The entries as a slice.
     pub fn as_slice(&self) -> &[EntryAt]
         ensures { result.now ≡ entries_in self.now }
     {
@@ -87,7 +87,7 @@ fn push_if(left: &mut Vec<EntryAt>, entry: EntryAt, keep: bool) -> Result<(), No
     Ok(())
 }
 
-/// The entries of checkpoint `number`, of entries in the order of their checkpoints.
+/// The entries of checkpoint `number`. The given entries are in the order of their checkpoints.
 pub fn entries_of(left: &[EntryAt], number: usize) -> &[EntryAt]
     requires { NotFalling 0 left.now }
     ensures { result.now ≡ filter (λ e. e.checkpoint == number) left.now }

@@ -1,4 +1,4 @@
-//! The classes and keys that are used.
+//! The classes and keys that are referred to but have no entry in force.
 ghost use Rattle.std.specs.Prelude.{◌≡◌, ◌<◌, ℕ, [], ◌∷◌, length, map, filter, false, option_to_list, Contains, IfOk, IsTrue};
 ghost use Rattle.jfr_layout.specs.Classes.{Sound};
 ghost use Rattle.jfr_value.specs.Nodes.{IsValue, node_of, targets};
@@ -17,8 +17,8 @@ use jfr_reach::Marks;
 use jfr_value::{Node, Visit, Walk, end_visiting, layout_of};
 use std::alloc::Global;
 
-/// The classes and keys that are referred to and have no entry in force. Once it runs out of memory the list
-/// has failed.
+/// The classes and keys that are referred to but have no entry in force. `failed` is set once memory has run
+/// out.
 #[derive(Drop)]
 pub(crate) struct Missing {
     keys: Vec<(u64, u64)>,
@@ -33,8 +33,8 @@ impl Visit<Pools> for Missing {
 
     ghost takes = { λ pools target old new. Lists pools (target ∷ []) old new };
 
-    /// Adds a class and a key that have no entry in force. Most are the key 0 of the class before, which is not
-    /// added again.
+    /// Adds a class and a key, unless they have an entry in force. Most are the pair that was added last, a class
+    /// and the key 0, which isn't added again.
     #[inline(always)]
     fn visit(&mut self, pools: &Pools, class: u64, key: u64) {
         if pools.entry(class, key).is_some() {
@@ -49,7 +49,7 @@ impl Visit<Pools> for Missing {
     }
 }
 
-// Whether a class and a key are the last ones of these.
+// Whether a class and a key are the last pair of the list.
 fn is_last(keys: &[(u64, u64)], class: u64, key: u64) -> bool
     ensures { IsTrue result → Contains keys.now (class, key) }
 {
@@ -60,7 +60,7 @@ fn is_last(keys: &[(u64, u64)], class: u64, key: u64) -> bool
 }
 
 /// The classes and keys without an entry in force to which the kept events, and the entries that they reach,
-/// refer. Some may be there more than once.
+/// refer. A pair may be there more than once.
 pub(crate) fn missing_keys(
     alloc: Global,
     chunk: &Chunk<'_>,
@@ -135,7 +135,7 @@ fn list_value(list: &mut Missing, classes: &Classes, pools: &Pools, node: Node<'
     let _end = end_visiting(walk, &layout, node.at, list);
 }
 
-/// Sorts classes and keys, and leaves out repeated ones.
+/// Sorts the pairs, and removes repeated ones.
 pub(crate) fn put_in_order(pairs: &mut Vec<(u64, u64)>)
     ensures rising { IsRising pairs.new.items }
     ensures kept { (t : ℕ × ℕ) → Contains pairs.old.items t → Contains pairs.new.items t }

@@ -97,7 +97,7 @@ struct Selection<'s, 'a> {
     style: Style,
 }
 
-/// Shows the kept events of a chunk, with a new writer.
+/// Writes the kept events of a chunk. Makes the writer for them.
 fn print_kept<O: Sink>(
     alloc: Global,
     out: &mut O,
@@ -111,7 +111,7 @@ fn print_kept<O: Sink>(
     print_events(out, page, selection, &mut writer)
 }
 
-/// Shows the kept events of a chunk, with this writer.
+/// Writes the kept events of a chunk, page by page.
 fn print_events<O: Sink>(
     out: &mut O,
     page: &mut TextBuilder,
@@ -129,7 +129,7 @@ fn print_events<O: Sink>(
     write_page(out, page)
 }
 
-/// A writer of the events of a chunk in this style.
+/// A writer of the events of a chunk: as JSON, or else as text.
 fn writer_of<'c, 'a>(
     alloc: Global,
     chunk: &'c Chunk<'a>,
@@ -144,7 +144,7 @@ fn writer_of<'c, 'a>(
     }
 }
 
-/// Shows the event with this number, if it is kept.
+/// Adds the event with this number to the page if it is kept, and writes the page if it is full.
 fn print_if_kept<O: Sink>(
     out: &mut O,
     page: &mut TextBuilder,

@@ -14,8 +14,8 @@ use jfr_outside::NoMemory;
 use std::alloc::Global;
 use std::marker::Model;
 
-/// The output of an accepted chunk, as pieces: ranges of the chunk, and ranges of a few made bytes. The
-/// memory to write them is allocated already.
+/// The output of an accepted chunk, as pieces: ranges of the chunk, and of a few bytes that are new. The memory to
+/// write them is already allocated.
 #[derive(Drop)]
 pub struct Scrubber<'a> {
     laid: LaidOut<'a>,
@@ -42,13 +42,12 @@ impl<'a> Scrubber<'a> {
         chunk: &Chunk<'a>,
         filter: &Filter,
     ) -> Result<Scrubber<'a>, NoMemory>
-        // The pieces are what the chunk becomes, and nothing is written yet.
+        // The pieces make up the output. Nothing is written yet.
         ensures laid { IfOk result (λ s. LaysOut chunk.now (kept_of filter.now chunk.now) s.laid s.events s.entries) }
         ensures empty { IfOk result (λ s. s.written ≡ []) }
 
-        // What the chunk becomes is accepted, is no longer than it, and holds exactly the events that the
-        // filter keeps and the entries that they reach; it means the same, and with this filter it becomes
-        // itself.
+        // The output is accepted, and no longer than the chunk. It has exactly the events that the filter keeps
+        // and the entries that they reach, and means the same. Scrubbed again with this filter it stays the same.
         ensures settled { IfOk result (λ s. IsSettled filter.now chunk.now) }
     {
         let laid = LaidOut::make(alloc, chunk, filter)?;
@@ -85,7 +84,7 @@ impl<'a> Scrubber<'a> {
         self.laid.kept_entries()
     }
 
-    /// The made bytes.
+    /// The new bytes, of which some pieces are ranges.
     pub fn made(&self) -> &[u8]
         ensures { result.now ≡ self.now.laid.made }
     {

@@ -21,7 +21,7 @@ use jfr_layout::{FieldLayout, Form};
 use jfr_text::StringKind;
 use jfr_value::{Node, item_layout, layout_of};
 
-/// Adds the value of a node of the chunk.
+/// Adds the text of a node's value.
 #[cycle(show)]
 pub(crate) fn show_node(
     view: &View<'_, '_>,
@@ -176,8 +176,8 @@ fn show_items(
     Ok(to)
 }
 
-/// Adds the text of the reference to a class and a key, from the cache if it is there. If not, the cache may
-/// keep it.
+/// Adds the text of the reference to a class and a key. Takes it from the cache if it is there; if not, makes it,
+/// and the cache may keep it.
 #[cycle(show)]
 fn show_reference(
     view: &View<'_, '_>,
@@ -210,7 +210,7 @@ fn show_reference(
     Ok(())
 }
 
-/// Adds the text of the reference to a class and a key.
+/// Adds the text of the reference to a class and a key, without a look into the cache for this reference.
 #[cycle(show)]
 fn show_constant(
     view: &View<'_, '_>,

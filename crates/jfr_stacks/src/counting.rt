@@ -1,4 +1,4 @@
-//! Counting the events of a chunk by their stacks.
+//! Counts the events of a chunk by their stacks.
 ghost use Rattle.std.specs.Prelude.{◌≡◌, ◌*◌, ℕ, ◌+◌, ◌-◌, ◌^◌, ◌<◌, ◌≤◌, List, ◌++◌, length, IfOk, IfSome, OnErr, OnOk, option_and_then, option_map, option_to_list};
 ghost use Rattle.std.specs.List.{filter_map};
 ghost use Rattle.jfr_chunk.specs.Parts.{events_of};
@@ -23,7 +23,7 @@ use jfr_value::Node;
 use std::alloc::Global;
 
 /// Adds the events of a chunk that the filter keeps. They are first counted by the entry that is their stack
-/// trace, so the text of a stack is written only once for each entry. If memory runs out, some of the events
+/// trace, so that the text of a stack is made only once for each entry. If memory runs out, some of the events
 /// may have been added.
 pub(crate) fn add_events(
     alloc: Global,
@@ -43,8 +43,8 @@ pub(crate) fn add_events(
     add_entries(&mut writer, chunk, &by_entry, counts)
 }
 
-// The number of kept events for each entry that is their stack trace. The events whose trace isn't an entry
-// are added to the counts.
+// The number of kept events for each entry that is their stack trace. Events whose trace is inline are added to
+// the counts. Those that refer to an entry that doesn't exist have no stack, and aren't counted.
 fn count_events(
     writer: &mut StackWriter,
     chunk: &Chunk<'_>,
@@ -87,7 +87,8 @@ fn kept_trace<'a>(
     }
 }
 
-// Counts an event with this stack trace at the entry that is the trace, or else adds it to the counts.
+// Counts an event with this stack trace at the entry that is the trace, or adds it to the counts if the trace is
+// inline. An event that refers to an entry that doesn't exist isn't counted.
 fn count_trace<'a>(
     writer: &mut StackWriter,
     chunk: &Chunk<'a>,
@@ -118,7 +119,7 @@ fn count_trace<'a>(
     }
 }
 
-/// Adds events with this stack trace to the counts, if it has a stack.
+/// Adds `count` events with this stack trace to the counts, unless the trace has no stack.
 pub(crate) fn add_trace<'a>(
     writer: &mut StackWriter,
     chunk: &Chunk<'a>,

@@ -60,7 +60,10 @@ impl Run {
     }
 }
 
-// The first `chunks` of two chunks in a.jfr, and one in each file of the folder d.
+// The receipt of the first chunk, of four entries: the two events refer to the entries 0 and 2, and these to 1 and 3.
+const RECEIPT: &[u8] = &[4, 0, 0, 0, 2, 0, 1, 1, 1, 0, 3, 1, 2];
+
+// The first `chunks` of two chunks in a.jfr, and one in each file of the folder d. A receipt is in c.
 fn place_with(alloc: Global, chunks: usize) -> Result<MemoryPlace, Fail> {
     let rings = with_classes(alloc, RINGS, 333)?;
     let strings = with_classes(alloc, STRINGS, 330)?;
@@ -75,6 +78,7 @@ fn place_with(alloc: Global, chunks: usize) -> Result<MemoryPlace, Fail> {
         place.put("d/2.jfr", &strings)?;
     }
     place.put("a.jfr", &recording)?;
+    place.put("c", RECEIPT)?;
     Ok(place)
 }
 

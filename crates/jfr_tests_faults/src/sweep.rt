@@ -33,6 +33,8 @@ const OF_FIRST: &[usize] = &[50, 18, 50, 50, 50, 50, 50, 44, 0];
 
 const OF_SECOND: &[usize] = &[50, 18, 50, 50, 50, 50, 50, 37, 0];
 
+const OF_RECEIPT: &[usize] = &[13, 0];
+
 const ONCE: &[Left] = &[Left::Nothing];
 
 const EACH: &[Left] = &[Left::PartOf(1), Left::PartOf(2)];
@@ -42,7 +44,7 @@ const WHOLE: &[Left] = &[Left::Chunks(2)];
 const TEXT: &[Left] = &[Left::PartOf(2)];
 
 #[rattlefmt::skip]
-static CASES: [Case; 12] = [
+static CASES: [Case; 13] = [
     Case {
         command: Command { words: &["print", "a.jfr"], at_end: false },
         reads: &[OF_BOTH], calls: [ONCE, &[], &[], &[], &[]], writes: EACH,
@@ -94,6 +96,10 @@ static CASES: [Case; 12] = [
     Case {
         command: Command { words: &["stacks", "a.jfr"], at_end: true },
         reads: &[OF_BOTH], calls: [ONCE, &[], &[], &[], &[]], writes: TEXT,
+    },
+    Case {
+        command: Command { words: &["verify", "d/1.jfr", "d/1.jfr", "c"], at_end: true },
+        reads: &[OF_RECEIPT, OF_FIRST, OF_FIRST], calls: [&[Left::Nothing; 3], &[], &[], &[], &[]], writes: TEXT,
     },
 ];
 

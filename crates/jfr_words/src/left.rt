@@ -7,9 +7,8 @@ use crate::WordsFault;
 use jfr_outside::Words;
 use std::marker::Model;
 
-/// An option of a command, named by a word.
+/// The options of a command, each named by a word.
 pub(crate) trait Named: Drop {
-    // The option that a word names, if any.
     ghost named: { List ℕ → Option Self };
 
     /// The option that a word names, if any.
@@ -33,7 +32,7 @@ impl<'a> Model for Left<'a> {
 }
 
 impl<'a> Left<'a> {
-    /// All the words.
+    /// All words of the command line, of which none is read yet.
     pub(crate) fn all(words: &'a Words) -> Left<'a>
         ensures { result ≡ words.now }
     {
@@ -59,7 +58,7 @@ impl<'a> Left<'a> {
         Some(word)
     }
 
-    /// Takes the first word, if it names an option.
+    /// Takes the first word if it names an option, and returns the option.
     pub(crate) fn take_option<T: Named>(&mut self) -> Option<T>
         ensures option { result ≡ option_and_then T.named (slice_get self.old 0) }
         ensures taken { OnSome result (self.new ≡ drop 1 self.old) }

@@ -1,4 +1,4 @@
-//! The words after `disassemble`.
+//! Reads the words after `disassemble`.
 ghost use Rattle.std.specs.Prelude.{◌≡◌};
 ghost use Rattle.std.specs.Str.{chars};
 ghost use Rattle.jfr_words.specs.Splits.{no_split_option, split_with, split_from, split_rule, is_split_given};
@@ -31,16 +31,16 @@ pub struct SplitGiven {
     pub max_size: Option<u64>,
 }
 
-/// The most chunks of a part if the option isn't given.
+/// The value of `--max-chunks` if the option isn't given.
 const USUAL_CHUNKS: u64 = 5;
 
-/// The greatest value of `--max-chunks`.
+/// The greatest value that `--max-chunks` may have.
 const MOST_CHUNKS: u64 = u32::MAX as u64;
 
-/// The greatest value of `--max-size`, and its value if the option isn't given.
+/// The greatest value that `--max-size` may have, and its value if the option isn't given.
 const MOST_BYTES: u64 = 1 << 40;
 
-/// The most parts that there may be.
+/// The greatest number of parts.
 const MOST_PARTS: u64 = 999_999;
 
 /// Reads the options of `disassemble` and the name after them.
@@ -71,7 +71,7 @@ impl SplitGiven {
         }
     }
 
-    /// Sets an option to a value. A usage fault if it was set before or the word is not a value of it.
+    /// Sets an option to a value. A usage fault if it was set before, or the word isn't a value of this option.
     fn give(&mut self, alloc: Global, option: SplitOption, value: &str) -> Result<(), WordsFault>
         ensures { IsRead (split_with option (chars value.now) self.old) result (λ _. self.new) }
     {
@@ -97,7 +97,7 @@ impl SplitGiven {
         }
     }
 
-    /// The rule for parts that follows from these options.
+    /// The rule for parts that these options make, with the usual values of those that aren't given.
     fn rule(self) -> SplitRule
         ensures { result ≡ split_rule self }
     {
