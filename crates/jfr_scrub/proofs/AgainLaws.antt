@@ -1,16 +1,14 @@
 -- What a recording becomes is a recording: it is cut into the chunks that were written, and scrubbed again
 -- it stays the same.
-use Rattle.std.specs.Prelude.{◌≡◌, ℕ, ◌+◌, ◌^◌, ◌<◌, ◌≤◌, List, [], ◌∷◌, ◌++◌, map, length, drop, Bool, true, false, Option, Some, None, Result, Ok, Err, nat_le}
+use Rattle.std.specs.Prelude.{◌≡◌, ℕ, ◌≤◌, List, [], ◌∷◌, map, length, true, Option, Some, None, Result, Ok, Err}
 use Rattle.std.specs.List.{AllByRecursion}
 use Rattle.std.proofs.Common.{ap, arith, refl, sym, subst, ◌∙◌}
-use Rattle.std.proofs.Math.Seq.{drop-append_seam}
 use Rattle.jfr_base.specs.declared.flaw.Flaw.{Flaw}
-use Rattle.jfr_base.specs.declared.reason.Reason.TheVariants.{NoChunk, TooLong}
-use Rattle.jfr_header.specs.Fronts.{Bad, End, Chunk, Whole, flaw_at, front}
-use Rattle.jfr_header.specs.Cuts.{Cuts, AreCut, cut, joined}
-use Rattle.jfr_header.proofs.CutLaws.{Begins, all_whole, are_cut, cut_is, front_begins}
+use Rattle.jfr_base.specs.declared.reason.Reason.TheVariants.{NoChunk}
+use Rattle.jfr_header.specs.Fronts.{Whole, flaw_at, front}
+use Rattle.jfr_header.specs.Cuts.{Cuts, cut, joined}
+use Rattle.jfr_header.proofs.CutLaws.{all_whole, are_cut}
 use Rattle.jfr_header.proofs.Cutting.{cut_bad}
-use Rattle.jfr_header.proofs.Steps.{front_long, whole_front}
 use Rattle.jfr_filter.specs.Filters.{Given}
 use Rattle.jfr_chunk.specs.Parts.{Parts, AreParts}
 use Rattle.jfr_chunk.specs.Chosen.{kept_of}

@@ -5,7 +5,7 @@ use Rattle.std.proofs.lemmas.Grind.{common_steps}
 use Rattle.std.proofs.lemmas.List.{drop-append-le, map-append, take-append-drop}
 use Rattle.jfr_base.specs.declared.flaw.Flaw.{Flaw}
 use Rattle.jfr_base.specs.declared.reason.Reason.TheVariants.{NoChunk}
-use Rattle.jfr_header.specs.Fronts.{Bad, Chunk, End, Whole, flaw_at, front}
+use Rattle.jfr_header.specs.Fronts.{Bad, End, Whole, flaw_at, front}
 use Rattle.jfr_header.specs.Cuts.{AreCut, Cuts, cut, joined}
 use Rattle.jfr_header.proofs.CutLaws.{Begins, are_cut, cut_is, front_begins}
 use Rattle.jfr_header.proofs.Cutting.{Fits, cut_bad, front_fits}

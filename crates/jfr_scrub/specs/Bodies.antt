@@ -1,5 +1,5 @@
 -- The body of an output chunk, which is all that follows its header, while it is laid out.
-use Rattle.std.specs.Prelude.{◌≡◌, ℕ, ◌+◌, ◌≤◌, ◌==◌, List, [], ◌∷◌, length, filter, Option, Some, None, unwrap_or, ⊤}
+use Rattle.std.specs.Prelude.{◌≡◌, ℕ, ◌+◌, ◌≤◌, ◌==◌, List, [], ◌∷◌, length, filter, Option, None, unwrap_or, ⊤}
 use Rattle.std.specs.List.{AllByRecursion, flat_map}
 use Rattle.jfr_frame.specs.Records.{IsRecord}
 use Rattle.jfr_pool.specs.declared.entry.EntryAt.{EntryAt}

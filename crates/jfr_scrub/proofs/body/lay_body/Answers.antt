@@ -1,4 +1,4 @@
-use Rattle.std.proofs.Common.{ap, refl, sym, ◌∙◌, ◌+◌, ◌-◌, ◌≤◌, subst, ◌++◌, length, map, option_map, List, [], None}
+use Rattle.std.proofs.Common.{ap, refl, sym, ◌∙◌, ◌+◌, ◌-◌, ◌≤◌, subst, ◌++◌, length, map, List, [], None}
 use Rattle.std.specs.List.{AllByRecursion, flat_map}
 use Rattle.jfr_frame.proofs.RecordLaws.{tiles_order}
 use Rattle.jfr_pool.specs.declared.entry.EntryAt.{EntryAt}
