@@ -1,23 +1,30 @@
 #!/usr/bin/env python3
-"""Compares `jfr stacks` with the stacks that the JDK prints: stacks.py PROGRAM RECORDING [EVENT..]
+"""Compares `jfr stacks` with the stacks that another program finds: stacks.py [--converter JAR] PROGRAM RECORDING [EVENT..]
+
+Without --converter, the other program is the JDK's `jfr`, the one on the PATH or in the folder JFR_BIN.
 
 Each EVENT is the name of an event type; without them, each type of the recording whose events have stacks is compared.
-PROGRAM is this project's program, and the JDK's `jfr` is the one on the PATH, or in the folder JFR_BIN. The JDK's stacks
-are folded here from `jfr print --json` with all of their frames. It writes dots where class names in a recording have
-slashes, so slashes are compared as dots.
+The JDK's stacks are folded here from `jfr print --json` with all of their frames. It writes dots where class names in a
+recording have slashes, so slashes are compared as dots.
+
+With --converter, it is async-profiler's converter.jar (Debian's package async-profiler-java), run by the `java` on the
+PATH. It counts samples of two types together, and marks each frame with how it was compiled, which is removed.
 
 Prints for each type how many stacks and events were compared, and the first stacks with different counts; ends with 1
 if there are any.
 """
+import argparse
 import json
 import os
 import re
 import subprocess
 import sys
+import tempfile
 from collections import Counter, defaultdict
 
 JDK = os.path.join(os.environ["JFR_BIN"], "jfr") if "JFR_BIN" in os.environ else "jfr"
 SHOWN = 5
+SAMPLES = "jdk.ExecutionSample,jdk.NativeMethodSample"
 
 
 def folded(program, recording, event):
@@ -58,16 +65,34 @@ def printed(recording, events):
     return counts
 
 
+def converted(converter, recording):
+    """The counts of the stacks that async-profiler's converter finds, under the types whose samples it counts."""
+    with tempfile.NamedTemporaryFile("r", encoding="utf-8") as out:
+        subprocess.run(["java", "-cp", converter, "jfr2flame", "--collapsed", recording, out.name], check=True)
+        counts = Counter()
+        for line in out:
+            stack, count = line.rsplit(" ", 1)
+            counts[re.sub(r"_\[[0-9a-z]\]", "", stack).replace("/", ".")] += int(count)
+    return {SAMPLES: counts}
+
+
 def main():
-    program, recording, *events = sys.argv[1:]
+    parser = argparse.ArgumentParser(usage="stacks.py [--converter JAR] PROGRAM RECORDING [EVENT..]")
+    parser.add_argument("--converter")
+    parser.add_argument("program")
+    parser.add_argument("recording")
+    parser.add_argument("events", nargs="*")
+    given = parser.parse_args()
+    program, recording = given.program, given.recording
+    others = converted(given.converter, recording) if given.converter else printed(recording, given.events)
     differ = False
-    for event, theirs in sorted(printed(recording, events).items()):
+    for event, theirs in sorted(others.items()):
         ours = folded(program, recording, event)
-        others = sorted(stack for stack in ours.keys() | theirs.keys() if ours[stack] != theirs[stack])
-        print(f"{event}: {len(theirs)} stacks, {sum(theirs.values())} events; {len(others)} stacks differ")
-        for stack in others[:SHOWN]:
-            print(f"  ours {ours[stack]}, the JDK's {theirs[stack]}: {stack}")
-        differ |= bool(others)
+        unlike = sorted(stack for stack in ours.keys() | theirs.keys() if ours[stack] != theirs[stack])
+        print(f"{event}: {len(theirs)} stacks, {sum(theirs.values())} events; {len(unlike)} stacks differ")
+        for stack in unlike[:SHOWN]:
+            print(f"  ours {ours[stack]}, the other's {theirs[stack]}: {stack}")
+        differ |= bool(unlike)
     return 1 if differ else 0
 
 
