@@ -2,7 +2,6 @@
 use Rattle.std.specs.Prelude.{◌≡◌, ℕ, [], ◌∷◌, ◌++◌, codes, Some, None, false, true, refl}
 use Rattle.std.specs.Fmt.{digits}
 use Rattle.jfr_base.specs.Formats.{int_at, run}
-use Rattle.jfr_text.specs.Strings.{string_format}
 use Rattle.jfr_layout.specs.Classes.{Classes, kind_of}
 use Rattle.jfr_layout.specs.declared.kind.Kind.TheVariants as kinds
 use Rattle.jfr_layout.specs.declared.shape.Shape.{Shape}
@@ -61,41 +60,40 @@ missing_row : compact_text (missing_json classes (5, 18446744073709551615)) ≡ 
 unfolding serde_json_on_literals digits
 missing_row = refl
 
--- An event of a chunk with two rings of entries: its references lead from 1 to 2, and from there to 1 again.
+-- An event of a chunk with two entries that refer to each other, to the first of which it refers.
 abbrev entry : ℕ → ℕ → ℕ → EntryAt
 entry key at end = record { class = 7; key = key; key_at = at; value_at = at; end = end; checkpoint = 0; pool = 0 }
 
-abbrev rings : Parts
-rings = record {
-  bytes = 172 ∷ 2 ∷ 1 ∷ 3 ∷ 2 ∷ 3 ∷ 1 ∷ 112 ∷ 1 ∷ 3 ∷ 1 ∷ 113 ∷ 4 ∷ 3 ∷ 1 ∷ 114 ∷ 3 ∷ 3 ∷ 1 ∷ 115 ∷ [];
+abbrev ring : Parts
+ring = record {
+  bytes = 172 ∷ 2 ∷ 1 ∷ 2 ∷ 7 ∷ 1 ∷ 8 ∷ [];
   records = [];
   chain = [];
   body = record { start = 0; duration = 0; id = 0; strings = []; root = trees.Node 0 0 [] trees.Nil };
   classes =
       record { id = 5; name = codes "long"; super_name = None; fields = []; categories = [] }
-      ∷ record { id = 6; name = codes "java.lang.String"; super_name = None; fields = []; categories = [] }
-      ∷ record { id = 7; name = codes "t.Node"; super_name = None; fields = record { name = codes "next"; shape = reference 7 } ∷ record { name = codes "text"; shape = plain 6 } ∷ []; categories = [] }
+      ∷ record { id = 7; name = codes "t.Node"; super_name = None; fields = record { name = codes "next"; shape = reference 7 } ∷ record { name = codes "n"; shape = plain 5 } ∷ []; categories = [] }
       ∷ record { id = 8; name = codes "t.A"; super_name = None; fields = record { name = codes "n"; shape = plain 5 } ∷ record { name = codes "node"; shape = reference 7 } ∷ []; categories = [] }
       ∷ [];
-  entries = entry 1 4 8 ∷ entry 2 8 12 ∷ entry 3 12 16 ∷ entry 4 16 20 ∷ [];
+  entries = entry 1 3 5 ∷ entry 2 5 7 ∷ [];
 }
 
 abbrev ring_event : NodeAt
 ring_event = record { shape = plain 8; at = 0; end = 3 }
 
-not_followed_row : event_shown rings 0 ring_event ≡ codes "t.A {\n  n = 300\n  node = t.Node#1\n}\n"
-unfolding run int_at class_format value_format string_format kind_of value_of number_in_force event_shown referred digits
+not_followed_row : event_shown ring 0 ring_event ≡ codes "t.A {\n  n = 300\n  node = t.Node#1\n}\n"
+unfolding run int_at class_format value_format kind_of value_of number_in_force event_shown referred digits
 not_followed_row = refl
 
-followed_twice_row : event_shown rings 2 ring_event
+followed_twice_row : event_shown ring 2 ring_event
     ≡ codes "t.A {\n  n = 300\n  node = t.Node {\n"
-    ++ codes "    next = t.Node {\n      next = t.Node#1\n      text = \"q\"\n    }\n"
-    ++ codes "    text = \"p\"\n  }\n}\n"
-unfolding run int_at class_format value_format string_format kind_of value_of number_in_force event_shown referred digits
+    ++ codes "    next = t.Node {\n      next = t.Node#1\n      n = 8\n    }\n"
+    ++ codes "    n = 7\n  }\n}\n"
+unfolding run int_at class_format value_format kind_of value_of number_in_force event_shown referred digits
 followed_twice_row = refl
 
-no_entry_row : event_shown (record rings { entries = entry 2 8 12 ∷ [] }) 2 ring_event ≡ codes "t.A {\n  n = 300\n  node = t.Node#1 (missing)\n}\n"
-unfolding run int_at class_format value_format string_format kind_of value_of number_in_force event_shown referred digits
+no_entry_row : event_shown (record ring { entries = entry 2 5 7 ∷ [] }) 2 ring_event ≡ codes "t.A {\n  n = 300\n  node = t.Node#1 (missing)\n}\n"
+unfolding run int_at class_format value_format kind_of value_of number_in_force event_shown referred digits
 no_entry_row = refl
 
 -- An array of two numbers, and one without items.
