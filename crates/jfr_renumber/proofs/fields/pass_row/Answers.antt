@@ -1,4 +1,4 @@
-use Rattle.std.proofs.Common.{◌≡◌, ◌++◌, ◌+◌, arith, length, ap, get_or, subst, sym, ◌∙◌}
+use Rattle.std.proofs.Common.{◌≡◌, ◌++◌, ◌+◌, arith, ap, get_or, subst, sym, ◌∙◌}
 use Rattle.std.specs.Prelude.{◌≤◌, map, slice_range}
 use Rattle.std.proofs.lemmas.List.{append_assoc}
 use Rattle.jfr_value.specs.Nodes.{IsNode, node_at}
