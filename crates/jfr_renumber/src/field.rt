@@ -1,5 +1,5 @@
 //! One field with new keys.
-ghost use Rattle.std.specs.Prelude.{◌≡◌, ℕ, ◌≤◌, ◌++◌, length, IfOk, IsSome, Some, slice_range};
+ghost use Rattle.std.specs.Prelude.{◌≡◌, ℕ, ◌≤◌, ◌++◌, length, IfOk, IsSome, OnOk, Some, slice_range};
 ghost use Rattle.jfr_base.specs.Formats.{int_at};
 ghost use Rattle.jfr_layout.specs.Classes.{IsFieldLayout, Sound};
 ghost use Rattle.jfr_layout.specs.declared.form.Form.TheVariants as forms;
@@ -7,6 +7,7 @@ ghost use Rattle.jfr_value.specs.Nodes.{EndsAt, node_at};
 ghost use Rattle.jfr_renumber.specs.Rekeyed.{rekeyed_bytes};
 
 use crate::rewriting::{KEY, NewKeys, put_integer, put_rekeyed};
+use crate::same::{is_zero, text_end};
 use jfr_base::{NoMemory, Var, read_within};
 use jfr_layout::{Classes, FieldLayout, Form};
 use jfr_text::is_key;
@@ -31,109 +32,180 @@ impl<'a, N> Clone for RekeyContext<'a, N> {
 
 impl<'a, N> Copy for RekeyContext<'a, N> {}
 
-/// Appends the field with this layout, which starts at `at`, and returns its end.
-pub(crate) fn put_field<N: NewKeys, L: Ledger>(
+/// How far the values were passed. Bytes that stay the same are written in one piece when a value follows whose
+/// bytes change.
+#[derive(Clone, Copy)]
+pub(crate) struct Passed {
+    /// The first byte that isn't written yet.
+    pub from: usize,
+    /// Where the next value starts.
+    pub at: usize,
+}
+
+/// Passes the field with this layout.
+#[inline(always)]
+pub(crate) fn pass_field<N: NewKeys, L: Ledger>(
     out: &mut Vec<u8>,
     context: RekeyContext<'_, N>,
     layout: &FieldLayout,
-    at: usize,
+    passed: &mut Passed,
     steps: &mut Steps<L>,
-) -> Result<usize, NoMemory>
+) -> Result<(), NoMemory>
     requires sound { Sound context.classes.now }
     requires layout { IsFieldLayout context.classes.now layout.now }
-    requires order { at ≤ context.end }
+    requires from { passed.old.from ≤ passed.old.at }
+    requires order { passed.old.at ≤ context.end }
     requires within { context.end ≤ length context.bytes.now }
-    requires there { (to : ℕ) × EndsAt context.classes.now context.bytes.now layout.now.shape at to × (to ≤ context.end) }
-    ensures ok { IfOk result (λ end. (to : ℕ) → EndsAt context.entry.classes.now context.entry.bytes.now layout.now.shape at to → to ≤ context.entry.end
-        → (end ≡ to) × (out.new.items ≡ out.old.items ++ rekeyed_bytes (N.keys context.entry.new.now) context.entry.classes.now context.entry.bytes.now (node_at layout.now.shape at to))) }
+    requires there { (to : ℕ) × EndsAt context.classes.now context.bytes.now layout.now.shape passed.old.at to × (to ≤ context.end) }
+    ensures ok { OnOk result ((to : ℕ) → EndsAt context.entry.classes.now context.entry.bytes.now layout.now.shape passed.old.at to → to ≤ context.entry.end
+        → (passed.new.at ≡ to) × (passed.new.from ≤ to) × (out.new.items ++ slice_range context.entry.bytes.now passed.new.from to ≡ (out.old.items ++ slice_range context.entry.bytes.now passed.old.from passed.old.at) ++ rekeyed_bytes (N.keys context.entry.new.now) context.entry.classes.now context.entry.bytes.now (node_at layout.now.shape passed.old.at to))) }
 {
     match layout.form {
-        Form::Key => {
-            let key = integer_at(context.bytes, at, context.end);
-            put_integer(out, context.new.new_key(layout.shape.class, key.value))?;
-            Ok(key.end)
+        Form::Integer | Form::Raw(_) => {
+            passed.at = field_end(context, layout, passed.at);
+            Ok(())
         }
-        Form::Integer | Form::Raw(_) => put_same(out, context, layout, at),
-        Form::Text => put_text(out, context, layout, at),
-        Form::Array | Form::Fields => put_parts(out, context, layout, at, steps),
+        Form::Key => pass_key(out, context, layout, passed),
+        Form::Text => pass_text(out, context, layout, passed),
+        Form::Array | Form::Fields => pass_parts(out, context, layout, passed, steps),
     }
 }
 
-// Appends the string with this layout, with its new key if it is a key, and returns its end.
-fn put_text<N: NewKeys>(
+// Passes the key with this layout. The key 0 in one byte stays the same.
+#[inline(always)]
+fn pass_key<N: NewKeys>(
     out: &mut Vec<u8>,
     context: RekeyContext<'_, N>,
     layout: &FieldLayout,
-    at: usize,
-) -> Result<usize, NoMemory>
+    passed: &mut Passed,
+) -> Result<(), NoMemory>
+    requires sound { Sound context.classes.now }
+    requires layout { IsFieldLayout context.classes.now layout.now }
+    requires key { layout.now.form ≡ forms.Key }
+    requires from { passed.old.from ≤ passed.old.at }
+    requires order { passed.old.at ≤ context.end }
+    requires within { context.end ≤ length context.bytes.now }
+    requires there { (to : ℕ) × EndsAt context.classes.now context.bytes.now layout.now.shape passed.old.at to × (to ≤ context.end) }
+    ensures ok { OnOk result ((to : ℕ) → EndsAt context.entry.classes.now context.entry.bytes.now layout.now.shape passed.old.at to → to ≤ context.entry.end
+        → (passed.new.at ≡ to) × (passed.new.from ≤ to) × (out.new.items ++ slice_range context.entry.bytes.now passed.new.from to ≡ (out.old.items ++ slice_range context.entry.bytes.now passed.old.from passed.old.at) ++ rekeyed_bytes (N.keys context.entry.new.now) context.entry.classes.now context.entry.bytes.now (node_at layout.now.shape passed.old.at to))) }
+{
+    if is_zero(context.bytes, passed.at, context.end) {
+        // A law: it does nothing.
+        context.new.zero_stays();
+        passed.at += 1;
+        return Ok(());
+    }
+    put_waiting(out, context.bytes, *passed)?;
+    let key = integer_at(context.bytes, passed.at, context.end);
+    put_integer(out, context.new.new_key(layout.shape.class, key.value))?;
+    passed.at = key.end;
+    passed.from = key.end;
+    Ok(())
+}
+
+// Passes the string with this layout. It stays the same if it isn't a key.
+#[inline(always)]
+fn pass_text<N: NewKeys>(
+    out: &mut Vec<u8>,
+    context: RekeyContext<'_, N>,
+    layout: &FieldLayout,
+    passed: &mut Passed,
+) -> Result<(), NoMemory>
     requires sound { Sound context.classes.now }
     requires layout { IsFieldLayout context.classes.now layout.now }
     requires text { layout.now.form ≡ forms.Text }
-    requires order { at ≤ context.end }
+    requires from { passed.old.from ≤ passed.old.at }
+    requires order { passed.old.at ≤ context.end }
     requires within { context.end ≤ length context.bytes.now }
-    requires there { (to : ℕ) × EndsAt context.classes.now context.bytes.now layout.now.shape at to × (to ≤ context.end) }
-    ensures ok { IfOk result (λ end. (to : ℕ) → EndsAt context.entry.classes.now context.entry.bytes.now layout.now.shape at to → to ≤ context.entry.end
-        → (end ≡ to) × (out.new.items ≡ out.old.items ++ rekeyed_bytes (N.keys context.entry.new.now) context.entry.classes.now context.entry.bytes.now (node_at layout.now.shape at to))) }
+    requires there { (to : ℕ) × EndsAt context.classes.now context.bytes.now layout.now.shape passed.old.at to × (to ≤ context.end) }
+    ensures ok { OnOk result ((to : ℕ) → EndsAt context.entry.classes.now context.entry.bytes.now layout.now.shape passed.old.at to → to ≤ context.entry.end
+        → (passed.new.at ≡ to) × (passed.new.from ≤ to) × (out.new.items ++ slice_range context.entry.bytes.now passed.new.from to ≡ (out.old.items ++ slice_range context.entry.bytes.now passed.old.from passed.old.at) ++ rekeyed_bytes (N.keys context.entry.new.now) context.entry.classes.now context.entry.bytes.now (node_at layout.now.shape passed.old.at to))) }
 {
-    if is_key(context.bytes, at, context.end) {
-        let key = integer_at(context.bytes, at + 1, context.end);
-        out.push(KEY)?;
-        put_integer(out, context.new.new_key(layout.shape.class, key.value))?;
-        return Ok(key.end);
+    if !is_key(context.bytes, passed.at, context.end) {
+        passed.at = text_end(context.bytes, passed.at, context.end);
+        return Ok(());
     }
-    put_same(out, context, layout, at)
+    put_waiting(out, context.bytes, *passed)?;
+    let key = integer_at(context.bytes, passed.at + 1, context.end);
+    out.push(KEY)?;
+    put_integer(out, context.new.new_key(layout.shape.class, key.value))?;
+    passed.at = key.end;
+    passed.from = key.end;
+    Ok(())
 }
 
-// Appends the field with this layout unchanged, and returns its end.
-fn put_same<N>(
+// Passes the field with this layout leaf by leaf.
+#[inline(always)]
+fn pass_parts<N: NewKeys, L: Ledger>(
     out: &mut Vec<u8>,
     context: RekeyContext<'_, N>,
     layout: &FieldLayout,
-    at: usize,
-) -> Result<usize, NoMemory>
+    passed: &mut Passed,
+    steps: &mut Steps<L>,
+) -> Result<(), NoMemory>
     requires sound { Sound context.classes.now }
     requires layout { IsFieldLayout context.classes.now layout.now }
-    requires order { at ≤ context.end }
+    requires from { passed.old.from ≤ passed.old.at }
+    requires order { passed.old.at ≤ context.end }
     requires within { context.end ≤ length context.bytes.now }
-    requires there { (to : ℕ) × EndsAt context.classes.now context.bytes.now layout.now.shape at to × (to ≤ context.end) }
-    ensures ok { IfOk result (λ end. (to : ℕ) → EndsAt context.entry.classes.now context.entry.bytes.now layout.now.shape at to → to ≤ context.entry.end
-        → (end ≡ to) × (out.new.items ≡ out.old.items ++ slice_range context.entry.bytes.now at to)) }
+    requires there { (to : ℕ) × EndsAt context.classes.now context.bytes.now layout.now.shape passed.old.at to × (to ≤ context.end) }
+    ensures ok { OnOk result ((to : ℕ) → EndsAt context.entry.classes.now context.entry.bytes.now layout.now.shape passed.old.at to → to ≤ context.entry.end
+        → (passed.new.at ≡ to) × (passed.new.from ≤ to) × (out.new.items ++ slice_range context.entry.bytes.now passed.new.from to ≡ (out.old.items ++ slice_range context.entry.bytes.now passed.old.from passed.old.at) ++ rekeyed_bytes (N.keys context.entry.new.now) context.entry.classes.now context.entry.bytes.now (node_at layout.now.shape passed.old.at to))) }
 {
-    let end = field_end(context, layout, at);
-    out.extend_from_slice(&context.bytes[at..end])?;
-    Ok(end)
+    let end = put_parts(out, context, layout, *passed, steps)?;
+    passed.at = end;
+    passed.from = end;
+    Ok(())
 }
 
-// Appends the field with this layout leaf by leaf, and returns its end.
+// Appends what isn't written yet, and the field with this layout leaf by leaf. Returns the end of the field. This is
+// out of line, and gets a copy of `passed`, so that the walk over a row keeps its own in registers.
+#[inline(never)]
 fn put_parts<N: NewKeys, L: Ledger>(
     out: &mut Vec<u8>,
     context: RekeyContext<'_, N>,
     layout: &FieldLayout,
-    at: usize,
+    passed: Passed,
     steps: &mut Steps<L>,
 ) -> Result<usize, NoMemory>
     requires sound { Sound context.classes.now }
     requires layout { IsFieldLayout context.classes.now layout.now }
-    requires order { at ≤ context.end }
+    requires from { passed.from ≤ passed.at }
+    requires order { passed.at ≤ context.end }
     requires within { context.end ≤ length context.bytes.now }
-    requires there { (to : ℕ) × EndsAt context.classes.now context.bytes.now layout.now.shape at to × (to ≤ context.end) }
-    ensures ok { IfOk result (λ end. (to : ℕ) → EndsAt context.entry.classes.now context.entry.bytes.now layout.now.shape at to → to ≤ context.entry.end
-        → (end ≡ to) × (out.new.items ≡ out.old.items ++ rekeyed_bytes (N.keys context.entry.new.now) context.entry.classes.now context.entry.bytes.now (node_at layout.now.shape at to))) }
+    requires there { (to : ℕ) × EndsAt context.classes.now context.bytes.now layout.now.shape passed.at to × (to ≤ context.end) }
+    ensures ok { IfOk result (λ end. (to : ℕ) → EndsAt context.entry.classes.now context.entry.bytes.now layout.now.shape passed.at to → to ≤ context.entry.end
+        → (end ≡ to) × (out.new.items ≡ (out.old.items ++ slice_range context.entry.bytes.now passed.from passed.at) ++ rekeyed_bytes (N.keys context.entry.new.now) context.entry.classes.now context.entry.bytes.now (node_at layout.now.shape passed.at to))) }
 {
-    let end = field_end(context, layout, at);
+    put_waiting(out, context.bytes, passed)?;
+    let end = field_end(context, layout, passed.at);
     let field = Node {
         shape: layout.shape,
         bytes: context.bytes,
-        at,
+        at: passed.at,
         end,
     };
     put_rekeyed(out, context.classes, field, context.new, steps)?;
     Ok(end)
 }
 
-/// The end of the field with this layout, which starts at `at`.
+// Appends the bytes that are passed and not written yet. Between two references in a row there are none.
 #[inline(always)]
-pub(crate) fn field_end<N>(context: RekeyContext<'_, N>, layout: &FieldLayout, at: usize) -> usize
+fn put_waiting(out: &mut Vec<u8>, bytes: &[u8], passed: Passed) -> Result<(), NoMemory>
+    requires from { passed.from ≤ passed.at }
+    requires within { passed.at ≤ length bytes.now }
+    ensures ok { OnOk result (out.new.items ≡ out.old.items ++ slice_range bytes.now passed.from passed.at) }
+{
+    if passed.from == passed.at {
+        return Ok(());
+    }
+    out.extend_from_slice(&bytes[passed.from..passed.at])?;
+    Ok(())
+}
+
+// The end of the field with this layout, which starts at `at`.
+#[inline(always)]
+fn field_end<N>(context: RekeyContext<'_, N>, layout: &FieldLayout, at: usize) -> usize
     requires sound { Sound context.classes.now }
     requires layout { IsFieldLayout context.classes.now layout.now }
     requires order { at ≤ context.end }

@@ -1,29 +1,19 @@
 //! Events and entries with new keys, field by field.
-ghost use Rattle.std.specs.Prelude.{◌≡◌, ℕ, ◌≤◌, ◌++◌, length, IfOk, OnOk, map, slice_range};
+ghost use Rattle.std.specs.Prelude.{◌≡◌, ℕ, ◌≤◌, ◌++◌, length, IfOk, OnOk, Some, map, slice_get, slice_range};
 ghost use Rattle.std.specs.List.{AllByRecursion};
 ghost use Rattle.jfr_layout.specs.Classes.{IsFieldLayout, Sound};
+ghost use Rattle.jfr_layout.specs.declared.field_layout.FieldLayout.{FieldLayout};
 ghost use Rattle.jfr_value.specs.Nodes.{EndsAt, IsNode, IsRow, IsValue, node_at, node_of};
 ghost use Rattle.jfr_value.specs.Values.{Value, Values};
-ghost use Rattle.jfr_renumber.specs.Fields.{rekeyed_first};
+ghost use Rattle.jfr_renumber.specs.Fields.{IsNumber, rekeyed_first};
 ghost use Rattle.jfr_renumber.specs.Rekeyed.{rekeyed_bytes};
 
-use crate::field::{RekeyContext, put_field};
+use crate::field::{Passed, RekeyContext, pass_field};
 use crate::rewriting::{NewKeys, put_rekeyed};
-use crate::same::same_end;
 use jfr_base::NoMemory;
 use jfr_layout::{Classes, FieldLayout, Form, Shape};
 use jfr_value::{Node, Steps, layout_of};
 use std::sync::ledger::Ledger;
-
-/// How far the values were passed. Bytes that stay the same are written in one piece when a value follows whose
-/// bytes change.
-#[derive(Clone, Copy)]
-pub(crate) struct Passed {
-    /// The first byte that isn't written yet.
-    pub from: usize,
-    /// Where the next value starts.
-    pub at: usize,
-}
 
 /// Appends a value with new keys, as `put_rekeyed` does, but walks leaf by leaf only over keys, arrays, and
 /// composite fields.
@@ -80,11 +70,32 @@ pub(crate) fn pass_value<N: NewKeys, L: Ledger>(
         }
         Form::Array | Form::Key => pass_leaves(out, context, shape, start, steps),
         Form::Integer | Form::Raw(_) | Form::Text => {
-            let mut passed = start;
-            pass_field(out, context, &layout, &mut passed, steps)?;
-            Ok(passed.from)
+            pass_single(out, context, layout, start, steps)
         }
     }
+}
+
+// Passes a value with this layout, as `pass_value` does. Few values aren't the fields of a class, so this is out of
+// line: the layout of a row then stays in registers.
+#[inline(never)]
+fn pass_single<N: NewKeys, L: Ledger>(
+    out: &mut Vec<u8>,
+    context: RekeyContext<'_, N>,
+    layout: FieldLayout,
+    start: Passed,
+    steps: &mut Steps<L>,
+) -> Result<usize, NoMemory>
+    requires sound { Sound context.classes.now }
+    requires layout { IsFieldLayout context.classes.now layout }
+    requires from { start.from ≤ start.at }
+    requires order { start.at ≤ context.end }
+    requires within { context.end ≤ length context.bytes.now }
+    requires there { EndsAt context.classes.now context.bytes.now layout.shape start.at context.end }
+    ensures ok { IfOk result (λ from. (from ≤ context.entry.end) × (out.new.items ++ slice_range context.entry.bytes.now from context.entry.end ≡ (out.old.items ++ slice_range context.entry.bytes.now start.from start.at) ++ rekeyed_bytes (N.keys context.entry.new.now) context.entry.classes.now context.entry.bytes.now (node_at layout.shape start.at context.entry.end))) }
+{
+    let mut passed = start;
+    pass_field(out, context, &layout, &mut passed, steps)?;
+    Ok(passed.from)
 }
 
 // Passes the value of this shape leaf by leaf.
@@ -111,7 +122,8 @@ fn pass_leaves<N: NewKeys, L: Ledger>(
     Ok(context.end)
 }
 
-// Passes the fields with these layouts, as `pass_value` does. The first starts at `start.at`.
+// Passes the fields with these layouts, as `pass_value` does. The first starts at `start.at`. The numbers after the
+// last other field stay the same, and aren't walked.
 fn pass_row<N: NewKeys, L: Ledger>(
     out: &mut Vec<u8>,
     context: RekeyContext<'_, N>,
@@ -126,37 +138,26 @@ fn pass_row<N: NewKeys, L: Ledger>(
     requires row { (vs : Values) × IsRow context.classes.now context.bytes.now start.at context.end (map (λ s. s.shape) layouts.now) vs }
     ensures ok { IfOk result (λ from. (vs : Values) → IsRow context.entry.classes.now context.entry.bytes.now start.at context.entry.end (map (λ s. s.shape) layouts.now) vs → (from ≤ context.entry.end) × (out.new.items ++ slice_range context.entry.bytes.now from context.entry.end ≡ (out.old.items ++ slice_range context.entry.bytes.now start.from start.at) ++ rekeyed_first (N.keys context.entry.new.now) vs (length layouts.now))) }
 {
+    let count = referring_len(layouts);
     let mut passed = start;
-    for i in 0..layouts.len() {
+    for i in 0..count {
         pass_field(out, context, &layouts[i], &mut passed, steps)?;
     }
     Ok(passed.from)
 }
 
-// Passes the field with this layout.
-#[inline(always)]
-fn pass_field<N: NewKeys, L: Ledger>(
-    out: &mut Vec<u8>,
-    context: RekeyContext<'_, N>,
-    layout: &FieldLayout,
-    passed: &mut Passed,
-    steps: &mut Steps<L>,
-) -> Result<(), NoMemory>
-    requires sound { Sound context.classes.now }
-    requires layout { IsFieldLayout context.classes.now layout.now }
-    requires from { passed.old.from ≤ passed.old.at }
-    requires order { passed.old.at ≤ context.end }
-    requires within { context.end ≤ length context.bytes.now }
-    requires there { (to : ℕ) × EndsAt context.classes.now context.bytes.now layout.now.shape passed.old.at to × (to ≤ context.end) }
-    ensures ok { OnOk result ((to : ℕ) → EndsAt context.entry.classes.now context.entry.bytes.now layout.now.shape passed.old.at to → to ≤ context.entry.end
-        → (passed.new.at ≡ to) × (passed.new.from ≤ to) × (out.new.items ++ slice_range context.entry.bytes.now passed.new.from to ≡ (out.old.items ++ slice_range context.entry.bytes.now passed.old.from passed.old.at) ++ rekeyed_bytes (N.keys context.entry.new.now) context.entry.classes.now context.entry.bytes.now (node_at layout.now.shape passed.old.at to))) }
+// The number of fields up to the last one that isn't a number.
+#[inline]
+fn referring_len(layouts: &[FieldLayout]) -> usize
+    ensures within { result ≤ length layouts.now }
+    ensures numbers { (i : ℕ) (s : FieldLayout) → result ≤ i → slice_get layouts.now i ≡ Some s → IsNumber s }
 {
-    if let Some(end) = same_end(context, layout, passed.at) {
-        passed.at = end;
-        return Ok(());
+    let mut count = layouts.len();
+    'numbers: while count > 0 {
+        match layouts[count - 1].form {
+            Form::Integer | Form::Raw(_) => count -= 1,
+            _ => break 'numbers,
+        }
     }
-    out.extend_from_slice(&context.bytes[passed.from..passed.at])?;
-    passed.at = put_field(out, context, layout, passed.at, steps)?;
-    passed.from = passed.at;
-    Ok(())
+    count
 }

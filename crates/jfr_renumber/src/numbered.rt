@@ -73,6 +73,7 @@ impl NewKeys for NumberedKeys {
     ghost keys = { numbers_of };
 
     /// The new key of a class and a key, or 0 if they aren't used.
+    #[inline(never)]
     fn new_key(&self, class: u64, key: u64) -> u64 {
         self.get(class, key).unwrap_or(0)
     }

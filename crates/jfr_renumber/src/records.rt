@@ -8,8 +8,8 @@ ghost use Rattle.jfr_chunk.specs.Parts.{Parts, events_of};
 ghost use Rattle.jfr_chunk.specs.Seen.{event_at};
 ghost use Rattle.jfr_renumber.specs.Renumber.{event_bytes};
 
-use crate::field::RekeyContext;
-use crate::fields::{Passed, pass_value};
+use crate::field::{Passed, RekeyContext};
+use crate::fields::pass_value;
 use crate::rewriting::NewKeys;
 use jfr_base::{NoMemory, write_in};
 use jfr_chunk::{Chunk, Event};
@@ -78,6 +78,10 @@ pub(crate) fn put_size(out: &mut Vec<u8>, from: usize, count: usize)
     requires fits { FitsIn (length out.old.items - from) count }
     ensures { out.new.items ≡ take from out.old.items ++ (spell_in count (length out.old.items - from) ++ drop (from + count) out.old.items) }
 {
+    if count == 1 {
+        out[from] = (out.len() - from) as u8;
+        return;
+    }
     let mut spelled = [0; 9];
     write_in((out.len() - from) as u64, count, &mut spelled);
     out[from..from + count].copy_from_slice(&spelled[..count]);

@@ -81,6 +81,7 @@ fn put_string<N: NewKeys>(out: &mut Vec<u8>, leaf: Leaf<'_>, new: &N) -> Result<
 }
 
 /// Appends an integer in its shortest spelling.
+#[inline]
 pub(crate) fn put_integer(out: &mut Vec<u8>, value: u64) -> Result<(), AllocError>
     ensures ok { OnOk result (out.new.items ≡ out.old.items ++ spell value) }
 {
@@ -88,6 +89,14 @@ pub(crate) fn put_integer(out: &mut Vec<u8>, value: u64) -> Result<(), AllocErro
         out.push(value as u8)?;
         return Ok(());
     }
+    put_long_integer(out, value)
+}
+
+// Appends an integer in its shortest spelling of any length, out of line.
+#[inline(never)]
+fn put_long_integer(out: &mut Vec<u8>, value: u64) -> Result<(), AllocError>
+    ensures ok { OnOk result (out.new.items ≡ out.old.items ++ spell value) }
+{
     let mut spelled = [0; 9];
     let len = write_var(value, &mut spelled);
     out.extend_from_slice(&spelled[..len])

@@ -1,7 +1,7 @@
 //! The classes and keys that are referred to but have no entry in force.
 ghost use Rattle.std.specs.Prelude.{◌≡◌, ◌<◌, ℕ, [], ◌∷◌, length, map, filter, false, option_to_list, Contains, IfOk, IsTrue};
-ghost use Rattle.jfr_layout.specs.Classes.{Sound};
-ghost use Rattle.jfr_value.specs.Nodes.{IsValue, node_of, targets};
+ghost use Rattle.jfr_layout.specs.Classes.{IsFieldLayout, Sound};
+ghost use Rattle.jfr_value.specs.Nodes.{EndsAt, IsValue, node_at, node_of, targets};
 ghost use Rattle.jfr_value.specs.Visits.{TakesAll};
 ghost use Rattle.jfr_pool.specs.Entries.{entry_node};
 ghost use Rattle.jfr_chunk.specs.Parts.{events_of};
@@ -11,7 +11,7 @@ ghost use Rattle.jfr_renumber.specs.Renumber.{used_keys};
 
 use jfr_base::NoMemory;
 use jfr_chunk::{Chunk, Kept};
-use jfr_layout::Classes;
+use jfr_layout::{Classes, FieldLayout, Form};
 use jfr_pool::Pools;
 use jfr_reach::Marks;
 use jfr_value::{Node, Visit, Walk, end_visiting, layout_of};
@@ -61,6 +61,7 @@ fn is_last(keys: &[(u64, u64)], class: u64, key: u64) -> bool
 
 /// The classes and keys without an entry in force to which the kept events, and the entries that they reach,
 /// refer. A pair may be there more than once.
+#[inline(never)]
 pub(crate) fn missing_keys(
     alloc: Global,
     chunk: &Chunk<'_>,
@@ -90,6 +91,7 @@ pub(crate) fn missing_keys(
 }
 
 // Lists what the event with this number refers to, if it is kept.
+#[inline(always)]
 fn list_event(list: &mut Missing, chunk: &Chunk<'_>, kept: &Kept, number: usize)
     ensures { Lists chunk.now.entries (all_targets chunk.now (nodes_of (option_to_list (flagged kept.now (events_of chunk.now) number)))) list.old list.new }
 {
@@ -104,6 +106,7 @@ fn list_event(list: &mut Missing, chunk: &Chunk<'_>, kept: &Kept, number: usize)
 }
 
 // Lists what the entry with this number refers to, if it is reached.
+#[inline(never)]
 fn list_entry(list: &mut Missing, chunk: &Chunk<'_>, marks: &Marks, number: usize)
     requires { number < length marks.now }
     ensures { Lists chunk.now.entries (all_targets chunk.now (map entry_node (option_to_list (flagged marks.now chunk.now.entries number)))) list.old list.new }
@@ -118,6 +121,7 @@ fn list_entry(list: &mut Missing, chunk: &Chunk<'_>, marks: &Marks, number: usiz
 }
 
 // Lists what an inline value refers to.
+#[inline(always)]
 fn list_value(list: &mut Missing, classes: &Classes, pools: &Pools, node: Node<'_>)
     requires sound { Sound classes.now }
     requires value { IsValue classes.now node }
@@ -132,7 +136,24 @@ fn list_value(list: &mut Missing, classes: &Classes, pools: &Pools, node: Node<'
         end: node.end,
         with: pools,
     };
-    let _end = end_visiting(walk, &layout, node.at, list);
+    match layout.form {
+        Form::Fields => {
+            let _end = end_visiting(walk, &layout, node.at, list);
+        }
+        _ => list_single(list, walk, layout, node.at),
+    }
+}
+
+// Lists what a value with this layout refers to. Few values aren't the fields of a class, so this is out of line:
+// the layout of a row then stays in registers.
+#[inline(never)]
+fn list_single(list: &mut Missing, walk: Walk<'_, '_, Pools>, layout: FieldLayout, at: usize)
+    requires sound { Sound walk.classes.now }
+    requires layout { IsFieldLayout walk.classes.now layout }
+    requires there { EndsAt walk.classes.now walk.bytes.now layout.shape at walk.end }
+    ensures { TakesAll (λ t old new. Lists walk.entry.with.now (t ∷ []) old new) (targets walk.entry.classes.now walk.entry.bytes.now (node_at layout.shape at walk.entry.end)) list.old list.new }
+{
+    let _end = end_visiting(walk, &layout, at, list);
 }
 
 /// Sorts the pairs, and removes repeated ones.

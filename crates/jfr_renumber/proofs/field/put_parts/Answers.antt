@@ -9,12 +9,16 @@ put_rekeyed-requires g c =
     let e = c.field_end-end.ensures.exact t.0 t.1 t.2 in
     record {
       sound = c.requires.sound;
-      value = (t.1.0, subst (λ z. IsNode c.args.context.classes.now c.args.context.bytes.now (node_at c.args.layout.now.shape c.args.at z) t.1.0) (sym e) t.1.1);
+      value = (t.1.0, subst (λ z. IsNode c.args.context.classes.now c.args.context.bytes.now (node_at c.args.layout.now.shape c.args.passed.at z) t.1.0) (sym e) t.1.1);
     }
 
 pub returns : goal.returns
 returns g c = record {
   ok = λ to t l.
-      (let e = c.field_end-end.ensures.exact to t l in
-      (e, c.in_ok-put_rekeyed.ensures.ok ∙ ap (λ z. c.args.out.now.items ++ rekeyed_bytes (g.N.NewKeys.keys c.args.context.new.now) c.args.context.classes.now c.args.context.bytes.now (node_at c.args.layout.now.shape c.args.at z)) e));
+      (let k = c.args.context.classes.now in
+      let x = c.args.context.bytes.now in
+      let new = g.N.NewKeys.keys c.args.context.new.now in
+      let s = c.args.layout.now.shape in
+      let e = c.field_end-end.ensures.exact to t l in
+      (e, c.in_ok-put_rekeyed.ensures.ok ∙ (ap (λ z. c.put_waiting.new.out.items ++ rekeyed_bytes new k x (node_at s c.args.passed.at z)) e ∙ ap (λ z. z ++ rekeyed_bytes new k x (node_at s c.args.passed.at to)) c.in_ok-put_waiting.ensures.ok)));
 }

@@ -1,4 +1,4 @@
-use Rattle.std.proofs.Common.{◌≡◌, ◌++◌, ◌+◌, arith, length, ap, get_or, subst, sym, ◌∙◌}
+use Rattle.std.proofs.Common.{◌≡◌, ◌++◌, ◌+◌, arith, ap, get_or, subst, sym, ◌∙◌}
 use Rattle.std.specs.Prelude.{◌≤◌, map, slice_range}
 use Rattle.std.proofs.lemmas.List.{append_assoc}
 use Rattle.jfr_value.specs.Nodes.{IsNode, node_at}
@@ -7,19 +7,20 @@ use Rattle.jfr_value.proofs.LayoutLaws.{layout_there, layouts_at, no_layout}
 use Rattle.jfr_value.proofs.RowLaws.{shapes_get, start_of}
 use Rattle.jfr_renumber.specs.Fields.{rekeyed_first}
 use Rattle.jfr_renumber.specs.Rekeyed.{rekeyed, rekeyed_bytes}
-use Rattle.jfr_renumber.proofs.FieldLaws.{field_at, rekeyed_is, row_end}
+use Rattle.jfr_renumber.proofs.FieldLaws.{field_at, rekeyed_is}
+use Rattle.jfr_renumber.proofs.NumberFields.{unwalked}
 use Rattle.jfr_renumber.proofs.PassedLaws.{row_begun}
 use Rattle.jfr_renumber.proofs.fields.pass_row.Goals as goal
 
 pub pass_field-requires-clause-layout : goal.pass_field-requires-clause-layout
-pass_field-requires-clause-layout g c = layouts_at c.args.context.classes.now c.args.layouts.now c.loop-i.i c.requires.layouts (omega arith)
+pass_field-requires-clause-layout g c = layouts_at c.args.context.classes.now c.args.layouts.now c.loop-i.i c.requires.layouts (omega (arith, c.referring_len-count.ensures.within))
 
 pub pass_field-requires-clause-order : goal.pass_field-requires-clause-order
 pass_field-requires-clause-order g c =
     let ls = c.args.layouts.now in
     let i = c.loop-i.i in
     let r = c.requires.row in
-    let f = field_at (g.N.NewKeys.keys c.args.context.new.now) c.args.context.classes.now c.args.context.bytes.now c.args.start.at c.args.context.end (map (λ s. s.shape) ls) r.0 i (get_or ls i no_layout).shape r.1 (shapes_get ls i (get_or ls i no_layout) (layout_there ls i (omega arith))) in
+    let f = field_at (g.N.NewKeys.keys c.args.context.new.now) c.args.context.classes.now c.args.context.bytes.now c.args.start.at c.args.context.end (map (λ s. s.shape) ls) r.0 i (get_or ls i no_layout).shape r.1 (shapes_get ls i (get_or ls i no_layout) (layout_there ls i (omega (arith, c.referring_len-count.ensures.within)))) in
     let a = (c.loop-i.invariant r.0 r.1).0 in
     let o = f.node.order in
     let w = f.within in
@@ -31,7 +32,7 @@ pass_field-requires-clause-there g c =
     let i = c.loop-i.i in
     let r = c.requires.row in
     let s = (get_or ls i no_layout).shape in
-    let f = field_at (g.N.NewKeys.keys c.args.context.new.now) c.args.context.classes.now c.args.context.bytes.now c.args.start.at c.args.context.end (map (λ s. s.shape) ls) r.0 i s r.1 (shapes_get ls i (get_or ls i no_layout) (layout_there ls i (omega arith))) in
+    let f = field_at (g.N.NewKeys.keys c.args.context.new.now) c.args.context.classes.now c.args.context.bytes.now c.args.start.at c.args.context.end (map (λ s. s.shape) ls) r.0 i s r.1 (shapes_get ls i (get_or ls i no_layout) (layout_there ls i (omega (arith, c.referring_len-count.ensures.within)))) in
     let a = (c.loop-i.invariant r.0 r.1).0 in
     (start_of c.args.start.at r.0 (i + 1), (f.value, subst (λ z. IsNode c.args.context.classes.now c.args.context.bytes.now (node_at s z (start_of c.args.start.at r.0 (i + 1))) f.value) (sym a) f.node), f.within)
 
@@ -49,7 +50,7 @@ loop-i-preserved g c = λ vs r.
     let x = c.args.context.bytes.now in
     let new = g.N.NewKeys.keys c.args.context.new.now in
     let s = (get_or ls i no_layout).shape in
-    let f = field_at new k x c.args.start.at c.args.context.end (map (λ s. s.shape) ls) vs i s r (shapes_get ls i (get_or ls i no_layout) (layout_there ls i (omega arith))) in
+    let f = field_at new k x c.args.start.at c.args.context.end (map (λ s. s.shape) ls) vs i s r (shapes_get ls i (get_or ls i no_layout) (layout_there ls i (omega (arith, c.referring_len-count.ensures.within)))) in
     let a = c.loop-i.invariant vs r in
     let to = start_of c.args.start.at vs (i + 1) in
     let n = subst (λ z. IsNode k x (node_at s z to) f.value) (sym a.0) f.node in
@@ -68,9 +69,15 @@ loop-i-preserved g c = λ vs r.
 pub returns : goal.returns
 returns g c = record {
   ok = λ vs r.
-      (let i : c.loop-i.i ≡ length c.args.layouts.now = omega (arith, c.loop-i-test.false, c.loop-i.auto.i-end) in
+      (let i : c.loop-i.i ≡ c.referring_len-count.result = omega (arith, c.loop-i-test.false, c.loop-i.auto.i-end) in
       let a = c.loop-i.invariant vs r in
-      let e = a.0 ∙ row_end c.args.context.classes.now c.args.context.bytes.now c.args.start.at c.args.context.end c.args.layouts.now vs c.loop-i.i r i in
-      let old = c.args.out.now.items ++ slice_range c.args.context.bytes.now c.args.start.from c.args.start.at in
-      (subst (λ z. c.loop-i.passed.from ≤ z) e a.1, ap (λ z. c.loop-i.out.items ++ slice_range c.args.context.bytes.now c.loop-i.passed.from z) (sym e) ∙ (a.3 ∙ ap (λ z. old ++ rekeyed_first (g.N.NewKeys.keys c.args.context.new.now) vs z) i)));
+      let x = c.args.context.bytes.now in
+      let new = g.N.NewKeys.keys c.args.context.new.now in
+      let from = c.referring_len-count.result in
+      let here = a.0 ∙ ap (start_of c.args.start.at vs) i in
+      let old = c.args.out.now.items ++ slice_range x c.args.start.from c.args.start.at in
+      unwalked new c.args.context.classes.now x c.args.start.at c.args.context.end c.args.layouts.now vs c.requires.layouts r from c.referring_len-count.ensures.numbers
+      c.loop-i.out.items old c.loop-i.passed.from c.referring_len-count.ensures.within
+      (subst (λ z. c.loop-i.passed.from ≤ z) here a.1) (subst (λ z. z ≤ c.args.context.end) here a.2)
+      (ap (λ z. c.loop-i.out.items ++ slice_range x c.loop-i.passed.from z) (sym here) ∙ (a.3 ∙ ap (λ z. old ++ rekeyed_first new vs z) i)));
 }

@@ -1,4 +1,4 @@
-use Rattle.std.proofs.Common.{◌++◌, ap, arith, subst, sym, ◌∙◌}
+use Rattle.std.proofs.Common.{◌++◌, ap, subst, sym, ◌∙◌}
 use Rattle.std.specs.Prelude.{slice_range}
 use Rattle.std.proofs.lemmas.Result.{IfOk-weaker}
 use Rattle.jfr_value.specs.Nodes.{IsNode, node_at}
@@ -35,27 +35,23 @@ returns-in-Fields g c =
           (q.0, q.1 ∙ ap (λ z. (c.args.out.now.items ++ slice_range x c.args.start.from c.args.start.at) ++ z) (sym r.2)))) c.pass_row.ensures.ok;
     }
 
-pub pass_field-requires-clause-layout : goal.pass_field-requires-clause-layout
-pass_field-requires-clause-layout g c =
+pub pass_single-requires-clause-layout : goal.pass_single-requires-clause-layout
+pass_single-requires-clause-layout g c =
     let v = c.requires.value in
     let y = c.layout_of-layout.ensures in
     base_layout c.args.context.classes.now c.args.context.bytes.now (node_at c.args.shape c.args.start.at c.args.context.end) v.0 c.layout_of-layout.result v.1 y.shape y.form y.known c.in-Integer.is
 
-pub pass_field-requires-clause-there : goal.pass_field-requires-clause-there
-pass_field-requires-clause-there g c =
+pub pass_single-requires-clause-there : goal.pass_single-requires-clause-there
+pass_single-requires-clause-there g c =
     let v = c.requires.value in
-    (c.args.context.end, (v.0, subst (λ z. IsNode c.args.context.classes.now c.args.context.bytes.now (node_at z c.args.start.at c.args.context.end) v.0) (sym c.layout_of-layout.ensures.shape) v.1), omega arith)
+    (v.0, subst (λ z. IsNode c.args.context.classes.now c.args.context.bytes.now (node_at z c.args.start.at c.args.context.end) v.0) (sym c.layout_of-layout.ensures.shape) v.1)
 
-pub returns-in_ok-pass_field-in-Integer : goal.returns-in_ok-pass_field-in-Integer
-returns-in_ok-pass_field-in-Integer g c =
+pub returns-in-Integer : goal.returns-in-Integer
+returns-in-Integer g c =
     let k = c.args.context.classes.now in
     let x = c.args.context.bytes.now in
     let at = c.args.start.at in
     let end = c.args.context.end in
-    let v = c.requires.value in
-    let e = c.layout_of-layout.ensures.shape in
-    let i : IsNode k x (node_at c.layout_of-layout.result.shape at end) v.0 = subst (λ z. IsNode k x (node_at z at end) v.0) (sym e) v.1 in
-    let q = c.in_ok-pass_field-in-Integer.ensures.ok end (v.0, i) (omega arith) in
     record {
-      ok = (q.1, q.2 ∙ ap (λ z. (c.args.out.now.items ++ slice_range x c.args.start.from at) ++ rekeyed_bytes (g.N.NewKeys.keys c.args.context.new.now) k x (node_at z at end)) e);
+      ok = IfOk-weaker c.pass_single.result _ _ (λ from w. (w.0, w.1 ∙ ap (λ z. (c.args.out.now.items ++ slice_range x c.args.start.from at) ++ rekeyed_bytes (g.N.NewKeys.keys c.args.context.new.now) k x (node_at z at end)) c.layout_of-layout.ensures.shape)) c.pass_single.ensures.ok;
     }
