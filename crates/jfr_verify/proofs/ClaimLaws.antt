@@ -18,7 +18,7 @@ use Rattle.jfr_worklist.proofs.Members.{In, contains_in, in_contains, in_those}
 use Rattle.jfr_verify.specs.declared.claims.Claims.{Claims}
 use Rattle.jfr_verify.specs.declared.line.Parent.{Parent}
 use Rattle.jfr_verify.specs.declared.line.Parent.TheVariants.{OfEvent, OfEntry}
-use Rattle.jfr_verify.specs.Claims.{RefersTo, IsConfirmed, is_same, is_parent_of, children, AreConfirmed}
+use Rattle.jfr_verify.specs.Claims.{RefersTo, IsConfirmed, AreClaimed, is_same, is_parent_of, children, AreConfirmed}
 use Rattle.jfr_verify.specs.Confirmed.{Confirms, ConfirmsOf, ConfirmsMore, ConfirmsEvents, ConfirmsEntries}
 use Rattle.jfr_worklist.proofs.WalkLaws.{all_size}
 use Rattle.jfr_verify.proofs.MarkLaws.{all_only, all_stay, all_here, all_append, none_marked}
@@ -102,6 +102,21 @@ children_in ps p (x ∷ xs) t i e = by_test (is_parent_of ps p x) refl i (λ j. 
     by_test true q (inr j) f = inr (f j)
     by_test false q (inl h) f = absurd (clash (is_parent_of ps p x) (is_parent ps p x (subst (λ z. slice_get ps z ≡ Some p) (sym h) e)) q)
     by_test false q (inr j) f = f j
+
+no_children : (ps : List Parent) (p : Parent) (xs : List ℕ) → ((t : ℕ) → slice_get ps t ≡ Some p → ⊥) → children ps p xs ≡ []
+no_children ps p [] f = refl
+no_children ps p (x ∷ xs) f = by_test (is_parent_of ps p x) refl (no_children ps p xs f)
+  where
+    by_test : (b : Bool) → is_parent_of ps p x ≡ b → children ps p xs ≡ [] → cond b (x ∷ children ps p xs) (children ps p xs) ≡ []
+    by_test true e r = absurd (f x (parent_is ps p x e))
+    by_test false e r = r
+
+-- Looking at an event that isn't a claimed parent confirms nothing.
+pub unclaimed_confirms : (a : Claims) (claimed : List Bool) (n : ℕ) (is : List ℕ) → AreClaimed (length a.parents.items) a.parents.items claimed → slice_get claimed n ≡ Some false → ConfirmsOf (OfEvent n) is a a
+unclaimed_confirms a claimed n is h f = record {
+  confirmed = ap (marked_at a.confirmed.items) (sym (no_children a.parents.items (OfEvent n) is (λ t e. h n t (slice_get_within a.parents.items t (OfEvent n) e) e f)));
+  parents = refl;
+}
 
 module _ (p : Parts) where
   pub more_none : (a : Claims) → ConfirmsMore p a a

@@ -1,7 +1,7 @@
 -- Whether all that is referred to is marked.
 use Rattle.std.specs.Prelude.{◌≡◌, ◌⊎◌, ◌<◌, ◌≤◌, ◌+◌, ℕ, zero, suc, Bool, true, false, ◌&&◌, List, [], ◌∷◌, ◌++◌, take, drop, length, slice_get, Option, Some, None, All, if◌then◌else◌}
 use Rattle.std.specs.Option.{option_map_or}
-use Rattle.std.specs.List.{AllByRecursion}
+use Rattle.std.specs.List.{AllByRecursion, list_all}
 use Rattle.std.proofs.Common.{ap, arith, refl, sym, ◌∙◌, subst, inl, inr}
 use Rattle.std.proofs.lemmas.List.{append_assoc, append-nil}
 use Rattle.std.proofs.lemmas.Bool.{cases_lt}
@@ -141,6 +141,17 @@ module _ (p : Parts) where
 
   pub kept_true : (flags marks : List Bool) (n : ℕ) → length flags ≡ length (events_of p) → n < length flags → are_marked marks (roots p (first_kept flags n)) ≡ true → are_marked marks (kept_refs p flags n) ≡ true → are_marked marks (roots p (first_kept flags (n + 1))) ≡ true
   kept_true flags marks n l h a b = kept_one flags marks n l h ∙ (ap (λ z. z && are_marked marks (kept_refs p flags n)) a ∙ b)
+
+  -- If all events are kept, all references are checked.
+  pub kept_all : (flags marks : List Bool) (numbers : List ℕ) → list_all (λ keep. keep) flags ≡ true → length flags ≡ length (events_of p) → numbers ≡ roots p (events_of p) → are_marked marks numbers ≡ events_closed p marks (kept_by p flags)
+  kept_all flags marks numbers a l e = ap (are_marked marks) (e ∙ ap (roots p) (sym (all_kept flags (events_of p) a l)))
+    where
+      all_kept : (fs : List Bool) (es : List EventAt) → list_all (λ keep. keep) fs ≡ true → length fs ≡ length es → marked fs es ≡ es
+      all_kept [] [] a l = refl
+      all_kept [] (y ∷ es) a l = cc
+      all_kept (x ∷ fs) [] a l = cc
+      all_kept (true ∷ fs) (y ∷ es) a l = ap (λ z. y ∷ z) (all_kept fs es a (omega (arith, l)))
+      all_kept (false ∷ fs) (y ∷ es) a l = cc
 
   -- The result of the computation is the fact.
   each_marked : (ms : List Bool) (xs : List ℕ) → are_marked ms xs ≡ true → All (IsMarked ms) xs

@@ -6,6 +6,7 @@ use Rattle.std.proofs.Common.{ap, arith, refl, sym, ◌∙◌, subst}
 use Rattle.std.proofs.lemmas.Slice.Eq.{bytes_eq-Decides}
 use Rattle.std.proofs.lemmas.Option.{slice_get_within}
 use Rattle.jfr_header.specs.Fronts.{Whole}
+use Rattle.jfr_frame.specs.declared.framed.Framed.{Framed}
 use Rattle.jfr_frame.specs.Records.{IsRecord, record_end}
 use Rattle.jfr_chunk.specs.Parts.{Parts, EventAt, AreParts, events_of}
 use Rattle.jfr_chunk.specs.Reach.{marked, kept_by}
@@ -16,18 +17,30 @@ use Rattle.jfr_chunk.proofs.StandingLaws.{event_is, tiles_each}
 use Rattle.jfr_verify.specs.Checks.{contents}
 use Rattle.jfr_verify.specs.SameEvents.{content, is_same, both_same, same_event, next_event, SameEvents}
 
--- The record of an event lies in the chunk.
-pub record Stands (p : Parts) (e : EventAt) : Type 0 where
-  pub order : e.record_of.at ≤ record_end e.record_of
-  pub within : record_end e.record_of ≤ length p.bytes
-  pub small : record_end e.record_of < 2 ^ 64
+-- The record lies in the chunk.
+pub record Stands (p : Parts) (r : Framed) : Type 0 where
+  pub order : r.at ≤ record_end r
+  pub within : record_end r ≤ length p.bytes
+  pub small : record_end r < 2 ^ 64
 
-pub event_stands : (p : Parts) (n : ℕ) (e : EventAt) → Whole p.bytes → AreParts p → slice_get (events_of p) n ≡ Some e → Stands p e
+event_stands : (p : Parts) (n : ℕ) (e : EventAt) → Whole p.bytes → AreParts p → slice_get (events_of p) n ≡ Some e → Stands p e.record_of
 event_stands p n e w a g =
     let i = event_is p a e (get_in (events_of p) n e g) in
     let r : IsRecord p.bytes e.record_of = all_in (IsRecord p.bytes) p.records e.record_of (tiles_each p.bytes 68 (length p.bytes) p.records a.records) i.listed in
     let s = whole_small p.bytes w in
     record { order = omega arith; within = r.within; small = omega (arith, r.within, s) }
+
+-- If the record of an event has this number, it lies in the chunk.
+pub record_stands : (p : Parts) (n at : ℕ) (r : Framed) → Whole p.bytes → AreParts p → option_map (slice_get p.records) (Some at) ≡ option_map (λ e. Some e.record_of) (slice_get (events_of p) n) → Some r ≡ slice_get p.records at → Stands p r
+record_stands p n at r w a h g = by_event (slice_get (events_of p) n) refl h
+  where
+    by_event : (o : Option EventAt) → slice_get (events_of p) n ≡ o → option_map (slice_get p.records) (Some at) ≡ option_map (λ e. Some e.record_of) o → Stands p r
+    by_event None q h = cc
+    by_event (Some e) q h =
+        let z : slice_get p.records at ≡ Some e.record_of = cc in
+        let y : Some e.record_of ≡ Some r = sym z ∙ sym g in
+        let x : e.record_of ≡ r = cc in
+        subst (Stands p) x (event_stands p n e w a q)
 
 same_is : (x y : ℕ × List ℕ) → is_same x y ≡ true → x ≡ y
 same_is x y e = by_parts (x.0 == y.0) refl (bytes_eq x.1 y.1) refl e

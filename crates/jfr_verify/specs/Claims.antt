@@ -1,5 +1,5 @@
 -- Claimed parents: a parent for each entry, which may or may not refer to it.
-use Rattle.std.specs.Prelude.{◌≡◌, ◌<◌, ℕ, Bool, true, false, List, length, filter, slice_get, Some, Contains, ◌==◌}
+use Rattle.std.specs.Prelude.{◌≡◌, ◌<◌, ℕ, Bool, true, false, List, length, filter, slice_get, slice_set, Some, Contains, ◌==◌}
 use Rattle.std.specs.Option.{option_map_or}
 use Rattle.jfr_chunk.specs.Parts.{Parts, EventAt, events_of}
 use Rattle.jfr_chunk.specs.Reach.{node_entries, next_entries}
@@ -19,6 +19,15 @@ IsConfirmed p parents t = (parent : Parent) × (slice_get parents t ≡ Some par
 abbrev pub AreConfirmed : Parts → List Parent → Bool → Type 0
 AreConfirmed p parents true = (t : ℕ) → t < length p.entries → IsConfirmed p parents t
 AreConfirmed p parents false = ((t : ℕ) → t < length p.entries → IsConfirmed p parents t) → ⊥
+
+-- No event whose flag isn't set is the parent of one of the first n claims.
+abbrev pub AreClaimed : ℕ → List Parent → List Bool → Type 0
+AreClaimed n parents claimed = (i t : ℕ) → t < n → slice_get parents t ≡ Some (OfEvent i) → slice_get claimed i ≡ Some false → ⊥
+
+-- The flags of events, with that of this parent set if it is one of them.
+abbrev pub with_claimed : List Bool → Parent → List Bool
+with_claimed claimed (OfEvent i) = slice_set claimed i true
+with_claimed claimed (OfEntry i) = claimed
 
 -- Whether two parents are the same.
 abbrev pub is_same : Parent → Parent → Bool

@@ -77,6 +77,18 @@ fn events_closed(chunk: &Chunk<'_>, kept: &Kept, marks: &[bool]) -> bool
     requires { length kept.now ≡ length (events_of chunk.now) }
     ensures { result ≡ events_closed chunk.now marks.now (kept_by chunk.now kept.now) }
 {
+    if kept.are_all() {
+        // Faster than event by event.
+        return are_marked(marks, chunk.all_entries());
+    }
+    each_closed(chunk, kept, marks)
+}
+
+/// As `events_closed`, one event after another.
+fn each_closed(chunk: &Chunk<'_>, kept: &Kept, marks: &[bool]) -> bool
+    requires { length kept.now ≡ length (events_of chunk.now) }
+    ensures { result ≡ events_closed chunk.now marks.now (kept_by chunk.now kept.now) }
+{
     for number in 0..kept.len() {
         if !event_closed(chunk, kept, marks, number) {
             return false;

@@ -66,12 +66,12 @@ fn compact(parent: Parent) -> u32
 }
 
 /// The parent from its four bytes.
-fn parent_in(compact: u32) -> Parent
-    ensures { result ≡ parent_in compact }
+fn parent_in(kind_and_number: u32) -> Parent
+    ensures { result ≡ parent_in kind_and_number }
 {
-    if compact < ENTRY {
-        Parent::OfEvent(compact as usize)
+    if kind_and_number < ENTRY {
+        Parent::OfEvent(kind_and_number as usize)
     } else {
-        Parent::OfEntry((compact - ENTRY) as usize)
+        Parent::OfEntry((kind_and_number - ENTRY) as usize)
     }
 }

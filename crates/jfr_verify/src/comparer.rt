@@ -30,12 +30,13 @@ impl<'r> Comparer<'r> {
     ghost use Rattle.jfr_verify.specs.Outputs.{AllWhole};
     ghost use Rattle.jfr_verify.specs.Verdicts.{ComparedWith};
 
-    /// A comparer with these outputs and receipts.
+    /// A comparer with these outputs and receipts. It reads the outputs in the memory of an earlier chunk.
     pub(crate) fn new(
         alloc: Global,
         filter: &'r Filter,
         outputs: &'r [Vec<u8>],
         receipts: &'r [u8],
+        room: Room,
     ) -> Comparer<'r>
         ensures filter { result.filter.now ≡ filter.now }
         ensures outputs { iter_rest result.outputs ≡ outputs.now }
@@ -47,7 +48,7 @@ impl<'r> Comparer<'r> {
             outputs: outputs.iter(),
             receipts,
             input_room: Room::new(alloc),
-            output_room: Room::new(alloc),
+            output_room: room,
         }
     }
 

@@ -5,7 +5,7 @@ ghost use Rattle.jfr_value.specs.Nodes.{IsValue, node_of};
 ghost use Rattle.jfr_chunk.specs.Parts.{EventAt, events_of};
 ghost use Rattle.jfr_chunk.specs.Reach.{next_entries, node_entries};
 ghost use Rattle.jfr_verify.specs.declared.line.Parent.TheVariants as kinds;
-ghost use Rattle.jfr_verify.specs.Claims.{AreConfirmed};
+ghost use Rattle.jfr_verify.specs.Claims.{AreConfirmed, AreClaimed, with_claimed};
 ghost use Rattle.jfr_verify.specs.Confirmed.{Confirms, ConfirmsEntries, ConfirmsEvents, ConfirmsOf};
 
 use crate::Parent;
@@ -39,8 +39,8 @@ impl Visit<Pools> for Claims {
     }
 }
 
-/// Whether the claimed parent of each entry refers to it. Each event and each entry of the chunk is looked at
-/// once, however many entries name it as their parent.
+/// Whether the claimed parent of each entry refers to it. Each entry of the chunk, and each event that is a
+/// claimed parent, is looked at once, however many entries name it as their parent.
 pub(crate) fn are_confirmed(
     alloc: Global,
     chunk: &Chunk<'_>,
@@ -65,28 +65,64 @@ fn confirm_all<L: Ledger>(
     requires some { 0 < blank.parts }
     ensures { IfOk result (AreConfirmed chunk.now parents.items) }
 {
+    let claimed = claimed_events(alloc, &parents, chunk.event_count())?;
     let mut claims = Claims::new(alloc, parents)?;
     let mut steps: Steps<L> = Steps::new(blank);
-    confirm_events(&mut claims, chunk);
+    confirm_events(&mut claims, chunk, &claimed);
     confirm_entries(&mut claims, chunk, &mut steps);
     Ok(all_set(&claims.confirmed))
 }
 
+/// For each event of a chunk with this number of them, whether it is a claimed parent. Few events are, so the
+/// references of all others needn't be looked at.
+fn claimed_events(alloc: Global, parents: &[Parent], count: usize) -> Result<Vec<bool>, NoMemory>
+    ensures claimed { IfOk result (λ claimed. AreClaimed (length parents.now) parents.now claimed.items) }
+    ensures size { IfOk result (λ claimed. length claimed.items ≡ count) }
+{
+    let mut claimed = Vec::new(alloc);
+    claimed.resize(count, false)?;
+    for parent in parents {
+        set_claimed(&mut claimed, *parent);
+    }
+    Ok(claimed)
+}
+
+/// Sets the flag of a parent, if it is an event of the chunk.
+fn set_claimed(claimed: &mut Vec<bool>, parent: Parent)
+    ensures { claimed.new.items ≡ with_claimed claimed.old.items parent }
+{
+    match parent {
+        Parent::OfEvent(number) => {
+            if number < claimed.len() {
+                claimed[number] = true;
+            }
+        }
+        Parent::OfEntry(_) => {}
+    }
+}
+
 /// Confirms the claims that name an event, if the event refers to the entry.
-fn confirm_events(claims: &mut Claims, chunk: &Chunk<'_>)
+fn confirm_events(claims: &mut Claims, chunk: &Chunk<'_>, claimed: &[bool])
     requires size { length claims.old.confirmed.items ≡ length chunk.now.entries }
+    requires claimed { AreClaimed (length claims.old.parents.items) claims.old.parents.items claimed.now }
+    requires count { length claimed.now ≡ length (events_of chunk.now) }
     ensures { ConfirmsEvents chunk.now (length (events_of chunk.now)) claims.old claims.new }
 {
     for number in 0..chunk.event_count() {
-        confirm_event(claims, chunk, number);
+        confirm_event(claims, chunk, claimed, number);
     }
 }
 
 /// Confirms the claims that name event `number`, if it refers to the entry.
-fn confirm_event(claims: &mut Claims, chunk: &Chunk<'_>, number: usize)
+fn confirm_event(claims: &mut Claims, chunk: &Chunk<'_>, claimed: &[bool], number: usize)
     requires size { length claims.old.confirmed.items ≡ length chunk.now.entries }
+    requires claimed { AreClaimed (length claims.old.parents.items) claims.old.parents.items claimed.now }
+    requires within { number < length claimed.now }
     ensures { (e : EventAt) → slice_get (events_of chunk.now) number ≡ Some e → ConfirmsOf (kinds.OfEvent number) (node_entries chunk.now.entries chunk.now.classes chunk.now.bytes e.node) claims.old claims.new }
 {
+    if !claimed[number] {
+        return;
+    }
     if let Some(entries) = chunk.event_entries(number) {
         claims.parent = Parent::OfEvent(number);
         confirm_each(claims, entries);

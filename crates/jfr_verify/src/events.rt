@@ -52,10 +52,7 @@ fn same_event(a: &Chunk<'_>, number: usize, b: &Chunk<'_>, at: usize) -> bool
     let Some(other) = content_at(b, at) else {
         return false;
     };
-    if one.class != other.class {
-        return false;
-    }
-    one.bytes == other.bytes
+    one.class == other.class && one.bytes == other.bytes
 }
 
 /// The class of an event and the bytes of its record.
@@ -66,15 +63,15 @@ struct Content<'a> {
 }
 
 /// The content of event `number`; `None` exactly if there is no such event.
+#[inline(always)]
 fn content_at<'a>(chunk: &Chunk<'a>, number: usize) -> Option<Content<'a>>
     ensures { option_map (λ c. (c.class, c.bytes.now)) result ≡ option_map (content chunk.now) (slice_get (events_of chunk.now) number) }
 {
-    let event = chunk.event(number)?;
-    let bytes = chunk.bytes();
-    let frame = event.frame;
+    let record = chunk.event_record(number)?;
+    let frame = chunk.frames().get(record)?;
     Some(Content {
         class: frame.type_id,
-        bytes: range(bytes, frame.at, frame.end()),
+        bytes: range(chunk.bytes(), frame.at, frame.end()),
     })
 }
 

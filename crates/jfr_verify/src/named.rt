@@ -1,4 +1,5 @@
-//! Comparing classes by the strings that name them.
+//! Comparing two classes of different chunks: their ids, the shapes of their fields, and the texts that name
+//! them.
 ghost use Rattle.std.specs.Prelude.{◌≡◌, map, option_map};
 ghost use Rattle.jfr_meta.specs.Attributes.{text_at};
 ghost use Rattle.jfr_meta.specs.Described.{IsNamedBy};
@@ -8,19 +9,21 @@ use crate::strings::Numbers;
 use jfr_layout::{ClassInfo, Fields, Shape};
 use jfr_meta::ClassNames;
 
-/// A class, and the strings of its chunk's table that name it.
+/// A class, and the indices of the strings that name it, its fields and its categories.
 #[derive(Clone, Copy)]
 pub(crate) struct NamedClass<'c> {
     pub class: &'c ClassInfo,
     pub names: &'c ClassNames,
 }
 
-/// Whether a class of the first table's chunk and one of the second's are the same.
+/// Whether two classes are the same. The strings of `one` are in the first table, those of `other` in the
+/// second.
 pub(crate) fn same_class(numbers: &Numbers<'_>, one: NamedClass<'_>, other: NamedClass<'_>) -> bool
     requires one { IsNamedBy numbers.now.one.now one.class.now one.names.now }
     requires other { IsNamedBy numbers.now.other.now other.class.now other.names.now }
     ensures { Decided (one.entry.class.now ≡ other.entry.class.now) result }
 {
+    // One test after another: a conjunction of calls with contracts is hard to prove.
     if one.class.id != other.class.id {
         return false;
     }
@@ -39,7 +42,8 @@ pub(crate) fn same_class(numbers: &Numbers<'_>, one: NamedClass<'_>, other: Name
     same_texts(numbers, &one.names.categories, &other.names.categories)
 }
 
-/// Whether both strings exist and have the same text, or neither exists.
+/// Whether both strings exist and have the same text, or neither exists. As for all strings below, the first
+/// is in the first table, and the second in the second.
 fn same_optional(numbers: &Numbers<'_>, one: Option<u64>, other: Option<u64>) -> bool
     ensures { Decided (option_map (text_at numbers.now.one.now) one ≡ option_map (text_at numbers.now.other.now) other) result }
 {
@@ -86,11 +90,5 @@ fn same_shapes(one: &Fields, other: &Fields) -> bool
 fn same_shape(one: Shape, other: Shape) -> bool
     ensures { Decided (one ≡ other) result }
 {
-    if one.class != other.class {
-        return false;
-    }
-    if one.constant != other.constant {
-        return false;
-    }
-    one.array == other.array
+    one.class == other.class && one.constant == other.constant && one.array == other.array
 }

@@ -51,12 +51,13 @@ impl Outputs {
     }
 }
 
-/// Reads the output, and returns the bytes of its chunks. Otherwise the verdict: the output is refused, or
-/// can't be read.
+/// Reads the output, and returns the bytes of its chunks; `room` then holds the last chunk's memory. Otherwise
+/// the verdict: the output is refused, or can't be read.
 pub(crate) fn read_outputs<P: Place>(
     alloc: Global,
     place: &mut P,
     name: &str,
+    room: &mut Room,
 ) -> Result<Vec<Vec<u8>>, Verdict>
     ensures told { Tells (P.state place.old) (P.state place.new) (OutputRead name.now result) }
     ensures whole { IfOk result (λ chunks. AllWhole chunks.items) }
@@ -68,7 +69,10 @@ pub(crate) fn read_outputs<P: Place>(
     'chunks: loop {
         match cutter.next(place) {
             Cut::Chunk => {}
-            Cut::End => return Ok(outputs.chunks),
+            Cut::End => {
+                *room = outputs.room;
+                return Ok(outputs.chunks);
+            }
             Cut::Refused(refusal) => {
                 return Err(Verdict::Doubted {
                     chunk: refusal.chunk,

@@ -35,12 +35,7 @@ fn can_follow(seen: &[bool], line: Line) -> bool
     ensures { result ≡ is_next seen.now line }
 {
     match seen.get(line.entry) {
-        Some(flag) => {
-            if *flag {
-                return false;
-            }
-            comes_before(seen, line.parent)
-        }
+        Some(flag) => !*flag && comes_before(seen, line.parent),
         None => false,
     }
 }

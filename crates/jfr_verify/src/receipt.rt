@@ -52,8 +52,8 @@ pub fn receipt_of(alloc: Global, chunk: &Chunk<'_>) -> Result<Receipt, NoMemory>
 fn push_lines(out: &mut Vec<u8>, lines: &[CompactLine]) -> Result<(), AllocError>
     ensures ok { OnOk result (out.new.items ≡ out.old.items ++ flat_map line_bytes lines.now) }
 {
-    for compact in lines {
-        let line = compact.line();
+    for compact_line in lines {
+        let line = compact_line.line();
         push_integer(out, line.entry as u64)?;
         push_parent(out, line.parent)?;
     }

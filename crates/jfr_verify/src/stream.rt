@@ -14,6 +14,7 @@ use crate::Verdict;
 use crate::comparer::Comparer;
 use crate::opening::open;
 use crate::outputs::read_outputs;
+use jfr_chunk::Room;
 use jfr_file::read_file;
 use jfr_filter::Filter;
 use jfr_header::Cut;
@@ -79,11 +80,12 @@ fn verify_files<P: Place>(
         Ok(receipts) => receipts,
         Err(fault) => return Verdict::of_receipts(fault),
     };
-    let outputs = match read_outputs(alloc, place, names.output) {
+    let mut room = Room::new(alloc);
+    let outputs = match read_outputs(alloc, place, names.output, &mut room) {
         Ok(outputs) => outputs,
         Err(verdict) => return verdict,
     };
-    let mut comparer = Comparer::new(alloc, filter, &outputs, &receipts);
+    let mut comparer = Comparer::new(alloc, filter, &outputs, &receipts, room);
     compare_input(alloc, place, names.input, &mut comparer)
 }
 

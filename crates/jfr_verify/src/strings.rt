@@ -1,5 +1,11 @@
-//! Numbers for the strings of two tables. Many classes may share a long string as their name, or as that of a
-//! field. With numbers for the strings, each is compared by its text only when it gets its number.
+//! Numbers for the strings of two tables.
+//!
+//! Each string of either table gets the number of its text in the first table: the index of the first string
+//! there with that text. A string of the second table has that number, or none if the first table doesn't
+//! have its text. So two strings have the same text exactly if both have the same number.
+//!
+//! Many classes may share a long name. The numbers keep the checker fast: the text of a string is looked up
+//! once, and from then on numbers are compared.
 ghost use Rattle.std.specs.Prelude.{◌≡◌, ℕ, List, [], get_or, map, IfOk, OnOk};
 ghost use Rattle.std.specs.Str.{chars};
 ghost use Rattle.jfr_layout.specs.Names.{value_under};
@@ -11,23 +17,24 @@ use jfr_base::{NoMemory, Words};
 use std::alloc::Global;
 use std::collections::BTreeMap;
 
-/// The numbers of the strings of two tables. Two strings have the same number exactly if they have the same
-/// text. A string of the second table has none if its text isn't in the first table.
+/// The numbers of the strings of two tables.
 #[derive(Drop)]
 pub(crate) struct Numbers<'t> {
     /// The first table.
     pub one: &'t Words,
     /// The second table.
     pub other: &'t Words,
+    /// The number of each string of the first table.
     of_one: Vec<Option<u64>>,
+    /// The number of each string of the second table, or none.
     of_other: Vec<Option<u64>>,
-    /// The number of the empty text, which is that of an index past the end of a table.
+    /// The number of the empty text. An index past the end of a table counts as an empty string.
     of_empty: Option<u64>,
     ghost numbers: { AreNumbers one.now other.now of_one.items of_other.items of_empty },
 }
 
 impl<'t> Numbers<'t> {
-    /// The numbers for two tables. Each string is looked up once by its text.
+    /// The numbers for two tables.
     pub fn new(alloc: Global, one: &'t Words, other: &'t Words) -> Result<Numbers<'t>, NoMemory>
         ensures one { IfOk result (λ numbers. numbers.one.now ≡ one.now) }
         ensures other { IfOk result (λ numbers. numbers.other.now ≡ other.now) }
@@ -45,8 +52,8 @@ impl<'t> Numbers<'t> {
         })
     }
 
-    /// Whether the string with an index in the first table and the one with an index in the second have the
-    /// same text. An index past the end of a table is that of an empty text.
+    /// Whether string `one` of the first table and string `other` of the second have the same text. A string
+    /// past the end of a table counts as empty.
     pub fn same_text(&self, one: u64, other: u64) -> bool
         ensures { Decided (text_at self.now.one.now one ≡ text_at self.now.other.now other) result }
     {
@@ -67,7 +74,7 @@ fn both_same(one: Option<u64>, other: Option<u64>) -> bool
     }
 }
 
-/// The number with this index, or the given one past the end.
+/// The number of the string with this index, or that of the empty text past the end.
 fn number_at(numbers: &[Option<u64>], of_empty: Option<u64>, index: u64) -> Option<u64>
     ensures { result ≡ get_or numbers.now index of_empty }
 {
@@ -77,7 +84,7 @@ fn number_at(numbers: &[Option<u64>], of_empty: Option<u64>, index: u64) -> Opti
     }
 }
 
-/// The number of a text, if it has one.
+/// The number of a text; `None` if the first table doesn't have it.
 fn number_of(firsts: &BTreeMap<&str, u64>, text: &str) -> Option<u64>
     ensures { result ≡ value_under firsts.now (chars text.now) }
 {
@@ -91,7 +98,7 @@ fn text_at<'t>(strings: &'t Words, index: u64) -> &'t str
     strings.get(index as usize).unwrap_or("")
 }
 
-/// The number of each string of a table, if its text has one.
+/// For each string of a table, the number of its text, or none.
 fn numbers_of(
     alloc: Global,
     firsts: &BTreeMap<&str, u64>,
@@ -107,7 +114,8 @@ fn numbers_of(
     Ok(numbers)
 }
 
-/// The index of the first string with each text of a table. The empty text has one too.
+/// For each text of a table, the index of the first string with it. If no string is empty, the empty text has
+/// the index past the end.
 fn first_indices<'t>(alloc: Global, strings: &'t Words) -> Result<BTreeMap<&'t str, u64>, NoMemory>
     ensures { IfOk result (AreFirsts strings.now) }
 {
@@ -119,7 +127,7 @@ fn first_indices<'t>(alloc: Global, strings: &'t Words) -> Result<BTreeMap<&'t s
     Ok(firsts)
 }
 
-/// Adds the text of the string with this index, unless it is there already.
+/// Adds the index for the text of its string, unless an earlier string has the same text.
 fn add_text<'t>(
     firsts: &mut BTreeMap<&'t str, u64>,
     strings: &'t Words,

@@ -1,13 +1,6 @@
-use Rattle.std.proofs.Common.{◌<◌, length, arith, sym, ◌∙◌}
-use Rattle.jfr_verify.proofs.ClosedLaws.{kept_false, kept_true}
+use Rattle.std.proofs.Common.{sym, ◌∙◌}
+use Rattle.jfr_verify.proofs.ClosedLaws.{kept_all}
 use Rattle.jfr_verify.proofs.closed.events_closed.Goals as goal
 
-pub returns-then-not-event_closed : goal.returns-then-not-event_closed
-returns-then-not-event_closed c =
-    let h : c.loop-number.number < length c.args.kept.now = omega arith in
-    sym (kept_false c.args.chunk.now c.args.kept.now c.args.marks.now c.loop-number.number c.requires h (sym c.event_closed.ensures ∙ c.if-not-event_closed.true))
-
-pub loop-number-preserved : goal.loop-number-preserved
-loop-number-preserved c =
-    let h : c.loop-number.number < length c.args.kept.now = omega arith in
-    kept_true c.args.chunk.now c.args.kept.now c.args.marks.now c.loop-number.number c.requires h c.loop-number.invariant (sym c.event_closed.ensures ∙ c.if-not-event_closed.false)
+pub returns-then-are_all : goal.returns-then-are_all
+returns-then-are_all c = c.are_marked.ensures ∙ kept_all c.args.chunk.now c.args.kept.now c.args.marks.now c.all_entries.result.now (sym c.are_all.ensures ∙ c.if-are_all.true) c.requires c.all_entries.ensures

@@ -1,13 +1,12 @@
-use Rattle.std.specs.Prelude.{length}
-use Rattle.std.proofs.Common.{sym, arith, ap}
-use Rattle.jfr_chunk.specs.Seen.{event_at}
-use Rattle.jfr_verify.proofs.EventLaws.{event_stands}
+use Rattle.std.specs.Prelude.{length, slice_get}
+use Rattle.std.proofs.Common.{arith, ap, ◌∙◌}
+use Rattle.jfr_verify.proofs.EventLaws.{record_stands}
 use Rattle.jfr_verify.proofs.events.content_at.Goals as goal
 
 pub end-requires : goal.end-requires
-end-requires c = (event_stands c.args.chunk.now c.args.number (event_at c.in_ok-event.event) c.bytes-bytes.ensures.whole c.bytes-bytes.ensures.parts (sym c.in_ok-event.ensures.exact)).small
+end-requires c = (record_stands c.args.chunk.now c.args.number c.in_ok-record.record c.in_ok-frame.frame c.bytes.ensures.whole c.bytes.ensures.parts c.in_ok-record.ensures (c.in_ok-frame.ensures ∙ ap (λ z. slice_get z c.in_ok-record.record) c.frames.ensures)).small
 
 pub range-requires : goal.range-requires
 range-requires c =
-    let s = event_stands c.args.chunk.now c.args.number (event_at c.in_ok-event.event) c.bytes-bytes.ensures.whole c.bytes-bytes.ensures.parts (sym c.in_ok-event.ensures.exact) in
-    record { order = omega (arith, s.order, c.end.ensures); within = omega (arith, s.within, c.end.ensures, ap length c.bytes-bytes.ensures.exact) }
+    let s = record_stands c.args.chunk.now c.args.number c.in_ok-record.record c.in_ok-frame.frame c.bytes.ensures.whole c.bytes.ensures.parts c.in_ok-record.ensures (c.in_ok-frame.ensures ∙ ap (λ z. slice_get z c.in_ok-record.record) c.frames.ensures) in
+    record { order = omega (arith, s.order, c.end.ensures); within = omega (arith, s.within, c.end.ensures, ap length c.bytes.ensures.exact) }
