@@ -1,7 +1,7 @@
 //! Events and entries with new keys, field by field.
-ghost use Rattle.std.specs.Prelude.{◌≡◌, ℕ, ◌≤◌, ◌++◌, length, IfOk, OnOk, Some, map, slice_get, slice_range};
+ghost use Rattle.std.specs.Prelude.{◌≡◌, ℕ, ◌≤◌, ◌++◌, length, IfOk, IsSome, OnOk, Some, map, slice_get, slice_range};
 ghost use Rattle.std.specs.List.{AllByRecursion};
-ghost use Rattle.jfr_layout.specs.Classes.{IsFieldLayout, Sound};
+ghost use Rattle.jfr_layout.specs.Classes.{IsFieldLayout, Sound, find_class};
 ghost use Rattle.jfr_layout.specs.declared.field_layout.FieldLayout.{FieldLayout};
 ghost use Rattle.jfr_value.specs.Nodes.{EndsAt, IsNode, IsRow, IsValue, node_at, node_of};
 ghost use Rattle.jfr_value.specs.Values.{Value, Values};
@@ -70,29 +70,30 @@ pub(crate) fn pass_value<N: NewKeys, L: Ledger>(
         }
         Form::Array | Form::Key => pass_leaves(out, context, shape, start, steps),
         Form::Integer | Form::Raw(_) | Form::Text => {
-            pass_single(out, context, layout, start, steps)
+            pass_single(out, context, shape, start, steps)
         }
     }
 }
 
-// Passes a value with this layout, as `pass_value` does. Few values aren't the fields of a class, so this is out of
+// Passes a value of this shape, as `pass_value` does. Few values aren't the fields of a class, so this is out of
 // line: the layout of a row then stays in registers.
 #[inline(never)]
 fn pass_single<N: NewKeys, L: Ledger>(
     out: &mut Vec<u8>,
     context: RekeyContext<'_, N>,
-    layout: FieldLayout,
+    shape: Shape,
     start: Passed,
     steps: &mut Steps<L>,
 ) -> Result<usize, NoMemory>
     requires sound { Sound context.classes.now }
-    requires layout { IsFieldLayout context.classes.now layout }
+    requires known { IsSome (find_class context.classes.now shape.class) }
     requires from { start.from ≤ start.at }
     requires order { start.at ≤ context.end }
     requires within { context.end ≤ length context.bytes.now }
-    requires there { EndsAt context.classes.now context.bytes.now layout.shape start.at context.end }
-    ensures ok { IfOk result (λ from. (from ≤ context.entry.end) × (out.new.items ++ slice_range context.entry.bytes.now from context.entry.end ≡ (out.old.items ++ slice_range context.entry.bytes.now start.from start.at) ++ rekeyed_bytes (N.keys context.entry.new.now) context.entry.classes.now context.entry.bytes.now (node_at layout.shape start.at context.entry.end))) }
+    requires there { EndsAt context.classes.now context.bytes.now shape start.at context.end }
+    ensures ok { IfOk result (λ from. (from ≤ context.entry.end) × (out.new.items ++ slice_range context.entry.bytes.now from context.entry.end ≡ (out.old.items ++ slice_range context.entry.bytes.now start.from start.at) ++ rekeyed_bytes (N.keys context.entry.new.now) context.entry.classes.now context.entry.bytes.now (node_at shape start.at context.entry.end))) }
 {
+    let layout = layout_of(context.classes, shape);
     let mut passed = start;
     pass_field(out, context, &layout, &mut passed, steps)?;
     Ok(passed.from)

@@ -1,6 +1,6 @@
 //! The classes and keys that are referred to but have no entry in force.
-ghost use Rattle.std.specs.Prelude.{◌≡◌, ◌<◌, ℕ, [], ◌∷◌, length, map, filter, false, option_to_list, Contains, IfOk, IsTrue};
-ghost use Rattle.jfr_layout.specs.Classes.{IsFieldLayout, Sound};
+ghost use Rattle.std.specs.Prelude.{◌≡◌, ◌<◌, ℕ, [], ◌∷◌, length, map, filter, false, option_to_list, Contains, IfOk, IsSome, IsTrue};
+ghost use Rattle.jfr_layout.specs.Classes.{Sound, find_class};
 ghost use Rattle.jfr_value.specs.Nodes.{EndsAt, IsValue, node_at, node_of, targets};
 ghost use Rattle.jfr_value.specs.Visits.{TakesAll};
 ghost use Rattle.jfr_pool.specs.Entries.{entry_node};
@@ -11,7 +11,7 @@ ghost use Rattle.jfr_renumber.specs.Renumber.{used_keys};
 
 use jfr_base::NoMemory;
 use jfr_chunk::{Chunk, Kept};
-use jfr_layout::{Classes, FieldLayout, Form};
+use jfr_layout::{Classes, Form, Shape};
 use jfr_pool::Pools;
 use jfr_reach::Marks;
 use jfr_value::{Node, Visit, Walk, end_visiting, layout_of};
@@ -140,19 +140,20 @@ fn list_value(list: &mut Missing, classes: &Classes, pools: &Pools, node: Node<'
         Form::Fields => {
             let _end = end_visiting(walk, &layout, node.at, list);
         }
-        _ => list_single(list, walk, layout, node.at),
+        _ => list_single(list, walk, node.shape, node.at),
     }
 }
 
-// Lists what a value with this layout refers to. Few values aren't the fields of a class, so this is out of line:
+// Lists what a value of this shape refers to. Few values aren't the fields of a class, so this is out of line:
 // the layout of a row then stays in registers.
 #[inline(never)]
-fn list_single(list: &mut Missing, walk: Walk<'_, '_, Pools>, layout: FieldLayout, at: usize)
+fn list_single(list: &mut Missing, walk: Walk<'_, '_, Pools>, shape: Shape, at: usize)
     requires sound { Sound walk.classes.now }
-    requires layout { IsFieldLayout walk.classes.now layout }
-    requires there { EndsAt walk.classes.now walk.bytes.now layout.shape at walk.end }
-    ensures { TakesAll (λ t old new. Lists walk.entry.with.now (t ∷ []) old new) (targets walk.entry.classes.now walk.entry.bytes.now (node_at layout.shape at walk.entry.end)) list.old list.new }
+    requires known { IsSome (find_class walk.classes.now shape.class) }
+    requires there { EndsAt walk.classes.now walk.bytes.now shape at walk.end }
+    ensures { TakesAll (λ t old new. Lists walk.entry.with.now (t ∷ []) old new) (targets walk.entry.classes.now walk.entry.bytes.now (node_at shape at walk.entry.end)) list.old list.new }
 {
+    let layout = layout_of(walk.classes, shape);
     let _end = end_visiting(walk, &layout, at, list);
 }
 

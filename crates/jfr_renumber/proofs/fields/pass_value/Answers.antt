@@ -1,8 +1,10 @@
-use Rattle.std.proofs.Common.{◌++◌, ap, subst, sym, ◌∙◌}
-use Rattle.std.specs.Prelude.{slice_range}
+use Rattle.std.proofs.Common.{◌++◌, ap, refl, subst, sym, ◌∙◌}
+use Rattle.std.specs.Prelude.{IsSome, slice_range}
 use Rattle.std.proofs.lemmas.Result.{IfOk-weaker}
-use Rattle.jfr_value.specs.Nodes.{IsNode, node_at}
-use Rattle.jfr_renumber.specs.Rekeyed.{rekeyed_bytes}
+use Rattle.jfr_layout.specs.Classes.{Class, find_class}
+use Rattle.jfr_layout.specs.declared.shape.Shape.{Shape}
+use Rattle.jfr_value.specs.Nodes.{node_at}
+use Rattle.jfr_value.proofs.LayoutLaws.{layout_class}
 use Rattle.jfr_renumber.proofs.BaseLaws.{base_layout}
 use Rattle.jfr_renumber.proofs.FieldLaws.{fields_shape, inline_layout, layouts_row}
 use Rattle.jfr_renumber.proofs.fields.pass_value.Goals as goal
@@ -35,23 +37,11 @@ returns-in-Fields g c =
           (q.0, q.1 ∙ ap (λ z. (c.args.out.now.items ++ slice_range x c.args.start.from c.args.start.at) ++ z) (sym r.2)))) c.pass_row.ensures.ok;
     }
 
-pub pass_single-requires-clause-layout : goal.pass_single-requires-clause-layout
-pass_single-requires-clause-layout g c =
+pub pass_single-requires-clause-known : goal.pass_single-requires-clause-known
+pass_single-requires-clause-known g c =
+    let k = c.args.context.classes.now in
     let v = c.requires.value in
     let y = c.layout_of-layout.ensures in
-    base_layout c.args.context.classes.now c.args.context.bytes.now (node_at c.args.shape c.args.start.at c.args.context.end) v.0 c.layout_of-layout.result v.1 y.shape y.form y.known c.in-Integer.is
-
-pub pass_single-requires-clause-there : goal.pass_single-requires-clause-there
-pass_single-requires-clause-there g c =
-    let v = c.requires.value in
-    (v.0, subst (λ z. IsNode c.args.context.classes.now c.args.context.bytes.now (node_at z c.args.start.at c.args.context.end) v.0) (sym c.layout_of-layout.ensures.shape) v.1)
-
-pub returns-in-Integer : goal.returns-in-Integer
-returns-in-Integer g c =
-    let k = c.args.context.classes.now in
-    let x = c.args.context.bytes.now in
-    let at = c.args.start.at in
-    let end = c.args.context.end in
-    record {
-      ok = IfOk-weaker c.pass_single.result _ _ (λ from w. (w.0, w.1 ∙ ap (λ z. (c.args.out.now.items ++ slice_range x c.args.start.from at) ++ rekeyed_bytes (g.N.NewKeys.keys c.args.context.new.now) k x (node_at z at end)) c.layout_of-layout.ensures.shape)) c.pass_single.ensures.ok;
-    }
+    let l = c.layout_of-layout.result in
+    let d = layout_class k l (base_layout k c.args.context.bytes.now (node_at c.args.shape c.args.start.at c.args.context.end) v.0 l v.1 y.shape y.form y.known c.in-Integer.is) in
+    subst (λ (z : Shape). IsSome {T = Class} (find_class k z.class)) y.shape (subst (λ z. IsSome {T = Class} z) (sym d.found) refl)
