@@ -57,13 +57,25 @@ try() {
 }
 
 mkdir parts joined
-"$program" disassemble --output parts --max-chunks 1 "$file" || exit 1
+"$program" disassemble --output parts --max-chunks 1 "$file" && "$program" scrub "$file" scrubbed.jfr &&
+    "$program" receipt "$file" scrubbed.receipt || exit 1
+{
+    printf 'class 1 long\nclass 2 java.lang.String\nclass 4 t.Name\nfield text 2 -\n'
+    printf 'event 3 t.E\nfield number 1 -\nfield name 4 c\n'
+    for number in {1..5000}; do echo "constant 4 $number \"name-$number\""; done
+    for number in {1..5000}; do echo "record 3 $number #$number"; done
+} >text
 try summary - summary "$file"
 try metadata - metadata "$file"
 try print - print --depth 8 "$file"
 try 'print --json' - print --json "$file"
 try scrub out.jfr scrub "$file" out.jfr
 try 'scrub by threads' out.jfr scrub --include-threads 'main*' "$file" out.jfr
+try 'scrub --renumber yes' out.jfr scrub --renumber yes "$file" out.jfr
+try receipt out.receipt receipt "$file" out.receipt
+try verify - verify "$file" scrubbed.jfr scrubbed.receipt
+try stacks - stacks "$file"
+try build out.jfr build text out.jfr
 try assemble out.jfr assemble parts out.jfr
 try sample - sample 1 20000
 [ "$wrong" = 0 ]

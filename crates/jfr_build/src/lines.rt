@@ -15,10 +15,10 @@ pub struct NumberedLine<'a> {
     pub line: Line<'a>,
 }
 
-/// The fewest bytes of a line that isn't empty, with its newline.
-const LEAST_LEN: usize = 9;
+/// The fewest bytes of a line that isn't empty and has a known form, with its newline: `record 1`.
+const MIN_LEN: usize = 9;
 
-/// Whether the line is a class.
+/// Whether the line is a `class` or an `event`, both of which describe a class.
 pub fn is_class(line: &Line<'_>) -> bool
     ensures { result ≡ is_class line.now }
 {
@@ -28,7 +28,7 @@ pub fn is_class(line: &Line<'_>) -> bool
     }
 }
 
-/// Whether the line is a constant or an event.
+/// Whether the line is a `constant` or a `record`.
 pub fn has_value(line: &Line<'_>) -> bool
     ensures { result ≡ has_value line.now }
 {
@@ -38,7 +38,7 @@ pub fn has_value(line: &Line<'_>) -> bool
     }
 }
 
-/// Whether a class came before, and whether a constant or an event did.
+/// Whether a class was described before, and whether a `constant` or a `record` came before.
 #[derive(Clone, Copy)]
 struct Before {
     class: bool,
@@ -74,7 +74,7 @@ pub fn read_lines(alloc: Global, text: &[u8]) -> Result<Vec<NumberedLine<'_>>, B
     requires { length text.now < 2 ^ 30 }
     ensures exact { MatchResult result (λ lines. read_lines text.now ≡ Ok lines.items) (IsBadLine (read_lines text.now)) }
 {
-    let mut lines = Vec::with_capacity(alloc, text.len() / LEAST_LEN + 1)?;
+    let mut lines = Vec::with_capacity(alloc, text.len() / MIN_LEN + 1)?;
     let mut before = Before {
         class: false,
         value: false,

@@ -8,7 +8,7 @@ use std::alloc::{AllocError, Global};
 use std::marker::Model;
 
 /// The least number of bytes by which a buffer grows, unless fewer are needed.
-const PIECE: usize = 65536;
+const MIN_GROWTH: usize = 65536;
 
 /// Bytes that were read. Their memory only grows, and the next bytes are read straight into it.
 #[derive(Drop)]
@@ -27,8 +27,8 @@ impl Model for Buffer {
     ghost invariant = { λ b. b.count ≤ vec_len b.room };
 }
 
-// Makes room after `count` bytes for at least one more, if there is none. The list grows to at most twice
-// `count`, or by `PIECE`, and no further than `until`.
+// Makes the vector longer than `count` bytes if it isn't: twice as long, or longer by `MIN_GROWTH` if that is more, but
+// never longer than `until`.
 fn make_room(room: &mut Vec<u8>, count: usize, until: usize) -> Result<(), AllocError>
     requires count { count ≤ vec_len room.old }
     requires wanted { count < until }
@@ -39,7 +39,7 @@ fn make_room(room: &mut Vec<u8>, count: usize, until: usize) -> Result<(), Alloc
     if count < room.len() {
         return Ok(());
     }
-    let more = count.max(PIECE).min(until - count);
+    let more = count.max(MIN_GROWTH).min(until - count);
     room.reserve_exact(more)?;
     room.resize(count + more, 0)
 }
@@ -69,7 +69,7 @@ impl Buffer {
         &self.room[..self.count]
     }
 
-    /// The bytes, in their memory.
+    /// The bytes. They aren't copied.
     pub fn into_bytes(self) -> Vec<u8>
         ensures { result.items ≡ self }
     {
@@ -78,7 +78,7 @@ impl Buffer {
         room
     }
 
-    /// Drops the bytes, and keeps their memory.
+    /// Removes the bytes, and keeps their memory for the next ones.
     pub fn clear(&mut self)
         ensures { self.new ≡ [] }
     {

@@ -4,8 +4,8 @@ ghost use Rattle.std.specs.Prelude.{◌≡◌};
 use crate::is_text;
 use jfr_base::Text;
 
-/// How the inline values of a class are spelled: by one of nine base kinds, which the class's name
-/// determines, or as a composite (docs/FORMAT.md, Values).
+/// How the inline values of a class are encoded: by one of nine base kinds, which the class's name
+/// determines, or as a composite (docs/FORMAT.md, Classes and shapes).
 #[derive(Clone, Copy, Debug, PartialEq, Eq)]
 pub enum Kind {
     /// One raw byte.

@@ -1,5 +1,5 @@
-//! The output of a chunk, as far as all commands that drop events from a recording make it the same way:
-//! which records and entries it has, its metadata record, and the positions in its header.
+//! The parts of an output chunk that are the same with old and with new keys: which records and entries it
+//! has, its metadata record, and the positions in its header.
 //!
 //! `next_output_record` goes through the records that are written, `remaining_entries` lists the entries that remain,
 //! and `slim_metadata` makes the metadata record without the event classes that the output doesn't need. Read

@@ -24,7 +24,7 @@ pub fn slim_metadata(alloc: Global, chunk: &Chunk, kept: &Kept) -> Result<Option
     slim(alloc, chunk.metadata(), &stay, chunk.metadata_frame().size)
 }
 
-/// The ids of the classes that the output describes if its metadata record is made anew.
+/// The ids of the classes that the output describes if its metadata record is rebuilt.
 fn staying_classes(alloc: Global, chunk: &Chunk, kept: &Kept) -> Result<Ids, NoMemory>
     requires { length kept.now ≡ length (events_of chunk.now) }
     ensures exact { IfOk result (λ stay. (id : ℕ) → is_in stay id ≡ stays_in chunk.now (kept_by chunk.now kept.now) id) }

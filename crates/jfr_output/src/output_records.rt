@@ -28,8 +28,8 @@ pub struct Cursor {
     pub link: usize,
 }
 
-/// The next output record, if there is one. Moves the cursor past it. Only kept events, and the metadata record,
-/// are read.
+/// The next output record, if there is one. Moves the cursor past it. Only the
+/// records of kept events and the metadata record are looked up; of the others only the offset is needed.
 #[inline(always)]
 pub fn next_output_record(chunk: &Chunk, kept: &Kept, cursor: &mut Cursor) -> Option<OutputRecord>
     requires { IsCursor chunk.now kept.now cursor.old }
@@ -40,7 +40,7 @@ pub fn next_output_record(chunk: &Chunk, kept: &Kept, cursor: &mut Cursor) -> Op
 {
     let frames = chunk.frames();
     'records: while cursor.frame < frames.len() {
-        let at = place_of(frames, cursor.frame);
+        let at = offset_of(frames, cursor.frame);
         let output_record = pass_record(chunk, kept, cursor, at);
         if output_record.is_some() {
             return output_record;
@@ -51,7 +51,7 @@ pub fn next_output_record(chunk: &Chunk, kept: &Kept, cursor: &mut Cursor) -> Op
 
 // The offset of the record with this number.
 #[inline(always)]
-fn place_of(frames: &Frames, number: usize) -> usize
+fn offset_of(frames: &Frames, number: usize) -> usize
     requires { number < length frames.now }
     ensures { option_map (λ r. r.at) (slice_get frames.now number) ≡ Some result }
 {
@@ -112,10 +112,10 @@ fn pass_event(chunk: &Chunk, kept: &Kept, number: &mut usize, at: usize) -> Opti
     ensures kept { result ≡ (if is_kept_at (events_of chunk.now) kept.now number.old at then Some number.old else None) }
 {
     let old = *number;
-    let place = chunk.event_place(old)?;
+    let start = chunk.event_place(old)?;
     // The second condition never holds, since there is an event with this number. It is there for the proof that
     // the sum can't overflow.
-    if place != at || old >= chunk.event_count() {
+    if start != at || old >= chunk.event_count() {
         return None;
     }
     *number = old + 1;

@@ -14,7 +14,7 @@ fn same_pool(one: &EntryAt, other: &EntryAt) -> bool
     one.class == other.class
 }
 
-/// The number of entries at the start of the list that are in the same pool as this one.
+/// The number of entries at the start of `entries` that are in the pool of `first`.
 pub fn pool_len(first: &EntryAt, entries: &[EntryAt]) -> usize
     ensures exact { result ≡ leading first.now entries.now }
     ensures within { result ≤ length entries.now }

@@ -1,4 +1,4 @@
-//! The positions of an output, and its header.
+//! The positions in an output chunk, and its header.
 ghost use Rattle.std.specs.Prelude.{◌≡◌, unwrap_or};
 ghost use Rattle.jfr_header.specs.Headers.{header_bytes};
 ghost use Rattle.jfr_chunk.specs.Written.{distance};
@@ -12,7 +12,7 @@ pub fn delta_to(older: Option<usize>, at: usize) -> u64
     ensures { result ≡ distance at older }
 {
     match older {
-        Some(place) => (place as u64).wrapping_sub(at as u64),
+        Some(older) => (older as u64).wrapping_sub(at as u64),
         None => 0,
     }
 }

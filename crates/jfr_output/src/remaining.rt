@@ -11,7 +11,9 @@ use std::alloc::Global;
 /// The entries that remain, in order. If all do, the chunk's own list is borrowed.
 #[derive(Drop)]
 pub enum RemainingEntries<'p> {
+    /// All entries of the chunk, borrowed.
     All(&'p [EntryAt]),
+    /// Copies of the entries that remain.
     Listed(Vec<EntryAt>),
 }
 
@@ -27,7 +29,7 @@ impl RemainingEntries<'_> {
     }
 }
 
-/// The entries that remain: those that are reached.
+/// Lists the entries that remain.
 pub fn remaining_entries<'p>(
     alloc: Global,
     pools: &'p Pools,
@@ -77,7 +79,7 @@ fn entry_at(pools: &Pools, at: usize) -> EntryAt
     }
 }
 
-// Adds an entry if it is kept.
+// Adds the entry if `keep` is true.
 fn push_if(left: &mut Vec<EntryAt>, entry: EntryAt, keep: bool) -> Result<(), NoMemory>
     ensures ok { OnOk result (left.new.items ≡ left.old.items ++ (if keep then entry ∷ [] else [])) }
 {

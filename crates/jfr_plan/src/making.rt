@@ -1,4 +1,4 @@
-// The command that makes one output chunk of each chunk.
+//! The command that makes an output from each chunk.
 ghost use Rattle.std.specs.Prelude.{◌≡◌, ◌≢◌};
 ghost use Rattle.jfr_plan.specs.Effects.{alone};
 ghost use Rattle.jfr_plan.specs.Makes.{making};
@@ -9,7 +9,7 @@ use jfr_header::Ending;
 use jfr_outside::{Place, Sink};
 use std::alloc::Global;
 
-// The stage of a `Make`: creates the output, appends each output chunk, and finishes the output.
+// The stage of a `Make`: creates the output, appends what is made from each chunk, and finishes the output.
 #[derive(Drop)]
 struct Making<'a, M: Make> {
     alloc: Global,
@@ -48,8 +48,8 @@ impl<M: Make> Stage for Making<'_, M> {
     }
 }
 
-/// Opens the input and creates the output, makes one output chunk of each chunk of the input and
-/// appends it, and finishes the output.
+/// Opens the input, creates the output file, appends what `make` makes from each chunk of the input,
+/// and finishes the file.
 pub fn make_stream<P: Place, M: Make>(
     alloc: Global,
     place: &mut P,
@@ -60,7 +60,7 @@ pub fn make_stream<P: Place, M: Make>(
     ensures ran { Ran (over (making output.now (M.refusal make) (M.becomes make)) input.now) result
         (alone (P.state place.old)) (alone (P.state place.new)) }
 
-    // The call brings no write fault about by itself.
+    // If the output can be created, there is no write fault.
     ensures can_create { CanCreate output.now (P.state place.old)
         → (result ≢ Ending.WriteFault) × ((P.state place.new).write_faults ≡ (P.state place.old).write_faults) }
 {

@@ -27,9 +27,9 @@ impl Model for Chain {
 }
 
 impl Chain {
-    /// Reads the chain whose newest checkpoint starts at the offset `last`, from the newest on. It is refused
-    /// as `Short` if a checkpoint's start, duration or delta doesn't end within its record, and as
-    /// `ChainDelta`, at the delta, if that is neither 0 nor leads to an earlier checkpoint. `Memory` if
+    /// Reads the chain whose newest checkpoint starts at the offset `last`, newest first. It is refused as
+    /// `Short` if a checkpoint's start, duration or delta doesn't end within its record, and as
+    /// `ChainDelta`, at the delta, if that isn't 0 and doesn't lead to an earlier checkpoint. `Memory` if
     /// memory runs out.
     pub fn read(alloc: Global, chunk: &[u8], frames: &Frames, last: u64) -> Result<Chain, ReadFault>
         requires framed { AreRecords chunk.now frames.now }
@@ -113,8 +113,8 @@ fn older(frames: &Frames, link: &Link) -> Result<Option<Framed>, Flaw>
 fn earlier_checkpoint(frames: &Frames, link: &Link) -> Option<Framed>
     ensures { result ≡ earlier_checkpoint frames.now (earlier_place link.now.frame.at (pos link.now.frame.at +ℤ link.now.delta)) }
 {
-    let place = earlier_place(link.frame.at, link.delta)?;
-    frames.find(place, CHECKPOINT_TYPE)
+    let offset = earlier_place(link.frame.at, link.delta)?;
+    frames.find(offset, CHECKPOINT_TYPE)
 }
 
 /// The offset to which a delta leads from the offset `at`, if it is an earlier one.

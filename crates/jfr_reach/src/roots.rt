@@ -10,8 +10,8 @@ use jfr_value::Steps;
 use jfr_worklist::Worklist;
 use std::sync::ledger::Ledger;
 
-/// Marks the entries in force to which the kept events refer. If all events are kept, the list of all events'
-/// entries is used.
+/// Marks the entries in force to which the kept events refer. If all events are kept, the
+/// chunk's list for all events is used.
 pub(crate) fn put_roots<L: Ledger>(
     list: &mut Worklist,
     chunk: &Chunk<'_>,

@@ -1,4 +1,4 @@
-//! The stream that writes receipts.
+//! Writing the receipts of a recording's scrub.
 ghost use Rattle.std.specs.Prelude.{◌≡◌, ◌≢◌, ℕ, List, None, Ok, IfOk};
 ghost use Rattle.jfr_header.specs.Fronts.{Whole};
 ghost use Rattle.jfr_plan.specs.Clauses.{over, Ran, CanCreate};
@@ -89,7 +89,7 @@ pub fn receipt_stream<P: Place>(
     ensures ran { Ran (over (receipting filter.now receipt.now) input.now) result
         (alone (P.state place.old)) (alone (P.state place.new)) }
 
-    // The call brings no write fault about by itself.
+    // If the output can be created, there is no write fault.
     ensures can_create { CanCreate receipt.now (P.state place.old)
         → (result ≢ Ending.WriteFault) × ((P.state place.new).write_faults ≡ (P.state place.old).write_faults) }
 {

@@ -27,7 +27,7 @@ pub record Used (p : Parts) (kept : List EventAt) (t : ℕ × ℕ) : Type 0 wher
   pub leads_there : leads p event.node path ≡ Some node
   pub refers : target p.classes p.bytes node ≡ Some t
 
--- The same by a computation: what the kept events and the entries that remain refer to.
+-- The same keys, computed: what the kept events and the entries that remain refer to.
 unfoldable pub used_keys : Parts → List EventAt → List (ℕ × ℕ)
 used_keys p kept = all_targets p (nodes_of kept ++ map entry_node (remain p kept))
 
@@ -35,7 +35,7 @@ used_keys p kept = all_targets p (nodes_of kept ++ map entry_node (remain p kept
 abbrev pub pair_of : EntryAt → ℕ × ℕ
 pair_of e = (e.class, e.key)
 
--- Whether there are two entries, with equal bytes of the value.
+-- Whether both are entries, and their values have equal bytes.
 abbrev pub equal_values : List ℕ → Option EntryAt → Option EntryAt → Bool
 equal_values c None other = false
 equal_values c (Some e) None = false
@@ -98,7 +98,7 @@ whole_bytes new p r (Some e) = event_bytes new p e
 whole_bytes new p r None = record_bytes p.bytes r
 
 -- The bytes of an output record at this offset in the output, with the older checkpoint at `older`, if there is
--- one. These entries are left.
+-- one. `left` are the entries of the output.
 abbrev pub new_bytes : (ℕ × ℕ → ℕ) → Parts → List EventAt → List EntryAt → OutputRecord → ℕ → Option ℕ → List ℕ
 new_bytes new p kept left (Whole r) at older = whole_bytes new p r (find (λ e. e.record_of.at == r.at) kept)
 new_bytes new p kept left (Rebuilt r x) at older = x

@@ -1,4 +1,4 @@
-//! The new keys of all that is used.
+//! The new keys of all used pairs of a class and a key.
 ghost use Rattle.std.specs.Prelude.{◌≡◌, ℕ, ◌++◌, ◌<◌, [], ◌∷◌, length, map, slice_get, if◌then◌else◌, IfOk, IfSome, OnOk};
 ghost use Rattle.jfr_chunk.specs.Parts.{events_of};
 ghost use Rattle.jfr_chunk.specs.Reach.{kept_by, marked, reached_marks};
@@ -17,7 +17,7 @@ use jfr_reach::Marks;
 use std::alloc::Global;
 use std::marker::Model;
 
-/// The new keys of all classes and keys that are used.
+/// The used pairs of a class and a key, in order, and the new key of each.
 #[derive(Drop)]
 pub(crate) struct NumberedKeys {
     pairs: Vec<(u64, u64)>,
@@ -78,6 +78,7 @@ impl NewKeys for NumberedKeys {
         self.get(class, key).unwrap_or(0)
     }
 
+    // The proof gets the invariant of `self` by reading a field.
     fn zero_stays(&self) {
         let _pairs = &self.pairs;
     }
@@ -107,7 +108,7 @@ fn pair_at(entries: &[EntryAt], at: usize) -> (u64, u64)
     (entries[at].class, entries[at].key)
 }
 
-// Adds a class and a key if they are kept.
+// Adds a class and a key if `keep` is true.
 fn push_if(pairs: &mut Vec<(u64, u64)>, pair: (u64, u64), keep: bool) -> Result<(), NoMemory>
     ensures ok { OnOk result (pairs.new.items ≡ pairs.old.items ++ (if keep then pair ∷ [] else [])) }
 {

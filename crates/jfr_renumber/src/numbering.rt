@@ -31,7 +31,7 @@ pub(crate) fn number_class<'a>(alloc: Global, keys: &[UsedKey<'a>]) -> Result<Ve
             numbers.push(number)?;
             continue;
         }
-        keep(&mut firsts, value, next)?;
+        remember(&mut firsts, value, next)?;
         numbers.push(next)?;
         next += 1;
     }
@@ -46,7 +46,7 @@ fn known<'a>(firsts: &BTreeMap<&'a [u8], u64>, value: Option<&'a [u8]>) -> Optio
 }
 
 // Gives a number to a value, if there is one.
-fn keep<'a>(
+fn remember<'a>(
     firsts: &mut BTreeMap<&'a [u8], u64>,
     value: Option<&'a [u8]>,
     number: u64,

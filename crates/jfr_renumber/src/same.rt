@@ -6,7 +6,7 @@ ghost use Rattle.jfr_value.specs.Reading.{base_format};
 
 use jfr_text::{is_bare, read_string, short_units_end};
 
-/// Whether the byte at `at` is 0.
+/// Whether `at` is before `end` and the byte there is 0.
 #[inline(always)]
 pub(crate) fn is_zero(bytes: &[u8], at: usize, end: usize) -> bool
     requires within { end ≤ length bytes.now }

@@ -76,7 +76,7 @@ pub fn renumber_stream<P: Place>(
     ensures ran { Ran (over (renumbering filter.now output.now) input.now) result
         (alone (P.state place.old)) (alone (P.state place.new)) }
 
-    // The call brings no write fault about by itself.
+    // If the output can be created, there is no write fault.
     ensures can_create { CanCreate output.now (P.state place.old)
         → (result ≢ Ending.WriteFault) × ((P.state place.new).write_faults ≡ (P.state place.old).write_faults) }
 {

@@ -40,7 +40,7 @@ pub record IsScrubOf (g : Given) (x y : List ℕ) : Type 0 where
 abbrev pub recording_scrubbed : Given → List ℕ → List ℕ
 recording_scrubbed g x = joined (map (scrubbed g) (before_refused refusal_of (cut x 0 true).chunks))
 
--- Each part before the last is good.
+-- `Good` holds for each part before the last.
 abbrev pub AllButLast : (List ℕ → Type 0) → List (List ℕ) → Type 0
 AllButLast Good [] = ⊤
 AllButLast Good (x ∷ []) = ⊤

@@ -1,4 +1,4 @@
-// The command that joins the chunks of a folder's files.
+//! The command that joins the chunks of a folder's files.
 ghost use Rattle.std.specs.Prelude.{◌≡◌, ◌≢◌, ℕ, List, [], map, string_bytes, IfSome, OnOk, IfOk, IfErr, MatchResult};
 ghost use Rattle.std.specs.FinMap as fin;
 ghost use Rattle.jfr_outside.specs.World.{Files};
@@ -85,7 +85,7 @@ fn join_files<P: Place>(alloc: Global, place: &mut P, files: &[String]) -> Endin
     }
 }
 
-// Joins the files. There must be at least one.
+// Joins the files. Refused as `NoChunk` if there are none.
 fn join_some<P: Place>(alloc: Global, place: &mut P, files: &[String]) -> Ending
     ensures told { (output : List ℕ) (contents : List (List ℕ))
         → IfSome (P.state place.old).told (CanJoin output (map (λ f. string_bytes f) files.now) contents)
@@ -121,12 +121,12 @@ fn list_files<P: Place>(alloc: Global, place: &mut P, folder: &str) -> Result<Ve
 
 /// Joins the chunks of a folder's files whose names end in `.jfr`: lists the folder, creates the
 /// output, opens the files one after another in byte order of their names, appends each chunk, and
-/// finishes the output. Each file has to have a chunk at least, and the folder such a file.
+/// finishes the output. Each file must have at least one chunk, and the folder at least one such file.
 pub fn assemble<P: Place>(alloc: Global, place: &mut P, folder: &str, out: &str) -> Ending
     ensures ran { Ran (joins folder.now out.now) result
         (alone (P.state place.old)) (alone (P.state place.new)) }
 
-    // The call brings no write fault about by itself.
+    // If the output can be created, there is no write fault.
     ensures can_create { CanCreate out.now (P.state place.old)
         → (result ≢ Ending.WriteFault) × ((P.state place.new).write_faults ≡ (P.state place.old).write_faults) }
 {

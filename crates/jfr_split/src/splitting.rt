@@ -65,7 +65,7 @@ pub fn disassemble<P: Place>(alloc: Global, place: &mut P, file: &str, rule: &Sp
         → Ended (over (splitting rule.now file.now) file.now) TooMany
         (alone (P.state place.old)) (alone (P.state place.new)) }
 
-    // The call brings no write fault about by itself.
+    // If the outputs can be created, there is no write fault.
     ensures can_create { CanCreateAll (splitting rule.now file.now) file.now (P.state place.old)
         → (result ≢ Ending.WriteFault) × ((P.state place.new).write_faults ≡ (P.state place.old).write_faults) }
 {

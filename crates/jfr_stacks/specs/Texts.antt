@@ -28,10 +28,11 @@ escaped c = if is_special c then codes "\\u00" ++ hex_digit (c / 16) ∷ hex_dig
 unfoldable pub name_text : Parts → NodeAt → List (List ℕ) → List ℕ
 name_text p n names = option_map_or (flat_map escaped) (option_and_then (text_of p) (node_at p n names)) (codes "?")
 
--- The names of the fields that lead from a frame to the name of the method's class, and to the method's name.
+-- The names of the fields that lead from a frame to the name of the method's class.
 abbrev pub type_names : List (List ℕ)
 type_names = codes "method" ∷ codes "type" ∷ codes "name" ∷ codes "string" ∷ []
 
+-- The names of the fields that lead from a frame to the method's name.
 abbrev pub method_names : List (List ℕ)
 method_names = codes "method" ∷ codes "name" ∷ codes "string" ∷ []
 
@@ -66,12 +67,12 @@ pub record LeadsTo (p : Parts) (n : NodeAt) (number : ℕ) : Type 0 where
   pub within : number < length p.entries
   pub same : trace_text p (behind 16 p n) ≡ entry_text p number
 
--- The stack trace in this field is at this place.
+-- The stack trace in this field is at this place. For an inline trace this says nothing.
 abbrev pub IsPlace : Parts → NodeAt → TracePlace → Type 0
 IsPlace p n (Entry number) = LeadsTo p n number
 IsPlace p n Missing = trace_text p (behind 16 p n) ≡ None
 IsPlace p n Inline = ⊤
 
--- The text that was written, if one was.
+-- The text, if `is` says that one was written.
 abbrev pub written : Bool → List ℕ → Option (List ℕ)
 written is text = if is then Some text else None

@@ -46,7 +46,7 @@ impl TraceFields {
         *self.numbers.get(index)?
     }
 
-    /// The field `stackTrace` of an event with these fields; `None` exactly if there is no such field.
+    /// The field `stackTrace` of the event whose value is `fields`; `None` exactly if it has no such field.
     pub(crate) fn find<'a>(&self, chunk: &Chunk<'a>, fields: &Node<'a>) -> Option<Node<'a>>
         requires classes { self.now ≡ trace_fields chunk.now.classes }
         requires value { IsValue chunk.now.classes fields.now }

@@ -20,7 +20,7 @@ use std::alloc::Global;
 
 /// Checks that the output `b` means the same as the input `a` with the events that the filter keeps, by the
 /// receipt of `b` at the start of `receipt`. `Ok` has the length of that receipt; more bytes may follow it.
-/// Otherwise the first check that fails is the doubt.
+/// `Err` has the first doubt, or `Memory`.
 pub fn check(
     alloc: Global,
     a: &Chunk<'_>,
@@ -50,7 +50,7 @@ fn answer(checked: Result<Result<usize, Doubt>, NoMemory>) -> Result<usize, Chec
     }
 }
 
-/// As `check`, for these kept events.
+/// As `check`, for these kept events: the inner `Err` has the doubt.
 fn check_kept(
     alloc: Global,
     a: &Chunk<'_>,

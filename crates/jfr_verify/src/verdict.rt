@@ -23,7 +23,7 @@ pub enum Verdict {
 }
 
 impl Verdict {
-    /// The verdict after a call of the place that failed.
+    /// The verdict if a call of the place failed.
     pub(crate) fn of_read(fault: Fault) -> Verdict
         ensures { result ≡ after_read fault }
     {
@@ -33,7 +33,7 @@ impl Verdict {
         }
     }
 
-    /// The verdict after receipts that could not be read.
+    /// The verdict if the receipts could not be read.
     pub(crate) fn of_receipts(fault: FileFault) -> Verdict
         ensures { result ≡ after_receipts fault }
     {
@@ -47,7 +47,7 @@ impl Verdict {
         }
     }
 
-    /// The verdict after a chunk of the output that could not be read, by the chunk's number.
+    /// The verdict if chunk `number` of the output could not be read.
     pub(crate) fn of_output(number: u64, fault: ReadFault) -> Verdict
         ensures { result ≡ after_output number fault }
     {
@@ -60,7 +60,7 @@ impl Verdict {
         }
     }
 
-    /// The verdict after a chunk of the input that could not be read, by the chunk's number.
+    /// The verdict if chunk `number` of the input could not be read.
     pub(crate) fn of_chunk(number: u64, fault: ReadFault) -> Verdict
         ensures { result ≡ after_chunk number fault }
     {
@@ -74,7 +74,7 @@ impl Verdict {
         }
     }
 
-    /// The verdict after a pair of chunks that isn't accepted, by the number of the chunks.
+    /// The verdict if `check` fails for the chunks with this number.
     pub(crate) fn of_check(number: u64, fault: CheckFault) -> Verdict
         ensures { result ≡ after_check number fault }
     {
