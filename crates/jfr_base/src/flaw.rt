@@ -45,7 +45,7 @@ pub struct Refusal {
     pub reason: Reason,
 }
 
-/// The line that the program writes of a refusal.
+/// The line that the program writes for a refusal, without the newline.
 impl fmt::Display for Refusal {
     fn fmt<W: fmt::Write>(&self, f: &mut fmt::Formatter<W>) -> fmt::Result {
         write!(

@@ -23,8 +23,8 @@ pub enum Reason {
     ChunkSize,
     /// Fewer bytes are left than the chunk's size in the header.
     ShortChunk,
-    /// There is no record: its size or its type doesn't end within the chunk, or the size is less than these
-    /// two take, or reaches past the chunk's end.
+    /// No record starts at the offset: the size or the type there doesn't end within the chunk, or the size is
+    /// less than these two take, or reaches past the chunk's end.
     RecordSize,
     /// No metadata record starts where the header says.
     MetadataPosition,

@@ -8,7 +8,7 @@ use jfr_verify::Doubt;
 pub enum Answer {
     /// The words aren't an order.
     Usage,
-    /// The order was carried out, or refused, or a call failed.
+    /// The command ended: it is done, or ended early, such as at a refused chunk or a failed call.
     Ended(Ending),
     /// A check has a doubt about the chunk with this number.
     Doubted { chunk: u64, doubt: Doubt },

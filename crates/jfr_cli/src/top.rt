@@ -48,7 +48,7 @@ fn obey<P: Place, O: Sink>(alloc: Global, words: &Words, place: &mut P, out: &mu
 
 /// Carries out the order that the words give, over a place and the output sink. Unless it succeeds, writes a
 /// line to the error sink. Returns the exit status: 0 done, 1 usage error, 2 recording refused, 3 read fault,
-/// 4 write fault, 5 out of memory, 6 too many parts, 7 a doubt about an output, 8 a text that isn't built.
+/// 4 write fault, 5 out of memory, 6 too many parts, 7 a doubt about an output, 8 a refused text for `build`.
 pub fn run<P: Place, O: Sink, E: Sink>(
     alloc: Global,
     words: &Words,
@@ -61,10 +61,10 @@ pub fn run<P: Place, O: Sink, E: Sink>(
     ensures usage_only { order_of words.now ≡ None → (result ≡ 1) ⊎ (result ≡ 5) }
     ensures untouched { order_of words.now ≡ None → (P.state place.new ≡ P.state place.old) × (O.state out.new ≡ O.state out.old) }
 
-    // With 0 and 2 the output of a scrub holds the scrub of each chunk before the first refused one: a chunk
+    // With 0 or 2 the output of a scrub holds the scrub of each chunk before the first refused one: a chunk
     // that is accepted again, with exactly the events that the filter keeps and exactly the constants that
-    // they reach, and of the same meaning. `each` says the same of every chunk, so also of what other statuses
-    // leave.
+    // they reach, and of the same meaning. `each` says this of the scrub of every accepted chunk, so also if
+    // the status is another.
     ensures headline { (result ≡ 0) ⊎ (result ≡ 2) → (g : Given) (input output : List ℕ) → order_of words.now ≡ Some (orders.Scrub g false input output)
         → Told (P.state place.old).told (P.state place.new).told (Scrubs g (file_name input) (file_name output)) }
     ensures each { (g : Given) (c : List ℕ) → Whole c → refusal_of c ≡ None → IsScrubbed g c (scrubbed g c) }
@@ -75,12 +75,12 @@ pub fn run<P: Place, O: Sink, E: Sink>(
         → Told (P.state place.old).told (P.state place.new).told (Renumbers g (file_name input) (file_name output)) }
     ensures each_renumbered { (g : Given) (c : List ℕ) → Whole c → refusal_of c ≡ None → IsRenumberedOutput g c (renumbered g c) }
 
-    // A receipt file holds, for each such chunk, a receipt with which the chunk and its scrub pass the checks.
+    // With the receipt of an accepted chunk, the chunk and its scrub pass the checks.
     ensures each_receipt { (g : Given) (c : List ℕ) → Whole c → refusal_of c ≡ None → IsReceipted g c (scrub_receipt g c) }
 
-    // With 0 a check found that each chunk of the output means the same as one of the input with the events
-    // that the filter keeps, whoever made it. Without a fault it finds this of a scrub with its own receipts,
-    // unless memory runs out.
+    // With 0 a check found that each chunk of the output, whoever made it, means the same as the chunk of the
+    // input with this number, reduced to the events that the filter keeps. If no call fails and memory doesn't
+    // run out, a check finds this of every scrub with its own receipts.
     ensures verified { result ≡ 0 → (g : Given) (input output receipt : List ℕ) → order_of words.now ≡ Some (orders.Verify g input output receipt)
         → IfSome (P.state place.old).told (λ w. (count : ℕ) × AllVerified g (three (file_name input) (file_name output) (file_name receipt) w) count) }
     ensures scrubs_verified { (g : Given) (input output receipt : List ℕ) → order_of words.now ≡ Some (orders.Verify g input output receipt)
@@ -88,8 +88,8 @@ pub fn run<P: Place, O: Sink, E: Sink>(
         → IfSome (P.state place.old).told (λ w. AreScrubs g (three (file_name input) (file_name output) (file_name receipt) w) → (result ≡ 0) ⊎ (result ≡ 5)) }
 
     // With 0 the output of a build has the chunk of the text: a chunk that is accepted, with exactly the
-    // classes, the events and the constants of the lines. `each_built` says the same of every chunk that is
-    // built, so also of what other statuses leave.
+    // classes, the events and the constants of the lines. `each_built` says this of every chunk that is
+    // built, so also if the status is another.
     ensures built { result ≡ 0 → (text output : List ℕ) → order_of words.now ≡ Some (orders.Build text output)
         → Told (P.state place.old).told (P.state place.new).told (Builds (file_name text) (file_name output)) }
     ensures each_built { (text chunk : List ℕ) → build_of text ≡ Ok chunk → IsBuiltOf text chunk }

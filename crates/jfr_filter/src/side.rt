@@ -9,17 +9,17 @@ use thiserror::Error;
 /// dropped.
 #[derive(Clone, Copy, Debug, PartialEq, Eq)]
 pub enum Side {
-    /// Keeps the events whose class name or simple name matches.
+    /// Keeps only the events whose class name or simple name matches.
     IncludeEvents,
-    /// Drops them.
+    /// Drops the events whose class name or simple name matches.
     ExcludeEvents,
-    /// Keeps the events of which a category matches.
+    /// Keeps only the events with a category that matches.
     IncludeCategories,
-    /// Drops them.
+    /// Drops the events with a category that matches.
     ExcludeCategories,
-    /// Keeps the events whose thread text matches.
+    /// Keeps only the events whose thread text matches.
     IncludeThreads,
-    /// Drops them.
+    /// Drops the events whose thread text matches.
     ExcludeThreads,
 }
 

@@ -21,7 +21,7 @@ pub struct Framed {
     pub size: usize,
     /// The offset of its type, which follows the size.
     pub type_at: usize,
-    /// `METADATA_TYPE`, `CHECKPOINT_TYPE`, or the id of an event class, if there is one with this id.
+    /// `METADATA_TYPE`, `CHECKPOINT_TYPE`, or another number: the class's id if the record is an event.
     pub type_id: u64,
     /// The offset of its body, which follows the type.
     pub body: usize,

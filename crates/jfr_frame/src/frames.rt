@@ -35,8 +35,8 @@ impl<'a> Model for Frames<'a> {
 
 impl<'a> Frames<'a> {
     /// Reads the records of a chunk. They are refused as `RecordSize` at the first offset where no record
-    /// starts. `Memory` if memory runs out, and for 2^32 bytes or more, whose offsets a start can't hold;
-    /// chunks are far smaller.
+    /// starts. `Memory` if memory runs out, and for 2^32 bytes or more, whose offsets a `Start` can't
+    /// hold; chunks are far smaller.
     pub fn read(alloc: Global, chunk: &'a [u8]) -> Result<Frames<'a>, ReadFault>
         requires { 68 ≤ length chunk.now }
         ensures ok { IfOk result (λ rs. AreRecords chunk.now rs) }

@@ -116,7 +116,7 @@ pub(crate) fn id_of(text: &str) -> Option<u64>
     }
 }
 
-/// The value of a mark: set or clear according to its text, and clear if it is absent; `None` for any other
+/// The value of a mark: true if its text is `set`, false if it is `clear` or absent; `None` for any other
 /// text.
 pub(crate) fn flag_of(value: Option<&str>, set: &str, clear: &str) -> Option<bool>
     requires set { IsWord set.now }

@@ -77,7 +77,8 @@ fn is_found_by(strings: &Words, element: &Element, found: bool) -> bool
     has_name(strings, element, "metadata")
 }
 
-/// Writes a child of the root. The first element `metadata` has only the needed children.
+/// Writes a child of the root; if it is the first element `metadata`, with only the needed children. `found`
+/// is whether there was an earlier one.
 fn push_child<'a>(
     tree: &mut NewTree<'a>,
     strings: &'a Words,

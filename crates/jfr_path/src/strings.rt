@@ -34,7 +34,7 @@ impl<'c> Model for StringVerdicts<'c> {
 }
 
 impl<'c> StringVerdicts<'c> {
-    /// No string has been matched yet. It allocates nothing.
+    /// The two options, without results yet. It allocates nothing.
     pub(crate) fn new(
         alloc: Global,
         filter: &'c Filter,

@@ -45,7 +45,7 @@ impl<'c, 'a> Model for TextVerdicts<'c, 'a> {
 }
 
 impl<'c, 'a> TextVerdicts<'c, 'a> {
-    /// No name has been matched yet. It allocates nothing.
+    /// No verdicts yet. It allocates nothing.
     pub(crate) fn new(
         alloc: Global,
         chunk: &'c Chunk<'a>,

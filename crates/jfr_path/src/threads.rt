@@ -37,7 +37,7 @@ impl<'c, 'a> Model for ThreadVerdicts<'c, 'a> {
 }
 
 impl<'c, 'a> ThreadVerdicts<'c, 'a> {
-    /// No thread has been looked up yet. It allocates nothing.
+    /// No verdicts yet. It allocates nothing.
     pub(crate) fn new(
         alloc: Global,
         chunk: &'c Chunk<'a>,

@@ -34,7 +34,7 @@ over r input = record {
   target = r.target;
 }
 
--- If the place tells its files, the claim holds of the files and of the text written, before and after a call.
+-- If the place's files are known, the claim holds of them and of the text written, before and after a call.
 abbrev pub Stands : Outside → Outside → (World → World → Stand → Stand → Type 0) → Type 0
 Stands a b P = Told a.place.told b.place.told (λ w v. P w v (stand w a.sink.written) (stand v b.sink.written))
 
@@ -69,7 +69,7 @@ write_count File a = a.place.write_faults
 write_count Parts a = a.place.write_faults
 write_count Text a = a.sink.faults
 
--- If the place tells its files and neither count rose, the way is the plan's end, or memory ran out.
+-- If the place's files are known and neither count rose, the way is the plan's end, or memory ran out.
 abbrev pub IsComplete : Task → Way → Outside → Outside → Type 0
 IsComplete k way a b =
     (Rose a.place.read_faults b.place.read_faults → ⊥)
@@ -81,7 +81,7 @@ pub record Ran (task : Task) (result : Ending) (before after : Outside) : Type 0
   -- What is there after the call, and which counts rose, by the answer.
   pub told : Leaves task (way_of result) before after
   pub counts : Tallied task.target (way_of result) before after
-  -- What is there after each answer, if the place tells its files.
+  -- What is there after each answer, if the place's files are known.
   pub done : result ≡ ending.Done → Ended task Fine before after
   pub refused : (r : Refusal) → result ≡ ending.Refused r → Ended task (Refused r) before after
   pub halted : result ≡ ending.ReadFault → Halted task before after

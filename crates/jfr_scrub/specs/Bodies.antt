@@ -22,11 +22,11 @@ pub record Progress : Type 0 where
   pub older : Option ℕ
   pub metadata : Option ℕ
 
--- The body that a value of the code's type holds.
+-- The body so far that the code's `Body` holds.
 abbrev pub progress_of : Body → Progress
 progress_of b = record { output = laying_of b.output; at = b.at; older = b.older; metadata = b.metadata }
 
--- The output record takes no more bytes than its record.
+-- The output record takes no more bytes than the record of the chunk from which it is made.
 abbrev pub OutputRecordFits : List ℕ → List EntryAt → OutputRecord → ℕ → Option ℕ → Type 0
 OutputRecordFits c left (Whole r) at older = IsRecord c r
 OutputRecordFits c left (Rebuilt r x) at older = IsRecord c r × (1 ≤ length x) × (length x ≤ r.size)

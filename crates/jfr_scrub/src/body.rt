@@ -22,7 +22,7 @@ use jfr_outside::NoMemory;
 use jfr_pool::EntryAt;
 use std::alloc::Global;
 
-/// The body so far: its bytes, the offset of the next byte, and the offsets of the newest checkpoint and of
+/// The body so far: its bytes, the offset of the next byte, and the offsets of the last checkpoint and of
 /// the metadata record, if they have been laid out.
 #[derive(Drop)]
 pub(crate) struct Body<'a> {

@@ -8,7 +8,7 @@ use jfr_output::Cursor;
 
 /// The number of consecutive records, from the cursor's on, that are events. Event numbers rise with record
 /// numbers: if record `r + k` is event `e + k`, all `k` records between are events. So only a few records
-/// have to be tested, at offsets that first double and are then halved.
+/// have to be tested: first at offsets that double, and then by binary search.
 pub(crate) fn events_ahead(chunk: &Chunk, cursor: &Cursor) -> usize
     requires { IsAtEvents chunk.now cursor.now }
     ensures each { (offset : ℕ) → offset < result → HasEventAt chunk.now cursor.now offset }
@@ -18,7 +18,7 @@ pub(crate) fn events_ahead(chunk: &Chunk, cursor: &Cursor) -> usize
     other_by_halving(chunk, cursor, high - high / 2, high)
 }
 
-// An offset at which the record isn't the event, though the records at all offsets below half of it are.
+// An offset at which `is_event_at` is false, though it is true at all offsets below half of this one.
 fn other_by_doubling(chunk: &Chunk, cursor: &Cursor) -> usize
     requires { IsAtEvents chunk.now cursor.now }
     ensures room { HasRoom cursor.now result }
@@ -34,7 +34,7 @@ fn other_by_doubling(chunk: &Chunk, cursor: &Cursor) -> usize
     high
 }
 
-// The first offset at which the record isn't the event. It lies between `low` and `high`.
+// The first offset at which `is_event_at` is false. It is at least `low` and at most `high`.
 fn other_by_halving(chunk: &Chunk, cursor: &Cursor, mut low: usize, mut high: usize) -> usize
     requires at { IsAtEvents chunk.now cursor.now }
     requires room { HasRoom cursor.now high }

@@ -23,7 +23,7 @@ pub fn scrubbed_again_stays_the_same()
 {}
 
 /// Scrubbing ends well exactly if the recording is cut into chunks without a flaw and none of them is
-/// refused. Then the chunks before a refused one are all chunks.
+/// refused. Then no chunk is left out: those before the first refused one are all chunks.
 pub fn scrubbing_ends_well(output: &[u8], recording: &[u8])
     ensures exactly { (g : Given) → ((plan_after (scrubbing g output.now) [] (Some recording.now)).end ≡ Some Fine) ↔ AllAccepted refusal_of recording.now }
     ensures all { (g : Given) → (plan_after (scrubbing g output.now) [] (Some recording.now)).end ≡ Some Fine

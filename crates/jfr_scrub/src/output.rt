@@ -34,7 +34,7 @@ impl<'a> Model for Output<'a> {
 }
 
 impl<'a> Output<'a> {
-    /// Nothing is laid out yet.
+    /// An output with nothing laid out yet.
     pub(crate) fn new(alloc: Global, chunk: &'a [u8]) -> Output<'a>
         ensures bytes { laying_of result ≡ record { chunk = chunk.now; bytes = [] } }
         ensures made { made_parts result.pieces ≡ [] }

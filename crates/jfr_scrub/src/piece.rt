@@ -8,8 +8,8 @@ pub enum MadePart {
     ChunkHeader,
     /// The size of a checkpoint's record, in the same number of bytes as before.
     CheckpointSize,
-    /// A checkpoint's delta, in two's complement: the number to add to its offset for the offset of the
-    /// checkpoint before it in the chain, or 0 in the first of the chunk.
+    /// A checkpoint's delta, in two's complement: added to the checkpoint's offset, it gives that of the chained
+    /// checkpoint before it in the chunk. It is 0 for the first one.
     CheckpointDelta,
     /// The number of pools of a checkpoint.
     PoolCount,

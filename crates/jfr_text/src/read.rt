@@ -233,7 +233,7 @@ fn skip_short_integers(count: u64, bytes: &[u8], at: usize, end: usize) -> usize
 }
 
 /// Whether the bytes from one offset up to another are integers of one byte each. If there are eight or more,
-/// the last eight are tested as a group, too, which covers the rest after the groups from the front.
+/// groups of eight are tested from the front, and then the last eight, which cover the rest.
 #[inline(always)]
 fn are_short(bytes: &[u8], from: usize, to: usize) -> bool
     requires order { from ≤ to }
@@ -263,8 +263,8 @@ fn skip_short_eights(bytes: &[u8], at: usize, end: usize) -> usize
     place
 }
 
-/// Whether the eight bytes from an offset on are integers of one byte each. They are tested as one word: then
-/// none of the bytes' top bits is set in it.
+/// Whether the eight bytes from an offset on are integers of one byte each. They are tested as one word,
+/// in which none of the bytes' top bits may be set.
 #[inline(always)]
 fn are_eight_short(bytes: &[u8], at: usize) -> bool
     requires { at + 8 ≤ length bytes.now }

@@ -1,4 +1,4 @@
-//! The walk from leaf to leaf that is under `Leaves`, whose caller can stop at any leaf. No command of jfr
+//! The walk from leaf to leaf on which `Leaves` is built; its caller can stop at any leaf. No command of jfr
 //! uses it; it is for other programs that read values.
 ghost use Rattle.std.specs.Prelude.{◌≡◌, ◌≢◌, ◌⊎◌, ◌+◌, ◌*◌, ◌≤◌, ◌<◌, [], ◌∷◌, ◌++◌, length, true, false, Some, if◌then◌else◌, IfSome, MatchOption, slice_get, slice_range};
 ghost use Rattle.jfr_layout.specs.Classes.{Sound, find_class, kind_of};
@@ -37,7 +37,7 @@ pub(crate) enum Progress<'a> {
     Found(Leaf<'a>),
 }
 
-/// What a frame of items still has, as in `Frame::Items`.
+/// The fields of a `Frame::Items` that was taken from the stack.
 #[derive(Clone, Copy)]
 struct RemainingItems {
     shape: Shape,

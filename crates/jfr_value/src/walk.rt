@@ -20,7 +20,7 @@ pub struct Walk<'c, 'a, C> {
     pub bytes: &'a [u8],
     /// The offset by which the value has to end.
     pub end: usize,
-    /// What the visitor looks at.
+    /// What each call of the visitor is given, such as the pools.
     pub with: &'c C,
     ghost within: { end ≤ length bytes.now },
 }

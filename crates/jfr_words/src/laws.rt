@@ -1,4 +1,4 @@
-// Laws of command lines, each the whole contract of a function that does nothing.
+//! Laws of command lines. The functions do nothing; their contracts are the laws.
 ghost use Rattle.std.specs.Prelude.{◌≡◌, ℕ, List, OnSome};
 ghost use Rattle.std.specs.List.{IsDistinct};
 ghost use Rattle.std.specs.List.Sorted.{IsPermutation};

@@ -31,7 +31,7 @@ fn number_of(word: &str) -> Option<u64>
     word.parse::<u64>().ok()
 }
 
-/// The number that a word spells; a usage fault if it is none from `low` to `high`.
+/// The number from `low` to `high` that a word spells; a usage fault if it spells none.
 pub(crate) fn read_number(word: &str, low: u64, high: u64) -> Result<u64, WordsFault>
     ensures read { IsRead (number_in low high (chars word.now)) result (λ number. number) }
     ensures range { IfOk result (λ number. (low ≤ number) × (number ≤ high)) }

@@ -1,4 +1,4 @@
-//! Orders: what a command line asks for. And why words give none.
+//! Orders, which are what a command line asks for, and why words give none.
 use jfr_filter::Filter;
 use jfr_outside::{NoMemory, Text};
 use jfr_split::SplitRule;
@@ -41,7 +41,7 @@ pub enum Order {
         folder: Text,
         output: Text,
     },
-    /// Makes a recording of 1 to 1,000,000 events from a seed.
+    /// Makes a recording of 1 to 1,000,000 events from a seed, scrubs it, and prints what is left.
     Sample {
         seed: u32,
         events: u32,
@@ -65,7 +65,7 @@ pub enum Order {
         filter: Filter,
         file: Text,
     },
-    /// Builds a recording of the lines of a text.
+    /// Builds a recording from the lines of a text.
     Build {
         text: Text,
         output: Text,

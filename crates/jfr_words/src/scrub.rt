@@ -81,7 +81,7 @@ impl ScrubGiven {
     }
 }
 
-/// The answer that a word gives.
+/// True for the word `yes`, false for `no`; `None` for any other word.
 fn yes_or_no(word: &str) -> Option<bool>
     ensures { result ≡ yes_or_no (chars word.now) }
 {

@@ -97,7 +97,7 @@ impl SplitGiven {
         }
     }
 
-    /// The rule for parts that these options make, with the usual values of those that aren't given.
+    /// The rule for parts that these options make, with the default values of those that aren't given.
     fn rule(self) -> SplitRule
         ensures { result ≡ split_rule self }
     {
