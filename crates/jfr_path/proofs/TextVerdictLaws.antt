@@ -1,5 +1,5 @@
 -- A string depends only on the offsets at which it starts and ends, and so does a filter's verdict on it.
-use Rattle.std.specs.Prelude.{◌≡◌, ℕ, Bool, true, false, List, [], ◌∷◌, Option, Some, None, IfSome, cond, codes, option_and_then, option_map, if◌then◌else◌}
+use Rattle.std.specs.Prelude.{◌≡◌, ℕ, Bool, true, false, List, [], ◌∷◌, Option, Some, None, IfSome, cond, codes, option_and_then, if◌then◌else◌}
 use Rattle.std.specs.BTreeMap as tree
 use Rattle.std.specs.BTreeMap.{BTreeMap, is_at}
 use Rattle.std.specs.Cmp.{Equal-is}
@@ -17,7 +17,7 @@ use Rattle.jfr_value.specs.Nodes.{NodeAt}
 use Rattle.jfr_chunk.specs.Parts.{Parts}
 use Rattle.jfr_chunk.specs.Paths.{content_by, content_in, follow_while, is_reference, named_field, named_text, string_of, text_of}
 use Rattle.jfr_chunk.specs.Chosen.{or_else}
-use Rattle.jfr_path.specs.Threads.{AreTextVerdicts, allows_behind, pair_cmp, said_of, text_behind}
+use Rattle.jfr_path.specs.Threads.{AreTextVerdicts, allows_thread_at, pair_cmp, said_of, thread_text_at}
 
 module _ (s : Content) (r : Option Content) where
   by_kind : (k : Kind) → content_by k r ≡ Some s → r ≡ Some s
@@ -100,14 +100,14 @@ module _ (g : Given) (p : Parts) (n holder : NodeAt) (e : holder ≡ follow_whil
   abbrev text : List ℕ → Option (List ℕ)
   text name = option_and_then (text_of p) (named_field p name holder)
 
-  both : or_else (text (codes "javaName")) (text (codes "osName")) ≡ text_behind p n
+  both : or_else (text (codes "javaName")) (text (codes "osName")) ≡ thread_text_at p n
   both = λ i. or_else (one_name p (codes "javaName") n holder e i) (one_name p (codes "osName") n holder e i)
 
-  pub first_says : (allowed : Bool) → said_of g (text (codes "javaName")) ≡ Some allowed → allowed ≡ allows_behind g p n
+  pub first_says : (allowed : Bool) → said_of g (text (codes "javaName")) ≡ Some allowed → allowed ≡ allows_thread_at g p n
   first_says allowed h = by_first g (text (codes "javaName")) (text (codes "osName")) allowed h ∙ ap (allows_thread g) both
 
-  pub second_says : (allowed : Bool) → said_of g (text (codes "javaName")) ≡ None → said_of g (text (codes "osName")) ≡ Some allowed → allowed ≡ allows_behind g p n
+  pub second_says : (allowed : Bool) → said_of g (text (codes "javaName")) ≡ None → said_of g (text (codes "osName")) ≡ Some allowed → allowed ≡ allows_thread_at g p n
   second_says allowed h k = by_second g (text (codes "javaName")) (text (codes "osName")) allowed h k ∙ ap (allows_thread g) both
 
-  pub none_says : said_of g (text (codes "javaName")) ≡ None → said_of g (text (codes "osName")) ≡ None → allows_thread g None ≡ allows_behind g p n
+  pub none_says : said_of g (text (codes "javaName")) ≡ None → said_of g (text (codes "osName")) ≡ None → allows_thread g None ≡ allows_thread_at g p n
   none_says h k = by_none g (text (codes "javaName")) (text (codes "osName")) h k ∙ ap (allows_thread g) both

@@ -17,7 +17,7 @@ use Rattle.jfr_pool.specs.Entries.{in_force, entry_node}
 use Rattle.jfr_chunk.specs.Parts.{Parts, AreParts}
 use Rattle.jfr_chunk.specs.Paths.{follow, follow_while, is_reference, named_field, named_text}
 use Rattle.jfr_chunk.specs.Chosen.{or_else}
-use Rattle.jfr_path.specs.Threads.{AreVerdicts, IsReferenceTo, allows_behind, pair_cmp}
+use Rattle.jfr_path.specs.Threads.{AreVerdicts, IsReferenceTo, allows_thread_at, pair_cmp}
 use Rattle.jfr_path.proofs.FollowLaws.{followed, ends}
 use Rattle.jfr_path.proofs.NameLaws.{named_next}
 use Rattle.jfr_path.proofs.StepLaws.{sound, value_place}
@@ -58,7 +58,7 @@ module _ (p : Parts) (parts : AreParts p) (t : ℕ × ℕ) where
     pub same_text : (name : List ℕ) (names : List (List ℕ)) → named_text p n (name ∷ names) ≡ named_text p m (name ∷ names)
     same_text name names = named_next p name names n ∙ (ap (option_and_then (λ z. named_text p z names)) (same_field name) ∙ sym (named_next p name names m))
 
-    same_allowed : (g : Given) → allows_behind g p n ≡ allows_behind g p m
+    same_allowed : (g : Given) → allows_thread_at g p n ≡ allows_thread_at g p m
     same_allowed g = ap (allows_thread g) (λ i. or_else (same_text (codes "javaName") [] i) (same_text (codes "osName") [] i))
 
 -- What a reference that the code hands around refers to.
@@ -67,14 +67,14 @@ referred_to p n None v b r e = tt
 referred_to p n (Some t) v b r e = let w = value_place p n b v in record { value = w.0; node = w.1; reference = r; target = sym e }
 
 -- A verdict that was kept.
-pub verdict_kept : (g : Given) (p : Parts) (verdicts : BTreeMap (ℕ × ℕ) Bool) (t : ℕ × ℕ) (n : NodeAt) (allowed : Bool) → AreVerdicts g p verdicts → IsReferenceTo p t n → Some allowed ≡ tree.get pair_cmp verdicts t → allowed ≡ allows_behind g p n
-verdict_kept g p verdicts t n allowed a r e = subst (λ z. IfSome z (λ allowed. allowed ≡ allows_behind g p n)) (sym e) (a.each t n r)
+pub verdict_kept : (g : Given) (p : Parts) (verdicts : BTreeMap (ℕ × ℕ) Bool) (t : ℕ × ℕ) (n : NodeAt) (allowed : Bool) → AreVerdicts g p verdicts → IsReferenceTo p t n → Some allowed ≡ tree.get pair_cmp verdicts t → allowed ≡ allows_thread_at g p n
+verdict_kept g p verdicts t n allowed a r e = subst (λ z. IfSome z (λ allowed. allowed ≡ allows_thread_at g p n)) (sym e) (a.each t n r)
 
 -- A verdict more.
-pub verdicts_next : (g : Given) (p : Parts) (old new : BTreeMap (ℕ × ℕ) Bool) (t : ℕ × ℕ) (n : NodeAt) (allowed : Bool) → AreParts p → AreVerdicts g p old → IsReferenceTo p t n → allowed ≡ allows_behind g p n → tree.Updates pair_cmp old new t (Some allowed) → AreVerdicts g p new
-verdicts_next g p old new t n allowed parts a r e up = record { each = λ u m s. subst (λ z. IfSome z (λ allowed. allowed ≡ allows_behind g p m)) (sym (up.0 u)) (by_key u m s (is_at (pair_cmp t) u) refl) }
+pub verdicts_next : (g : Given) (p : Parts) (old new : BTreeMap (ℕ × ℕ) Bool) (t : ℕ × ℕ) (n : NodeAt) (allowed : Bool) → AreParts p → AreVerdicts g p old → IsReferenceTo p t n → allowed ≡ allows_thread_at g p n → tree.Updates pair_cmp old new t (Some allowed) → AreVerdicts g p new
+verdicts_next g p old new t n allowed parts a r e up = record { each = λ u m s. subst (λ z. IfSome z (λ allowed. allowed ≡ allows_thread_at g p m)) (sym (up.0 u)) (by_key u m s (is_at (pair_cmp t) u) refl) }
   where
-    by_key : (u : ℕ × ℕ) (m : NodeAt) → IsReferenceTo p u m → (b : Bool) → is_at (pair_cmp t) u ≡ b → IfSome (cond b (Some allowed) (tree.get pair_cmp old u)) (λ allowed. allowed ≡ allows_behind g p m)
+    by_key : (u : ℕ × ℕ) (m : NodeAt) → IsReferenceTo p u m → (b : Bool) → is_at (pair_cmp t) u ≡ b → IfSome (cond b (Some allowed) (tree.get pair_cmp old u)) (λ allowed. allowed ≡ allows_thread_at g p m)
     by_key u m s true q =
         let same : t ≡ u = exact_pairs nat_cmp nat_cmp exact_unsigned exact_unsigned t u ((Equal-is (pair_cmp t u)).0 q) in
         e ∙ same_allowed p parts t n m r (subst (λ z. IsReferenceTo p z m) (sym same) s) g

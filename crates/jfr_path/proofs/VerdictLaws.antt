@@ -13,7 +13,7 @@ use Rattle.jfr_chunk.specs.Paths.{follow_while, is_reference, named_field, named
 use Rattle.jfr_chunk.specs.Chosen.{is_chosen, or_else, thread_text}
 use Rattle.jfr_worklist.proofs.Members.{In, contains_in}
 use Rattle.jfr_path.specs.declared.verdict.ClassVerdict.TheVariants.{Kept, Dropped, ByThread}
-use Rattle.jfr_path.specs.Threads.{text_behind}
+use Rattle.jfr_path.specs.Threads.{thread_text_at}
 use Rattle.jfr_path.specs.Verdicts.{IsOfClass, IsVerdict}
 use Rattle.jfr_path.proofs.EventLaws.{event_shape, event_field}
 use Rattle.jfr_path.proofs.FollowLaws.{stays}
@@ -45,19 +45,19 @@ module _ (p : Parts) (c : Class) (e : EventAt) (o : IsOfClass p c e) where
   alone = ap (λ (z : Shape). if z.array then false else z.constant) (event_shape p o.parts e listed)
 
   -- The name of an event's thread is the one that the thread's field leads to.
-  there : thread_text p e ≡ option_and_then (text_behind p) (option_and_then (λ i. child p.classes p.bytes e.node (steps.Field i)) (thread_number c))
+  there : thread_text p e ≡ option_and_then (thread_text_at p) (option_and_then (λ i. child p.classes p.bytes e.node (steps.Field i)) (thread_number c))
   there =
       let found : find_class p.classes e.node.shape.class ≡ Some c = ap (λ (z : Shape). find_class p.classes z.class) (event_shape p o.parts e listed) ∙ o.class in
       (λ i. or_else (named_next p (codes "eventThread") (codes "javaName" ∷ []) e.node i) (named_next p (codes "eventThread") (codes "osName" ∷ []) e.node i))
       ∙ (either_then (λ m. named_text p m (codes "javaName" ∷ [])) (λ m. named_text p m (codes "osName" ∷ [])) (named_field p (codes "eventThread") (follow_while 16 is_reference p e.node))
-      ∙ (ap (λ z. option_and_then (text_behind p) (named_field p (codes "eventThread") z)) (stays is_reference p 16 e.node alone)
-      ∙ ap (λ z. option_and_then (text_behind p) (option_and_then (λ (d : Class). option_and_then (λ i. child p.classes p.bytes e.node (steps.Field i)) (thread_number d)) z)) found))
+      ∙ (ap (λ z. option_and_then (thread_text_at p) (named_field p (codes "eventThread") z)) (stays is_reference p 16 e.node alone)
+      ∙ ap (λ z. option_and_then (thread_text_at p) (option_and_then (λ (d : Class). option_and_then (λ i. child p.classes p.bytes e.node (steps.Field i)) (thread_number d)) z)) found))
 
   none_there : thread_number c ≡ None → thread_text p e ≡ None
-  none_there f = there ∙ ap (λ z. option_and_then (text_behind p) (option_and_then (λ i. child p.classes p.bytes e.node (steps.Field i)) z)) f
+  none_there f = there ∙ ap (λ z. option_and_then (thread_text_at p) (option_and_then (λ i. child p.classes p.bytes e.node (steps.Field i)) z)) f
 
-  one_there : (i : ℕ) (n : NodeAt) → thread_number c ≡ Some i → child p.classes p.bytes e.node (steps.Field i) ≡ Some n → thread_text p e ≡ text_behind p n
-  one_there i n f h = there ∙ (ap (λ z. option_and_then (text_behind p) (option_and_then (λ i. child p.classes p.bytes e.node (steps.Field i)) z)) f ∙ ap (option_and_then (text_behind p)) h)
+  one_there : (i : ℕ) (n : NodeAt) → thread_number c ≡ Some i → child p.classes p.bytes e.node (steps.Field i) ≡ Some n → thread_text p e ≡ thread_text_at p n
+  one_there i n f h = there ∙ (ap (λ z. option_and_then (thread_text_at p) (option_and_then (λ i. child p.classes p.bytes e.node (steps.Field i)) z)) f ∙ ap (option_and_then (thread_text_at p)) h)
 
   module _ (g : Given) where
     by_parts : is_chosen g p e ≡ (allows_class g c.name c.categories && allows_thread g (thread_text p e))

@@ -15,16 +15,16 @@ use Rattle.jfr_chunk.specs.Chosen.{or_else}
 
 -- The name of the thread that a value leads to: its Java name if that has a text, else its name in the
 -- operating system.
-abbrev pub text_behind : Parts → NodeAt → Option (List ℕ)
-text_behind p n = or_else (named_text p n (codes "javaName" ∷ [])) (named_text p n (codes "osName" ∷ []))
+abbrev pub thread_text_at : Parts → NodeAt → Option (List ℕ)
+thread_text_at p n = or_else (named_text p n (codes "javaName" ∷ [])) (named_text p n (codes "osName" ∷ []))
 
 -- Whether the filter allows a thread with this name, if there is a name.
 abbrev pub said_of : Given → Option (List ℕ) → Option Bool
 said_of g text = option_map (λ t. allows_thread g (Some t)) text
 
 -- Whether the filter allows the thread that a value leads to.
-abbrev pub allows_behind : Given → Parts → NodeAt → Bool
-allows_behind g p n = allows_thread g (text_behind p n)
+abbrev pub allows_thread_at : Given → Parts → NodeAt → Bool
+allows_thread_at g p n = allows_thread g (thread_text_at p n)
 
 -- A value of the chunk that is a reference to this class and key.
 pub record IsReferenceTo (p : Parts) (t : ℕ × ℕ) (n : NodeAt) : Type 0 where
@@ -39,7 +39,7 @@ pair_cmp a b = ordering_then (nat_cmp a.0 b.0) (nat_cmp a.1 b.1)
 
 -- Each verdict in the map is right for every reference with its class and key.
 pub record AreVerdicts (g : Given) (p : Parts) (verdicts : BTreeMap (ℕ × ℕ) Bool) : Type 0 where
-  pub each : (t : ℕ × ℕ) (n : NodeAt) → IsReferenceTo p t n → IfSome (tree.get pair_cmp verdicts t) (λ allowed. allowed ≡ allows_behind g p n)
+  pub each : (t : ℕ × ℕ) (n : NodeAt) → IsReferenceTo p t n → IfSome (tree.get pair_cmp verdicts t) (λ allowed. allowed ≡ allows_thread_at g p n)
 
 -- Each verdict in the map is right for a thread whose name is the string between its two offsets; it is
 -- `None` if the string has no text.

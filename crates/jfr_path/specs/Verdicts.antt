@@ -8,7 +8,7 @@ use Rattle.jfr_chunk.specs.Parts.{Parts, EventAt, AreParts, events_of}
 use Rattle.jfr_chunk.specs.Chosen.{is_chosen}
 use Rattle.jfr_path.specs.declared.verdict.ClassVerdict.{ClassVerdict}
 use Rattle.jfr_path.specs.declared.verdict.ClassVerdict.TheVariants.{Kept, Dropped, ByThread}
-use Rattle.jfr_path.specs.Threads.{allows_behind}
+use Rattle.jfr_path.specs.Threads.{allows_thread_at}
 
 -- The event is one of the chunk's, and its class is this one.
 pub record IsOfClass (p : Parts) (c : Class) (e : EventAt) : Type 0 where
@@ -21,7 +21,7 @@ pub record IsOfClass (p : Parts) (c : Class) (e : EventAt) : Type 0 where
 abbrev pub Says : Given → Parts → EventAt → ClassVerdict → Type 0
 Says g p e Kept = is_chosen g p e ≡ true
 Says g p e Dropped = is_chosen g p e ≡ false
-Says g p e (ByThread number) = (n : NodeAt) × (child p.classes p.bytes e.node (steps.Field number) ≡ Some n) × (is_chosen g p e ≡ allows_behind g p n)
+Says g p e (ByThread number) = (n : NodeAt) × (child p.classes p.bytes e.node (steps.Field number) ≡ Some n) × (is_chosen g p e ≡ allows_thread_at g p n)
 
 -- Whether the verdict is that all events of the class are kept.
 abbrev pub is_kept : ClassVerdict → Bool

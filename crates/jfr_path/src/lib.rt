@@ -8,6 +8,7 @@
 
 mod allowed;
 mod chosen;
+mod following;
 mod names;
 mod path;
 mod steps;
@@ -17,6 +18,7 @@ mod threads;
 mod verdict;
 
 pub use chosen::choose;
+pub use following::{MOST_FOLLOWED, follow_references, is_reference, named_field};
 pub use names::{named, node_at, text_at};
 pub use path::Path;
 pub use steps::{fields_of, leads};

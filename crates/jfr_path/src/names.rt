@@ -8,15 +8,13 @@ ghost use Rattle.jfr_path.specs.Places.{node_at};
 ghost use Rattle.jfr_value.specs.Nodes.{IsValue, node_of};
 
 use crate::fields_of;
-use crate::steps::{follow, in_chunk, string_of};
+use crate::following::{MOST_FOLLOWED, follow_keys, follow_references, named_field};
+use crate::steps::{in_chunk, string_of};
 use jfr_base::{NoMemory, Text, Words};
 use jfr_chunk::{Chunk, Event};
 use jfr_text::text_of;
 use jfr_value::{Node, Step, child};
 use std::alloc::Global;
-
-// The most references or keys that are followed in a row, before a field is taken or a text is read.
-const MOST_FOLLOWED: u32 = 16;
 
 /// The text that names lead to from an event's fields. For each name, references are followed, then the field
 /// with this name is taken. At the end, references and keys of strings are followed up to a string. At most
@@ -50,7 +48,7 @@ pub fn node_at<'a>(chunk: &Chunk<'a>, node: &Node<'a>, names: &Words) -> Option<
 {
     chunk.parts_stand();
     let place = named_node(chunk, node, names)?;
-    Some(behind_references(chunk, &place))
+    Some(follow_references(chunk, &place, MOST_FOLLOWED))
 }
 
 /// As `node_at`, but no reference is followed after the last name.
@@ -64,72 +62,10 @@ fn named_node<'a>(chunk: &Chunk<'a>, node: &Node<'a>, names: &Words) -> Option<N
     let mut place = in_chunk(chunk, node);
     for number in 0..names.len() {
         let name = names.get(number)?;
-        let holder = behind_references(chunk, &place);
+        let holder = follow_references(chunk, &place, MOST_FOLLOWED);
         place = named_field(chunk, &holder, name)?;
     }
     Some(place)
-}
-
-/// The field with this name; `None` exactly if the value has no such field.
-pub(crate) fn named_field<'a>(chunk: &Chunk<'a>, node: &Node<'a>, name: &str) -> Option<Node<'a>>
-    requires parts { AreParts chunk.now }
-    requires value { IsValue chunk.now.classes node.now }
-    requires of_chunk { node.now.bytes.now ≡ chunk.now.bytes }
-    ensures exact { option_map node_of result ≡ named_field chunk.now (chars name.now) (node_of node.now) }
-    ensures bytes { IfSome result (λ to. to.bytes.now ≡ chunk.now.bytes) }
-    ensures value { IfSome result (IsValue chunk.now.classes) }
-{
-    let classes = chunk.classes();
-    let number = classes.field_named(node.shape.class, name)?;
-    child(classes, node, &Step::Field(number))
-}
-
-/// The value after following references, at most 16 in a row.
-pub(crate) fn behind_references<'a>(chunk: &Chunk<'a>, node: &Node<'a>) -> Node<'a>
-    requires parts { AreParts chunk.now }
-    requires value { IsValue chunk.now.classes node.now }
-    requires of_chunk { node.now.bytes.now ≡ chunk.now.bytes }
-    ensures exact { node_of result ≡ follow_while 16 is_reference chunk.now (node_of node.now) }
-    ensures bytes { result.bytes.now ≡ chunk.now.bytes }
-    ensures value { IsValue chunk.now.classes result }
-{
-    let mut place = *node;
-    for _ in 0..MOST_FOLLOWED {
-        if !is_reference(&place) {
-            return place;
-        }
-        let Some(next) = follow(chunk, &place) else {
-            return place;
-        };
-        place = next;
-    }
-    place
-}
-
-/// Whether the value is a reference.
-pub(crate) fn is_reference(node: &Node<'_>) -> bool
-    ensures { result ≡ is_reference (node_of node.now) }
-{
-    !node.shape.array && node.shape.constant
-}
-
-/// The value after following references and keys of strings, at most 16 in a row.
-pub(crate) fn behind_keys<'a>(chunk: &Chunk<'a>, node: &Node<'a>) -> Node<'a>
-    requires parts { AreParts chunk.now }
-    requires value { IsValue chunk.now.classes node.now }
-    requires of_chunk { node.now.bytes.now ≡ chunk.now.bytes }
-    ensures exact { node_of result ≡ follow_while 16 always chunk.now (node_of node.now) }
-    ensures bytes { result.bytes.now ≡ chunk.now.bytes }
-    ensures value { IsValue chunk.now.classes result }
-{
-    let mut place = *node;
-    for _ in 0..MOST_FOLLOWED {
-        let Some(next) = follow(chunk, &place) else {
-            return place;
-        };
-        place = next;
-    }
-    place
 }
 
 /// The text of a value of the chunk: references and keys of strings are followed, at most 16 one after another;
@@ -140,7 +76,7 @@ pub fn text_at(alloc: Global, chunk: &Chunk<'_>, node: &Node<'_>) -> Result<Opti
     requires of_chunk { node.now.bytes.now ≡ chunk.now.bytes }
     ensures ok { IfOk result (λ text. text ≡ text_of chunk.now (node_of node.now)) }
 {
-    let last = behind_keys(chunk, &in_chunk(chunk, node));
+    let last = follow_keys(chunk, &in_chunk(chunk, node));
     match string_of(chunk, &last) {
         Some(span) => text_of(alloc, &span),
         None => Ok(None),

@@ -7,6 +7,7 @@ ghost use Rattle.jfr_text.specs.Spans.{content_of};
 ghost use Rattle.jfr_value.specs.Nodes.{IsValue, node_of};
 
 use crate::Path;
+use crate::following::follow;
 use jfr_chunk::{Chunk, Event};
 use jfr_layout::Kind;
 use jfr_text::{StringSpan, read_string};
@@ -74,21 +75,6 @@ fn step<'a>(chunk: &Chunk<'a>, node: &Node<'a>, by: &Step) -> Option<Node<'a>>
         Step::Follow => follow(chunk, node),
         _ => child(chunk.classes(), node, by),
     }
-}
-
-/// The constant to which a reference, or a string that is a key, leads: the value of the entry in force.
-/// `None` exactly if the value is neither, or no such entry is in force.
-pub(crate) fn follow<'a>(chunk: &Chunk<'a>, node: &Node<'a>) -> Option<Node<'a>>
-    requires parts { AreParts chunk.now }
-    requires value { IsValue chunk.now.classes node.now }
-    requires of_chunk { node.now.bytes.now ≡ chunk.now.bytes }
-    ensures exact { option_map node_of result ≡ follow chunk.now (node_of node.now) }
-    ensures bytes { IfSome result (λ to. to.bytes.now ≡ chunk.now.bytes) }
-    ensures value { IfSome result (IsValue chunk.now.classes) }
-{
-    let (class, key) = target(chunk.classes(), node)?;
-    let number = chunk.pools().entry(class, key)?;
-    chunk.entry_node(number)
 }
 
 /// The string of a node; `None` exactly if its value isn't a string.

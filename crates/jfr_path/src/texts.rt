@@ -6,9 +6,9 @@ ghost use Rattle.jfr_chunk.specs.Paths.{named_field, text_of};
 ghost use Rattle.jfr_text.specs.Spans.{content_of};
 ghost use Rattle.jfr_text.specs.Strings as strings;
 ghost use Rattle.jfr_value.specs.Nodes.{IsValue, node_of};
-ghost use Rattle.jfr_path.specs.Threads.{allows_behind, said_of};
+ghost use Rattle.jfr_path.specs.Threads.{allows_thread_at, said_of};
 
-use crate::names::{behind_keys, behind_references, named_field};
+use crate::following::{MOST_FOLLOWED, follow_keys, follow_references, named_field};
 use crate::steps::string_of;
 use jfr_base::NoMemory;
 use jfr_chunk::Chunk;
@@ -71,14 +71,14 @@ impl<'c, 'a> TextVerdicts<'c, 'a> {
 
     /// Whether the filter allows the thread that a value leads to: by its Java name if that has a text, else
     /// by its name in the operating system.
-    pub(crate) fn allows_behind(&mut self, thread: &Node<'a>) -> Result<bool, NoMemory>
+    pub(crate) fn allows_thread_at(&mut self, thread: &Node<'a>) -> Result<bool, NoMemory>
         requires parts { AreParts self.old.chunk }
         requires value { IsValue self.old.chunk.classes thread.now }
         requires of_chunk { thread.now.bytes.now ≡ self.old.chunk.bytes }
-        ensures ok { IfOk result (λ allowed. allowed ≡ allows_behind self.old.filter self.old.chunk (node_of thread.now)) }
+        ensures ok { IfOk result (λ allowed. allowed ≡ allows_thread_at self.old.filter self.old.chunk (node_of thread.now)) }
         ensures same { self.new ≡ self.old }
     {
-        let holder = behind_references(self.chunk, thread);
+        let holder = follow_references(self.chunk, thread, MOST_FOLLOWED);
         if let Some(allowed) = self.says_by(&holder, "javaName")? {
             return Ok(allowed);
         }
@@ -112,7 +112,7 @@ impl<'c, 'a> TextVerdicts<'c, 'a> {
         ensures ok { IfOk result (λ said. said ≡ said_of self.old.filter (text_of self.old.chunk (node_of name.now))) }
         ensures same { self.new ≡ self.old }
     {
-        let last = behind_keys(self.chunk, name);
+        let last = follow_keys(self.chunk, name);
         let Some(span) = string_of(self.chunk, &last) else {
             return Ok(None);
         };

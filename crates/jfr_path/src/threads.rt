@@ -2,9 +2,9 @@
 ghost use Rattle.std.specs.Prelude.{◌≡◌, IfOk, IfSome};
 ghost use Rattle.jfr_chunk.specs.Parts.{AreParts};
 ghost use Rattle.jfr_value.specs.Nodes.{IsValue, node_of};
-ghost use Rattle.jfr_path.specs.Threads.{IsReferenceTo, allows_behind};
+ghost use Rattle.jfr_path.specs.Threads.{IsReferenceTo, allows_thread_at};
 
-use crate::names::is_reference;
+use crate::following::is_reference;
 use crate::texts::TextVerdicts;
 use jfr_base::NoMemory;
 use jfr_chunk::Chunk;
@@ -58,16 +58,16 @@ impl<'c, 'a> ThreadVerdicts<'c, 'a> {
         requires parts { AreParts self.old.chunk }
         requires value { IsValue self.old.chunk.classes thread.now }
         requires of_chunk { thread.now.bytes.now ≡ self.old.chunk.bytes }
-        ensures ok { IfOk result (λ allowed. allowed ≡ allows_behind self.old.filter self.old.chunk (node_of thread.now)) }
+        ensures ok { IfOk result (λ allowed. allowed ≡ allows_thread_at self.old.filter self.old.chunk (node_of thread.now)) }
         ensures same { self.new ≡ self.old }
     {
         let Some(target) = referred(self.texts.chunk(), thread) else {
-            return self.texts.allows_behind(thread);
+            return self.texts.allows_thread_at(thread);
         };
         if let Some(allowed) = self.verdicts.get(&target) {
             return Ok(*allowed);
         }
-        let allowed = self.texts.allows_behind(thread)?;
+        let allowed = self.texts.allows_thread_at(thread)?;
         self.verdicts.insert(target, allowed)?;
         Ok(allowed)
     }
