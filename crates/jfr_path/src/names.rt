@@ -1,8 +1,7 @@
 //! Texts found by the names of fields.
 ghost use Rattle.std.specs.Prelude.{◌≡◌, Some, IfOk, IfSome, option_map, slice_get};
-ghost use Rattle.std.specs.Str.{chars};
-ghost use Rattle.jfr_chunk.specs.Parts.{AreParts, events_of};
-ghost use Rattle.jfr_chunk.specs.Paths.{always, follow_while, is_reference, named_field, named_node, named_text, text_of};
+ghost use Rattle.jfr_chunk.specs.Parts.{events_of};
+ghost use Rattle.jfr_chunk.specs.Paths.{named_node, named_text, text_of};
 ghost use Rattle.jfr_chunk.specs.Seen.{event_at};
 ghost use Rattle.jfr_path.specs.Places.{node_at};
 ghost use Rattle.jfr_value.specs.Nodes.{IsValue, node_of};
@@ -13,7 +12,7 @@ use crate::steps::{in_chunk, string_of};
 use jfr_base::{NoMemory, Text, Words};
 use jfr_chunk::{Chunk, Event};
 use jfr_text::text_of;
-use jfr_value::{Node, Step, child};
+use jfr_value::Node;
 use std::alloc::Global;
 
 /// The text that names lead to from an event's fields. For each name, references are followed, then the field

@@ -1,7 +1,7 @@
 //! Steps from value to value.
 ghost use Rattle.std.specs.Prelude.{◌≡◌, Some, IfSome, option_map, slice_get};
 ghost use Rattle.jfr_chunk.specs.Parts.{AreParts, events_of};
-ghost use Rattle.jfr_chunk.specs.Paths.{follow, leads, step, string_of};
+ghost use Rattle.jfr_chunk.specs.Paths.{leads, step, string_of};
 ghost use Rattle.jfr_chunk.specs.Seen.{event_at};
 ghost use Rattle.jfr_text.specs.Spans.{content_of};
 ghost use Rattle.jfr_value.specs.Nodes.{IsValue, node_of};
@@ -11,7 +11,7 @@ use crate::following::follow;
 use jfr_chunk::{Chunk, Event};
 use jfr_layout::Kind;
 use jfr_text::{StringSpan, read_string};
-use jfr_value::{Node, Step, child, target};
+use jfr_value::{Node, Step, child};
 
 /// The node of an event's fields, where paths start. The node refers to this chunk, even if the event came
 /// from another chunk with the same parts.
