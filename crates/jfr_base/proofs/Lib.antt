@@ -1,5 +1,6 @@
 pub mod AlikeLaws
 pub mod Copies
+pub mod DecimalLaws
 pub mod Ends
 pub mod Exact
 pub mod ExactLaws

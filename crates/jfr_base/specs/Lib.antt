@@ -1,3 +1,4 @@
+pub mod Decimal
 pub mod Formats
 pub mod Integer
 pub mod Laws

@@ -1,9 +1,10 @@
-//! What every layer of the format uses: compressed integers, the language of formats, and the reasons for
+//! What every layer uses: compressed integers, decimal numbers, the language of formats, and the reasons for
 //! which a recording is refused.
 //!
 //! Read `specs/Integer.antt` first, and then `specs/Formats.antt`.
 #![tactic(auto)]
 
+mod decimal;
 mod flaw;
 mod header;
 mod integer;
@@ -13,6 +14,7 @@ mod reason;
 mod text;
 mod words;
 
+pub use decimal::decimal_number;
 pub use flaw::{Flaw, ReadFault, Refusal};
 pub use header::HEADER_LEN;
 pub use integer::{
