@@ -1,6 +1,5 @@
 pub mod AnyOrder
 pub mod Given
-pub mod NumberLaws
 pub mod OptionLaws
 pub mod OrderLaws
 pub mod PrintLaws

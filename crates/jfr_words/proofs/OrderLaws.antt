@@ -19,7 +19,8 @@ use Rattle.jfr_filter.specs.Filters.{Given, nothing_given}
 use Rattle.jfr_filter.specs.declared.side.Side.{Side}
 use Rattle.jfr_words.specs.Filtered.{side_of, filtered_from}
 use Rattle.jfr_words.specs.Names.{only_name, two_names, three_names, name_in}
-use Rattle.jfr_words.specs.Numbers.{number_of, within, number_in}
+use Rattle.jfr_base.specs.Decimal.{decimal_number}
+use Rattle.jfr_words.specs.Numbers.{within, number_in}
 use Rattle.jfr_words.specs.Patterns.{given_with}
 use Rattle.jfr_words.specs.Prints.{no_print_option, print_option_of, print_with, print_goes_on, print_named, print_from}
 use Rattle.jfr_words.specs.Scrubs.{ScrubOption, ScrubGiven, no_scrub_option, scrub_option_of, scrub_with, scrub_named, scrub_from}
@@ -55,7 +56,7 @@ gives_if P false o p u v = v
 
 -- A number is in its range.
 number_within : (low high : ℕ) (word : List ℕ) → Gives (λ n. (low ≤ n) × (n ≤ high)) (number_in low high word)
-number_within low high word = gives_after (λ n. (low ≤ n) × (n ≤ high)) (within low high) (number_of word) (λ n. by_tests n (nat_le low n) (nat_le n high) refl refl)
+number_within low high word = gives_after (λ n. (low ≤ n) × (n ≤ high)) (within low high) (decimal_number word) (λ n. by_tests n (nat_le low n) (nat_le n high) refl refl)
   where
     by_tests : (n : ℕ) (s t : Bool) → nat_le low n ≡ s → nat_le n high ≡ t → Gives (λ n. (low ≤ n) × (n ≤ high)) (if s && t then Some n else None)
     by_tests n true true d e = (grind (arith, nat_tests), grind (arith, nat_tests))

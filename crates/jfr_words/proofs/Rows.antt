@@ -2,7 +2,7 @@
 use Rattle.std.specs.Prelude.{◌≡◌, ◌^◌, true, false, [], ◌∷◌, codes, Some, None, refl}
 use Rattle.jfr_filter.specs.Filters.{nothing_given}
 use Rattle.jfr_words.specs.declared.order.Order.TheVariants.{Print, Summary, Metadata, Scrub, Disassemble, Assemble, Sample, Receipt, Verify, Stacks, Build}
-use Rattle.jfr_words.specs.Numbers.{number_of}
+use Rattle.jfr_base.specs.Decimal.{decimal_number}
 use Rattle.jfr_words.specs.Words.{order_of}
 
 -- Without options a print goes two references deep.
@@ -12,22 +12,22 @@ print_row = refl
 
 print_options_row : order_of (codes "print" ∷ codes "--json" ∷ codes "--depth" ∷ codes "0" ∷ codes "--events" ∷ codes "t.A,jdk.*" ∷ codes "a" ∷ [])
     ≡ Some (Print (record nothing_given { include_events = Some (codes "t.A" ∷ codes "jdk.*" ∷ []) }) 0 true (codes "a"))
-unfolding order_of number_of
+unfolding order_of decimal_number
 print_options_row = refl
 
 -- The options in another order.
 print_reordered_row : order_of (codes "print" ∷ codes "--events" ∷ codes "t.A,jdk.*" ∷ codes "--json" ∷ codes "--depth" ∷ codes "00" ∷ codes "a" ∷ [])
     ≡ Some (Print (record nothing_given { include_events = Some (codes "t.A" ∷ codes "jdk.*" ∷ []) }) 0 true (codes "a"))
-unfolding order_of number_of
+unfolding order_of decimal_number
 print_reordered_row = refl
 
 print_categories_row : order_of (codes "print" ∷ codes "--categories" ∷ codes "Java*" ∷ codes "--depth" ∷ codes "8" ∷ codes "a" ∷ [])
     ≡ Some (Print (record nothing_given { include_categories = Some (codes "Java*" ∷ []) }) 8 false (codes "a"))
-unfolding order_of number_of
+unfolding order_of decimal_number
 print_categories_row = refl
 
 too_deep_row : order_of (codes "print" ∷ codes "--depth" ∷ codes "9" ∷ codes "a" ∷ []) ≡ None
-unfolding order_of number_of
+unfolding order_of decimal_number
 too_deep_row = refl
 
 json_twice_row : order_of (codes "print" ∷ codes "--json" ∷ codes "--json" ∷ codes "a" ∷ []) ≡ None
@@ -127,11 +127,11 @@ disassemble_row = refl
 
 disassemble_options_row : order_of (codes "disassemble" ∷ codes "--max-size" ∷ codes "1099511627776" ∷ codes "--output" ∷ codes "parts" ∷ codes "--max-chunks" ∷ codes "4294967295" ∷ codes "a" ∷ [])
     ≡ Some (Disassemble (codes "a") (record { folder = Some (codes "parts"); max_chunks = 4294967295; max_size = 1099511627776; max_parts = 999999 }))
-unfolding order_of number_of
+unfolding order_of decimal_number
 disassemble_options_row = refl
 
 no_chunks_row : order_of (codes "disassemble" ∷ codes "--max-chunks" ∷ codes "0" ∷ codes "a" ∷ []) ≡ None
-unfolding order_of number_of
+unfolding order_of decimal_number
 no_chunks_row = refl
 
 dashed_folder_row : order_of (codes "disassemble" ∷ codes "--output" ∷ codes "-parts" ∷ codes "a" ∷ []) ≡ None
@@ -147,28 +147,28 @@ unfolding order_of
 build_row = refl
 
 sample_row : order_of (codes "sample" ∷ codes "4294967295" ∷ codes "1000000" ∷ []) ≡ Some (Sample 4294967295 1000000)
-unfolding order_of number_of
+unfolding order_of decimal_number
 sample_row = refl
 
 no_events_row : order_of (codes "sample" ∷ codes "1" ∷ codes "0" ∷ []) ≡ None
-unfolding order_of number_of
+unfolding order_of decimal_number
 no_events_row = refl
 
 large_seed_row : order_of (codes "sample" ∷ codes "4294967296" ∷ codes "1" ∷ []) ≡ None
-unfolding order_of number_of
+unfolding order_of decimal_number
 large_seed_row = refl
 
 -- A number has at most nineteen digits.
 digits_row : order_of (codes "sample" ∷ codes "0000000000000000007" ∷ codes "1" ∷ []) ≡ Some (Sample 7 1)
-unfolding order_of number_of
+unfolding order_of decimal_number
 digits_row = refl
 
 too_many_digits_row : order_of (codes "sample" ∷ codes "00000000000000000007" ∷ codes "1" ∷ []) ≡ None
-unfolding order_of number_of
+unfolding order_of decimal_number
 too_many_digits_row = refl
 
 signed_row : order_of (codes "sample" ∷ codes "+7" ∷ codes "1" ∷ []) ≡ None
-unfolding order_of number_of
+unfolding order_of decimal_number
 signed_row = refl
 
 other_command_row : order_of (codes "frobnicate" ∷ codes "x" ∷ []) ≡ None
