@@ -2,6 +2,7 @@
 use Rattle.std.specs.Prelude.{◌≡◌, [], ◌∷◌, ◌++◌, Some, None, Ok, refl, codes, map}
 use Rattle.bstr.specs.Utf8.{pieces_from}
 use Rattle.jfr_base.specs.Integer.{spell, spell_in}
+use Rattle.jfr_base.specs.Decimal.{decimal_number}
 use Rattle.jfr_base.specs.Formats.{run, int_at}
 use Rattle.jfr_text.specs.Strings.{string_format}
 use Rattle.jfr_layout.specs.Classes.{class_faults, kind_of, is_event_class}
@@ -26,7 +27,7 @@ use Rattle.jfr_chunk.specs.Scrub.{scrub_of}
 use Rattle.jfr_chunk.proofs.Chunks.{header, metadata_a, metadata_b, metadata_none, event_a, event_b, rings, rings_parts, record_a, record_b, entry, entries, classes}
 
 parts : read_parts rings ≡ Ok rings_parts
-unfolding run int_at string_format meta_format body_format element_format pieces_from described class_flaws classes_of class_of field_of shape_of id_of class_faults kind_of read_parts records_of record_at chain_of checkpoint_format class_format value_format is_event_class
+unfolding run int_at string_format meta_format body_format element_format pieces_from described class_flaws classes_of class_of field_of shape_of id_of decimal_number class_faults kind_of read_parts records_of record_at chain_of checkpoint_format class_format value_format is_event_class
 parts = refl
 
 abbrev node_a : NodeAt
@@ -68,17 +69,17 @@ unfolding value_of number_in_force reached_marks remain run int_at string_format
 remaining = refl
 
 only_a : scrub_of rings_parts (first ∷ []) ≡ header 326 307 68 ++ (metadata_a ++ (event_a ++ 19 ∷ 1 ∷ 0 ∷ 0 ∷ 0 ∷ 0 ∷ 1 ∷ 7 ∷ 2 ∷ 1 ∷ 2 ∷ 3 ∷ 1 ∷ 112 ∷ 2 ∷ 1 ∷ 3 ∷ 1 ∷ 113 ∷ []))
-unfolding value_of number_in_force reached_marks remain scrub_of rebuilt stays_in slim_body slim_root table_of retabled stay_marks slim_in encode class_of class_flaws id_of is_event_class spell spell_in run int_at string_format class_format value_format kind_of
+unfolding value_of number_in_force reached_marks remain scrub_of rebuilt stays_in slim_body slim_root table_of retabled stay_marks slim_in encode class_of class_flaws id_of decimal_number is_event_class spell spell_in run int_at string_format class_format value_format kind_of
 only_a = refl
 
 only_b : scrub_of rings_parts (second ∷ []) ≡ header 314 295 68 ++ (metadata_b ++ (event_b ++ 19 ∷ 1 ∷ 0 ∷ 0 ∷ 0 ∷ 0 ∷ 1 ∷ 7 ∷ 2 ∷ 3 ∷ 4 ∷ 3 ∷ 1 ∷ 114 ∷ 4 ∷ 3 ∷ 3 ∷ 1 ∷ 115 ∷ []))
-unfolding value_of number_in_force reached_marks remain scrub_of rebuilt stays_in slim_body slim_root table_of retabled stay_marks slim_in encode class_of class_flaws id_of is_event_class spell spell_in run int_at string_format class_format value_format kind_of
+unfolding value_of number_in_force reached_marks remain scrub_of rebuilt stays_in slim_body slim_root table_of retabled stay_marks slim_in encode class_of class_flaws id_of decimal_number is_event_class spell spell_in run int_at string_format class_format value_format kind_of
 only_b = refl
 
 none_kept : scrub_of rings_parts [] ≡ header 241 234 68 ++ (metadata_none ++ 7 ∷ 1 ∷ 0 ∷ 0 ∷ 0 ∷ 0 ∷ 0 ∷ [])
-unfolding value_of number_in_force reached_marks remain scrub_of rebuilt stays_in slim_body slim_root table_of retabled stay_marks slim_in encode class_of class_flaws id_of is_event_class spell spell_in run int_at string_format class_format value_format kind_of
+unfolding value_of number_in_force reached_marks remain scrub_of rebuilt stays_in slim_body slim_root table_of retabled stay_marks slim_in encode class_of class_flaws id_of decimal_number is_event_class spell spell_in run int_at string_format class_format value_format kind_of
 none_kept = refl
 
 all_kept : scrub_of rings_parts (first ∷ second ∷ []) ≡ rings
-unfolding value_of number_in_force reached_marks remain scrub_of rebuilt stays_in slim_body slim_root table_of retabled stay_marks slim_in encode class_of class_flaws id_of is_event_class spell spell_in run int_at string_format class_format value_format kind_of
+unfolding value_of number_in_force reached_marks remain scrub_of rebuilt stays_in slim_body slim_root table_of retabled stay_marks slim_in encode class_of class_flaws id_of decimal_number is_event_class spell spell_in run int_at string_format class_format value_format kind_of
 all_kept = refl

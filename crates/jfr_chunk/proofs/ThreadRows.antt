@@ -2,6 +2,7 @@
 use Rattle.std.specs.Prelude.{◌≡◌, ℕ, List, [], ◌∷◌, ◌++◌, map, Option, Some, None, Result, Ok, Err, refl, codes}
 use Rattle.bstr.specs.Utf8.{pieces_from}
 use Rattle.jfr_base.specs.declared.flaw.Flaw.{Flaw}
+use Rattle.jfr_base.specs.Decimal.{decimal_number}
 use Rattle.jfr_base.specs.Formats.{run, int_at}
 use Rattle.jfr_text.specs.Strings.{string_format}
 use Rattle.jfr_layout.specs.Classes.{class_faults, kind_of, is_event_class}
@@ -28,14 +29,14 @@ texts names (Ok p) = map (λ e. named_text p e.node names) (events_of p)
 texts names (Err flaw) = []
 
 threads : texts (codes "eventThread" ∷ codes "javaName" ∷ []) (read_parts jdk_like) ≡ Some (codes "main") ∷ Some (codes "worker-renamed") ∷ None ∷ []
-unfolding run int_at string_format meta_format body_format element_format pieces_from described class_flaws classes_of class_of field_of shape_of id_of class_faults kind_of read_parts records_of record_at chain_of checkpoint_format class_format value_format is_event_class events_of value_of number_in_force text_of named_text
+unfolding run int_at string_format meta_format body_format element_format pieces_from described class_flaws classes_of class_of field_of shape_of id_of decimal_number class_faults kind_of read_parts records_of record_at chain_of checkpoint_format class_format value_format is_event_class events_of value_of number_in_force text_of named_text
 threads = refl
 
 parked_classes : texts (codes "parkedClass" ∷ codes "name" ∷ codes "string" ∷ []) (read_parts jdk_like) ≡ Some (codes "java/lang/Object") ∷ None ∷ None ∷ []
-unfolding run int_at string_format meta_format body_format element_format pieces_from described class_flaws classes_of class_of field_of shape_of id_of class_faults kind_of read_parts records_of record_at chain_of checkpoint_format class_format value_format is_event_class events_of value_of number_in_force text_of named_text
+unfolding run int_at string_format meta_format body_format element_format pieces_from described class_flaws classes_of class_of field_of shape_of id_of decimal_number class_faults kind_of read_parts records_of record_at chain_of checkpoint_format class_format value_format is_event_class events_of value_of number_in_force text_of named_text
 parked_classes = refl
 
 -- Keys in a ring come to no text.
 no_text : texts (codes "node" ∷ codes "text" ∷ []) (read_parts string_ring) ≡ None ∷ []
-unfolding run int_at string_format meta_format body_format element_format pieces_from described class_flaws classes_of class_of field_of shape_of id_of class_faults kind_of read_parts records_of record_at chain_of checkpoint_format class_format value_format is_event_class events_of value_of number_in_force text_of named_text
+unfolding run int_at string_format meta_format body_format element_format pieces_from described class_flaws classes_of class_of field_of shape_of id_of decimal_number class_faults kind_of read_parts records_of record_at chain_of checkpoint_format class_format value_format is_event_class events_of value_of number_in_force text_of named_text
 no_text = refl

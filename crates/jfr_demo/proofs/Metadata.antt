@@ -3,6 +3,7 @@ use Rattle.std.specs.Prelude.{◌≡◌, ℕ, ◌+◌, ◌≤◌, true, false, L
 use Rattle.std.proofs.Common.{ap, arith, refl, ◌∙◌, subst}
 use Rattle.bstr.specs.Utf8.{pieces_from}
 use Rattle.jfr_base.specs.Integer.{Spells, spell}
+use Rattle.jfr_base.specs.Decimal.{decimal_number}
 use Rattle.jfr_base.specs.Formats.{Answer, Got, Reads, run, int_at}
 use Rattle.jfr_base.proofs.Exact.{Says, run_says}
 use Rattle.jfr_base.proofs.HoldLaws.{Holds, holds_parts, holds_int}
@@ -67,7 +68,7 @@ unfolding sample_body run int_at string_format meta_format body_format element_f
 body_read h more = refl
 
 classes_described : described sample_body ≡ Ok sample_classes
-unfolding sample_body sample_classes run int_at string_format meta_format body_format element_format pieces_from metadata spell described class_flaws classes_of class_of field_of shape_of id_of class_faults kind_of
+unfolding sample_body sample_classes run int_at string_format meta_format body_format element_format pieces_from metadata spell described class_flaws classes_of class_of field_of shape_of id_of decimal_number class_faults kind_of
 classes_described = refl
 
 pub classes_sound : Sound sample_classes

@@ -4,7 +4,6 @@ pub mod Bodies
 pub mod Categories
 pub mod ElementsStand
 pub mod FirstValues
-pub mod IdLaws
 pub mod Judging
 pub mod NamedLaws
 pub mod NameLaws

@@ -3,6 +3,7 @@ use Rattle.std.specs.Prelude.{◌≡◌, ℕ, true, false, List, [], ◌∷◌, 
 use Rattle.bstr.specs.Utf8.{pieces_from}
 use Rattle.jfr_base.specs.declared.reason.Reason.TheVariants.{Short, Trailing, StringKind, StringIndex, TreeDeep, NoClasses, ClassBad, ClassTwice, FieldBad, FieldTwice, UnknownType, EmptyInline, InlineDeep}
 use Rattle.jfr_base.specs.declared.flaw.Flaw.{Flaw}
+use Rattle.jfr_base.specs.Decimal.{decimal_number}
 use Rattle.jfr_base.specs.Formats.{run, int_at, Answer}
 use Rattle.jfr_text.specs.Strings.{string_format}
 use Rattle.jfr_layout.specs.Classes.{Classes, class_faults, kind_of}
@@ -37,7 +38,7 @@ unfolding run int_at string_format meta_format body_format element_format pieces
 rings_is_read = refl
 
 rings_classes : described rings_body ≡ Ok (record { id = 5; name = codes "long"; super_name = None; fields = []; categories = [] } ∷ record { id = 6; name = codes "java.lang.String"; super_name = None; fields = []; categories = [] } ∷ record { id = 7; name = codes "t.Node"; super_name = None; fields = record { name = codes "next"; shape = record { class = 7; constant = true; array = false } } ∷ record { name = codes "text"; shape = record { class = 6; constant = false; array = false } } ∷ []; categories = [] } ∷ record { id = 8; name = codes "t.A"; super_name = Some (codes "jdk.jfr.Event"); fields = record { name = codes "n"; shape = record { class = 5; constant = false; array = false } } ∷ record { name = codes "node"; shape = record { class = 7; constant = true; array = false } } ∷ []; categories = [] } ∷ record { id = 9; name = codes "t.B"; super_name = Some (codes "jdk.jfr.Event"); fields = record { name = codes "node"; shape = record { class = 7; constant = true; array = false } } ∷ []; categories = [] } ∷ [])
-unfolding described class_flaws classes_of class_of field_of shape_of id_of class_faults kind_of
+unfolding described class_flaws classes_of class_of field_of shape_of id_of decimal_number class_faults kind_of
 rings_classes = refl
 
 -- The classes of a record, or its fault.
@@ -46,62 +47,62 @@ answer_of (Ok g) = described g.value
 answer_of (Err f) = Err f
 
 cut_short : answer_of (run meta_format plain 27 2) ≡ Err (record { offset = 27; reason = Short })
-unfolding run int_at string_format meta_format body_format element_format pieces_from described class_flaws classes_of class_of field_of shape_of id_of class_faults kind_of
+unfolding run int_at string_format meta_format body_format element_format pieces_from described class_flaws classes_of class_of field_of shape_of id_of decimal_number class_faults kind_of
 cut_short = refl
 
 left_over : answer_of (run meta_format (plain ++ 0 ∷ []) 29 2) ≡ Err (record { offset = 28; reason = Trailing })
-unfolding run int_at string_format meta_format body_format element_format pieces_from described class_flaws classes_of class_of field_of shape_of id_of class_faults kind_of
+unfolding run int_at string_format meta_format body_format element_format pieces_from described class_flaws classes_of class_of field_of shape_of id_of decimal_number class_faults kind_of
 left_over = refl
 
 a_key : answer_of (run meta_format (slice_set plain 6 2) 28 2) ≡ Err (record { offset = 6; reason = StringKind })
-unfolding run int_at string_format meta_format body_format element_format pieces_from described class_flaws classes_of class_of field_of shape_of id_of class_faults kind_of
+unfolding run int_at string_format meta_format body_format element_format pieces_from described class_flaws classes_of class_of field_of shape_of id_of decimal_number class_faults kind_of
 a_key = refl
 
 no_kind : answer_of (run meta_format (slice_set plain 6 6) 28 2) ≡ Err (record { offset = 6; reason = StringKind })
-unfolding run int_at string_format meta_format body_format element_format pieces_from described class_flaws classes_of class_of field_of shape_of id_of class_faults kind_of
+unfolding run int_at string_format meta_format body_format element_format pieces_from described class_flaws classes_of class_of field_of shape_of id_of decimal_number class_faults kind_of
 no_kind = refl
 
 no_string : answer_of (run meta_format (slice_set plain 22 2) 28 2) ≡ Err (record { offset = 22; reason = StringIndex })
-unfolding run int_at string_format meta_format body_format element_format pieces_from described class_flaws classes_of class_of field_of shape_of id_of class_faults kind_of
+unfolding run int_at string_format meta_format body_format element_format pieces_from described class_flaws classes_of class_of field_of shape_of id_of decimal_number class_faults kind_of
 no_string = refl
 
 no_classes : answer_of (run meta_format (slice_set plain 25 0) 28 2) ≡ Err (record { offset = 22; reason = NoClasses })
-unfolding run int_at string_format meta_format body_format element_format pieces_from described class_flaws classes_of class_of field_of shape_of id_of class_faults kind_of
+unfolding run int_at string_format meta_format body_format element_format pieces_from described class_flaws classes_of class_of field_of shape_of id_of decimal_number class_faults kind_of
 no_classes = refl
 
 too_deep : answer_of (run meta_format (28 ∷ 0 ∷ 0 ∷ 0 ∷ 1 ∷ 2 ∷ 3 ∷ 4 ∷ 114 ∷ 111 ∷ 111 ∷ 116 ∷ 3 ∷ 8 ∷ 109 ∷ 101 ∷ 116 ∷ 97 ∷ 100 ∷ 97 ∷ 116 ∷ 97 ∷ 1 ∷ 0 ∷ 1 ∷ 1 ∷ 0 ∷ 1 ∷ 1 ∷ 0 ∷ 1 ∷ 1 ∷ 0 ∷ 1 ∷ 1 ∷ 0 ∷ 1 ∷ 1 ∷ 0 ∷ 1 ∷ 1 ∷ 0 ∷ 1 ∷ 1 ∷ 0 ∷ 1 ∷ 1 ∷ 0 ∷ 1 ∷ 1 ∷ 0 ∷ 1 ∷ 1 ∷ 0 ∷ 1 ∷ 1 ∷ 0 ∷ 1 ∷ 1 ∷ 0 ∷ 1 ∷ 1 ∷ 0 ∷ 1 ∷ 1 ∷ 0 ∷ 1 ∷ 1 ∷ 0 ∷ 1 ∷ 1 ∷ 0 ∷ 0 ∷ []) 73 2) ≡ Err (record { offset = 70; reason = TreeDeep })
-unfolding run int_at string_format meta_format body_format element_format pieces_from described class_flaws classes_of class_of field_of shape_of id_of class_faults kind_of
+unfolding run int_at string_format meta_format body_format element_format pieces_from described class_flaws classes_of class_of field_of shape_of id_of decimal_number class_faults kind_of
 too_deep = refl
 
 -- Sixteen levels are read.
 not_too_deep : answer_of (run meta_format (28 ∷ 0 ∷ 0 ∷ 0 ∷ 1 ∷ 2 ∷ 3 ∷ 4 ∷ 114 ∷ 111 ∷ 111 ∷ 116 ∷ 3 ∷ 8 ∷ 109 ∷ 101 ∷ 116 ∷ 97 ∷ 100 ∷ 97 ∷ 116 ∷ 97 ∷ 1 ∷ 0 ∷ 1 ∷ 1 ∷ 0 ∷ 1 ∷ 1 ∷ 0 ∷ 1 ∷ 1 ∷ 0 ∷ 1 ∷ 1 ∷ 0 ∷ 1 ∷ 1 ∷ 0 ∷ 1 ∷ 1 ∷ 0 ∷ 1 ∷ 1 ∷ 0 ∷ 1 ∷ 1 ∷ 0 ∷ 1 ∷ 1 ∷ 0 ∷ 1 ∷ 1 ∷ 0 ∷ 1 ∷ 1 ∷ 0 ∷ 1 ∷ 1 ∷ 0 ∷ 1 ∷ 1 ∷ 0 ∷ 1 ∷ 1 ∷ 0 ∷ 1 ∷ 1 ∷ 0 ∷ 0 ∷ []) 70 2) ≡ Ok []
-unfolding run int_at string_format meta_format body_format element_format pieces_from described class_flaws classes_of class_of field_of shape_of id_of class_faults kind_of
+unfolding run int_at string_format meta_format body_format element_format pieces_from described class_flaws classes_of class_of field_of shape_of id_of decimal_number class_faults kind_of
 not_too_deep = refl
 
 class_without_id : answer_of (run meta_format (slice_set rings 182 9) 257 3) ≡ Err (record { offset = 177; reason = ClassBad })
-unfolding run int_at string_format meta_format body_format element_format pieces_from described class_flaws classes_of class_of field_of shape_of id_of class_faults kind_of
+unfolding run int_at string_format meta_format body_format element_format pieces_from described class_flaws classes_of class_of field_of shape_of id_of decimal_number class_faults kind_of
 class_without_id = refl
 
 id_twice : answer_of (run meta_format (slice_set rings 189 15) 257 3) ≡ Err (record { offset = 184; reason = ClassTwice })
-unfolding run int_at string_format meta_format body_format element_format pieces_from described class_flaws classes_of class_of field_of shape_of id_of class_faults kind_of
+unfolding run int_at string_format meta_format body_format element_format pieces_from described class_flaws classes_of class_of field_of shape_of id_of decimal_number class_faults kind_of
 id_twice = refl
 
 field_without_class : answer_of (run meta_format (slice_set rings 212 21) 257 3) ≡ Err (record { offset = 207; reason = FieldBad })
-unfolding run int_at string_format meta_format body_format element_format pieces_from described class_flaws classes_of class_of field_of shape_of id_of class_faults kind_of
+unfolding run int_at string_format meta_format body_format element_format pieces_from described class_flaws classes_of class_of field_of shape_of id_of decimal_number class_faults kind_of
 field_without_class = refl
 
 name_twice : answer_of (run meta_format (slice_set rings 210 20) 257 3) ≡ Err (record { offset = 207; reason = FieldTwice })
-unfolding run int_at string_format meta_format body_format element_format pieces_from described class_flaws classes_of class_of field_of shape_of id_of class_faults kind_of
+unfolding run int_at string_format meta_format body_format element_format pieces_from described class_flaws classes_of class_of field_of shape_of id_of decimal_number class_faults kind_of
 name_twice = refl
 
 class_not_there : answer_of (run meta_format (slice_set rings 177 6) 257 3) ≡ Err (record { offset = 223; reason = UnknownType })
-unfolding run int_at string_format meta_format body_format element_format pieces_from described class_flaws classes_of class_of field_of shape_of id_of class_faults kind_of
+unfolding run int_at string_format meta_format body_format element_format pieces_from described class_flaws classes_of class_of field_of shape_of id_of decimal_number class_faults kind_of
 class_not_there = refl
 
 empty_class_inline : answer_of (run meta_format (slice_set rings 180 13) 257 3) ≡ Err (record { offset = 223; reason = EmptyInline })
-unfolding run int_at string_format meta_format body_format element_format pieces_from described class_flaws classes_of class_of field_of shape_of id_of class_faults kind_of
+unfolding run int_at string_format meta_format body_format element_format pieces_from described class_flaws classes_of class_of field_of shape_of id_of decimal_number class_faults kind_of
 empty_class_inline = refl
 
 within_itself : answer_of (run meta_format (slice_set rings 204 8) 257 3) ≡ Err (record { offset = 191; reason = InlineDeep })
-unfolding run int_at string_format meta_format body_format element_format pieces_from described class_flaws classes_of class_of field_of shape_of id_of class_faults kind_of
+unfolding run int_at string_format meta_format body_format element_format pieces_from described class_flaws classes_of class_of field_of shape_of id_of decimal_number class_faults kind_of
 within_itself = refl

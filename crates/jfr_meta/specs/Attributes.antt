@@ -1,11 +1,11 @@
 -- The attributes of an element, as texts. The first attribute with a key counts.
-use Rattle.std.specs.Prelude.{ℕ, zero, suc, ◌+◌, ◌^◌, Bool, true, false, ◌&&◌, nat_lt, nat_le, List, [], ◌∷◌, ◌++◌, length, filter, find, get_or, Option, Some, None, option_map, option_and_then, if◌then◌else◌, codes, IsTrue}
+use Rattle.std.specs.Prelude.{ℕ, zero, suc, ◌+◌, ◌^◌, Bool, true, false, List, [], ◌∷◌, ◌++◌, length, filter, find, get_or, Option, Some, None, option_map, option_and_then, if◌then◌else◌, codes, IsTrue}
 use Rattle.std.specs.List.{list_all}
 use Rattle.std.specs.Option.{option_map_or, option_to_list}
 use Rattle.std.specs.Str.{bytes_eq}
-use Rattle.std.specs.Str.Parse.{digits_value}
-use Rattle.std.specs.Char.{is_ascii, is_ascii_digit}
+use Rattle.std.specs.Char.{is_ascii}
 use Rattle.std.specs.Fmt.{decimal}
+use Rattle.jfr_base.specs.Decimal.{below, decimal_number}
 use Rattle.jfr_meta.specs.Trees.{Tree, name_of, pairs_of}
 
 -- A word, which is a key or a name of the format's own, has only ASCII characters. So its bytes are its
@@ -36,7 +36,7 @@ named texts name ts = filter (λ t. bytes_eq (text_at texts (name_of t)) name) t
 
 -- The id that a text spells with one to nineteen digits, if its value is below 2 ^ 63.
 unfoldable pub id_of : List ℕ → Option ℕ
-id_of text = if list_all is_ascii_digit text && nat_lt 0 (length text) && nat_le (length text) 19 && nat_lt (digits_value 10 text) (2 ^ 63) then Some (digits_value 10 text) else None
+id_of text = option_and_then (below (2 ^ 63)) (decimal_number text)
 
 -- The value of a mark: set or clear according to its text, clear if it is absent, none for any other text.
 abbrev pub flag_of : Option (List ℕ) → List ℕ → List ℕ → Option Bool

@@ -1,7 +1,5 @@
 //! The attributes of elements, as texts.
 ghost use Rattle.std.specs.Prelude.{◌≡◌, option_map};
-ghost use Rattle.std.specs.Char.{is_ascii_digit};
-ghost use Rattle.std.specs.List.{list_all};
 ghost use Rattle.std.specs.Option.{option_copied};
 ghost use Rattle.std.specs.Str.{chars, bytes_eq};
 ghost use Rattle.jfr_base.specs.Texts.{text_in};
@@ -9,7 +7,7 @@ ghost use Rattle.jfr_meta.specs.Attributes.{IsWord, text_at, first_value, not_em
 ghost use Rattle.jfr_meta.specs.Trees.{pairs_of};
 
 use crate::Element;
-use jfr_base::{Text, Words};
+use jfr_base::{Text, Words, decimal_number};
 
 /// Whether the text equals this word.
 pub(crate) fn is_word(text: &str, word: &str) -> bool
@@ -87,33 +85,17 @@ pub(crate) fn attribute_index(strings: &Words, element: &Element, key: &str) -> 
     full_index(strings, first_index(strings, element, key)?)
 }
 
-/// The most digits that an id may have.
-const ID_DIGITS: usize = 19;
-
 /// Every id is below this.
 const ID_LIMIT: u64 = 1 << 63;
 
-/// Whether all characters of the text are ASCII digits. True of the empty text.
-fn is_digits(text: &str) -> bool
-    ensures { result ≡ list_all is_ascii_digit text.now }
-{
-    text.as_bytes().iter().all(|byte| byte.is_ascii_digit())
-}
-
 /// The id that a text spells with one to nineteen digits, if its value is below 2^63.
-pub(crate) fn id_of(text: &str) -> Option<u64>
-    ensures { result ≡ id_of (chars text.now) }
+#[tactic(auto, unfolding(crate::specs::Attributes::id_of))]
+pub fn id_of(text: &str) -> Option<u64>
+    ensures bytes { result ≡ id_of text.now }
+    ensures characters { result ≡ id_of (chars text.now) }
 {
-    if text.len() > ID_DIGITS {
-        return None;
-    }
-    if !is_digits(text) {
-        return None;
-    }
-    match text.parse::<u64>() {
-        Ok(id) if id < ID_LIMIT => Some(id),
-        _ => None,
-    }
+    let id = decimal_number(text)?;
+    if id < ID_LIMIT { Some(id) } else { None }
 }
 
 /// The value of a mark: true if its text is `set`, false if it is `clear` or absent; `None` for any other

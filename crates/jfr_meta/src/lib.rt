@@ -28,6 +28,7 @@ mod tabling;
 mod values;
 mod write;
 
+pub use attributes::id_of;
 pub use element::{Element, Elements};
 pub use ids::Ids;
 pub use laws::{elements_stand, one_description};
