@@ -21,7 +21,8 @@ use Rattle.jfr_chunk.specs.Parts.{Parts, HasFields, event_by, event_of, event_re
 use Rattle.jfr_chunk.specs.declared.event_index.EventIndexEntry.{EventIndexEntry}
 use Rattle.jfr_chunk.specs.Seen.{event_kept}
 use Rattle.jfr_chunk.proofs.SeenLaws.{each_length}
-use Rattle.jfr_worklist.proofs.Members.{In, contains_in}
+use Rattle.jfr_worklist.specs.Members.{In}
+use Rattle.jfr_worklist.proofs.Members.{contains_in}
 use Rattle.jfr_chunk.proofs.AllLaws.{all_in, filter_all}
 use Rattle.jfr_chunk.proofs.StandingLaws.{tiles_each, links_each}
 use Rattle.jfr_chunk.proofs.TestLaws.{is_eq}

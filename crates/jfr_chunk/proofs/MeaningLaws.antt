@@ -22,7 +22,8 @@ use Rattle.jfr_pool.specs.Entries.{inline}
 use Rattle.jfr_chunk.specs.Parts.{Parts, EventAt, events_of, AreParts}
 use Rattle.jfr_chunk.specs.Meaning.{SameMeaning}
 use Rattle.jfr_chunk.specs.Laws.{AreEvents, SameRecord, SameRecords, SameOnPaths}
-use Rattle.jfr_worklist.proofs.Members.{In, contains_in, in_contains}
+use Rattle.jfr_worklist.specs.Members.{In}
+use Rattle.jfr_worklist.proofs.Members.{contains_in, in_contains}
 use Rattle.jfr_chunk.proofs.AllLaws.{all_in}
 use Rattle.jfr_chunk.proofs.PathLaws.{Pair, MeetsSame, law_of_paths}
 use Rattle.jfr_chunk.proofs.StandingLaws.{IsEvent, standing, event_is, tiles_each}

@@ -15,7 +15,8 @@ use Rattle.jfr_pool.specs.declared.entry.EntryAt.{EntryAt}
 use Rattle.jfr_pool.specs.Chains.{Delta, head_format, IsLink, IsChain, StepsTo}
 use Rattle.jfr_pool.specs.Entries.{checkpoint_format, entries_from, AreEntries}
 use Rattle.jfr_chunk.specs.Parts.{Parts, StartsAt, AreParts, pools_at, metadata_at}
-use Rattle.jfr_worklist.proofs.Members.{In, contains_in}
+use Rattle.jfr_worklist.specs.Members.{In}
+use Rattle.jfr_worklist.proofs.Members.{contains_in}
 use Rattle.jfr_chunk.proofs.AllLaws.{all_in, all_reverse}
 use Rattle.jfr_chunk.proofs.StandingLaws.{tiles_each, links_each}
 

@@ -21,7 +21,8 @@ use Rattle.jfr_pool.specs.declared.entry.EntryAt.{EntryAt}
 use Rattle.jfr_pool.specs.Entries.{inline, PoolAt, pool_format, checkpoint_format, entries_from, AreEntries, before_entries, entries_by, entries_of}
 use Rattle.jfr_chunk.specs.Parts.{StartsAt, HasFields}
 use Rattle.jfr_chunk.specs.Refusal.{FirstFails, fields_by, events_checked}
-use Rattle.jfr_worklist.proofs.Members.{In, contains_in, in_contains}
+use Rattle.jfr_worklist.specs.Members.{In}
+use Rattle.jfr_worklist.proofs.Members.{contains_in, in_contains}
 use Rattle.jfr_chunk.proofs.AllLaws.{all_in}
 use Rattle.jfr_chunk.proofs.TestLaws.{left_true, right_true, is_eq}
 

@@ -23,7 +23,8 @@ use Rattle.jfr_pool.specs.declared.entry.EntryAt.{EntryAt}
 use Rattle.jfr_pool.specs.Chains.{IsLink, IsChain}
 use Rattle.jfr_pool.specs.Entries.{inline, Constant, constant_format, PoolAt, pool_format, checkpoint_format, entry_of, entries_from, AreEntries, entry_node}
 use Rattle.jfr_chunk.specs.Parts.{Parts, EventAt, event_by, event_of, event_records, events_of, AreParts, pools_at}
-use Rattle.jfr_worklist.proofs.Members.{In, contains_in, get_in}
+use Rattle.jfr_worklist.specs.Members.{In}
+use Rattle.jfr_worklist.proofs.Members.{contains_in, get_in}
 use Rattle.jfr_chunk.proofs.AllLaws.{all_get, all_append, all_reverse, all_in, in_filter, in_filter_map}
 use Rattle.jfr_pool.proofs.ForceLaws.{numbered}
 use Rattle.jfr_chunk.proofs.PathLaws.{Standing}

@@ -18,7 +18,8 @@ use Rattle.jfr_laws.proofs.ReadBack.{moved_frame}
 use Rattle.jfr_laws.proofs.Suits.{Suits}
 use Rattle.jfr_laws.proofs.Quiet.{no_metadata_event}
 use Rattle.jfr_chunk.specs.Laws.{AreEvents}
-use Rattle.jfr_worklist.proofs.Members.{In, contains_in, in_contains}
+use Rattle.jfr_worklist.specs.Members.{In}
+use Rattle.jfr_worklist.proofs.Members.{contains_in, in_contains}
 use Rattle.jfr_chunk.proofs.TestLaws.{is_eq}
 use Rattle.jfr_chunk.proofs.AllLaws.{all_in, in_filter, in_filter_map}
 use Rattle.jfr_laws.proofs.Order as order

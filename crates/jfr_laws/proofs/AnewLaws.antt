@@ -24,7 +24,8 @@ use Rattle.jfr_meta.proofs.ElementsStand.{root_stands}
 use Rattle.jfr_chunk.specs.Parts.{Parts, EventAt, AreParts, events_of, event_records, metadata_at}
 use Rattle.jfr_chunk.specs.Laws.{AreEvents}
 use Rattle.jfr_chunk.proofs.AllLaws.{all_in, in_filter}
-use Rattle.jfr_worklist.proofs.Members.{In, contains_in, in_contains}
+use Rattle.jfr_worklist.specs.Members.{In}
+use Rattle.jfr_worklist.proofs.Members.{contains_in, in_contains}
 use Rattle.jfr_chunk.proofs.StandingLaws.{standing}
 use Rattle.jfr_chunk.proofs.TestLaws.{is_eq}
 use Rattle.jfr_layout.specs.Staying.{staying}

@@ -20,7 +20,8 @@ use Rattle.jfr_meta.proofs.Bare.{described_bare}
 use Rattle.jfr_chunk.specs.Parts.{Parts, EventAt, AreParts, events_of, event_records, metadata_at}
 use Rattle.jfr_chunk.specs.Laws.{AreEvents, SameRecords}
 use Rattle.jfr_chunk.proofs.AllLaws.{all_in}
-use Rattle.jfr_worklist.proofs.Members.{In, contains_in, in_contains}
+use Rattle.jfr_worklist.specs.Members.{In}
+use Rattle.jfr_worklist.proofs.Members.{contains_in, in_contains}
 use Rattle.jfr_chunk.proofs.StandingLaws.{standing}
 use Rattle.jfr_chunk.proofs.TestLaws.{is_eq}
 use Rattle.jfr_layout.specs.Staying.{staying}

@@ -10,7 +10,7 @@ use Rattle.jfr_frame.specs.Records.{IsRecord, record_bytes}
 use Rattle.jfr_frame.proofs.RecordLaws.{record_one}
 use Rattle.jfr_pool.specs.declared.entry.EntryAt.{EntryAt}
 use Rattle.jfr_chunk.specs.Scrub.{OutputRecord, Whole, Chained, Rebuilt, Written, output_record_by, written, record_of, moved}
-use Rattle.jfr_worklist.proofs.Members.{In}
+use Rattle.jfr_worklist.specs.Members.{In}
 use Rattle.jfr_chunk.proofs.TestLaws.{is_eq}
 use Rattle.jfr_laws.proofs.Order.{Numbered, numbered_at, output_record_in, output_records_in, found_numbered}
 use Rattle.jfr_laws.proofs.Copied.{copied_to}

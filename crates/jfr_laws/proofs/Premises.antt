@@ -11,7 +11,8 @@ use Rattle.jfr_pool.specs.Chains.{IsLink}
 use Rattle.jfr_chunk.specs.Parts.{Parts, AreParts, pools_at}
 use Rattle.jfr_chunk.specs.Reach.{marked}
 use Rattle.jfr_chunk.specs.Scrub.{OutputRecord, Whole, Chained, Rebuilt, output_record_by, groups_of}
-use Rattle.jfr_worklist.proofs.Members.{In, contains_in}
+use Rattle.jfr_worklist.specs.Members.{In}
+use Rattle.jfr_worklist.proofs.Members.{contains_in}
 use Rattle.jfr_chunk.proofs.AllLaws.{all_in}
 use Rattle.jfr_chunk.proofs.StandingLaws.{tiles_each}
 use Rattle.jfr_laws.proofs.Chains.{Linked, chain_linked}

@@ -25,7 +25,8 @@ use Rattle.jfr_chunk.specs.Parts.{Parts, EventAt, HasFields, events_of, event_re
 use Rattle.jfr_chunk.specs.Metas.{rebuilt}
 use Rattle.jfr_chunk.specs.Scrub.{moved, output_records, output_records_whole, written_anew}
 use Rattle.jfr_chunk.proofs.AllLaws.{all_in}
-use Rattle.jfr_worklist.proofs.Members.{In, contains_in, in_contains}
+use Rattle.jfr_worklist.specs.Members.{In}
+use Rattle.jfr_worklist.proofs.Members.{contains_in, in_contains}
 use Rattle.jfr_chunk.proofs.StandingLaws.{event_is}
 use Rattle.jfr_chunk.specs.Laws.{AreEvents}
 use Rattle.std.proofs.lemmas.List.Elements.{All-contains}

@@ -16,7 +16,7 @@ use Rattle.jfr_chunk.specs.Reach.{marked}
 use Rattle.jfr_chunk.specs.Chosen.{java_names, system_names, or_else, thread_text, is_chosen, chosen, kept_of}
 use Rattle.jfr_chunk.specs.Scrub.{scrub_of}
 use Rattle.jfr_chunk.specs.Meaning.{SameEvent, SameMeaning}
-use Rattle.jfr_worklist.proofs.Members.{In}
+use Rattle.jfr_worklist.specs.Members.{In}
 use Rattle.jfr_chunk.proofs.StandingLaws.{IsEvent, standing, event_is}
 use Rattle.jfr_laws.specs.Laws.{IsKept, IsSettled}
 use Rattle.jfr_laws.proofs.Marks.{all_of_them, marked_pass}

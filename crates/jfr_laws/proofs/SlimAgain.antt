@@ -14,7 +14,8 @@ use Rattle.jfr_layout.specs.Staying.{staying}
 use Rattle.jfr_meta.specs.Stays.{below, all_below, ids_below, HasHead, HasNamed, IsStay, stay_marks, stay_of}
 use Rattle.jfr_worklist.specs.Marks.{is_marked}
 use Rattle.jfr_meta.specs.Slimmed.{with_children, is_named, head_stays, element_stays, first_changed, slim_holder, slim_root, uses, all_uses, firsts, table_of, index_in, renumbered, all_renumbered, retabled, slim_body, IsSlim}
-use Rattle.jfr_worklist.proofs.Members.{In, get_in, contains_in, in_contains}
+use Rattle.jfr_worklist.specs.Members.{In}
+use Rattle.jfr_worklist.proofs.Members.{get_in, contains_in, in_contains}
 use Rattle.jfr_meta.proofs.Lists.{in_filter, filter_in, nothing_each}
 use Rattle.jfr_meta.proofs.Alike.{Alike, AllAlike, head_alike, id_alike, elements_alike}
 use Rattle.jfr_meta.proofs.Lists as lists

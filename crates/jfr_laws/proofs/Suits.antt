@@ -28,7 +28,8 @@ use Rattle.jfr_chunk.specs.Written.{by_pool, add_entry}
 use Rattle.jfr_chunk.specs.Scrub.{OutputRecord, Whole, Chained, Rebuilt, groups_of}
 use Rattle.jfr_chunk.proofs.AllLaws.{all_get}
 use Rattle.jfr_pool.proofs.ForceLaws.{forced, numbered}
-use Rattle.jfr_worklist.proofs.Members.{In, contains_in}
+use Rattle.jfr_worklist.specs.Members.{In}
+use Rattle.jfr_worklist.proofs.Members.{contains_in}
 use Rattle.jfr_chunk.proofs.PathLaws.{Standing}
 use Rattle.jfr_chunk.proofs.StandingLaws.{IsEvent}
 use Rattle.jfr_laws.proofs.Standing.{EntryStands, GroupStands}

@@ -20,7 +20,7 @@ use Rattle.jfr_pool.specs.Entries.{in_force, entry_node}
 use Rattle.jfr_chunk.specs.Parts.{Parts, EventAt}
 use Rattle.jfr_chunk.specs.Paths.{step, leads}
 use Rattle.jfr_chunk.specs.Meaning.{SamePaths, SameEvent, SameMeaning}
-use Rattle.jfr_worklist.proofs.Members.{In}
+use Rattle.jfr_worklist.specs.Members.{In}
 use Rattle.jfr_chunk.proofs.PathLaws.{Standing}
 
 -- The counterpart of a value.

@@ -19,7 +19,7 @@ use Rattle.jfr_meta.specs.Attributes.{text_at}
 use Rattle.jfr_meta.specs.Trees.{Tree, Node, Trees, Nil, Cons, list_of, trees_of, children_of}
 use Rattle.jfr_meta.specs.Slimmed.{with_children, firsts, index_in, uses, all_uses}
 use Rattle.jfr_meta.specs.NewTables.{has_text, with_text, added, number_in, IsTable, Tabled}
-use Rattle.jfr_worklist.proofs.Members.{In}
+use Rattle.jfr_worklist.specs.Members.{In}
 
 same_text : (x y : List ℕ) → bytes_eq x y ≡ true → x ≡ y
 same_text x y = (bytes_eq-Decides x y).0

@@ -5,7 +5,8 @@ use Rattle.std.proofs.Common.{ap, refl, sym, ◌∙◌, subst, inl, append_assoc
 use Rattle.std.proofs.lemmas.Grind.{flat_map-append}
 use Rattle.std.proofs.lemmas.List.{length-map}
 use Rattle.jfr_base.specs.Integer.{spell}
-use Rattle.jfr_worklist.proofs.Members.{In, in_left, in_right}
+use Rattle.jfr_worklist.specs.Members.{In}
+use Rattle.jfr_worklist.proofs.Members.{in_left, in_right}
 use Rattle.jfr_meta.specs.declared.rewriting.NewTree.{NewTree}
 use Rattle.jfr_meta.specs.Trees.{Tree, Node, trees_of, name_of, pairs_of, children_of}
 use Rattle.jfr_meta.specs.Body.{Body, how_many}

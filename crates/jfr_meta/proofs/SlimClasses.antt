@@ -16,7 +16,8 @@ use Rattle.jfr_meta.specs.Described.{class_elements, field_elements, id_attribut
 use Rattle.jfr_layout.specs.Staying.{staying, IsClosed}
 use Rattle.jfr_meta.specs.Stays.{below, all_below, ids_below, HasHead}
 use Rattle.jfr_meta.specs.Slimmed.{is_named, head_stays, element_stays, first_changed, slim_holder, slim_root}
-use Rattle.jfr_worklist.proofs.Members.{In, get_in, in_contains, in_right}
+use Rattle.jfr_worklist.specs.Members.{In}
+use Rattle.jfr_worklist.proofs.Members.{get_in, in_contains, in_right}
 use Rattle.jfr_meta.proofs.Lists.{in_filter, in_filter_map, filter_map_in, all_members, all_in, filter_both, filter_map_filter, same_filter_map, same_find}
 
 -- The first that passes, changed, is the first that passes among those of which it was changed.

@@ -13,7 +13,8 @@ use Rattle.jfr_meta.specs.Trees.{Tree}
 use Rattle.jfr_meta.specs.Described.{class_head, class_flaws, class_with, class_of, classes_of, heads}
 use Rattle.jfr_worklist.specs.Marks.{those, is_marked, IsMarked}
 use Rattle.jfr_meta.specs.Stays.{ids_below, HasHead, HasNamed, IsStay, first_ids, next_classes, stay_marks, stay_of}
-use Rattle.jfr_worklist.proofs.Members.{In, contains_in, in_contains, get_in, those_in, in_those}
+use Rattle.jfr_worklist.specs.Members.{In}
+use Rattle.jfr_worklist.proofs.Members.{contains_in, in_contains, get_in, those_in, in_those}
 use Rattle.jfr_meta.proofs.Lists.{in_map, in_filter, filter_in, all_in, all_members}
 use Rattle.jfr_worklist.proofs.SweepLaws.{Reach, root, more, AllBelow, marks_reach}
 use Rattle.jfr_meta.proofs.SlimClasses.{has_head}

@@ -9,7 +9,8 @@ use Rattle.jfr_meta.specs.Trees.{Tree, Node, Trees, Nil, Cons, list_of, trees_of
 use Rattle.jfr_meta.specs.Attributes.{text_at}
 use Rattle.jfr_meta.specs.Written.{IsText, HasIndices, HaveIndices, depth, depths}
 use Rattle.jfr_meta.specs.Slimmed.{is_named, element_stays, first_changed, slim_holder, slim_root, uses, all_uses, firsts, table_of, index_in, renumbered, all_renumbered, retabled}
-use Rattle.jfr_worklist.proofs.Members.{In, in_left, in_right}
+use Rattle.jfr_worklist.specs.Members.{In}
+use Rattle.jfr_worklist.proofs.Members.{in_left, in_right}
 use Rattle.jfr_meta.proofs.Lists.{in_map, filter_in, all_filter}
 use Rattle.jfr_meta.proofs.Alike.{Alike, AllAlike, SamePair}
 

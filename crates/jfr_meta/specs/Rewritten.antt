@@ -2,7 +2,7 @@
 use Rattle.std.specs.Prelude.{◌≡◌, ℕ, List, ◌∷◌, ◌++◌, [], length}
 use Rattle.std.specs.List.{flat_map}
 use Rattle.jfr_base.specs.Integer.{spell}
-use Rattle.jfr_worklist.proofs.Members.{In}
+use Rattle.jfr_worklist.specs.Members.{In}
 use Rattle.jfr_meta.specs.declared.rewriting.NewTree.{NewTree}
 use Rattle.jfr_meta.specs.Trees.{Tree, name_of, pairs_of}
 use Rattle.jfr_meta.specs.Written.{tree_bytes}

@@ -12,7 +12,8 @@ use Rattle.jfr_chunk.specs.declared.event.Event.{Event}
 use Rattle.jfr_chunk.specs.Chosen.{chosen, is_chosen}
 use Rattle.jfr_chunk.specs.Parts.{EventAt, Parts, AreParts, events_of}
 use Rattle.jfr_chunk.specs.Seen.{event_at}
-use Rattle.jfr_worklist.proofs.Members.{In, get_in, in_contains}
+use Rattle.jfr_worklist.specs.Members.{In}
+use Rattle.jfr_worklist.proofs.Members.{get_in, in_contains}
 use Rattle.jfr_path.specs.declared.verdict.ClassVerdict.{ClassVerdict}
 use Rattle.jfr_path.specs.declared.verdict.ClassVerdict.TheVariants.{ByThread, Dropped, Kept}
 use Rattle.jfr_path.specs.Verdicts.{IsVerdict, Says, is_kept}

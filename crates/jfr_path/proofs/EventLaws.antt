@@ -23,7 +23,7 @@ use Rattle.jfr_value.proofs.RowLaws.{row_at, start_of}
 use Rattle.jfr_pool.specs.Entries.{inline}
 use Rattle.jfr_chunk.specs.Parts.{Parts, EventAt, AreParts, event_by, event_of, event_records, events_of}
 use Rattle.jfr_chunk.proofs.AllLaws.{in_filter_map}
-use Rattle.jfr_worklist.proofs.Members.{In}
+use Rattle.jfr_worklist.specs.Members.{In}
 use Rattle.jfr_chunk.proofs.StandingLaws.{event_is}
 use Rattle.jfr_path.proofs.StepLaws.{sound}
 

@@ -11,7 +11,8 @@ use Rattle.jfr_value.specs.Nodes.{NodeAt, child}
 use Rattle.jfr_chunk.specs.Parts.{Parts, EventAt, events_of}
 use Rattle.jfr_chunk.specs.Paths.{follow_while, is_reference, named_field, named_text}
 use Rattle.jfr_chunk.specs.Chosen.{is_chosen, or_else, thread_text}
-use Rattle.jfr_worklist.proofs.Members.{In, contains_in}
+use Rattle.jfr_worklist.specs.Members.{In}
+use Rattle.jfr_worklist.proofs.Members.{contains_in}
 use Rattle.jfr_path.specs.declared.verdict.ClassVerdict.TheVariants.{Kept, Dropped, ByThread}
 use Rattle.jfr_path.specs.Threads.{thread_text_at}
 use Rattle.jfr_path.specs.Verdicts.{IsOfClass, IsVerdict}

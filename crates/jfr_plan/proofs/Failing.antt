@@ -4,7 +4,7 @@ use Rattle.std.specs.Prelude.{is_some, MatchResult, IsErrAnd, IsErrOf}
 use Rattle.jfr_base.specs.declared.flaw.Flaw.{Flaw}
 use Rattle.jfr_base.specs.declared.flaw.ReadFault.{ReadFault}
 use Rattle.jfr_base.specs.declared.flaw.ReadFault.TheVariants as readings
-use Rattle.jfr_outside.specs.World.{World, Told, Leaves, LeavesPrefix, file, opened, shut, created, appended, finished}
+use Rattle.jfr_outside.specs.World.{World, State, Told, Leaves, LeavesPrefix, file, opened, shut, created, appended, finished}
 use Rattle.jfr_outside.specs.Counts.{Counts}
 use Rattle.jfr_outside.specs.declared.fault.Fault.{Fault}
 use Rattle.jfr_outside.specs.declared.fault.Fault.TheVariants as faults
@@ -13,9 +13,9 @@ use Rattle.jfr_header.specs.declared.ending.Ending.TheVariants.{Done, WriteFault
 use Rattle.jfr_header.specs.Endings.{after_read, after_write, after_chunk}
 use Rattle.jfr_plan.specs.Ends.{refused, way_of}
 use Rattle.jfr_plan.specs.Effects.{Effect, Create, Append, Finish, Outside, apply, broken, done, stand, Cannot}
-use Rattle.jfr_plan.specs.Walks.{Rule, Target, Asked, Stops, Goes, File, Parts, asked, IsGoing}
+use Rattle.jfr_plan.specs.Walks.{Rule, Target, Asked, Stops, Goes, asked, IsGoing}
 use Rattle.jfr_plan.specs.Outcomes.{OutcomeOf, Kept, Tallied}
-use Rattle.jfr_plan.specs.Parts.{PartTold, PartTallied}
+use Rattle.jfr_plan.specs.Parts.{PartTold, PlaceCounts}
 
 -- A part answers as its write does.
 abbrev pub Passes : Result (Unit {0}) Fault → Result (Unit {0}) Ending → Type 0
@@ -71,12 +71,12 @@ finish_leaves st p (Some w) a r z h t o c =
     (λ e. rw (rw e at t) (none_done st asks p w))
 
 -- The count of write faults of the place rises if the write failed, and the other counts don't change.
-pub write_tallied : (r : Result (Unit {0}) Fault) (z : Result (Unit {0}) Ending) (a b : Outside) → Passes r z → Kept a.place.read_faults b.place.read_faults → Counts r a.place.write_faults b.place.write_faults → Kept a.sink.faults b.sink.faults → b.place.steady ≡ a.place.steady → PartTallied File z a b × PartTallied Parts z a b
-write_tallied r z a b h reads writes texts steady =
-    passed (λ y. PartTallied File y a b × PartTallied Parts y a b) r z h
-    (λ x e. let k : Kept a.place.write_faults b.place.write_faults = rw e at writes in ((reads, k, texts, steady), (reads, k, texts, steady)))
-    (λ e. let k = rw e at writes in ((reads, k, texts, steady), (reads, k, texts, steady)))
-    (λ e. let k : Kept a.place.write_faults b.place.write_faults = rw e at writes in ((reads, k, texts, steady), (reads, k, texts, steady)))
+pub write_counted : (r : Result (Unit {0}) Fault) (z : Result (Unit {0}) Ending) (x y : State) → Passes r z → Kept x.read_faults y.read_faults → Counts r x.write_faults y.write_faults → y.steady ≡ x.steady → PlaceCounts z x y
+write_counted r z x y h reads writes steady =
+    passed (λ k. PlaceCounts k x y) r z h
+    (λ o e. λ sink. (reads, rw e at writes, refl, steady))
+    (λ e. λ sink. (reads, rw e at writes, refl, steady))
+    (λ e. λ sink. (reads, rw e at writes, refl, steady))
 
 -- A chunk could not be taken in, and nothing changed.
 pub chunk_refused : (st : Bool) (asks : Asked) (n number : ℕ) (fault : ReadFault) (y : Ending) (p : Option (List ℕ)) (b : Option World) → y ≡ after_chunk number fault → number ≡ n → ((f : Flaw) → fault ≡ readings.Flawed f → asks ≡ Stops (refused n f)) → Told b b (PartTold st asks (Err y) p p)

@@ -11,12 +11,13 @@ use Rattle.jfr_header.specs.Cuts.{Cuts, cut, more, joined}
 use Rattle.jfr_header.proofs.Steps.{same_some}
 use Rattle.jfr_plan.specs.Ends as ends
 use Rattle.jfr_plan.specs.Ends.{Way, Ends, NotRead, NotWritten, NoRoom, Fine, refused}
-use Rattle.jfr_plan.specs.Effects.{Effect, Stand, Chunks, AtEnd, needing, effects, done, broken, stand, Cannot}
+use Rattle.jfr_plan.specs.Effects.{Effect, Stand, Chunks, AtEnd, needing, effects, done, stand}
 use Rattle.jfr_plan.specs.Walks.{Rule, Asked, Stops, Goes, walk, walk_on, walk_end, gone, asked, IsGoing, AllGo, cut_after, plan_after}
 use Rattle.jfr_plan.specs.Goings.{Going, IsAt, IsPast}
 use Rattle.jfr_plan.specs.Outcomes.{OutcomeOf, SomeDone, Breaks, MetIn, NeedsMet}
 use Rattle.jfr_header.proofs.Cutting.{cut_end, cut_bad, cut_chunk, joined_snoc}
 use Rattle.jfr_plan.proofs.Needs.{needs_met}
+use Rattle.jfr_plan.proofs.Leaving.{some_more, some_after, breaks_more, breaks_after}
 use Rattle.jfr_plan.proofs.Walking.{FromHere, from_here, gone_snoc, go_snoc, done_append, effects_needing, effects_append}
 
 -- The input was opened, and what the command does then was done.
@@ -195,24 +196,11 @@ asking r earlier input start number chunk o p w u g (Goes es) is =
 
 -- What broke among the effects asked for broke in the plan.
 breaks_in : (st : Bool) (all es asks : List Effect) (s u t : Stand) → Asking all es asks → u ≡ done es s → Breaks st asks u t → Breaks st all s t
-breaks_in st all es asks s u t k is b = record {
-  first = es ++ b.first;
-  failed = b.failed;
-  rest = b.rest ++ k.later;
-  bytes = b.bytes;
-  parts = k.parts ∙ ap (λ (l : List Effect). es ++ (l ++ k.later)) b.parts ∙ ap (λ (l : List Effect). es ++ l) (append_assoc b.first (b.failed ∷ b.rest) k.later) ∙ sym (append_assoc es b.first (b.failed ∷ (b.rest ++ k.later)));
-  stands = b.stands ∙ ap (λ (y : Stand). broken b.bytes b.failed (done b.first y)) is ∙ ap (broken b.bytes b.failed) (sym (done_append es b.first s));
-  cause = λ y. subst (Cannot b.failed) (ap (done b.first) is ∙ sym (done_append es b.first s)) (b.cause y);
-}
+breaks_in st all es asks s u t k is b = breaks_more st (es ++ asks) k.later all s t (k.parts ∙ sym (append_assoc es asks k.later)) (breaks_after st es asks s u t is b)
 
 -- What was done of the effects asked for was done of the plan.
 some_in : (all es asks : List Effect) (s u t : Stand) → Asking all es asks → u ≡ done es s → SomeDone asks u t → SomeDone all s t
-some_in all es asks s u t k is b = record {
-  first = es ++ b.first;
-  rest = b.rest ++ k.later;
-  parts = k.parts ∙ ap (λ (l : List Effect). es ++ (l ++ k.later)) b.parts ∙ ap (λ (l : List Effect). es ++ l) (append_assoc b.first b.rest k.later) ∙ sym (append_assoc es b.first (b.rest ++ k.later));
-  stands = b.stands ∙ ap (done b.first) is ∙ sym (done_append es b.first s);
-}
+some_in all es asks s u t k is b = some_more (es ++ asks) k.later all s t (k.parts ∙ sym (append_assoc es asks k.later)) (some_after es asks s u t is b)
 
 -- One of the chunk's effects failed.
 pub breaks : (st : Bool) (r : Rule) (earlier : List (List ℕ)) (input : List ℕ) (start number : ℕ) (chunk : List ℕ) (o p q : Option (List ℕ)) (w u t : World) (g : Holding r earlier input start number chunk o p w u) → Breaks st (asked (r.asks (earlier ++ g.before) chunk)) (stand u p) (stand t q) → OutcomeOf st r earlier input o q NotWritten w t

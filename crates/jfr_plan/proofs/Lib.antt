@@ -1,4 +1,5 @@
 pub mod Walking
+pub mod Leaving
 pub mod EndsWell
 pub mod Needs
 pub mod Going

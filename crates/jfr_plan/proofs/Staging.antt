@@ -7,12 +7,13 @@ use Rattle.jfr_header.specs.Fronts as fronts
 use Rattle.jfr_header.specs.Nexts.{Found, Refuses, GaveChunk, flaw_of}
 use Rattle.jfr_header.specs.declared.ending.Ending.{Ending}
 use Rattle.jfr_header.proofs.Steps.{chain_told, TookLess, TookMost}
-use Rattle.jfr_plan.specs.Ends.{End, Fine, Refused, TooMany, Way, Ends, NotRead, NotWritten, NoRoom, way_of, refused}
-use Rattle.jfr_plan.specs.Effects.{Outside, Effect, stand}
-use Rattle.jfr_plan.specs.Walks.{Rule, Stops, Goes}
+use Rattle.jfr_plan.specs.Ends.{Fine, Refused, TooMany, Way, Ends, NotRead, NotWritten, NoRoom, way_of, refused}
+use Rattle.jfr_plan.specs.Effects.{Outside, stand}
+use Rattle.jfr_plan.specs.Walks.{Rule, Goes}
 use Rattle.jfr_plan.specs.Goings.{Going, Staged, IsAt, IsPast}
 use Rattle.jfr_plan.specs.Outcomes.{OutcomeOf, Counted, Kept}
 use Rattle.jfr_plan.specs.Parts.{PartEnded, PartTold}
+use Rattle.jfr_plan.proofs.Leaving.{goes_stops}
 use Rattle.jfr_plan.proofs.Going.{Holding, begin, took_stand, partly, ends_fine, ends_broken, ends_partly, ends_flawed, all_seen, halts, hold, stops, breaks, partly_held, goes_on, opens_broken, opens_partly}
 
 -- Counts that stay over two calls.
@@ -43,9 +44,6 @@ pub stage_memory : (st : Bool) (r : Rule) (earlier : List (List ℕ)) (Seen : Li
 stage_memory st r earlier Seen input c o p b a d x y =
     chain_told b a d (Staged r earlier Seen input c.start c.number c.given o p) TookMost (OutcomeOf st r earlier input o p NoRoom) x y
     (λ w v u g h. partly st r earlier input c.start c.number c.given o p p w v u g.going (took_stand h.0 p v u h.1))
-
-goes_stops : (es : List Effect) (e : End) → Goes es ≡ Stops e → ⊥
-goes_stops es e h = cc
 
 -- The way of a command whose last part answered so.
 abbrev pub last_way : Result (Unit {0}) Ending → Way

@@ -13,9 +13,13 @@ pub record Outside : Type 0 where
 abbrev pub outside : State → SinkState → Outside
 outside place sink = record { place = place; sink = sink }
 
+-- The state of a sink of which nothing is known.
+abbrev pub no_sink : SinkState
+no_sink = record { written = None; faults = 0 }
+
 -- The state of a place, with a sink of which nothing is known.
 abbrev pub alone : State → Outside
-alone place = outside place (record { written = None; faults = 0 })
+alone place = outside place no_sink
 
 -- The state that effects change: the files, the name of the open output, the text on the output sink if it is
 -- known, and whether each effect so far could be done.
@@ -48,6 +52,10 @@ apply (Write bytes) s = record s { text = option_map (added bytes) s.text }
 abbrev pub done : List Effect → Stand → Stand
 done [] s = s
 done (e ∷ es) s = done es (apply e s)
+
+-- The effects that write a file.
+abbrev pub writes : List ℕ → List ℕ → List Effect
+writes name bytes = Create name ∷ Append bytes ∷ Finish ∷ []
 
 -- The state after an effect that failed: no output is open, or only the first k of the bytes were written.
 abbrev pub broken : ℕ → Effect → Stand → Stand

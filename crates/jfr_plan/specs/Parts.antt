@@ -1,12 +1,13 @@
 -- The state after a part of a command: what it does when its input is open, for a chunk, or at the input's
 -- end.
 use Rattle.std.specs.Prelude.{◌≡◌, ℕ, Bool, List, Option, Result, Ok, Err}
-use Rattle.jfr_outside.specs.World.{World, Told}
+use Rattle.jfr_outside.specs.World.{World, State, SinkState, Told}
 use Rattle.jfr_header.specs.declared.ending.Ending.{Ending}
+use Rattle.jfr_header.specs.declared.ending.Ending.TheVariants.{WriteFault, Memory}
 use Rattle.jfr_plan.specs.Ends.{Fine, Way, Ends, NotRead, NotWritten, NoRoom, way_of}
-use Rattle.jfr_plan.specs.Effects.{Outside, Stand, stand, done}
-use Rattle.jfr_plan.specs.Walks.{Asked, Stops, Target, asked, IsGoing}
-use Rattle.jfr_plan.specs.Outcomes.{SomeDone, Breaks, Kept, Counted, Tallied}
+use Rattle.jfr_plan.specs.Effects.{Outside, Effect, Stand, outside, stand, done}
+use Rattle.jfr_plan.specs.Walks.{Asked, Stops, Goes, Target, asked, IsGoing}
+use Rattle.jfr_plan.specs.Outcomes.{SomeDone, Breaks, Kept, Rises, Counted, Tallied}
 
 -- The state after a part at which the command ended, as it had to, or because something failed. A part reads
 -- nothing.
@@ -34,3 +35,19 @@ PartLeaves a result before now = Told before.place.told now.place.told (PartTold
 abbrev pub PartTallied : Target → Result (Unit {0}) Ending → Outside → Outside → Type 0
 PartTallied target (Ok x) a b = Counted Kept Kept Kept a b
 PartTallied target (Err e) a b = Tallied target (way_of e) a b
+
+-- The state of a place after these effects on it, with any sink.
+abbrev pub PlaceLeaves : List Effect → Result (Unit {0}) Ending → State → State → Type 0
+PlaceLeaves es result a b = (sink : SinkState) → PartLeaves (Goes es) result (outside a sink) (outside b sink)
+
+-- The count of write faults, for each result of effects on a place: it rises with a write fault. The only
+-- other failure is that memory runs out.
+abbrev pub WriteRises : Result (Unit {0}) Ending → ℕ → ℕ → Type 0
+WriteRises (Ok x) before now = Kept before now
+WriteRises (Err WriteFault) before now = Rises before now
+WriteRises (Err Memory) before now = Kept before now
+WriteRises (Err _) before now = ⊥
+
+-- The counts after effects on a place, with any sink: only that of write faults can rise.
+abbrev pub PlaceCounts : Result (Unit {0}) Ending → State → State → Type 0
+PlaceCounts result a b = (sink : SinkState) → Counted Kept (WriteRises result) Kept (outside a sink) (outside b sink)

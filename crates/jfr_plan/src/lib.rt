@@ -3,16 +3,19 @@
 //!
 //! A command is a `Stage`: what it does when its input is open, for each chunk, and at the input's end.
 //! `run_stage` runs a stage over one input. `make_stream` is the command that makes one output chunk of each
-//! chunk, for any `Make`. Read `specs/Effects.antt` first, then `specs/Walks.antt` and `specs/Outcomes.antt`.
+//! chunk, for any `Make`. `create_output`, `append_output` and `finish_output` are the effects on a place, and
+//! `write_file` is all three. Read `specs/Effects.antt` first, then `specs/Walks.antt` and `specs/Outcomes.antt`.
 #![tactic(auto)]
 
 mod discard;
+mod effects;
 mod make;
 mod making;
 mod position;
 mod stage;
 
 pub use discard::Discard;
+pub use effects::{append_output, create_output, finish_output, write_file};
 pub use make::Make;
 pub use making::make_stream;
 pub use position::Position;

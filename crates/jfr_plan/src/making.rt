@@ -4,7 +4,7 @@ ghost use Rattle.jfr_plan.specs.Effects.{alone};
 ghost use Rattle.jfr_plan.specs.Makes.{making};
 ghost use Rattle.jfr_plan.specs.Clauses.{over, Ran, CanCreate};
 
-use crate::{Discard, Make, Position, Stage, run_stage};
+use crate::{Discard, Make, Position, Stage, create_output, finish_output, run_stage};
 use jfr_header::Ending;
 use jfr_outside::{Place, Sink};
 use std::alloc::Global;
@@ -25,7 +25,7 @@ impl<M: Make> Stage for Making<'_, M> {
     ghost seen = { λ s before. Unit {0} };
 
     fn opened<P: Place, O: Sink>(&self, place: &mut P, _out: &mut O) -> Result<(), Ending> {
-        place.create_output(self.output).map_err(Ending::of_write)
+        create_output(place, self.output)
     }
 
     fn chunk<P: Place, O: Sink>(
@@ -44,7 +44,7 @@ impl<M: Make> Stage for Making<'_, M> {
     }
 
     fn end<P: Place, O: Sink>(&self, place: &mut P, _out: &mut O) -> Result<(), Ending> {
-        place.finish_output().map_err(Ending::of_write)
+        finish_output(place)
     }
 }
 

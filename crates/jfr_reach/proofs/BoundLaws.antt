@@ -12,7 +12,7 @@ use Rattle.jfr_value.specs.Reading.{value_format}
 use Rattle.jfr_pool.specs.Entries.{inline}
 use Rattle.jfr_chunk.specs.Parts.{Parts, EventAt, event_by, event_of, event_records, events_of, AreParts, pools_at}
 use Rattle.jfr_chunk.specs.Reach.{marked, kept_by}
-use Rattle.jfr_worklist.proofs.Members.{In}
+use Rattle.jfr_worklist.specs.Members.{In}
 use Rattle.jfr_chunk.proofs.AllLaws.{all_in}
 use Rattle.jfr_chunk.proofs.BoundLaws.{total, record_size, leaves_of, entries_apart}
 use Rattle.jfr_chunk.proofs.CountLaws.{leaves_few}

@@ -7,7 +7,8 @@ use Rattle.jfr_chunk.specs.Parts.{Parts, EventAt, AreParts, events_of}
 use Rattle.jfr_worklist.specs.Marks.{IsMarked, marked_at, swept, led_to}
 use Rattle.jfr_chunk.specs.Reach.{Reached, all_targets, nodes_of, roots, next_entries, marked, kept_by, reached_marks}
 use Rattle.jfr_pool.proofs.ForceLaws.{force_within}
-use Rattle.jfr_worklist.proofs.Members.{In, in_those}
+use Rattle.jfr_worklist.specs.Members.{In}
+use Rattle.jfr_worklist.proofs.Members.{in_those}
 use Rattle.jfr_chunk.proofs.ReachedLaws.{reached_marked}
 use Rattle.jfr_chunk.proofs.StandingLaws.{standing, event_is}
 use Rattle.jfr_worklist.proofs.SweepLaws.{AllBelow, marks_reach}

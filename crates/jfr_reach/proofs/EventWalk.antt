@@ -9,7 +9,7 @@ use Rattle.jfr_chunk.specs.Parts.{Parts, EventAt, AreParts, events_of}
 use Rattle.jfr_worklist.specs.Marks.{those, marked_at}
 use Rattle.jfr_chunk.specs.Reach.{node_entries, all_targets, nodes_of, roots, marked, kept_by}
 use Rattle.jfr_chunk.proofs.CountLaws.{references_few}
-use Rattle.jfr_worklist.proofs.Members.{In}
+use Rattle.jfr_worklist.specs.Members.{In}
 use Rattle.jfr_chunk.proofs.RefLaws.{those_append}
 use Rattle.jfr_chunk.proofs.StandingLaws.{event_is, standing}
 use Rattle.jfr_worklist.proofs.SweepLaws.{AllBelow}

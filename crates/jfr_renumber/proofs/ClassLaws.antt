@@ -3,7 +3,8 @@ use Rattle.std.specs.Prelude.{◌≡◌, ◌⊎◌, ℕ, zero, suc, ◌+◌, ◌
 use Rattle.std.proofs.Common.{ap, arith, refl, sym, ◌∙◌, subst, inl, inr}
 use Rattle.std.proofs.lemmas.List.{map-append}
 use Rattle.std.proofs.lemmas.Option.{slice_get_within}
-use Rattle.jfr_worklist.proofs.Members.{In, contains_in, in_contains, get_in}
+use Rattle.jfr_worklist.specs.Members.{In}
+use Rattle.jfr_worklist.proofs.Members.{contains_in, in_contains, get_in}
 use Rattle.jfr_renumber.specs.declared.numbering.UsedKey.{UsedKey}
 use Rattle.jfr_renumber.specs.Keys.{group_number}
 use Rattle.jfr_renumber.specs.Numbering.{RisingKeys, RisingPairs, Before, pair_at, AreKeysOf, ArePairsOf, group_numbers}

@@ -16,7 +16,8 @@ use Rattle.jfr_value.proofs.NodeLaws.{value_is}
 use Rattle.jfr_pool.specs.Entries.{in_force, inline}
 use Rattle.jfr_chunk.specs.Parts.{Parts, EventAt, AreParts, events_of}
 use Rattle.jfr_chunk.specs.Laws.{AreEvents}
-use Rattle.jfr_worklist.proofs.Members.{In, contains_in, in_contains}
+use Rattle.jfr_worklist.specs.Members.{In}
+use Rattle.jfr_worklist.proofs.Members.{contains_in, in_contains}
 use Rattle.jfr_chunk.proofs.StandingLaws.{IsEvent, standing, event_is}
 use Rattle.jfr_renumber.specs.Rekeyed.{rekeyed, rekeyed_all, moved}
 use Rattle.jfr_renumber.specs.Renumber.{Used, new_key, firsts}

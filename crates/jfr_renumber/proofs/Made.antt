@@ -15,7 +15,8 @@ use Rattle.jfr_pool.specs.Chains.{head_format}
 use Rattle.jfr_pool.specs.Entries.{AreEntries, PoolAt, checkpoint_format, entries_from}
 use Rattle.jfr_chunk.specs.Written.{distance}
 use Rattle.jfr_chunk.specs.Scrub.{OutputRecord, Whole, Chained, Rebuilt, Written, last_at, moved, older_after, output_record_by, record_of}
-use Rattle.jfr_worklist.proofs.Members.{In, in_contains, in_right}
+use Rattle.jfr_worklist.specs.Members.{In}
+use Rattle.jfr_worklist.proofs.Members.{in_contains, in_right}
 use Rattle.jfr_chunk.proofs.TestLaws.{is_eq}
 use Rattle.jfr_laws.proofs.ReadBack.{moved_frame, moved_link}
 use Rattle.jfr_laws.proofs.Chains.{LeadsTo, Linked, step_delta, last_place}

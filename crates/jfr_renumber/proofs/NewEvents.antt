@@ -10,7 +10,7 @@ use Rattle.jfr_frame.specs.Records.{IsRecord}
 use Rattle.jfr_chunk.specs.Parts.{Parts, EventAt, AreParts, metadata_at}
 use Rattle.jfr_chunk.specs.Reach.{kept_by, marked}
 use Rattle.jfr_chunk.specs.Scrub.{OutputRecord, Whole, Chained, Rebuilt, Written, output_records_whole, output_record_by, written_anew}
-use Rattle.jfr_worklist.proofs.Members.{In}
+use Rattle.jfr_worklist.specs.Members.{In}
 use Rattle.jfr_laws.proofs.ReadBack.{moved_frame}
 use Rattle.jfr_laws.proofs.Order.{Numbered, numbered_at, output_records_in}
 use Rattle.jfr_laws.proofs.Premises.{all_links}

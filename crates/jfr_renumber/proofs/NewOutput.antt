@@ -26,7 +26,7 @@ use Rattle.jfr_chunk.specs.Parts.{Parts, EventAt, AreParts, HasFields, metadata_
 use Rattle.jfr_chunk.specs.Reach.{marked, kept_by}
 use Rattle.jfr_chunk.specs.Written.{Group, distance}
 use Rattle.jfr_chunk.specs.Scrub.{OutputRecord, Whole, Chained, Rebuilt, groups_of, output_records_whole, output_records, output_record_by, written_anew}
-use Rattle.jfr_worklist.proofs.Members.{In}
+use Rattle.jfr_worklist.specs.Members.{In}
 use Rattle.jfr_chunk.proofs.AllLaws.{all_in, filter_all}
 use Rattle.jfr_chunk.proofs.StandingLaws.{IsEvent, standing}
 use Rattle.jfr_laws.proofs.Standing.{LinkStands}

@@ -3,7 +3,8 @@ use Rattle.std.specs.Prelude.{◌≡◌, ◌<◌, ℕ, zero, suc, Bool, true, fa
 use Rattle.std.specs.List.{list_any}
 use Rattle.std.proofs.Common.{ap, arith, refl, sym, ◌∙◌, subst, inl, inr}
 use Rattle.std.proofs.lemmas.Option.{slice_get_within}
-use Rattle.jfr_worklist.proofs.Members.{In, in_contains}
+use Rattle.jfr_worklist.specs.Members.{In}
+use Rattle.jfr_worklist.proofs.Members.{in_contains}
 use Rattle.jfr_chunk.proofs.AllLaws.{all_get}
 use Rattle.jfr_renumber.specs.Missing.{Earlier, IsRising}
 use Rattle.jfr_renumber.specs.Numbers.{NumberedPairs, number_at, number_of}

@@ -13,7 +13,8 @@ use Rattle.std.proofs.Common.{ap, arith, refl, sym, ◌∙◌, subst, inl, inr}
 use Rattle.std.proofs.lemmas.Slice.Eq.{bytes_eq-Decides}
 use Rattle.std.proofs.lemmas.List.{take_all}
 use Rattle.std.proofs.lemmas.Map.Views.{exact_unsigned_eq}
-use Rattle.jfr_worklist.proofs.Members.{In, contains_in, in_contains, get_in}
+use Rattle.jfr_worklist.specs.Members.{In}
+use Rattle.jfr_worklist.proofs.Members.{contains_in, in_contains, get_in}
 use Rattle.jfr_renumber.specs.declared.numbering.UsedKey.{UsedKey}
 use Rattle.jfr_renumber.specs.Keys.{count_below, smallest, begins, group_number, Together}
 use Rattle.jfr_renumber.specs.Numbering.{number_under, value_of_key, RisingKeys, SameValue, AreKeysOf, group_numbers}

@@ -24,7 +24,8 @@ use Rattle.jfr_pool.specs.Entries.{AreEntries, PoolAt, inline}
 use Rattle.jfr_chunk.specs.Parts.{Parts, EventAt, HasFields, event_by, event_of, event_records, events_of, AreParts, StartsAt, pools_at, metadata_at}
 use Rattle.jfr_chunk.specs.Reach.{kept_by, marked}
 use Rattle.jfr_chunk.specs.Scrub.{OutputRecord, Written, last_at, moved, header_with, output_records_whole, written_anew}
-use Rattle.jfr_worklist.proofs.Members.{In, contains_in, in_contains}
+use Rattle.jfr_worklist.specs.Members.{In}
+use Rattle.jfr_worklist.proofs.Members.{contains_in, in_contains}
 use Rattle.jfr_chunk.proofs.AllLaws.{in_filter_map}
 use Rattle.jfr_chunk.proofs.TestLaws.{is_eq}
 use Rattle.jfr_chunk.proofs.StandingLaws.{standing, event_is}

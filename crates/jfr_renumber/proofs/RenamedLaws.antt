@@ -17,7 +17,8 @@ use Rattle.jfr_pool.proofs.OneLaws.{last_is}
 use Rattle.jfr_chunk.specs.Parts.{Parts, EventAt}
 use Rattle.jfr_chunk.specs.Paths.{leads}
 use Rattle.jfr_chunk.specs.Reach.{remain}
-use Rattle.jfr_worklist.proofs.Members.{In, in_contains, get_in}
+use Rattle.jfr_worklist.specs.Members.{In}
+use Rattle.jfr_worklist.proofs.Members.{in_contains, get_in}
 use Rattle.jfr_pool.proofs.ForceLaws.{forced, numbered}
 use Rattle.jfr_chunk.proofs.PathLaws.{Standing}
 use Rattle.jfr_renumber.specs.Rekeyed.{SameButKeys, rekeyed, rekeyed_bytes, moved}

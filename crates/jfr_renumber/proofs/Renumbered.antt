@@ -9,7 +9,8 @@ use Rattle.jfr_value.specs.Values.{Value, Single, Group, shape_of, own_target}
 use Rattle.jfr_value.proofs.NodeLaws.{target_is}
 use Rattle.jfr_pool.specs.declared.entry.EntryAt.{EntryAt}
 use Rattle.jfr_worklist.specs.Marks.{IsMarked}
-use Rattle.jfr_worklist.proofs.Members.{In, contains_in}
+use Rattle.jfr_worklist.specs.Members.{In}
+use Rattle.jfr_worklist.proofs.Members.{contains_in}
 use Rattle.jfr_chunk.specs.Parts.{Parts, EventAt, AreParts, events_of}
 use Rattle.jfr_chunk.specs.Laws.{AreEvents}
 use Rattle.jfr_chunk.specs.Reach.{marked, reached_marks, kept_by, remain}

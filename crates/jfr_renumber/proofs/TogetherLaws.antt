@@ -9,7 +9,7 @@ use Rattle.jfr_value.specs.Nodes.{node_bytes}
 use Rattle.jfr_pool.specs.declared.entry.EntryAt.{EntryAt}
 use Rattle.jfr_pool.specs.Entries.{in_force, entry_node}
 use Rattle.jfr_chunk.specs.Parts.{Parts}
-use Rattle.jfr_worklist.proofs.Members.{In}
+use Rattle.jfr_worklist.specs.Members.{In}
 use Rattle.jfr_renumber.specs.Renumber.{together, equal_values, pair_of, firsts_of}
 use Rattle.jfr_renumber.specs.Keys.{Together}
 

@@ -12,7 +12,8 @@ use Rattle.jfr_chunk.specs.Parts.{Parts, EventAt}
 use Rattle.jfr_chunk.specs.Paths.{leads}
 use Rattle.jfr_worklist.specs.Marks.{IsMarked}
 use Rattle.jfr_chunk.specs.Reach.{Reached, all_targets, nodes_of, reached_marks, marked, remain}
-use Rattle.jfr_worklist.proofs.Members.{In, contains_in, in_contains, in_left, in_right, in_cases}
+use Rattle.jfr_worklist.specs.Members.{In}
+use Rattle.jfr_worklist.proofs.Members.{contains_in, in_contains, in_left, in_right, in_cases}
 use Rattle.jfr_pool.proofs.ForceLaws.{Forced, forced, numbered}
 use Rattle.jfr_chunk.proofs.PathLaws.{Standing}
 use Rattle.jfr_chunk.proofs.ReachLaws.{leads_append, target_path, follow_is, reach_least}

@@ -16,7 +16,8 @@ use Rattle.jfr_chunk.proofs.StandingLaws.{standing}
 use Rattle.jfr_laws.proofs.Same.{chosen_events}
 use Rattle.jfr_chunk.proofs.AllLaws.{all_in, in_filter}
 use Rattle.jfr_pool.proofs.ForceLaws.{forced}
-use Rattle.jfr_worklist.proofs.Members.{In, contains_in, in_contains, in_left, in_right, in_cases}
+use Rattle.jfr_worklist.specs.Members.{In}
+use Rattle.jfr_worklist.proofs.Members.{contains_in, in_contains, in_left, in_right, in_cases}
 use Rattle.jfr_chunk.proofs.PathLaws.{Standing}
 use Rattle.jfr_renumber.specs.declared.numbering.UsedKey.{UsedKey}
 use Rattle.jfr_renumber.specs.Missing.{IsRising, flagged, is_missing}

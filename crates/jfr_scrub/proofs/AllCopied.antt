@@ -12,7 +12,8 @@ use Rattle.jfr_chunk.specs.Parts.{Parts, EventAt, AreParts, events_of, metadata_
 use Rattle.jfr_chunk.specs.Reach.{kept_by, marked, reached_marks, remain}
 use Rattle.jfr_chunk.specs.Scrub.{Whole, Chained, output_record_by, output_record_of, output_records, output_records_whole, written_anew}
 use Rattle.jfr_chunk.specs.Metas.{metadata_size, rebuilt}
-use Rattle.jfr_worklist.proofs.Members.{In, contains_in, in_cases}
+use Rattle.jfr_worklist.specs.Members.{In}
+use Rattle.jfr_worklist.proofs.Members.{contains_in, in_cases}
 use Rattle.jfr_chunk.proofs.AllLaws.{all_in, in_filter_map}
 use Rattle.jfr_chunk.proofs.TestLaws.{is_eq}
 use Rattle.jfr_laws.proofs.Listed.{in_any}

@@ -3,8 +3,6 @@ use Rattle.std.proofs.Common.{IsSome, IfSome, ◌≡◌, ℕ, refl, subst, Bool,
 use Rattle.std.specs.List.{AllByRecursion}
 use Rattle.jfr_outside.specs.World.{World, Told}
 use Rattle.jfr_plan.specs.Ends.{End}
-use Rattle.jfr_plan.specs.Effects.{Effect}
-use Rattle.jfr_plan.specs.Walks.{Stops, Goes}
 
 pub and_true : (x y : Bool) → x ≡ true → y ≡ true → (x && y) ≡ true
 and_true true y e f = f
@@ -35,10 +33,6 @@ none_is (Some x) e h = cc
 
 pub same_end : (a b : End) → ◌≡◌ {A = Option End} (Some a) (Some b) → a ≡ b
 same_end a b e = cc
-
--- Effects are no end.
-pub goes_stops : (es : List Effect) (e : End) → Goes es ≡ Stops e → ⊥
-goes_stops es e h = cc
 
 pub for_each : {X : Type 0} (P Q : X → Type 0) (xs : List X) → ((x : X) → P x → Q x) → AllByRecursion P xs → AllByRecursion Q xs
 for_each P Q [] f h = tt

@@ -1,30 +1,17 @@
 -- The state after plans that are carried out one after another.
-use Rattle.std.proofs.Common.{◌≡◌, refl, sym, ◌∙◌, ap, subst, Bool, false, ◌||◌, List, [], ◌∷◌, ◌++◌, Option, None, Some, append_assoc, append-nil}
+use Rattle.std.proofs.Common.{◌≡◌, refl, sym, ◌∙◌, ap, subst, Bool, false, ◌||◌, List, [], ◌++◌, Option, None, Some, append_assoc, append-nil}
 use Rattle.std.specs.List.{list_any}
 use Rattle.std.proofs.lemmas.List.Folds.{list_any-append}
 use Rattle.jfr_plan.specs.Ends.{End, Fine, Refused, TooMany, Way, Ends, NotRead, NotWritten, NoRoom}
-use Rattle.jfr_plan.specs.Effects.{Effect, Plan, Stand, Step, done, broken, effects, Cannot}
+use Rattle.jfr_plan.specs.Effects.{Effect, Plan, Stand, Step, done, effects}
 use Rattle.jfr_plan.specs.Outcomes.{AllDone, SomeDone, Breaks}
+use Rattle.jfr_plan.proofs.Leaving.{some_more, some_after, breaks_more, breaks_after}
 use Rattle.jfr_plan.proofs.Walking.{done_append, effects_append}
 use Rattle.jfr_split.specs.Clauses.{is_finish, Unfinished, FilesOutcome}
 use Rattle.jfr_split.specs.Joins.{then_by, plan_then}
 use Rattle.jfr_split.proofs.Basics.{same_end}
 
 -- More effects come after these.
-pub some_more : (a b all : List Effect) (s t : Stand) → all ≡ a ++ b → SomeDone a s t → SomeDone all s t
-some_more a b all s t e h = record { first = h.first; rest = h.rest ++ b; parts = e ∙ ap (λ (x : List Effect). x ++ b) h.parts ∙ append_assoc h.first h.rest b; stands = h.stands }
-
-pub breaks_more : (steady : Bool) (a b all : List Effect) (s t : Stand) → all ≡ a ++ b → Breaks steady a s t → Breaks steady all s t
-breaks_more steady a b all s t e h = record {
-  first = h.first;
-  failed = h.failed;
-  rest = h.rest ++ b;
-  bytes = h.bytes;
-  parts = e ∙ ap (λ (x : List Effect). x ++ b) h.parts ∙ append_assoc h.first (h.failed ∷ h.rest) b;
-  stands = h.stands;
-  cause = h.cause;
-}
-
 unfinished_more : (steady : Bool) (a b all : List Effect) (s t : Stand) → all ≡ a ++ b → Unfinished steady a s t → Unfinished steady all s t
 unfinished_more steady a b all s t e h = record {
   first = h.first;
@@ -36,27 +23,6 @@ unfinished_more steady a b all s t e h = record {
 }
 
 -- These effects were done before.
-some_after : (a b : List Effect) (s t u : Stand) → t ≡ done a s → SomeDone b t u → SomeDone (a ++ b) s u
-some_after a b s t u e h = record {
-  first = a ++ h.first;
-  rest = h.rest;
-  parts = ap (λ (x : List Effect). a ++ x) h.parts ∙ sym (append_assoc a h.first h.rest);
-  stands = h.stands ∙ ap (done h.first) e ∙ sym (done_append a h.first s);
-}
-
-breaks_after : (steady : Bool) (a b : List Effect) (s t u : Stand) → t ≡ done a s → Breaks steady b t u → Breaks steady (a ++ b) s u
-breaks_after steady a b s t u e h =
-    let at : done h.first t ≡ done (a ++ h.first) s = ap (done h.first) e ∙ sym (done_append a h.first s) in
-    record {
-      first = a ++ h.first;
-      failed = h.failed;
-      rest = h.rest;
-      bytes = h.bytes;
-      parts = ap (λ (x : List Effect). a ++ x) h.parts ∙ sym (append_assoc a h.first (h.failed ∷ h.rest));
-      stands = h.stands ∙ ap (broken h.bytes h.failed) at;
-      cause = λ y. subst (λ (x : Stand). Cannot h.failed x) at (h.cause y);
-    }
-
 unfinished_after : (steady : Bool) (a b : List Effect) (s t u : Stand) → list_any is_finish a ≡ false → t ≡ done a s → Unfinished steady b t u → Unfinished steady (a ++ b) s u
 unfinished_after steady a b s t u n e h = record {
   first = a ++ h.first;

@@ -1,7 +1,7 @@
 -- What the parts hold once all chunks are appended.
 use Rattle.std.proofs.Common.{◌≡◌, ℕ, zero, suc, ◌+◌, ◌<◌, ◌≤◌, refl, sym, ◌∙◌, ap, subst, Bool, true, false, cond, ◌&&◌, List, [], ◌∷◌, ◌++◌, length, Option, Some, unwrap_or, nat_le, ◌==◌, if◌then◌else◌, append_assoc, append-nil, arith}
 use Rattle.std.proofs.lemmas.Grind.{common_steps}
-use Rattle.std.proofs.lemmas.Bool.{leb-false}
+use Rattle.std.proofs.lemmas.Bool.{leb-false, lt-leb}
 use Rattle.std.specs.Prelude.{is_some}
 use Rattle.std.specs.FinMap as fin
 use Rattle.jfr_outside.specs.World.{Files, grown}
@@ -91,6 +91,12 @@ new_by rule name p c m false e es g = leb-false m p.number e
 
 pub may_begin : (rule : SplitRule) (name : ℕ → List ℕ) (p : Part) (c : List ℕ) → IsGoing (asks_new rule name p c) → p.number < rule.max_parts
 may_begin rule name p c g = new_by rule name p c rule.max_parts (nat_le rule.max_parts p.number) refl (closing p ++ Create (name (p.number + 1)) ∷ Append c ∷ []) g
+
+-- There may be one part more.
+pub asks_some : (rule : SplitRule) (name : ℕ → List ℕ) (p : Part) (c : List ℕ) → p.number < rule.max_parts → asks_new rule name p c ≡ Goes ((closing p ++ Create (name (p.number + 1)) ∷ []) ++ Append c ∷ [])
+asks_some rule name p c h =
+    let es = closing p ++ Create (name (p.number + 1)) ∷ Append c ∷ [] in
+    ap (λ (b : Bool). if b then Stops TooMany else Goes es) (lt-leb rule.max_parts p.number h) ∙ ap (λ (x : List Effect). Goes x) (sym (append_assoc (closing p) (Create (name (p.number + 1)) ∷ []) (Append c ∷ [])))
 
 pub new_asks : (rule : SplitRule) (name : ℕ → List ℕ) (p : Part) (c : List ℕ) → IsGoing (asks_new rule name p c) → asked (asks_new rule name p c) ≡ closing p ++ Create (name (p.number + 1)) ∷ Append c ∷ []
 new_asks rule name p c g = by (nat_le rule.max_parts p.number) (closing p ++ Create (name (p.number + 1)) ∷ Append c ∷ []) g

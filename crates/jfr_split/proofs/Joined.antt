@@ -21,11 +21,11 @@ use Rattle.jfr_plan.proofs.EndsWell.{NeverStopsWell, plan_ends_well}
 use Rattle.jfr_plan.proofs.Walking.{done_append}
 use Rattle.jfr_split.specs.Clauses.{is_finish, FilesOutcome}
 use Rattle.jfr_split.specs.Joins.{adding, plan_then, joining, CanJoin}
-use Rattle.jfr_split.proofs.Basics.{goes_stops}
+use Rattle.jfr_plan.proofs.Leaving.{goes_stops, some_more, breaks_more}
 use Rattle.jfr_split.proofs.Over.{is, same_name, look}
 use Rattle.jfr_split.proofs.Sorting.{bytes_of}
 use Rattle.jfr_split.proofs.Rejoin.{appends, appends_append, adds, one_part}
-use Rattle.jfr_split.proofs.Composing.{Follows, outcome_after, outcome_stops, some_more, breaks_more}
+use Rattle.jfr_split.proofs.Composing.{Follows, outcome_after, outcome_stops}
 use Rattle.jfr_split.proofs.Halting.{file_outcome}
 
 -- The first files were joined: these are their chunks, and the plan continues with the files after them.

@@ -9,7 +9,6 @@ mod Fold
 mod Grouped
 mod Halting
 mod Joined
-mod Leaving
 mod Listed
 mod Naming
 mod Ordered

@@ -11,12 +11,11 @@ ghost use Rattle.jfr_plan.specs.Clauses.{Ran, CanCreate};
 ghost use Rattle.jfr_split.specs.Joins.{adding, joining, joining_all, files_in, CanJoin};
 ghost use Rattle.jfr_split.specs.Clauses.{AfterFiles, joins};
 
-use crate::effects::{append_chunk, create_output, finish_output};
 use crate::listing::joined_files;
 use jfr_base::{Reason, Refusal};
 use jfr_header::Ending;
 use jfr_outside::{Place, Sink};
-use jfr_plan::{Discard, Position, Stage, run_stage};
+use jfr_plan::{Discard, Position, Stage, append_output, create_output, finish_output, run_stage};
 use std::alloc::Global;
 
 // The stage that appends each chunk of a file to the output.
@@ -41,7 +40,7 @@ impl Stage for Adding {
         chunk: &[u8],
         _number: u64,
     ) -> Result<(), Ending> {
-        append_chunk(place, chunk)
+        append_output(place, chunk)
     }
 
     fn end<P: Place, O: Sink>(&self, _place: &mut P, _out: &mut O) -> Result<(), Ending> {

@@ -5,7 +5,6 @@
 //! first, then `specs/Splits.antt` and `specs/Joins.antt`, which define what the two commands do.
 #![tactic(auto)]
 
-mod effects;
 mod joining;
 pub mod laws;
 mod listing;

@@ -2,18 +2,18 @@
 ghost use Rattle.std.specs.Prelude.{◌≡◌, ◌<◌, ◌+◌, ◌≤◌, ◌∷◌, [], ◌++◌, OnOk, true};
 ghost use Rattle.jfr_outside.specs.World.{SinkState};
 ghost use Rattle.jfr_plan.specs.Effects.{outside, Create};
-ghost use Rattle.jfr_plan.specs.Walks.{Goes, Parts};
-ghost use Rattle.jfr_plan.specs.Parts.{PartLeaves, PartTallied};
+ghost use Rattle.jfr_plan.specs.Walks.{Parts};
+ghost use Rattle.jfr_plan.specs.Parts.{PartLeaves, PartTallied, PlaceLeaves, PlaceCounts};
 ghost use Rattle.jfr_split.specs.Parts.{IsUsable, folder_of, begins};
 ghost use Rattle.jfr_split.specs.Names.{part_name};
 ghost use Rattle.jfr_split.specs.Splits.{closing, asks_new, asks_part};
 
 use crate::SplitRule;
-use crate::effects::{append_chunk, create_output, finish_output};
 use crate::name::part_string;
 use crate::part::{Part, folder_name, starts_part};
 use jfr_header::Ending;
 use jfr_outside::Place;
+use jfr_plan::{append_output, create_output, finish_output};
 use std::alloc::Global;
 
 /// What stays the same while a recording is split: its name, and the rule.
@@ -26,10 +26,8 @@ pub struct Split<'a> {
 
 /// Finishes the last part, if there is one.
 pub fn close_part<P: Place>(place: &mut P, part: &Part) -> Result<(), Ending>
-    ensures told { (sink : SinkState) → PartLeaves (Goes (closing part.now)) result
-        (outside (P.state place.old) sink) (outside (P.state place.new) sink) }
-    ensures counts { (sink : SinkState) → PartTallied Parts result
-        (outside (P.state place.old) sink) (outside (P.state place.new) sink) }
+    ensures told { PlaceLeaves (closing part.now) result (P.state place.old) (P.state place.new) }
+    ensures counts { PlaceCounts result (P.state place.old) (P.state place.new) }
 {
     if part.number == 0 {
         return Ok(());
@@ -40,11 +38,10 @@ pub fn close_part<P: Place>(place: &mut P, part: &Part) -> Result<(), Ending>
 // Finishes the last part and creates the next one.
 fn open_part<P: Place>(split: Split<'_>, place: &mut P, part: &Part) -> Result<(), Ending>
     requires { part.now.number + 1 ≤ 999999 }
-    ensures told { (sink : SinkState) → PartLeaves
-        (Goes (closing part.now ++ Create (part_name (folder_of split.entry.rule.now) split.entry.file.now (part.now.number + 1)) ∷ [])) result
-        (outside (P.state place.old) sink) (outside (P.state place.new) sink) }
-    ensures counts { (sink : SinkState) → PartTallied Parts result
-        (outside (P.state place.old) sink) (outside (P.state place.new) sink) }
+    ensures told { PlaceLeaves
+        (closing part.now ++ Create (part_name (folder_of split.entry.rule.now) split.entry.file.now (part.now.number + 1)) ∷ [])
+        result (P.state place.old) (P.state place.new) }
+    ensures counts { PlaceCounts result (P.state place.old) (P.state place.new) }
 {
     close_part(place, part)?;
     let folder = folder_name(split.rule);
@@ -71,7 +68,7 @@ fn begin_part<P: Place>(
         return Err(Ending::TooManyParts);
     }
     open_part(split, place, part)?;
-    append_chunk(place, chunk)
+    append_output(place, chunk)
 }
 
 /// Appends the chunk to its part, which is created first if the chunk starts it.
@@ -92,5 +89,5 @@ pub fn write_chunk<P: Place>(
     if starts_part(split.rule, part, chunk) {
         return begin_part(split, place, part, chunk);
     }
-    append_chunk(place, chunk)
+    append_output(place, chunk)
 }

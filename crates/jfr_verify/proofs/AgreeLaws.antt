@@ -9,7 +9,8 @@ use Rattle.jfr_layout.proofs.SoundLaws.{are_known, stand_once}
 use Rattle.jfr_value.specs.Values.{Value, Single, Group, Fits, shape_of}
 use Rattle.jfr_value.specs.Nodes.{NodeAt, IsNode}
 use Rattle.jfr_pool.specs.Entries.{inline}
-use Rattle.jfr_worklist.proofs.Members.{In, contains_in, in_contains, get_in}
+use Rattle.jfr_worklist.specs.Members.{In}
+use Rattle.jfr_worklist.proofs.Members.{contains_in, in_contains, get_in}
 use Rattle.jfr_verify.specs.Checks.{HasClasses}
 
 pub all_from_get : {X : Type 0} (P : X → Type 0) (xs : List X) → ((i : ℕ) (x : X) → slice_get xs i ≡ Some x → P x) → AllByRecursion P xs

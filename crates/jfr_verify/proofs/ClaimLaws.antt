@@ -14,7 +14,8 @@ use Rattle.jfr_chunk.specs.Parts.{Parts, EventAt, events_of}
 use Rattle.jfr_worklist.specs.Marks.{IsMarked, marked_at, add, those}
 use Rattle.jfr_chunk.specs.Reach.{node_entries, next_entries}
 use Rattle.jfr_pool.proofs.ForceLaws.{force_within}
-use Rattle.jfr_worklist.proofs.Members.{In, contains_in, in_contains, in_those}
+use Rattle.jfr_worklist.specs.Members.{In}
+use Rattle.jfr_worklist.proofs.Members.{contains_in, in_contains, in_those}
 use Rattle.jfr_verify.specs.declared.claims.Claims.{Claims}
 use Rattle.jfr_verify.specs.declared.line.Parent.{Parent}
 use Rattle.jfr_verify.specs.declared.line.Parent.TheVariants.{OfEvent, OfEntry}

@@ -15,7 +15,8 @@ use Rattle.jfr_chunk.specs.Parts.{Parts, EventAt, events_of, AreParts}
 use Rattle.jfr_worklist.specs.Marks.{IsMarked}
 use Rattle.jfr_chunk.specs.Reach.{Reached, reached_marks, remain, kept_by, roots, next_entries}
 use Rattle.jfr_chunk.specs.Laws.{SameRecords}
-use Rattle.jfr_worklist.proofs.Members.{In, get_in, in_contains}
+use Rattle.jfr_worklist.specs.Members.{In}
+use Rattle.jfr_worklist.proofs.Members.{get_in, in_contains}
 use Rattle.jfr_chunk.specs.Metas.{metadata_size, rebuilt, stays_in}
 use Rattle.jfr_worklist.proofs.SweepLaws.{root, more}
 use Rattle.jfr_chunk.proofs.ReachedLaws.{reached_marked, path_reach, reach_path}

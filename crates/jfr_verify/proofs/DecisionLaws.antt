@@ -5,7 +5,8 @@ use Rattle.std.proofs.Common.{ap, arith, refl, ◌∙◌, subst, inl, inr}
 use Rattle.std.proofs.lemmas.List.Elements.{All-from_recursion, recursion_from_All}
 use Rattle.jfr_layout.specs.Classes.{Class, Field}
 use Rattle.jfr_layout.specs.declared.shape.Shape.{Shape}
-use Rattle.jfr_worklist.proofs.Members.{In, contains_in, in_contains}
+use Rattle.jfr_worklist.specs.Members.{In}
+use Rattle.jfr_worklist.proofs.Members.{contains_in, in_contains}
 
 abbrev pub Dec : Type 0 → Type 0
 Dec t = t ⊎ (t → ⊥)

@@ -13,7 +13,8 @@ use Rattle.jfr_chunk.specs.Parts.{Parts, EventAt, events_of}
 use Rattle.jfr_worklist.specs.Marks.{is_marked, IsMarked, marked_at, those}
 use Rattle.jfr_chunk.specs.Reach.{all_targets, nodes_of, roots, node_entries, next_entries}
 use Rattle.jfr_pool.proofs.ForceLaws.{force_within}
-use Rattle.jfr_worklist.proofs.Members.{In, contains_in, in_contains, in_left, in_right, in_those}
+use Rattle.jfr_worklist.specs.Members.{In}
+use Rattle.jfr_worklist.proofs.Members.{contains_in, in_contains, in_left, in_right, in_those}
 use Rattle.jfr_chunk.proofs.RefLaws.{those_append}
 use Rattle.jfr_worklist.proofs.SweepLaws.{Reach, root, more}
 use Rattle.jfr_verify.specs.declared.line.Parent.{Parent}

@@ -4,7 +4,7 @@ use Rattle.std.proofs.Common.{ap, arith, refl, sym, ◌∙◌, subst, inl, inr}
 use Rattle.std.proofs.lemmas.Bool.{cases_lt}
 use Rattle.std.proofs.lemmas.List.{length-set, get_or-set_same, get_or-set_other}
 use Rattle.jfr_worklist.specs.Marks.{is_marked, IsMarked, marked_at}
-use Rattle.jfr_worklist.proofs.Members.{In}
+use Rattle.jfr_worklist.specs.Members.{In}
 use Rattle.jfr_worklist.specs.Worklists.{marked_count}
 
 same_or_not : (i j : ℕ) → (j ≡ i) ⊎ (i ≢ j)

@@ -16,7 +16,8 @@ use Rattle.jfr_pool.proofs.OneLaws.{last_is}
 use Rattle.jfr_chunk.specs.Parts.{Parts}
 use Rattle.jfr_worklist.specs.Marks.{is_marked, IsMarked, marked_at, those}
 use Rattle.jfr_chunk.specs.Reach.{node_entries, next_entries}
-use Rattle.jfr_worklist.proofs.Members.{In, contains_in, in_contains, in_those, those_in}
+use Rattle.jfr_worklist.specs.Members.{In}
+use Rattle.jfr_worklist.proofs.Members.{contains_in, in_contains, in_those, those_in}
 use Rattle.std.specs.declared.vec.Vec.{Vec}
 use Rattle.std.specs.declared.alloc.Global.{Global}
 use Rattle.jfr_verify.specs.declared.reading.LinesRead.{LinesRead}

@@ -6,7 +6,7 @@ use Rattle.jfr_layout.specs.Classes.{Agree}
 use Rattle.jfr_chunk.specs.Parts.{Parts, EventAt}
 use Rattle.jfr_chunk.specs.Meaning.{SameEvent, SameMeaning}
 use Rattle.jfr_chunk.specs.Laws.{SameRecords}
-use Rattle.jfr_worklist.proofs.Members.{In}
+use Rattle.jfr_worklist.specs.Members.{In}
 use Rattle.jfr_verify.specs.Checks.{contents}
 
 split_cons : {X : Type 0} (x y : X) (xs ys : List X) → x ∷ xs ≡ y ∷ ys → (x ≡ y) × (xs ≡ ys)

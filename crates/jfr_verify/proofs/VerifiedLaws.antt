@@ -17,7 +17,8 @@ use Rattle.jfr_worklist.specs.Marks.{IsMarked}
 use Rattle.jfr_chunk.specs.Reach.{Reached, reached_marks, marked, kept_by, remain, roots, next_entries, all_targets, nodes_of}
 use Rattle.jfr_chunk.specs.Meaning.{SameMeaning}
 use Rattle.jfr_chunk.specs.Laws.{SameRecords, SameOnPaths}
-use Rattle.jfr_worklist.proofs.Members.{In, contains_in, in_contains, in_left, in_right, get_in, those_in}
+use Rattle.jfr_worklist.specs.Members.{In}
+use Rattle.jfr_worklist.proofs.Members.{contains_in, in_contains, in_left, in_right, get_in, those_in}
 use Rattle.jfr_chunk.proofs.PathLaws.{Standing}
 use Rattle.jfr_chunk.proofs.StandingLaws.{standing, event_is}
 use Rattle.jfr_pool.proofs.ForceLaws.{Forced, forced}

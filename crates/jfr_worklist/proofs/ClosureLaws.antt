@@ -1,7 +1,7 @@
 -- A worklist marks exactly what the roots lead to.
 use Rattle.std.specs.Prelude.{◌≡◌, ℕ, List, [], ◌∷◌, ◌⊎◌}
 use Rattle.std.proofs.Common.{refl, inl, inr, subst, sym}
-use Rattle.jfr_worklist.proofs.Members.{In}
+use Rattle.jfr_worklist.specs.Members.{In}
 use Rattle.jfr_worklist.proofs.SweepLaws.{Reach, root, more}
 
 -- M are the marked numbers, P those of them that have not been visited, and left the numbers that have still

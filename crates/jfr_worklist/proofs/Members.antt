@@ -1,12 +1,8 @@
 -- Members of lists, and the values that a function has at them.
 use Rattle.std.specs.Prelude.{◌≡◌, ℕ, zero, suc, List, [], ◌∷◌, ◌++◌, Contains, slice_get, Option, Some, None, ◌⊎◌}
 use Rattle.std.proofs.Common.{ap, arith, refl, ◌∙◌, inl, inr}
+use Rattle.jfr_worklist.specs.Members.{In}
 use Rattle.jfr_worklist.specs.Marks.{add, those}
-
--- x is a member.
-abbrev pub In : {X : Type 0} → List X → X → Type 0
-In [] x = ⊥
-In (y ∷ ys) x = (y ≡ x) ⊎ In ys x
 
 pub contains_in : {X : Type 0} (xs : List X) (x : X) → Contains xs x → In xs x
 contains_in [] x (k, l, e) = absurd (omega (arith, l))

@@ -4,7 +4,7 @@ use Rattle.std.proofs.Common.{ap, arith, refl, sym, ◌∙◌, inl, inr}
 use Rattle.std.proofs.lemmas.List.{get_or-set_same, get_or-set_other, length-set, length-append}
 use Rattle.std.proofs.lemmas.Bool.{cases_lt}
 use Rattle.jfr_worklist.specs.Marks.{is_marked, IsMarked, marked_at}
-use Rattle.jfr_worklist.proofs.Members.{In}
+use Rattle.jfr_worklist.specs.Members.{In}
 use Rattle.jfr_worklist.proofs.SweepLaws.{AllBelow}
 use Rattle.jfr_worklist.specs.Worklists.{ordered, ordered_all}
 use Rattle.jfr_worklist.proofs.ClosureLaws.{Work, work_puts}

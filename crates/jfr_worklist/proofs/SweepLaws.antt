@@ -4,7 +4,7 @@ use Rattle.std.proofs.Common.{ap, arith, refl, sym, ◌∙◌, inl, inr, subst}
 use Rattle.std.proofs.lemmas.List.{length-set, length-replicate, get_or-set_same, get_or-set_other}
 use Rattle.std.proofs.lemmas.Bool.{cases_lt}
 use Rattle.jfr_worklist.specs.Marks.{IsMarked, marked_at, led_to, swept}
-use Rattle.jfr_worklist.proofs.Members.{In}
+use Rattle.jfr_worklist.specs.Members.{In}
 use Rattle.jfr_worklist.proofs.Rounds.{Grows, rounds, rests}
 
 pub data Reach (next : ℕ → List ℕ) (roots : List ℕ) : ℕ → Type 0 where

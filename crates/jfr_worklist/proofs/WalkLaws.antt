@@ -3,7 +3,7 @@ use Rattle.std.specs.Prelude.{◌≡◌, ◌↔◌, ℕ, zero, suc, ◌+◌, ◌
 use Rattle.std.proofs.Common.{ap, arith, refl, sym, ◌∙◌, inl, inr, subst}
 use Rattle.std.proofs.lemmas.List.{length-set, length-append, length-replicate}
 use Rattle.jfr_worklist.specs.Marks.{is_marked, IsMarked, marked_at}
-use Rattle.jfr_worklist.proofs.Members.{In}
+use Rattle.jfr_worklist.specs.Members.{In}
 use Rattle.jfr_worklist.proofs.SweepLaws.{Reach, AllBelow}
 use Rattle.jfr_worklist.specs.Worklists.{ordered, ordered_all}
 use Rattle.jfr_worklist.proofs.ClosureLaws.{Work, work_starts, work_takes, work_done}

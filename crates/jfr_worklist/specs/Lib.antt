@@ -1,3 +1,4 @@
+pub mod Members
 pub mod Marks
 pub mod Worklists
 pub mod Putting

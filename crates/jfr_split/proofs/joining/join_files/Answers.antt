@@ -1,18 +1,15 @@
 use Rattle.std.proofs.Common.{◌≡◌, ◌∙◌, refl, ap, subst, Bool, [], ◌∷◌, None, Ok, Err, String, string_bytes, arith}
 use Rattle.std.specs.declared.alloc.Global.{Global}
-use Rattle.jfr_outside.specs.World.{SinkState, Told}
+use Rattle.jfr_outside.specs.World.{Told}
 use Rattle.jfr_plan.specs.Ends.{Ends, Fine, way_of}
-use Rattle.jfr_plan.specs.Effects.{Finish, alone}
+use Rattle.jfr_plan.specs.Effects.{Finish, alone, no_sink}
 use Rattle.jfr_plan.specs.Walks.{Goes, File}
 use Rattle.jfr_plan.specs.Outcomes.{OutcomeOf, Kept}
 use Rattle.jfr_plan.specs.Parts.{PartTold}
 use Rattle.jfr_split.specs.Joins.{adding}
-use Rattle.jfr_split.proofs.Leaving.{counted_after, tallied_after}
+use Rattle.jfr_plan.proofs.Leaving.{counted_after, tallied, tallied_after}
 use Rattle.jfr_split.proofs.Joined.{joined_none, file_joined, file_ended, files_ended, fine_done}
 use Rattle.jfr_split.proofs.joining.join_files.Goals as goal
-
-abbrev no_sink : SinkState
-no_sink = record { written = None; faults = 0 }
 
 pub files-init : goal.files-init
 files-init g c = record {
@@ -63,7 +60,7 @@ returns-in-Ok-clause-told g c = λ output contents can.
 
 pub returns-in-Ok-clause-counts : goal.returns-in-Ok-clause-counts
 returns-in-Ok-clause-counts g c =
-    (tt, counted_after Kept Kept Kept (alone (g.P.Place.state c.args.place.now)) (alone (g.P.Place.state c.files.place)) (alone (g.P.Place.state c.finish_output.new.place)) c.files.invariant.counts (c.in-Ok.ensures.file no_sink))
+    (tt, counted_after Kept Kept Kept (alone (g.P.Place.state c.args.place.now)) (alone (g.P.Place.state c.files.place)) (alone (g.P.Place.state c.finish_output.new.place)) c.files.invariant.counts (c.in-Ok.ensures.counts no_sink))
 
 pub returns-clause-told : goal.returns-clause-told
 returns-clause-told g c = λ output contents can.
@@ -76,4 +73,7 @@ returns-clause-told g c = λ output contents can.
 
 pub returns-clause-counts : goal.returns-clause-counts
 returns-clause-counts g c =
-    tallied_after File (way_of c.in-Err.ending) (alone (g.P.Place.state c.args.place.now)) (alone (g.P.Place.state c.files.place)) (alone (g.P.Place.state c.finish_output.new.place)) c.files.invariant.counts (c.in-Err.ensures.file no_sink)
+    let before = alone (g.P.Place.state c.args.place.now) in
+    let here = alone (g.P.Place.state c.files.place) in
+    let after = alone (g.P.Place.state c.finish_output.new.place) in
+    tallied_after File (way_of c.in-Err.ending) before here after c.files.invariant.counts (tallied (Err c.in-Err.ending) here after (c.in-Err.ensures.counts no_sink)).0

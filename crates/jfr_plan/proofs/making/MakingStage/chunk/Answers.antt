@@ -1,10 +1,11 @@
-use Rattle.std.proofs.Common.{◌≡◌, ◌+◌, ◌∙◌, ℕ, List, [], ◌∷◌, length, ap, sym, refl, Option}
+use Rattle.std.proofs.Common.{◌≡◌, ◌+◌, ◌∙◌, ℕ, List, [], ◌∷◌, length, ap, sym, Option}
 use Rattle.jfr_base.specs.declared.flaw.Flaw.{Flaw}
 use Rattle.jfr_outside.specs.World.{bytes_in}
 use Rattle.jfr_plan.specs.Effects.{Append, outside}
 use Rattle.jfr_plan.specs.Walks.{Goes, File}
 use Rattle.jfr_plan.specs.Makes.{asks_made}
-use Rattle.jfr_plan.proofs.Failing.{append_leaves, write_tallied, chunk_refused, chunk_tallied}
+use Rattle.jfr_plan.proofs.Failing.{append_leaves, write_counted, chunk_refused, chunk_tallied}
+use Rattle.jfr_plan.proofs.Leaving.{tallied}
 use Rattle.jfr_plan.proofs.making.MakingStage.chunk.Goals as goal
 
 pub returns-in-Err-clause-told : goal.returns-in-Err-clause-told
@@ -29,4 +30,7 @@ returns-clause-told g c = λ before seen number.
 
 pub returns-clause-counts : goal.returns-clause-counts
 returns-clause-counts g c =
-    (write_tallied c.append_pieces.result c.map_err.result (outside (g.P.Place.state c.args.place.now) (g.O.Sink.state c.args._out.now)) (outside (g.P.Place.state c.append_pieces.new.self) (g.O.Sink.state c.args._out.now)) c.map_err.ensures.cases c.append_pieces.ensures.reads c.append_pieces.ensures.writes refl c.append_pieces.ensures.same).0
+    let x = g.P.Place.state c.args.place.now in
+    let y = g.P.Place.state c.append_pieces.new.self in
+    let sink = g.O.Sink.state c.args._out.now in
+    (tallied c.map_err.result (outside x sink) (outside y sink) (write_counted c.append_pieces.result c.map_err.result x y c.map_err.ensures.cases c.append_pieces.ensures.reads c.append_pieces.ensures.writes c.append_pieces.ensures.same sink)).0
