@@ -4,29 +4,29 @@ use lib.Utf8.{encode}
 use Rattle.std.specs.Fmt.{digits}
 use Rattle.std.specs.Str.{chars, is_utf8}
 use Rattle.jfr_base.specs.declared.reason.Reason.TheVariants.{ClassTwice, UnknownType}
+use Rattle.jfr_base.specs.Decimal.{decimal_number}
 use Rattle.jfr_base.specs.Integer.{spell, spell_in}
 use Rattle.jfr_layout.specs.Classes.{class_faults, is_event_class, kind_of}
 use Rattle.jfr_meta.specs.Attributes.{id_of}
 use Rattle.jfr_meta.specs.Slimmed.{retabled, slim_body, slim_in, slim_root, table_of}
 use Rattle.jfr_build.specs.declared.reason.BuildReason.TheVariants.{Class, ValueBad}
-use Rattle.jfr_build.specs.Numbers.{digits_of}
 use Rattle.jfr_build.specs.Lines.{line_of, read_lines}
 use Rattle.jfr_build.specs.Taking.{class_taken, value_taken}
 use Rattle.jfr_build.specs.Described.{metadata_record}
 use Rattle.jfr_build.specs.Builds.{build_of, chunk_of, refused}
 
 one_constant : build_of (codes "class 1 float" ++ 10 ∷ codes "constant 1 0 0x3f800000") ≡ Ok (70 ∷ 76 ∷ 82 ∷ 0 ∷ 0 ∷ 2 ∷ 0 ∷ 1 ∷ 0 ∷ 0 ∷ 0 ∷ 0 ∷ 0 ∷ 0 ∷ 0 ∷ 152 ∷ 0 ∷ 0 ∷ 0 ∷ 0 ∷ 0 ∷ 0 ∷ 0 ∷ 134 ∷ 0 ∷ 0 ∷ 0 ∷ 0 ∷ 0 ∷ 0 ∷ 0 ∷ 68 ∷ 0 ∷ 0 ∷ 0 ∷ 0 ∷ 0 ∷ 0 ∷ 0 ∷ 0 ∷ 0 ∷ 0 ∷ 0 ∷ 0 ∷ 0 ∷ 0 ∷ 0 ∷ 0 ∷ 0 ∷ 0 ∷ 0 ∷ 0 ∷ 0 ∷ 0 ∷ 0 ∷ 0 ∷ 0 ∷ 0 ∷ 0 ∷ 0 ∷ 59 ∷ 154 ∷ 202 ∷ 0 ∷ 0 ∷ 0 ∷ 0 ∷ 3 ∷ 194 ∷ 128 ∷ 128 ∷ 128 ∷ 0 ∷ 0 ∷ 0 ∷ 0 ∷ 1 ∷ 7 ∷ 3 ∷ 4 ∷ 114 ∷ 111 ∷ 111 ∷ 116 ∷ 3 ∷ 8 ∷ 109 ∷ 101 ∷ 116 ∷ 97 ∷ 100 ∷ 97 ∷ 116 ∷ 97 ∷ 3 ∷ 5 ∷ 99 ∷ 108 ∷ 97 ∷ 115 ∷ 115 ∷ 3 ∷ 4 ∷ 110 ∷ 97 ∷ 109 ∷ 101 ∷ 3 ∷ 5 ∷ 102 ∷ 108 ∷ 111 ∷ 97 ∷ 116 ∷ 3 ∷ 2 ∷ 105 ∷ 100 ∷ 3 ∷ 1 ∷ 49 ∷ 0 ∷ 0 ∷ 1 ∷ 1 ∷ 0 ∷ 1 ∷ 2 ∷ 2 ∷ 3 ∷ 4 ∷ 5 ∷ 6 ∷ 0 ∷ 146 ∷ 128 ∷ 128 ∷ 128 ∷ 0 ∷ 1 ∷ 0 ∷ 0 ∷ 0 ∷ 0 ∷ 1 ∷ 1 ∷ 1 ∷ 0 ∷ 63 ∷ 128 ∷ 0 ∷ 0 ∷ [])
-unfolding build_of chunk_of metadata_record class_taken value_taken read_lines line_of digits_of slim_in slim_body retabled table_of slim_root id_of class_faults is_event_class kind_of spell spell_in chars is_utf8 encode digits
+unfolding build_of chunk_of metadata_record class_taken value_taken read_lines line_of slim_in slim_body retabled table_of slim_root id_of decimal_number class_faults is_event_class kind_of spell spell_in chars is_utf8 encode digits
 one_constant = refl
 
 bad_value : build_of (codes "class 5 long" ++ 10 ∷ codes "event 8 t.A" ++ 10 ∷ codes "field n 5 -" ++ 10 ∷ codes "record 8 x") ≡ refused 4 (ValueBad)
-unfolding build_of chunk_of metadata_record class_taken value_taken read_lines line_of digits_of slim_in slim_body retabled table_of slim_root id_of class_faults is_event_class kind_of spell spell_in chars is_utf8 encode digits
+unfolding build_of chunk_of metadata_record class_taken value_taken read_lines line_of slim_in slim_body retabled table_of slim_root id_of decimal_number class_faults is_event_class kind_of spell spell_in chars is_utf8 encode digits
 bad_value = refl
 
 unknown_type : build_of (codes "class 5 long" ++ 10 ∷ codes "event 8 t.A" ++ 10 ∷ codes "field n 6 -" ++ 10 ∷ codes "record 8 300") ≡ refused 3 (Class UnknownType)
-unfolding build_of chunk_of metadata_record class_taken value_taken read_lines line_of digits_of slim_in slim_body retabled table_of slim_root id_of class_faults is_event_class kind_of spell spell_in chars is_utf8 encode digits
+unfolding build_of chunk_of metadata_record class_taken value_taken read_lines line_of slim_in slim_body retabled table_of slim_root id_of decimal_number class_faults is_event_class kind_of spell spell_in chars is_utf8 encode digits
 unknown_type = refl
 
 class_twice : build_of (codes "class 5 long" ++ 10 ∷ codes "class 5 long" ++ 10 ∷ codes "constant 5 1 x") ≡ refused 2 (Class ClassTwice)
-unfolding build_of chunk_of metadata_record class_taken value_taken read_lines line_of digits_of slim_in slim_body retabled table_of slim_root id_of class_faults is_event_class kind_of spell spell_in chars is_utf8 encode digits
+unfolding build_of chunk_of metadata_record class_taken value_taken read_lines line_of slim_in slim_body retabled table_of slim_root id_of decimal_number class_faults is_event_class kind_of spell spell_in chars is_utf8 encode digits
 class_twice = refl

@@ -1,9 +1,7 @@
 -- The words of a line in UTF-8, and what they say.
-use Rattle.std.specs.Prelude.{◌≡◌, ℕ, ◌+◌, ◌^◌, ◌<◌, ◌==◌, ◌&&◌, nat_lt, nat_le, Bool, true, false, List, [], ◌∷◌, ◌++◌, length, drop, Option, Some, None, option_and_then, if◌then◌else◌}
-use Rattle.std.specs.Char.{is_ascii_digit}
-use Rattle.std.specs.List.{AllByRecursion, list_all, onto_first}
+use Rattle.std.specs.Prelude.{◌≡◌, ℕ, ◌+◌, ◌^◌, ◌<◌, ◌==◌, nat_lt, Bool, true, false, List, [], ◌∷◌, ◌++◌, length, drop, Option, Some, None, option_and_then, if◌then◌else◌}
+use Rattle.std.specs.List.{AllByRecursion, onto_first}
 use Rattle.std.specs.Str.{IsUtf8, chars}
-use Rattle.std.specs.Str.Parse.{digits_value}
 use Rattle.std.proofs.Common.{ap, append-nil, arith, get_or, length-append, refl, subst, sym, ◌∙◌}
 use Rattle.std.proofs.Math.Seq.{drop-append_seam, get_or-append_seam, take-append_seam}
 use Rattle.std.proofs.Math.Utf8.{encodes}
@@ -12,6 +10,7 @@ use Rattle.std.proofs.lemmas.Bool.Decides.{nat_tests}
 use Rattle.std.proofs.lemmas.List.{append_assoc}
 use Rattle.std.proofs.lemmas.List.Splits.{slice_split-cons_no, slice_split-cons_yes}
 use Rattle.std.proofs.lemmas.Str.{IsCharBoundary-after_ascii, IsCharBoundary-before_ascii, IsUtf8-drop, IsUtf8-take, encodes-chars}
+use Rattle.jfr_base.specs.Decimal.{below, decimal_number}
 use Rattle.jfr_meta.specs.Attributes.{id_of, not_empty}
 use Rattle.jfr_build.specs.Lines.{at_end, name_of, with_word}
 use Rattle.jfr_build.specs.Pieces.{pieces, words_of}
@@ -59,15 +58,18 @@ words_utf8 bytes u = each_utf8 (words_of bytes) (pieces_utf8 32 (omega arith) []
 -- What a word says.
 pub small : (word : List ℕ) (id : ℕ) → id_of word ≡ Some id → id < 2 ^ 63
 unfolding id_of
-small word id e = by_tests (list_all is_ascii_digit word && nat_lt 0 (length word) && nat_le (length word) 19) (nat_lt (digits_value 10 word) (2 ^ 63)) refl e
+small word id e = by_number (decimal_number word) e
   where
-    by_tests : (t u : Bool) → nat_lt (digits_value 10 word) (2 ^ 63) ≡ u → (if t && u then Some (digits_value 10 word) else None) ≡ Some id → id < 2 ^ 63
-    by_tests true true q e =
-        let v : digits_value 10 word ≡ id = cc in
-        let l : digits_value 10 word < 9223372036854775808 = grind (arith, nat_tests) in
+    by_test : (n : ℕ) (t : Bool) → nat_lt n (2 ^ 63) ≡ t → (if t then Some n else None) ≡ Some id → id < 2 ^ 63
+    by_test n true q e =
+        let v : n ≡ id = cc in
+        let l : n < 9223372036854775808 = grind (arith, nat_tests) in
         omega arith
-    by_tests true false q e = cc
-    by_tests false u q e = cc
+    by_test n false q e = cc
+
+    by_number : (o : Option ℕ) → option_and_then (below (2 ^ 63)) o ≡ Some id → id < 2 ^ 63
+    by_number (Some n) e = by_test n (nat_lt n (2 ^ 63)) refl e
+    by_number None e = cc
 
 pub named : (word name : List ℕ) → IsUtf8 word → name_of word ≡ Some name → IsName name
 named [] name u e = cc

@@ -14,7 +14,6 @@ mod GoodWords
 mod HeaderRead
 mod LineLaws
 mod MetadataRead
-mod NumberLaws
 mod PieceLaws
 mod PoolLaws
 mod PoolsRead

@@ -2,62 +2,62 @@
 use Rattle.std.specs.Prelude.{◌≡◌, true, false, [], ◌∷◌, ◌++◌, Some, None, Err, codes, refl}
 use lib.Utf8.{encode}
 use Rattle.std.specs.Str.{chars, is_utf8}
+use Rattle.jfr_base.specs.Decimal.{decimal_number}
 use Rattle.jfr_base.specs.Integer.{spell}
 use Rattle.jfr_layout.specs.declared.kind.Kind.TheVariants as kinds
 use Rattle.jfr_meta.specs.Attributes.{id_of}
 use Rattle.jfr_build.specs.declared.line.Line.TheVariants as lines
-use Rattle.jfr_build.specs.Numbers.{digits_of}
 use Rattle.jfr_build.specs.Lines.{line_of, read_lines}
 use Rattle.jfr_build.specs.LeafWords.{base_of, unquoted}
 
 -- Lines.
 class_is_read : line_of (codes "class 05 long") ≡ Some (lines.Class 5 (codes "long") false)
-unfolding line_of id_of chars is_utf8 encode
+unfolding line_of id_of decimal_number chars is_utf8 encode
 class_is_read = refl
 
 field_is_read : line_of (codes "field n 5 ca") ≡ Some (lines.Field (codes "n") (record { class = 5; constant = true; array = true }))
-unfolding line_of id_of chars is_utf8 encode
+unfolding line_of id_of decimal_number chars is_utf8 encode
 field_is_read = refl
 
 record_without_words : line_of (codes "record 8") ≡ Some (lines.Record 8 [])
-unfolding line_of id_of chars is_utf8 encode
+unfolding line_of id_of decimal_number chars is_utf8 encode
 record_without_words = refl
 
 record_with_an_empty_word : line_of (codes "record 8 ") ≡ Some (lines.Record 8 ([] ∷ []))
-unfolding line_of id_of chars is_utf8 encode
+unfolding line_of id_of decimal_number chars is_utf8 encode
 record_with_an_empty_word = refl
 
 two_spaces : line_of (codes "class 5  long") ≡ None
-unfolding line_of id_of chars is_utf8 encode
+unfolding line_of id_of decimal_number chars is_utf8 encode
 two_spaces = refl
 
 second_line_is_bad : read_lines (codes "class 5 x" ++ 10 ∷ codes "foo" ++ 10 ∷ 255 ∷ []) ≡ Err 2
-unfolding read_lines line_of id_of chars is_utf8 encode
+unfolding read_lines line_of id_of decimal_number chars is_utf8 encode
 second_line_is_bad = refl
 
 field_before_a_class : read_lines (10 ∷ codes "field n 5 -") ≡ Err 2
-unfolding read_lines line_of id_of chars is_utf8 encode
+unfolding read_lines line_of id_of decimal_number chars is_utf8 encode
 field_before_a_class = refl
 
 -- Numbers.
 minus_zero : base_of kinds.Long (codes "-0") ≡ Some (0 ∷ [])
-unfolding digits_of spell
+unfolding decimal_number spell
 minus_zero = refl
 
 least_long : base_of kinds.Long (codes "-9223372036854775808") ≡ Some (128 ∷ 128 ∷ 128 ∷ 128 ∷ 128 ∷ 128 ∷ 128 ∷ 128 ∷ 128 ∷ [])
-unfolding digits_of spell
+unfolding decimal_number spell
 least_long = refl
 
 too_large_long : base_of kinds.Long (codes "9223372036854775808") ≡ None
-unfolding digits_of spell
+unfolding decimal_number spell
 too_large_long = refl
 
 twenty_digits : base_of kinds.Long (codes "00000000000000000001") ≡ None
-unfolding digits_of spell
+unfolding decimal_number spell
 twenty_digits = refl
 
 negative_short : base_of kinds.Short (codes "-129") ≡ Some (255 ∷ 254 ∷ 3 ∷ [])
-unfolding digits_of spell
+unfolding decimal_number spell
 negative_short = refl
 
 float_one : base_of kinds.Float (codes "0x3f800000") ≡ Some (63 ∷ 128 ∷ 0 ∷ 0 ∷ [])
@@ -71,16 +71,16 @@ other_escape : unquoted (34 ∷ 92 ∷ codes "u0041" ++ 34 ∷ []) ≡ None
 other_escape = refl
 
 text_is_spelled : base_of kinds.Text (34 ∷ 97 ∷ 92 ∷ codes "u0020b" ++ 34 ∷ []) ≡ Some (3 ∷ 3 ∷ 97 ∷ 32 ∷ 98 ∷ [])
-unfolding id_of spell
+unfolding id_of decimal_number spell
 text_is_spelled = refl
 
 empty_text : base_of kinds.Text (34 ∷ 34 ∷ []) ≡ Some (1 ∷ [])
-unfolding id_of spell
+unfolding id_of decimal_number spell
 empty_text = refl
 
 null_string : base_of kinds.Text (codes "null") ≡ Some (0 ∷ [])
 null_string = refl
 
 key_string : base_of kinds.Text (codes "#7") ≡ Some (2 ∷ 7 ∷ [])
-unfolding id_of spell
+unfolding id_of decimal_number spell
 key_string = refl

@@ -4,9 +4,9 @@ use Rattle.std.specs.Option.{option_to_list}
 use Rattle.std.proofs.Common.{ap, arith, get_or, refl, sym, ◌∙◌}
 use Rattle.std.proofs.lemmas.Bool.Decides.{nat_tests}
 use Rattle.std.proofs.lemmas.List.{append_assoc}
+use Rattle.jfr_base.specs.Decimal.{below, decimal_number}
 use Rattle.jfr_build.specs.declared.quoted.Quoted.{Quoted}
-use Rattle.jfr_build.specs.Numbers.{digits_of}
-use Rattle.jfr_build.specs.LeafWords.{below, go_on, hex_byte, hex_bytes, hex_of, byte_before, id_after, quoted_from, quoted_step, signed_of}
+use Rattle.jfr_build.specs.LeafWords.{go_on, hex_byte, hex_bytes, hex_of, byte_before, id_after, quoted_from, quoted_step, signed_of}
 
 test_no : (b mark : ℕ) → (b ≡ mark → ⊥) → (b == mark) ≡ false
 test_no b mark h = let n : b ≢ mark = h in grind (arith, nat_tests)
@@ -17,24 +17,24 @@ no_mark mark [] h = refl
 no_mark mark (c ∷ cs) h = rw (test_no c mark (λ e. h cs (ap (λ z. z ∷ cs) e))) refl
 
 -- Without a minus in front a number isn't negative.
-nothing_spelled : digits_of [] ≡ None
-unfolding digits_of
+nothing_spelled : decimal_number [] ≡ None
+unfolding decimal_number
 nothing_spelled = refl
 
-pub no_minus : (half : ℕ) (w : List ℕ) → ((rest : List ℕ) → w ≡ 45 ∷ rest → ⊥) → signed_of half w ≡ option_and_then (below half) (digits_of w)
+pub no_minus : (half : ℕ) (w : List ℕ) → ((rest : List ℕ) → w ≡ 45 ∷ rest → ⊥) → signed_of half w ≡ option_and_then (below half) (decimal_number w)
 no_minus half [] h = sym (ap (option_and_then (below half)) nothing_spelled)
 no_minus half (c ∷ cs) h = rw (test_no c 45 (λ e. h cs (ap (λ z. z ∷ cs) e))) refl
 
-below_yes : (half n : ℕ) → n < half → below half n ≡ Some n
+pub below_yes : (half n : ℕ) → n < half → below half n ≡ Some n
 below_yes half n l = let t : nat_lt n half ≡ true = grind arith in rw t refl
 
 below_no : (half n : ℕ) → half ≤ n → below half n ≡ None
 below_no half n l = let t : nat_lt n half ≡ false = grind arith in rw t refl
 
-pub small_number : (half n : ℕ) (w : List ℕ) → ((rest : List ℕ) → w ≡ 45 ∷ rest → ⊥) → digits_of w ≡ Some n → n < half → signed_of half w ≡ Some n
+pub small_number : (half n : ℕ) (w : List ℕ) → ((rest : List ℕ) → w ≡ 45 ∷ rest → ⊥) → decimal_number w ≡ Some n → n < half → signed_of half w ≡ Some n
 small_number half n w h e l = no_minus half w h ∙ (ap (option_and_then (below half)) e ∙ below_yes half n l)
 
-pub large_number : (half n : ℕ) (w : List ℕ) → ((rest : List ℕ) → w ≡ 45 ∷ rest → ⊥) → digits_of w ≡ Some n → half ≤ n → signed_of half w ≡ None
+pub large_number : (half n : ℕ) (w : List ℕ) → ((rest : List ℕ) → w ≡ 45 ∷ rest → ⊥) → decimal_number w ≡ Some n → half ≤ n → signed_of half w ≡ None
 large_number half n w h e l = no_minus half w h ∙ (ap (option_and_then (below half)) e ∙ below_no half n l)
 
 -- The bytes that were read, before those that are left.

@@ -1,7 +1,8 @@
 -- The words of leaves: which bytes a word spells.
-use Rattle.std.specs.Prelude.{◌≡◌, ⊤, ℕ, ◌+◌, ◌-◌, ◌*◌, ◌^◌, Bool, true, false, ◌&&◌, ◌||◌, not, ◌==◌, nat_lt, nat_le, List, [], ◌∷◌, ◌++◌, length, Option, Some, None, option_map, option_and_then, if◌then◌else◌, codes}
+use Rattle.std.specs.Prelude.{◌≡◌, ⊤, ℕ, ◌+◌, ◌-◌, ◌*◌, ◌^◌, Bool, true, false, ◌&&◌, ◌||◌, not, ◌==◌, nat_le, List, [], ◌∷◌, ◌++◌, length, Option, Some, None, option_map, option_and_then, if◌then◌else◌, codes}
 use Rattle.std.specs.Option.{option_to_list}
 use Rattle.std.specs.Str.{bytes_eq}
+use Rattle.jfr_base.specs.Decimal.{below, decimal_number}
 use Rattle.jfr_base.specs.Integer.{spell}
 use Rattle.jfr_text.specs.Strings.{Content, Null, Empty, Key, Utf8, Units, Latin}
 use Rattle.jfr_layout.specs.declared.kind.Kind.{Kind}
@@ -12,11 +13,6 @@ use Rattle.jfr_value.specs.Leaves.{LeafAt}
 use Rattle.jfr_meta.specs.Attributes.{id_of}
 use Rattle.jfr_build.specs.declared.quoted.Quoted.{Quoted}
 use Rattle.jfr_build.specs.declared.quoted.Quoted.TheVariants.{Open, Escape, FirstZero, SecondZero, High, Low, Closed}
-use Rattle.jfr_build.specs.Numbers.{digits_of}
-
--- The number, if it is below a bound.
-abbrev pub below : ℕ → ℕ → Option ℕ
-below bound n = if nat_lt n bound then Some n else None
 
 -- The number n with a minus, in two's complement, if `half` of the values have one.
 abbrev pub negated : ℕ → ℕ → ℕ
@@ -26,8 +22,8 @@ negated half n = if n == 0 then 0 else 2 * half - n
 abbrev pub signed_of : ℕ → List ℕ → Option ℕ
 signed_of half [] = None
 signed_of half (c ∷ cs) =
-    if c == 45 then option_map (negated half) (option_and_then (below (half + 1)) (digits_of cs))
-    else option_and_then (below half) (digits_of (c ∷ cs))
+    if c == 45 then option_map (negated half) (option_and_then (below (half + 1)) (decimal_number cs))
+    else option_and_then (below half) (decimal_number (c ∷ cs))
 
 -- The value of a hexadecimal digit, in lower case.
 abbrev pub hex_digit : ℕ → Option ℕ
@@ -151,7 +147,7 @@ truth_of word = if bytes_eq word (codes "true") then Some (1 ∷ []) else if byt
 abbrev pub base_of : Kind → List ℕ → Option (List ℕ)
 base_of kinds.Boolean word = truth_of word
 base_of kinds.Byte word = option_map (λ n. n ∷ []) (signed_of (2 ^ 7) word)
-base_of kinds.Char word = option_map spell (option_and_then (below (2 ^ 16)) (digits_of word))
+base_of kinds.Char word = option_map spell (option_and_then (below (2 ^ 16)) (decimal_number word))
 base_of kinds.Short word = option_map spell (signed_of (2 ^ 15) word)
 base_of kinds.Int word = option_map spell (signed_of (2 ^ 31) word)
 base_of kinds.Long word = option_map spell (signed_of (2 ^ 63) word)

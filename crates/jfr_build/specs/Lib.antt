@@ -1,6 +1,5 @@
 pub mod Reasons
 pub mod Pieces
-pub mod Numbers
 pub mod Lines
 pub mod ClassLines
 pub mod LeafWords

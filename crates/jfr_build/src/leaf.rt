@@ -1,14 +1,15 @@
 //! Values of the words of a text that are leaves: numbers, truth values and strings.
 ghost use Rattle.std.specs.Prelude.{◌≡◌, ◌<◌, ◌≤◌, ◌*◌, ◌^◌, ◌∷◌, ◌++◌, [], IfSome, OnOk, option_and_then, option_map};
+ghost use Rattle.jfr_base.specs.Decimal.{below, decimal_number};
 ghost use Rattle.jfr_base.specs.Integer.{spell};
-ghost use Rattle.jfr_build.specs.LeafWords.{base_of, below, content_of, hex_byte, hex_of, id_after, negated, signed_of, spelled_content, string_of, truth_of};
-ghost use Rattle.jfr_build.specs.Numbers.{digits_of};
+ghost use Rattle.jfr_build.specs.LeafWords.{base_of, content_of, hex_byte, hex_of, id_after, negated, signed_of, spelled_content, string_of, truth_of};
 ghost use Rattle.jfr_build.specs.Writing.{Appends};
 
-use crate::number::{digits_of, id_of};
 use crate::output::{ValueFault, push_integer};
 use crate::quoted::{hex_digit, unquote};
+use jfr_base::decimal_number;
 use jfr_layout::Kind;
+use jfr_meta::id_of;
 use jfr_text::{EMPTY_BYTE, KEY_BYTE, NULL_BYTE, UTF8_BYTE};
 use std::alloc::AllocError;
 
@@ -41,14 +42,14 @@ fn signed_of(word: &str, half: u64) -> Option<u64>
 {
     match word.strip_prefix('-') {
         Some(digits) => {
-            let number = digits_of(digits)?;
+            let number = decimal_number(digits)?;
             if number > half {
                 return None;
             }
             Some(negated(half, number))
         }
         None => {
-            let number = digits_of(word)?;
+            let number = decimal_number(word)?;
             if number < half { Some(number) } else { None }
         }
     }
@@ -165,9 +166,9 @@ fn push_string(out: &mut Vec<u8>, word: &str, text: &mut Vec<u8>) -> Result<(), 
 
 /// The `char` that a word spells.
 fn char_of(word: &str) -> Option<u64>
-    ensures { result ≡ option_and_then (below (2 ^ 16)) (digits_of word.now) }
+    ensures { result ≡ option_and_then (below (2 ^ 16)) (decimal_number word.now) }
 {
-    let number = digits_of(word)?;
+    let number = decimal_number(word)?;
     if number < CHAR_LIMIT {
         Some(number)
     } else {

@@ -18,7 +18,6 @@ mod leaf;
 mod line;
 mod line_values;
 mod lines;
-mod number;
 mod output;
 mod pieces;
 mod pools;

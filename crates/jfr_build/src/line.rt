@@ -2,10 +2,10 @@
 ghost use Rattle.std.specs.Prelude.{◌≡◌, IfOk};
 ghost use Rattle.jfr_build.specs.Lines.{class_line, constant_line, field_line, line_by, line_of, marks_of, name_of, record_line};
 
-use crate::number::id_of;
 use crate::pieces::WordsLeft;
 use jfr_base::{NoMemory, Text};
 use jfr_layout::Shape;
+use jfr_meta::id_of;
 use std::alloc::Global;
 use std::marker::Model;
 
