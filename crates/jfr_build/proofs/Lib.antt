@@ -27,5 +27,4 @@ mod TreeRead
 mod UnknownLaws
 mod WholeLaws
 mod WordLaws
-mod Writes
 mod WritingLaws

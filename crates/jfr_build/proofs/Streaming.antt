@@ -6,27 +6,24 @@ use Rattle.std.proofs.Common.{ap, refl, sym, ◌∙◌, subst}
 use Rattle.jfr_outside.specs.World.{World, State, Told, file}
 use Rattle.jfr_outside.specs.Counts.{Rose}
 use Rattle.jfr_outside.proofs.HeldLaws.{is_there}
-use Rattle.jfr_outside.specs.declared.fault.Fault.{Fault}
-use Rattle.jfr_outside.specs.declared.fault.Fault.TheVariants as faults
 use Rattle.jfr_header.specs.Taking.{IsKept, Tells}
-use Rattle.jfr_header.specs.Endings as headers
 use Rattle.jfr_header.specs.declared.ending.Ending.{Ending}
 use Rattle.jfr_header.specs.declared.ending.Ending.TheVariants as endings
 use Rattle.jfr_header.proofs.Steps.{chain_told}
 use Rattle.jfr_plan.specs.Ends.{way_of}
-use Rattle.jfr_plan.specs.Effects.{Outside, Stand, alone, done, stand}
+use Rattle.jfr_plan.specs.Effects.{Stand, alone, done, no_sink, stand, writes}
 use Rattle.jfr_plan.specs.Walks.{Goes, File}
 use Rattle.jfr_plan.specs.Outcomes.{Outcome, Counted, Kept, Tallied}
 use Rattle.jfr_plan.specs.Clauses.{CanCreate, Leaves, Ran}
-use Rattle.jfr_plan.specs.Parts.{PartLeaves, PartStands, PartTallied, PartTold}
+use Rattle.jfr_plan.specs.Parts.{PartStands, PartTold, PlaceCounts, PlaceLeaves, WriteRises}
 use Rattle.jfr_plan.proofs.Clauses.{Cans, NeverHalts, none_breaks, ran}
+use Rattle.jfr_plan.proofs.Leaving.{by_write, counted_after}
 use Rattle.jfr_build.specs.declared.ending.BuildEnding.{BuildEnding}
 use Rattle.jfr_build.specs.declared.ending.BuildEnding.TheVariants.{Done, Refused, ReadFault, WriteFault, Memory}
 use Rattle.jfr_build.specs.Accepted.{IsBuiltOf}
 use Rattle.jfr_build.specs.Builds.{Build, build_of}
 use Rattle.jfr_build.specs.Endings.{after_write}
-use Rattle.jfr_build.specs.Streams.{Builds, IfNotRefused, IsDecided, ByChunk, ByRefusal, ForMemory, TextBuilt, TextCounts, as_ending, building, builds, plan_by, writes}
-use Rattle.jfr_build.proofs.Writes.{then_counted}
+use Rattle.jfr_build.specs.Streams.{Builds, IfNotRefused, IsDecided, ByChunk, ByRefusal, ForMemory, TextBuilt, TextCounts, building, builds, plan_by}
 
 -- The files and the open output are unchanged, so nothing was done.
 same_stand : (w v : World) → IsKept w v → stand v None ≡ stand w None
@@ -56,24 +53,9 @@ text_of None b e = cc
 text_of (Some bytes) b e = (bytes, refl, cc)
 
 -- The ending of a write.
-abbrev written_ending : Result (Unit {0}) Fault → Ending
+abbrev written_ending : Result (Unit {0}) Ending → Ending
 written_ending (Ok x) = endings.Done
-written_ending (Err fault) = headers.after_write fault
-
-by_result : (r : Result (Unit {0}) Fault) (P : Ending → Type 0) → P (written_ending r) → IfNotRefused (after_write r) P
-by_result (Ok x) P p = p
-by_result (Err faults.Failed) P p = p
-by_result (Err faults.Memory) P p = p
-
-outcome_by : (out chunk : List ℕ) (st : Bool) (Halts : Stand → Stand → Type 0) (r : Result (Unit {0}) Fault) (s t : Stand) → PartStands st (Goes (writes out chunk)) (as_ending r) s t → Outcome st (plan_by out (Some (Ok chunk))) Halts (way_of (written_ending r)) s t
-outcome_by out chunk st Halts (Ok x) s t h = record { end = refl; stands = h.1 }
-outcome_by out chunk st Halts (Err faults.Failed) s t h = h
-outcome_by out chunk st Halts (Err faults.Memory) s t h = h
-
-tallied_by : (r : Result (Unit {0}) Fault) (x y : Outside) → PartTallied File (as_ending r) x y → Tallied File (way_of (written_ending r)) x y
-tallied_by (Ok x) a b h = (tt, h)
-tallied_by (Err faults.Failed) a b h = h
-tallied_by (Err faults.Memory) a b h = h
+written_ending (Err e) = e
 
 -- A file that was written has its bytes.
 file_written : (out bytes : List ℕ) (w u : World) → stand u None ≡ done (writes out bytes) (stand w None) → file u out ≡ Some bytes
@@ -88,65 +70,77 @@ can_write out bytes w new closed = ((λ c. not_both w.output closed (c new)), ((
 
 module _ (text out : List ℕ) (a : State) where
   -- The text was built, and the chunk was written, or not.
-  module _ (chunk : Vec ℕ Global) (r : Result (Unit {0}) Fault) (b c : State) (read : Tells a b (TextBuilt a.steady text (Ok chunk))) (counts : Counted Kept Kept Kept (alone a) (alone b))
-      (wrote : PartLeaves (Goes (writes out chunk.items)) (as_ending r) (alone b) (alone c)) (tallied : PartTallied File (as_ending r) (alone b) (alone c)) where
+  module _ (chunk : Vec ℕ Global) (r : Result (Unit {0}) Ending) (b c : State) (read : Tells a b (TextBuilt a.steady text (Ok chunk))) (counts : Counted Kept Kept Kept (alone a) (alone b))
+      (wrote : PlaceLeaves (writes out chunk.items) r b c) (counted : PlaceCounts r b c) where
     abbrev OfText : World → World → Type 0
     OfText w v = (option_map build_of (file w text) ≡ Some (Ok chunk.items)) × IsKept w v
 
     abbrev Halts : World → Stand → Stand → Type 0
     Halts w s t = (t ≡ s) × (IsTrue a.steady → file w text ≡ None)
 
+    abbrev Stood : Result (Unit {0}) Ending → World → World → Type 0
+    Stood r w u = PartStands a.steady (Goes (writes out chunk.items)) r (stand w None) (stand u None)
+
+    abbrev Counts : Result (Unit {0}) Ending → Type 0
+    Counts r = Counted Kept (WriteRises r) Kept (alone a) (alone c)
+
+    all : Counts r
+    all = counted_after Kept (WriteRises r) Kept (alone a) (alone b) (alone c) counts (counted no_sink)
+
+    -- A claim on the result of the write, by cases.
+    by_result : (P : Result (Unit {0}) Ending → Type 0) → ((x : Unit {0}) → P (Ok x)) → P (Err endings.WriteFault) → P (Err endings.Memory) → P r
+    by_result P ok failed memory = by_write P r a.write_faults c.write_faults all.1 ok failed memory
+
     -- What is there after the write, from what is known of the text and of the write.
-    chained : (R : World → World → Type 0) → ((w u : World) → option_map build_of (file w text) ≡ Some (Ok chunk.items) → PartStands a.steady (Goes (writes out chunk.items)) (as_ending r) (stand w None) (stand u None) → R w u) → Told a.told c.told R
+    chained : (R : World → World → Type 0) → ((w u : World) → option_map build_of (file w text) ≡ Some (Ok chunk.items) → Stood r w u → R w u) → Told a.told c.told R
     chained R f =
-        chain_told a.told b.told c.told OfText (PartTold a.steady (Goes (writes out chunk.items)) (as_ending r) None None) R read
-        (subst (λ (st : Bool). Told b.told c.told (PartTold st (Goes (writes out chunk.items)) (as_ending r) None None)) counts.3 wrote)
-        (λ w v u p q. f w u p.0 (subst (λ (s : Stand). PartStands a.steady (Goes (writes out chunk.items)) (as_ending r) s (stand u None)) (same_stand w v p.1) q.1))
+        chain_told a.told b.told c.told OfText (PartTold a.steady (Goes (writes out chunk.items)) r None None) R read
+        (subst (λ (st : Bool). Told b.told c.told (PartTold st (Goes (writes out chunk.items)) r None None)) counts.3 (wrote no_sink))
+        (λ w v u p q. f w u p.0 (subst (λ (s : Stand). PartStands a.steady (Goes (writes out chunk.items)) r s (stand u None)) (same_stand w v p.1) q.1))
+
+    outcome : (w u : World) → Stood r w u → Outcome a.steady (plan_by out (Some (Ok chunk.items))) (Halts w) (way_of (written_ending r)) (stand w None) (stand u None)
+    outcome w u = by_result (λ r. Stood r w u → Outcome a.steady (plan_by out (Some (Ok chunk.items))) (Halts w) (way_of (written_ending r)) (stand w None) (stand u None)) (λ x h. record { end = refl; stands = h.1 }) (λ h. h) (λ h. h)
 
     leaves : Leaves (builds text out) (way_of (written_ending r)) (alone a) (alone c)
     leaves =
         chained (λ w u. Outcome a.steady (building out (file w text)) (Halts w) (way_of (written_ending r)) (stand w None) (stand u None))
-        (λ w u p q. subst (λ (o : Option Build). Outcome a.steady (plan_by out o) (Halts w) (way_of (written_ending r)) (stand w None) (stand u None)) (sym p) (outcome_by out chunk.items a.steady (Halts w) r (stand w None) (stand u None) q))
+        (λ w u p q. subst (λ (o : Option Build). Outcome a.steady (plan_by out o) (Halts w) (way_of (written_ending r)) (stand w None) (stand u None)) (sym p) (outcome w u q))
 
-    all : PartTallied File (as_ending r) (alone a) (alone c)
-    all = then_counted r (alone a) (alone b) (alone c) counts tallied
+    tallies : Tallied File (way_of (written_ending r)) (alone a) (alone c)
+    tallies = by_result (λ r. Counts r → Tallied File (way_of (written_ending r)) (alone a) (alone c)) (λ x k. (tt, k)) (λ k. k) (λ k. k) all
 
     pub chunk_ran : IfNotRefused (after_write r) (λ e. Ran (builds text out) e (alone a) (alone c))
-    chunk_ran = by_result r (λ e. Ran (builds text out) e (alone a) (alone c)) (ran (builds text out) (written_ending r) (alone a) (alone c) (never_halts text out) leaves (tallied_by r (alone a) (alone c) all))
+    chunk_ran =
+        by_result (λ r. Ran (builds text out) (written_ending r) (alone a) (alone c) → IfNotRefused (after_write r) (λ e. Ran (builds text out) e (alone a) (alone c))) (λ x h. h) (λ h. h) (λ h. h)
+        (ran (builds text out) (written_ending r) (alone a) (alone c) (never_halts text out) leaves tallies)
 
     pub chunk_built : ((bytes chunk : List ℕ) → build_of bytes ≡ Ok chunk → IsBuiltOf bytes chunk) → after_write r ≡ Done → Tells a c (Builds text out)
-    chunk_built accepted e = chained (Builds text out) (λ w u p q. built w u (text_of (file w text) (Ok chunk.items) p) (done_by r e w u q))
+    chunk_built accepted e = chained (Builds text out) (λ w u p q. built w u (text_of (file w text) (Ok chunk.items) p) (wrote_all w u e q))
       where
-        done_by : (r : Result (Unit {0}) Fault) → after_write r ≡ Done → (w u : World) → PartStands a.steady (Goes (writes out chunk.items)) (as_ending r) (stand w None) (stand u None) → stand u None ≡ done (writes out chunk.items) (stand w None)
-        done_by (Ok x) e w u h = h.1
-        done_by (Err faults.Failed) e w u h = cc
-        done_by (Err faults.Memory) e w u h = cc
+        wrote_all : (w u : World) → after_write r ≡ Done → Stood r w u → stand u None ≡ done (writes out chunk.items) (stand w None)
+        wrote_all w u = by_result (λ r. after_write r ≡ Done → Stood r w u → stand u None ≡ done (writes out chunk.items) (stand w None)) (λ x e h. h.1) (λ e h. cc) (λ e h. cc)
 
         built : (w u : World) → ((bytes : List ℕ) × (file w text ≡ Some bytes) × (build_of bytes ≡ Ok chunk.items)) → stand u None ≡ done (writes out chunk.items) (stand w None) → Builds text out w u
         built w u t d = record { bytes = t.0; read = t.1; chunk = chunk.items; exact = t.2; written = file_written out chunk.items w u d; built = accepted t.0 chunk.items t.2 }
 
     pub chunk_decided : (Rose a.write_faults c.write_faults → ⊥) → IfSome a.told (λ w. IsDecided (file w text) (after_write r))
-    chunk_decided quiet = by_write r all
-      where
-        by_write : (r : Result (Unit {0}) Fault) → PartTallied File (as_ending r) (alone a) (alone c) → IfSome a.told (λ w. IsDecided (file w text) (after_write r))
-        by_write (Ok x) k = if_before a.told b.told OfText (λ w. IsDecided (file w text) Done) read (λ w v p. ByChunk chunk.items p.0 refl)
-        by_write (Err faults.Failed) k = absurd (quiet k.1.1)
-        by_write (Err faults.Memory) k = if_before a.told b.told OfText (λ w. IsDecided (file w text) Memory) read (λ w v p. ForMemory refl)
+    chunk_decided quiet =
+        by_result (λ r. Counts r → IfSome a.told (λ w. IsDecided (file w text) (after_write r)))
+        (λ x k. if_before a.told b.told OfText (λ w. IsDecided (file w text) Done) read (λ w v p. ByChunk chunk.items p.0 refl))
+        (λ k. absurd (quiet k.1.1))
+        (λ k. if_before a.told b.told OfText (λ w. IsDecided (file w text) Memory) read (λ w v p. ForMemory refl)) all
 
     pub chunk_writes : CanCreate out a → (after_write r ≢ WriteFault) × (c.write_faults ≡ a.write_faults)
-    chunk_writes can = by_write r (chained (Stood r) (λ w u p q. q)) all
+    chunk_writes can =
+        by_result (λ r. Told a.told c.told (Stood r) → Counts r → (after_write r ≢ WriteFault) × (c.write_faults ≡ a.write_faults))
+        (λ x h k. ((λ e. cc), k.1))
+        (λ h k. absurd (failed c.told (subst (λ (t : Option World). Told t c.told (Stood (Err endings.WriteFault))) can.told h)))
+        (λ h k. ((λ e. cc), k.1))
+        (chained (Stood r) (λ w u p q. q)) all
       where
-        Stood : Result (Unit {0}) Fault → World → World → Type 0
-        Stood r w u = PartStands a.steady (Goes (writes out chunk.items)) (as_ending r) (stand w None) (stand u None)
-
-        failed : (t : Option World) → Told (Some can.world) t (Stood (Err faults.Failed)) → ⊥
+        failed : (t : Option World) → Told (Some can.world) t (Stood (Err endings.WriteFault)) → ⊥
         failed None h = absurd h
         failed (Some u) h = none_breaks (writes out chunk.items) h.first h.rest h.failed (stand can.world None) (can_write out chunk.items can.world can.new can.closed) h.parts (h.cause can.steady)
-
-        by_write : (r : Result (Unit {0}) Fault) → Told a.told c.told (Stood r) → PartTallied File (as_ending r) (alone a) (alone c) → (after_write r ≢ WriteFault) × (c.write_faults ≡ a.write_faults)
-        by_write (Ok x) h k = ((λ e. cc), k.1)
-        by_write (Err faults.Failed) h k = absurd (failed c.told (subst (λ (t : Option World). Told t c.told (Stood (Err faults.Failed))) can.told h))
-        by_write (Err faults.Memory) h k = ((λ e. cc), k.1)
 
   -- The text wasn't read, or it is refused.
   module _ (b : State) where

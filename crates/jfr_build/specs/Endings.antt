@@ -1,7 +1,7 @@
 -- How building a file ends after each step.
 use Rattle.std.specs.Prelude.{Result, Ok, Err}
-use Rattle.jfr_outside.specs.declared.fault.Fault.{Fault}
-use Rattle.jfr_outside.specs.declared.fault.Fault.TheVariants as faults
+use Rattle.jfr_header.specs.declared.ending.Ending.{Ending}
+use Rattle.jfr_header.specs.declared.ending.Ending.TheVariants as endings
 use Rattle.jfr_file.specs.declared.file.FileFault.{FileFault}
 use Rattle.jfr_file.specs.declared.file.FileFault.TheVariants as files
 use Rattle.jfr_build.specs.declared.reason.BuildReason.TheVariants.{TooLarge}
@@ -21,8 +21,8 @@ abbrev pub after_build : BuildFault → BuildEnding
 after_build (builds.Refused line reason) = Refused line reason
 after_build builds.Memory = Memory
 
--- The ending after the chunk was written, or wasn't.
-abbrev pub after_write : Result (Unit {0}) Fault → BuildEnding
+-- The ending after the chunk was written, or wasn't. The only ending but a write fault is that memory ran out.
+abbrev pub after_write : Result (Unit {0}) Ending → BuildEnding
 after_write (Ok x) = Done
-after_write (Err faults.Failed) = WriteFault
-after_write (Err faults.Memory) = Memory
+after_write (Err endings.WriteFault) = WriteFault
+after_write (Err _) = Memory

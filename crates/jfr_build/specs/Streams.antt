@@ -1,14 +1,12 @@
 -- What `build_stream` does with a text file and an output file.
-use Rattle.std.specs.Prelude.{◌≡◌, ⊤, ℕ, Bool, IsTrue, List, [], ◌∷◌, Vec, Option, None, Some, option_map, Result, Ok, Err}
+use Rattle.std.specs.Prelude.{◌≡◌, ⊤, ℕ, Bool, IsTrue, List, [], Vec, Option, None, Some, option_map, Result, Ok, Err}
 use Rattle.std.specs.declared.alloc.Global.{Global}
 use Rattle.jfr_outside.specs.World.{World, State, file}
-use Rattle.jfr_outside.specs.declared.fault.Fault.{Fault}
 use Rattle.jfr_header.specs.Taking.{Tells, IsKept}
-use Rattle.jfr_header.specs.Endings.{after_write}
 use Rattle.jfr_header.specs.declared.ending.Ending.{Ending}
 use Rattle.jfr_header.specs.declared.ending.Ending.TheVariants as endings
 use Rattle.jfr_plan.specs.Ends.{Fine}
-use Rattle.jfr_plan.specs.Effects.{Effect, Create, Append, Finish, AtEnd, Plan, alone, needing}
+use Rattle.jfr_plan.specs.Effects.{AtEnd, Plan, alone, needing, writes}
 use Rattle.jfr_plan.specs.Walks.{File}
 use Rattle.jfr_plan.specs.Outcomes.{Counted, Kept, Rises}
 use Rattle.jfr_plan.specs.Clauses.{CanRead, Task}
@@ -17,15 +15,6 @@ use Rattle.jfr_build.specs.declared.ending.BuildEnding.{BuildEnding}
 use Rattle.jfr_build.specs.declared.ending.BuildEnding.TheVariants.{Done, Refused, ReadFault, WriteFault, Memory}
 use Rattle.jfr_build.specs.Builds.{Build, build_of, refused}
 use Rattle.jfr_build.specs.Accepted.{IsBuiltOf}
-
--- The effects that write a file.
-abbrev pub writes : List ℕ → List ℕ → List Effect
-writes name bytes = Create name ∷ Append bytes ∷ Finish ∷ []
-
--- The ending of a part whose write had this result.
-abbrev pub as_ending : Result (Unit {0}) Fault → Result (Unit {0}) Ending
-as_ending (Ok x) = Ok x
-as_ending (Err fault) = Err (after_write fault)
 
 -- The plan for what is built of a text, if there is one: the chunk is written. A text that is refused has no
 -- effect and no end; the refusal is the answer.

@@ -4,7 +4,7 @@ ghost use Rattle.jfr_build.specs.Endings.{after_build, after_file, after_write};
 
 use crate::{BuildFault, BuildReason};
 use jfr_file::FileFault;
-use jfr_outside::Fault;
+use jfr_header::Ending;
 
 /// How [`crate::build_stream`] ended.
 #[derive(Clone, Copy, Debug, PartialEq, Eq)]
@@ -46,14 +46,14 @@ impl BuildEnding {
         }
     }
 
-    /// The ending after the output was written, or wasn't.
-    pub(crate) fn of_write(written: Result<(), Fault>) -> BuildEnding
+    /// The ending after the output was written, or after a write failed or memory ran out.
+    pub(crate) fn of_write(written: Result<(), Ending>) -> BuildEnding
         ensures { result ≡ after_write written }
     {
         match written {
             Ok(()) => BuildEnding::Done,
-            Err(Fault::Failed) => BuildEnding::WriteFault,
-            Err(Fault::Memory) => BuildEnding::Memory,
+            Err(Ending::WriteFault) => BuildEnding::WriteFault,
+            Err(_) => BuildEnding::Memory,
         }
     }
 }

@@ -26,7 +26,6 @@ mod reason;
 mod records;
 mod stream;
 mod value;
-mod writing;
 
 pub use building::build;
 pub use ending::BuildEnding;

@@ -11,9 +11,9 @@ ghost use Rattle.jfr_build.specs.Streams.{Builds, IfNotRefused, IfRefused, IsDec
 
 use crate::BuildEnding;
 use crate::building::{TEXT_LIMIT, build};
-use crate::writing::write_file;
 use jfr_file::read_file;
 use jfr_outside::Place;
+use jfr_plan::write_file;
 use std::alloc::Global;
 
 /// The chunk of the text in a file.
