@@ -4,5 +4,6 @@ mod EventLaws
 mod FoldLaws
 mod ItemLaws
 mod MapLaws
+mod MethodLaws
 mod OwedLaws
 mod TextLaws

@@ -20,7 +20,7 @@ use Rattle.jfr_pool.proofs.ForceLaws.{force_within}
 use Rattle.jfr_chunk.specs.Parts.{EventAt, Parts}
 use Rattle.jfr_chunk.specs.Paths.{follow, is_reference, named_field, named_node}
 use Rattle.jfr_path.proofs.FollowLaws.{ends, followed}
-use Rattle.jfr_stacks.specs.Frames.{IsOf, behind, entry_of, frames_in, frames_of, items_of, trace_fields, trace_of}
+use Rattle.jfr_stacks.specs.Frames.{IsOf, behind, entry_of, field_numbers, frames_in, frames_of, items_of, trace_of}
 use Rattle.jfr_stacks.specs.Texts.{LeadsTo, entry_text, frame_text, joined, stack_of, stack_text, trace_text}
 
 -- The text of an event's stack is that of its trace.
@@ -46,30 +46,33 @@ get_map f [] n = refl
 get_map f (x ∷ xs) zero = refl
 get_map f (x ∷ xs) (suc n) = get_map f xs n
 
--- The field of the class with this index.
-pub field_found : (p : Parts) (n : NodeAt) (index number : ℕ) → option_and_then (slice_get p.classes) (Some index) ≡ find_class p.classes n.shape.class → option_and_then (λ x. x) (slice_get (trace_fields p.classes) index) ≡ Some number → named_field p (codes "stackTrace") n ≡ child p.classes p.bytes n (steps.Field number)
-field_found p n index number c e = ap (option_and_then (λ (c : ClassInfo). option_and_then (λ i. child p.classes p.bytes n (steps.Field i)) (field_number c.fields (codes "stackTrace")))) (sym c) ∙ by_class (slice_get p.classes index) (ap (option_and_then (λ x. x)) (sym (get_map (λ (c : ClassInfo). field_number c.fields (codes "stackTrace")) p.classes index)) ∙ e)
-  where
-    by_class : (o : Option ClassInfo) → option_and_then (λ x. x) (option_map (λ (c : ClassInfo). field_number c.fields (codes "stackTrace")) o) ≡ Some number
-        → option_and_then (λ (c : ClassInfo). option_and_then (λ i. child p.classes p.bytes n (steps.Field i)) (field_number c.fields (codes "stackTrace"))) o ≡ child p.classes p.bytes n (steps.Field number)
-    by_class None e = cc
-    by_class (Some c) e = ap (option_and_then (λ i. child p.classes p.bytes n (steps.Field i))) e
+module _ (p : Parts) (n : NodeAt) (name : List ℕ) where
+  -- The field of a class.
+  abbrev field_in : Option ClassInfo → Option NodeAt
+  field_in o = option_and_then (λ (c : ClassInfo). option_and_then (λ i. child p.classes p.bytes n (steps.Field i)) (field_number c.fields name)) o
 
-pub field_missing : (p : Parts) (n : NodeAt) (index : ℕ) → option_and_then (slice_get p.classes) (Some index) ≡ find_class p.classes n.shape.class → option_and_then (λ x. x) (slice_get (trace_fields p.classes) index) ≡ None → named_field p (codes "stackTrace") n ≡ None
-field_missing p n index c e = ap (option_and_then (λ (c : ClassInfo). option_and_then (λ i. child p.classes p.bytes n (steps.Field i)) (field_number c.fields (codes "stackTrace")))) (sym c) ∙ by_class (slice_get p.classes index) (ap (option_and_then (λ x. x)) (sym (get_map (λ (c : ClassInfo). field_number c.fields (codes "stackTrace")) p.classes index)) ∙ e)
-  where
-    by_class : (o : Option ClassInfo) → option_and_then (λ x. x) (option_map (λ (c : ClassInfo). field_number c.fields (codes "stackTrace")) o) ≡ None
-        → option_and_then (λ (c : ClassInfo). option_and_then (λ i. child p.classes p.bytes n (steps.Field i)) (field_number c.fields (codes "stackTrace"))) o ≡ None
-    by_class None e = refl
-    by_class (Some c) e = ap (option_and_then (λ i. child p.classes p.bytes n (steps.Field i))) e
+  -- The field with the number that is listed for its class, and with none.
+  pub field_found : (index number : ℕ) → option_and_then (slice_get p.classes) (Some index) ≡ find_class p.classes n.shape.class → option_and_then (λ x. x) (slice_get (field_numbers name p.classes) index) ≡ Some number → named_field p name n ≡ child p.classes p.bytes n (steps.Field number)
+  field_found index number c e = ap field_in (sym c) ∙ by_class (slice_get p.classes index) (ap (option_and_then (λ x. x)) (sym (get_map (λ (c : ClassInfo). field_number c.fields name) p.classes index)) ∙ e)
+    where
+      by_class : (o : Option ClassInfo) → option_and_then (λ x. x) (option_map (λ (c : ClassInfo). field_number c.fields name) o) ≡ Some number → field_in o ≡ child p.classes p.bytes n (steps.Field number)
+      by_class None e = cc
+      by_class (Some c) e = ap (option_and_then (λ i. child p.classes p.bytes n (steps.Field i))) e
 
-there : {X : Type 0} (xs : List X) (i : ℕ) → i < length xs → (x : X) × (slice_get xs i ≡ Some x)
+  pub field_missing : (index : ℕ) → option_and_then (slice_get p.classes) (Some index) ≡ find_class p.classes n.shape.class → option_and_then (λ x. x) (slice_get (field_numbers name p.classes) index) ≡ None → named_field p name n ≡ None
+  field_missing index c e = ap field_in (sym c) ∙ by_class (slice_get p.classes index) (ap (option_and_then (λ x. x)) (sym (get_map (λ (c : ClassInfo). field_number c.fields name) p.classes index)) ∙ e)
+    where
+      by_class : (o : Option ClassInfo) → option_and_then (λ x. x) (option_map (λ (c : ClassInfo). field_number c.fields name) o) ≡ None → field_in o ≡ None
+      by_class None e = refl
+      by_class (Some c) e = ap (option_and_then (λ i. child p.classes p.bytes n (steps.Field i))) e
+
+pub there : {X : Type 0} (xs : List X) (i : ℕ) → i < length xs → (x : X) × (slice_get xs i ≡ Some x)
 there [] i h = absurd (omega arith)
 there (x ∷ xs) zero h = (x, refl)
 there (x ∷ xs) (suc i) h = there xs i (omega arith)
 
 -- The entry to which a value refers is the one that is followed to.
-entry_followed : (p : Parts) (n : NodeAt) (number : ℕ) (x : EntryAt) → entry_of p n ≡ Some number → slice_get p.entries number ≡ Some x → follow p n ≡ Some (entry_node x)
+pub entry_followed : (p : Parts) (n : NodeAt) (number : ℕ) (x : EntryAt) → entry_of p n ≡ Some number → slice_get p.entries number ≡ Some x → follow p n ≡ Some (entry_node x)
 entry_followed p n number x e g = by_target (target p.classes p.bytes n) e
   where
     by_target : (o : Option (ℕ × ℕ)) → option_and_then (number_in_force p.entries) o ≡ Some number → option_and_then (λ t. option_map entry_node (option_and_then (λ n. slice_get p.entries n) (number_in_force p.entries t))) o ≡ Some (entry_node x)

@@ -22,9 +22,9 @@ items_of p n = if n.shape.array then Some (children p.classes p.bytes n) else No
 unfoldable pub frames_of : Parts → NodeAt → Option (List NodeAt)
 frames_of p n = option_and_then (items_of p) (node_at p n (codes "stackTrace" ∷ codes "frames" ∷ []))
 
--- For each class, the number of its field with the stack trace, if it has one.
-abbrev pub trace_fields : Classes → List (Option ℕ)
-trace_fields k = map (λ c. field_number c.fields (codes "stackTrace")) k
+-- For each class, the number of its field with this name, if it has one.
+abbrev pub field_numbers : List ℕ → Classes → List (Option ℕ)
+field_numbers name k = map (λ c. field_number c.fields name) k
 
 -- The field with the stack trace, in an event with these fields.
 abbrev pub trace_of : Parts → NodeAt → Option NodeAt

@@ -1,19 +1,21 @@
 //! Counts the events of a chunk by their stacks.
-ghost use Rattle.std.specs.Prelude.{◌≡◌, ◌*◌, ℕ, ◌+◌, ◌-◌, ◌^◌, ◌<◌, ◌≤◌, List, ◌++◌, length, IfOk, IfSome, OnErr, OnOk, option_and_then, option_map, option_to_list};
+ghost use Rattle.std.specs.Prelude.{◌≡◌, ◌*◌, ℕ, ◌+◌, ◌-◌, ◌^◌, ◌<◌, ◌≤◌, List, ◌++◌, codes, length, IfOk, IfSome, OnErr, OnOk, option_and_then, option_map, option_to_list};
 ghost use Rattle.std.specs.List.{filter_map};
 ghost use Rattle.jfr_chunk.specs.Parts.{events_of};
 ghost use Rattle.jfr_chunk.specs.Reach.{kept_by};
 ghost use Rattle.jfr_value.specs.Nodes.{IsValue, node_of};
 ghost use Rattle.jfr_stacks.specs.Adding.{AddsText, AddsTexts, AreAtMost, AreBelow, Fits, Owes, kept_at};
 ghost use Rattle.jfr_stacks.specs.Folded.{Counts, texts_of};
-ghost use Rattle.jfr_stacks.specs.Frames.{behind, trace_fields, trace_of};
+ghost use Rattle.jfr_stacks.specs.Frames.{behind, field_numbers, trace_of};
 ghost use Rattle.jfr_stacks.specs.Held.{counts_in};
+ghost use Rattle.jfr_stacks.specs.Methods.{WritesFor};
 ghost use Rattle.jfr_stacks.specs.Texts.{entry_text, stack_of, trace_text};
 
 use crate::counts::{CountMap, add_count};
 use crate::entries::add_entries;
+use crate::fields::FieldNumbers;
 use crate::steps::{MOST_FOLLOWED, behind};
-use crate::trace::{TraceFields, TracePlace, place_of};
+use crate::trace::{TracePlace, place_of};
 use crate::writer::StackWriter;
 use jfr_base::NoMemory;
 use jfr_chunk::{Chunk, Kept};
@@ -38,7 +40,7 @@ pub(crate) fn add_events(
     // By the clauses of this call, a chunk has fewer than 2^30 events.
     let _ = chunk.bytes();
     let kept = choose(alloc, chunk, filter)?;
-    let mut writer = StackWriter::new(alloc)?;
+    let mut writer = StackWriter::new(alloc, chunk)?;
     let by_entry = count_events(&mut writer, chunk, &kept, counts)?;
     add_entries(&mut writer, chunk, &by_entry, counts)
 }
@@ -51,6 +53,7 @@ fn count_events(
     kept: &Kept,
     counts: &mut CountMap,
 ) -> Result<Vec<u64>, NoMemory>
+    requires ready { WritesFor chunk.now writer.old.frames }
     requires each { length kept.now ≡ length (events_of chunk.now) }
     requires few { length (events_of chunk.now) ≤ 1073741823 }
     requires below { AreBelow (1073741823 * (2 ^ 34 - 1)) (counts_in counts.old) }
@@ -58,8 +61,9 @@ fn count_events(
     ensures each { IfOk result (λ by_entry. length by_entry.items ≡ length chunk.now.entries) }
     ensures small { IfOk result (λ by_entry. AreAtMost 1073741823 by_entry.items) }
     ensures below { (most : ℕ) → AreBelow most (counts_in counts.old) → AreBelow (most + 1073741823) (counts_in counts.new) }
+    ensures ready { OnOk result (WritesFor chunk.now writer.new.frames) }
 {
-    let fields = TraceFields::of(writer.alloc(), chunk.classes())?;
+    let fields = FieldNumbers::of(writer.alloc(), chunk.classes(), "stackTrace")?;
     let mut by_entry = vec![in writer.alloc(); 0; chunk.pools().len()]?;
     for number in 0..chunk.event_count() {
         if let Some(trace) = kept_trace(chunk, kept, &fields, number) {
@@ -73,10 +77,10 @@ fn count_events(
 fn kept_trace<'a>(
     chunk: &Chunk<'a>,
     kept: &Kept,
-    fields: &TraceFields,
+    fields: &FieldNumbers,
     number: usize,
 ) -> Option<Node<'a>>
-    requires { fields.now ≡ trace_fields chunk.now.classes }
+    requires { fields.now ≡ field_numbers (codes "stackTrace") chunk.now.classes }
     ensures exact { option_map node_of result ≡ option_and_then (λ e. trace_of chunk.now e.node) (kept_at chunk.now kept.now number) }
     ensures bytes { IfSome result (λ trace. trace.bytes.now ≡ chunk.now.bytes) }
     ensures value { IfSome result (IsValue chunk.now.classes) }
@@ -96,6 +100,7 @@ fn count_trace<'a>(
     by_entry: &mut [u64],
     counts: &mut CountMap,
 ) -> Result<(), NoMemory>
+    requires ready { WritesFor chunk.now writer.old.frames }
     requires value { IsValue chunk.now.classes trace.now }
     requires of_chunk { trace.now.bytes.now ≡ chunk.now.bytes }
     requires each { length by_entry.old ≡ length chunk.now.entries }
@@ -105,6 +110,7 @@ fn count_trace<'a>(
         → Owes (entry_text chunk.now) old (done ++ option_to_list (trace_text chunk.now (behind 16 chunk.now (node_of trace.now)))) (counts_in counts.new) 0 by_entry.new) }
     ensures small { (most : ℕ) → AreAtMost most by_entry.old → AreAtMost (most + 1) by_entry.new }
     ensures unchanged { OnErr result (counts_in counts.new ≡ counts_in counts.old) }
+    ensures ready { OnOk result (WritesFor chunk.now writer.new.frames) }
 {
     match place_of(chunk, trace) {
         TracePlace::Entry(number) => {
@@ -127,11 +133,13 @@ pub(crate) fn add_trace<'a>(
     count: u64,
     counts: &mut CountMap,
 ) -> Result<(), NoMemory>
+    requires ready { WritesFor chunk.now writer.old.frames }
     requires value { IsValue chunk.now.classes trace.now }
     requires of_chunk { trace.now.bytes.now ≡ chunk.now.bytes }
     requires fits { Fits count (counts_in counts.old) }
     ensures ok { OnOk result (AddsText (counts_in counts.old) (trace_text chunk.now (node_of trace.now)) count (counts_in counts.new)) }
     ensures unchanged { OnErr result (counts_in counts.new ≡ counts_in counts.old) }
+    ensures ready { OnOk result (WritesFor chunk.now writer.new.frames) }
 {
     if !writer.write(chunk, trace)? {
         return Ok(());

@@ -3,6 +3,7 @@ ghost use Rattle.std.specs.Prelude.{◌≡◌, ◌*◌, ℕ, ◌+◌, ◌-◌, �
 ghost use Rattle.jfr_stacks.specs.Adding.{AddsText, AddsTexts, AreAtMost, AreBelow, Fits, Owes};
 ghost use Rattle.jfr_stacks.specs.Folded.{Counts};
 ghost use Rattle.jfr_stacks.specs.Held.{counts_in};
+ghost use Rattle.jfr_stacks.specs.Methods.{WritesFor};
 ghost use Rattle.jfr_stacks.specs.Texts.{entry_text};
 
 use crate::counting::add_trace;
@@ -22,6 +23,7 @@ pub(crate) fn add_entries(
     by_entry: &[u64],
     counts: &mut CountMap,
 ) -> Result<(), NoMemory>
+    requires ready { WritesFor chunk.now writer.old.frames }
     requires small { AreAtMost 1073741823 by_entry.now }
     requires owes { (old : Counts) × (ts : List (List ℕ)) × AreBelow (1073741823 * (2 ^ 34 - 1)) old × (length ts ≤ 1073741823) × Owes (entry_text chunk.now) old ts (counts_in counts.old) 0 by_entry.now }
     ensures ok { OnOk result ((old : Counts) (ts : List (List ℕ)) → Owes (entry_text chunk.now) old ts (counts_in counts.old) 0 by_entry.now → AddsTexts old ts (counts_in counts.new)) }
@@ -42,9 +44,11 @@ fn add_entry(
     count: u64,
     counts: &mut CountMap,
 ) -> Result<(), NoMemory>
+    requires ready { WritesFor chunk.now writer.old.frames }
     requires fits { Fits count (counts_in counts.old) }
     ensures ok { OnOk result (AddsText (counts_in counts.old) (entry_text chunk.now number) count (counts_in counts.new)) }
     ensures unchanged { OnErr result (counts_in counts.new ≡ counts_in counts.old) }
+    ensures ready { OnOk result (WritesFor chunk.now writer.new.frames) }
 {
     if count == 0 {
         return Ok(());

@@ -16,7 +16,10 @@
 mod counting;
 mod counts;
 mod entries;
+mod fields;
+mod frame_writer;
 mod frames;
+mod methods;
 mod names;
 mod stacks;
 mod steps;

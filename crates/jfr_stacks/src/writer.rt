@@ -1,47 +1,35 @@
 //! The texts of stacks.
-ghost use Rattle.std.specs.Prelude.{◌≡◌, ◌++◌, IfOk, OnOk, flat_map, map, string_bytes};
+ghost use Rattle.std.specs.Prelude.{◌≡◌, ◌++◌, IfOk, OnOk, map, string_bytes};
 ghost use Rattle.std.specs.List.{AllByRecursion};
 ghost use Rattle.jfr_value.specs.Nodes.{IsValue, node_of};
 ghost use Rattle.jfr_stacks.specs.Frames.{IsOf};
-ghost use Rattle.jfr_stacks.specs.Texts.{frame_text, method_names, stack_text, trace_text, type_names, written};
+ghost use Rattle.jfr_stacks.specs.Methods.{WritesFor};
+ghost use Rattle.jfr_stacks.specs.Texts.{stack_text, trace_text, written};
 
+use crate::frame_writer::FrameWriter;
 use crate::frames::frames_in;
-use crate::names::{method_names, push_name, type_names};
-use jfr_base::{NoMemory, Words};
+use jfr_base::NoMemory;
 use jfr_chunk::Chunk;
 use jfr_value::Node;
 use std::alloc::Global;
-use std::marker::Model;
 
-/// Writes the texts of stacks, one at a time. Contracts see the UTF-8 of the last text.
+/// Writes the texts of the stacks of one chunk, one at a time.
 #[derive(Drop)]
 pub(crate) struct StackWriter {
-    alloc: Global,
-    types: Words,
-    methods: Words,
-    text: String,
-}
-
-impl Model for StackWriter {
-    ghost use Rattle.std.specs.Prelude.{◌≡◌, ℕ, List, string_bytes};
-    ghost use Rattle.jfr_stacks.specs.Texts.{method_names, type_names};
-
-    ghost Value = { List ℕ };
-
-    ghost view = { λ writer. string_bytes writer.text };
-
-    ghost invariant = { λ writer. (writer.types ≡ type_names) × (writer.methods ≡ method_names) };
+    pub(crate) alloc: Global,
+    pub(crate) frames: FrameWriter,
+    pub(crate) text: String,
 }
 
 impl StackWriter {
-    /// A writer that has written nothing yet.
-    pub(crate) fn new(alloc: Global) -> Result<StackWriter, NoMemory> {
-        let types = type_names(alloc)?;
-        let methods = method_names(alloc)?;
+    /// A writer for the stacks of this chunk, that has written nothing yet.
+    pub(crate) fn new(alloc: Global, chunk: &Chunk<'_>) -> Result<StackWriter, NoMemory>
+        ensures ready { IfOk result (λ writer. WritesFor chunk.now writer.frames) }
+    {
+        let frames = FrameWriter::new(alloc, chunk)?;
         Ok(StackWriter {
             alloc,
-            types,
-            methods,
+            frames,
             text: String::new(alloc),
         })
     }
@@ -53,7 +41,7 @@ impl StackWriter {
 
     /// The last text.
     pub(crate) fn as_str(&self) -> &str
-        ensures { result.now ≡ self.now }
+        ensures { result.now ≡ string_bytes self.now.text }
     {
         self.text.as_str()
     }
@@ -65,9 +53,11 @@ impl StackWriter {
         chunk: &Chunk<'a>,
         trace: &Node<'a>,
     ) -> Result<bool, NoMemory>
+        requires ready { WritesFor chunk.now self.old.frames }
         requires value { IsValue chunk.now.classes trace.now }
         requires of_chunk { trace.now.bytes.now ≡ chunk.now.bytes }
-        ensures ok { IfOk result (λ is. written is self.new ≡ trace_text chunk.now (node_of trace.now)) }
+        ensures ok { IfOk result (λ is. written is (string_bytes self.new.text) ≡ trace_text chunk.now (node_of trace.now)) }
+        ensures ready { OnOk result (WritesFor chunk.now self.new.frames) }
     {
         self.text.clear();
         let Some(mut frames) = frames_in(self.alloc, chunk, trace)? else {
@@ -83,28 +73,20 @@ impl StackWriter {
         chunk: &Chunk<'a>,
         frames: &mut Vec<Node<'a>>,
     ) -> Result<(), NoMemory>
+        requires ready { WritesFor chunk.now self.old.frames }
         requires frames { AllByRecursion (IsOf chunk.now) frames.old.items }
-        ensures ok { OnOk result (self.new ≡ self.old ++ stack_text chunk.now (map node_of frames.old.items)) }
+        ensures ok { OnOk result (string_bytes self.new.text ≡ string_bytes self.old.text ++ stack_text chunk.now (map node_of frames.old.items)) }
+        ensures ready { OnOk result (WritesFor chunk.now self.new.frames) }
     {
         let Some(outermost) = frames.pop() else {
             self.text.push_str("(empty)")?;
             return Ok(());
         };
-        self.push_frame(chunk, &outermost)?;
+        self.frames.push(chunk, &outermost, &mut self.text)?;
         'frames: while let Some(frame) = frames.pop() {
             self.text.push_str(";")?;
-            self.push_frame(chunk, &frame)?;
+            self.frames.push(chunk, &frame, &mut self.text)?;
         }
         Ok(())
-    }
-
-    /// Adds the text of a frame.
-    fn push_frame<'a>(&mut self, chunk: &Chunk<'a>, frame: &Node<'a>) -> Result<(), NoMemory>
-        requires frame { IsOf chunk.now frame.now }
-        ensures ok { OnOk result (self.new ≡ self.old ++ frame_text chunk.now (node_of frame.now)) }
-    {
-        push_name(self.alloc, chunk, frame, &self.types, &mut self.text)?;
-        self.text.push_str(".")?;
-        push_name(self.alloc, chunk, frame, &self.methods, &mut self.text)
     }
 }

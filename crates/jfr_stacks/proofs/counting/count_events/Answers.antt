@@ -1,4 +1,5 @@
-use Rattle.std.specs.Prelude.{Vec, Option, None, option_and_then, option_to_list, replicate, take}
+use Rattle.std.specs.Str.{chars}
+use Rattle.std.specs.Prelude.{Vec, codes, Option, None, option_and_then, option_to_list, replicate, take}
 use Rattle.std.specs.declared.alloc.Global.{Global}
 use Rattle.std.proofs.Common.{rules, ◌≡◌, ℕ, List, ◌+◌, ◌-◌, ◌*◌, ◌^◌, ◌<◌, ◌≤◌, ◌++◌, [], ap, arith, length, refl, subst, sym, ◌∙◌}
 use Rattle.std.proofs.Math.Seq.{take-append_seam}
@@ -6,8 +7,10 @@ use Rattle.std.proofs.lemmas.List.{length-replicate}
 use Rattle.jfr_chunk.specs.Parts.{events_of}
 use Rattle.jfr_value.specs.Nodes.{node_of}
 use Rattle.jfr_stacks.specs.Adding.{AreAtMost, AreBelow, Owes, kept_at}
-use Rattle.jfr_stacks.specs.Frames.{behind}
+use Rattle.jfr_stacks.specs.Frames.{behind, field_numbers}
 use Rattle.jfr_stacks.specs.Held.{counts_in}
+use Rattle.jfr_stacks.specs.Methods.{WritesFor}
+use Rattle.jfr_stacks.specs.declared.writer.StackWriter.{StackWriter}
 use Rattle.jfr_stacks.specs.Texts.{entry_text, stack_of, trace_text}
 use Rattle.jfr_stacks.proofs.CountLaws.{below_fits, below_more}
 use Rattle.jfr_stacks.proofs.EventLaws.{done_next, left, length_more}
@@ -29,7 +32,12 @@ loop-number-init c =
       owes = subst (λ ns. Owes (entry_text p) old [] old 0 ns) (sym q) (owes_none (entry_text p) old n);
       each = ap length q ∙ (length-replicate n 0 ∙ (c.len.ensures ∙ ap length c.pools.ensures));
       small = subst (AreAtMost 0) (sym q) (zeros_small 0 n);
+      ready = c.requires.ready;
     }
+
+pub kept_trace-requires : goal.kept_trace-requires
+unfolding chars
+kept_trace-requires c = c.in_ok-fields.ensures ∙ ap (field_numbers (codes "stackTrace")) c.classes.ensures
 
 pub count_trace-requires-clause-fits : goal.count_trace-requires-clause-fits
 count_trace-requires-clause-fits c =
@@ -77,6 +85,7 @@ loop-number-preserved c =
             owes = subst (λ ns. Owes (entry_text p) old d (counts_in c.match-kept_trace.counts) 0 ns) (sym q) (subst (λ m. Owes (entry_text p) old d m 0 new) (sym (ap counts_in w.counts-is)) h);
             each = ap length q ∙ (w.count_trace.auto.by_entry ∙ (ap length w.deref_mut.ensures.value ∙ i.each));
             small = subst (AreAtMost (number + 1)) (sym q) (w.in_ok-count_trace.ensures.small number (subst (AreAtMost number) (sym w.deref_mut.ensures.value) i.small));
+            ready = subst (λ (z : StackWriter). WritesFor p z.frames) (sym w.writer-is) w.in_ok-count_trace.ensures.ready;
           }
       | in_default w ↦
           let q : c.match-kept_trace.by_entry.items ≡ c.loop-number.by_entry.items = ap (λ (v : Vec ℕ Global). v.items) w.by_entry-is in
@@ -91,5 +100,6 @@ loop-number-preserved c =
             owes = subst (λ ns. Owes (entry_text p) old d (counts_in c.match-kept_trace.counts) 0 ns) (sym q) (subst (λ m. Owes (entry_text p) old d m 0 c.loop-number.by_entry.items) (sym (ap counts_in w.counts-is)) o);
             each = ap length q ∙ i.each;
             small = subst (AreAtMost (number + 1)) (sym q) (small_more number (number + 1) c.loop-number.by_entry.items l i.small);
+            ready = subst (λ (z : StackWriter). WritesFor p z.frames) (sym w.writer-is) i.ready;
           }
     ]

@@ -3,6 +3,7 @@ use Rattle.std.specs.List.{filter_map}
 use Rattle.jfr_chunk.specs.Reach.{kept_by}
 use Rattle.jfr_stacks.specs.Adding.{AreAtMost, Owes}
 use Rattle.jfr_stacks.specs.Held.{counts_in}
+use Rattle.jfr_stacks.specs.Methods.{WritesFor}
 use Rattle.jfr_stacks.specs.Texts.{entry_text, stack_of}
 use Rattle.jfr_stacks.proofs.EventLaws.{left}
 use Rattle.jfr_stacks.proofs.counting.count_events.Given as goal
@@ -16,4 +17,5 @@ invariant-loop-number l = record {
   owes : Owes (entry_text l.chunk) (counts_in l.initial.counts) done (counts_in l.counts) 0 l.by_entry.items;
   each : length l.by_entry.items ≡ length l.chunk.entries;
   small : AreAtMost l.number l.by_entry.items;
+  ready : WritesFor l.chunk l.writer.frames;
 }

@@ -8,8 +8,8 @@ use Rattle.jfr_stacks.proofs.CountLaws.{below_fits}
 use Rattle.jfr_stacks.proofs.OwedLaws.{owes_below, owes_next}
 use Rattle.jfr_stacks.proofs.entries.add_entries.Goals as goal
 
-pub add_entry-requires : goal.add_entry-requires
-add_entry-requires c =
+pub add_entry-requires-clause-fits : goal.add_entry-requires-clause-fits
+add_entry-requires-clause-fits c =
     let text = entry_text c.args.chunk.now in
     let ns = c.args.by_entry.now in
     let number = c.loop-number.number in
@@ -20,18 +20,21 @@ add_entry-requires c =
     let l : n ≤ 1073741823 = c.requires.small.each number n (slice_get-get_or ns number 0 w) in
     let m : length r.1 ≤ 1073741823 = r.3 in
     let most = 1073741823 * (2 ^ 34 - 1) in
-    record { fits = below_fits (most + length r.1) n now (omega arith) (owes_below text r.0 r.1 now number most (drop number ns) (c.loop-number.invariant r.0 r.1 r.4) r.2) }
+    below_fits (most + length r.1) n now (omega arith) (owes_below text r.0 r.1 now number most (drop number ns) (c.loop-number.invariant.owes r.0 r.1 r.4) r.2)
 
 pub returns-in_err-add_entry-clause-below : goal.returns-in_err-add_entry-clause-below
 returns-in_err-add_entry-clause-below c = λ old ts most h b.
-    subst (AreBelow (most + length ts)) (sym c.in_err-add_entry.ensures.unchanged) (owes_below (entry_text c.args.chunk.now) old ts (counts_in c.loop-number.counts) c.loop-number.number most (drop c.loop-number.number c.args.by_entry.now) (c.loop-number.invariant old ts h) b)
+    subst (AreBelow (most + length ts)) (sym c.in_err-add_entry.ensures.unchanged) (owes_below (entry_text c.args.chunk.now) old ts (counts_in c.loop-number.counts) c.loop-number.number most (drop c.loop-number.number c.args.by_entry.now) (c.loop-number.invariant.owes old ts h) b)
 
 pub loop-number-preserved : goal.loop-number-preserved
-loop-number-preserved c = λ old ts h.
-    (let text = entry_text c.args.chunk.now in
-    let ns = c.args.by_entry.now in
-    let number = c.loop-number.number in
-    let now = counts_in c.loop-number.counts in
-    let n = get_or ns number 0 in
-    let w : number < length ns = c.loop-number-test.true in
-    owes_next text old ts now number n (drop (number + 1) ns) (counts_in c.add_entry.new.counts) c.in_ok-add_entry.ensures.ok (subst (λ z. Owes text old ts now number z) (drop_at_get ns number n (slice_get-get_or ns number 0 w)) (c.loop-number.invariant old ts h)))
+loop-number-preserved c = record {
+  ready = c.in_ok-add_entry.ensures.ready;
+  owes = λ old ts h.
+      (let text = entry_text c.args.chunk.now in
+      let ns = c.args.by_entry.now in
+      let number = c.loop-number.number in
+      let now = counts_in c.loop-number.counts in
+      let n = get_or ns number 0 in
+      let w : number < length ns = c.loop-number-test.true in
+      owes_next text old ts now number n (drop (number + 1) ns) (counts_in c.add_entry.new.counts) c.in_ok-add_entry.ensures.ok (subst (λ z. Owes text old ts now number z) (drop_at_get ns number n (slice_get-get_or ns number 0 w)) (c.loop-number.invariant.owes old ts h)));
+}

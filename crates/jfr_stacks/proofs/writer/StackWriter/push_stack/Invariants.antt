@@ -1,6 +1,8 @@
 use Rattle.std.proofs.Common.{◌≡◌, ◌++◌, vec_len}
 use Rattle.std.specs.List.{AllByRecursion}
+use Rattle.std.specs.Prelude.{string_bytes}
 use Rattle.jfr_stacks.specs.Frames.{IsOf}
+use Rattle.jfr_stacks.specs.Methods.{WritesFor}
 use Rattle.jfr_stacks.proofs.TextLaws.{rest_text}
 use Rattle.jfr_stacks.proofs.writer.StackWriter.push_stack.Given as goal
 
@@ -8,7 +10,8 @@ use Rattle.jfr_stacks.proofs.writer.StackWriter.push_stack.Given as goal
 abbrev pub invariant-frames : goal.invariant-frames
 invariant-frames l = record {
   values : AllByRecursion (IsOf l.chunk) l.frames.items;
-  left : l.self ++ rest_text l.chunk l.frames.items ≡ l.initial.self ++ rest_text l.chunk l.initial.frames.items;
+  ready : WritesFor l.chunk l.self.frames;
+  left : string_bytes l.self.text ++ rest_text l.chunk l.frames.items ≡ string_bytes l.initial.self.text ++ rest_text l.chunk l.initial.frames.items;
 }
 
 -- A frame is taken each time.

@@ -1,0 +1,63 @@
+//! The fields with a name, found by the class.
+ghost use Rattle.std.specs.Prelude.{◌≡◌, ℕ, List, Option, IfOk, IfSome, option_and_then, option_map, slice_get};
+ghost use Rattle.std.specs.Str.{chars};
+ghost use Rattle.jfr_chunk.specs.Paths.{named_field};
+ghost use Rattle.jfr_value.specs.Nodes.{IsValue, node_of};
+ghost use Rattle.jfr_stacks.specs.Frames.{behind, field_numbers};
+
+use crate::steps::{MOST_FOLLOWED, behind};
+use jfr_base::NoMemory;
+use jfr_chunk::Chunk;
+use jfr_layout::Classes;
+use jfr_value::{Node, Step, child};
+use std::alloc::Global;
+use std::marker::Model;
+
+/// For each class of a chunk, the number of its field with a certain name, if it has one. So the name is looked
+/// up once for each class, and not for each value.
+#[derive(Drop)]
+pub(crate) struct FieldNumbers {
+    numbers: Vec<Option<usize>>,
+}
+
+impl Model for FieldNumbers {
+    ghost use Rattle.std.specs.Prelude.{ℕ, List, Option};
+
+    ghost Value = { List (Option ℕ) };
+
+    ghost view = { λ fields. fields.numbers.items };
+}
+
+impl FieldNumbers {
+    /// The fields with this name, of these classes.
+    pub(crate) fn of(alloc: Global, classes: &Classes, name: &str) -> Result<FieldNumbers, NoMemory>
+        ensures { IfOk result (λ fields. fields ≡ field_numbers (chars name.now) classes.now) }
+    {
+        let mut numbers = Vec::new(alloc);
+        for index in 0..classes.len() {
+            numbers.push(classes.class_at(index).fields.number(name))?;
+        }
+        Ok(FieldNumbers { numbers })
+    }
+
+    /// The number of the field in the class with this index; `None` if there is no such class or field.
+    fn number(&self, index: usize) -> Option<usize>
+        ensures { result ≡ option_and_then (λ number. number) (slice_get self.now index) }
+    {
+        *self.numbers.get(index)?
+    }
+
+    /// The field of a value, after following references; `None` exactly if there is no such field.
+    pub(crate) fn find<'a>(&self, chunk: &Chunk<'a>, node: &Node<'a>) -> Option<Node<'a>>
+        requires value { IsValue chunk.now.classes node.now }
+        requires of_chunk { node.now.bytes.now ≡ chunk.now.bytes }
+        ensures exact { (name : List ℕ) → self.now ≡ field_numbers name chunk.now.classes → option_map node_of result ≡ named_field chunk.now name (behind 16 chunk.now (node_of node.now)) }
+        ensures bytes { IfSome result (λ field. field.bytes.now ≡ chunk.now.bytes) }
+        ensures value { IfSome result (IsValue chunk.now.classes) }
+    {
+        let classes = chunk.classes();
+        let holder = behind(chunk, node, MOST_FOLLOWED);
+        let number = self.number(classes.index_of(holder.shape.class)?)?;
+        child(classes, &holder, &Step::Field(number))
+    }
+}
