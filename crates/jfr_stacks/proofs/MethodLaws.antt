@@ -9,7 +9,7 @@ use Rattle.jfr_pool.specs.declared.entry.EntryAt.{EntryAt}
 use Rattle.jfr_chunk.specs.Parts.{Parts}
 use Rattle.jfr_chunk.specs.Paths.{is_reference, named_field, named_node, text_of}
 use Rattle.jfr_path.proofs.FollowLaws.{followed}
-use Rattle.jfr_stacks.specs.Frames.{behind, entry_of}
+use Rattle.jfr_stacks.specs.Frames.{after_references, entry_of}
 use Rattle.jfr_stacks.specs.Methods.{HasText, IsMethodText, method_of}
 use Rattle.jfr_stacks.specs.Texts.{escaped, frame_text, method_names, name_text, type_names}
 use Rattle.jfr_stacks.proofs.TextLaws.{entry_followed, leads_to, there}
@@ -17,30 +17,30 @@ use Rattle.jfr_stacks.proofs.TextLaws.{entry_followed, leads_to, there}
 -- The method of a frame: the value of its field, which refers to this entry.
 record Method (p : Parts) (frame : NodeAt) (number : ℕ) : Type 0 where
   node : NodeAt
-  field : named_field p (codes "method") (behind 16 p frame) ≡ Some node
+  field : named_field p (codes "method") (after_references 16 p frame) ≡ Some node
   reference : is_reference node ≡ true
   entry : entry_of p node ≡ Some number
 
 method_in : (p : Parts) (frame : NodeAt) (number : ℕ) → method_of p frame ≡ Some number → Method p frame number
-method_in p frame number e = by_field (named_field p (codes "method") (behind 16 p frame)) refl e
+method_in p frame number e = by_field (named_field p (codes "method") (after_references 16 p frame)) refl e
   where
-    by_test : (m : NodeAt) (b : Bool) → named_field p (codes "method") (behind 16 p frame) ≡ Some m → is_reference m ≡ b → (if b then entry_of p m else None) ≡ Some number → Method p frame number
+    by_test : (m : NodeAt) (b : Bool) → named_field p (codes "method") (after_references 16 p frame) ≡ Some m → is_reference m ≡ b → (if b then entry_of p m else None) ≡ Some number → Method p frame number
     by_test m true f t e = record { node = m; field = f; reference = t; entry = e }
     by_test m false f t e = cc
 
-    by_field : (o : Option NodeAt) → named_field p (codes "method") (behind 16 p frame) ≡ o → option_and_then (λ m. if is_reference m then entry_of p m else None) o ≡ Some number → Method p frame number
+    by_field : (o : Option NodeAt) → named_field p (codes "method") (after_references 16 p frame) ≡ o → option_and_then (λ m. if is_reference m then entry_of p m else None) o ≡ Some number → Method p frame number
     by_field None f e = cc
     by_field (Some m) f e = by_test m (is_reference m) f refl e
 
 -- The text to which names lead from a method, of which this is the value after following references.
 abbrev text_from : Parts → NodeAt → List ℕ → List (List ℕ) → Option (List ℕ)
-text_from p holder name names = option_and_then (text_of p) (option_map (behind 16 p) (option_and_then (λ m. named_node p m names) (named_field p name holder)))
+text_from p holder name names = option_and_then (text_of p) (option_map (after_references 16 p) (option_and_then (λ m. named_node p m names) (named_field p name holder)))
 
 module _ (p : Parts) where
-  text_found : (frame : NodeAt) (number : ℕ) (x : EntryAt) → Method p frame number → slice_get p.entries number ≡ Some x → (name : List ℕ) (names : List (List ℕ)) → name_text p frame (codes "method" ∷ name ∷ names) ≡ option_map_or (flat_map escaped) (text_from p (behind 15 p (entry_node x)) name names) (codes "?")
+  text_found : (frame : NodeAt) (number : ℕ) (x : EntryAt) → Method p frame number → slice_get p.entries number ≡ Some x → (name : List ℕ) (names : List (List ℕ)) → name_text p frame (codes "method" ∷ name ∷ names) ≡ option_map_or (flat_map escaped) (text_from p (after_references 15 p (entry_node x)) name names) (codes "?")
   unfolding name_text
   text_found frame number x m g name names =
-      ap (λ o. option_map_or (flat_map escaped) (option_and_then (text_of p) (option_map (behind 16 p) (option_and_then (λ n. named_node p n (name ∷ names)) o))) (codes "?")) m.field
+      ap (λ o. option_map_or (flat_map escaped) (option_and_then (text_of p) (option_map (after_references 16 p) (option_and_then (λ n. named_node p n (name ∷ names)) o))) (codes "?")) m.field
       ∙ ap (λ h. option_map_or (flat_map escaped) (text_from p h name names) (codes "?")) (followed is_reference p 15 m.node (entry_node x) m.reference (entry_followed p m.node number x m.entry g))
 
   -- Frames whose method is the same entry have the same text.

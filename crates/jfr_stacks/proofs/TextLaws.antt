@@ -20,24 +20,24 @@ use Rattle.jfr_pool.proofs.ForceLaws.{force_within}
 use Rattle.jfr_chunk.specs.Parts.{EventAt, Parts}
 use Rattle.jfr_chunk.specs.Paths.{follow, is_reference, named_field, named_node}
 use Rattle.jfr_path.proofs.FollowLaws.{ends, followed}
-use Rattle.jfr_stacks.specs.Frames.{IsOf, behind, entry_of, field_numbers, frames_in, frames_of, items_of, trace_of}
+use Rattle.jfr_stacks.specs.Frames.{IsOf, after_references, entry_of, field_numbers, frames_in, frames_of, items_of, trace_of}
 use Rattle.jfr_stacks.specs.Texts.{LeadsTo, entry_text, frame_text, joined, stack_of, stack_text, trace_text}
 
 -- The text of an event's stack is that of its trace.
-pub traced : (p : Parts) (e : EventAt) → stack_of p e ≡ option_and_then (λ t. trace_text p (behind 16 p t)) (trace_of p e.node)
+pub traced : (p : Parts) (e : EventAt) → stack_of p e ≡ option_and_then (λ t. trace_text p (after_references 16 p t)) (trace_of p e.node)
 unfolding stack_of frames_of trace_text
 traced p e = by_trace (trace_of p e.node)
   where
-    by_frames : (o : Option NodeAt) → option_map (stack_text p) (option_and_then (items_of p) (option_map (behind 16 p) (option_and_then (λ m. Some m) o))) ≡ option_map (stack_text p) (option_and_then (items_of p) (option_map (behind 16 p) o))
+    by_frames : (o : Option NodeAt) → option_map (stack_text p) (option_and_then (items_of p) (option_map (after_references 16 p) (option_and_then (λ m. Some m) o))) ≡ option_map (stack_text p) (option_and_then (items_of p) (option_map (after_references 16 p) o))
     by_frames None = refl
     by_frames (Some m) = refl
 
-    by_trace : (o : Option NodeAt) → option_map (stack_text p) (option_and_then (items_of p) (option_map (behind 16 p) (option_and_then (λ m. named_node p m (codes "frames" ∷ [])) o))) ≡ option_and_then (λ t. trace_text p (behind 16 p t)) o
+    by_trace : (o : Option NodeAt) → option_map (stack_text p) (option_and_then (items_of p) (option_map (after_references 16 p) (option_and_then (λ m. named_node p m (codes "frames" ∷ [])) o))) ≡ option_and_then (λ t. trace_text p (after_references 16 p t)) o
     by_trace None = refl
-    by_trace (Some t) = by_frames (named_field p (codes "frames") (behind 16 p t))
+    by_trace (Some t) = by_frames (named_field p (codes "frames") (after_references 16 p t))
 
 -- The text of the stack of an event, if there is one.
-pub traced_all : (p : Parts) (o : Option EventAt) → option_and_then (stack_of p) o ≡ option_and_then (λ t. trace_text p (behind 16 p t)) (option_and_then (λ e. trace_of p e.node) o)
+pub traced_all : (p : Parts) (o : Option EventAt) → option_and_then (stack_of p) o ≡ option_and_then (λ t. trace_text p (after_references 16 p t)) (option_and_then (λ e. trace_of p e.node) o)
 traced_all p None = refl
 traced_all p (Some e) = traced p e
 
@@ -87,7 +87,7 @@ leads_to p n number r e =
     let g = there p.entries number l in
     record {
       within = l;
-      same = ap (trace_text p) (followed is_reference p 15 n (entry_node g.0) r (entry_followed p n number g.0 e g.1)) ∙ sym (ap (option_and_then (λ e. trace_text p (behind 15 p (entry_node e)))) g.1);
+      same = ap (trace_text p) (followed is_reference p 15 n (entry_node g.0) r (entry_followed p n number g.0 e g.1)) ∙ sym (ap (option_and_then (λ e. trace_text p (after_references 15 p (entry_node e)))) g.1);
     }
   where
     within_entries : (p : Parts) (o : Option (ℕ × ℕ)) (number : ℕ) → option_and_then (number_in_force p.entries) o ≡ Some number → number < length p.entries
@@ -115,12 +115,12 @@ no_field p n v name s i a o = by_class (find_class p.classes n.shape.class)
     by_class (Some c) = by_number (field_number c.fields name)
 
 -- A reference without an entry is followed nowhere, and has no frames.
-pub no_trace : (p : Parts) (n : NodeAt) (v : Value) → Sound p.classes → IsNode p.classes p.bytes n v → is_reference n ≡ true → entry_of p n ≡ None → trace_text p (behind 16 p n) ≡ None
+pub no_trace : (p : Parts) (n : NodeAt) (v : Value) → Sound p.classes → IsNode p.classes p.bytes n v → is_reference n ≡ true → entry_of p n ≡ None → trace_text p (after_references 16 p n) ≡ None
 unfolding trace_text
 no_trace p n v s i r e =
     let k = shape_of_reference n.shape.array n.shape.constant r in
     ap (trace_text p) (ends is_reference p 16 n (not_followed (target p.classes p.bytes n) e))
-    ∙ ap (λ o. option_map (stack_text p) (option_and_then (items_of p) (option_map (behind 16 p) o))) (no_field p n v (codes "frames") s i k.0 k.1)
+    ∙ ap (λ o. option_map (stack_text p) (option_and_then (items_of p) (option_map (after_references 16 p) o))) (no_field p n v (codes "frames") s i k.0 k.1)
   where
     shape_of_reference : (a o : Bool) → (if a then false else o) ≡ true → (a ≡ false) × (o ≡ true)
     shape_of_reference true o e = cc
@@ -167,11 +167,11 @@ all_last p all items x e a = split items (subst (AllByRecursion (IsOf p)) e a)
     split (y ∷ items) a = let h = split items a.1 in ((a.0, h.0), h.1)
 
 -- The frames are the items of the value to which the field leads.
-pub frames_found : (p : Parts) (n field array : NodeAt) → Some field ≡ named_field p (codes "frames") n → array ≡ behind 16 p field → frames_in p n ≡ items_of p array
-frames_found p n field array e h = sym (ap (λ o. option_and_then (items_of p) (option_map (behind 16 p) o)) e) ∙ ap (items_of p) (sym h)
+pub frames_found : (p : Parts) (n field array : NodeAt) → Some field ≡ named_field p (codes "frames") n → array ≡ after_references 16 p field → frames_in p n ≡ items_of p array
+frames_found p n field array e h = sym (ap (λ o. option_and_then (items_of p) (option_map (after_references 16 p) o)) e) ∙ ap (items_of p) (sym h)
 
 pub no_frames : (p : Parts) (n : NodeAt) → None ≡ named_field p (codes "frames") n → None ≡ frames_in p n
-no_frames p n e = ap (λ o. option_and_then (items_of p) (option_map (behind 16 p) o)) e
+no_frames p n e = ap (λ o. option_and_then (items_of p) (option_map (after_references 16 p) o)) e
 
 pub items_none : (p : Parts) (array : NodeAt) → array.shape.array ≡ false → items_of p array ≡ None
 items_none p array e = ap (λ b. if b then Some (children p.classes p.bytes array) else None) e

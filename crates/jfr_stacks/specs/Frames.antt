@@ -10,8 +10,8 @@ use Rattle.jfr_chunk.specs.Paths.{follow_while, is_reference, named_field}
 use Rattle.jfr_path.specs.Places.{node_at}
 
 -- The value after following references, at most n in a row.
-abbrev pub behind : ℕ → Parts → NodeAt → NodeAt
-behind n p node = follow_while n is_reference p node
+abbrev pub after_references : ℕ → Parts → NodeAt → NodeAt
+after_references n p node = follow_while n is_reference p node
 
 -- The items of a node, if it is an array.
 abbrev pub items_of : Parts → NodeAt → Option (List NodeAt)
@@ -28,11 +28,11 @@ field_numbers name k = map (λ c. field_number c.fields name) k
 
 -- The field with the stack trace, in an event with these fields.
 abbrev pub trace_of : Parts → NodeAt → Option NodeAt
-trace_of p n = named_field p (codes "stackTrace") (behind 16 p n)
+trace_of p n = named_field p (codes "stackTrace") (after_references 16 p n)
 
 -- The frames of a stack trace.
 abbrev pub frames_in : Parts → NodeAt → Option (List NodeAt)
-frames_in p n = option_and_then (items_of p) (option_map (behind 16 p) (named_field p (codes "frames") n))
+frames_in p n = option_and_then (items_of p) (option_map (after_references 16 p) (named_field p (codes "frames") n))
 
 -- The number of the entry in force to which a value refers, if there is one.
 abbrev pub entry_of : Parts → NodeAt → Option ℕ

@@ -7,9 +7,9 @@ use Rattle.jfr_pool.specs.Entries.{entry_node}
 use Rattle.jfr_chunk.specs.Parts.{EventAt, Parts}
 use Rattle.jfr_chunk.specs.Paths.{text_of}
 use Rattle.jfr_path.specs.Places.{node_at}
-use Rattle.jfr_stacks.specs.declared.trace.TracePlace.{TracePlace}
-use Rattle.jfr_stacks.specs.declared.trace.TracePlace.TheVariants.{Entry, Missing, Inline}
-use Rattle.jfr_stacks.specs.Frames.{behind, frames_in, frames_of}
+use Rattle.jfr_stacks.specs.declared.trace.TraceLocation.{TraceLocation}
+use Rattle.jfr_stacks.specs.declared.trace.TraceLocation.TheVariants.{Entry, Missing, Inline}
+use Rattle.jfr_stacks.specs.Frames.{after_references, frames_in, frames_of}
 
 -- A character that has a meaning in a folded stack or doesn't print: the space, a semicolon, a backslash, a
 -- character below U+0020, and U+007F.
@@ -60,18 +60,18 @@ trace_text p n = option_map (stack_text p) (frames_in p n)
 -- The text of the stack of the trace that is the entry with this number. A reference to the entry has been
 -- followed already, so at most 15 more are.
 unfoldable pub entry_text : Parts → ℕ → Option (List ℕ)
-entry_text p number = option_and_then (λ e. trace_text p (behind 15 p (entry_node e))) (slice_get p.entries number)
+entry_text p number = option_and_then (λ e. trace_text p (after_references 15 p (entry_node e))) (slice_get p.entries number)
 
 -- The entry with this number exists, and has the same stack as this value.
 pub record LeadsTo (p : Parts) (n : NodeAt) (number : ℕ) : Type 0 where
   pub within : number < length p.entries
-  pub same : trace_text p (behind 16 p n) ≡ entry_text p number
+  pub same : trace_text p (after_references 16 p n) ≡ entry_text p number
 
 -- The stack trace in this field is at this place. For an inline trace this says nothing.
-abbrev pub IsPlace : Parts → NodeAt → TracePlace → Type 0
-IsPlace p n (Entry number) = LeadsTo p n number
-IsPlace p n Missing = trace_text p (behind 16 p n) ≡ None
-IsPlace p n Inline = ⊤
+abbrev pub IsLocation : Parts → NodeAt → TraceLocation → Type 0
+IsLocation p n (Entry number) = LeadsTo p n number
+IsLocation p n Missing = trace_text p (after_references 16 p n) ≡ None
+IsLocation p n Inline = ⊤
 
 -- The text, if `is` says that one was written.
 abbrev pub written : Bool → List ℕ → Option (List ℕ)

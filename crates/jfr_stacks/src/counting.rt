@@ -6,7 +6,7 @@ ghost use Rattle.jfr_chunk.specs.Reach.{kept_by};
 ghost use Rattle.jfr_value.specs.Nodes.{IsValue, node_of};
 ghost use Rattle.jfr_stacks.specs.Adding.{AddsText, AddsTexts, AreAtMost, AreBelow, Fits, Owes, kept_at};
 ghost use Rattle.jfr_stacks.specs.Folded.{Counts, texts_of};
-ghost use Rattle.jfr_stacks.specs.Frames.{behind, field_numbers, trace_of};
+ghost use Rattle.jfr_stacks.specs.Frames.{after_references, field_numbers, trace_of};
 ghost use Rattle.jfr_stacks.specs.Held.{counts_in};
 ghost use Rattle.jfr_stacks.specs.Methods.{WritesFor};
 ghost use Rattle.jfr_stacks.specs.Texts.{entry_text, stack_of, trace_text};
@@ -14,13 +14,12 @@ ghost use Rattle.jfr_stacks.specs.Texts.{entry_text, stack_of, trace_text};
 use crate::counts::{CountMap, add_count};
 use crate::entries::add_entries;
 use crate::fields::FieldNumbers;
-use crate::steps::{MOST_FOLLOWED, behind};
-use crate::trace::{TracePlace, place_of};
+use crate::trace::{TraceLocation, location_of};
 use crate::writer::StackWriter;
 use jfr_base::NoMemory;
 use jfr_chunk::{Chunk, Kept};
 use jfr_filter::Filter;
-use jfr_path::choose;
+use jfr_path::{MOST_FOLLOWED, choose, follow_references};
 use jfr_value::Node;
 use std::alloc::Global;
 
@@ -107,20 +106,20 @@ fn count_trace<'a>(
     requires small { AreAtMost 1073741823 by_entry.old }
     requires fits { Fits 1 (counts_in counts.old) }
     ensures ok { OnOk result ((old : Counts) (done : List (List ℕ)) → Owes (entry_text chunk.now) old done (counts_in counts.old) 0 by_entry.old
-        → Owes (entry_text chunk.now) old (done ++ option_to_list (trace_text chunk.now (behind 16 chunk.now (node_of trace.now)))) (counts_in counts.new) 0 by_entry.new) }
+        → Owes (entry_text chunk.now) old (done ++ option_to_list (trace_text chunk.now (after_references 16 chunk.now (node_of trace.now)))) (counts_in counts.new) 0 by_entry.new) }
     ensures small { (most : ℕ) → AreAtMost most by_entry.old → AreAtMost (most + 1) by_entry.new }
     ensures unchanged { OnErr result (counts_in counts.new ≡ counts_in counts.old) }
     ensures ready { OnOk result (WritesFor chunk.now writer.new.frames) }
 {
-    match place_of(chunk, trace) {
-        TracePlace::Entry(number) => {
+    match location_of(chunk, trace) {
+        TraceLocation::Entry(number) => {
             by_entry[number] += 1;
             Ok(())
         }
-        TracePlace::Missing => Ok(()),
-        TracePlace::Inline => {
-            let place = behind(chunk, trace, MOST_FOLLOWED);
-            add_trace(writer, chunk, &place, 1, counts)
+        TraceLocation::Missing => Ok(()),
+        TraceLocation::Inline => {
+            let value = follow_references(chunk, trace, MOST_FOLLOWED);
+            add_trace(writer, chunk, &value, 1, counts)
         }
     }
 }

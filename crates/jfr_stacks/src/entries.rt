@@ -8,13 +8,13 @@ ghost use Rattle.jfr_stacks.specs.Texts.{entry_text};
 
 use crate::counting::add_trace;
 use crate::counts::CountMap;
-use crate::steps::behind;
 use crate::writer::StackWriter;
 use jfr_base::NoMemory;
 use jfr_chunk::Chunk;
+use jfr_path::follow_references;
 
 /// The most references that are followed from an entry. One has been followed to reach it.
-const MOST_FOLLOWED: u32 = 15;
+const MOST_FOLLOWED_AFTER: u32 = 15;
 
 /// Adds the events that were counted by entries to the counts.
 pub(crate) fn add_entries(
@@ -56,6 +56,6 @@ fn add_entry(
     let Some(entry) = chunk.entry_node(number) else {
         return Ok(());
     };
-    let trace = behind(chunk, &entry, MOST_FOLLOWED);
+    let trace = follow_references(chunk, &entry, MOST_FOLLOWED_AFTER);
     add_trace(writer, chunk, &trace, count, counts)
 }

@@ -3,12 +3,12 @@ ghost use Rattle.std.specs.Prelude.{◌≡◌, ℕ, List, Option, IfOk, IfSome, 
 ghost use Rattle.std.specs.Str.{chars};
 ghost use Rattle.jfr_chunk.specs.Paths.{named_field};
 ghost use Rattle.jfr_value.specs.Nodes.{IsValue, node_of};
-ghost use Rattle.jfr_stacks.specs.Frames.{behind, field_numbers};
+ghost use Rattle.jfr_stacks.specs.Frames.{after_references, field_numbers};
 
-use crate::steps::{MOST_FOLLOWED, behind};
 use jfr_base::NoMemory;
 use jfr_chunk::Chunk;
 use jfr_layout::Classes;
+use jfr_path::{MOST_FOLLOWED, follow_references};
 use jfr_value::{Node, Step, child};
 use std::alloc::Global;
 use std::marker::Model;
@@ -51,12 +51,12 @@ impl FieldNumbers {
     pub(crate) fn find<'a>(&self, chunk: &Chunk<'a>, node: &Node<'a>) -> Option<Node<'a>>
         requires value { IsValue chunk.now.classes node.now }
         requires of_chunk { node.now.bytes.now ≡ chunk.now.bytes }
-        ensures exact { (name : List ℕ) → self.now ≡ field_numbers name chunk.now.classes → option_map node_of result ≡ named_field chunk.now name (behind 16 chunk.now (node_of node.now)) }
+        ensures exact { (name : List ℕ) → self.now ≡ field_numbers name chunk.now.classes → option_map node_of result ≡ named_field chunk.now name (after_references 16 chunk.now (node_of node.now)) }
         ensures bytes { IfSome result (λ field. field.bytes.now ≡ chunk.now.bytes) }
         ensures value { IfSome result (IsValue chunk.now.classes) }
     {
         let classes = chunk.classes();
-        let holder = behind(chunk, node, MOST_FOLLOWED);
+        let holder = follow_references(chunk, node, MOST_FOLLOWED);
         let number = self.number(classes.index_of(holder.shape.class)?)?;
         child(classes, &holder, &Step::Field(number))
     }

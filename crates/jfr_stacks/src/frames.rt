@@ -6,10 +6,10 @@ ghost use Rattle.jfr_layout.specs.Classes.{Sound};
 ghost use Rattle.jfr_value.specs.Nodes.{EndsAt, IsValue, children, node_of};
 ghost use Rattle.jfr_stacks.specs.Frames.{IsOf, frames_in};
 
-use crate::steps::{MOST_FOLLOWED, behind, named_field};
 use jfr_base::{NoMemory, Var, read_within};
 use jfr_chunk::Chunk;
 use jfr_layout::Shape;
+use jfr_path::{MOST_FOLLOWED, follow_references, named_field};
 use jfr_value::{Node, children_are_parts, end_of};
 use std::alloc::Global;
 
@@ -28,7 +28,7 @@ pub(crate) fn frames_in<'a>(
     let Some(field) = named_field(chunk, trace, "frames") else {
         return Ok(None);
     };
-    let array = behind(chunk, &field, MOST_FOLLOWED);
+    let array = follow_references(chunk, &field, MOST_FOLLOWED);
     if !array.shape.array {
         return Ok(None);
     }

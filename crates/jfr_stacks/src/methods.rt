@@ -9,9 +9,10 @@ ghost use Rattle.jfr_stacks.specs.Frames.{IsOf, field_numbers};
 ghost use Rattle.jfr_stacks.specs.Methods.{AreMethodTexts, IsMethodText, method_of};
 
 use crate::fields::FieldNumbers;
-use crate::steps::{entry_of, is_reference};
+use crate::steps::entry_of;
 use jfr_base::NoMemory;
 use jfr_chunk::Chunk;
+use jfr_path::is_reference;
 use jfr_value::Node;
 use std::alloc::Global;
 

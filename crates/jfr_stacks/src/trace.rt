@@ -1,15 +1,16 @@
 //! Where the stack traces of events are.
 ghost use Rattle.std.specs.Prelude.{◌≡◌};
 ghost use Rattle.jfr_value.specs.Nodes.{IsValue, node_of};
-ghost use Rattle.jfr_stacks.specs.Texts.{IsPlace};
+ghost use Rattle.jfr_stacks.specs.Texts.{IsLocation};
 
-use crate::steps::{entry_of, is_reference};
+use crate::steps::entry_of;
 use jfr_chunk::Chunk;
+use jfr_path::is_reference;
 use jfr_value::Node;
 
 /// Where the stack trace of an event is.
 #[derive(Clone, Copy, Debug)]
-pub(crate) enum TracePlace {
+pub(crate) enum TraceLocation {
     /// The trace is the entry with this number.
     Entry(usize),
     /// The event refers to an entry that doesn't exist, so it has no stack. The JDK writes the key 0 if it
@@ -20,17 +21,17 @@ pub(crate) enum TracePlace {
 }
 
 /// Where the stack trace in this field is.
-pub(crate) fn place_of(chunk: &Chunk<'_>, trace: &Node<'_>) -> TracePlace
+pub(crate) fn location_of(chunk: &Chunk<'_>, trace: &Node<'_>) -> TraceLocation
     requires value { IsValue chunk.now.classes trace.now }
     requires of_chunk { trace.now.bytes.now ≡ chunk.now.bytes }
-    ensures { IsPlace chunk.now (node_of trace.now) result }
+    ensures { IsLocation chunk.now (node_of trace.now) result }
 {
     chunk.parts_stand();
     if !is_reference(trace) {
-        return TracePlace::Inline;
+        return TraceLocation::Inline;
     }
     match entry_of(chunk, trace) {
-        Some(number) => TracePlace::Entry(number),
-        None => TracePlace::Missing,
+        Some(number) => TraceLocation::Entry(number),
+        None => TraceLocation::Missing,
     }
 }

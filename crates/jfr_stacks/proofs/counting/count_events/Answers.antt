@@ -7,7 +7,7 @@ use Rattle.std.proofs.lemmas.List.{length-replicate}
 use Rattle.jfr_chunk.specs.Parts.{events_of}
 use Rattle.jfr_value.specs.Nodes.{node_of}
 use Rattle.jfr_stacks.specs.Adding.{AreAtMost, AreBelow, Owes, kept_at}
-use Rattle.jfr_stacks.specs.Frames.{behind, field_numbers}
+use Rattle.jfr_stacks.specs.Frames.{after_references, field_numbers}
 use Rattle.jfr_stacks.specs.Held.{counts_in}
 use Rattle.jfr_stacks.specs.Methods.{WritesFor}
 use Rattle.jfr_stacks.specs.declared.writer.StackWriter.{StackWriter}
@@ -72,8 +72,8 @@ loop-number-preserved c =
     elim c.match-kept_trace.branch [
       | in-Some+in_ok-count_trace w ↦
           let n = node_of w.in-Some.trace in
-          let o : Option (List ℕ) = trace_text p (behind 16 p n) in
-          let k : option_and_then (stack_of p) (kept_at p c.args.kept.now number) ≡ o = traced_all p (kept_at p c.args.kept.now number) ∙ ap (option_and_then (λ t. trace_text p (behind 16 p t))) (sym w.in-Some.ensures.exact) in
+          let o : Option (List ℕ) = trace_text p (after_references 16 p n) in
+          let k : option_and_then (stack_of p) (kept_at p c.args.kept.now number) ≡ o = traced_all p (kept_at p c.args.kept.now number) ∙ ap (option_and_then (λ t. trace_text p (after_references 16 p t))) (sym w.in-Some.ensures.exact) in
           let new = w.count_trace.new.by_entry in
           let d = i.done ++ option_to_list o in
           let q : c.match-kept_trace.by_entry.items ≡ new = ap (λ (v : Vec ℕ Global). v.items) w.by_entry-is ∙ front _ new _ (w.count_trace.auto.by_entry ∙ w.deref_mut.ensures.len) in
@@ -89,7 +89,7 @@ loop-number-preserved c =
           }
       | in_default w ↦
           let q : c.match-kept_trace.by_entry.items ≡ c.loop-number.by_entry.items = ap (λ (v : Vec ℕ Global). v.items) w.by_entry-is in
-          let k : option_and_then (stack_of p) (kept_at p c.args.kept.now number) ≡ None = traced_all p (kept_at p c.args.kept.now number) ∙ ap (option_and_then (λ t. trace_text p (behind 16 p t))) (sym w.in_default.ensures.exact) in
+          let k : option_and_then (stack_of p) (kept_at p c.args.kept.now number) ≡ None = traced_all p (kept_at p c.args.kept.now number) ∙ ap (option_and_then (λ t. trace_text p (after_references 16 p t))) (sym w.in_default.ensures.exact) in
           let d = i.done ++ [] in
           let o : Owes (entry_text p) old d (counts_in c.loop-number.counts) 0 c.loop-number.by_entry.items = owes_same (entry_text p) old i.done (counts_in c.loop-number.counts) c.loop-number.by_entry.items None refl i.owes in
           let l : number ≤ number + 1 = omega arith in

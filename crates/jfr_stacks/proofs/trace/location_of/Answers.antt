@@ -1,7 +1,7 @@
 use Rattle.std.proofs.Common.{subst, sym, ◌∙◌}
 use Rattle.jfr_value.specs.Nodes.{IsNode, node_of}
 use Rattle.jfr_stacks.proofs.TextLaws.{leads_to, no_trace}
-use Rattle.jfr_stacks.proofs.trace.place_of.Goals as goal
+use Rattle.jfr_stacks.proofs.trace.location_of.Goals as goal
 
 pub returns-in-Some : goal.returns-in-Some
 returns-in-Some c =
