@@ -1,5 +1,5 @@
 use Rattle.std.proofs.Common.{◌≡◌, ap, length, refl, subst, sym, ◌∙◌}
-use Rattle.std.specs.Prelude.{Option, Some, slice_get}
+use Rattle.std.specs.Prelude.{Some, slice_get}
 use Rattle.std.proofs.lemmas.Option.{slice_get_read}
 use Rattle.jfr_stacks.specs.Methods.{IsMethodText}
 use Rattle.jfr_stacks.proofs.MethodLaws.{text_kept}

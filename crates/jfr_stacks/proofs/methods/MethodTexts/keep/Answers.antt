@@ -1,7 +1,5 @@
-use Rattle.std.proofs.Common.{rules, ◌≡◌, ◌++◌, ◌∷◌, [], length, subst, sym, ◌∙◌}
-use Rattle.std.specs.Prelude.{List, Some, String, slice_set}
-use Rattle.std.specs.declared.alloc.Global.{Global}
-use Rattle.jfr_stacks.specs.Methods.{AreMethodTexts, IsMethodText}
+use Rattle.std.proofs.Common.{rules, ◌≡◌, ◌++◌, ◌∷◌, [], length, subst, sym}
+use Rattle.std.specs.Prelude.{Some, slice_set}
 use Rattle.jfr_stacks.proofs.MethodLaws.{Each, kept_more, kept_set}
 use Rattle.jfr_stacks.proofs.methods.MethodTexts.keep.Goals as goal
 
