@@ -1,12 +1,13 @@
 -- Lines that are added one after another.
-use Rattle.std.specs.Prelude.{◌≡◌, ◌<◌, ◌+◌, ℕ, zero, suc, Bool, true, false, List, [], ◌∷◌, ◌++◌, take, length, slice_index_or, slice_set, Option, Some, None}
+use Rattle.std.specs.Prelude.{◌≡◌, ◌<◌, ◌+◌, ℕ, zero, suc, Bool, true, false, List, [], ◌∷◌, ◌++◌, take, length, map, replicate, slice_index_or, slice_set, Option, Some, None}
 use Rattle.std.proofs.Common.{ap, arith, refl, sym, ◌∙◌, subst}
-use Rattle.std.proofs.lemmas.List.{append_assoc, append-nil}
+use Rattle.std.proofs.lemmas.List.{append_assoc, append-nil, length-set, map-append}
 use Rattle.jfr_value.specs.Visits.{TakesAll}
 use Rattle.jfr_pool.specs.declared.entry.EntryAt.{EntryAt}
 use Rattle.jfr_pool.specs.Entries.{number_in_force}
 use Rattle.jfr_worklist.specs.Marks.{is_marked, marked_at, add, those}
 use Rattle.jfr_verify.specs.declared.lines.Lines.{Lines}
+use Rattle.jfr_verify.specs.declared.line.Line.{Line}
 use Rattle.jfr_verify.specs.declared.line.Parent.{Parent}
 use Rattle.jfr_verify.specs.Receipts.{new_lines}
 use Rattle.jfr_verify.specs.Added.{Adds}
@@ -20,6 +21,19 @@ new_append marks parent (x ∷ xs) ys = by_mark (is_marked marks x) refl (new_ap
         → new_lines marks parent (x ∷ (xs ++ ys)) ≡ new_lines marks parent (x ∷ xs) ++ new_lines (marked_at (slice_set marks x true) xs) parent ys
     by_mark true e h = rw e h
     by_mark false e h = rw e (ap (λ z. record { entry = x; parent = parent } ∷ z) h)
+
+-- The marks are those of the entries of lines, with one line more.
+pub listed_more : (f : List Bool) (ls now : List Line) (n : ℕ) (l : Line) → f ≡ marked_at (replicate (length f) false) (map (λ l. l.entry) ls) → now ≡ ls ++ l ∷ [] → l.entry ≡ n
+    → slice_set f n true ≡ marked_at (replicate (length (slice_set f n true)) false) (map (λ l. l.entry) now)
+listed_more f ls now n l e h k =
+    let none : List Bool = replicate (length f) false in
+    let each : map (λ (l : Line). l.entry) now ≡ map (λ (l : Line). l.entry) ls ++ n ∷ [] = ap (map (λ (l : Line). l.entry)) h ∙ (map-append (λ (l : Line). l.entry) ls (l ∷ []) ∙ ap (λ z. map (λ (l : Line). l.entry) ls ++ z ∷ []) k) in
+    ap (λ z. slice_set z n true) e
+    ∙ (sym (all_append none (map (λ (l : Line). l.entry) ls) (n ∷ [])) ∙ (ap (marked_at none) (sym each) ∙ ap (λ z. marked_at (replicate z false) (map (λ (l : Line). l.entry) now)) (sym (length-set f n true))))
+
+-- At first there are no lines.
+pub listed_none : (f : List Bool) (ls : List Line) (n : ℕ) → f ≡ replicate n false → length f ≡ n → ls ≡ [] → f ≡ marked_at (replicate (length f) false) (map (λ l. l.entry) ls)
+listed_none f ls n e l h = e ∙ (ap (λ z. replicate z false) (sym l) ∙ ap (λ (z : List Line). marked_at (replicate (length f) false) (map (λ l. l.entry) z)) (sym h))
 
 pub adds_none : (a : Lines) → Adds [] a a
 adds_none a = record { marks = refl; lines = sym (append-nil a.items.items); parent = refl }

@@ -32,3 +32,6 @@ mod StringLaws
 mod VerdictLaws
 mod FileLaws
 mod CheckLaws
+mod KeptWalkLaws
+mod ScrubReceiptLaws
+mod RankingLaws

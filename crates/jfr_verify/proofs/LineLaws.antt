@@ -273,18 +273,24 @@ module _ (p : Parts) where
         made_more before l (lines_from n p (marked_at marks (next_entries p l.entry)) (ls ++ new_lines marks (OfEntry l.entry) (next_entries p l.entry))) g.making.valid.0
         (made n (l.entry ∷ before) (marked_at marks (next_entries p l.entry)) (ls ++ new_lines marks (OfEntry l.entry) (next_entries p l.entry)) (omega arith) (going_next before marks l ls g))
 
-    pub receipt_of_is_receipt : Exactly receipt_format (receipt_of p) (lines_of p) → IsReceiptOf (receipt_of p) p
+    -- All the lines, and what is known of them.
+    made_lines : Made [] (lines_of p)
     unfolding lines_of
-    receipt_of_is_receipt e =
-        let m = made (length p.entries) [] (marked_at (no_marks p) (roots p (events_of p))) (event_lines p (no_marks p) 0 (events_of p)) (omega arith) started in
-        record {
-          lines = lines_of p;
-          spelled = e;
-          count = omega (arith, m.counted);
-          each = λ i h. in_contains (entries (lines_of p)) i (by_case i (m.every i h));
-          valid = m.valid;
-        }
+    made_lines = made (length p.entries) [] (marked_at (no_marks p) (roots p (events_of p))) (event_lines p (no_marks p) 0 (events_of p)) (omega arith) started
+
+    -- Each entry has a line.
+    pub each_has_line : (i : ℕ) → i < length p.entries → In (entries (lines_of p)) i
+    each_has_line i h = by_case (made_lines.every i h)
       where
-        by_case : (i : ℕ) → In [] i ⊎ In (entries (lines_of p)) i → In (entries (lines_of p)) i
-        by_case i (inl k) = absurd k
-        by_case i (inr k) = k
+        by_case : In [] i ⊎ In (entries (lines_of p)) i → In (entries (lines_of p)) i
+        by_case (inl k) = absurd k
+        by_case (inr k) = k
+
+    pub receipt_of_is_receipt : Exactly receipt_format (receipt_of p) (lines_of p) → IsReceiptOf (receipt_of p) p
+    receipt_of_is_receipt e = record {
+      lines = lines_of p;
+      spelled = e;
+      count = omega (arith, made_lines.counted);
+      each = λ i h. in_contains (entries (lines_of p)) i (each_has_line i h);
+      valid = made_lines.valid;
+    }

@@ -58,7 +58,7 @@ module _ (p q : Parts) (a : AreParts p) (b : AreParts q) (flags : List Bool) (re
   abbrev marks : List Bool
   marks = h.marks
 
-  kept_node : (e : EventAt) → In kept e → (v : Value) × IsNode p.classes p.bytes e.node v
+  pub kept_node : (e : EventAt) → In kept e → (v : Value) × IsNode p.classes p.bytes e.node v
   kept_node e i = let v = event_of_chunk p a kept (chosen_events p flags) e i in (v.value, v.node)
 
   -- What is reached is marked.
@@ -73,7 +73,7 @@ module _ (p q : Parts) (a : AreParts p) (b : AreParts q) (flags : List Bool) (re
   same_on_paths : SameOnPaths p q kept
   same_on_paths e path n key i l t = in_force_same p q marks key h.among.copied (λ number f. reached_is_marked number (record { event = e; is_kept = i; path = path; node = n; leads_there = l; key = key; refers = t; in_force = f }))
 
-  output_event : (f : EventAt) → In (events_of q) f → Agree p.classes q.classes f.record_of.type_id
+  pub output_event : (f : EventAt) → In (events_of q) f → Agree p.classes q.classes f.record_of.type_id
   output_event f i = let v = event_is q b f i in agree_on_node p.classes q.classes s.sound r.sound h.classes q.bytes f.record_of.type_id f.node v.value v.shape v.node
 
   records : SameRecords p q kept (events_of q)
@@ -83,23 +83,23 @@ module _ (p q : Parts) (a : AreParts p) (b : AreParts q) (flags : List Bool) (re
   meaning = same_meaning p q a b kept (events_of q) (chosen_events p flags) (All-contains_itself (events_of q)) records same_on_paths
 
   -- Nodes of equal shape and bytes refer to the same.
-  targets_same : (n o : NodeAt) (v w : Value) → IsNode p.classes p.bytes n v → IsNode q.classes q.bytes o w → SameNode p.bytes q.bytes n o → Agree p.classes q.classes n.shape.class → targets p.classes p.bytes n ≡ targets q.classes q.bytes o
+  pub targets_same : (n o : NodeAt) (v w : Value) → IsNode p.classes p.bytes n v → IsNode q.classes q.bytes o w → SameNode p.bytes q.bytes n o → Agree p.classes q.classes n.shape.class → targets p.classes p.bytes n ≡ targets q.classes q.bytes o
   targets_same n o v w i j e g =
       let k : IsNode q.classes q.bytes o v = node_agree p.classes q.classes p.bytes q.bytes n o v i e.shape e.bytes j.order j.within g in
       targets_are p.classes s.sound p.bytes n v i ∙ sym (targets_are q.classes r.sound q.bytes o v k)
 
   -- A marked entry of the input, and its copy.
-  record Copy (number : ℕ) (f : EntryAt) : Type 0 where
-    place : ℕ
-    entry : EntryAt
-    stands : slice_get p.entries place ≡ Some entry
-    is_marked : IsMarked marks place
-    number_is : rank marks place ≡ number
-    copied : IsCopied p q entry f
-    force : number_in_force p.entries (entry.class, entry.key) ≡ Some place
-    copy_force : number_in_force q.entries (entry.class, entry.key) ≡ Some number
+  pub record Copy (number : ℕ) (f : EntryAt) : Type 0 where
+    pub place : ℕ
+    pub entry : EntryAt
+    pub stands : slice_get p.entries place ≡ Some entry
+    pub is_marked : IsMarked marks place
+    pub number_is : rank marks place ≡ number
+    pub copied : IsCopied p q entry f
+    pub force : number_in_force p.entries (entry.class, entry.key) ≡ Some place
+    pub copy_force : number_in_force q.entries (entry.class, entry.key) ≡ Some number
 
-  copy_of : (number : ℕ) (f : EntryAt) → slice_get q.entries number ≡ Some f → Copy number f
+  pub copy_of : (number : ℕ) (f : EntryAt) → slice_get q.entries number ≡ Some f → Copy number f
   copy_of number f e =
       let c = beside_right (IsCopied p q) (slice_get (marked marks p.entries) number) (slice_get q.entries number) f (copied_get p q (marked marks p.entries) q.entries number h.among.copied) e in
       let k : Ranked marks p.entries number = ranked marks p.entries number (slice_get_within (marked marks p.entries) number c.0 c.1) in
@@ -119,7 +119,7 @@ module _ (p q : Parts) (a : AreParts p) (b : AreParts q) (flags : List Bool) (re
       }
 
   -- A copy refers to the same.
-  copy_targets : (number : ℕ) (f : EntryAt) → slice_get q.entries number ≡ Some f → (c : Copy number f) → targets p.classes p.bytes (entry_node c.entry) ≡ targets q.classes q.bytes (entry_node f)
+  pub copy_targets : (number : ℕ) (f : EntryAt) → slice_get q.entries number ≡ Some f → (c : Copy number f) → targets p.classes p.bytes (entry_node c.entry) ≡ targets q.classes q.bytes (entry_node f)
   copy_targets number f e c =
       let t : ℕ × ℕ = (c.entry.class, c.entry.key) in
       let i : Forced p.entries t c.place = forced p.entries t c.place c.force in

@@ -48,7 +48,7 @@ module _ (p : Parts) where
       ap (those (number_in_force p.entries)) (all_targets_append xs (e ∷ []) ∙ ap (λ z. all_targets p (nodes_of xs) ++ z) (append-nil (targets p.classes p.bytes e.node)))
       ∙ those_append (number_in_force p.entries) (all_targets p (nodes_of xs)) (targets p.classes p.bytes e.node)
 
-  roots_cons : (x : EventAt) (xs : List EventAt) → roots p (x ∷ xs) ≡ refers x ++ roots p xs
+  pub roots_cons : (x : EventAt) (xs : List EventAt) → roots p (x ∷ xs) ≡ refers x ++ roots p xs
   roots_cons x xs = those_append (number_in_force p.entries) (targets p.classes p.bytes x.node) (all_targets p (nodes_of xs))
 
   event_lines_one : (marks : List Bool) (n : ℕ) (xs : List EventAt) (e : EventAt) → event_lines p marks n (xs ++ e ∷ []) ≡ event_lines p marks n xs ++ new_lines (marked_at marks (roots p xs)) (OfEvent (n + length xs)) (refers e)
@@ -109,7 +109,7 @@ module _ (p : Parts) where
   pub in_lines_starts : (old : List Bool) (first : List Line) → length old ≡ length p.entries → InLines old first old first 0
   in_lines_starts old first s = record { size = s; turns = length p.entries; sum = omega arith; same = refl }
 
-  drop_get : {X : Type 0} (xs : List X) (n : ℕ) (x : X) → slice_get xs n ≡ Some x → drop n xs ≡ x ∷ drop (suc n) xs
+  pub drop_get : {X : Type 0} (xs : List X) (n : ℕ) (x : X) → slice_get xs n ≡ Some x → drop n xs ≡ x ∷ drop (suc n) xs
   drop_get [] n x e = cc
   drop_get (y ∷ ys) zero x e = let h : y ≡ x = cc in ap (λ z. z ∷ ys) h
   drop_get (y ∷ ys) (suc n) x e = drop_get ys n x e
@@ -160,7 +160,7 @@ module _ (p : Parts) where
   all_taken (x ∷ xs) zero h = absurd (omega arith)
   all_taken (x ∷ xs) (suc n) h = let i = all_taken xs n (omega arith) in (ap (λ z. x ∷ z) i.0, i.1)
 
-  none_left : (n : ℕ) (flags : List Bool) → lines_from n p flags [] ≡ []
+  pub none_left : (n : ℕ) (flags : List Bool) → lines_from n p flags [] ≡ []
   none_left zero flags = refl
   none_left (suc n) flags = refl
 

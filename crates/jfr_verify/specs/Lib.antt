@@ -10,6 +10,7 @@ pub mod Strings
 pub mod Closed
 pub mod Added
 pub mod Compact
+pub mod Ranks
 pub mod Reading
 pub mod Parents
 pub mod Claims

@@ -4,7 +4,7 @@
 //! event, or an entry with an earlier line. So each entry is reached from an event, and a third party can
 //! check an output without trusting whoever made it.
 //!
-//! `receipt_of` makes the receipt of a chunk, `check` checks an input, an output and a receipt, and
+//! `receipt_of` makes the receipt of a chunk, `receipt_of_scrub` that of its scrub, `check` checks an input, an output and a receipt, and
 //! `verify_stream` checks the files of a whole output. None uses code of the scrubber. Read
 //! `specs/Receipts.antt` first: what a receipt is. Then read `specs/Checks.antt`: what is checked,
 //! `specs/Checked.antt`: which answer is right, and `specs/Laws.antt`: what follows for an output that passes.
@@ -29,6 +29,7 @@ mod opening;
 mod outputs;
 mod parents;
 mod prefix;
+mod ranks;
 mod reading;
 mod receipt;
 mod stream;
@@ -43,6 +44,6 @@ pub use laws::{
     recordings_are_read, scrubs_are_verified, streams_are_compared, verdict_is_unique,
 };
 pub use line::{Line, Parent};
-pub use receipt::{Receipt, receipt_of};
+pub use receipt::{Receipt, receipt_of, receipt_of_scrub};
 pub use stream::verify_stream;
 pub use verdict::Verdict;

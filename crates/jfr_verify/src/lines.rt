@@ -1,5 +1,6 @@
 //! The lines of a receipt while they are made.
-ghost use Rattle.std.specs.Prelude.{◌≡◌, ◌+◌, ◌^◌, ◌<◌, ◌≤◌, [], ◌∷◌, ◌++◌, false, true, length, replicate, slice_set, vec_len, vec_capacity, IfOk};
+ghost use Rattle.std.specs.Prelude.{◌≡◌, ◌+◌, ◌^◌, ◌<◌, ◌≤◌, [], ◌∷◌, ◌++◌, false, true, length, map, replicate, slice_set, vec_len, vec_capacity, IfOk};
+ghost use Rattle.jfr_worklist.specs.Marks.{marked_at};
 ghost use Rattle.jfr_worklist.specs.Worklists.{marked_count};
 ghost use Rattle.jfr_verify.specs.Receipts.{new_lines, parent_number};
 
@@ -19,6 +20,7 @@ pub(crate) struct Lines {
     pub parent: Parent,
     ghost room: { length flags.items ≤ vec_capacity items },
     ghost each: { vec_len items ≡ marked_count flags.items },
+    ghost listed: { flags.items ≡ marked_at (replicate (length flags.items) false) (map (λ line. line.entry) items.items) },
     ghost few: { length flags.items ≤ 2 ^ 31 },
     ghost low: { parent_number parent < 2 ^ 31 },
 }

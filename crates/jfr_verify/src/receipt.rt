@@ -2,13 +2,17 @@
 ghost use Rattle.std.specs.Prelude.{◌≡◌, ◌∷◌, ◌++◌, length, OnOk, IfOk};
 ghost use Rattle.std.specs.List.{flat_map};
 ghost use Rattle.jfr_base.specs.Integer.{spell};
+ghost use Rattle.jfr_chunk.specs.Reach.{kept_by};
+ghost use Rattle.jfr_laws.specs.Laws.{IsKept};
+ghost use Rattle.jfr_verify.specs.Ranks.{ranked_bytes};
 ghost use Rattle.jfr_verify.specs.Receipts.{line_bytes, parent_kind, parent_number, receipt_of};
 
-use crate::Parent;
 use crate::compact::CompactLine;
-use crate::walk::lines_in;
+use crate::ranks::{ranked, ranks_of};
+use crate::walk::{kept_lines_in, lines_in};
+use crate::{Line, Parent};
 use jfr_base::{NoMemory, write_var};
-use jfr_chunk::Chunk;
+use jfr_chunk::{Chunk, Kept};
 use std::alloc::{AllocError, Global};
 use std::marker::{Brand, Model};
 use std::sync::ledger::Blank;
@@ -48,16 +52,45 @@ pub fn receipt_of(alloc: Global, chunk: &Chunk<'_>) -> Result<Receipt, NoMemory>
     Ok(Receipt { bytes })
 }
 
+/// The receipt of a chunk's scrub, which has these events: made from the chunk itself, without the scrub.
+pub fn receipt_of_scrub(alloc: Global, chunk: &Chunk<'_>, kept: &Kept) -> Result<Receipt, NoMemory>
+    ensures ok { IfOk result (λ receipt. (scrub : IsKept chunk.now (kept_by chunk.now kept.now)) → receipt ≡ receipt_of scrub.parts) }
+{
+    chunk.parts_stand();
+    let lines = kept_lines_in::<Brand>(alloc, chunk, kept, Blank::new(1))?;
+    let ranks = ranks_of(alloc, &lines.flags)?;
+    let mut bytes = Vec::new(alloc);
+    push_integer(&mut bytes, lines.items.len() as u64)?;
+    push_ranked(&mut bytes, &lines.items, &ranks)?;
+    Ok(Receipt { bytes })
+}
+
+/// Appends lines with the ranks of their entries.
+fn push_ranked(out: &mut Vec<u8>, lines: &[CompactLine], ranks: &[u32]) -> Result<(), AllocError>
+    ensures ok { OnOk result (out.new.items ≡ out.old.items ++ flat_map (ranked_bytes ranks.now) lines.now) }
+{
+    for compact_line in lines {
+        push_line(out, ranked(compact_line.line(), ranks))?;
+    }
+    Ok(())
+}
+
 /// Appends lines.
 fn push_lines(out: &mut Vec<u8>, lines: &[CompactLine]) -> Result<(), AllocError>
     ensures ok { OnOk result (out.new.items ≡ out.old.items ++ flat_map line_bytes lines.now) }
 {
     for compact_line in lines {
-        let line = compact_line.line();
-        push_integer(out, line.entry as u64)?;
-        push_parent(out, line.parent)?;
+        push_line(out, compact_line.line())?;
     }
     Ok(())
+}
+
+/// Appends a line: the number of its entry, and its parent.
+fn push_line(out: &mut Vec<u8>, line: Line) -> Result<(), AllocError>
+    ensures ok { OnOk result (out.new.items ≡ out.old.items ++ line_bytes line) }
+{
+    push_integer(out, line.entry as u64)?;
+    push_parent(out, line.parent)
 }
 
 /// Appends a parent: the byte of its kind and its number.

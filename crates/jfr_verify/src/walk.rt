@@ -1,18 +1,19 @@
 //! The walk that makes the lines of a chunk's receipt: it starts at the events and follows references from
 //! entry to entry.
-ghost use Rattle.std.specs.Prelude.{◌≡◌, ◌^◌, ◌<◌, [], All, length, Some, None, slice_get, IfOk};
+ghost use Rattle.std.specs.Prelude.{◌≡◌, ◌+◌, ◌^◌, ◌<◌, ◌≤◌, [], All, length, Some, None, slice_get, option_map, IfOk};
 ghost use Rattle.jfr_value.specs.Nodes.{IsValue, node_of};
 ghost use Rattle.jfr_worklist.specs.Marks.{marked_at};
 ghost use Rattle.jfr_chunk.specs.Parts.{EventAt, events_of};
-ghost use Rattle.jfr_chunk.specs.Reach.{next_entries, node_entries, roots};
+ghost use Rattle.jfr_chunk.specs.Reach.{kept_by, next_entries, node_entries, roots};
 ghost use Rattle.jfr_verify.specs.declared.line.Parent.TheVariants as kinds;
 ghost use Rattle.jfr_verify.specs.Added.{Adds, AddsOf};
+ghost use Rattle.jfr_verify.specs.Ranks.{kept_at, kept_lines};
 ghost use Rattle.jfr_verify.specs.Receipts.{event_lines, lines_from, lines_of, no_marks};
 
 use crate::Parent;
 use crate::lines::Lines;
 use jfr_base::NoMemory;
-use jfr_chunk::Chunk;
+use jfr_chunk::{Chunk, Kept};
 use jfr_layout::Classes;
 use jfr_pool::Pools;
 use jfr_value::{Node, Steps, Visit, visit_targets};
@@ -59,6 +60,76 @@ pub(crate) fn lines_in<L: Ledger>(
     Ok(lines)
 }
 
+/// The lines of a chunk's kept events, which are numbered among the kept ones: first for what they refer to,
+/// then, line by line, for what the entries of the lines refer to.
+pub(crate) fn kept_lines_in<L: Ledger>(
+    alloc: Global,
+    chunk: &Chunk<'_>,
+    kept: &Kept,
+    blank: Blank,
+) -> Result<Lines, NoMemory>
+    requires name { blank.name ≡ L.name }
+    requires parts { blank.parts ≡ L.parts }
+    requires some { 0 < blank.parts }
+    ensures lines { IfOk result (λ lines. lines.items.items ≡ kept_lines chunk.now (kept_by chunk.now kept.now)) }
+    ensures size { IfOk result (λ lines. length lines.flags.items ≡ length chunk.now.entries) }
+{
+    // The numbers of events and of entries are below that of the bytes.
+    chunk.bytes();
+    let mut lines = Lines::new(alloc, chunk.pools().len())?;
+    let mut steps: Steps<L> = Steps::new(blank);
+    add_kept_events(&mut lines, chunk, kept);
+    add_entries(&mut lines, chunk, &mut steps);
+    Ok(lines)
+}
+
+/// Adds lines for what the kept events refer to, one event after another.
+fn add_kept_events(lines: &mut Lines, chunk: &Chunk<'_>, kept: &Kept)
+    requires marks { lines.old.flags.items ≡ no_marks chunk.now }
+    requires none { lines.old.items.items ≡ [] }
+    requires few { length (events_of chunk.now) < 2 ^ 31 }
+    ensures marks { lines.new.flags.items ≡ marked_at (no_marks chunk.now) (roots chunk.now (kept_by chunk.now kept.now)) }
+    ensures lines { lines.new.items.items ≡ event_lines chunk.now (no_marks chunk.now) 0 (kept_by chunk.now kept.now) }
+{
+    let mut rank: usize = 0;
+    for number in 0..kept.len() {
+        add_kept_event(lines, chunk, kept, number, &mut rank);
+    }
+}
+
+/// Adds lines for what event `number` refers to, if it is kept. `rank` counts the kept events.
+fn add_kept_event(
+    lines: &mut Lines,
+    chunk: &Chunk<'_>,
+    kept: &Kept,
+    number: usize,
+    rank: &mut usize,
+)
+    requires size { length lines.old.flags.items ≡ length chunk.now.entries }
+    requires few { length (events_of chunk.now) < 2 ^ 31 }
+    requires order { rank.old ≤ number }
+    ensures adds { (e : EventAt) → kept_at kept.now (events_of chunk.now) number ≡ Some e → AddsOf (kinds.OfEvent rank.old) (node_entries chunk.now.entries chunk.now.classes chunk.now.bytes e.node) lines.old lines.new }
+    ensures next { (e : EventAt) → kept_at kept.now (events_of chunk.now) number ≡ Some e → rank.new ≡ rank.old + 1 }
+    ensures none { kept_at kept.now (events_of chunk.now) number ≡ None → lines.new ≡ lines.old }
+    ensures same { kept_at kept.now (events_of chunk.now) number ≡ None → rank.new ≡ rank.old }
+{
+    if let Some(entries) = kept_entries(chunk, kept, number) {
+        lines.parent = Parent::OfEvent(*rank);
+        add_each(lines, entries);
+        *rank += 1;
+    }
+}
+
+/// The numbers of the entries in force to which the event with this number refers, if it is kept.
+fn kept_entries<'a>(chunk: &'a Chunk<'_>, kept: &Kept, number: usize) -> Option<&'a [u32]>
+    ensures { option_map (λ s. s.now) result ≡ option_map (λ e. node_entries chunk.now.entries chunk.now.classes chunk.now.bytes e.node) (kept_at kept.now (events_of chunk.now) number) }
+{
+    match kept.get(number) {
+        Some(true) => chunk.event_entries(number),
+        _ => None,
+    }
+}
+
 /// Adds lines for what the events refer to, one event after another.
 fn add_events(lines: &mut Lines, chunk: &Chunk<'_>)
     requires marks { lines.old.flags.items ≡ no_marks chunk.now }
@@ -98,7 +169,8 @@ fn add_each(lines: &mut Lines, entries: &[u32])
 /// Adds lines for what the entries of the lines refer to, line by line, the added lines included.
 fn add_entries<L: Ledger>(lines: &mut Lines, chunk: &Chunk<'_>, steps: &mut Steps<L>)
     requires size { length lines.old.flags.items ≡ length chunk.now.entries }
-    ensures { lines.new.items.items ≡ lines_from (length chunk.now.entries) chunk.now lines.old.flags.items lines.old.items.items }
+    ensures lines { lines.new.items.items ≡ lines_from (length chunk.now.entries) chunk.now lines.old.flags.items lines.old.items.items }
+    ensures size { length lines.new.flags.items ≡ length chunk.now.entries }
 {
     let mut next: usize = 0;
     while next < lines.items.len() {

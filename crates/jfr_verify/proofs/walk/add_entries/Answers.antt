@@ -22,7 +22,7 @@ loop-next-preserved g c =
     in_lines_next c.args.chunk.now c.args.lines.now.flags.items c.loop-next.lines.flags.items c.add_entry.new.lines.flags.items c.args.lines.now.items.items c.loop-next.lines.items.items c.add_entry.new.lines.items.items
     c.loop-next.next c.line-line.result e h c.loop-next.invariant c.add_entry.ensures.marks c.add_entry.ensures.lines
 
-pub returns : goal.returns
-returns g c =
+pub returns-clause-lines : goal.returns-clause-lines
+returns-clause-lines g c =
     let h : length c.loop-next.lines.items.items ≤ c.loop-next.next = omega arith in
     in_lines_ends c.args.chunk.now c.args.lines.now.flags.items c.loop-next.lines.flags.items c.args.lines.now.items.items c.loop-next.lines.items.items c.loop-next.next h c.loop-next.invariant

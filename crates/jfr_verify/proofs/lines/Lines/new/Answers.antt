@@ -3,6 +3,7 @@ use Rattle.std.proofs.Common.{rules, ◌≡◌, length, false, replicate, vec_le
 use Rattle.std.proofs.lemmas.List.{length-replicate}
 use Rattle.jfr_worklist.specs.Worklists.{marked_count}
 use Rattle.jfr_worklist.proofs.Counts.{count_none}
+use Rattle.jfr_verify.proofs.AddedLaws.{listed_none}
 use Rattle.jfr_verify.proofs.lines.Lines.new.Goals as goal
 
 pub invariant_of-result : goal.invariant_of-result
@@ -12,4 +13,4 @@ invariant_of-result c =
     let k : vec_capacity c.in_ok-items.items ≡ c.args.count = c.in_ok-items.ensures.exact in
     let n : vec_len c.in_ok-items.items ≡ 0 = c.in_ok-items.ensures.len in
     let m : marked_count c.resize.new.self.items ≡ 0 = ap marked_count e ∙ count_none c.args.count in
-    record { room = omega arith; each = omega arith; few = omega (arith, c.requires); low = omega arith }
+    record { room = omega arith; each = omega arith; listed = listed_none c.resize.new.self.items c.in_ok-items.items.items c.args.count e l c.in_ok-items.ensures.items; few = omega (arith, c.requires); low = omega arith }

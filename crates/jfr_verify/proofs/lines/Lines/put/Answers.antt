@@ -4,6 +4,8 @@ use Rattle.std.proofs.lemmas.List.{length-set}
 use Rattle.jfr_worklist.specs.Marks.{is_marked}
 use Rattle.jfr_worklist.specs.Worklists.{marked_count}
 use Rattle.jfr_worklist.proofs.Counts.{count_set, count_le}
+use Rattle.jfr_verify.specs.declared.line.Line.{Line}
+use Rattle.jfr_verify.proofs.AddedLaws.{listed_more}
 use Rattle.jfr_verify.proofs.lines.Lines.put.Goals as goal
 
 pub push_within-requires : goal.push_within-requires
@@ -25,4 +27,10 @@ invariant_of-self c =
     let b : length c.args.self.now.flags.items ≤ vec_capacity c.args.self.now.items = c.args.self.now.room in
     let d = c.push_within.ensures in
     let f : length c.args.self.now.flags.items ≤ 2 ^ 31 = c.args.self.now.few in
-    record { room = omega arith; each = omega arith; few = omega arith; low = c.args.self.now.low }
+    record {
+      room = omega arith;
+      each = omega arith;
+      listed = listed_more c.args.self.now.flags.items c.args.self.now.items.items c.push_within.new.list.items c.args.number c.of.result c.args.self.now.listed c.push_within.ensures.items (ap (λ (l : Line). l.entry) c.of.ensures);
+      few = omega arith;
+      low = c.args.self.now.low;
+    }
