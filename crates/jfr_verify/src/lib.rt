@@ -4,11 +4,12 @@
 //! event, or an entry with an earlier line. So each entry is reached from an event, and a third party can
 //! check an output without trusting whoever made it.
 //!
-//! `receipt_of` makes the receipt of a chunk, `receipt_of_scrub` that of its scrub, `check` checks an input, an output and a receipt, and
-//! `verify_stream` checks the files of a whole output. None uses code of the scrubber. Read
-//! `specs/Receipts.antt` first: what a receipt is. Then read `specs/Checks.antt`: what is checked,
-//! `specs/Checked.antt`: which answer is right, and `specs/Laws.antt`: what follows for an output that passes.
-//! `specs/Streams.antt` has the same for lists of chunks, and `specs/Verdicts.antt` for files.
+//! `receipt_of` makes the receipt of a chunk, and `receipt_of_scrub` that of a chunk's scrub, from the chunk
+//! itself. `check` checks an input, an output and a receipt, and `verify_stream` the files of a whole output.
+//! None uses code of the scrubber. Read `specs/Receipts.antt` first: what a receipt is. Then read
+//! `specs/Checks.antt`: what is checked, `specs/Checked.antt`: which answer is right, and `specs/Laws.antt`:
+//! what follows for an output that passes. `specs/Streams.antt` has the same for lists of chunks, and
+//! `specs/Verdicts.antt` for files.
 #![tactic(auto)]
 
 mod checker;
