@@ -1,11 +1,9 @@
 //! Writing the receipts of a recording's scrub.
-ghost use Rattle.std.specs.Prelude.{◌≡◌, ◌≢◌, ℕ, List, None, Ok, IfOk};
+ghost use Rattle.std.specs.Prelude.{◌≡◌, ◌≢◌, ℕ, List, None};
 ghost use Rattle.jfr_header.specs.Fronts.{Whole};
 ghost use Rattle.jfr_plan.specs.Clauses.{over, Ran, CanCreate};
 ghost use Rattle.jfr_plan.specs.Effects.{alone};
-ghost use Rattle.jfr_chunk.specs.Parts.{Parts};
-ghost use Rattle.jfr_chunk.specs.Refusal.{read_parts, refusal_of};
-ghost use Rattle.jfr_verify.specs.Receipts.{receipt_of};
+ghost use Rattle.jfr_chunk.specs.Refusal.{refusal_of};
 ghost use Rattle.jfr_receipt.specs.Receipting.{IsReceipted, receipting, scrub_receipt};
 
 use jfr_base::ReadFault;
@@ -13,14 +11,14 @@ use jfr_chunk::{Chunk, Room};
 use jfr_filter::Filter;
 use jfr_header::Ending;
 use jfr_outside::{NoMemory, Place};
+use jfr_path::choose;
 use jfr_plan::{Make, make_stream};
-use jfr_scrub::Scrubber;
-use jfr_verify::{Receipt, kept_is_passed, receipt_of};
+use jfr_verify::{Receipt, kept_is_passed, receipt_of_scrub};
 use std::alloc::Global;
 use std::mem;
 
-/// Makes the receipt of each chunk's scrub with a filter. `room` holds the last chunk's memory, which the next
-/// chunk uses again.
+/// Makes the receipt of each chunk's scrub with a filter, without the scrub. `room` holds the last chunk's
+/// memory, which the next chunk uses again.
 #[derive(Drop)]
 struct Receipts<'f> {
     filter: &'f Filter,
@@ -44,9 +42,8 @@ impl<'f> Make for Receipts<'f> {
     fn make(&mut self, alloc: Global, chunk: &[u8]) -> Result<(), ReadFault> {
         let room = mem::replace(&mut self.room, Room::new(alloc));
         let chunk = Chunk::read_in(alloc, room, chunk)?;
-        let mut scrubber = Scrubber::prepare(alloc, &chunk, self.filter)?;
-        scrubber.write();
-        self.receipt = Some(receipt_of_output(alloc, scrubber.bytes())?);
+        let kept = choose(alloc, &chunk, self.filter)?;
+        self.receipt = Some(receipt_of_scrub(alloc, &chunk, &kept)?);
         self.room = chunk.into_room();
         Ok(())
     }
@@ -58,19 +55,6 @@ impl<'f> Make for Receipts<'f> {
         let mut pieces = Vec::with_capacity(alloc, 1)?;
         pieces.push(receipt.bytes())?;
         Ok(pieces)
-    }
-}
-
-/// The receipt of a chunk that is known to be accepted.
-fn receipt_of_output(alloc: Global, output: &[u8]) -> Result<Receipt, NoMemory>
-    requires whole { Whole output.now }
-    requires accepted { refusal_of output.now ≡ None }
-    ensures ok { IfOk result (λ receipt. (q : Parts) → read_parts output.now ≡ Ok q → receipt ≡ receipt_of q) }
-{
-    match Chunk::read(alloc, output) {
-        Ok(chunk) => receipt_of(alloc, &chunk),
-        Err(ReadFault::Flawed(_)) => unreachable!(),
-        Err(ReadFault::Memory) => Err(NoMemory),
     }
 }
 

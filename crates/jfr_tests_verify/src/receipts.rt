@@ -1,9 +1,10 @@
 // Receipts that are written.
 use crate::outputs::{ANOTHER_TEXT, FIRST_RING, NO_NODE, ONE_NODE, SWAPPED, read};
+use jfr_chunk::{Chunk, Kept};
 use jfr_fixtures::{
     CLASSES, CLASSES_OF_A, JDK_LIKE, NO_CLASSES, NO_POOLS, RINGS, chunk_of, with_metadata,
 };
-use jfr_verify::receipt_of;
+use jfr_verify::{receipt_of, receipt_of_scrub};
 use std::alloc::{AllocError, Global};
 use std::process::Abort;
 use std::test::Fail;
@@ -82,6 +83,43 @@ const JDK_RECEIPT: &[u8] = &[
 fn compare_jdk(rt: &impl Abort, alloc: Global) -> Result<(), Fail> {
     let bytes = jdk_left(alloc)?;
     compare_bytes(rt, alloc, &bytes, JDK_RECEIPT)
+}
+
+// Compares the receipt of a chunk's scrub, made from the chunk.
+fn compare_scrub(
+    rt: &impl Abort,
+    alloc: Global,
+    chunk: &Chunk<'_>,
+    kept: &Kept,
+    expected: &[u8],
+) -> Result<(), Fail> {
+    let receipt = receipt_of_scrub(alloc, chunk, kept)?;
+    assert_eq!(rt; receipt.bytes(), expected);
+    Ok(())
+}
+
+// Compares the receipts of scrubs of the chunk with two rings, of which an event refers to each.
+fn compare_rings(rt: &impl Abort, alloc: Global, chunk: &Chunk<'_>) -> Result<(), Fail> {
+    let mut kept = Kept::new(alloc, 2)?;
+    compare_scrub(rt, alloc, chunk, &kept, &[0])?;
+    kept.set(1, true);
+    compare_scrub(rt, alloc, chunk, &kept, &[2, 0, 0, 0, 1, 1, 0])
+}
+
+// Compares the receipt of the scrub of the chunk that is like the JDK's if all events are kept.
+fn compare_all(rt: &impl Abort, alloc: Global, chunk: &Chunk<'_>) -> Result<(), Fail> {
+    let kept = chunk.keep_all(alloc)?;
+    compare_scrub(rt, alloc, chunk, &kept, JDK_RECEIPT)
+}
+
+#[test]
+fn receipts_of_scrubs_are_written(rt: HostRuntime) -> Result<(), Fail> {
+    let alloc = rt.alloc();
+    let bytes = with_metadata(alloc, CLASSES, RINGS, 333)?;
+    let chunk = read(alloc, &bytes)?;
+    compare_rings(&rt, alloc, &chunk)?;
+    let chunk = read(alloc, JDK_LIKE.as_slice())?;
+    compare_all(&rt, alloc, &chunk)
 }
 
 #[test]
