@@ -1,4 +1,4 @@
-//! Real files. The contracts of `Place` are about the contents of all names, of which a proof can know nothing
+//! Real files. The contracts of `Place` are about the contents of all files, of which a proof can know nothing
 //! here. So additional clauses say what a call does to the open file.
 ghost use Rattle.std.specs.Prelude.{◌≡◌, ◌≤◌, length, IfOk, IsSome, None, OnOk};
 ghost use Rattle.std.specs.Io.KnownBytes.{Appends};
@@ -86,7 +86,7 @@ fn write_portions<W: Write>(writer: &mut W, bytes: &[u8]) -> Result<(), Fault>
     Ok(())
 }
 
-/// The names of the regular files in a folder, in the system's order, which lists each name once.
+/// The names of the regular files in a folder, in the order of the system, which lists each name once.
 fn names_in<R: Files + Alloc + Clone + Drop>(
     rt: &R,
     alloc: Global,
@@ -227,8 +227,8 @@ impl<'a, R: Files + Alloc + Clone + Drop> Place for FilePlace<'a, R> {
         }
     }
 
-    /// The regular files, after following links. If the folder doesn't exist or a name isn't UTF-8, the read
-    /// has failed.
+    /// The regular files, after following links. If the folder doesn't exist or a name isn't UTF-8, the call
+    /// fails.
     fn list(&mut self, alloc: Global, folder: &str) -> Result<Words, Fault>
         ensures input { self.new.input ≡ self.old.input }
         ensures output { self.new.output ≡ self.old.output }

@@ -1,7 +1,7 @@
 //! The program `jfr`: real files and streams, the words of the command line, and the exit status.
 //!
 //! `jfr_cli::run` decides everything except two things. If a word isn't UTF-8, the program behaves as without
-//! any words, which is a usage error. If memory runs out for the words, the status is 5 and no line is
+//! any words, which is a usage error. If there is no memory for the words, the status is 5 and no line is
 //! written.
 #![tactic(auto)]
 

@@ -42,7 +42,7 @@ fn what_is_written_is_read_back(rt: HostRuntime) -> Result<(), Fail> {
     let alloc = rt.alloc();
     // An interrupted run may have left the file.
     let _ = fs::remove_file(&rt, NAME);
-    // More than one call writes.
+    // More bytes than one call writes.
     let large = vec![in alloc; 7u8; 1_100_000]?;
     let mut place = FilePlace::new(&rt, alloc);
     assert!(rt; place.open_input(NAME).is_err());

@@ -22,8 +22,8 @@ use std::alloc::Global;
 /// A text has fewer bytes than this.
 pub(crate) const TEXT_LIMIT: usize = 1 << 30;
 
-/// What follows the size of the checkpoint, before its pools: the type, and start, duration, delta and type
-/// byte, all 0.
+/// What is between the size of the checkpoint and its pools: the type of the record, and then start, duration,
+/// delta and type byte, which are 0.
 const CHECKPOINT_HEAD: [u8; 5] = [CHECKPOINT_TYPE as u8, 0, 0, 0, 0];
 
 /// The chunk of a text, which has a line for each class, field, constant and event.

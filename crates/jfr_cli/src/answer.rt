@@ -3,7 +3,7 @@ use jfr_build::BuildReason;
 use jfr_header::Ending;
 use jfr_verify::Doubt;
 
-/// How the program ends: how the order ended, or that the words aren't one.
+/// How the program ends: how the order ended, or that the words aren't an order.
 #[derive(Clone, Copy, Debug)]
 pub enum Answer {
     /// The words aren't an order.

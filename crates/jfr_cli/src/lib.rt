@@ -1,7 +1,7 @@
 //! The program's top call: it carries out the order that the words of the command line give.
 //!
 //! `run` is the only call. Read `specs/Works.antt` first for what each order does, then `specs/Answers.antt`
-//! for the status and the line, then `specs/Runs.antt` for the state after each.
+//! for the status and the line, then `specs/Runs.antt` for the state after each status.
 #![tactic(auto)]
 
 mod answer;

@@ -35,7 +35,7 @@ use jfr_verify::{kept_is_passed, scrubs_are_verified, verdict_is_unique};
 use jfr_words::{WordsFault, read_words};
 use std::alloc::Global;
 
-// Carries out the order of the words, if they are one.
+// Carries out the order that the words give, if they give one.
 fn obey<P: Place, O: Sink>(alloc: Global, words: &Words, place: &mut P, out: &mut O) -> Answer
     ensures { Obeys words.now result (outside (P.state place.old) (O.state out.old)) (outside (P.state place.new) (O.state out.new)) }
 {
@@ -63,8 +63,8 @@ pub fn run<P: Place, O: Sink, E: Sink>(
 
     // With 0 or 2 the output of a scrub holds the scrub of each chunk before the first refused one: a chunk
     // that is accepted again, with exactly the events that the filter keeps and exactly the constants that
-    // they reach, and of the same meaning. `each` says this of the scrub of every accepted chunk, so also if
-    // the status is another.
+    // they reach, and of the same meaning. `each` says this of the scrub of every accepted chunk, whatever
+    // the status is.
     ensures headline { (result ≡ 0) ⊎ (result ≡ 2) → (g : Given) (input output : List ℕ) → order_of words.now ≡ Some (orders.Scrub g false input output)
         → Told (P.state place.old).told (P.state place.new).told (Scrubs g (file_name input) (file_name output)) }
     ensures each { (g : Given) (c : List ℕ) → Whole c → refusal_of c ≡ None → IsScrubbed g c (scrubbed g c) }
@@ -89,7 +89,7 @@ pub fn run<P: Place, O: Sink, E: Sink>(
 
     // With 0 the output of a build has the chunk of the text: a chunk that is accepted, with exactly the
     // classes, the events and the constants of the lines. `each_built` says this of every chunk that is
-    // built, so also if the status is another.
+    // built, whatever the status is.
     ensures built { result ≡ 0 → (text output : List ℕ) → order_of words.now ≡ Some (orders.Build text output)
         → Told (P.state place.old).told (P.state place.new).told (Builds (file_name text) (file_name output)) }
     ensures each_built { (text chunk : List ℕ) → build_of text ≡ Ok chunk → IsBuiltOf text chunk }

@@ -17,8 +17,8 @@ use jfr_verify::{Receipt, kept_is_passed, receipt_of_scrub};
 use std::alloc::Global;
 use std::mem;
 
-/// Makes the receipt of each chunk's scrub with a filter, without the scrub. `room` holds the last chunk's
-/// memory, which the next chunk uses again.
+/// Makes the receipt of each chunk's scrub with a filter, without making the scrub. `room` holds the last
+/// chunk's memory, which the next chunk uses again.
 #[derive(Drop)]
 struct Receipts<'f> {
     filter: &'f Filter,

@@ -75,8 +75,8 @@ pub(crate) fn pass_value<N: NewKeys, L: Ledger>(
     }
 }
 
-// Passes a value of this shape, as `pass_value` does. Few values aren't the fields of a class, so this is out of
-// line: the layout of a row then stays in registers.
+// Passes a value of this shape, as `pass_value` does. Most values are the fields of a class. This is for the
+// others, and is out of line, so that the layouts of fields stay in registers.
 #[inline(never)]
 fn pass_single<N: NewKeys, L: Ledger>(
     out: &mut Vec<u8>,
@@ -123,8 +123,8 @@ fn pass_leaves<N: NewKeys, L: Ledger>(
     Ok(context.end)
 }
 
-// Passes the fields with these layouts, as `pass_value` does. The first starts at `start.at`. The numbers after the
-// last other field stay the same, and aren't walked.
+// Passes the fields with these layouts, as `pass_value` does. The first starts at `start.at`. Numbers at the end of
+// the list stay the same, and aren't walked.
 fn pass_row<N: NewKeys, L: Ledger>(
     out: &mut Vec<u8>,
     context: RekeyContext<'_, N>,
@@ -147,7 +147,7 @@ fn pass_row<N: NewKeys, L: Ledger>(
     Ok(passed.from)
 }
 
-// The number of fields up to the last one that isn't a number.
+// How many fields there are up to the last one that isn't a number.
 #[inline]
 fn referring_len(layouts: &[FieldLayout]) -> usize
     ensures within { result ≤ length layouts.now }

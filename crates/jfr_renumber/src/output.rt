@@ -130,7 +130,7 @@ fn put_record<L: Ledger>(
     }
 }
 
-// Writes the metadata record: the new one, if there is one, or this one of the chunk.
+// Writes the metadata record: the new one, if there is one, or else this record of the chunk.
 fn put_metadata(
     output: &mut Output,
     bytes: &[u8],

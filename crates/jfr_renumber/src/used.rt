@@ -33,8 +33,8 @@ impl Visit<Pools> for Missing {
 
     ghost takes = { λ pools target old new. Lists pools (target ∷ []) old new };
 
-    /// Adds a class and a key, unless they have an entry in force. Most are the pair that was added last, a class
-    /// and the key 0, which isn't added again.
+    /// Adds a class and a key, unless they have an entry in force. Most calls repeat the pair that was added
+    /// last, a class and the key 0; it isn't added again.
     #[inline(always)]
     fn visit(&mut self, pools: &Pools, class: u64, key: u64) {
         if pools.entry(class, key).is_some() {
@@ -144,8 +144,8 @@ fn list_value(list: &mut Missing, classes: &Classes, pools: &Pools, node: Node<'
     }
 }
 
-// Lists what a value of this shape refers to. Few values aren't the fields of a class, so this is out of line:
-// the layout of a row then stays in registers.
+// Lists what a value of this shape refers to. Most values are the fields of a class. This is for the others, and
+// is out of line, so that the layouts of fields stay in registers.
 #[inline(never)]
 fn list_single(list: &mut Missing, walk: Walk<'_, '_, Pools>, shape: Shape, at: usize)
     requires sound { Sound walk.classes.now }

@@ -1,9 +1,9 @@
 //! The commands that write text: the events of a recording, its totals, its classes, and the call stacks of
 //! its events.
 //!
-//! `print_stream`, `summary_stream`, `metadata_stream` and `stacks_stream` each read one recording to its end, chunk by chunk,
-//! and write to a sink. Each calls `report_stream` with a `Report`, which writes the texts of a chunk and the
-//! texts at the end. Read `specs/Reports.antt` first.
+//! `print_stream`, `summary_stream`, `metadata_stream` and `stacks_stream` each read one recording to its
+//! end, chunk by chunk, and write to a sink. Each calls `report_stream` with a `Report`, which writes the texts of
+//! a chunk and the texts at the end. Read `specs/Reports.antt` first.
 #![tactic(auto)]
 
 mod laws;

@@ -69,7 +69,7 @@ pub fn scrub_stream<P: Place>(
     // The output holds the scrub of each chunk before the first refused one: a recording that is cut into
     // just these chunks, each of them accepted again, with exactly the events that the filter keeps and
     // exactly the constants that they reach, and of the same meaning. `each` says this of the scrub of
-    // every accepted chunk, so also if the result is another.
+    // every accepted chunk, whatever the result is.
     ensures headline { IsByPlan result → Told (P.state place.old).told (P.state place.new).told (Scrubs filter.now input.now output.now) }
     ensures each { (c : List ℕ) → Whole c → refusal_of c ≡ None → IsScrubbed filter.now c (scrubbed filter.now c) }
 

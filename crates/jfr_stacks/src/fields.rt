@@ -1,4 +1,4 @@
-//! The fields with a name, found by the class.
+//! The field with a certain name in each class.
 ghost use Rattle.std.specs.Prelude.{◌≡◌, ℕ, List, Option, IfOk, IfSome, option_and_then, option_map, slice_get};
 ghost use Rattle.std.specs.Str.{chars};
 ghost use Rattle.jfr_chunk.specs.Paths.{named_field};

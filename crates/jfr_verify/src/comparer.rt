@@ -10,8 +10,8 @@ use std::alloc::Global;
 use std::mem;
 use std::slice::Iter;
 
-/// Compares chunks of an input with those of an output. `outputs` and `receipts` are what is left of these. The
-/// rooms hold the last chunks' memory, which the next chunks use again.
+/// Compares chunks of an input with those of an output. `outputs` are the chunks of the output that
+/// are left, and `receipts` the receipts. The rooms hold the last chunks' memory, which the next chunks use again.
 #[derive(Drop)]
 pub(crate) struct Comparer<'r> {
     alloc: Global,
@@ -30,7 +30,7 @@ impl<'r> Comparer<'r> {
     ghost use Rattle.jfr_verify.specs.Outputs.{AllWhole};
     ghost use Rattle.jfr_verify.specs.Verdicts.{ComparedWith};
 
-    /// A comparer with these outputs and receipts. It reads the outputs in the memory of an earlier chunk.
+    /// A comparer with these outputs and receipts. `room`, the memory of an earlier chunk, is used for the outputs.
     pub(crate) fn new(
         alloc: Global,
         filter: &'r Filter,
@@ -102,7 +102,7 @@ impl<'r> Comparer<'r> {
         }
     }
 
-    /// The verdict at the end of the input, of which all chunks were compared. There were this many.
+    /// The verdict at the end of the input, after all its chunks were compared. `count` is their number.
     pub(crate) fn end(&mut self, count: u64) -> Verdict
         requires { count < 2 ^ 63 }
         ensures ends { (qs : List Parts) → HasOutputs self.old qs → ComparedWith self.old.filter.now (record { parts = []; refusal = None }) qs self.old.receipts.now count result }

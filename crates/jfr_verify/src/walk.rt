@@ -51,7 +51,7 @@ pub(crate) fn lines_in<L: Ledger>(
     requires some { 0 < blank.parts }
     ensures { IfOk result (λ lines. lines.items.items ≡ lines_of chunk.now) }
 {
-    // The numbers of events and of entries are below that of the bytes.
+    // A chunk has fewer events, and fewer entries, than bytes.
     chunk.bytes();
     let mut lines = Lines::new(alloc, chunk.pools().len())?;
     let mut steps: Steps<L> = Steps::new(blank);
@@ -74,7 +74,7 @@ pub(crate) fn kept_lines_in<L: Ledger>(
     ensures lines { IfOk result (λ lines. lines.items.items ≡ kept_lines chunk.now (kept_by chunk.now kept.now)) }
     ensures size { IfOk result (λ lines. length lines.flags.items ≡ length chunk.now.entries) }
 {
-    // The numbers of events and of entries are below that of the bytes.
+    // A chunk has fewer events, and fewer entries, than bytes.
     chunk.bytes();
     let mut lines = Lines::new(alloc, chunk.pools().len())?;
     let mut steps: Steps<L> = Steps::new(blank);
