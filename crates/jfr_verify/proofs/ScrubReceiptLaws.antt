@@ -16,7 +16,7 @@ use Rattle.jfr_pool.proofs.ForceLaws.{forced}
 use Rattle.jfr_worklist.specs.Marks.{IsMarked, add, is_marked, marked_at, those}
 use Rattle.jfr_worklist.specs.Worklists.{marked_count}
 use Rattle.jfr_worklist.proofs.Counts.{count_le, count_none, count_set}
-use Rattle.jfr_worklist.proofs.Members.{In}
+use Rattle.jfr_worklist.specs.Members.{In}
 use Rattle.jfr_chunk.specs.Meaning.{SameEntry, SameEvent, SameMeaning}
 use Rattle.jfr_chunk.specs.Parts.{AreParts, EventAt, Parts, events_of}
 use Rattle.jfr_chunk.specs.Reach.{kept_by, marked, next_entries, node_entries, roots}
