@@ -142,6 +142,10 @@ module _ (text out : List ℕ) (a : State) where
         failed None h = absurd h
         failed (Some u) h = none_breaks (writes out chunk.items) h.first h.rest h.failed (stand can.world None) (can_write out chunk.items can.world can.new can.closed) h.parts (h.cause can.steady)
 
+    -- The text was read before, so what follows is no read fault.
+    pub chunk_reads : (after_write r ≢ ReadFault) × (c.read_faults ≡ a.read_faults)
+    chunk_reads = (by_result (λ r. after_write r ≢ ReadFault) (λ x e. cc) (λ e. cc) (λ e. cc), all.0)
+
   -- The text wasn't read, or it is refused.
   module _ (b : State) where
     pub text_decided : (e : BuildEnding) → Tells a b (TextBuilt a.steady text (Err e)) → TextCounts {T = Vec ℕ Global} (Err e) a b → (Rose a.read_faults b.read_faults → ⊥) → IfSome a.told (λ w. IsDecided (file w text) e)

@@ -3,7 +3,7 @@ use Rattle.std.proofs.Common.{sym, ◌∙◌, subst}
 use Rattle.jfr_plan.specs.Effects.{writes}
 use Rattle.jfr_plan.specs.Parts.{PlaceLeaves}
 use Rattle.jfr_build.proofs.AcceptedLaws.{built_accepted}
-use Rattle.jfr_build.proofs.Streaming.{chunk_built, chunk_decided, chunk_ran, chunk_writes, text_decided}
+use Rattle.jfr_build.proofs.Streaming.{chunk_built, chunk_decided, chunk_ran, chunk_reads, chunk_writes, text_decided}
 use Rattle.jfr_build.proofs.stream.build_stream.Goals as goal
 
 pub returns-in-Ok-clause-built : goal.returns-in-Ok-clause-built
@@ -38,6 +38,16 @@ returns-in-Ok-clause-complete g c =
     let r = c.write_file.result in
     let wrote = subst (λ (x : List ℕ). PlaceLeaves (writes out x) r b d) c.deref.ensures.value c.write_file.ensures.told in
     λ no_read no_write. rw c.of_write.ensures (chunk_decided c.args.text.now out a c.in-Ok.chunk r b d c.in-Ok.ensures.told c.in-Ok.ensures.counts wrote c.write_file.ensures.counts no_write)
+
+pub returns-in-Ok-clause-can_read : goal.returns-in-Ok-clause-can_read
+returns-in-Ok-clause-can_read g c =
+    let a = g.P.Place.state c.args.place.now in
+    let b = g.P.Place.state c.build_file.new.place in
+    let d = g.P.Place.state c.write_file.new.place in
+    let out = c.args.out.now in
+    let r = c.write_file.result in
+    let wrote = subst (λ (x : List ℕ). PlaceLeaves (writes out x) r b d) c.deref.ensures.value c.write_file.ensures.told in
+    λ can. rw c.of_write.ensures (chunk_reads c.args.text.now out a c.in-Ok.chunk r b d c.in-Ok.ensures.told c.in-Ok.ensures.counts wrote c.write_file.ensures.counts)
 
 pub returns-in-Ok-clause-can_create : goal.returns-in-Ok-clause-can_create
 returns-in-Ok-clause-can_create g c =
