@@ -305,7 +305,7 @@ class Trial:
         if out and all_printed:
             self.run("print --json, scrubbed", ["print", "--json", out], (0,), self.other)
             if self.other.bytes() != self.lines.bytes():
-                raise Wrong("print --json tells something else of the scrub's output")
+                raise Wrong("print --json shows something else of the scrub's output")
 
     def printed(self, name, text):
         """What `print --json` shows of a file, or nothing if that is too long."""

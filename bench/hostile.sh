@@ -27,7 +27,7 @@ shift $(($# > 2 ? 2 : $#))
 [ -x /usr/bin/time ] || { echo "/usr/bin/time isn't there" >&2; exit 1; }
 if [ $# -gt 0 ]; then kinds=("$@"); else mapfile -t kinds < <("$python" "$here/hostile.py"); fi
 runs=0
-wanting=0
+lacking=0
 missed=0
 
 # One run: run LABEL WORD.., with its row.
@@ -54,7 +54,7 @@ run() {
         2) [[ $kind != text_* ]] || bound="$bound status" ;;
         7) [ "$label" = verify ] || bound="$bound status" ;;
         8) [ "$label" = build ] || bound="$bound status" ;;
-        5) wanting=$((wanting + 1)) ;;
+        5) lacking=$((lacking + 1)) ;;
         *) bound="$bound status" ;;
     esac
     if awk "BEGIN { exit !($own > $most) }"; then bound="$bound seconds"; fi
@@ -102,5 +102,5 @@ for kind in "${kinds[@]}"; do
     rm -f "$file"
 done
 echo
-echo "$runs runs, $wanting lacked memory, $missed missed a bound"
+echo "$runs runs, $lacking lacked memory, $missed missed a bound"
 [ "$missed" = 0 ]

@@ -30,7 +30,7 @@ is_prefix() {
 
 # try NAME OUTPUT WORDS..: OUTPUT is the name of the file that the command makes, or - for the output stream.
 try() {
-    local name=$1 output=$2 limit=$start done=0 tried=0 well=0 wanting=0 status
+    local name=$1 output=$2 limit=$start done=0 tried=0 well=0 lacking=0 status
     shift 2
     rm -rf whole whole.txt
     "$program" "$@" >whole.txt 2>/dev/null || { echo "$name: status $? without a limit"; wrong=$((wrong + 1)); return; }
@@ -42,18 +42,18 @@ try() {
         tried=$((tried + 1))
         case $status in
             0) done=$((done + 1)); well=$((well + 1)) ;;
-            5) done=0; wanting=$((wanting + 1)) ;;
+            5) done=0; lacking=$((lacking + 1)) ;;
             *) echo "$name under $limit KiB: status $status"; wrong=$((wrong + 1)) ;;
         esac
         if ! is_prefix err <(echo 'out of memory') || ! is_prefix out whole.txt || { [ "$output" != - ] && ! is_prefix "$output" whole; }; then
-            echo "$name under $limit KiB: what stands is wrong"
+            echo "$name under $limit KiB: what was written is wrong"
             wrong=$((wrong + 1))
         fi
         limit=$((limit + step))
         [ $tried -gt 20000 ] && { echo "$name: no end at $limit KiB"; wrong=$((wrong + 1)); return; }
     done
     rm -f "$output"
-    echo "$name: $tried limits from $start KiB, $well done, $wanting out of memory"
+    echo "$name: $tried limits from $start KiB, $well done, $lacking out of memory"
 }
 
 mkdir parts joined

@@ -36,7 +36,7 @@ check() {
         echo "$name: said '$(cat err 2>/dev/null)', expected '$line'"
         wrong=$((wrong + 1))
     elif ! bash -c "set -e; $(cat)"; then
-        echo "$name: what stands afterwards is wrong"
+        echo "$name: what was written is wrong"
         wrong=$((wrong + 1))
     fi
 }

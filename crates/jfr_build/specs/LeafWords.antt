@@ -66,12 +66,12 @@ Onward = Option (Quoted × Option ℕ)
 abbrev pub escaped_by : ℕ → Onward
 escaped_by c = if (c == 34) || (c == 92) then Some (Open, Some c) else if c == 117 then Some (FirstZero, None) else None
 
--- The first of the last two digits of a number.
+-- A number's last digit but one.
 abbrev pub high_by : Option ℕ → Onward
 high_by None = None
 high_by (Some digit) = Some (Low digit, None)
 
--- The last digit of a number after this one.
+-- A number's last digit, after this one.
 abbrev pub low_by : ℕ → Option ℕ → Onward
 low_by high None = None
 low_by high (Some digit) = if is_coded (16 * high + digit) then Some (Open, Some (16 * high + digit)) else None

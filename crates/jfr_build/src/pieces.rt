@@ -74,7 +74,7 @@ impl<'a> WordsLeft<'a> {
         WordsLeft { rest: Some(line) }
     }
 
-    /// The same words, to be taken again.
+    /// These words again, from the first.
     pub fn again(&self) -> WordsLeft<'a>
         ensures { result ≡ self.now }
     {

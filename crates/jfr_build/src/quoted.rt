@@ -107,7 +107,7 @@ fn escape_step(byte: u8) -> Option<(Quoted, Option<u8>)>
     None
 }
 
-/// The step at the last digit of a number.
+/// The step at a number's last digit.
 fn low_step(high: u8, byte: u8) -> Option<(Quoted, Option<u8>)>
     ensures { result ≡ quoted_step (Quoted.Low high) byte }
 {

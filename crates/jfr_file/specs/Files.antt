@@ -30,7 +30,7 @@ FileRead name limit (Err TooLong) w v = IsLong limit (file w name) × (v ≡ shu
 FileRead name limit (Err Failed) w v = Stopped limit (file w name) v.input × IsKept w v
 FileRead name limit (Err Memory) w v = IsKept w v
 
--- The world after the open input was read to its end, or until it had given as many bytes as the limit.
+-- The world after the open input was read to its end, or up to the limit.
 abbrev pub RestRead : ℕ → Result (Option (Vec ℕ Global)) Fault → World → World → Type 0
 RestRead limit (Ok (Some bytes)) w v = Took bytes.items w v × (v.input ≡ Some [])
 RestRead limit (Ok None) w v = (bytes : List ℕ) × Took bytes w v × (limit ≤ length bytes)

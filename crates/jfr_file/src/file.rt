@@ -12,7 +12,7 @@ use std::alloc::Global;
 /// Why a file isn't returned.
 #[derive(Clone, Copy, Debug, PartialEq, Eq)]
 pub enum FileFault {
-    /// The file has as many bytes as the limit, or more.
+    /// The file isn't shorter than the limit.
     TooLong,
     /// There is no such file, or a read failed.
     Failed,

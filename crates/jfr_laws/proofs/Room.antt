@@ -16,7 +16,7 @@ use Rattle.jfr_laws.proofs.Marks.{all_marked, fewer, marked_append}
 use Rattle.jfr_laws.proofs.Standing.{ConstantStands, Constants, PoolStands, Pools}
 use Rattle.jfr_laws.proofs.Groups.{apart, in_front, by_front}
 
--- The shortest spelling of a number is no longer than any spelling of a number that isn't smaller.
+-- The shortest spelling of m isn't longer than any spelling of n, if m isn't above n.
 pub int_room : (c : List ℕ) (p q v w : ℕ) → IntAt c p q w → v ≤ w → length (spell v) + p ≤ q
 int_room c p q v w i h =
     let a : p ≤ q = i.order in

@@ -287,7 +287,7 @@ rises_first p (r ∷ rs) f s = by_value (f r) refl (occur_more r (filter_map f r
     by_value None e h = h
     by_value (Some x) e h = (inl (sym (s r x e)), h)
 
--- The checkpoints that stay are those that stand at the records.
+-- The remaining checkpoints are those that begin at one of the records.
 chained_given : (all : List Numbered) (whole : Framed → Bool) (new : Framed → Option (List ℕ)) (rs : List Framed) → chained_of (output_records_in all whole new rs) ≡ filter_map (λ r. numbered_at all r.at) rs
 chained_given all whole new [] = refl
 chained_given all whole new (r ∷ rs) = by_value (numbered_at all r.at) (whole r) (new r) (chained_given all whole new rs)

@@ -97,7 +97,7 @@ if_all : (b : Option World) (F : World → Type 0) → ((w : World) → F w) →
 if_all None F f = tt
 if_all (Some w) F f = f w
 
--- The plan's end, or want of memory.
+-- The plan's end, or out of memory.
 complete_clause : (k : Task) (way : Way) (a b : Outside) → Leaves k way a b → Tallied k.target way a b → IsComplete k way a b
 complete_clause k (Ends e) a b t c = λ p q. before_of a.place.told b.place.told (λ w v. AllDone (k.plan w) e (stand w a.sink.written) (stand v b.sink.written)) (λ w. IsPlanned (Ends e) (k.plan w).end) t (λ w v h. ByPlan e refl h.end)
 complete_clause k NotRead a b t c = λ p q. absurd (p c.0.1)

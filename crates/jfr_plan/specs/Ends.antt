@@ -20,7 +20,7 @@ pub data Way : Type 0 where
   NotWritten : Way
   NoRoom : Way
 
--- The end that the code's value stands for.
+-- The end that the code's value means.
 abbrev pub way_of : Ending → Way
 way_of ending.Done = Ends Fine
 way_of (ending.Refused r) = Ends (Refused r)

@@ -7,7 +7,7 @@ use Rattle.jfr_pool.specs.Entries.{number_in_force, in_force}
 use Rattle.jfr_pool.specs.Laws.{IsLast}
 use Rattle.jfr_pool.proofs.OneLaws.{last_is}
 
--- The entry of a number in force.
+-- The entry in force with this number.
 pub record Forced (es : List EntryAt) (t : ℕ × ℕ) (i : ℕ) : Type 0 where
   pub entry : EntryAt
   pub within : i < length es

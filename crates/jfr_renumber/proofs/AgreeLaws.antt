@@ -112,7 +112,7 @@ module _ (p : Parts) (a : AreParts p) (flags : List Bool) where
     unfolding firsts
     firsts_are = firsts_same (same_new new) (λ e f. together p (pair_of e) (pair_of f)) (remain p kept) together_by
 
-  -- The same for marked entries.
+  -- So it is for marked entries.
   pub firsts_marked : (k : NumberedPairs) → ((t : ℕ × ℕ) → number_of k t ≡ new_key_of p kept t) → (marks : List Bool) → marks ≡ reached_marks p kept → firsts_by (numbers_of k) (marked marks p.entries) ≡ firsts p kept
   unfolding remain
   firsts_marked k h marks m = ap (λ z. firsts_by (numbers_of k) (marked z p.entries)) m ∙ firsts_are (numbers_of k) (number_used k h)

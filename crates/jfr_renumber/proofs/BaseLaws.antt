@@ -19,7 +19,7 @@ use Rattle.jfr_value.proofs.LayoutLaws.{LayoutClass, layout_class}
 use Rattle.jfr_renumber.specs.Rekeyed.{rekeyed}
 use Rattle.jfr_renumber.proofs.FieldLaws.{inline_layout}
 
--- The layout of a number, of raw bytes or of a string is known.
+-- A layout for a number, for raw bytes or for a string is known.
 pub base_layout : (k : Classes) (c : List ℕ) (n : NodeAt) (v : Value) (l : FieldLayout) → IsNode k c n v → l.shape ≡ n.shape → l.form ≡ form_of l.shape l.kind → (IsSome (find_class k n.shape.class) → IsFieldLayout k l)
     → (l.form ≡ forms.Integer) ⊎ ((x : ℕ) × (l.form ≡ forms.Raw x)) ⊎ (l.form ≡ forms.Text) → IsFieldLayout k l
 base_layout k c n v l i e h known f = inline_layout k c n v l i e (m.array, m.constant) known

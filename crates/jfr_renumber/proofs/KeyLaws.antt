@@ -27,7 +27,7 @@ module _ (test : ℕ → Bool) where
       by_test true = omega arith
       by_test false = omega arith
 
-  -- Up to a larger number there are at least as many.
+  -- The count up to a larger number isn't smaller.
   pub count_grows : (m n : ℕ) → m ≤ n → count_below m test ≤ count_below n test
   count_grows m zero h = let e : m ≡ 0 = omega arith in subst (λ z. count_below z test ≤ count_below 0 test) (sym e) (omega arith)
   count_grows m (suc n) h = by_case (let z : (m ≤ n) ⊎ (m ≡ suc n) = split m n h in z) (λ i. count_grows m n i)
@@ -50,7 +50,7 @@ module _ (test : ℕ → Bool) where
       let b : count_below (suc m) test ≤ count_below n test = count_grows (suc m) n (omega arith) in
       omega arith
 
-  -- If none passes from one number up to another, as many pass below both.
+  -- If none passes from one number up to another, both have the same count below them.
   pub count_flat : (m n : ℕ) → m ≤ n → ((x : ℕ) → m ≤ x → x < n → test x ≡ false) → count_below n test ≡ count_below m test
   unfolding count_below
   count_flat m zero h f = let e : m ≡ 0 = omega arith in ap (λ z. count_below z test) (sym e)

@@ -116,7 +116,7 @@ module _ (together : ℕ × ℕ → ℕ × ℕ → Bool) (same : Together togeth
     pub held : (q : List ℕ) (n : ℕ) → number_under firsts q ≡ Some n → (j : ℕ) × (k : UsedKey) × (j < i) × (slice_get ks j ≡ Some k) × (value_of_key k ≡ Some q) × (number k ≡ n)
     pub kept : (j : ℕ) (k : UsedKey) (q : List ℕ) → j < i → slice_get ks j ≡ Some k → value_of_key k ≡ Some q → number_under firsts q ≡ None → ⊥
 
-  -- A key whose value stood before.
+  -- A key whose value an earlier key has.
   member : (i : ℕ) (k : UsedKey) → slice_get ks i ≡ Some k → Contains ks k
   member i k e = in_contains ks k (get_in ks i k e)
 
@@ -181,7 +181,7 @@ module _ (together : ℕ × ℕ → ℕ × ℕ → Bool) (same : Together togeth
   either : (j i : ℕ) → j < i + 1 → (j < i) ⊎ (i ≡ j)
   either j i h = grind arith
 
-  -- After a key whose value stood before.
+  -- After a key whose value an earlier key has.
   pub again_next : (i : ℕ) (firsts : Firsts) (next : ℕ) (numbers : List ℕ) (k : UsedKey) (n : ℕ) → SoFar i firsts next numbers → slice_get ks i ≡ Some k → option_and_then (λ v. number_under firsts v.now) k.value ≡ Some n → SoFar (i + 1) firsts next (numbers ++ n ∷ [])
   again_next i firsts next numbers k n s e known = by_value k.value refl known
     where

@@ -175,7 +175,7 @@ module _ (p : Parts) (a : AreParts p) (flags : List Bool) (n : Anew p a (kept_by
   abbrev metadata_anew : Option (List ℕ)
   metadata_anew = metadata_new p these a
 
-  -- It is no event, so what is written of it is what a scrub writes.
+  -- The record is no event, so it is written as in a scrub.
   no_event_there : find (λ e. e.record_of.at == a.metadata_record.at) these ≡ None
   no_event_there = by_find (find (λ e. e.record_of.at == a.metadata_record.at) these) refl
     where

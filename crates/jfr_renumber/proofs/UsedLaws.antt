@@ -44,7 +44,7 @@ marked_in (false ∷ ms) (y ∷ xs) x zero k e = let z : false ≡ true = k in c
 marked_in (true ∷ ms) (y ∷ xs) x (suc i) k e = inr (marked_in ms xs x i k e)
 marked_in (false ∷ ms) (y ∷ xs) x (suc i) k e = marked_in ms xs x i k e
 
--- What nodes refer to is what one of them refers to.
+-- Nodes refer to exactly the targets that one of them refers to.
 module _ (p : Parts) where
   node_in : (ns : List NodeAt) (n : NodeAt) (t : ℕ × ℕ) → In ns n → In (targets p.classes p.bytes n) t → In (all_targets p ns) t
   node_in [] n t i j = absurd i

@@ -189,7 +189,7 @@ module _ (p : Parts) (flags : List Bool) (new : ℕ × ℕ → ℕ) (entries : L
         metadata = sym (seen_not b.metadata (l.frame.at == place) (length b.bytes) t) i;
       }
 
-  -- The same of the values of the code's enum.
+  -- So it is for the values of the code's enum.
   pub event_is : (slim : Option (List ℕ)) (s : told.OutputRecord) (number : ℕ) (r : Framed) (b : Progress) (after : List ℕ) → s ≡ told_records.Event number r → IfSome (slice_get (events_of p) number) (λ e. after ≡ b.bytes ++ event_bytes new p e)
       → IsWritten new p flags entries slim s b (record { bytes = after; newest = b.newest; metadata = b.metadata })
   unfolding IsWritten

@@ -16,6 +16,6 @@ number_at (u ∷ us) (n ∷ ns) t = if (u.0 == t.0) && (u.1 == t.1) then Some n 
 unfoldable pub number_of : NumberedPairs → ℕ × ℕ → Option ℕ
 number_of k t = number_at k.pairs k.numbers t
 
--- The same for all classes and keys: those without a number get 0.
+-- A number for each class and key: 0 if it has none.
 abbrev pub numbers_of : NumberedPairs → ℕ × ℕ → ℕ
 numbers_of k t = unwrap_or (number_of k t) 0

@@ -27,7 +27,7 @@ pub record Used (p : Parts) (kept : List EventAt) (t : ℕ × ℕ) : Type 0 wher
   pub leads_there : leads p event.node path ≡ Some node
   pub refers : target p.classes p.bytes node ≡ Some t
 
--- The same keys, computed: what the kept events and the entries that remain refer to.
+-- The used keys, computed: those that kept events and remaining entries refer to.
 unfoldable pub used_keys : Parts → List EventAt → List (ℕ × ℕ)
 used_keys p kept = all_targets p (nodes_of kept ++ map entry_node (remain p kept))
 

@@ -151,7 +151,7 @@ impl TextBuilder {
     }
 }
 
-/// The hexadecimal digit of a number below 16.
+/// A hexadecimal digit, of a value below 16.
 fn digit_of(number: u8) -> char
     requires { number < 16 }
     ensures { result ≡ digit_char number }

@@ -24,7 +24,7 @@ without_suffix name = if is_recording name && nat_lt 4 (length name) then take (
 unfoldable pub stem : List ℕ → List ℕ
 stem file = without_suffix (base file)
 
--- The last n decimal digits of a number, with leading zeros.
+-- A number's last n decimal digits, with leading zeros.
 abbrev pub digits : ℕ → ℕ → List ℕ
 digits zero n = []
 digits (suc k) n = digits k (n / 10) ++ (48 + n % 10) ∷ []

@@ -67,7 +67,7 @@ get_end : {X : Type 0} (xs : List X) (x : X) → slice_get (xs ++ x ∷ []) (len
 get_end [] x = refl
 get_end (z ∷ xs) x = get_end xs x
 
--- What holds of a number and the index at it holds after one index was set.
+-- If P holds of each position and its index, and of the new index, then it holds of all of them after the index is set.
 set_each : (P : ℕ → ℕ → Type 0) (is : List (Option ℕ)) (j k : ℕ) → P j k → ((n i : ℕ) → slice_get is n ≡ Some (Some i) → P n i) → (n i : ℕ) → slice_get (slice_set is j (Some k)) n ≡ Some (Some i) → P n i
 set_each P [] j k h a n i e = cc
 set_each P (m ∷ is) zero k h a zero i e = let q : k ≡ i = cc in subst (P zero) q h

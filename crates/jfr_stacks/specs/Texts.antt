@@ -16,7 +16,7 @@ use Rattle.jfr_stacks.specs.Frames.{after_references, frames_in, frames_of}
 abbrev pub is_special : ℕ → Bool
 is_special c = nat_lt c 33 || (c == 59) || (c == 92) || (c == 127)
 
--- The digit of a number below 16, in lower case.
+-- A hexadecimal digit in lower case, of a value below 16.
 abbrev pub hex_digit : ℕ → ℕ
 hex_digit n = if nat_lt n 10 then 48 + n else 87 + n
 

@@ -99,7 +99,7 @@ fn push_character(character: char, out: &mut String) -> Result<(), NoMemory>
     Ok(())
 }
 
-/// The digit of a number below 16, in lower case.
+/// A hexadecimal digit in lower case, of a value below 16.
 fn hex_digit(number: u8) -> &'static str
     requires { number < 16 }
     ensures { result.now ≡ hex_digit number ∷ [] }

@@ -11,7 +11,7 @@ const NAME: usize = 135;
 // Characters that are escaped.
 const ODD_NAME: [u8; 4] = [0x7F, b';', b'\\', b' '];
 
-// A chunk like the JDK's, alone, twice, with an odd name, and before a chunk that is refused; and a chunk
+// A chunk like the JDK's, by itself, twice, with an odd name, and before a chunk that is refused; and a chunk
 // whose events have no stacks.
 fn recordings(alloc: Global) -> Result<MemoryPlace, Fail> {
     let mut place = MemoryPlace::new(alloc);

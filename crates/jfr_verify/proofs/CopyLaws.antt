@@ -73,7 +73,7 @@ some_at (x ∷ xs) zero h = (x, refl)
 some_at (x ∷ xs) (suc n) h = some_at xs n (omega arith)
 
 module _ (p q : Parts) where
-  -- What is known of a number that is found.
+  -- What a number that is found satisfies.
   pub record Next (number from place : ℕ) : Type 0 where
     pub copy : EntryAt
     pub stands : slice_get q.entries number ≡ Some copy

@@ -210,7 +210,7 @@ module _ (p : Parts) where
         closed = λ j k. absurd k;
       }
 
-  -- The entry of one more line is looked at. What it refers to is what its node refers to.
+  -- The entry of one more line was looked at: its targets are those of its node.
   going_next : (before : List ℕ) (marks : List Bool) (l : Line) (ls : List Line) → Going before marks (l ∷ ls) → Going (l.entry ∷ before) (marked_at marks (next_entries p l.entry)) (ls ++ new_lines marks (OfEntry l.entry) (next_entries p l.entry))
   going_next before marks l ls g =
       let h : IsValidLine p before l = g.making.valid.0 in

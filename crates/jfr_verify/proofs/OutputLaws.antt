@@ -53,7 +53,7 @@ opened_at name c w s n g h =
     let x = there (file w name) h in
     some_at (file w name) x.0 (λ y. HasLeft c (λ k. recording_of y ≡ k) w (opened name w)) x.1 (opened_left c x.0 name w s n g x.1)
 
--- The same, on a place that may tell its files.
+-- So it is on a place whose files contracts may see.
 pub open_told : (name : List ℕ) (c : Cutter) (b a : Option World) → c.start ≡ 0 → c.number ≡ 1 → c.given ≡ false → IfSome b (λ w. IsSome (file w name)) → a ≡ option_map (opened name) b → Told b a (OpenedIn name (Ok c))
 open_told name c None a s n g h e = tt
 open_told name c (Some w) a s n g h e = subst (λ (o : Option World). Told (Some w) o (OpenedIn name (Ok c))) (sym e) (opened_at name c w s n g h)

@@ -13,7 +13,7 @@ pub record Confirms (numbers : List ℕ) (old new : Claims) : Type 0 where
   pub parents : new.parents.items ≡ old.parents.items
   pub parent : new.parent ≡ old.parent
 
--- The same for this parent, whichever was looked at before.
+-- The numbers confirmed with this parent, whichever was current before.
 pub record ConfirmsOf (parent : Parent) (numbers : List ℕ) (old new : Claims) : Type 0 where
   pub confirmed : new.confirmed.items ≡ marked_at old.confirmed.items (children old.parents.items parent numbers)
   pub parents : new.parents.items ≡ old.parents.items
