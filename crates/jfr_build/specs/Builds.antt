@@ -17,8 +17,8 @@ use Rattle.jfr_build.specs.Built.{checkpoint_of, chunk_with, events_of}
 abbrev pub if_small : List ℕ → Option (List ℕ)
 if_small chunk = if nat_lt (length chunk) (2 ^ 30) then Some chunk else None
 
--- The chunk of these classes and lines; none if its strings and its tree take 2 ^ 29 bytes or more, or the
--- chunk 2 ^ 30 or more.
+-- The chunk of these classes and lines; none if the metadata's strings and tree take 2 ^ 29 bytes or more, or
+-- the chunk 2 ^ 30 or more.
 unfoldable pub chunk_of : Classes → List NumberedLine → Option (List ℕ)
 chunk_of k lines = option_and_then (λ metadata. if_small (chunk_with metadata (events_of k lines) (checkpoint_of k lines))) (metadata_record k)
 
@@ -43,22 +43,22 @@ abbrev pub build_chunk : ℕ → Option (List ℕ) → Build
 build_chunk count None = refused count TooLarge
 build_chunk count (Some chunk) = Ok chunk
 
--- Before, the values of constants and events.
+-- Before that, the values of constants and events are checked.
 abbrev pub build_values : ℕ → Option NumberedLine → Option (List ℕ) → Build
 build_values count (Some line) chunk = refused line.number ValueBad
 build_values count None chunk = build_chunk count chunk
 
--- Before, the classes.
+-- Before that, the classes are checked.
 abbrev pub build_classes : ℕ → List NumberedLine → Option ClassFlaw → Build
 build_classes count lines (Some f) = refused (line_at lines f.class f.field) (Class f.reason)
 build_classes count lines None = build_values count (first_bad_value (classes_in lines) lines) (chunk_of (classes_in lines) lines)
 
--- Before, the lines.
+-- Before that, the lines are read.
 abbrev pub build_lines : ℕ → Result (List NumberedLine) ℕ → Build
 build_lines count (Err line) = refused line LineBad
 build_lines count (Ok lines) = build_classes count lines (slice_get (class_faults (classes_in lines)) 0)
 
--- First, the size of the text.
+-- First, the size of the text is checked.
 unfoldable pub build_of : List ℕ → Build
 build_of text = if nat_le (2 ^ 30) (length text) then refused 0 TooLarge else build_lines (line_count text) (read_lines text)
 

@@ -25,7 +25,7 @@ entries_in (Some pool) = pool.entries.items
 abbrev pub pool_in : Pools → ℕ → Option Pool
 pool_in pools id = tree.get nat_cmp pools.by_class id
 
--- The classes in order are those that have a pool.
+-- Exactly the classes in the list have a pool.
 abbrev pub AreOrdered : Pools → Type 0
 AreOrdered pools = (id : ℕ) → list_any (λ c. c == id) pools.classes.items ≡ is_some (pool_in pools id)
 

@@ -36,7 +36,7 @@ builds text out = record {
   target = File;
 }
 
--- The ending isn't a refusal, and this holds of it.
+-- If the ending isn't a refusal, this holds of it.
 abbrev pub IfNotRefused : BuildEnding → (Ending → Type 0) → Type 0
 IfNotRefused Done P = P endings.Done
 IfNotRefused (Refused line reason) P = ⊤
@@ -44,7 +44,7 @@ IfNotRefused ReadFault P = P endings.ReadFault
 IfNotRefused WriteFault P = P endings.WriteFault
 IfNotRefused Memory P = P endings.Memory
 
--- The ending is a refusal, and this holds of it.
+-- If the ending is a refusal, this holds of its line and reason.
 abbrev pub IfRefused : BuildEnding → (ℕ → BuildReason → Type 0) → Type 0
 IfRefused (Refused line reason) P = P line reason
 IfRefused _ P = ⊤
@@ -68,7 +68,7 @@ pub record Builds (text out : List ℕ) (w v : World) : Type 0 where
   pub written : file v out ≡ Some chunk
   pub built : IsBuiltOf bytes chunk
 
--- If no fault was counted, the ending depends only on the text, or memory ran out.
+-- The ending is the one that the text decides, or memory ran out.
 pub data IsDecided (text : Option (List ℕ)) (ending : BuildEnding) : Type 0 where
   ByChunk : (chunk : List ℕ) → option_map build_of text ≡ Some (Ok chunk) → ending ≡ Done → IsDecided text ending
   ByRefusal : (line : ℕ) → (reason : BuildReason) → IsRefusedText text line reason → ending ≡ Refused line reason → IsDecided text ending

@@ -1,7 +1,7 @@
 //! A builder of recordings: a text with a line for each class, field, constant and event becomes a chunk.
 //!
-//! `build` makes the chunk of a text, and `build_stream` does so with files. Read `specs/Builds.antt` first: what is
-//! built of a text, and why a text is refused; then `specs/Accepted.antt`: what the chunk is to a reader, and
+//! `build` makes a chunk from a text, and `build_stream` does so with files. Read `specs/Builds.antt` first: what is
+//! built from a text, and why a text is refused; then `specs/Accepted.antt`: what the chunk is to a reader, and
 //! `specs/Streams.antt`: what is done with the files. What the lines mean is in `specs/Pieces.antt`,
 //! `specs/Lines.antt` and `specs/ClassLines.antt`; the words of leaves in `specs/LeafWords.antt`; the values of
 //! words and lines in `specs/Taking.antt` and `specs/LineValues.antt`; and the bytes of the chunk in

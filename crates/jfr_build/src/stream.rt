@@ -1,4 +1,4 @@
-//! Building a recording of a text file.
+//! Building a recording from a text file.
 ghost use Rattle.std.specs.Prelude.{◌≡◌, ◌≢◌, ℕ, List, Ok, IfSome};
 ghost use Rattle.jfr_outside.specs.Counts.{Rose};
 ghost use Rattle.jfr_outside.specs.World.{file};
@@ -31,7 +31,7 @@ fn build_file<P: Place>(alloc: Global, place: &mut P, name: &str) -> Result<Vec<
     }
 }
 
-/// Builds a recording of the text in a file: reads the text whole, and writes its chunk to a new file.
+/// Builds a recording from the text in a file: reads the text whole, and writes its chunk to a new file.
 pub fn build_stream<P: Place>(alloc: Global, place: &mut P, text: &str, out: &str) -> BuildEnding
     // If it is Done, the output has the chunk of the text, which is accepted and has exactly the classes, the
     // events and the constants of the lines. `each` says the same of every chunk that is built of any text.

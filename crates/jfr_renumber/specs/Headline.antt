@@ -11,7 +11,7 @@ use Rattle.jfr_renumber.specs.Meaning.{IsRenumbered}
 use Rattle.jfr_renumber.specs.Renumber.{renumber_of}
 use Rattle.jfr_renumber.specs.Renumbers.{renumbered}
 
--- The chunk c is whole and accepted, and b is its output with new keys: a chunk that is accepted again, has
+-- The chunk c has parts, and b is its output with new keys: a chunk that is whole and accepted, has
 -- exactly the events that the filter keeps and, of the constants that they reach, one for each value, and means
 -- the same except for the keys.
 pub record IsRenumberedOutput (g : Given) (c b : List ℕ) : Type 0 where
@@ -28,8 +28,8 @@ AreRenumberedOutputs g (c ∷ cs) (b ∷ bs) = IsRenumberedOutput g c b × AreRe
 AreRenumberedOutputs g [] (b ∷ bs) = ⊥
 AreRenumberedOutputs g (c ∷ cs) [] = ⊥
 
--- The bytes y are the outputs of the chunks of the recording x, one after another: a recording of exactly
--- these chunks.
+-- The bytes y are the outputs of the chunks of x before the first refused one: a recording of exactly these
+-- chunks.
 pub record IsRenumberingOf (g : Given) (x y : List ℕ) : Type 0 where
   pub results : List (List ℕ)
   pub outputs : AreRenumberedOutputs g (before_refused refusal_of (cut x 0 true).chunks) results

@@ -8,7 +8,7 @@ unfoldable pub count_below : ℕ → (ℕ → Bool) → ℕ
 count_below zero test = 0
 count_below (suc m) test = if test m then suc (count_below m test) else count_below m test
 
--- The smallest key of the group of a class and key: that of those, among these, which are together with it.
+-- The smallest key of the group of a class and key: of this key and those in the list together with it.
 abbrev pub smallest : (ℕ × ℕ → ℕ × ℕ → Bool) → List (ℕ × ℕ) → ℕ × ℕ → ℕ
 smallest together [] t = t.1
 smallest together (u ∷ us) t = if together u t then min u.1 (smallest together us t) else smallest together us t

@@ -30,7 +30,7 @@ pub record RenamedRecord (new : ℕ × ℕ → ℕ) (p q : Parts) (e f : EventAt
   pub rest : slice_range p.bytes e.node.end (record_end e.record_of) ≡ slice_range q.bytes f.node.end (record_end f.record_of)
   pub agree : Agree p.classes q.classes e.record_of.type_id
 
--- The events correspond one to one, in order, and each pair is so.
+-- The events correspond one to one, in order, each pair as in RenamedRecord.
 abbrev pub RenamedRecords : (ℕ × ℕ → ℕ) → Parts → Parts → List EventAt → List EventAt → Type 0
 RenamedRecords new p q [] [] = ⊤
 RenamedRecords new p q (e ∷ es) (f ∷ fs) = RenamedRecord new p q e f × RenamedRecords new p q es fs

@@ -25,7 +25,7 @@ pub record RenamedEvent (new : ℕ × ℕ → ℕ) (p q : Parts) (e f : EventAt)
   pub rest : slice_range p.bytes e.node.end (record_end e.record_of) ≡ slice_range q.bytes f.node.end (record_end f.record_of)
   pub paths : RenamedPaths new p q e.node f.node
 
--- The events correspond one to one, in order, and each pair is so.
+-- The events correspond one to one, in order, each pair as in RenamedEvent.
 abbrev pub RenamedMeaning : (ℕ × ℕ → ℕ) → Parts → Parts → List EventAt → List EventAt → Type 0
 RenamedMeaning new p q [] [] = ⊤
 RenamedMeaning new p q (e ∷ es) (f ∷ fs) = RenamedEvent new p q e f × RenamedMeaning new p q es fs
@@ -46,7 +46,7 @@ pub record IsRenamed (new : ℕ × ℕ → ℕ) (p q : Parts) (e f : EntryAt) : 
   pub checkpoint : e.checkpoint ≡ f.checkpoint
   pub value : rekeyed_bytes new p.classes p.bytes (entry_node e) ≡ node_bytes q.bytes (entry_node f)
 
--- The entries correspond one to one, in order, and each pair is so.
+-- The entries correspond one to one, in order, each pair as in IsRenamed.
 abbrev pub AreRenamed : (ℕ × ℕ → ℕ) → Parts → Parts → List EntryAt → List EntryAt → Type 0
 AreRenamed new p q [] [] = ⊤
 AreRenamed new p q (e ∷ es) (f ∷ fs) = IsRenamed new p q e f × AreRenamed new p q es fs

@@ -15,7 +15,7 @@ is_missing es t = not (is_some (number_in_force es t))
 abbrev pub flagged : {X : Type 0} → List Bool → List X → ℕ → Option X
 flagged flags xs i = option_and_then (λ keep. if keep then slice_get xs i else None) (slice_get flags i)
 
--- Unless memory ran out, the list has those that it had, these that have no entry, and no others.
+-- Unless memory ran out, the list has what it had, and those of `ts` without an entry in force.
 pub record Lists (es : List EntryAt) (ts : List (ℕ × ℕ)) (old new : Missing) : Type 0 where
   pub went : new.failed ≡ false → old.failed ≡ false
   pub kept : new.failed ≡ false → (t : ℕ × ℕ) → Contains old.keys.items t → Contains new.keys.items t

@@ -31,7 +31,7 @@ pub record SameValue (k l : UsedKey) : Type 0 where
   pub here : value_of_key k ≡ Some value
   pub there : value_of_key l ≡ Some value
 
--- These are the keys of a class among classes and keys, in order. They are together exactly if they are equal or
+-- These are all keys of a class in the list `us`, in order. Two are together exactly if they are equal or
 -- have the same value.
 pub record AreKeysOf (together : ℕ × ℕ → ℕ × ℕ → Bool) (us : List (ℕ × ℕ)) (class : ℕ) (ks : List UsedKey) : Type 0 where
   pub rising : RisingKeys ks

@@ -35,8 +35,8 @@ with_record bytes place b s = record {
   metadata = place_seen b.metadata ((record_of s).at == place) (length b.bytes);
 }
 
--- The output has one output record more, which is the value of the code's enum, if what the value says of the
--- kept events and of the metadata record is true.
+-- If what this value of the code's enum says of the kept events and of the metadata record is true, the output
+-- has this output record more.
 unfoldable pub IsWritten : (ℕ × ℕ → ℕ) → Parts → List Bool → List EntryAt → Option (List ℕ) → told.OutputRecord → Progress → Progress → Type 0
 IsWritten new p flags left slim s b after =
     ShowsEvent p flags s → ShowsMetadata (metadata_at p.bytes) s → after ≡ with_record (new_bytes new p (kept_by p flags) left) (metadata_at p.bytes) b (output_record_as slim s)

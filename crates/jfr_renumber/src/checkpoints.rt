@@ -17,7 +17,7 @@ use jfr_value::{Node, Steps};
 use std::sync::ledger::Ledger;
 
 /// A chained checkpoint of the output: the checkpoint that it comes from, its delta in the output, and those of
-/// its entries that remain.
+/// its entries that are in the output.
 #[derive(Clone, Copy, Debug)]
 pub(crate) struct OutputCheckpoint<'e> {
     pub link: Link,

@@ -15,8 +15,8 @@ use jfr_layout::{Classes, FieldLayout, Form, Shape};
 use jfr_value::{Node, Steps, layout_of};
 use std::sync::ledger::Ledger;
 
-/// Appends a value with new keys, as `put_rekeyed` does, but walks leaf by leaf only over keys, arrays, and
-/// composite fields.
+/// Appends a value with new keys, as `put_rekeyed` does, but walks leaf by leaf only over arrays and composite
+/// fields.
 pub(crate) fn put_value<N: NewKeys, L: Ledger>(
     out: &mut Vec<u8>,
     classes: &Classes,

@@ -56,7 +56,7 @@ fn collected<N: NewKeys>(
     Ok(firsts.entries)
 }
 
-// Adds an entry if it is kept.
+// Adds an entry if `keep` is true.
 fn add_if<N: NewKeys>(
     firsts: &mut FirstEntries,
     entry: &EntryAt,

@@ -71,7 +71,7 @@ pub(crate) fn put_chunk_event<N: NewKeys, L: Ledger>(
     }
 }
 
-/// Writes the number of bytes after offset `from` into the first `count` of them.
+/// Writes the number of bytes from offset `from` on into the first `count` of them.
 pub(crate) fn put_size(out: &mut Vec<u8>, from: usize, count: usize)
     requires count { (1 ≤ count) × (count ≤ 9) }
     requires within { from + count ≤ length out.old.items }

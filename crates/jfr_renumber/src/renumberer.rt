@@ -56,7 +56,7 @@ impl Renumberer {
         Renumberer::prepare_in(alloc, Vec::new(alloc), chunk, filter)
     }
 
-    /// Does the same with the memory of a vector, whose items are dropped.
+    /// Makes the output as `prepare` does, in the memory of a vector, whose items are dropped.
     pub(crate) fn prepare_in(
         alloc: Global,
         room: Vec<u8>,
@@ -78,7 +78,8 @@ impl Renumberer {
         self.bytes.as_slice()
     }
 
-    /// The new key of a class and a key; `None` exactly if no kept event refers to them. Allocates nothing.
+    /// The new key of a class and a key; `None` exactly if no path of a kept event leads to them.
+    /// Allocates nothing.
     pub fn new_key(&self, class: u64, key: u64) -> Option<u64>
         ensures { result ≡ number_of self.now.keys (class, key) }
     {
@@ -109,6 +110,7 @@ fn renumbered<L: Ledger>(
     ensures bytes { IfOk result (λ r. r.bytes ≡ renumber_of chunk.now (kept_by chunk.now kept.now)) }
     ensures renumbered { IfOk result (λ r. IsRenumbered chunk.now (kept_by chunk.now kept.now)) }
 {
+    // For the proof: its clauses say that the chunk is whole and has parts.
     chunk.bytes();
     let mut steps: Steps<L> = Steps::new(blank);
     let mut marks = Marks::make(alloc, chunk.pools())?;

@@ -69,7 +69,7 @@ pub fn renumber_stream<P: Place>(
 ) -> Ending
     // The file holds the output of each chunk before the first refused one: a recording that is cut into just
     // these chunks, each of them accepted again, no longer than its scrub, and of the same meaning except for
-    // the keys. `each` says this of the output of every accepted chunk, so also if the result is another.
+    // the keys. `each` says this of the output of every accepted chunk, whatever the result is.
     ensures headline { IsByPlan result → Told (P.state place.old).told (P.state place.new).told (Renumbers filter.now input.now output.now) }
     ensures each { (c : List ℕ) → Whole c → refusal_of c ≡ None → IsRenumberedOutput filter.now c (renumbered filter.now c) }
 

@@ -90,7 +90,7 @@ pub(crate) fn missing_keys(
     Ok(list.keys)
 }
 
-// Lists what the event with this number refers to, if it is kept.
+// Adds what the event with this number refers to, if it is kept, and has no entry in force.
 #[inline(always)]
 fn list_event(list: &mut Missing, chunk: &Chunk<'_>, kept: &Kept, number: usize)
     ensures { Lists chunk.now.entries (all_targets chunk.now (nodes_of (option_to_list (flagged kept.now (events_of chunk.now) number)))) list.old list.new }
@@ -105,7 +105,7 @@ fn list_event(list: &mut Missing, chunk: &Chunk<'_>, kept: &Kept, number: usize)
     }
 }
 
-// Lists what the entry with this number refers to, if it is reached.
+// Adds what the entry with this number refers to, if it is reached, and has no entry in force.
 #[inline(never)]
 fn list_entry(list: &mut Missing, chunk: &Chunk<'_>, marks: &Marks, number: usize)
     requires { number < length marks.now }
@@ -120,7 +120,7 @@ fn list_entry(list: &mut Missing, chunk: &Chunk<'_>, marks: &Marks, number: usiz
     }
 }
 
-// Lists what an inline value refers to.
+// Adds what an inline value refers to, if it has no entry in force.
 #[inline(always)]
 fn list_value(list: &mut Missing, classes: &Classes, pools: &Pools, node: Node<'_>)
     requires sound { Sound classes.now }
@@ -144,7 +144,7 @@ fn list_value(list: &mut Missing, classes: &Classes, pools: &Pools, node: Node<'
     }
 }
 
-// Lists what a value of this shape refers to. Most values are the fields of a class. This is for the others, and
+// Adds what a value of this shape refers to. Most values are the fields of a class. This is for the others, and
 // is out of line, so that the layouts of fields stay in registers.
 #[inline(never)]
 fn list_single(list: &mut Missing, walk: Walk<'_, '_, Pools>, shape: Shape, at: usize)
