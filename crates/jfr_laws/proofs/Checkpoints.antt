@@ -26,7 +26,8 @@ use Rattle.jfr_chunk.specs.Scrub.{groups_of}
 use Rattle.jfr_chunk.proofs.AllLaws.{all_append}
 use Rattle.jfr_chunk.proofs.TestLaws.{is_eq}
 use Rattle.jfr_laws.proofs.Marks.{all_marked, marked_append}
-use Rattle.jfr_laws.proofs.Standing.{EntryStands, GroupStands, LinkStands, Constants, Pools, BodyStands, body_stands}
+use Rattle.jfr_laws.specs.InChunk.{EntryStands, GroupStands, LinkStands, Constants, Pools, BodyStands}
+use Rattle.jfr_laws.proofs.Standing.{body_stands}
 use Rattle.jfr_laws.proofs.Groups.{groups_stand}
 use Rattle.jfr_laws.proofs.Room.{int_room, have_room}
 

@@ -21,7 +21,7 @@ use Rattle.jfr_chunk.specs.Reach.{marked}
 use Rattle.jfr_chunk.specs.Written.{Group, entry_bytes, group_bytes}
 use Rattle.jfr_laws.specs.Laws.{IsCopied, AreCopied}
 use Rattle.jfr_laws.proofs.Marks.{rank, rank_get, rank_order, Ranked, ranked}
-use Rattle.jfr_laws.proofs.Standing.{EntryStands, GroupStands}
+use Rattle.jfr_laws.specs.InChunk.{EntryStands, GroupStands}
 use Rattle.jfr_laws.proofs.ReadBack.{placed, placed_group, entry_held}
 
 -- An entry of c and one of b have one class, key and checkpoint, and equal value bytes.

@@ -8,7 +8,7 @@ use Rattle.jfr_layout.specs.Classes.{Classes}
 use Rattle.jfr_pool.specs.declared.entry.EntryAt.{EntryAt}
 use Rattle.jfr_chunk.specs.Written.{Group, add_entry, by_pool}
 use Rattle.jfr_chunk.proofs.TestLaws.{left_true, right_true, is_eq}
-use Rattle.jfr_laws.proofs.Standing.{EntryStands, GroupStands}
+use Rattle.jfr_laws.specs.InChunk.{EntryStands, GroupStands}
 
 -- The entry joins the group.
 abbrev joins : EntryAt → Group → Bool

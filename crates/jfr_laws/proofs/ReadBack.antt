@@ -21,7 +21,7 @@ use Rattle.jfr_pool.specs.Chains.{head_format}
 use Rattle.jfr_pool.specs.Entries.{inline, Constant, constant_format, PoolAt, pool_format, checkpoint_format}
 use Rattle.jfr_chunk.specs.Written.{Group, entry_bytes, group_bytes, checkpoint_tail, checkpoint_bytes}
 use Rattle.jfr_laws.proofs.Values.{exact_reads, value_in, value_there}
-use Rattle.jfr_laws.proofs.Standing.{EntryStands, GroupStands, LinkStands}
+use Rattle.jfr_laws.specs.InChunk.{EntryStands, GroupStands, LinkStands}
 
 -- How many bytes an entry has.
 abbrev pub size_of : EntryAt → ℕ

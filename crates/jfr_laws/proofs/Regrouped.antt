@@ -9,7 +9,7 @@ use Rattle.jfr_layout.specs.Classes.{Classes}
 use Rattle.jfr_pool.specs.declared.entry.EntryAt.{EntryAt}
 use Rattle.jfr_pool.specs.Entries.{Constant, PoolAt, entry_of, entries_from}
 use Rattle.jfr_chunk.specs.Written.{Group, add_entry, by_pool, entry_bytes, group_bytes}
-use Rattle.jfr_laws.proofs.Standing.{EntryStands, GroupStands}
+use Rattle.jfr_laws.specs.InChunk.{EntryStands, GroupStands}
 use Rattle.jfr_laws.proofs.Groups.{apart, in_front, by_front}
 use Rattle.jfr_laws.proofs.Room.{of_pool, later_pools}
 use Rattle.jfr_laws.proofs.ReadBack.{size_of, placed, placed_group, entry_length}

@@ -13,7 +13,7 @@ use Rattle.jfr_pool.specs.Entries.{entries_from}
 use Rattle.jfr_chunk.specs.Written.{Group, by_pool, group_bytes, distance, checkpoint_tail, sized, checkpoint_bytes}
 use Rattle.jfr_chunk.specs.Scrub.{OutputRecord, Whole, Chained, Rebuilt, Written, groups_of, written, record_of, last_at}
 use Rattle.jfr_chunk.proofs.AllLaws.{all_append}
-use Rattle.jfr_laws.proofs.Standing.{LinkStands}
+use Rattle.jfr_laws.specs.InChunk.{LinkStands}
 use Rattle.jfr_laws.proofs.ReadBack.{moved_frame, moved_link, tail_lengths, checkpoint_held}
 use Rattle.jfr_laws.proofs.Checkpoints.{NotOf, others, of_number, later_numbers, block_only}
 use Rattle.jfr_laws.proofs.Copied.{copied_to}

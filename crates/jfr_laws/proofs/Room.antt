@@ -13,7 +13,7 @@ use Rattle.jfr_chunk.specs.Reach.{marked}
 use Rattle.jfr_chunk.specs.Written.{Group, by_pool, entry_bytes, group_bytes}
 use Rattle.jfr_chunk.proofs.AllLaws.{all_append}
 use Rattle.jfr_laws.proofs.Marks.{all_marked, fewer, marked_append}
-use Rattle.jfr_laws.proofs.Standing.{ConstantStands, Constants, PoolStands, Pools}
+use Rattle.jfr_laws.specs.InChunk.{ConstantStands, Constants, PoolStands, Pools}
 use Rattle.jfr_laws.proofs.Groups.{apart, in_front, by_front}
 
 -- The shortest spelling of m isn't longer than any spelling of n, if m isn't above n.

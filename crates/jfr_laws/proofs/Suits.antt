@@ -32,7 +32,7 @@ use Rattle.jfr_worklist.specs.Members.{In}
 use Rattle.jfr_worklist.proofs.Members.{contains_in}
 use Rattle.jfr_chunk.proofs.PathLaws.{Standing}
 use Rattle.jfr_chunk.proofs.StandingLaws.{IsEvent}
-use Rattle.jfr_laws.proofs.Standing.{EntryStands, GroupStands}
+use Rattle.jfr_laws.specs.InChunk.{EntryStands, GroupStands}
 use Rattle.jfr_laws.proofs.OutputRecords.{OutputRecordStands}
 use Rattle.jfr_laws.proofs.Regrouped.{NotEmpty, some_each}
 

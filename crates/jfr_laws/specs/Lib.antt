@@ -1,1 +1,2 @@
+pub mod InChunk
 pub mod Laws

@@ -16,7 +16,7 @@ use Rattle.jfr_pool.specs.declared.link.Link.{Link}
 use Rattle.jfr_pool.specs.Entries.{inline, entry_node}
 use Rattle.jfr_chunk.specs.Parts.{Parts}
 use Rattle.jfr_chunk.specs.Written.{by_pool, sized}
-use Rattle.jfr_laws.proofs.Standing.{EntryStands, LinkStands}
+use Rattle.jfr_laws.specs.InChunk.{EntryStands, LinkStands}
 use Rattle.jfr_laws.proofs.Values.{exact_reads}
 use Rattle.jfr_output.specs.Pools.{leading}
 use Rattle.jfr_output.proofs.PoolLaws.{by_first_of}

@@ -29,7 +29,7 @@ use Rattle.jfr_chunk.specs.Scrub.{OutputRecord, Whole, Chained, Rebuilt, groups_
 use Rattle.jfr_worklist.specs.Members.{In}
 use Rattle.jfr_chunk.proofs.AllLaws.{all_in, filter_all}
 use Rattle.jfr_chunk.proofs.StandingLaws.{IsEvent, standing}
-use Rattle.jfr_laws.proofs.Standing.{LinkStands}
+use Rattle.jfr_laws.specs.InChunk.{LinkStands}
 use Rattle.jfr_laws.proofs.ReadBack.{moved_frame, pools_place}
 use Rattle.jfr_laws.proofs.Copied.{record_copied, record_length}
 use Rattle.jfr_laws.proofs.Order.{Numbered, numbered_at, output_records_in, chained_of}

@@ -25,7 +25,7 @@ use Rattle.jfr_chunk.specs.Parts.{Parts}
 use Rattle.jfr_chunk.specs.Written.{Group}
 use Rattle.jfr_chunk.specs.Written as old
 use Rattle.jfr_laws.proofs.Values.{exact_reads, value_in, value_there}
-use Rattle.jfr_laws.proofs.Standing.{EntryStands, GroupStands}
+use Rattle.jfr_laws.specs.InChunk.{EntryStands, GroupStands}
 use Rattle.jfr_laws.proofs.Entries.{each_append}
 use Rattle.jfr_renumber.specs.Rekeyed.{rekeyed, rekeyed_bytes}
 use Rattle.jfr_renumber.specs.Renumber.{pair_of, entry_bytes, group_bytes, checkpoint_tail}

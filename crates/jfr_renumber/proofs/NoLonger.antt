@@ -18,7 +18,7 @@ use Rattle.jfr_laws.proofs.Header.{header_length, whole_small}
 use Rattle.jfr_laws.proofs.OutputRecords.{OutputRecordStands, chained_bytes}
 use Rattle.jfr_laws.proofs.OutputRecords as before
 use Rattle.jfr_laws.proofs.Premises.{Ready, ready}
-use Rattle.jfr_laws.proofs.Standing.{EntryStands, GroupStands}
+use Rattle.jfr_laws.specs.InChunk.{EntryStands, GroupStands}
 use Rattle.jfr_laws.proofs.Whole.{out_shorter}
 use Rattle.jfr_renumber.specs.Renumber.{written_by}
 use Rattle.jfr_renumber.proofs.Fewer.{Under, Shorter, numbers_short, entries_stand, checkpoint_short}

@@ -31,7 +31,7 @@ use Rattle.jfr_laws.proofs.Passing.{clash}
 use Rattle.jfr_laws.proofs.Premises.{Ready, metadata_stands, ready, recorded}
 use Rattle.jfr_laws.proofs.Quiet.{no_metadata_event}
 use Rattle.jfr_laws.proofs.Same.{chosen_events, event_of_chunk}
-use Rattle.jfr_laws.proofs.Standing.{EntryStands, GroupStands}
+use Rattle.jfr_laws.specs.InChunk.{EntryStands, GroupStands}
 use Rattle.jfr_output.specs.declared.output_records.OutputRecord as told
 use Rattle.jfr_output.specs.declared.output_records.OutputRecord.TheVariants as told_records
 use Rattle.jfr_output.specs.OutputRecords.{IsKeptEvent, ShowsEvent, ShowsMetadata, output_record_as, whole_or}

@@ -8,7 +8,7 @@ use Rattle.jfr_chunk.specs.Parts.{Parts, metadata_at}
 use Rattle.jfr_chunk.specs.Reach.{kept_by}
 use Rattle.jfr_chunk.specs.Scrub.{OutputRecord, Whole, Chained, Rebuilt, last_at, moved, older_after, record_of}
 use Rattle.jfr_chunk.specs.Written.{by_pool, distance}
-use Rattle.jfr_laws.proofs.Standing.{EntryStands, LinkStands}
+use Rattle.jfr_laws.specs.InChunk.{EntryStands, LinkStands}
 use Rattle.jfr_output.specs.declared.output_records.OutputRecord as told
 use Rattle.jfr_output.specs.OutputRecords.{ShowsEvent, ShowsMetadata, output_record_as}
 use Rattle.jfr_output.specs.Positions.{place_seen}

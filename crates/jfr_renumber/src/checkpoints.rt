@@ -2,7 +2,7 @@
 ghost use Rattle.std.specs.Prelude.{◌≡◌, ◌≤◌, ◌+◌, ◌-◌, ◌++◌, length, OnOk};
 ghost use Rattle.std.specs.List.{AllByRecursion, flat_map};
 ghost use Rattle.jfr_chunk.specs.Written.{by_pool, sized};
-ghost use Rattle.jfr_laws.proofs.Standing.{EntryStands, LinkStands};
+ghost use Rattle.jfr_laws.specs.InChunk.{EntryStands, LinkStands};
 ghost use Rattle.jfr_renumber.specs.Renumber.{checkpoint_tail, entry_bytes, group_bytes};
 
 use crate::fields::put_value;

@@ -20,7 +20,8 @@ use Rattle.jfr_chunk.specs.Parts.{Parts, EventAt, AreParts}
 use Rattle.jfr_chunk.specs.Reach.{reached_marks, remain}
 use Rattle.jfr_chunk.specs.Written.{distance}
 use Rattle.jfr_chunk.specs.Scrub.{OutputRecord, Whole, Chained, Rebuilt, groups_of, bytes_of, written_bytes, written, written_anew, output_records, output_records_whole}
-use Rattle.jfr_laws.proofs.Standing.{LinkStands, Constants, Pools, body_stands}
+use Rattle.jfr_laws.specs.InChunk.{LinkStands, Constants, Pools}
+use Rattle.jfr_laws.proofs.Standing.{body_stands}
 use Rattle.jfr_laws.proofs.Marks.{all_marked}
 use Rattle.jfr_laws.proofs.Order.{Numbered}
 use Rattle.jfr_laws.proofs.OutputRecords.{Deltas, OutputRecordStands, own_frame}

@@ -1,6 +1,6 @@
 use Rattle.std.proofs.Common.{sym, ◌∙◌, subst}
 use Rattle.std.specs.List.{AllByRecursion}
-use Rattle.jfr_laws.proofs.Standing.{EntryStands}
+use Rattle.jfr_laws.specs.InChunk.{EntryStands}
 use Rattle.jfr_output.proofs.PoolLaws.{all_drop}
 use Rattle.jfr_renumber.proofs.CheckpointWriting.{pool_next}
 use Rattle.jfr_renumber.proofs.checkpoints.put_pools.Goals as goal
