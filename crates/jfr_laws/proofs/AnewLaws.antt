@@ -1,66 +1,31 @@
 -- What is built anew of the metadata record of a chunk is a record, and describes the classes that stay.
-use Rattle.std.specs.Prelude.{◌≡◌, ℕ, zero, suc, ◌+◌, ◌-◌, ◌^◌, ◌<◌, ◌≤◌, Bool, true, false, ◌&&◌, ◌||◌, ◌==◌, nat_lt, nat_le, List, [], ◌∷◌, length, map, find, Option, Some, None, Result, Ok, Err, is_some, Contains, if◌then◌else◌, ◌⊎◌}
+use Rattle.std.specs.Prelude.{◌≡◌, ℕ, ◌-◌, ◌^◌, ◌<◌, ◌≤◌, Bool, true, false, ◌&&◌, ◌||◌, ◌==◌, nat_lt, nat_le, List, [], ◌∷◌, length, Option, Some, None, Contains, if◌then◌else◌}
 use lib.Utf8.{scalars}
-use Rattle.std.specs.List.{AllByRecursion, list_any, list_all}
-use Rattle.std.specs.Str.{chars, encode_utf8_all}
+use Rattle.std.specs.List.{AllByRecursion, list_all}
+use Rattle.std.specs.Str.{encode_utf8_all}
 use Rattle.std.proofs.lemmas.Str.{chars-encodes}
 use Rattle.std.specs.Option.{option_map_or}
-use Rattle.std.proofs.Common.{ap, arith, refl, sym, ◌∙◌, subst, inl, inr}
+use Rattle.std.proofs.Common.{ap, arith, refl, sym, ◌∙◌, subst}
 use Rattle.std.proofs.lemmas.Bool.Decides.{nat_tests}
-use Rattle.std.proofs.lemmas.List.Elements.{All-contains}
-use Rattle.jfr_base.specs.Formats.{Reads}
-use Rattle.jfr_base.proofs.HoldLaws.{Holds}
 use Rattle.jfr_layout.specs.Classes.{Class, Classes, Sound, Agree, find_class, has_id, is_event_class, extends_event}
 use Rattle.jfr_frame.specs.declared.framed.Framed.{Framed}
-use Rattle.jfr_frame.specs.Records.{IsRecord, record_end, record_bytes}
-use Rattle.jfr_frame.proofs.RecordLaws.{record_one}
-use Rattle.jfr_meta.specs.Trees.{Tree, Node, Trees, Nil, Cons, place_of}
-use Rattle.jfr_meta.specs.Body.{Body, IsElement, AreElements, meta_format}
-use Rattle.jfr_meta.specs.Described.{class_elements, class_flaws, described, IsMetadata}
-use Rattle.jfr_meta.specs.Written.{IsText, HasIndices, bare, depth, depths, table_bytes}
-use Rattle.jfr_meta.specs.Laws.{RootStands}
-use Rattle.jfr_meta.proofs.Bare.{described_bare}
-use Rattle.jfr_meta.proofs.ElementsStand.{root_stands}
-use Rattle.jfr_chunk.specs.Parts.{Parts, EventAt, AreParts, events_of, event_records, metadata_at}
-use Rattle.jfr_chunk.specs.Laws.{AreEvents}
-use Rattle.jfr_chunk.proofs.AllLaws.{all_in, in_filter}
-use Rattle.jfr_worklist.specs.Members.{In}
-use Rattle.jfr_worklist.proofs.Members.{contains_in, in_contains}
-use Rattle.jfr_chunk.proofs.StandingLaws.{standing}
-use Rattle.jfr_chunk.proofs.TestLaws.{is_eq}
+use Rattle.jfr_meta.specs.Trees.{Tree, place_of}
+use Rattle.jfr_meta.specs.Described.{class_elements, class_flaws, described}
+use Rattle.jfr_meta.specs.Written.{IsText}
+use Rattle.jfr_meta.proofs.Depths.{shallow}
+use Rattle.jfr_chunk.specs.Parts.{Parts, EventAt, AreParts, metadata_at}
 use Rattle.jfr_layout.specs.Staying.{staying}
-use Rattle.jfr_meta.specs.Stays.{ids_below, HasHead, HasNamed, IsStay, stay_of}
+use Rattle.jfr_meta.specs.Stays.{ids_below, HasHead, IsStay, stay_of}
 use Rattle.jfr_meta.specs.Slimmed.{slim_body, bytes_of_body, table_len, IsSlim, slim_in}
-use Rattle.jfr_chunk.specs.Metas.{used_by, stays_in, slim_of, rebuilt, metadata_size, classes_left}
+use Rattle.jfr_chunk.specs.Metas.{used_by, stays_in, slim_of, rebuilt}
 use Rattle.jfr_chunk.specs.Scrub.{written_anew}
-use Rattle.jfr_laws.proofs.Agrees.{agree_on_event}
-use Rattle.jfr_laws.proofs.Anew.{own_bytes}
-use Rattle.jfr_laws.proofs.Chosen.{is_kept}
-use Rattle.jfr_laws.proofs.Copied.{copied_to}
 use Rattle.jfr_laws.proofs.Five.{StandsAnew, read_back}
-use Rattle.jfr_laws.proofs.Found.{shown_bytes, shown_frame}
-use Rattle.jfr_laws.proofs.Listed.{in_any, in_map, in_passes}
 use Rattle.jfr_meta.proofs.Lists.{nothing_each}
-use Rattle.jfr_laws.proofs.Metadata.{metadata_copied}
-use Rattle.jfr_laws.proofs.OutputRecords.{own_frame}
-use Rattle.jfr_laws.proofs.Premises.{GoodAnew, metadata_stands, recorded}
-use Rattle.jfr_laws.proofs.ReadBack.{moved_frame}
+use Rattle.jfr_laws.proofs.Premises.{GoodAnew}
 use Rattle.jfr_meta.proofs.SlimLaws.{Describes, told_well, is_slim}
 use Rattle.jfr_meta.proofs.StayLaws.{is_stay}
 use Rattle.jfr_layout.proofs.StayingLaws.{stay_well, staying_sound}
 use Rattle.jfr_meta.proofs.SlimClasses.{fields_closed}
-
--- A tree that is spelled by bytes has at most the allowed number of levels.
-mutual
-  element_depth : (x : List ℕ) (limit levels p q : ℕ) (t : Tree) → IsElement x limit levels p q t → depth t ≤ levels
-  element_depth x limit levels p q (Node place name pairs children) e =
-      let d = elements_depth x limit (levels - 1) e.5 q children e.11 in
-      let o : 0 < levels = e.1 in
-      omega arith
-
-  elements_depth : (x : List ℕ) (limit levels p q : ℕ) (ts : Trees) → AreElements x limit levels p q ts → depths ts ≤ levels
-  elements_depth x limit levels p q Nil e = omega arith
-  elements_depth x limit levels p q (Cons t ts) e = omega (arith, element_depth x limit levels p e.0 t e.1, elements_depth x limit levels e.0 q ts e.2)
 
 pub and_parts : (t u : Bool) → (t && u) ≡ true → (t ≡ true) × (u ≡ true)
 and_parts true true e = (refl, refl)
@@ -158,15 +123,10 @@ module _ (p : Parts) (a : AreParts p) (kept : List EventAt) where
   pub agree_left : (id : ℕ) (c : Class) → find_class k id ≡ Some c → stays id ≡ true → Agree k (staying stays k) id
   agree_left id c e s = (stay_well k stays d.sound (fields_closed p.body.strings ts k stays (sym d.classes) (closed ts d.there) (nothing_each (class_flaws p.body.strings) ts d.good) d.sound)).agree id c e s
 
-  shallow : depth p.body.root ≤ 16
-  shallow =
-      let r = root_stands p.bytes a.metadata_record p.body p.classes a.metadata in
-      element_depth p.bytes (length p.body.strings) 16 r.behind_strings (record_end a.metadata_record) p.body.root r.root
-
   pub stands_anew : (room : ℕ) (x : List ℕ) → IsAnew p kept room x → StandsAnew x (slim_of p kept)
   unfolding slim_body
   stands_anew room x n =
-      read_back p.body.start p.body.duration p.body.id (slim_of p kept).strings (slim_of p kept).root x slim.indices (omega (arith, slim.levels, shallow)) n.small (texts_of (slim_of p kept).strings n.all) n.bytes
+      read_back p.body.start p.body.duration p.body.id (slim_of p kept).strings (slim_of p kept).root x slim.indices (omega (arith, slim.levels, shallow p.bytes a.metadata_record p.body p.classes a.metadata)) n.small (texts_of (slim_of p kept).strings n.all) n.bytes
 
   pub good_anew : GoodAnew p.bytes (written_anew p kept)
   good_anew r x i e =

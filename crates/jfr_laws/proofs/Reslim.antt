@@ -1,39 +1,30 @@
 -- What is slim already stays as it is, and places in trees don't matter.
-use Rattle.std.specs.Prelude.{◌≡◌, ℕ, zero, suc, ◌+◌, ◌<◌, Bool, true, false, not, ◌||◌, ◌&&◌, ◌==◌, List, [], ◌∷◌, ◌++◌, length, map, filter, find, replicate, Option, Some, None, option_map, option_and_then, slice_get, if◌then◌else◌, codes, Contains, ◌⊎◌}
-use Rattle.std.specs.List.{AllZip, AllByRecursion, filter_map, flat_map, list_any, cons_option}
+use Rattle.std.specs.Prelude.{◌≡◌, ℕ, suc, ◌+◌, Bool, true, false, not, ◌||◌, List, [], ◌∷◌, ◌++◌, length, map, filter, replicate, Option, Some, None, option_map, slice_get, if◌then◌else◌, codes}
+use Rattle.std.specs.List.{filter_map, flat_map}
 use Rattle.std.specs.Option.{option_map_or}
 use Rattle.std.specs.Str.{bytes_eq}
-use Rattle.std.proofs.Common.{ap, refl, sym, ◌∙◌, subst, inl, inr}
+use Rattle.std.proofs.Common.{ap, refl, sym, ◌∙◌}
 use Rattle.std.proofs.lemmas.Option.{slice_get-map}
 use Rattle.jfr_base.specs.Integer.{spell, spell_in}
-use Rattle.jfr_layout.specs.Classes.{Class, Classes, Sound, has_id, class_index, is_event_class}
-use Rattle.jfr_meta.specs.Trees.{Tree, Node, Trees, Nil, Cons, list_of, trees_of, place_of, name_of, pairs_of, children_of, tree, list_of-trees_of}
-use Rattle.jfr_meta.specs.Attributes.{text_at, named}
+use Rattle.jfr_layout.specs.Classes.{Classes, class_index}
+use Rattle.jfr_meta.specs.Trees.{Tree, Node, Trees, Nil, Cons, list_of, trees_of, name_of, pairs_of, tree}
+use Rattle.jfr_meta.specs.Attributes.{text_at}
 use Rattle.jfr_meta.specs.Body.{Body, how_many}
-use Rattle.jfr_meta.specs.Described.{class_elements, class_head, class_of, class_flaws, classes_of, id_attribute}
-use Rattle.jfr_meta.specs.Written.{bare, bares, tree_bytes, trees_bytes, pair_bytes, text_bytes, body_bytes, table_bytes}
+use Rattle.jfr_meta.specs.Described.{class_elements, id_attribute}
+use Rattle.jfr_meta.specs.Written.{bare, bares, tree_bytes, trees_bytes, pair_bytes, text_bytes}
 use Rattle.jfr_meta.specs.Stays.{below, all_below, ids_below, first_ids, next_classes, stay_marks, stay_of}
 use Rattle.jfr_worklist.specs.Marks.{those, swept, marked_at, is_marked}
-use Rattle.jfr_meta.specs.Slimmed.{with_children, is_named, head_stays, element_stays, first_changed, slim_holder, slim_root, uses, all_uses, firsts, table_of, index_in, renumbered, all_renumbered, retabled, slim_body, bytes_of_body, table_len}
+use Rattle.jfr_meta.specs.Slimmed.{with_children, is_named, element_stays, first_changed, slim_holder, slim_root, uses, all_uses, firsts, table_of, index_in, renumbered, all_renumbered, retabled, slim_body, bytes_of_body, table_len}
 use Rattle.jfr_laws.proofs.Metadata.{SameBody}
+use Rattle.jfr_meta.proofs.Bare.{children_bare, name_bare, filter_bare, filter_map_bare, elements_bare, head_bare}
 
 -- Places in trees.
-children_bare : (t : Tree) → children_of (bare t) ≡ map bare (children_of t)
-children_bare (Node place name pairs children) = these children
-  where
-    these : (ts : Trees) → list_of (bares ts) ≡ map bare (list_of ts)
-    these Nil = refl
-    these (Cons t ts) = ap (λ z. bare t ∷ z) (these ts)
-
 bares_of : (ts : List Tree) → bares (trees_of ts) ≡ trees_of (map bare ts)
 bares_of [] = refl
 bares_of (t ∷ ts) = ap (λ z. Cons (bare t) z) (bares_of ts)
 
 with_bare : (ts : List Tree) (t : Tree) → bare (with_children ts t) ≡ Node 0 (name_of t) (pairs_of t) (trees_of (map bare ts))
 with_bare ts t = ap (λ z. Node 0 (name_of t) (pairs_of t) z) (bares_of ts)
-
-name_bare : (t : Tree) → name_of (bare t) ≡ name_of t
-name_bare (Node place name pairs children) = refl
 
 mutual
   uses_bare : (t : Tree) → uses (bare t) ≡ uses t
@@ -64,9 +55,6 @@ mutual
   all_bytes_bare (Cons t ts) = λ i. bytes_bare t i ++ all_bytes_bare ts i
 
 module _ (texts : List (List ℕ)) where
-  head_bare : (t : Tree) → class_head texts (bare t) ≡ class_head texts t
-  head_bare (Node place name pairs children) = refl
-
   id_bare : (t : Tree) → id_attribute texts (bare t) (codes "class") ≡ id_attribute texts t (codes "class")
   id_bare (Node place name pairs children) = refl
 
@@ -82,44 +70,11 @@ module _ (texts : List (List ℕ)) where
     all_below_map Nil = refl
     all_below_map (Cons t ts) = ap (λ z. bare t ∷ z) ((λ i. below_map t i ++ all_below_map ts i) ∙ sym (map_append (below t) (all_below ts)))
 
-  ids_map : (ts : List Tree) → filter_map (λ e. id_attribute texts e (codes "class")) (map bare ts) ≡ filter_map (λ e. id_attribute texts e (codes "class")) ts
-  ids_map [] = refl
-  ids_map (t ∷ ts) = λ i. cons_option (id_bare t i) (ids_map ts i)
-
   ids_bare : (t : Tree) → ids_below texts (bare t) ≡ ids_below texts t
-  ids_bare t = ap (filter_map (λ e. id_attribute texts e (codes "class"))) (below_map t) ∙ ids_map (below t)
-
-  -- The class elements.
-  filter_bare : (q : Tree → Bool) → ((t : Tree) → q (bare t) ≡ q t) → (ts : List Tree) → filter q (map bare ts) ≡ map bare (filter q ts)
-  filter_bare q s [] = refl
-  filter_bare q s (t ∷ ts) = ap (λ z. if z then bare t ∷ filter q (map bare ts) else filter q (map bare ts)) (s t) ∙ by_test (q t) (filter_bare q s ts)
-    where
-      by_test : (u : Bool) → filter q (map bare ts) ≡ map bare (filter q ts) → (if u then bare t ∷ filter q (map bare ts) else filter q (map bare ts)) ≡ map bare (if u then t ∷ filter q ts else filter q ts)
-      by_test true h = ap (λ z. bare t ∷ z) h
-      by_test false h = h
-
-  find_bare : (q : Tree → Bool) → ((t : Tree) → q (bare t) ≡ q t) → (ts : List Tree) → find q (map bare ts) ≡ option_map bare (find q ts)
-  find_bare q s [] = refl
-  find_bare q s (t ∷ ts) = ap (λ z. if z then Some (bare t) else find q (map bare ts)) (s t) ∙ by_test (q t) (find_bare q s ts)
-    where
-      by_test : (u : Bool) → find q (map bare ts) ≡ option_map bare (find q ts) → (if u then Some (bare t) else find q (map bare ts)) ≡ option_map bare (if u then Some t else find q ts)
-      by_test true h = refl
-      by_test false h = h
+  ids_bare t = ap (filter_map (λ e. id_attribute texts e (codes "class"))) (below_map t) ∙ filter_map_bare (λ e. id_attribute texts e (codes "class")) id_bare (below t)
 
   is_named_bare : (key : List ℕ) (t : Tree) → is_named texts key (bare t) ≡ is_named texts key t
   is_named_bare key t = ap (λ z. bytes_eq (text_at texts z) key) (name_bare t)
-
-  named_bare : (key : List ℕ) (t : Tree) → named texts key (children_of (bare t)) ≡ map bare (named texts key (children_of t))
-  named_bare key t = ap (named texts key) (children_bare t) ∙ filter_bare (is_named texts key) (is_named_bare key) (children_of t)
-
-  pub elements_bare : (root : Tree) → class_elements texts (bare root) ≡ option_map (map bare) (class_elements texts root)
-  elements_bare root =
-      ap (λ z. option_map (λ m. named texts (codes "class") (children_of m)) (find (is_named texts (codes "metadata")) z)) (children_bare root)
-      ∙ (ap (option_map (λ m. named texts (codes "class") (children_of m))) (find_bare (is_named texts (codes "metadata")) (is_named_bare (codes "metadata")) (children_of root)) ∙ by_one (find (is_named texts (codes "metadata")) (children_of root)))
-    where
-      by_one : (o : Option Tree) → option_map (λ m. named texts (codes "class") (children_of m)) (option_map bare o) ≡ option_map (map bare) (option_map (λ m. named texts (codes "class") (children_of m)) o)
-      by_one None = refl
-      by_one (Some t) = ap (λ z. Some z) (named_bare (codes "class") t)
 
   -- Which classes stay.
   next_bare : (ts : List Tree) (k : Classes) (i : ℕ) → next_classes texts (map bare ts) k i ≡ next_classes texts ts k i
@@ -137,7 +92,7 @@ module _ (texts : List (List ℕ)) where
   stay_bare ts k used id = ap (λ m. option_map_or (is_marked m) (class_index k id) false) (marks_bare ts k used)
 
   pub stay_root : (root : Tree) (k : Classes) (used : ℕ → Bool) (id : ℕ) → option_map_or (λ ts. stay_of texts ts k used id) (class_elements texts (bare root)) false ≡ option_map_or (λ ts. stay_of texts ts k used id) (class_elements texts root) false
-  stay_root root k used id = ap (λ o. option_map_or (λ ts. stay_of texts ts k used id) o false) (elements_bare root) ∙ by_one (class_elements texts root)
+  stay_root root k used id = ap (λ o. option_map_or (λ ts. stay_of texts ts k used id) o false) (elements_bare texts root) ∙ by_one (class_elements texts root)
     where
       by_one : (o : Option (List Tree)) → option_map_or (λ ts. stay_of texts ts k used id) (option_map (map bare) o) false ≡ option_map_or (λ ts. stay_of texts ts k used id) o false
       by_one None = refl
@@ -146,7 +101,7 @@ module _ (texts : List (List ℕ)) where
   -- The slim tree.
   module _ (stays : ℕ → Bool) where
     element_bare : (t : Tree) → element_stays texts stays (bare t) ≡ element_stays texts stays t
-    element_bare t = λ i. not (is_named_bare (codes "class") t i) || option_map_or (λ h. stays h.0) (head_bare t i) false
+    element_bare t = λ i. not (is_named_bare (codes "class") t i) || option_map_or (λ h. stays h.0) (head_bare texts t i) false
 
     holder_bare : (t : Tree) → slim_holder texts stays (bare t) ≡ bare (slim_holder texts stays t)
     holder_bare (Node place name pairs children) =

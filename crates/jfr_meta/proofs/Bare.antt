@@ -15,21 +15,21 @@ use Rattle.jfr_meta.specs.Described.{class_elements, field_elements, class_head,
 use Rattle.jfr_meta.specs.Written.{bare, bares}
 
 -- Parts of a bare tree.
-children_bare : (t : Tree) → children_of (bare t) ≡ map bare (children_of t)
+pub children_bare : (t : Tree) → children_of (bare t) ≡ map bare (children_of t)
 children_bare (Node place name pairs children) = these children
   where
     these : (ts : Trees) → list_of (bares ts) ≡ map bare (list_of ts)
     these Nil = refl
     these (Cons t ts) = ap (λ z. bare t ∷ z) (these ts)
 
-name_bare : (t : Tree) → name_of (bare t) ≡ name_of t
+pub name_bare : (t : Tree) → name_of (bare t) ≡ name_of t
 name_bare (Node place name pairs children) = refl
 
 place_bare : (t : Tree) → place_of (bare t) ≡ 0
 place_bare (Node place name pairs children) = refl
 
 -- A test that gives the same on a bare tree.
-filter_bare : (q : Tree → Bool) → ((t : Tree) → q (bare t) ≡ q t) → (ts : List Tree) → filter q (map bare ts) ≡ map bare (filter q ts)
+pub filter_bare : (q : Tree → Bool) → ((t : Tree) → q (bare t) ≡ q t) → (ts : List Tree) → filter q (map bare ts) ≡ map bare (filter q ts)
 filter_bare q s [] = refl
 filter_bare q s (t ∷ ts) = ap (λ z. if z then bare t ∷ filter q (map bare ts) else filter q (map bare ts)) (s t) ∙ by_test (q t) (filter_bare q s ts)
   where
@@ -38,7 +38,7 @@ filter_bare q s (t ∷ ts) = ap (λ z. if z then bare t ∷ filter q (map bare t
     by_test true h = ap (λ z. bare t ∷ z) h
     by_test false h = h
 
-find_bare : (q : Tree → Bool) → ((t : Tree) → q (bare t) ≡ q t) → (ts : List Tree) → find q (map bare ts) ≡ option_map bare (find q ts)
+pub find_bare : (q : Tree → Bool) → ((t : Tree) → q (bare t) ≡ q t) → (ts : List Tree) → find q (map bare ts) ≡ option_map bare (find q ts)
 find_bare q s [] = refl
 find_bare q s (t ∷ ts) = ap (λ z. if z then Some (bare t) else find q (map bare ts)) (s t) ∙ by_test (q t) (find_bare q s ts)
   where
@@ -46,15 +46,15 @@ find_bare q s (t ∷ ts) = ap (λ z. if z then Some (bare t) else find q (map ba
     by_test true h = refl
     by_test false h = h
 
-filter_map_bare : {X : Type 0} (g : Tree → Option X) → ((t : Tree) → g (bare t) ≡ g t) → (ts : List Tree) → filter_map g (map bare ts) ≡ filter_map g ts
+pub filter_map_bare : {X : Type 0} (g : Tree → Option X) → ((t : Tree) → g (bare t) ≡ g t) → (ts : List Tree) → filter_map g (map bare ts) ≡ filter_map g ts
 filter_map_bare g s [] = refl
 filter_map_bare g s (t ∷ ts) = ap (λ z. cons_option z (filter_map g (map bare ts))) (s t) ∙ ap (cons_option (g t)) (filter_map_bare g s ts)
 
 -- What a bare element says.
-named_bare : (texts : List (List ℕ)) (key : List ℕ) (t : Tree) → named texts key (children_of (bare t)) ≡ map bare (named texts key (children_of t))
+pub named_bare : (texts : List (List ℕ)) (key : List ℕ) (t : Tree) → named texts key (children_of (bare t)) ≡ map bare (named texts key (children_of t))
 named_bare texts key t = ap (named texts key) (children_bare t) ∙ filter_bare (λ t. bytes_eq (text_at texts (name_of t)) key) (λ t. ap (λ z. bytes_eq (text_at texts z) key) (name_bare t)) (children_of t)
 
-elements_bare : (texts : List (List ℕ)) (root : Tree) → class_elements texts (bare root) ≡ option_map (map bare) (class_elements texts root)
+pub elements_bare : (texts : List (List ℕ)) (root : Tree) → class_elements texts (bare root) ≡ option_map (map bare) (class_elements texts root)
 elements_bare texts root =
     ap (λ z. option_map (λ m. named texts (codes "class") (children_of m)) (find (λ t. bytes_eq (text_at texts (name_of t)) (codes "metadata")) z)) (children_bare root)
     ∙ (ap (option_map (λ m. named texts (codes "class") (children_of m))) (find_bare (λ t. bytes_eq (text_at texts (name_of t)) (codes "metadata")) (λ t. ap (λ z. bytes_eq (text_at texts z) (codes "metadata")) (name_bare t)) (children_of root))
@@ -68,7 +68,7 @@ field_bare : (texts : List (List ℕ)) (t : Tree) → field_of texts (bare t) �
 unfolding field_of shape_of
 field_bare texts (Node place name pairs children) = refl
 
-head_bare : (texts : List (List ℕ)) (t : Tree) → class_head texts (bare t) ≡ class_head texts t
+pub head_bare : (texts : List (List ℕ)) (t : Tree) → class_head texts (bare t) ≡ class_head texts t
 head_bare texts (Node place name pairs children) = refl
 
 super_bare : (texts : List (List ℕ)) (t : Tree) → attribute texts (bare t) (codes "superType") ≡ attribute texts t (codes "superType")

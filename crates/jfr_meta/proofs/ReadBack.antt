@@ -8,7 +8,7 @@ use Rattle.std.proofs.lemmas.List.{take_all}
 use Rattle.std.proofs.lemmas.Str.{chars-encodes}
 use Rattle.bstr.proofs.lemmas.EncodeLemmas.{lossy_chars-encode}
 use Rattle.jfr_base.specs.Integer.{IntAt, Spells, FitsIn, spell, spell_in}
-use Rattle.jfr_base.specs.Formats.{Format, Done, ◌>>=◌, Answer, Exactly, integer, run, times}
+use Rattle.jfr_base.specs.Formats.{Format, Done, ◌>>=◌, Answer, Exactly, Reads, integer, run, times}
 use Rattle.jfr_base.proofs.Exact.{Says, run_says}
 use Rattle.jfr_base.proofs.ExactLaws.{bind_exact}
 use Rattle.jfr_base.proofs.Ranges.{range_length}
@@ -25,6 +25,7 @@ use Rattle.jfr_meta.proofs.Parts.{named_ok, counted_ok, paired_ok, numbered_ok, 
 use Rattle.jfr_meta.proofs.Bodies.{whole_head, whole_body}
 use Rattle.jfr_meta.proofs.Bare.{described_bare}
 use Rattle.jfr_meta.proofs.WrittenLaws.{body_measured}
+use Rattle.jfr_frame.specs.Records.{IsRecord}
 
 -- Integers, indices and attributes, exactly.
 exact_int : (v : ℕ) → Exactly integer (spell v) v
@@ -183,9 +184,17 @@ pub zero_spelled : Spells (0 ∷ []) 0
 unfolding spell
 zero_spelled = spell_spells 0
 
+-- The bytes are a record by themselves, which holds these parts, but for the places in the tree.
+pub record StandsAlone (x : List ℕ) (start duration id : ℕ) (strings : List (List ℕ)) (root : Tree) : Type 0 where
+  pub is_record : IsRecord x (record { at = 0; size = length x; type_at = 5; type_id = 0; body = 6 })
+  pub tree : Tree
+  pub same : bare tree ≡ bare root
+  pub body : Reads meta_format x (length x) 6 (record { start = start; duration = duration; id = id; strings = strings; root = tree }) (length x)
+  pub long : 6 ≤ length x
+
 module _ (start duration id : ℕ) (strings : List (List ℕ)) (root : Tree) (x : List ℕ) where
-  pub read_back : HasIndices (length strings) root → depth root ≤ 16 → length (table_bytes strings root) < 536870912 → AllByRecursion IsText strings → x ≡ record_bytes start duration id strings root → ReadsBack x start duration id strings root
-  read_back good shallow small texts e =
+  pub stands_alone : HasIndices (length strings) root → depth root ≤ 16 → length (table_bytes strings root) < 536870912 → AllByRecursion IsText strings → x ≡ record_bytes start duration id strings root → StandsAlone x start duration id strings root
+  stands_alone good shallow small texts e =
       let body : List ℕ = body_bytes start duration id strings root in
       let n : ℕ = length x in
       let size : ℕ = 6 + length body in
@@ -211,13 +220,24 @@ module _ (start duration id : ℕ) (strings : List (List ℕ)) (root : Tree) (x 
       let order : 6 ≤ n = omega arith in
       let inside : n ≤ n = omega arith in
       record {
-        frame = record { at = 0; size = n; type_at = 5; type_id = 0; body = 6 };
-        first = refl;
-        whole = refl;
-        type_zero = refl;
         is_record = record { size_spelled = size_at; type_spelled = type_at; covers = covers; within = within };
         tree = r.0;
         same = r.1;
         body = subst P r.2 (run_says meta_format x n 6 order inside);
-        classes = λ k d. described_bare start duration id strings root r.0 k (sym r.1) d;
+        long = omega arith;
+      }
+
+  pub read_back : HasIndices (length strings) root → depth root ≤ 16 → length (table_bytes strings root) < 536870912 → AllByRecursion IsText strings → x ≡ record_bytes start duration id strings root → ReadsBack x start duration id strings root
+  read_back good shallow small texts e =
+      let w = stands_alone good shallow small texts e in
+      record {
+        frame = record { at = 0; size = length x; type_at = 5; type_id = 0; body = 6 };
+        first = refl;
+        whole = refl;
+        type_zero = refl;
+        is_record = w.is_record;
+        tree = w.tree;
+        same = w.same;
+        body = w.body;
+        classes = λ k d. described_bare start duration id strings root w.tree k (sym w.same) d;
       }
