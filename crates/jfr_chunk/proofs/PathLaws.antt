@@ -39,12 +39,14 @@ picked_get s xs x (steps.Item i) e = by_mark s.array e
     by_mark false e = cc
 picked_get s xs x steps.Follow e = cc
 
-part_agree : (k m : Classes) (v w : Value) (st : Step) → Fits k v → Agree k m (shape_of v).class → part v st ≡ Some w → Agree k m (shape_of w).class
+-- Lists of classes that agree on a value's class agree on those of its parts.
+pub part_agree : (k m : Classes) (v w : Value) (st : Step) → Fits k v → Agree k m (shape_of v).class → part v st ≡ Some w → Agree k m (shape_of w).class
 part_agree k m v w st f a e =
     let i = picked_get (shape_of v) (parts_of v) w st e in
     all_get (λ w. Agree k m (shape_of w).class) (parts_of v) i.0 w (agree_parts k m v f a) i.1
 
-own_class : (v : Value) (t : ℕ × ℕ) → own_target v ≡ Some t → (shape_of v).class ≡ t.0
+-- A reference names the class of its value.
+pub own_class : (v : Value) (t : ℕ × ℕ) → own_target v ≡ Some t → (shape_of v).class ≡ t.0
 own_class (Single s kind b None) t e = cc
 own_class (Single s kind b (Some key)) t e = let h : (s.class, key) ≡ t = cc in ap (λ z. z.0) h
 own_class (Group s h vs) t e = cc

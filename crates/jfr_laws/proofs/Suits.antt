@@ -1,36 +1,32 @@
 -- Classes that suit what is kept of a chunk: the kept events are events there too, and on each event class of
 -- theirs they agree with the chunk's. Then they agree on all that paths from the kept events lead to.
-use Rattle.std.specs.Prelude.{◌≡◌, ℕ, zero, suc, ◌<◌, Bool, true, false, ◌&&◌, ◌==◌, List, [], ◌∷◌, length, filter, slice_get, slice_range, Option, Some, None, is_some, option_and_then, Contains, if◌then◌else◌, ⊤}
+use Rattle.std.specs.Prelude.{◌≡◌, ℕ, suc, Bool, true, false, ◌&&◌, ◌==◌, List, [], ◌∷◌, filter, slice_get, slice_range, Option, Some, None, is_some, option_and_then, if◌then◌else◌}
 use Rattle.std.specs.Option.{option_map}
-use Rattle.std.specs.List.{AllByRecursion, flat_map}
-use Rattle.std.proofs.Common.{ap, arith, refl, sym, ◌∙◌, subst}
+use Rattle.std.specs.List.{AllByRecursion}
+use Rattle.std.proofs.Common.{ap, refl, sym, ◌∙◌, subst}
 use Rattle.jfr_base.specs.Formats.{Exactly, Format}
 use Rattle.jfr_base.specs.declared.reason.Reason.TheVariants.{PoolType}
-use Rattle.jfr_layout.specs.Classes.{Classes, Sound, Agree, is_event_class, find_class}
+use Rattle.jfr_layout.specs.Classes.{Classes, Sound, Agree, is_event_class}
 use Rattle.jfr_layout.specs.declared.shape.Shape.{Shape}
-use Rattle.jfr_frame.specs.declared.framed.Framed.{Framed}
 use Rattle.jfr_value.specs.declared.node.Step.{Step}
 use Rattle.jfr_value.specs.declared.node.Step.TheVariants as steps
-use Rattle.jfr_value.specs.Values.{Value, Single, Group, shape_of, parts_of, own_target, Fits}
-use Rattle.jfr_value.specs.Reading.{value_format}
-use Rattle.jfr_value.specs.Nodes.{NodeAt, IsNode, picked, child, target, Both}
+use Rattle.jfr_value.specs.Values.{Value, Group, shape_of}
+use Rattle.jfr_value.specs.Nodes.{NodeAt, IsNode, child, target, Both}
 use Rattle.jfr_value.proofs.AgreeLaws.{value_agree}
 use Rattle.jfr_value.proofs.NodeLaws.{part, child_is, target_is}
-use Rattle.jfr_value.proofs.InsideLaws.{agree_parts}
 use Rattle.jfr_pool.specs.declared.entry.EntryAt.{EntryAt}
-use Rattle.jfr_pool.specs.Entries.{in_force, inline, entry_node, number_in_force, pool_check}
-use Rattle.jfr_chunk.specs.Parts.{Parts, EventAt, events_of}
+use Rattle.jfr_pool.specs.Entries.{in_force, inline, entry_node, pool_check}
+use Rattle.jfr_chunk.specs.Parts.{Parts, EventAt}
 use Rattle.jfr_chunk.specs.Paths.{step, leads}
 use Rattle.jfr_chunk.specs.Reach.{Reached, marked}
 use Rattle.jfr_worklist.specs.Marks.{IsMarked}
 use Rattle.jfr_chunk.specs.Written as written_specs
 use Rattle.jfr_chunk.specs.Written.{by_pool, add_entry}
-use Rattle.jfr_chunk.specs.Scrub.{OutputRecord, Whole, Chained, Rebuilt, groups_of}
-use Rattle.jfr_chunk.proofs.AllLaws.{all_get}
+use Rattle.jfr_chunk.specs.Scrub.{OutputRecord, Whole, Chained, Rebuilt}
 use Rattle.jfr_pool.proofs.ForceLaws.{forced, numbered}
 use Rattle.jfr_worklist.specs.Members.{In}
 use Rattle.jfr_worklist.proofs.Members.{contains_in}
-use Rattle.jfr_chunk.proofs.PathLaws.{Standing}
+use Rattle.jfr_chunk.proofs.PathLaws.{Standing, part_agree, own_class}
 use Rattle.jfr_chunk.proofs.StandingLaws.{IsEvent}
 use Rattle.jfr_laws.specs.InChunk.{EntryStands, GroupStands}
 use Rattle.jfr_laws.proofs.OutputRecords.{OutputRecordStands}
@@ -41,29 +37,6 @@ pub record Suits (p : Parts) (kept : List EventAt) (m : Classes) : Type 0 where
   pub agree : (id : ℕ) → is_event_class m id ≡ true → Agree p.classes m id
   pub before : (id : ℕ) → is_event_class m id ≡ true → is_event_class p.classes id ≡ true
   pub event : (e : EventAt) → In kept e → is_event_class m e.record_of.type_id ≡ true
-
-picked_get : {A : Type 0} (s : Shape) (xs : List A) (x : A) (st : Step) → picked s xs st ≡ Some x → (i : ℕ) × (slice_get xs i ≡ Some x)
-picked_get s xs x (steps.Field i) e = by_mark s.array e
-  where
-    by_mark : (t : Bool) → (if t then None else slice_get xs i) ≡ Some x → (i : ℕ) × (slice_get xs i ≡ Some x)
-    by_mark true e = cc
-    by_mark false e = (i, e)
-picked_get s xs x (steps.Item i) e = by_mark s.array e
-  where
-    by_mark : (t : Bool) → (if t then slice_get xs i else None) ≡ Some x → (i : ℕ) × (slice_get xs i ≡ Some x)
-    by_mark true e = (i, e)
-    by_mark false e = cc
-picked_get s xs x steps.Follow e = cc
-
-part_agree : (k m : Classes) (v w : Value) (st : Step) → Fits k v → Agree k m (shape_of v).class → part v st ≡ Some w → Agree k m (shape_of w).class
-part_agree k m v w st f a e =
-    let i = picked_get (shape_of v) (parts_of v) w st e in
-    all_get (λ w. Agree k m (shape_of w).class) (parts_of v) i.0 w (agree_parts k m v f a) i.1
-
-own_class : (v : Value) (t : ℕ × ℕ) → own_target v ≡ Some t → (shape_of v).class ≡ t.0
-own_class (Single s kind b None) t e = cc
-own_class (Single s kind b (Some key)) t e = let h : (s.class, key) ≡ t = cc in ap (λ z. z.0) h
-own_class (Group s h vs) t e = cc
 
 beside : {A B : Type 0} (R : A → B → Type 0) (x : Option A) (y : Option B) (a : A) → Both R x y → x ≡ Some a → (b : B) × (y ≡ Some b) × R a b
 beside R None None a r e = cc
