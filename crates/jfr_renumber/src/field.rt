@@ -3,8 +3,8 @@ ghost use Rattle.std.specs.Prelude.{◌≡◌, ℕ, ◌≤◌, ◌++◌, length,
 ghost use Rattle.jfr_base.specs.Formats.{int_at};
 ghost use Rattle.jfr_layout.specs.Classes.{IsFieldLayout, Sound};
 ghost use Rattle.jfr_layout.specs.declared.form.Form.TheVariants as forms;
-ghost use Rattle.jfr_value.specs.Nodes.{EndsAt, node_at};
-ghost use Rattle.jfr_renumber.specs.Rekeyed.{rekeyed_bytes};
+ghost use Rattle.jfr_value.specs.Nodes.{EndsAt};
+ghost use Rattle.jfr_renumber.specs.Passed.{FieldFollows, IsPassed};
 
 use crate::rewriting::{KEY, NewKeys, put_integer, put_rekeyed};
 use crate::same::{is_zero, text_end};
@@ -51,14 +51,8 @@ pub(crate) fn pass_field<N: NewKeys, L: Ledger>(
     passed: &mut Passed,
     steps: &mut Steps<L>,
 ) -> Result<(), NoMemory>
-    requires sound { Sound context.classes.now }
-    requires layout { IsFieldLayout context.classes.now layout.now }
-    requires from { passed.old.from ≤ passed.old.at }
-    requires order { passed.old.at ≤ context.end }
-    requires within { context.end ≤ length context.bytes.now }
-    requires there { (to : ℕ) × EndsAt context.classes.now context.bytes.now layout.now.shape passed.old.at to × (to ≤ context.end) }
-    ensures ok { OnOk result ((to : ℕ) → EndsAt context.entry.classes.now context.entry.bytes.now layout.now.shape passed.old.at to → to ≤ context.entry.end
-        → (passed.new.at ≡ to) × (passed.new.from ≤ to) × (out.new.items ++ slice_range context.entry.bytes.now passed.new.from to ≡ (out.old.items ++ slice_range context.entry.bytes.now passed.old.from passed.old.at) ++ rekeyed_bytes (N.keys context.entry.new.now) context.entry.classes.now context.entry.bytes.now (node_at layout.now.shape passed.old.at to))) }
+    requires field { FieldFollows context layout.now passed.old }
+    ensures ok { OnOk result (IsPassed N.keys context.entry layout.now out.old.items passed.old out.new.items passed.new) }
 {
     match layout.form {
         Form::Integer | Form::Raw(_) => {
@@ -79,15 +73,9 @@ fn pass_key<N: NewKeys>(
     layout: &FieldLayout,
     passed: &mut Passed,
 ) -> Result<(), NoMemory>
-    requires sound { Sound context.classes.now }
-    requires layout { IsFieldLayout context.classes.now layout.now }
+    requires field { FieldFollows context layout.now passed.old }
     requires key { layout.now.form ≡ forms.Key }
-    requires from { passed.old.from ≤ passed.old.at }
-    requires order { passed.old.at ≤ context.end }
-    requires within { context.end ≤ length context.bytes.now }
-    requires there { (to : ℕ) × EndsAt context.classes.now context.bytes.now layout.now.shape passed.old.at to × (to ≤ context.end) }
-    ensures ok { OnOk result ((to : ℕ) → EndsAt context.entry.classes.now context.entry.bytes.now layout.now.shape passed.old.at to → to ≤ context.entry.end
-        → (passed.new.at ≡ to) × (passed.new.from ≤ to) × (out.new.items ++ slice_range context.entry.bytes.now passed.new.from to ≡ (out.old.items ++ slice_range context.entry.bytes.now passed.old.from passed.old.at) ++ rekeyed_bytes (N.keys context.entry.new.now) context.entry.classes.now context.entry.bytes.now (node_at layout.now.shape passed.old.at to))) }
+    ensures ok { OnOk result (IsPassed N.keys context.entry layout.now out.old.items passed.old out.new.items passed.new) }
 {
     if is_zero(context.bytes, passed.at, context.end) {
         // A law: it does nothing.
@@ -111,15 +99,9 @@ fn pass_text<N: NewKeys>(
     layout: &FieldLayout,
     passed: &mut Passed,
 ) -> Result<(), NoMemory>
-    requires sound { Sound context.classes.now }
-    requires layout { IsFieldLayout context.classes.now layout.now }
+    requires field { FieldFollows context layout.now passed.old }
     requires text { layout.now.form ≡ forms.Text }
-    requires from { passed.old.from ≤ passed.old.at }
-    requires order { passed.old.at ≤ context.end }
-    requires within { context.end ≤ length context.bytes.now }
-    requires there { (to : ℕ) × EndsAt context.classes.now context.bytes.now layout.now.shape passed.old.at to × (to ≤ context.end) }
-    ensures ok { OnOk result ((to : ℕ) → EndsAt context.entry.classes.now context.entry.bytes.now layout.now.shape passed.old.at to → to ≤ context.entry.end
-        → (passed.new.at ≡ to) × (passed.new.from ≤ to) × (out.new.items ++ slice_range context.entry.bytes.now passed.new.from to ≡ (out.old.items ++ slice_range context.entry.bytes.now passed.old.from passed.old.at) ++ rekeyed_bytes (N.keys context.entry.new.now) context.entry.classes.now context.entry.bytes.now (node_at layout.now.shape passed.old.at to))) }
+    ensures ok { OnOk result (IsPassed N.keys context.entry layout.now out.old.items passed.old out.new.items passed.new) }
 {
     if !is_key(context.bytes, passed.at, context.end) {
         passed.at = text_end(context.bytes, passed.at, context.end);
@@ -143,14 +125,8 @@ fn pass_parts<N: NewKeys, L: Ledger>(
     passed: &mut Passed,
     steps: &mut Steps<L>,
 ) -> Result<(), NoMemory>
-    requires sound { Sound context.classes.now }
-    requires layout { IsFieldLayout context.classes.now layout.now }
-    requires from { passed.old.from ≤ passed.old.at }
-    requires order { passed.old.at ≤ context.end }
-    requires within { context.end ≤ length context.bytes.now }
-    requires there { (to : ℕ) × EndsAt context.classes.now context.bytes.now layout.now.shape passed.old.at to × (to ≤ context.end) }
-    ensures ok { OnOk result ((to : ℕ) → EndsAt context.entry.classes.now context.entry.bytes.now layout.now.shape passed.old.at to → to ≤ context.entry.end
-        → (passed.new.at ≡ to) × (passed.new.from ≤ to) × (out.new.items ++ slice_range context.entry.bytes.now passed.new.from to ≡ (out.old.items ++ slice_range context.entry.bytes.now passed.old.from passed.old.at) ++ rekeyed_bytes (N.keys context.entry.new.now) context.entry.classes.now context.entry.bytes.now (node_at layout.now.shape passed.old.at to))) }
+    requires field { FieldFollows context layout.now passed.old }
+    ensures ok { OnOk result (IsPassed N.keys context.entry layout.now out.old.items passed.old out.new.items passed.new) }
 {
     let end = put_parts(out, context, layout, *passed, steps)?;
     passed.at = end;
@@ -168,14 +144,8 @@ fn put_parts<N: NewKeys, L: Ledger>(
     passed: Passed,
     steps: &mut Steps<L>,
 ) -> Result<usize, NoMemory>
-    requires sound { Sound context.classes.now }
-    requires layout { IsFieldLayout context.classes.now layout.now }
-    requires from { passed.from ≤ passed.at }
-    requires order { passed.at ≤ context.end }
-    requires within { context.end ≤ length context.bytes.now }
-    requires there { (to : ℕ) × EndsAt context.classes.now context.bytes.now layout.now.shape passed.at to × (to ≤ context.end) }
-    ensures ok { IfOk result (λ end. (to : ℕ) → EndsAt context.entry.classes.now context.entry.bytes.now layout.now.shape passed.at to → to ≤ context.entry.end
-        → (end ≡ to) × (out.new.items ≡ (out.old.items ++ slice_range context.entry.bytes.now passed.from passed.at) ++ rekeyed_bytes (N.keys context.entry.new.now) context.entry.classes.now context.entry.bytes.now (node_at layout.now.shape passed.at to))) }
+    requires field { FieldFollows context layout.now passed }
+    ensures ok { IfOk result (λ end. IsPassed N.keys context.entry layout.now out.old.items passed out.new.items (record { from = end; at = end })) }
 {
     put_waiting(out, context.bytes, passed)?;
     let end = field_end(context, layout, passed.at);

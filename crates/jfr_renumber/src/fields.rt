@@ -1,11 +1,12 @@
 //! Events and entries with new keys, field by field.
-ghost use Rattle.std.specs.Prelude.{◌≡◌, ℕ, ◌≤◌, ◌++◌, length, IfOk, IsSome, OnOk, Some, map, slice_get, slice_range};
+ghost use Rattle.std.specs.Prelude.{◌≡◌, ℕ, ◌≤◌, ◌++◌, length, IfOk, IsSome, OnOk, Some, map, slice_get};
 ghost use Rattle.std.specs.List.{AllByRecursion};
 ghost use Rattle.jfr_layout.specs.Classes.{IsFieldLayout, Sound, find_class};
 ghost use Rattle.jfr_layout.specs.declared.field_layout.FieldLayout.{FieldLayout};
 ghost use Rattle.jfr_value.specs.Nodes.{EndsAt, IsNode, IsRow, IsValue, node_at, node_of};
 ghost use Rattle.jfr_value.specs.Values.{Value, Values};
 ghost use Rattle.jfr_renumber.specs.Fields.{IsNumber, rekeyed_first};
+ghost use Rattle.jfr_renumber.specs.Passed.{Adds, AddsValue};
 ghost use Rattle.jfr_renumber.specs.Rekeyed.{rekeyed_bytes};
 
 use crate::field::{Passed, RekeyContext, pass_field};
@@ -60,7 +61,7 @@ pub(crate) fn pass_value<N: NewKeys, L: Ledger>(
     requires sound { Sound context.classes.now }
     requires from { start.from ≤ start.at }
     requires value { (v : Value) × IsNode context.classes.now context.bytes.now (node_at shape start.at context.end) v }
-    ensures ok { IfOk result (λ from. (from ≤ context.entry.end) × (out.new.items ++ slice_range context.entry.bytes.now from context.entry.end ≡ (out.old.items ++ slice_range context.entry.bytes.now start.from start.at) ++ rekeyed_bytes (N.keys context.entry.new.now) context.entry.classes.now context.entry.bytes.now (node_at shape start.at context.entry.end))) }
+    ensures ok { IfOk result (λ from. AddsValue N.keys context.entry shape out.old.items start out.new.items from context.entry.end) }
 {
     let layout = layout_of(context.classes, shape);
     match layout.form {
@@ -91,7 +92,7 @@ fn pass_single<N: NewKeys, L: Ledger>(
     requires order { start.at ≤ context.end }
     requires within { context.end ≤ length context.bytes.now }
     requires there { EndsAt context.classes.now context.bytes.now shape start.at context.end }
-    ensures ok { IfOk result (λ from. (from ≤ context.entry.end) × (out.new.items ++ slice_range context.entry.bytes.now from context.entry.end ≡ (out.old.items ++ slice_range context.entry.bytes.now start.from start.at) ++ rekeyed_bytes (N.keys context.entry.new.now) context.entry.classes.now context.entry.bytes.now (node_at shape start.at context.entry.end))) }
+    ensures ok { IfOk result (λ from. AddsValue N.keys context.entry shape out.old.items start out.new.items from context.entry.end) }
 {
     let layout = layout_of(context.classes, shape);
     let mut passed = start;
@@ -110,7 +111,7 @@ fn pass_leaves<N: NewKeys, L: Ledger>(
     requires sound { Sound context.classes.now }
     requires from { start.from ≤ start.at }
     requires value { (v : Value) × IsNode context.classes.now context.bytes.now (node_at shape start.at context.end) v }
-    ensures ok { IfOk result (λ from. (from ≤ context.entry.end) × (out.new.items ++ slice_range context.entry.bytes.now from context.entry.end ≡ (out.old.items ++ slice_range context.entry.bytes.now start.from start.at) ++ rekeyed_bytes (N.keys context.entry.new.now) context.entry.classes.now context.entry.bytes.now (node_at shape start.at context.entry.end))) }
+    ensures ok { IfOk result (λ from. AddsValue N.keys context.entry shape out.old.items start out.new.items from context.entry.end) }
 {
     out.extend_from_slice(&context.bytes[start.from..start.at])?;
     let node = Node {
@@ -137,7 +138,7 @@ fn pass_row<N: NewKeys, L: Ledger>(
     requires from { start.from ≤ start.at }
     requires within { context.end ≤ length context.bytes.now }
     requires row { (vs : Values) × IsRow context.classes.now context.bytes.now start.at context.end (map (λ s. s.shape) layouts.now) vs }
-    ensures ok { IfOk result (λ from. (vs : Values) → IsRow context.entry.classes.now context.entry.bytes.now start.at context.entry.end (map (λ s. s.shape) layouts.now) vs → (from ≤ context.entry.end) × (out.new.items ++ slice_range context.entry.bytes.now from context.entry.end ≡ (out.old.items ++ slice_range context.entry.bytes.now start.from start.at) ++ rekeyed_first (N.keys context.entry.new.now) vs (length layouts.now))) }
+    ensures ok { IfOk result (λ from. (vs : Values) → IsRow context.entry.classes.now context.entry.bytes.now start.at context.entry.end (map (λ s. s.shape) layouts.now) vs → Adds context.entry.bytes.now out.old.items start out.new.items from context.entry.end (rekeyed_first (N.keys context.entry.new.now) vs (length layouts.now))) }
 {
     let count = referring_len(layouts);
     let mut passed = start;

@@ -12,32 +12,27 @@ use Rattle.jfr_renumber.proofs.NumberFields.{unwalked}
 use Rattle.jfr_renumber.proofs.PassedLaws.{row_begun}
 use Rattle.jfr_renumber.proofs.fields.pass_row.Goals as goal
 
-pub pass_field-requires-clause-layout : goal.pass_field-requires-clause-layout
-pass_field-requires-clause-layout g c = layouts_at c.args.context.classes.now c.args.layouts.now c.loop-i.i c.requires.layouts (omega (arith, c.referring_len-count.ensures.within))
-
-pub pass_field-requires-clause-order : goal.pass_field-requires-clause-order
-pass_field-requires-clause-order g c =
-    let ls = c.args.layouts.now in
-    let i = c.loop-i.i in
-    let r = c.requires.row in
-    let f = field_at (g.N.NewKeys.keys c.args.context.new.now) c.args.context.classes.now c.args.context.bytes.now c.args.start.at c.args.context.end (map (λ s. s.shape) ls) r.0 i (get_or ls i no_layout).shape r.1 (shapes_get ls i (get_or ls i no_layout) (layout_there ls i (omega (arith, c.referring_len-count.ensures.within)))) in
-    let a = (c.loop-i.invariant r.0 r.1).0 in
-    let o = f.node.order in
-    let w = f.within in
-    omega arith
-
-pub pass_field-requires-clause-there : goal.pass_field-requires-clause-there
-pass_field-requires-clause-there g c =
+pub pass_field-requires : goal.pass_field-requires
+pass_field-requires g c =
     let ls = c.args.layouts.now in
     let i = c.loop-i.i in
     let r = c.requires.row in
     let s = (get_or ls i no_layout).shape in
     let f = field_at (g.N.NewKeys.keys c.args.context.new.now) c.args.context.classes.now c.args.context.bytes.now c.args.start.at c.args.context.end (map (λ s. s.shape) ls) r.0 i s r.1 (shapes_get ls i (get_or ls i no_layout) (layout_there ls i (omega (arith, c.referring_len-count.ensures.within)))) in
-    let a = (c.loop-i.invariant r.0 r.1).0 in
-    (start_of c.args.start.at r.0 (i + 1), (f.value, subst (λ z. IsNode c.args.context.classes.now c.args.context.bytes.now (node_at s z (start_of c.args.start.at r.0 (i + 1))) f.value) (sym a) f.node), f.within)
-
-pub pass_field-requires-clause-from : goal.pass_field-requires-clause-from
-pass_field-requires-clause-from g c = (c.loop-i.invariant c.requires.row.0 c.requires.row.1).1
+    let a = c.loop-i.invariant r.0 r.1 in
+    let here = a.0 in
+    let o = f.node.order in
+    let w = f.within in
+    record {
+      field = record {
+        sound = c.requires.sound;
+        layout = layouts_at c.args.context.classes.now ls i c.requires.layouts (omega (arith, c.referring_len-count.ensures.within));
+        from = a.1;
+        order = omega arith;
+        within = c.requires.within;
+        there = (start_of c.args.start.at r.0 (i + 1), (f.value, subst (λ z. IsNode c.args.context.classes.now c.args.context.bytes.now (node_at s z (start_of c.args.start.at r.0 (i + 1))) f.value) (sym here) f.node), w);
+      };
+    }
 
 pub loop-i-init : goal.loop-i-init
 loop-i-init g c = λ vs r. row_begun c.args.context.bytes.now c.args.out.now.items c.args.start.from c.args.start.at c.args.context.end c.requires.from r.order
@@ -55,13 +50,14 @@ loop-i-preserved g c = λ vs r.
     let to = start_of c.args.start.at vs (i + 1) in
     let n = subst (λ z. IsNode k x (node_at s z to) f.value) (sym a.0) f.node in
     let w = c.in_ok-pass_field.ensures.ok to (f.value, n) f.within in
+    let written = w.1 in
     let p = c.pass_field.new.passed in
     let old = c.args.out.now.items ++ slice_range x c.args.start.from c.args.start.at in
     let all : c.pass_field.new.out.items ++ slice_range x p.from to ≡ old ++ rekeyed_first new vs (i + 1) =
-    w.2 ∙ (ap (λ z. z ++ rekeyed_bytes new k x (node_at s c.loop-i.passed.at to)) a.3 ∙ (ap (λ z. (old ++ rekeyed_first new vs i) ++ z) (rekeyed_is new k x (node_at s c.loop-i.passed.at to) f.value c.requires.sound n)
+    written.1 ∙ (ap (λ z. z ++ rekeyed_bytes new k x (node_at s c.loop-i.passed.at to)) a.3 ∙ (ap (λ z. (old ++ rekeyed_first new vs i) ++ z) (rekeyed_is new k x (node_at s c.loop-i.passed.at to) f.value c.requires.sound n)
     ∙ (append_assoc old (rekeyed_first new vs i) (bytes_of (rekeyed new f.value)) ∙ ap (λ z. old ++ z) (sym f.next)))) in (
       w.0,
-      subst (λ z. p.from ≤ z) (sym w.0) w.1,
+      subst (λ z. p.from ≤ z) (sym w.0) written.0,
       subst (λ z. z ≤ c.args.context.end) (sym w.0) f.within,
       ap (λ z. c.pass_field.new.out.items ++ slice_range x p.from z) w.0 ∙ all,
     ))

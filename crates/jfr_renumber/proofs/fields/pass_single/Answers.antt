@@ -4,13 +4,19 @@ use Rattle.jfr_value.specs.Nodes.{IsNode, node_at}
 use Rattle.jfr_renumber.specs.Rekeyed.{rekeyed_bytes}
 use Rattle.jfr_renumber.proofs.fields.pass_single.Goals as goal
 
-pub pass_field-requires-clause-layout : goal.pass_field-requires-clause-layout
-pass_field-requires-clause-layout g c = c.layout_of-layout.ensures.known c.requires.known
-
-pub pass_field-requires-clause-there : goal.pass_field-requires-clause-there
-pass_field-requires-clause-there g c =
+pub pass_field-requires : goal.pass_field-requires
+pass_field-requires g c =
     let v = c.requires.there in
-    (c.args.context.end, (v.0, subst (λ z. IsNode c.args.context.classes.now c.args.context.bytes.now (node_at z c.args.start.at c.args.context.end) v.0) (sym c.layout_of-layout.ensures.shape) v.1), omega arith)
+    record {
+      field = record {
+        sound = c.requires.sound;
+        layout = c.layout_of-layout.ensures.known c.requires.known;
+        from = c.requires.from;
+        order = c.requires.order;
+        within = c.requires.within;
+        there = (c.args.context.end, (v.0, subst (λ z. IsNode c.args.context.classes.now c.args.context.bytes.now (node_at z c.args.start.at c.args.context.end) v.0) (sym c.layout_of-layout.ensures.shape) v.1), omega arith);
+      };
+    }
 
 pub returns : goal.returns
 returns g c =
@@ -22,4 +28,4 @@ returns g c =
     let e = c.layout_of-layout.ensures.shape in
     let i : IsNode k x (node_at c.layout_of-layout.result.shape at end) v.0 = subst (λ z. IsNode k x (node_at z at end) v.0) (sym e) v.1 in
     let q = c.in_ok-pass_field.ensures.ok end (v.0, i) (omega arith) in
-    record { ok = (q.1, q.2 ∙ ap (λ z. (c.args.out.now.items ++ slice_range x c.args.start.from at) ++ rekeyed_bytes (g.N.NewKeys.keys c.args.context.new.now) k x (node_at z at end)) e) }
+    record { ok = (q.1.0, q.1.1 ∙ ap (λ z. (c.args.out.now.items ++ slice_range x c.args.start.from at) ++ rekeyed_bytes (g.N.NewKeys.keys c.args.context.new.now) k x (node_at z at end)) e) }
