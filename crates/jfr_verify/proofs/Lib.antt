@@ -8,6 +8,7 @@ mod SizeLaws
 mod SpellingLaws
 mod AddedLaws
 mod WalkLaws
+mod GivenEntries
 mod ReadingLaws
 mod ParentLaws
 mod ClaimLaws

@@ -51,9 +51,7 @@ pub(crate) fn lines_in<L: Ledger>(
     requires some { 0 < blank.parts }
     ensures { IfOk result (λ lines. lines.items.items ≡ lines_of chunk.now) }
 {
-    // A chunk has fewer events, and fewer entries, than bytes.
-    chunk.bytes();
-    let mut lines = Lines::new(alloc, chunk.pools().len())?;
+    let mut lines = no_lines(alloc, chunk)?;
     let mut steps: Steps<L> = Steps::new(blank);
     add_events(&mut lines, chunk);
     add_entries(&mut lines, chunk, &mut steps);
@@ -74,13 +72,21 @@ pub(crate) fn kept_lines_in<L: Ledger>(
     ensures lines { IfOk result (λ lines. lines.items.items ≡ kept_lines chunk.now (kept_by chunk.now kept.now)) }
     ensures size { IfOk result (λ lines. length lines.flags.items ≡ length chunk.now.entries) }
 {
-    // A chunk has fewer events, and fewer entries, than bytes.
-    chunk.bytes();
-    let mut lines = Lines::new(alloc, chunk.pools().len())?;
+    let mut lines = no_lines(alloc, chunk)?;
     let mut steps: Steps<L> = Steps::new(blank);
     add_kept_events(&mut lines, chunk, kept);
     add_entries(&mut lines, chunk, &mut steps);
     Ok(lines)
+}
+
+/// No lines yet of a chunk's receipt. A chunk has fewer events, and fewer entries, than bytes.
+fn no_lines(alloc: Global, chunk: &Chunk<'_>) -> Result<Lines, NoMemory>
+    ensures marks { IfOk result (λ lines. lines.flags.items ≡ no_marks chunk.now) }
+    ensures none { IfOk result (λ lines. lines.items.items ≡ []) }
+    ensures few { length (events_of chunk.now) < 2 ^ 31 }
+{
+    chunk.bytes();
+    Lines::new(alloc, chunk.pools().len())
 }
 
 /// Adds lines for what the kept events refer to, one event after another.

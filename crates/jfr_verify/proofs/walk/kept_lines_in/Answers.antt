@@ -1,17 +1,7 @@
-use Rattle.std.proofs.Common.{◌≡◌, length, arith, ap, ◌∙◌}
 use Rattle.jfr_chunk.specs.Reach.{kept_by, roots}
-use Rattle.jfr_verify.proofs.SizeLaws.{few_entries, few_events}
 use Rattle.jfr_verify.proofs.KeptWalkLaws.{kept_lines_end}
 use Rattle.jfr_verify.proofs.WalkLaws.{no_marks_size}
 use Rattle.jfr_verify.proofs.walk.kept_lines_in.Goals as goal
-
-pub new-requires : goal.new-requires
-new-requires g c =
-    let n : c.len.result ≡ length c.args.chunk.now.entries = c.len.ensures ∙ ap length c.pools.ensures in
-    omega (arith, few_entries c.args.chunk.now c.bytes.ensures.whole c.bytes.ensures.parts)
-
-pub add_kept_events-requires-clause-few : goal.add_kept_events-requires-clause-few
-add_kept_events-requires-clause-few g c = omega (arith, few_events c.args.chunk.now c.bytes.ensures.whole c.bytes.ensures.parts)
 
 pub add_entries-requires : goal.add_entries-requires
 add_entries-requires g c = record { size = no_marks_size c.args.chunk.now c.add_kept_events.new.lines.flags.items (roots c.args.chunk.now (kept_by c.args.chunk.now c.args.kept.now)) c.add_kept_events.ensures.marks }
