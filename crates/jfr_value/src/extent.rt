@@ -305,11 +305,12 @@ fn compound_end<C, V: Visit<C>>(
     }
 }
 
-/// The offset after values with these layouts, one after another.
+/// The offset after values with these layouts, one after another. This is never inlined, which keeps the walk
+/// over a single value small.
 #[cycle(ends)]
 #[tactic(auto, using(jfr_base::proofs::SeenLaws::ends), unfolding(jfr_base::specs::Formats::run, crate::specs::Reading::class_format))]
-#[inline(always)]
-fn row_end<C, V: Visit<C>>(
+#[inline(never)]
+pub(crate) fn fields_end<C, V: Visit<C>>(
     walk: &Walk<'_, '_, C>,
     layouts: &[FieldLayout],
     at: usize,
@@ -330,29 +331,6 @@ fn row_end<C, V: Visit<C>>(
         to = layout_end(walk, layout, to, levels, visitor)?;
     }
     Ok(to)
-}
-
-/// As `row_end`, but never inlined: this keeps the walk over a single value small.
-#[cycle(ends)]
-#[tactic(auto, using(jfr_base::proofs::SeenLaws::ends), unfolding(jfr_base::specs::Formats::run, crate::specs::Reading::class_format))]
-#[inline(never)]
-pub(crate) fn fields_end<C, V: Visit<C>>(
-    walk: &Walk<'_, '_, C>,
-    layouts: &[FieldLayout],
-    at: usize,
-    levels: u32,
-    visitor: &mut V,
-) -> Result<usize, Flaw>
-    requires layouts { AllByRecursion (IsFieldLayout walk.now.classes.now) layouts.now }
-    requires room { AllByRecursion (λ s. Room walk.now.classes.now levels s.shape) layouts.now }
-    requires order { at ≤ walk.now.end }
-    requires ready { V.ready visitor.old walk.now.with.now }
-    ensures exact { result ≡ seen (run (row_format (levels + 1) walk.now.classes.now layouts.now) walk.now.bytes.now walk.now.end at) }
-    ensures range { IfOk result (λ to. (at ≤ to) × (to ≤ walk.now.end)) }
-    ensures visited { TakesReadAll (V.takes walk.now.with.now) (run (row_format (levels + 1) walk.now.classes.now layouts.now) walk.now.bytes.now walk.now.end at) visitor.old visitor.new }
-    ensures ready { V.ready visitor.new walk.now.with.now }
-{
-    row_end(walk, layouts, at, levels, visitor)
 }
 
 /// The offset after the fields of an event, or of another value that isn't part of one. Each group of fused

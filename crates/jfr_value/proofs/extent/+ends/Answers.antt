@@ -44,15 +44,15 @@ pub compound_end-returns-in_ok-to-in-Fields-clause-visited : goal.compound_end-r
 compound_end-returns-in_ok-to-in-Fields-clause-visited g t c =
     fields_go c.args.walk.now.classes.now c.args.layout.now c.args.levels c.args.walk.now.bytes.now c.args.walk.now.end c.args.at c.requires.placed (g.V.Visit.takes c.args.walk.now.with.now) c.args.visitor.now c.fields_end.new.visitor c.layouts-fields.result.now c.in-Fields.is c.requires.room c.layouts-fields.ensures.exact c.fields_end.ensures.visited
 
-pub row_end-returns-in_err-to : goal.row_end-returns-in_err-to
-row_end-returns-in_err-to g t c =
+pub fields_end-returns-in_err-to : goal.fields_end-returns-in_err-to
+fields_end-returns-in_err-to g t c =
     let p = err_from_is_err_and c.from_residual.result c.from_residual.ensures.1 in
     let e = after_err _ _ _ _ _ (each_step (λ s. shape_format (class_format (c.args.levels + 1) c.args.walk.now.classes.now) s.shape) c.args.layouts.now c.loop-layout.layout-index (get_or c.args.layouts.now c.loop-layout.layout-index no_layout) c.args.walk.now.bytes.now c.args.walk.now.end c.loop-layout.to (layout_there c.args.layouts.now c.loop-layout.layout-index c.loop-layout-test.true))
     (sym c.layout_end.ensures.exact ∙ c.in_err-to.was) c.loop-layout.invariant.same in
     record { exact = rw (p.1, p.2) e; range = rw (p.1) tt; visited = no_value _ _ _ e; ready = c.layout_end.ensures.ready }
 
-pub row_end-loop-layout-preserved : goal.row_end-loop-layout-preserved
-row_end-loop-layout-preserved g t c =
+pub fields_end-loop-layout-preserved : goal.fields_end-loop-layout-preserved
+fields_end-loop-layout-preserved g t c =
     let f : FieldLayout → Format Value = λ s. shape_format (class_format (c.args.levels + 1) c.args.walk.now.classes.now) s.shape in
     let there = layout_there c.args.layouts.now c.loop-layout.layout-index c.loop-layout-test.true in
     let ends = sym c.layout_end.ensures.exact ∙ c.in_ok-to.was in

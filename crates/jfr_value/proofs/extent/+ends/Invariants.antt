@@ -14,14 +14,11 @@ decreases-compound_end g l = 7 * l.levels + (if l.layout.now.shape.array then 3 
 abbrev pub decreases-array_end : goal.decreases-array_end
 decreases-array_end g l = 7 * l.levels + 2
 
-abbrev pub decreases-row_end : goal.decreases-row_end
-decreases-row_end g l = 7 * l.levels + 5
-
 abbrev pub decreases-fields_end : goal.decreases-fields_end
-decreases-fields_end g l = 7 * l.levels + 6
+decreases-fields_end g l = 7 * l.levels + 5
 
-abbrev pub invariant-row_end-loop-layout : goal.invariant-row_end-loop-layout
-invariant-row_end-loop-layout g l = record {
+abbrev pub invariant-fields_end-loop-layout : goal.invariant-fields_end-loop-layout
+invariant-fields_end-loop-layout g l = record {
   from : l.at ≤ l.to;
   upto : l.to ≤ l.walk.end;
   same : seen (run (for_each (drop l.layout-index l.layouts) (λ s. shape_format (class_format (l.levels + 1) l.walk.classes.now) s.shape)) l.walk.bytes.now l.walk.end l.to)
