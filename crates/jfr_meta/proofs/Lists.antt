@@ -28,25 +28,6 @@ filter_in p (y ∷ xs) x i e = by_test (p y) refl i (λ i. filter_in p xs x i e)
     by_test false q (inl h) f = let z : true ≡ false = sym e ∙ (ap p (sym h) ∙ q) in cc
     by_test false q (inr i) f = f i
 
-pub filter_map_in : {A B : Type 0} (f : A → Option B) (xs : List A) (x : A) (y : B) → In xs x → f x ≡ Some y → In (filter_map f xs) y
-filter_map_in f [] x y i e = absurd i
-filter_map_in {B = B} f (z ∷ xs) x y i e = by_value (f z) refl i (λ j. filter_map_in f xs x y j e)
-  where
-    by_value : (o : Option B) → f z ≡ o → (z ≡ x) ⊎ In xs x → (In xs x → In (filter_map f xs) y) → In (cons_option o (filter_map f xs)) y
-    by_value None q (inl h) k = cc (ap f h)
-    by_value (Some w) q (inl h) k = inl (cc (ap f h))
-    by_value None q (inr j) k = k j
-    by_value (Some w) q (inr j) k = inr (k j)
-
-pub in_filter_map : {A B : Type 0} (f : A → Option B) (xs : List A) (y : B) → In (filter_map f xs) y → (x : A) × In xs x × (f x ≡ Some y)
-in_filter_map f [] y i = absurd i
-in_filter_map {A = A} {B = B} f (z ∷ xs) y i = by_value (f z) refl i (λ j. in_filter_map f xs y j)
-  where
-    by_value : (o : Option B) → f z ≡ o → In (cons_option o (filter_map f xs)) y → (In (filter_map f xs) y → (x : A) × In xs x × (f x ≡ Some y)) → (x : A) × In (z ∷ xs) x × (f x ≡ Some y)
-    by_value None q j k = let r = k j in (r.0, inr r.1, r.2)
-    by_value (Some w) q (inl h) k = (z, inl refl, q ∙ ap (λ u. Some u) h)
-    by_value (Some w) q (inr j) k = let r = k j in (r.0, inr r.1, r.2)
-
 pub all_members : {X : Type 0} (P : X → Type 0) (xs : List X) → ((x : X) → In xs x → P x) → AllByRecursion P xs
 all_members P [] f = tt
 all_members P (x ∷ xs) f = (f x (inl refl), all_members P xs (λ y i. f y (inr i)))

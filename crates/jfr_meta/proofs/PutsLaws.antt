@@ -1,5 +1,5 @@
 -- What is put one after another.
-use Rattle.std.specs.Prelude.{◌≡◌, ◌↔◌, ℕ, zero, suc, ◌+◌, ◌<◌, ◌≤◌, Bool, true, false, not, ◌&&◌, ◌||◌, ◌==◌, nat_lt, List, [], ◌∷◌, ◌++◌, length, take, map, filter, replicate, slice_get, slice_index, Option, Some, None, IfSome, if◌then◌else◌, codes}
+use Rattle.std.specs.Prelude.{◌≡◌, ℕ, zero, suc, ◌+◌, ◌<◌, ◌≤◌, Bool, true, false, not, ◌&&◌, ◌||◌, ◌==◌, nat_lt, List, [], ◌∷◌, ◌++◌, length, take, map, filter, replicate, slice_get, slice_index, Option, Some, None, IfSome, if◌then◌else◌, codes}
 use Rattle.std.specs.List.{flat_map, filter_map, cons_option}
 use Rattle.std.specs.Option.{option_map_or, option_to_list}
 use Rattle.std.proofs.Common.{ap, refl, sym, ◌∙◌, arith, subst, append-nil}
@@ -13,43 +13,17 @@ use Rattle.jfr_layout.proofs.Lists.{take_next, present}
 use Rattle.jfr_layout.proofs.SoundLaws.{stand_once}
 use Rattle.jfr_meta.specs.Trees.{Tree, Node, Trees, Nil, Cons, list_of, children_of}
 use Rattle.jfr_meta.specs.Described.{id_attribute}
-use Rattle.jfr_worklist.specs.Marks.{add, those, is_marked, IsMarked, marked_at, led_to, swept}
+use Rattle.jfr_worklist.specs.Marks.{those, is_marked, marked_at, swept}
 use Rattle.jfr_worklist.specs.Worklists.{ordered_all}
 use Rattle.jfr_worklist.specs.Putting.{Puts}
 use Rattle.jfr_meta.specs.Stays.{below, all_below, ids_below, ids_with, first_ids, next_classes, stay_marks, marked_below}
 use Rattle.jfr_worklist.specs.declared.worklist.Worklist.{Worklist}
-use Rattle.jfr_worklist.proofs.Members.{in_those}
+use Rattle.jfr_worklist.proofs.Members.{in_those, those_append}
 use Rattle.jfr_worklist.proofs.SweepLaws.{AllBelow, marks_reach}
-use Rattle.jfr_worklist.proofs.WalkLaws.{Walking, all_size, walking_ends, started, went_on}
+use Rattle.jfr_worklist.proofs.MarkLaws.{all_size, same_flags, swept_size}
+use Rattle.jfr_worklist.proofs.PuttingLaws.{puts_then, puts_size}
+use Rattle.jfr_worklist.proofs.WalkLaws.{Walking, walking_ends, started, went_on}
 use Rattle.jfr_meta.proofs.StayLaws.{index_at}
-
-marked_append : (f : List Bool) (xs ys : List ℕ) → marked_at f (xs ++ ys) ≡ marked_at (marked_at f xs) ys
-marked_append f [] ys = refl
-marked_append f (x ∷ xs) ys = marked_append _ xs ys
-
-ordered_append : (f : List Bool) (o xs ys : List ℕ) → ordered_all f o (xs ++ ys) ≡ ordered_all (marked_at f xs) (ordered_all f o xs) ys
-ordered_append f o [] ys = refl
-ordered_append f o (x ∷ xs) ys = ordered_append _ _ xs ys
-
-pub puts_none : (a : Worklist) → Puts [] a a
-puts_none a = record { marks = refl; order = refl }
-
-pub puts_then : (xs ys : List ℕ) (a b c : Worklist) → Puts xs a b → Puts ys b c → Puts (xs ++ ys) a c
-puts_then xs ys a b c p q = record {
-  marks = q.marks ∙ (ap (λ z. marked_at z ys) p.marks ∙ sym (marked_append a.flags.items xs ys));
-  order = q.order ∙ (ap (λ z. ordered_all z b.order.items ys) p.marks ∙ (ap (λ z. ordered_all (marked_at a.flags.items xs) z ys) p.order ∙ sym (ordered_append a.flags.items a.order.items xs ys)));
-}
-
-pub puts_size : (xs : List ℕ) (a b : Worklist) → Puts xs a b → length b.flags.items ≡ length a.flags.items
-puts_size xs a b p = ap length p.marks ∙ all_size a.flags.items xs
-
-pub those_append : {A : Type 0} (f : A → Option ℕ) (xs ys : List A) → those f (xs ++ ys) ≡ those f xs ++ those f ys
-those_append f [] ys = refl
-those_append f (x ∷ xs) ys = by_value (f x) (those_append f xs ys)
-  where
-    by_value : (o : Option ℕ) → those f (xs ++ ys) ≡ those f xs ++ those f ys → add o (those f (xs ++ ys)) ≡ add o (those f xs) ++ those f ys
-    by_value None e = e
-    by_value (Some y) e = ap (λ z. y ∷ z) e
 
 -- Ids that are put one after another.
 pub ids_then : (k : Classes) (xs ys : List ℕ) (a b c : Worklist) → Puts (those (class_index k) xs) a b → Puts (those (class_index k) ys) b c → Puts (those (class_index k) (xs ++ ys)) a c
@@ -149,25 +123,9 @@ module _ (texts : List (List ℕ)) (ts : List Tree) (k : Classes) (used : ℕ �
   going_on a b at j h w e p =
       went_on (length k) next roots (λ i. 0) (those_below (first_ids k used)) next_below 0 a.flags.items b.flags.items a.order.items b.order.items at 0 0 j h w e p.marks p.order (omega arith)
 
-  same_flags : (f g : List Bool) → length f ≡ length g → ((i : ℕ) → IsMarked f i ↔ IsMarked g i) → f ≡ g
-  same_flags [] [] l h = refl
-  same_flags [] (b ∷ g) l h = absurd (omega arith)
-  same_flags (a ∷ f) [] l h = absurd (omega arith)
-  same_flags (a ∷ f) (b ∷ g) l h = by_flag a b (h 0) (same_flags f g (omega arith) (λ i. h (suc i)))
-    where
-      by_flag : (a b : Bool) → (a ≡ true) ↔ (b ≡ true) → f ≡ g → a ∷ f ≡ b ∷ g
-      by_flag true true k e = ap (λ z. true ∷ z) e
-      by_flag false false k e = ap (λ z. false ∷ z) e
-      by_flag true false k e = let z : false ≡ true = k.0 refl in cc
-      by_flag false true k e = let z : false ≡ true = k.1 refl in cc
-
-  length_swept : (n : ℕ) (ms : List Bool) → length (swept n next ms) ≡ length ms
-  length_swept zero ms = refl
-  length_swept (suc n) ms = all_size (swept n next ms) (led_to (swept n next ms) next) ∙ length_swept n ms
-
   pub marks_size : length (stay_marks texts ts k used) ≡ length k
   unfolding stay_marks
-  marks_size = length_swept (length k) (marked_at (replicate (length k) false) roots) ∙ (all_size (replicate (length k) false) roots ∙ length-replicate (length k) false)
+  marks_size = swept_size next (length k) (marked_at (replicate (length k) false) roots) ∙ (all_size (replicate (length k) false) roots ∙ length-replicate (length k) false)
 
   pub going_ends : (a : Worklist) (at : ℕ) → length a.order.items ≤ at → Going a.flags.items a.order.items at → a.flags.items ≡ stay_marks texts ts k used
   unfolding stay_marks
@@ -176,6 +134,15 @@ module _ (texts : List (List ℕ)) (ts : List Tree) (k : Classes) (used : ℕ �
       let m = marks_reach (length k) next roots (those_below (first_ids k used)) next_below in
       same_flags a.flags.items (swept (length k) next (marked_at (replicate (length k) false) roots)) (e.size ∙ sym marks_size)
       (λ i. ((λ g. (m i).1 ((e.exact i).0 g)), (λ g. (e.exact i).1 ((m i).0 g))))
+
+-- Anything and false is false, and anything or false is the same.
+never : (b : Bool) → (b && false) ≡ false
+never true = refl
+never false = refl
+
+keep : (b : Bool) → (b || false) ≡ b
+keep true = refl
+keep false = refl
 
 -- The ids of the classes that are marked, one by one.
 module _ (marks : List Bool) (k : Classes) (sound : Sound k) where
@@ -205,14 +172,6 @@ module _ (marks : List Bool) (k : Classes) (sound : Sound k) where
   pub below_next : (at id : ℕ) (c : Class) → slice_get k at ≡ Some c → marked_below marks k (at + 1) id ≡ (marked_below marks k at id || ((c.id == id) && is_marked marks at))
   below_next at id c e = by_index (class_index k id) refl
     where
-      never : (b : Bool) → (b && false) ≡ false
-      never true = refl
-      never false = refl
-
-      keep : (b : Bool) → (b || false) ≡ b
-      keep true = refl
-      keep false = refl
-
       own : class_index k c.id ≡ Some at
       own = ((stand_once k sound).id at c e).0
 
@@ -273,11 +232,3 @@ module _ (marks : List Bool) (k : Classes) (sound : Sound k) (at id : ℕ) (c : 
   pub not_added : (old : Bool) → old ≡ marked_below marks k at id → is_marked marks at ≡ false → old ≡ marked_below marks k (at + 1) id
   not_added old f m =
       f ∙ sym (below_next marks k sound at id c there ∙ (ap (λ b. marked_below marks k at id || b) (ap (λ b. (c.id == id) && b) m ∙ never (c.id == id)) ∙ keep (marked_below marks k at id)))
-    where
-      never : (b : Bool) → (b && false) ≡ false
-      never true = refl
-      never false = refl
-
-      keep : (b : Bool) → (b || false) ≡ b
-      keep true = refl
-      keep false = refl

@@ -17,8 +17,8 @@ use Rattle.jfr_layout.specs.Staying.{staying, IsClosed}
 use Rattle.jfr_meta.specs.Stays.{below, all_below, ids_below, HasHead}
 use Rattle.jfr_meta.specs.Slimmed.{is_named, head_stays, element_stays, first_changed, slim_holder, slim_root}
 use Rattle.jfr_worklist.specs.Members.{In}
-use Rattle.jfr_worklist.proofs.Members.{get_in, in_contains, in_right}
-use Rattle.jfr_meta.proofs.Lists.{in_filter, in_filter_map, filter_map_in, all_members, all_in, filter_both, filter_map_filter, same_filter_map, same_find}
+use Rattle.jfr_worklist.proofs.Members.{get_in, in_contains, in_right, filter_map_in, in_filter_map}
+use Rattle.jfr_meta.proofs.Lists.{in_filter, all_members, all_in, filter_both, filter_map_filter, same_filter_map, same_find}
 
 -- The first that passes, changed, is the first that passes among those of which it was changed.
 find_changed : {A : Type 0} (p : A → Bool) (f : A → A) → ((x : A) → p (f x) ≡ p x) → (xs : List A) → find p (first_changed p f xs) ≡ option_map f (find p xs)

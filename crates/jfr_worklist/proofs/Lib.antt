@@ -5,3 +5,5 @@ pub mod Counts
 pub mod ClosureLaws
 pub mod PutLaws
 pub mod WalkLaws
+pub mod MarkLaws
+pub mod PuttingLaws

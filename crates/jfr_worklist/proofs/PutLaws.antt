@@ -1,10 +1,10 @@
 -- Marks in a list of flags, and numbers in the order of their marking.
-use Rattle.std.specs.Prelude.{◌≡◌, ◌≢◌, ℕ, zero, suc, ◌+◌, ◌<◌, ◌≤◌, Bool, true, false, List, [], ◌∷◌, ◌++◌, length, replicate, drop, slice_set, if◌then◌else◌, ◌⊎◌}
-use Rattle.std.proofs.Common.{ap, arith, refl, sym, ◌∙◌, inl, inr}
-use Rattle.std.proofs.lemmas.List.{get_or-set_same, get_or-set_other, length-set, length-append}
-use Rattle.std.proofs.lemmas.Bool.{cases_lt}
+use Rattle.std.specs.Prelude.{◌≡◌, ℕ, zero, suc, ◌+◌, ◌<◌, ◌≤◌, Bool, true, false, List, [], ◌∷◌, ◌++◌, length, replicate, drop, slice_set, if◌then◌else◌, ◌⊎◌}
+use Rattle.std.proofs.Common.{ap, arith, refl, sym, inl, inr}
+use Rattle.std.proofs.lemmas.List.{length-set, length-append}
 use Rattle.jfr_worklist.specs.Marks.{is_marked, IsMarked, marked_at}
 use Rattle.jfr_worklist.specs.Members.{In}
+use Rattle.jfr_worklist.proofs.MarkLaws.{set_here, set_stays, set_only, set_old}
 use Rattle.jfr_worklist.proofs.SweepLaws.{AllBelow}
 use Rattle.jfr_worklist.specs.Worklists.{ordered, ordered_all}
 use Rattle.jfr_worklist.proofs.ClosureLaws.{Work, work_puts}
@@ -18,31 +18,6 @@ weigh (false ∷ ms) w = weigh ms (λ i. w (suc i))
 abbrev pub waiting : List ℕ → (ℕ → ℕ) → ℕ
 waiting [] w = 0
 waiting (i ∷ is) w = w i + waiting is w
-
-same_or_not : (i j : ℕ) → (j ≡ i) ⊎ (i ≢ j)
-same_or_not i j = by_less (cases_lt i j) (cases_lt j i)
-  where
-    by_less : ((i < j) ⊎ (j ≤ i)) → ((j < i) ⊎ (i ≤ j)) → (j ≡ i) ⊎ (i ≢ j)
-    by_less (inl h) r = inr (λ e. omega arith)
-    by_less (inr h) (inl k) = inr (λ e. omega arith)
-    by_less (inr h) (inr k) = inl (omega arith)
-
-set_here : (ms : List Bool) (j : ℕ) → j < length ms → IsMarked (slice_set ms j true) j
-set_here ms j h = get_or-set_same ms j true false h
-
-set_grows : (ms : List Bool) (j i : ℕ) → IsMarked ms i → IsMarked (slice_set ms j true) i
-set_grows [] j i m = cc
-set_grows (b ∷ ms) zero zero m = refl
-set_grows (b ∷ ms) zero (suc i) m = m
-set_grows (b ∷ ms) (suc j) zero m = m
-set_grows (b ∷ ms) (suc j) (suc i) m = set_grows ms j i m
-
-set_only : (ms : List Bool) (j i : ℕ) → IsMarked (slice_set ms j true) i → IsMarked ms i ⊎ (j ≡ i)
-set_only ms j i m = by_case (same_or_not i j)
-  where
-    by_case : (j ≡ i) ⊎ (i ≢ j) → IsMarked ms i ⊎ (j ≡ i)
-    by_case (inl e) = inr e
-    by_case (inr n) = inl (sym (get_or-set_other ms j i true false n) ∙ m)
 
 -- What is listed from a place on.
 put_up : (ms : List Bool) (order : List ℕ) (at j i : ℕ) → at ≤ length order → In (drop at order) i → In (drop at (ordered ms order j)) i
@@ -91,7 +66,8 @@ put_new ms order at j h = by_mark (is_marked ms j) refl
     by_mark true e = inl e
     by_mark false e = inr (last at order h)
 
-put_longer : (ms : List Bool) (order : List ℕ) (at j : ℕ) → at ≤ length order → at ≤ length (ordered ms order j)
+-- A place in the order is one after a number is put, too.
+pub put_longer : (ms : List Bool) (order : List ℕ) (at j : ℕ) → at ≤ length order → at ≤ length (ordered ms order j)
 put_longer ms order at j h = by_mark (is_marked ms j)
   where
     by_mark : (b : Bool) → at ≤ length (if b then order else order ++ (j ∷ []))
@@ -106,7 +82,7 @@ work_all next roots ms order at (j ∷ left) h b w =
     let l : length (slice_set ms j true) ≡ length ms = length-set ms j true in
     work_all next roots (slice_set ms j true) (ordered ms order j) at left (put_longer ms order at j h) (λ i k. (let m : i < length ms = b i (inr k) in omega arith))
     (work_puts next roots (IsMarked ms) (IsMarked (slice_set ms j true)) (In (drop at order)) (In (drop at (ordered ms order j))) j left w
-    (set_grows ms j) (set_here ms j (b j (inl refl))) (set_only ms j) (λ i. put_up ms order at j i h) (λ i. put_down ms order at j i h) (put_new ms order at j h))
+    (set_stays ms j) (set_here ms j (b j (inl refl))) (set_only ms j) (λ i. put_up ms order at j i h) (λ i. put_down ms order at j i h) (put_new ms order at j h))
 
 -- Weights.
 weigh_set : (ms : List Bool) (j : ℕ) (w : ℕ → ℕ) → j < length ms → is_marked ms j ≡ false → weigh (slice_set ms j true) w ≡ weigh ms w + w j
@@ -115,11 +91,6 @@ weigh_set (true ∷ ms) zero w h m = cc
 weigh_set (false ∷ ms) zero w h m = omega arith
 weigh_set (true ∷ ms) (suc j) w h m = let i : weigh (slice_set ms j true) (λ i. w (suc i)) ≡ weigh ms (λ i. w (suc i)) + w (suc j) = weigh_set ms j (λ i. w (suc i)) (omega arith) m in omega arith
 weigh_set (false ∷ ms) (suc j) w h m = weigh_set ms j (λ i. w (suc i)) (omega arith) m
-
-set_marked : (ms : List Bool) (j : ℕ) → IsMarked ms j → slice_set ms j true ≡ ms
-set_marked [] j m = cc
-set_marked (b ∷ ms) zero m = ap (λ z. z ∷ ms) (sym m)
-set_marked (b ∷ ms) (suc j) m = ap (λ z. b ∷ z) (set_marked ms j m)
 
 waiting_more : (xs : List ℕ) (j : ℕ) (w : ℕ → ℕ) → waiting (xs ++ (j ∷ [])) w ≡ waiting xs w + w j
 waiting_more [] j w = omega arith
@@ -130,7 +101,7 @@ put_weighs : (ms : List Bool) (order : List ℕ) (j : ℕ) (w : ℕ → ℕ) →
 put_weighs ms order j w h = by_mark (is_marked ms j) refl
   where
     by_mark : (b : Bool) → is_marked ms j ≡ b → waiting (if b then order else order ++ (j ∷ [])) w + weigh ms w ≡ waiting order w + weigh (slice_set ms j true) w
-    by_mark true e = ap (λ z. waiting order w + weigh z w) (sym (set_marked ms j e))
+    by_mark true e = ap (λ z. waiting order w + weigh z w) (sym (set_old ms j e))
     by_mark false e = (let a = waiting_more order j w in let b = weigh_set ms j w h e in omega arith)
 
 pub all_weigh : (ms : List Bool) (order left : List ℕ) (w : ℕ → ℕ) → AllBelow (length ms) left → waiting (ordered_all ms order left) w + weigh ms w ≡ waiting order w + weigh (marked_at ms left) w

@@ -1,11 +1,8 @@
 -- Rounds that only add marks change nothing after n rounds, if there are n flags.
 use Rattle.std.specs.Prelude.{◌≡◌, ℕ, zero, suc, ◌<◌, ◌≤◌, List, [], ◌∷◌, length, Bool, true, false, ◌⊎◌, ⊤}
 use Rattle.std.proofs.Common.{ap, arith, refl, sym, ◌∙◌, inl, inr}
-
-abbrev pub count : List Bool → ℕ
-count [] = 0
-count (true ∷ ms) = suc (count ms)
-count (false ∷ ms) = count ms
+use Rattle.jfr_worklist.specs.Worklists.{marked_count}
+use Rattle.jfr_worklist.proofs.Counts.{count_le}
 
 -- What is marked stays marked.
 abbrev pub Grows : List Bool → List Bool → Type 0
@@ -14,28 +11,23 @@ Grows [] (n ∷ ns) = ⊥
 Grows (m ∷ ms) [] = ⊥
 Grows (m ∷ ms) (n ∷ ns) = (m ≡ true → n ≡ true) × Grows ms ns
 
-count_le : (ms : List Bool) → count ms ≤ length ms
-count_le [] = omega arith
-count_le (true ∷ ms) = omega (arith, count_le ms)
-count_le (false ∷ ms) = omega (arith, count_le ms)
-
 same_length : (ms ns : List Bool) → Grows ms ns → length ms ≡ length ns
 same_length [] [] g = refl
 same_length [] (n ∷ ns) g = absurd g
 same_length (m ∷ ms) [] g = absurd g
 same_length (m ∷ ms) (n ∷ ns) g = ap (λ z. suc z) (same_length ms ns g.1)
 
-same_or_more : (ms ns : List Bool) → Grows ms ns → (ms ≡ ns) ⊎ (count ms < count ns)
+same_or_more : (ms ns : List Bool) → Grows ms ns → (ms ≡ ns) ⊎ (marked_count ms < marked_count ns)
 same_or_more [] [] g = inl refl
 same_or_more [] (n ∷ ns) g = absurd g
 same_or_more (m ∷ ms) [] g = absurd g
 same_or_more (m ∷ ms) (n ∷ ns) g = by_case m n g.0 (same_or_more ms ns g.1)
   where
-    le : ((ms ≡ ns) ⊎ (count ms < count ns)) → count ms ≤ count ns
-    le (inl e) = let h : count ms ≡ count ns = ap count e in omega arith
+    le : ((ms ≡ ns) ⊎ (marked_count ms < marked_count ns)) → marked_count ms ≤ marked_count ns
+    le (inl e) = let h : marked_count ms ≡ marked_count ns = ap marked_count e in omega arith
     le (inr h) = omega arith
 
-    by_case : (a b : Bool) → (a ≡ true → b ≡ true) → ((ms ≡ ns) ⊎ (count ms < count ns)) → (a ∷ ms ≡ b ∷ ns) ⊎ (count (a ∷ ms) < count (b ∷ ns))
+    by_case : (a b : Bool) → (a ≡ true → b ≡ true) → ((ms ≡ ns) ⊎ (marked_count ms < marked_count ns)) → (a ∷ ms ≡ b ∷ ns) ⊎ (marked_count (a ∷ ms) < marked_count (b ∷ ns))
     by_case true true h (inl e) = inl (ap (λ z. true ∷ z) e)
     by_case true true h (inr l) = inr (omega arith)
     by_case false false h (inl e) = inl (ap (λ z. false ∷ z) e)
@@ -48,12 +40,12 @@ module _ (next : List Bool → List Bool) (grows : (ms : List Bool) → Grows ms
   rounds zero ms = ms
   rounds (suc n) ms = next (rounds n ms)
 
-  rests_or_many : (n : ℕ) (ms : List Bool) → (next (rounds n ms) ≡ rounds n ms) ⊎ (n ≤ count (rounds n ms))
+  rests_or_many : (n : ℕ) (ms : List Bool) → (next (rounds n ms) ≡ rounds n ms) ⊎ (n ≤ marked_count (rounds n ms))
   rests_or_many zero ms = inr (omega arith)
   rests_or_many (suc n) ms = by_case (rests_or_many n ms) (same_or_more (rounds n ms) (next (rounds n ms)) (grows (rounds n ms)))
     where
-      by_case : ((next (rounds n ms) ≡ rounds n ms) ⊎ (n ≤ count (rounds n ms))) → ((rounds n ms ≡ next (rounds n ms)) ⊎ (count (rounds n ms) < count (next (rounds n ms))))
-          → (next (next (rounds n ms)) ≡ next (rounds n ms)) ⊎ (suc n ≤ count (next (rounds n ms)))
+      by_case : ((next (rounds n ms) ≡ rounds n ms) ⊎ (n ≤ marked_count (rounds n ms))) → ((rounds n ms ≡ next (rounds n ms)) ⊎ (marked_count (rounds n ms) < marked_count (next (rounds n ms))))
+          → (next (next (rounds n ms)) ≡ next (rounds n ms)) ⊎ (suc n ≤ marked_count (next (rounds n ms)))
       by_case (inl e) r = inl (ap next e)
       by_case (inr l) (inl e) = inl (ap next (sym e))
       by_case (inr l) (inr m) = inr (omega arith)
@@ -65,8 +57,8 @@ module _ (next : List Bool → List Bool) (grows : (ms : List Bool) → Grows ms
   pub rests : (ms : List Bool) → next (rounds (length ms) ms) ≡ rounds (length ms) ms
   rests ms = by_case (rests_or_many (length ms) ms) (same_or_more (rounds (length ms) ms) (next (rounds (length ms) ms)) (grows (rounds (length ms) ms)))
     where
-      by_case : ((next (rounds (length ms) ms) ≡ rounds (length ms) ms) ⊎ (length ms ≤ count (rounds (length ms) ms)))
-          → ((rounds (length ms) ms ≡ next (rounds (length ms) ms)) ⊎ (count (rounds (length ms) ms) < count (next (rounds (length ms) ms)))) → next (rounds (length ms) ms) ≡ rounds (length ms) ms
+      by_case : ((next (rounds (length ms) ms) ≡ rounds (length ms) ms) ⊎ (length ms ≤ marked_count (rounds (length ms) ms)))
+          → ((rounds (length ms) ms ≡ next (rounds (length ms) ms)) ⊎ (marked_count (rounds (length ms) ms) < marked_count (next (rounds (length ms) ms)))) → next (rounds (length ms) ms) ≡ rounds (length ms) ms
       by_case (inl e) r = e
       by_case (inr l) (inl e) = sym e
       by_case (inr l) (inr m) =

@@ -1,17 +1,19 @@
 -- The loop that walks what is marked.
 use Rattle.std.specs.Prelude.{◌≡◌, ◌↔◌, ℕ, zero, suc, ◌+◌, ◌<◌, ◌≤◌, Bool, true, false, List, [], ◌∷◌, ◌++◌, length, replicate, drop, take, slice_set, slice_index, ◌⊎◌, if◌then◌else◌}
 use Rattle.std.proofs.Common.{ap, arith, refl, sym, ◌∙◌, inl, inr, subst}
-use Rattle.std.proofs.lemmas.List.{length-set, length-append, length-replicate}
+use Rattle.std.proofs.lemmas.List.{length-replicate}
 use Rattle.jfr_worklist.specs.Marks.{is_marked, IsMarked, marked_at}
 use Rattle.jfr_worklist.specs.Members.{In}
 use Rattle.jfr_worklist.proofs.SweepLaws.{Reach, AllBelow}
 use Rattle.jfr_worklist.specs.Worklists.{ordered, ordered_all}
+use Rattle.jfr_worklist.proofs.MarkLaws as marks
+use Rattle.jfr_worklist.proofs.MarkLaws.{none_marked}
 use Rattle.jfr_worklist.proofs.ClosureLaws.{Work, work_starts, work_takes, work_done}
-use Rattle.jfr_worklist.proofs.PutLaws.{weigh, waiting, work_all, all_weigh, weigh_all}
+use Rattle.jfr_worklist.proofs.PutLaws.{weigh, waiting, put_longer, work_all, all_weigh, weigh_all}
 
+-- There are as many flags as before.
 pub all_size : (f : List Bool) (ts : List ℕ) → length (marked_at f ts) ≡ length f
-all_size f [] = refl
-all_size f (t ∷ ts) = all_size (slice_set f t true) ts ∙ length-set f t true
+all_size f ts = marks.all_size f ts
 
 put_front : (f : List Bool) (o : List ℕ) (k t : ℕ) → k ≤ length o → take k (ordered f o t) ≡ take k o
 put_front f o k t h = by_mark (is_marked f t)
@@ -25,20 +27,13 @@ put_front f o k t h = by_mark (is_marked f t)
     by_mark true = refl
     by_mark false = front k o h
 
-put_long : (f : List Bool) (o : List ℕ) (k t : ℕ) → k ≤ length o → k ≤ length (ordered f o t)
-put_long f o k t h = by_mark (is_marked f t)
-  where
-    by_mark : (b : Bool) → k ≤ length (if b then o else o ++ (t ∷ []))
-    by_mark true = h
-    by_mark false = (let l : length (o ++ (t ∷ [])) ≡ length o + 1 = length-append o (t ∷ []) in omega arith)
-
 all_long : (f : List Bool) (o ts : List ℕ) (k : ℕ) → k ≤ length o → k ≤ length (ordered_all f o ts)
 all_long f o [] k h = h
-all_long f o (t ∷ ts) k h = all_long (slice_set f t true) (ordered f o t) ts k (put_long f o k t h)
+all_long f o (t ∷ ts) k h = all_long (slice_set f t true) (ordered f o t) ts k (put_longer f o k t h)
 
 all_front : (f : List Bool) (o ts : List ℕ) (k : ℕ) → k ≤ length o → take k (ordered_all f o ts) ≡ take k o
 all_front f o [] k h = refl
-all_front f o (t ∷ ts) k h = all_front (slice_set f t true) (ordered f o t) ts k (put_long f o k t h) ∙ put_front f o k t h
+all_front f o (t ∷ ts) k h = all_front (slice_set f t true) (ordered f o t) ts k (put_longer f o k t h) ∙ put_front f o k t h
 
 waiting_take : (o : List ℕ) (at : ℕ) (w : ℕ → ℕ) → at < length o → waiting (take (suc at) o) w ≡ waiting (take at o) w + w (slice_index o at)
 waiting_take [] at w h = absurd (omega arith)
@@ -74,11 +69,6 @@ none_past [] zero i h p = p
 none_past [] (suc at) i h p = p
 none_past (x ∷ o) zero i h p = omega arith
 none_past (x ∷ o) (suc at) i h p = none_past o at i (omega arith) p
-
-none_marked : (k i : ℕ) → IsMarked (replicate k false) i → ⊥
-none_marked zero i m = cc
-none_marked (suc k) zero m = cc
-none_marked (suc k) (suc i) m = none_marked k i m
 
 weigh_none : (f : List Bool) (w : ℕ → ℕ) → ((i : ℕ) → IsMarked f i → ⊥) → weigh f w ≡ 0
 weigh_none [] w h = refl

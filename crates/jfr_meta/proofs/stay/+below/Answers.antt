@@ -10,7 +10,8 @@ use Rattle.jfr_worklist.specs.Marks.{those}
 use Rattle.jfr_worklist.specs.Putting.{Puts}
 use Rattle.jfr_meta.specs.Stays.{ids_below, ids_with}
 use Rattle.jfr_meta.specs.Trees.{counts_of}
-use Rattle.jfr_meta.proofs.PutsLaws.{puts_none, puts_size, below_each, each_next}
+use Rattle.jfr_worklist.proofs.PuttingLaws.{puts_none, puts_size}
+use Rattle.jfr_meta.proofs.PutsLaws.{below_each, each_next}
 use Rattle.jfr_meta.proofs.WrittenLaws.{children_less, member_less}
 use Rattle.jfr_meta.proofs.stay.+below.Goals as goal
 

@@ -1,6 +1,7 @@
 use Rattle.std.proofs.Common.{arith, ◌∙◌}
 use Rattle.jfr_meta.specs.Stays.{is_in}
-use Rattle.jfr_meta.proofs.PutsLaws.{puts_none, first_next, first_end, first_size}
+use Rattle.jfr_worklist.proofs.PuttingLaws.{puts_none}
+use Rattle.jfr_meta.proofs.PutsLaws.{first_next, first_end, first_size}
 use Rattle.jfr_meta.proofs.stay.put_first.Goals as goal
 
 pub loop-at-init : goal.loop-at-init
