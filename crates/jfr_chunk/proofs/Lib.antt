@@ -16,6 +16,7 @@ pub mod ReachLaws
 pub mod ReachedLaws
 pub mod Reading
 mod RefusalRows
+pub mod RootLaws
 pub mod SeenLaws
 pub mod StageLaws
 pub mod StandingLaws

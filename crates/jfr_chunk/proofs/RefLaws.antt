@@ -17,19 +17,16 @@ use Rattle.jfr_chunk.specs.declared.event_index.EventIndexEntry.{EventIndexEntry
 use Rattle.jfr_chunk.specs.declared.refs.ConstantRefs.{ConstantRefs}
 use Rattle.jfr_chunk.specs.Refs.{AddsRefs}
 use Rattle.jfr_chunk.specs.Parts.{EventAt}
-use Rattle.jfr_worklist.specs.Marks.{add, those}
+use Rattle.jfr_worklist.specs.Marks.{those}
 use Rattle.jfr_chunk.specs.Reach.{node_entries}
 use Rattle.jfr_chunk.specs.Seen.{AreRefs, due}
 use Rattle.jfr_chunk.proofs.EndLaws.{EndIs, same_event, this_event}
+use Rattle.jfr_chunk.proofs.RootLaws.{takes_those}
+use Rattle.jfr_worklist.proofs.Members as members
 
 -- The values for two lists, one after another.
 pub those_append : {A B : Type 0} (f : A → Option B) (xs ys : List A) → those f (xs ++ ys) ≡ those f xs ++ those f ys
-those_append f [] ys = refl
-those_append {B = B} f (x ∷ xs) ys = by_value (f x) (those_append f xs ys)
-  where
-    by_value : (o : Option B) → those f (xs ++ ys) ≡ those f xs ++ those f ys → add o (those f (xs ++ ys)) ≡ add o (those f xs) ++ those f ys
-    by_value None e = e
-    by_value (Some y) e = ap (λ z. y ∷ z) e
+those_append f xs ys = members.those_append f xs ys
 
 refs_none : (a : ConstantRefs) → AddsRefs [] a a
 refs_none a = record { lacked_none = λ h. h; appended = λ h. sym (append-nil a.numbers.items); few = omega arith }
@@ -43,12 +40,7 @@ refs_then xs ys a b c p q = record {
 
 -- Targets that are taken note the numbers of their entries.
 pub takes_refs : (es : List EntryAt) (ts : List (ℕ × ℕ)) (old new : ConstantRefs) → TakesAll (λ t a b. AddsRefs (those (number_in_force es) (t ∷ [])) a b) ts old new → AddsRefs (those (number_in_force es) ts) old new
-takes_refs es [] old new e = subst (λ z. AddsRefs [] old z) e (refs_none old)
-takes_refs es (t ∷ ts) old new h = by_number (number_in_force es t) (those (number_in_force es) ts) h.1 (takes_refs es ts h.0 new h.2)
-  where
-    by_number : (o : Option ℕ) (is : List ℕ) → AddsRefs (add o []) old h.0 → AddsRefs is h.0 new → AddsRefs (add o is) old new
-    by_number None is p q = refs_then [] is old h.0 new p q
-    by_number (Some i) is p q = refs_then (i ∷ []) is old h.0 new p q
+takes_refs es = takes_those AddsRefs refs_none refs_then (number_in_force es)
 
 module _ (due : EventIndexEntry → List ℕ) where
   -- One event more.

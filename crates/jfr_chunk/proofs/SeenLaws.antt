@@ -10,7 +10,7 @@ use Rattle.jfr_chunk.specs.declared.event_index.EventIndexEntry.{EventIndexEntry
 use Rattle.jfr_chunk.specs.Parts.{EventAt, Parts, events_of}
 use Rattle.jfr_chunk.specs.Reach.{all_targets, node_entries, nodes_of, roots}
 use Rattle.jfr_chunk.specs.Seen.{AreRefs, due, end_in, event_kept, event_with}
-use Rattle.jfr_chunk.proofs.RefLaws.{those_append}
+use Rattle.jfr_worklist.proofs.Members.{those_append}
 
 -- A function whose values at one list are the members of another.
 pub each_length : {A B : Type 0} (f : A → Option B) (xs : List A) (ys : List B) → map f xs ≡ map Some ys → length xs ≡ length ys

@@ -1,10 +1,10 @@
 -- The loop over the marked entries.
-use Rattle.std.specs.Prelude.{◌≡◌, ◌↔◌, ℕ, zero, suc, ◌+◌, ◌<◌, ◌≤◌, Bool, true, false, List, [], ◌∷◌, length, replicate, slice_index}
-use Rattle.std.proofs.Common.{ap, arith, refl, sym, ◌∙◌, inl, inr, subst}
+use Rattle.std.specs.Prelude.{◌≡◌, ◌↔◌, ℕ, ◌+◌, ◌<◌, ◌≤◌, Bool, true, false, List, [], ◌∷◌, length, replicate, slice_index}
+use Rattle.std.proofs.Common.{ap, arith, sym, ◌∙◌, inl, inr, subst}
 use Rattle.std.proofs.lemmas.List.{length-replicate}
 use Rattle.jfr_pool.specs.Entries.{number_in_force}
 use Rattle.jfr_chunk.specs.Parts.{Parts, EventAt, AreParts, events_of}
-use Rattle.jfr_worklist.specs.Marks.{IsMarked, marked_at, swept, led_to}
+use Rattle.jfr_worklist.specs.Marks.{IsMarked, marked_at, swept}
 use Rattle.jfr_chunk.specs.Reach.{Reached, all_targets, nodes_of, roots, next_entries, marked, kept_by, reached_marks}
 use Rattle.jfr_pool.proofs.ForceLaws.{force_within}
 use Rattle.jfr_worklist.specs.Members.{In}
@@ -15,7 +15,8 @@ use Rattle.jfr_worklist.proofs.SweepLaws.{AllBelow, marks_reach}
 use Rattle.jfr_worklist.specs.Worklists.{ordered_all}
 use Rattle.jfr_reach.specs.Walks.{event_leaves, entry_leaves}
 use Rattle.jfr_reach.proofs.BoundLaws.{leaves_bound}
-use Rattle.jfr_worklist.proofs.WalkLaws.{Walking, all_size, walking_ends, started, went_on}
+use Rattle.jfr_worklist.proofs.WalkLaws.{Walking, walking_ends, started, went_on}
+use Rattle.jfr_worklist.proofs.MarkLaws.{all_size, same_flags, swept_size}
 
 module _ (p : Parts) where
   next_below : (j : ℕ) → AllBelow (length p.entries) (next_entries p j)
@@ -24,15 +25,11 @@ module _ (p : Parts) where
   pub roots_below : (kept : List EventAt) → AllBelow (length p.entries) (roots p kept)
   roots_below kept i k = let t = in_those (number_in_force p.entries) (all_targets p (nodes_of kept)) i k in force_within p.entries t.0 i t.2
 
-  length_swept : (k : ℕ) (ms : List Bool) → length (swept k (next_entries p) ms) ≡ length ms
-  length_swept zero ms = refl
-  length_swept (suc k) ms = all_size (swept k (next_entries p) ms) (led_to (swept k (next_entries p) ms) (next_entries p)) ∙ length_swept k ms
-
   -- There is a mark for each entry.
   pub marks_size : (kept : List EventAt) → length (reached_marks p kept) ≡ length p.entries
   unfolding reached_marks
   marks_size kept =
-      let a = length_swept (length p.entries) (marked_at (replicate (length p.entries) false) (roots p kept)) in
+      let a = swept_size (next_entries p) (length p.entries) (marked_at (replicate (length p.entries) false) (roots p kept)) in
       let b = all_size (replicate (length p.entries) false) (roots p kept) in
       a ∙ (b ∙ length-replicate (length p.entries) false)
 
@@ -51,18 +48,6 @@ module _ (p : Parts) where
         → Going steps g q (at + 1) t
     going_on steps f g o q at s t j h w e x y z =
         went_on (length p.entries) (next_entries p) (roots p (kept_by p keep)) (entry_leaves p) (roots_below (kept_by p keep)) next_below (steps + event_leaves p (kept_by p keep)) f g o q at s t j h w e x y z
-
-    same_flags : (f g : List Bool) → length f ≡ length g → ((i : ℕ) → IsMarked f i ↔ IsMarked g i) → f ≡ g
-    same_flags [] [] l h = refl
-    same_flags [] (b ∷ g) l h = absurd (omega arith)
-    same_flags (a ∷ f) [] l h = absurd (omega arith)
-    same_flags (a ∷ f) (b ∷ g) l h = by_flag a b (h 0) (same_flags f g (omega arith) (λ i. h (suc i)))
-      where
-        by_flag : (a b : Bool) → (a ≡ true) ↔ (b ≡ true) → f ≡ g → a ∷ f ≡ b ∷ g
-        by_flag true true k e = ap (λ z. true ∷ z) e
-        by_flag false false k e = ap (λ z. false ∷ z) e
-        by_flag true false k e = let z : false ≡ true = k.0 refl in cc
-        by_flag false true k e = let z : false ≡ true = k.1 refl in cc
 
     pub going_ends : (steps : ℕ) (f : List Bool) (o : List ℕ) (at s : ℕ) → length o ≤ at → Going steps f o at s → f ≡ reached_marks p (kept_by p keep)
     unfolding reached_marks

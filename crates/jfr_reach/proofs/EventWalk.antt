@@ -2,7 +2,7 @@
 use Rattle.std.specs.Prelude.{◌≡◌, ℕ, zero, suc, ◌+◌, ◌<◌, ◌≤◌, Bool, true, false, List, [], ◌∷◌, ◌++◌, length, drop, slice_get, Option, Some, None, option_and_then, option_map, option_to_list, if◌then◌else◌}
 use Rattle.std.specs.List.{AllByRecursion, list_all}
 use Rattle.std.proofs.Common.{ap, arith, refl, sym, ◌∙◌, inl, inr, subst}
-use Rattle.std.proofs.lemmas.List.{append_assoc, append-nil, length-append}
+use Rattle.std.proofs.lemmas.List.{append-nil, length-append}
 use Rattle.jfr_value.specs.Nodes.{targets}
 use Rattle.jfr_pool.specs.Entries.{number_in_force}
 use Rattle.jfr_chunk.specs.Parts.{Parts, EventAt, AreParts, events_of}
@@ -10,26 +10,22 @@ use Rattle.jfr_worklist.specs.Marks.{those, marked_at}
 use Rattle.jfr_chunk.specs.Reach.{node_entries, all_targets, nodes_of, roots, marked, kept_by}
 use Rattle.jfr_chunk.proofs.CountLaws.{references_few}
 use Rattle.jfr_worklist.specs.Members.{In}
-use Rattle.jfr_chunk.proofs.RefLaws.{those_append}
+use Rattle.jfr_worklist.proofs.Members.{those_append, get_in}
+use Rattle.jfr_worklist.proofs.MarkLaws.{all_append, all_size}
+use Rattle.jfr_worklist.proofs.PuttingLaws.{ordered_append}
 use Rattle.jfr_chunk.proofs.StandingLaws.{event_is, standing}
 use Rattle.jfr_worklist.proofs.SweepLaws.{AllBelow}
 use Rattle.jfr_worklist.specs.Worklists.{ordered_all}
 use Rattle.jfr_reach.specs.Walks.{kept_at, event_leaves, node_leaves}
 use Rattle.jfr_reach.proofs.EntryWalk.{roots_below}
-use Rattle.jfr_reach.proofs.KeyLaws.{marked_append, ordered_append}
-use Rattle.jfr_worklist.proofs.WalkLaws.{all_size}
-
-get_in : {X : Type 0} (xs : List X) (i : ℕ) (x : X) → Some x ≡ slice_get xs i → In xs x
-get_in [] i x e = cc
-get_in (y ∷ xs) zero x e = let h : y ≡ x = cc in inl h
-get_in (y ∷ xs) (suc i) x e = inr (get_in xs i x e)
+use Rattle.jfr_chunk.proofs.RootLaws.{roots_append}
 
 kept_in : (keep : List Bool) (es : List EventAt) (i : ℕ) (e : EventAt) → Some e ≡ kept_at keep es i → In es e
 kept_in keep es i e h = by_flag (slice_get keep i) h
   where
     by_flag : (o : Option Bool) → Some e ≡ option_and_then (λ keep. if keep then slice_get es i else None) o → In es e
     by_flag None h = cc
-    by_flag (Some true) h = get_in es i e h
+    by_flag (Some true) h = get_in es i e (sym h)
     by_flag (Some false) h = cc
 
 entries_few : (p : Parts) → AreParts p → (e : EventAt) → In (events_of p) e → length (node_entries p.entries p.classes p.bytes e.node) ≤ node_leaves p e.node
@@ -94,14 +90,6 @@ none_from (k ∷ keep) es zero h = absurd (omega arith)
 none_from (k ∷ keep) [] (suc i) h = no_events (drop i keep)
 none_from (k ∷ keep) (e ∷ es) (suc i) h = none_from keep es i (omega arith)
 
--- What events refer to, one part after another.
-targets_append : (p : Parts) (xs ys : List EventAt) → all_targets p (nodes_of (xs ++ ys)) ≡ all_targets p (nodes_of xs) ++ all_targets p (nodes_of ys)
-targets_append p [] ys = refl
-targets_append p (x ∷ xs) ys = ap (λ z. targets p.classes p.bytes x.node ++ z) (targets_append p xs ys) ∙ sym (append_assoc (targets p.classes p.bytes x.node) (all_targets p (nodes_of xs)) (all_targets p (nodes_of ys)))
-
-roots_append : (p : Parts) (xs ys : List EventAt) → roots p (xs ++ ys) ≡ roots p xs ++ roots p ys
-roots_append p xs ys = ap (those (number_in_force p.entries)) (targets_append p xs ys) ∙ those_append (number_in_force p.entries) (all_targets p (nodes_of xs)) (all_targets p (nodes_of ys))
-
 leaves_append : (p : Parts) (xs ys : List EventAt) → event_leaves p (xs ++ ys) ≡ event_leaves p xs + event_leaves p ys
 leaves_append p [] ys = omega arith
 leaves_append p (x ∷ xs) ys = let i = leaves_append p xs ys in omega arith
@@ -127,7 +115,7 @@ module _ (p : Parts) (keep flags : List Bool) (order : List ℕ) (steps : ℕ) w
       let n : suc i ≡ i + 1 = omega arith in
       subst (λ m. EventsLeft p keep flags order steps g q m t) n (record {
         size = ap length x ∙ (all_size f (roots p here) ∙ w.size);
-        flags_left = ap (λ v. marked_at v (roots p later)) x ∙ (sym (ap (marked_at f) u ∙ marked_append f (roots p here) (roots p later)) ∙ w.flags_left);
+        flags_left = ap (λ v. marked_at v (roots p later)) x ∙ (sym (ap (marked_at f) u ∙ all_append f (roots p here) (roots p later)) ∙ w.flags_left);
         order_left = ap (λ v. ordered_all g v (roots p later)) y ∙ (ap (λ v. ordered_all v (ordered_all f o (roots p here)) (roots p later)) x ∙ (sym (ap (ordered_all f o) u ∙ ordered_append f o (roots p here) (roots p later)) ∙ w.order_left));
         cost = omega arith;
       })
