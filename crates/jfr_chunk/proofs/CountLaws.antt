@@ -1,12 +1,12 @@
 -- Records, and what events refer to, are no more than the bytes of a chunk up to them.
-use Rattle.std.specs.Prelude.{◌≡◌, ℕ, suc, ◌+◌, ◌^◌, ◌<◌, ◌≤◌, List, [], ◌∷◌, drop, length, Option, Some, None, Ok, Err, slice_get}
+use Rattle.std.specs.Prelude.{◌≡◌, ℕ, suc, ◌+◌, ◌^◌, ◌<◌, ◌≤◌, Bool, true, false, cond, List, [], ◌∷◌, drop, filter, length, Option, Some, None, Ok, Err, slice_get}
 use Rattle.std.specs.List.{cons_option, filter_map}
 use Rattle.std.proofs.Common.{ap, arith, refl, subst}
 use Rattle.jfr_base.specs.Formats.{Answer, run, seen}
 use Rattle.jfr_base.proofs.Exact.{Says, run_says}
 use Rattle.jfr_header.specs.Fronts.{Whole}
 use Rattle.jfr_header.proofs.Steps.{size_bounds}
-use Rattle.jfr_layout.specs.Classes.{Classes, Sound}
+use Rattle.jfr_layout.specs.Classes.{Classes, Sound, is_event_class}
 use Rattle.jfr_frame.specs.declared.framed.Framed.{Framed}
 use Rattle.jfr_frame.specs.Records.{AreRecords, IsRecord, Tiles, record_end}
 use Rattle.jfr_frame.proofs.RecordLaws.{some_bytes, tiles_order}
@@ -19,6 +19,7 @@ use Rattle.jfr_value.proofs.TargetLaws.{node_leaves_within, refers_parts}
 use Rattle.jfr_pool.specs.declared.entry.EntryAt.{EntryAt}
 use Rattle.jfr_pool.specs.Entries.{inline, number_in_force}
 use Rattle.jfr_worklist.specs.Marks.{add, those}
+use Rattle.jfr_chunk.specs.Parts.{AreParts, Parts, event_of, event_records, events_of}
 use Rattle.jfr_chunk.specs.Reach.{node_entries}
 use Rattle.jfr_chunk.proofs.EventReading.{drop_at, record_of}
 
@@ -69,13 +70,35 @@ those_length {B = B} f (x ∷ xs) = by_value (f x) (those_length f xs)
     by_value None h = omega arith
     by_value (Some y) h = omega arith
 
-filter_length : {A B : Type 0} (f : A → Option B) (xs : List A) → length (filter_map f xs) ≤ length xs
-filter_length f [] = omega arith
-filter_length {B = B} f (x ∷ xs) = by_value (f x) (filter_length f xs)
+-- A list is no shorter than what a function makes of it, or than those that pass a test.
+pub filter_map_most : {A B : Type 0} (f : A → Option B) (xs : List A) → length (filter_map f xs) ≤ length xs
+filter_map_most f [] = omega arith
+filter_map_most {B = B} f (x ∷ xs) = by_value (f x) (filter_map_most f xs)
   where
     by_value : (o : Option B) → length (filter_map f xs) ≤ length xs → length (cons_option o (filter_map f xs)) ≤ suc (length xs)
     by_value None h = omega arith
     by_value (Some y) h = omega arith
+
+pub filter_most : {X : Type 0} (test : X → Bool) (xs : List X) → length (filter test xs) ≤ length xs
+filter_most test [] = omega arith
+filter_most test (x ∷ xs) = by_test (test x) (filter_most test xs)
+  where
+    by_test : (b : Bool) → length (filter test xs) ≤ length xs → length (cond b (x ∷ filter test xs) (filter test xs)) ≤ length (x ∷ xs)
+    by_test true h = omega arith
+    by_test false h = omega arith
+
+tiles_few : (c : List ℕ) (p q : ℕ) (rs : List Framed) → Tiles c p rs q → p + length rs ≤ q
+tiles_few c p q [] t = let e : p ≡ q = t in omega arith
+tiles_few c p q (r ∷ rs) t = let e : r.at ≡ p = t.0 in let b = some_bytes c r t.1 in let i = tiles_few c (record_end r) q rs t.2 in omega arith
+
+-- There are no more events than bytes.
+pub events_few : (p : Parts) → AreParts p → length (events_of p) ≤ length p.bytes
+unfolding events_of
+events_few p a =
+    let t = tiles_few p.bytes 68 (length p.bytes) p.records a.records in
+    let f = filter_most (λ r. is_event_class p.classes r.type_id) p.records in
+    let m = filter_map_most (event_of p.bytes p.classes) (event_records p.classes p.records) in
+    omega arith
 
 module _ (k : Classes) (sound : Sound k) (c : List ℕ) where
   -- A node that starts at a record's body and ends in the record has at most one leaf for each byte of the
@@ -92,7 +115,7 @@ module _ (k : Classes) (sound : Sound k) (c : List ℕ) where
     references_few n v i =
         let t = ap length (refers_parts k sound c n v i).leaves_too in
         let a = those_length (number_in_force es) (targets k c n) in
-        let b = filter_length leaf_target (leaves k c n) in
+        let b = filter_map_most leaf_target (leaves k c n) in
         omega arith
 
     -- The fields of an event end in its record, and refer to at most one entry for each byte of the record.
