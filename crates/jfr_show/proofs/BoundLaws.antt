@@ -1,5 +1,5 @@
 -- What a chunk adds to the totals is no more than its bytes.
-use Rattle.std.specs.Prelude.{◌≡◌, ℕ, ◌+◌, ◌*◌, ◌^◌, ◌<◌, ◌≤◌, Bool, true, false, cond, List, [], ◌∷◌, filter, length, Option}
+use Rattle.std.specs.Prelude.{◌≡◌, ℕ, ◌+◌, ◌*◌, ◌^◌, ◌<◌, ◌≤◌, List, [], ◌∷◌, filter, length, Option}
 use Rattle.std.specs.List.{AllByRecursion}
 use Rattle.std.proofs.Common.{ap, arith}
 use Rattle.std.proofs.lemmas.List.{length-map}
@@ -19,6 +19,7 @@ use Rattle.jfr_show.specs.Summing.{IsBounded}
 use Rattle.jfr_show.specs.Totals.{Tallies, Totals, occurrences}
 use Rattle.jfr_show.specs.declared.beginning.Beginning.{Beginning}
 use Rattle.jfr_show.proofs.SizeLaws.{chosen_within, occurrences_are, records_within}
+use Rattle.jfr_chunk.proofs.CountLaws.{filter_most}
 
 -- Each number of a chunk is at most its length.
 pub record IsShort (p : Parts) : Type 0 where
@@ -26,14 +27,6 @@ pub record IsShort (p : Parts) : Type 0 where
   pub checkpoints : length p.chain ≤ length p.bytes
   pub entries : length p.entries ≤ length p.bytes
   pub inert : length (filter (is_inert p) p.records) ≤ length p.bytes
-
-passed_most : {X : Type 0} (test : X → Bool) (xs : List X) → length (filter test xs) ≤ length xs
-passed_most test [] = omega arith
-passed_most test (x ∷ xs) = by_test (test x) (passed_most test xs)
-  where
-    by_test : (b : Bool) → length (filter test xs) ≤ length xs → length (cond b (x ∷ filter test xs) (filter test xs)) ≤ length (x ∷ xs)
-    by_test true h = omega arith
-    by_test false h = omega arith
 
 -- The offsets of the checkpoints fall.
 chain_short : (c : List ℕ) (rs : List Framed) (at : ℕ) (ls : List Link) → IsChain c rs at ls → length ls ≤ at + 1
@@ -62,7 +55,7 @@ chunk_short p a =
     let q = ap length (occurrences_are p a) in
     let s = chain_short p.bytes p.records (pools_at p.bytes) p.chain a.chain in
     let l = last_within p.bytes p.records (pools_at p.bytes) p.chain (tiles_each p.bytes 68 (length p.bytes) p.records a.records) a.chain in
-    let f = passed_most (is_inert p) p.records in
+    let f = filter_most (is_inert p) p.records in
     record {
       events = omega arith;
       checkpoints = omega arith;

@@ -1,16 +1,13 @@
 -- The kept events of a chunk, one after another, and how many there are.
-use Rattle.std.specs.Prelude.{◌≡◌, ℕ, zero, suc, ◌+◌, ◌<◌, ◌≤◌, Bool, true, false, cond, List, [], ◌∷◌, ◌++◌, drop, filter, length, Option, None, Some, option_and_then, option_to_list, slice_get, unwrap_or}
+use Rattle.std.specs.Prelude.{◌≡◌, ℕ, zero, suc, ◌+◌, ◌<◌, ◌≤◌, Bool, true, false, cond, List, [], ◌∷◌, ◌++◌, drop, length, Option, None, Some, option_and_then, option_to_list, slice_get, unwrap_or}
 use Rattle.std.specs.List.{cons_option, filter_map}
 use Rattle.std.proofs.Common.{ap, append-nil, arith, refl, sym, ◌∙◌}
 use Rattle.std.proofs.lemmas.List.{append_assoc, drop_all}
 use Rattle.jfr_header.specs.Fronts.{Whole}
-use Rattle.jfr_layout.specs.Classes.{is_event_class}
-use Rattle.jfr_frame.specs.declared.framed.Framed.{Framed}
-use Rattle.jfr_frame.specs.Records.{Tiles, record_end}
-use Rattle.jfr_frame.proofs.RecordLaws.{some_bytes}
-use Rattle.jfr_chunk.specs.Parts.{AreParts, EventAt, Parts, event_of, event_records, events_of}
+use Rattle.jfr_chunk.specs.Parts.{AreParts, EventAt, Parts, events_of}
 use Rattle.jfr_chunk.specs.Reach.{kept_by, marked}
-use Rattle.jfr_chunk.proofs.CountLaws.{whole_small}
+use Rattle.jfr_chunk.proofs.CountLaws as count_laws
+use Rattle.jfr_chunk.proofs.CountLaws.{filter_map_most, whole_small}
 use Rattle.jfr_stacks.specs.Adding.{kept_at}
 
 -- The first of the members that are left, if it is marked.
@@ -59,39 +56,9 @@ length_more [] None = omega arith
 length_more [] (Some y) = omega arith
 length_more (x ∷ xs) o = let h = length_more xs o in omega arith
 
--- There are no more events than bytes.
-tiles_few : (c : List ℕ) (p q : ℕ) (rs : List Framed) → Tiles c p rs q → p + length rs ≤ q
-tiles_few c p q [] t = let e : p ≡ q = t in omega arith
-tiles_few c p q (r ∷ rs) t =
-    let e : r.at ≡ p = t.0 in
-    let b : r.at < r.at + r.size = some_bytes c r t.1 in
-    let i : r.at + r.size + length rs ≤ q = tiles_few c (record_end r) q rs t.2 in
-    omega arith
-
-passed_most : {X : Type 0} (test : X → Bool) (xs : List X) → length (filter test xs) ≤ length xs
-passed_most test [] = omega arith
-passed_most test (x ∷ xs) = by_test (test x) (passed_most test xs)
-  where
-    by_test : (b : Bool) → length (filter test xs) ≤ length xs → length (cond b (x ∷ filter test xs) (filter test xs)) ≤ length (x ∷ xs)
-    by_test true h = omega arith
-    by_test false h = omega arith
-
-made_most : {A B : Type 0} (f : A → Option B) (xs : List A) → length (filter_map f xs) ≤ length xs
-made_most f [] = omega arith
-made_most {B = B} f (x ∷ xs) = by_value (f x) (made_most f xs)
-  where
-    by_value : (o : Option B) → length (filter_map f xs) ≤ length xs → length (cons_option o (filter_map f xs)) ≤ suc (length xs)
-    by_value None h = omega arith
-    by_value (Some y) h = omega arith
-
+-- The number of events is below a power of 2.
 pub events_few : (p : Parts) → Whole p.bytes → AreParts p → length (events_of p) ≤ 1073741823
-unfolding events_of
-events_few p w a =
-    let s : length p.bytes < 1073741824 = whole_small p.bytes w in
-    let t = tiles_few p.bytes 68 (length p.bytes) p.records a.records in
-    let f = passed_most (λ r. is_event_class p.classes r.type_id) p.records in
-    let m = made_most (event_of p.bytes p.classes) (event_records p.classes p.records) in
-    omega arith
+events_few p w a = let s = whole_small p.bytes w in let e = count_laws.events_few p a in omega arith
 
 pub kept_few : (p : Parts) (flags : List Bool) → length (kept_by p flags) ≤ length (events_of p)
 kept_few p flags = few flags (events_of p)
@@ -103,4 +70,4 @@ kept_few p flags = few flags (events_of p)
     few (false ∷ flags) (x ∷ xs) = let h = few flags xs in omega arith
 
 pub texts_few : {Y : Type 0} (h : EventAt → Option Y) (p : Parts) (flags : List Bool) → length (events_of p) ≤ 1073741823 → length (filter_map h (kept_by p flags)) ≤ 1073741823
-texts_few h p flags l = let m = made_most h (kept_by p flags) in let k = kept_few p flags in omega arith
+texts_few h p flags l = let m = filter_map_most h (kept_by p flags) in let k = kept_few p flags in omega arith
