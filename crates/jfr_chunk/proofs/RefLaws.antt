@@ -22,11 +22,6 @@ use Rattle.jfr_chunk.specs.Reach.{node_entries}
 use Rattle.jfr_chunk.specs.Seen.{AreRefs, due}
 use Rattle.jfr_chunk.proofs.EndLaws.{EndIs, same_event, this_event}
 use Rattle.jfr_chunk.proofs.RootLaws.{takes_those}
-use Rattle.jfr_worklist.proofs.Members as members
-
--- The values for two lists, one after another.
-pub those_append : {A B : Type 0} (f : A → Option B) (xs ys : List A) → those f (xs ++ ys) ≡ those f xs ++ those f ys
-those_append f xs ys = members.those_append f xs ys
 
 refs_none : (a : ConstantRefs) → AddsRefs [] a a
 refs_none a = record { lacked_none = λ h. h; appended = λ h. sym (append-nil a.numbers.items); few = omega arith }

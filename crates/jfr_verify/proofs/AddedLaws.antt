@@ -1,17 +1,18 @@
 -- Lines that are added one after another.
-use Rattle.std.specs.Prelude.{◌≡◌, ◌<◌, ◌+◌, ℕ, zero, suc, Bool, true, false, List, [], ◌∷◌, ◌++◌, take, length, map, replicate, slice_index_or, slice_set, Option, Some, None}
-use Rattle.std.proofs.Common.{ap, arith, refl, sym, ◌∙◌, subst}
-use Rattle.std.proofs.lemmas.List.{append_assoc, append-nil, length-set, map-append}
+use Rattle.std.specs.Prelude.{◌≡◌, ◌<◌, ◌+◌, ℕ, Bool, true, false, List, [], ◌∷◌, ◌++◌, take, length, map, replicate, slice_index_or, slice_set}
+use Rattle.std.proofs.Common.{ap, refl, sym, ◌∙◌, subst}
+use Rattle.std.proofs.lemmas.List.{append_assoc, append-nil, length-set, map-append, take_more}
 use Rattle.jfr_value.specs.Visits.{TakesAll}
 use Rattle.jfr_pool.specs.declared.entry.EntryAt.{EntryAt}
 use Rattle.jfr_pool.specs.Entries.{number_in_force}
-use Rattle.jfr_worklist.specs.Marks.{is_marked, marked_at, add, those}
+use Rattle.jfr_worklist.specs.Marks.{is_marked, marked_at, those}
 use Rattle.jfr_verify.specs.declared.lines.Lines.{Lines}
 use Rattle.jfr_verify.specs.declared.line.Line.{Line}
 use Rattle.jfr_verify.specs.declared.line.Parent.{Parent}
 use Rattle.jfr_verify.specs.Receipts.{new_lines}
 use Rattle.jfr_verify.specs.Added.{Adds}
-use Rattle.jfr_verify.proofs.MarkLaws.{all_append}
+use Rattle.jfr_worklist.proofs.MarkLaws.{all_append}
+use Rattle.jfr_chunk.proofs.RootLaws.{takes_those}
 
 pub new_append : (marks : List Bool) (parent : Parent) (xs ys : List ℕ) → new_lines marks parent (xs ++ ys) ≡ new_lines marks parent xs ++ new_lines (marked_at marks xs) parent ys
 new_append marks parent [] ys = refl
@@ -51,18 +52,8 @@ adds_then xs ys a b c p q = record {
 
 -- Visiting targets adds lines for their entries.
 pub adds_all : (es : List EntryAt) (ts : List (ℕ × ℕ)) (old new : Lines) → TakesAll (λ t a b. Adds (those (number_in_force es) (t ∷ [])) a b) ts old new → Adds (those (number_in_force es) ts) old new
-adds_all es [] old new e = subst (λ z. Adds [] old z) e (adds_none old)
-adds_all es (t ∷ ts) old new h = by_number (number_in_force es t) (those (number_in_force es) ts) h.1 (adds_all es ts h.0 new h.2)
-  where
-    by_number : (o : Option ℕ) (is : List ℕ) → Adds (add o []) old h.0 → Adds is h.0 new → Adds (add o is) old new
-    by_number None is p q = adds_then [] is old h.0 new p q
-    by_number (Some i) is p q = adds_then (i ∷ []) is old h.0 new p q
+adds_all es = takes_those Adds adds_none adds_then (number_in_force es)
 
 -- One more number.
 pub adds_more : (is : List ℕ) (at : ℕ) (old here new : Lines) → at < length is → Adds (take at is) old here → Adds (slice_index_or is at 0 ∷ []) here new → Adds (take (at + 1) is) old new
-adds_more is at old here new h p q = subst (λ z. Adds z old new) (sym ((let q : at + 1 ≡ suc at = omega arith in ap (λ n. take n is) q) ∙ take_more is at h)) (adds_then (take at is) (slice_index_or is at 0 ∷ []) old here new p q)
-  where
-    take_more : (xs : List ℕ) (n : ℕ) → n < length xs → take (suc n) xs ≡ take n xs ++ slice_index_or xs n 0 ∷ []
-    take_more [] n h = absurd (omega arith)
-    take_more (x ∷ xs) zero h = refl
-    take_more (x ∷ xs) (suc n) h = ap (λ z. x ∷ z) (take_more xs n (omega arith))
+adds_more is at old here new h p q = subst (λ z. Adds z old new) (sym (take_more is at 0 h)) (adds_then (take at is) (slice_index_or is at 0 ∷ []) old here new p q)

@@ -5,13 +5,13 @@ use Rattle.std.specs.List.{list_all}
 use Rattle.std.proofs.Common.{ap, arith, refl, sym, ◌∙◌, subst, inl, inr}
 use Rattle.std.proofs.lemmas.Bool.{cases_lt}
 use Rattle.std.proofs.lemmas.Option.{slice_get_within}
-use Rattle.std.proofs.lemmas.List.{length-replicate}
+use Rattle.std.proofs.lemmas.List.{length-replicate, take_more}
 use Rattle.jfr_value.specs.Nodes.{targets}
 use Rattle.jfr_value.specs.Visits.{TakesAll}
 use Rattle.jfr_pool.specs.declared.entry.EntryAt.{EntryAt}
 use Rattle.jfr_pool.specs.Entries.{number_in_force, entry_node}
 use Rattle.jfr_chunk.specs.Parts.{Parts, EventAt, events_of}
-use Rattle.jfr_worklist.specs.Marks.{IsMarked, marked_at, add, those}
+use Rattle.jfr_worklist.specs.Marks.{IsMarked, marked_at, those}
 use Rattle.jfr_chunk.specs.Reach.{node_entries, next_entries}
 use Rattle.jfr_pool.proofs.ForceLaws.{force_within}
 use Rattle.jfr_worklist.specs.Members.{In}
@@ -21,8 +21,8 @@ use Rattle.jfr_verify.specs.declared.line.Parent.{Parent}
 use Rattle.jfr_verify.specs.declared.line.Parent.TheVariants.{OfEvent, OfEntry}
 use Rattle.jfr_verify.specs.Claims.{RefersTo, IsConfirmed, AreClaimed, is_same, is_parent_of, children, AreConfirmed}
 use Rattle.jfr_verify.specs.Confirmed.{Confirms, ConfirmsOf, ConfirmsMore, ConfirmsEvents, ConfirmsEntries}
-use Rattle.jfr_worklist.proofs.WalkLaws.{all_size}
-use Rattle.jfr_verify.proofs.MarkLaws.{all_only, all_stay, all_here, all_append, none_marked}
+use Rattle.jfr_worklist.proofs.MarkLaws.{all_size, all_only, all_stay, all_here, all_append, none_marked}
+use Rattle.jfr_chunk.proofs.RootLaws.{takes_those}
 
 children_append : (ps : List Parent) (p : Parent) (xs ys : List ℕ) → children ps p (xs ++ ys) ≡ children ps p xs ++ children ps p ys
 children_append ps p [] ys = refl
@@ -47,20 +47,10 @@ confirms_then xs ys a b c p q = record {
 }
 
 pub confirms_all : (es : List EntryAt) (ts : List (ℕ × ℕ)) (old new : Claims) → TakesAll (λ t a b. Confirms (those (number_in_force es) (t ∷ [])) a b) ts old new → Confirms (those (number_in_force es) ts) old new
-confirms_all es [] old new e = subst (λ z. Confirms [] old z) e (confirms_none old)
-confirms_all es (t ∷ ts) old new h = by_number (number_in_force es t) (those (number_in_force es) ts) h.1 (confirms_all es ts h.0 new h.2)
-  where
-    by_number : (o : Option ℕ) (is : List ℕ) → Confirms (add o []) old h.0 → Confirms is h.0 new → Confirms (add o is) old new
-    by_number None is p q = confirms_then [] is old h.0 new p q
-    by_number (Some i) is p q = confirms_then (i ∷ []) is old h.0 new p q
+confirms_all es = takes_those Confirms confirms_none confirms_then (number_in_force es)
 
 pub confirms_more : (is : List ℕ) (at : ℕ) (old here new : Claims) → at < length is → Confirms (take at is) old here → Confirms (slice_index_or is at 0 ∷ []) here new → Confirms (take (at + 1) is) old new
-confirms_more is at old here new h p q = subst (λ z. Confirms z old new) (sym ((let q : at + 1 ≡ suc at = omega arith in ap (λ n. take n is) q) ∙ take_more is at h)) (confirms_then (take at is) (slice_index_or is at 0 ∷ []) old here new p q)
-  where
-    take_more : (xs : List ℕ) (n : ℕ) → n < length xs → take (suc n) xs ≡ take n xs ++ slice_index_or xs n 0 ∷ []
-    take_more [] n h = absurd (omega arith)
-    take_more (x ∷ xs) zero h = refl
-    take_more (x ∷ xs) (suc n) h = ap (λ z. x ∷ z) (take_more xs n (omega arith))
+confirms_more is at old here new h p q = subst (λ z. Confirms z old new) (sym (take_more is at 0 h)) (confirms_then (take at is) (slice_index_or is at 0 ∷ []) old here new p q)
 
 same_is : (a b : Parent) → is_same a b ≡ true → b ≡ a
 same_is (OfEvent a) (OfEvent b) e = let q : b ≡ a = grind (arith, e) in ap OfEvent q

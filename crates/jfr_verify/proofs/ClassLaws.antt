@@ -5,10 +5,10 @@ use Rattle.std.proofs.lemmas.Option.{slice_get_within}
 use Rattle.std.proofs.lemmas.List.Elements.{All-from_recursion, All-contains}
 use Rattle.jfr_layout.specs.Classes.{Class, Classes, Sound, find_class}
 use Rattle.jfr_layout.proofs.SoundLaws.{stand_once}
-use Rattle.jfr_worklist.proofs.Members.{contains_in, in_contains, get_in}
+use Rattle.jfr_worklist.proofs.Members.{contains_in, in_contains, get_in, found_get, all_from_get}
 use Rattle.jfr_verify.specs.Checks.{HasClasses}
 use Rattle.jfr_verify.specs.Decided.{Decided}
-use Rattle.jfr_verify.proofs.AgreeLaws.{all_from_get, found_get, in_get}
+use Rattle.jfr_meta.proofs.StayLaws.{in_get}
 
 module _ (k m : Classes) where
   -- Up to a number, the classes are in the other list.

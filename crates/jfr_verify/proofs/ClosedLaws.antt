@@ -1,22 +1,22 @@
 -- Whether all that is referred to is marked.
-use Rattle.std.specs.Prelude.{◌≡◌, ◌⊎◌, ◌<◌, ◌≤◌, ◌+◌, ℕ, zero, suc, Bool, true, false, ◌&&◌, List, [], ◌∷◌, ◌++◌, take, drop, length, slice_get, Option, Some, None, All, if◌then◌else◌}
+use Rattle.std.specs.Prelude.{◌≡◌, ◌⊎◌, ◌<◌, ◌≤◌, ◌+◌, ℕ, zero, suc, Bool, true, false, ◌&&◌, List, [], ◌∷◌, ◌++◌, take, drop, length, slice_get, Some, All, if◌then◌else◌}
 use Rattle.std.specs.Option.{option_map_or}
 use Rattle.std.specs.List.{AllByRecursion, list_all}
-use Rattle.std.proofs.Common.{ap, arith, refl, sym, ◌∙◌, subst, inl, inr}
-use Rattle.std.proofs.lemmas.List.{append_assoc, append-nil}
+use Rattle.std.proofs.Common.{ap, arith, refl, sym, ◌∙◌, inl, inr}
+use Rattle.std.proofs.lemmas.List.{append-nil}
 use Rattle.std.proofs.lemmas.Bool.{cases_lt}
 use Rattle.std.proofs.lemmas.List.Elements.{All-from_recursion, recursion_from_All}
 use Rattle.jfr_verify.specs.Checks.{AreClosed}
-use Rattle.jfr_value.specs.Nodes.{targets}
 use Rattle.jfr_value.specs.Visits.{TakesAll}
 use Rattle.jfr_pool.specs.declared.entry.EntryAt.{EntryAt}
 use Rattle.jfr_pool.specs.Entries.{number_in_force}
 use Rattle.jfr_chunk.specs.Parts.{Parts, EventAt, events_of}
-use Rattle.jfr_worklist.specs.Marks.{is_marked, IsMarked, add, those}
-use Rattle.jfr_chunk.specs.Reach.{marked, kept_by, all_targets, nodes_of, roots, node_entries, next_entries}
-use Rattle.jfr_chunk.proofs.RefLaws.{those_append}
+use Rattle.jfr_worklist.specs.Marks.{is_marked, IsMarked, those}
+use Rattle.jfr_chunk.specs.Reach.{marked, kept_by, roots, node_entries, next_entries}
 use Rattle.jfr_verify.specs.declared.closed.ClosedCheck.{ClosedCheck}
 use Rattle.jfr_verify.specs.Closed.{are_marked, ChecksMarks, events_closed, kept_refs, marked_refs, entries_closed}
+use Rattle.jfr_layout.proofs.Lists.{present}
+use Rattle.jfr_chunk.proofs.RootLaws.{roots_append, roots_one, takes_those}
 
 and_assoc : (a b c : Bool) → ((a && b) && c) ≡ (a && (b && c))
 and_assoc true b c = refl
@@ -41,12 +41,7 @@ checks_then xs ys a b c p q = record {
 }
 
 pub checks_all : (es : List EntryAt) (ts : List (ℕ × ℕ)) (old new : ClosedCheck) → TakesAll (λ t a b. ChecksMarks (those (number_in_force es) (t ∷ [])) a b) ts old new → ChecksMarks (those (number_in_force es) ts) old new
-checks_all es [] old new e = subst (λ z. ChecksMarks [] old z) e (checks_none old)
-checks_all es (t ∷ ts) old new h = by_number (number_in_force es t) (those (number_in_force es) ts) h.1 (checks_all es ts h.0 new h.2)
-  where
-    by_number : (o : Option ℕ) (is : List ℕ) → ChecksMarks (add o []) old h.0 → ChecksMarks is h.0 new → ChecksMarks (add o is) old new
-    by_number None is p q = checks_then [] is old h.0 new p q
-    by_number (Some i) is p q = checks_then (i ∷ []) is old h.0 new p q
+checks_all es = takes_those ChecksMarks checks_none checks_then (number_in_force es)
 
 module _ (p : Parts) where
   -- What the first entries refer to was checked.
@@ -73,15 +68,6 @@ module _ (p : Parts) where
   abbrev refers : EventAt → List ℕ
   refers e = node_entries p.entries p.classes p.bytes e.node
 
-  all_targets_append : (xs ys : List EventAt) → all_targets p (nodes_of (xs ++ ys)) ≡ all_targets p (nodes_of xs) ++ all_targets p (nodes_of ys)
-  all_targets_append [] ys = refl
-  all_targets_append (x ∷ xs) ys = ap (λ z. targets p.classes p.bytes x.node ++ z) (all_targets_append xs ys) ∙ sym (append_assoc (targets p.classes p.bytes x.node) (all_targets p (nodes_of xs)) (all_targets p (nodes_of ys)))
-
-  roots_one : (xs : List EventAt) (e : EventAt) → roots p (xs ++ e ∷ []) ≡ roots p xs ++ refers e
-  roots_one xs e =
-      ap (those (number_in_force p.entries)) (all_targets_append xs (e ∷ []) ∙ ap (λ z. all_targets p (nodes_of xs) ++ z) (append-nil (targets p.classes p.bytes e.node)))
-      ∙ those_append (number_in_force p.entries) (all_targets p (nodes_of xs)) (targets p.classes p.bytes e.node)
-
   marked_one : (fs : List Bool) (es : List EventAt) (n : ℕ) (b : Bool) (e : EventAt) → slice_get fs n ≡ Some b → slice_get es n ≡ Some e → marked (take (suc n) fs) (take (suc n) es) ≡ marked (take n fs) (take n es) ++ (if b then e ∷ [] else [])
   marked_one [] es n b e f g = cc
   marked_one (x ∷ fs) [] n b e f g = cc
@@ -93,22 +79,17 @@ module _ (p : Parts) where
   marked_one (true ∷ fs) (y ∷ es) (suc n) b e f g = ap (λ z. y ∷ z) (marked_one fs es n b e f g)
   marked_one (false ∷ fs) (y ∷ es) (suc n) b e f g = marked_one fs es n b e f g
 
-  some_at : {X : Type 0} (xs : List X) (n : ℕ) → n < length xs → (x : X) × (slice_get xs n ≡ Some x)
-  some_at [] n h = absurd (omega arith)
-  some_at (x ∷ xs) zero h = (x, refl)
-  some_at (x ∷ xs) (suc n) h = some_at xs n (omega arith)
-
   pub kept_one : (flags marks : List Bool) (n : ℕ) → length flags ≡ length (events_of p) → n < length flags → are_marked marks (roots p (first_kept flags (n + 1))) ≡ (are_marked marks (roots p (first_kept flags n)) && are_marked marks (kept_refs p flags n))
   kept_one flags marks n l h =
-      let b = some_at flags n h in
-      let e = some_at (events_of p) n (omega (arith, l)) in
+      let b = present flags n h in
+      let e = present (events_of p) n (omega (arith, l)) in
       let q : n + 1 ≡ suc n = omega arith in
       ap (λ z. are_marked marks (roots p (first_kept flags z))) q ∙ (ap (λ z. are_marked marks (roots p z)) (marked_one flags (events_of p) n b.0 e.0 b.1 e.1) ∙ by_flag b.0 e.0 b.1 e.1)
     where
       by_flag : (b : Bool) (e : EventAt) → slice_get flags n ≡ Some b → slice_get (events_of p) n ≡ Some e → are_marked marks (roots p (first_kept flags n ++ (if b then e ∷ [] else []))) ≡ (are_marked marks (roots p (first_kept flags n)) && are_marked marks (kept_refs p flags n))
       by_flag true e f g =
           let k : kept_refs p flags n ≡ refers e = ap (λ o. option_map_or (λ flag. if flag then option_map_or refers (slice_get (events_of p) n) [] else []) o []) f ∙ ap (λ o. option_map_or refers o []) g in
-          ap (are_marked marks) (roots_one (first_kept flags n) e) ∙ (all_append marks (roots p (first_kept flags n)) (refers e) ∙ ap (λ z. are_marked marks (roots p (first_kept flags n)) && are_marked marks z) (sym k))
+          ap (are_marked marks) (roots_one p (first_kept flags n) e) ∙ (all_append marks (roots p (first_kept flags n)) (refers e) ∙ ap (λ z. are_marked marks (roots p (first_kept flags n)) && are_marked marks z) (sym k))
       by_flag false e f g =
           let k : kept_refs p flags n ≡ [] = ap (λ o. option_map_or (λ flag. if flag then option_map_or refers (slice_get (events_of p) n) [] else []) o []) f in
           ap (λ z. are_marked marks (roots p z)) (append-nil (first_kept flags n)) ∙ (sym (and_true (are_marked marks (roots p (first_kept flags n)))) ∙ ap (λ z. are_marked marks (roots p (first_kept flags n)) && are_marked marks z) (sym k))
@@ -125,14 +106,11 @@ module _ (p : Parts) where
   marked_split (true ∷ fs) (y ∷ es) (suc n) = ap (λ z. y ∷ z) (marked_split fs es n)
   marked_split (false ∷ fs) (y ∷ es) (suc n) = marked_split fs es n
 
-  roots_append : (xs ys : List EventAt) → roots p (xs ++ ys) ≡ roots p xs ++ roots p ys
-  roots_append xs ys = ap (those (number_in_force p.entries)) (all_targets_append xs ys) ∙ those_append (number_in_force p.entries) (all_targets p (nodes_of xs)) (all_targets p (nodes_of ys))
-
   pub kept_false : (flags marks : List Bool) (n : ℕ) → length flags ≡ length (events_of p) → n < length flags → are_marked marks (kept_refs p flags n) ≡ false → events_closed p marks (kept_by p flags) ≡ false
   kept_false flags marks n l h e =
       let s : are_marked marks (roots p (first_kept flags (n + 1))) ≡ false = kept_one flags marks n l h ∙ (ap (λ z. are_marked marks (roots p (first_kept flags n)) && z) e ∙ and_false (are_marked marks (roots p (first_kept flags n)))) in
       ap (λ z. are_marked marks (roots p z)) (marked_split flags (events_of p) (n + 1))
-      ∙ (ap (are_marked marks) (roots_append (first_kept flags (n + 1)) (marked (drop (n + 1) flags) (drop (n + 1) (events_of p))))
+      ∙ (ap (are_marked marks) (roots_append p (first_kept flags (n + 1)) (marked (drop (n + 1) flags) (drop (n + 1) (events_of p))))
       ∙ (all_append marks (roots p (first_kept flags (n + 1))) (roots p (marked (drop (n + 1) flags) (drop (n + 1) (events_of p)))) ∙ ap (λ z. z && are_marked marks (roots p (marked (drop (n + 1) flags) (drop (n + 1) (events_of p))))) s))
     where
       and_false : (a : Bool) → (a && false) ≡ false

@@ -16,14 +16,13 @@ use Rattle.jfr_worklist.specs.Marks.{IsMarked}
 use Rattle.jfr_chunk.specs.Reach.{Reached, reached_marks, remain, kept_by, roots, next_entries}
 use Rattle.jfr_chunk.specs.Laws.{SameRecords}
 use Rattle.jfr_worklist.specs.Members.{In}
-use Rattle.jfr_worklist.proofs.Members.{get_in, in_contains}
+use Rattle.jfr_worklist.proofs.Members.{get_in, in_contains, all_from_get}
 use Rattle.jfr_chunk.specs.Metas.{metadata_size, rebuilt, stays_in}
 use Rattle.jfr_worklist.proofs.SweepLaws.{root, more}
 use Rattle.jfr_chunk.proofs.ReachedLaws.{reached_marked, path_reach, reach_path}
 use Rattle.jfr_chunk.proofs.StandingLaws.{standing}
 use Rattle.jfr_laws.specs.Laws.{IsKept}
 use Rattle.jfr_laws.proofs.Same.{chosen_events, event_of_chunk}
-use Rattle.jfr_verify.proofs.AgreeLaws.{all_from_get}
 use Rattle.jfr_verify.specs.Receipts.{IsReceiptOf, receipt_of}
 use Rattle.jfr_verify.specs.Checks.{HasClasses, contents, AreClosed}
 use Rattle.jfr_verify.specs.Laws.{Passes, AllReached}

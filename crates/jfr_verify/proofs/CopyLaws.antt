@@ -18,7 +18,8 @@ use Rattle.jfr_laws.specs.Laws.{AreCopied, IsCopied}
 use Rattle.jfr_laws.proofs.Marks.{rank, rank_get, rank_order, Ranked, ranked}
 use Rattle.jfr_laws.proofs.Entries.{copied_get}
 use Rattle.jfr_verify.specs.Checks.{AreAmong, MarksOfCopies, is_copy, copy_if, next_copy}
-use Rattle.jfr_verify.proofs.MarkLaws.{set_only, none_marked}
+use Rattle.jfr_worklist.proofs.MarkLaws.{set_only, none_marked}
+use Rattle.jfr_layout.proofs.Lists.{present, take_next}
 
 -- If the second option has a value, so does the first.
 pub beside_right : {A B : Type 0} (R : A → B → Type 0) (x : Option A) (y : Option B) (b : B) → Both R x y → y ≡ Some b → (a : A) × (x ≡ Some a) × R a b
@@ -58,19 +59,6 @@ copied_length p q [] [] a = refl
 copied_length p q [] (f ∷ fs) a = absurd a
 copied_length p q (e ∷ es) [] a = absurd a
 copied_length p q (e ∷ es) (f ∷ fs) a = omega (arith, copied_length p q es fs a.1)
-
-take_more : {X : Type 0} (xs : List X) (n : ℕ) (x : X) → slice_get xs n ≡ Some x → take (n + 1) xs ≡ take n xs ++ x ∷ []
-take_more xs n x e = (let q : n + 1 ≡ suc n = omega arith in ap (λ z. take z xs) q) ∙ by_list xs n x e
-  where
-    by_list : {X : Type 0} (xs : List X) (n : ℕ) (x : X) → slice_get xs n ≡ Some x → take (suc n) xs ≡ take n xs ++ x ∷ []
-    by_list [] n x e = cc
-    by_list (y ∷ ys) zero x e = let h : y ≡ x = cc in ap (λ z. z ∷ []) h
-    by_list (y ∷ ys) (suc n) x e = ap (λ z. y ∷ z) (by_list ys n x e)
-
-pub some_at : (xs : List EntryAt) (n : ℕ) → n < length xs → (x : EntryAt) × (slice_get xs n ≡ Some x)
-some_at [] n h = absurd (omega arith)
-some_at (x ∷ xs) zero h = (x, refl)
-some_at (x ∷ xs) (suc n) h = some_at xs n (omega arith)
 
 module _ (p q : Parts) where
   -- What a number that is found satisfies.
@@ -178,7 +166,7 @@ module _ (p q : Parts) where
         size = length-set marks place true ∙ h.size;
         below = λ i m. by_below i (set_only marks place i m);
         in_force = λ i m. by_force force i (set_only marks place i m);
-        copied = subst (λ z. AreCopied p q z (take (k + 1) q.entries)) (sym l) (subst (AreCopied p q (marked marks p.entries ++ n.entry ∷ [])) (sym (take_more q.entries k n.copy n.stands)) (copied_one p q (marked marks p.entries) (take k q.entries) n.entry n.copy h.copied c));
+        copied = subst (λ z. AreCopied p q z (take (k + 1) q.entries)) (sym l) (subst (AreCopied p q (marked marks p.entries ++ n.entry ∷ [])) (sym (take_next q.entries k n.copy n.stands)) (copied_one p q (marked marks p.entries) (take k q.entries) n.entry n.copy h.copied c));
         from_is = subst (λ z. IsFrom z (place + 1)) (let z : suc k ≡ k + 1 = omega arith in z) (n.copy, place, n.stands, n.force, refl);
       }
     where
@@ -227,7 +215,7 @@ module _ (p q : Parts) where
 
   pub none_copied : (k from : ℕ) (marks : List Bool) → k < length q.entries → InCopies k from marks → next_copy p q k from ≡ None → MarksOfCopies p q None
   none_copied k from marks h i e other a =
-      let f = some_at q.entries k h in
+      let f = present q.entries k h in
       let x = placed other a k f.0 f.1 in
       let n = is_next k from x.place (record { copy = f.0; stands = f.1; entry = x.entry; here = x.here; force = x.force; order = in_order other k from f.0 a x i.from_is; same = of_copy x.entry f.0 x.copied }) in
       (let z : None ≡ Some x.place = sym e ∙ n in cc)

@@ -1,10 +1,10 @@
 -- Events one after another.
-use Rattle.std.specs.Prelude.{◌≡◌, ◌<◌, ◌≤◌, ◌+◌, ◌^◌, ◌==◌, ◌&&◌, ℕ, zero, suc, Bool, true, false, List, [], ◌∷◌, ◌++◌, take, map, length, slice_get, Option, Some, None, option_map, if◌then◌else◌}
+use Rattle.std.specs.Prelude.{◌≡◌, ◌<◌, ◌≤◌, ◌+◌, ◌^◌, ◌==◌, ◌&&◌, ℕ, zero, suc, Bool, true, false, List, [], ◌∷◌, ◌++◌, take, length, slice_get, Option, Some, None, option_map, if◌then◌else◌}
 use Rattle.std.specs.Option.{option_map_or}
 use Rattle.std.specs.Str.{bytes_eq}
 use Rattle.std.proofs.Common.{ap, arith, refl, sym, ◌∙◌, subst}
 use Rattle.std.proofs.lemmas.Slice.Eq.{bytes_eq-Decides}
-use Rattle.std.proofs.lemmas.Option.{slice_get_within}
+use Rattle.std.proofs.lemmas.Option.{slice_get_within, slice_get-map}
 use Rattle.jfr_header.specs.Fronts.{Whole}
 use Rattle.jfr_frame.specs.declared.framed.Framed.{Framed}
 use Rattle.jfr_frame.specs.Records.{IsRecord, record_end}
@@ -16,6 +16,7 @@ use Rattle.jfr_worklist.proofs.Members.{get_in}
 use Rattle.jfr_chunk.proofs.StandingLaws.{event_is, tiles_each}
 use Rattle.jfr_verify.specs.Checks.{contents}
 use Rattle.jfr_verify.specs.SameEvents.{content, is_same, both_same, same_event, next_event, SameEvents}
+use Rattle.jfr_layout.proofs.Lists.{present, take_next}
 
 -- The record lies in the chunk.
 pub record Stands (p : Parts) (r : Framed) : Type 0 where
@@ -58,24 +59,6 @@ same_is x y e = by_parts (x.0 == y.0) refl (bytes_eq x.1 y.1) refl e
 
 is_self : (x : ℕ × List ℕ) → is_same x x ≡ true
 is_self x = (let h : (x.0 == x.0) ≡ true = grind arith in ap (λ z. z && bytes_eq x.1 x.1) h) ∙ (bytes_eq-Decides x.1 x.1).1 refl
-
-get_map : {X Y : Type 0} (f : X → Y) (xs : List X) (n : ℕ) → slice_get (map f xs) n ≡ option_map f (slice_get xs n)
-get_map f [] n = refl
-get_map f (x ∷ xs) zero = refl
-get_map f (x ∷ xs) (suc n) = get_map f xs n
-
-some_at : {X : Type 0} (xs : List X) (n : ℕ) → n < length xs → (x : X) × (slice_get xs n ≡ Some x)
-some_at [] n h = absurd (omega arith)
-some_at (x ∷ xs) zero h = (x, refl)
-some_at (x ∷ xs) (suc n) h = some_at xs n (omega arith)
-
-take_more : {X : Type 0} (xs : List X) (n : ℕ) (x : X) → slice_get xs n ≡ Some x → take (n + 1) xs ≡ take n xs ++ x ∷ []
-take_more xs n x e = (let q : n + 1 ≡ suc n = omega arith in ap (λ z. take z xs) q) ∙ by_list xs n x e
-  where
-    by_list : {X : Type 0} (xs : List X) (n : ℕ) (x : X) → slice_get xs n ≡ Some x → take (suc n) xs ≡ take n xs ++ x ∷ []
-    by_list [] n x e = cc
-    by_list (y ∷ ys) zero x e = let h : y ≡ x = cc in ap (λ z. z ∷ []) h
-    by_list (y ∷ ys) (suc n) x e = ap (λ z. y ∷ z) (by_list ys n x e)
 
 module _ (p q : Parts) (flags : List Bool) where
   abbrev wanted : List (ℕ × List ℕ)
@@ -146,7 +129,7 @@ module _ (p q : Parts) (flags : List Bool) where
   one_more n = omega arith
 
   wanted_at : (at : ℕ) → slice_get wanted at ≡ option_map (content q) (slice_get (events_of q) at)
-  wanted_at at = get_map (content q) (events_of q) at
+  wanted_at at = slice_get-map (content q) (events_of q) at
 
   both_is : (x : ℕ × List ℕ) (o : Option (ℕ × List ℕ)) → both_same (Some x) o ≡ true → o ≡ Some x
   both_is x None e = cc
@@ -159,7 +142,7 @@ module _ (p q : Parts) (flags : List Bool) where
       by_same x false g f b e = cc
       by_same x true g f b e =
           let o : slice_get wanted at ≡ Some (content p x) = wanted_at at ∙ both_is (content p x) (option_map (content q) (slice_get (events_of q) at)) (sym (ap (λ z. both_same (option_map (content p) z) (option_map (content q) (slice_get (events_of q) at))) g) ∙ b) in
-          let k : contents p (first (suc n)) ≡ take (at + 1) wanted = ap (contents p) (marked_one flags (events_of p) n x f g) ∙ (contents_more (first n) x [] ∙ (ap (λ z. z ++ content p x ∷ []) i.same ∙ sym (take_more wanted at (content p x) o))) in
+          let k : contents p (first (suc n)) ≡ take (at + 1) wanted = ap (contents p) (marked_one flags (events_of p) n x f g) ∙ (contents_more (first n) x [] ∙ (ap (λ z. z ++ content p x ∷ []) i.same ∙ sym (take_next wanted at (content p x) o))) in
           let l : at + 1 ≡ next = cc in
           let w : at < length wanted = slice_get_within wanted at (content p x) o in
           record {
@@ -168,14 +151,14 @@ module _ (p q : Parts) (flags : List Bool) where
           }
 
       by_flag : (o : Option Bool) → slice_get flags n ≡ o → (if option_map_or (λ flag. flag) o false then (if same_event p q n at then Some (at + 1) else None) else Some at) ≡ Some next → InSame (n + 1) next
-      by_flag None f e = let x = some_at flags n h in let z : None ≡ Some x.0 = sym f ∙ x.1 in cc
+      by_flag None f e = let x = present flags n h in let z : None ≡ Some x.0 = sym f ∙ x.1 in cc
       by_flag (Some false) f e =
           let l : at ≡ next = cc in
           record {
             same = ap (λ z. contents p (first z)) (one_more n) ∙ (ap (contents p) (marked_none flags (events_of p) n f) ∙ (i.same ∙ ap (λ z. take z wanted) l));
             within = subst (λ z. z ≤ length wanted) l i.within;
           }
-      by_flag (Some true) f e = let x = some_at (events_of p) n (omega arith) in by_same x.0 (same_event p q n at) x.1 f refl e
+      by_flag (Some true) f e = let x = present (events_of p) n (omega arith) in by_same x.0 (same_event p q n at) x.1 f refl e
 
   pub same_differs : (n at : ℕ) → n < length flags → length flags ≡ length (events_of p) → InSame n at → next_event p q flags n at ≡ None → SameEvents p q (kept_by p flags) false
   same_differs n at h s i e all = by_flag (slice_get flags n) refl e
@@ -192,7 +175,7 @@ module _ (p q : Parts) (flags : List Bool) where
       by_flag : (o : Option Bool) → slice_get flags n ≡ o → (if option_map_or (λ flag. flag) o false then (if same_event p q n at then Some (at + 1) else None) else Some at) ≡ None → ⊥
       by_flag None f e = cc
       by_flag (Some false) f e = cc
-      by_flag (Some true) f e = let x = some_at (events_of p) n (omega arith) in by_same x.0 (same_event p q n at) x.1 f refl e
+      by_flag (Some true) f e = let x = present (events_of p) n (omega arith) in by_same x.0 (same_event p q n at) x.1 f refl e
 
   map_size : (es : List EventAt) → length (contents q es) ≡ length es
   map_size [] = refl

@@ -14,12 +14,13 @@ use Rattle.jfr_verify.specs.Checks.{AreAmong, AreClosed, HasClasses}
 use Rattle.jfr_verify.specs.Decided.{Decided}
 use Rattle.jfr_verify.specs.Closed.{events_closed, entries_closed}
 use Rattle.jfr_verify.specs.Prefix.{AllInForce}
-use Rattle.jfr_verify.proofs.CopyLaws.{beside_right, some_at}
+use Rattle.jfr_verify.proofs.CopyLaws.{beside_right}
 use Rattle.jfr_verify.proofs.ClosedLaws as closed
+use Rattle.jfr_layout.proofs.Lists.{present}
 
 pub all_in_force : (p q : Parts) (marks : List Bool) → AreAmong p q marks → AllInForce q
 all_in_force p q marks a number l =
-    let f = some_at q.entries number l in
+    let f = present q.entries number l in
     let c = beside_right (IsCopied p q) (slice_get (marked marks p.entries) number) (slice_get q.entries number) f.0 (copied_get p q (marked marks p.entries) q.entries number a.copied) f.1 in
     let k : Ranked marks p.entries number = ranked marks p.entries number (slice_get_within (marked marks p.entries) number c.0 c.1) in
     let g : slice_get p.entries k.place ≡ Some c.0 = sym (rank_get marks p.entries k.place k.is_marked) ∙ (ap (slice_get (marked marks p.entries)) k.number_is ∙ c.1) in

@@ -6,12 +6,11 @@ use Rattle.std.proofs.lemmas.Option.{slice_get_within}
 use Rattle.jfr_chunk.specs.Parts.{Parts, EventAt, events_of}
 use Rattle.jfr_worklist.specs.Marks.{marked_at}
 use Rattle.jfr_chunk.specs.Reach.{kept_by, marked, node_entries, roots}
-use Rattle.jfr_worklist.proofs.WalkLaws.{all_size}
+use Rattle.jfr_worklist.proofs.MarkLaws.{all_size, all_append}
 use Rattle.jfr_verify.specs.declared.line.Line.{Line}
 use Rattle.jfr_verify.specs.declared.line.Parent.TheVariants.{OfEvent}
 use Rattle.jfr_verify.specs.Ranks.{kept_at, kept_lines}
 use Rattle.jfr_verify.specs.Receipts.{event_lines, lines_from, new_lines, no_marks}
-use Rattle.jfr_verify.proofs.MarkLaws.{all_append}
 use Rattle.jfr_verify.proofs.WalkLaws.{roots_cons}
 
 no_events : (keep : List Bool) → marked {X = EventAt} keep [] ≡ []

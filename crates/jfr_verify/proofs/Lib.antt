@@ -2,7 +2,6 @@ mod AgreeLaws
 mod RecordLaws
 mod RankLaws
 mod VerifiedLaws
-mod MarkLaws
 mod LineLaws
 mod SizeLaws
 mod SpellingLaws

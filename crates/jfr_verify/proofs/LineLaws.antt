@@ -14,18 +14,16 @@ use Rattle.jfr_worklist.specs.Marks.{is_marked, IsMarked, marked_at, those}
 use Rattle.jfr_chunk.specs.Reach.{all_targets, nodes_of, roots, node_entries, next_entries}
 use Rattle.jfr_pool.proofs.ForceLaws.{force_within}
 use Rattle.jfr_worklist.specs.Members.{In}
-use Rattle.jfr_worklist.proofs.Members.{contains_in, in_contains, in_left, in_right, in_those}
-use Rattle.jfr_chunk.proofs.RefLaws.{those_append}
+use Rattle.jfr_worklist.proofs.Members.{contains_in, in_contains, in_left, in_right, in_those, those_append}
+use Rattle.jfr_worklist.proofs.MarkLaws.{all_size, set_here, set_stays, set_only, all_stay, all_here, all_append, set_old, none_marked}
 use Rattle.jfr_worklist.proofs.SweepLaws.{Reach, root, more}
 use Rattle.jfr_verify.specs.declared.line.Parent.{Parent}
 use Rattle.jfr_verify.specs.declared.line.Line.{Line}
 use Rattle.jfr_verify.specs.declared.line.Parent.TheVariants.{OfEvent, OfEntry}
 use Rattle.jfr_worklist.specs.Worklists.{marked_count}
 use Rattle.jfr_verify.specs.Receipts.{IsParent, line_if, IsValidLine, AreValidLines, IsReceiptOf, receipt_format, new_lines, event_lines, lines_from, no_marks, lines_of, receipt_of}
-use Rattle.jfr_worklist.proofs.Counts.{count_set, count_le, count_none}
-use Rattle.jfr_worklist.proofs.WalkLaws.{all_size}
+use Rattle.jfr_worklist.proofs.Counts.{count_set, count_le, count_none, count_all}
 use Rattle.jfr_verify.proofs.ParentLaws.{after, in_after}
-use Rattle.jfr_verify.proofs.MarkLaws.{set_here, set_stays, set_only, all_stay, all_here, all_append, set_old, none_marked, count_all}
 
 -- The entries of lines.
 abbrev pub entries : List Line → List ℕ

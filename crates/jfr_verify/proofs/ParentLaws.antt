@@ -11,7 +11,8 @@ use Rattle.jfr_verify.specs.declared.line.Line.{Line}
 use Rattle.jfr_verify.specs.declared.line.Parent.{Parent}
 use Rattle.jfr_verify.specs.declared.line.Parent.TheVariants.{OfEvent, OfEntry}
 use Rattle.jfr_verify.specs.Parents.{IsBefore, IsOrdered, AreOrdered, AreParentsOf, is_before, is_next}
-use Rattle.jfr_verify.proofs.MarkLaws.{set_here, set_stays, set_only, none_marked}
+use Rattle.jfr_worklist.proofs.MarkLaws.{set_here, set_stays, set_only, none_marked}
+use Rattle.jfr_layout.proofs.Lists.{present, take_next}
 
 -- The entries that have lines after these.
 abbrev pub after : List ℕ → List Line → List ℕ
@@ -45,11 +46,6 @@ get_index [] i x e = cc
 get_index (y ∷ ys) zero x e = let h : y ≡ x = cc in h
 get_index (y ∷ ys) (suc i) x e = get_index ys i x e
 
-some_at : {X : Type 0} (xs : List X) (n : ℕ) → n < length xs → (x : X) × (slice_get xs n ≡ Some x)
-some_at [] n h = absurd (omega arith)
-some_at (x ∷ xs) zero h = (x, refl)
-some_at (x ∷ xs) (suc n) h = some_at xs n (omega arith)
-
 get_same : {X : Type 0} (xs : List X) (j : ℕ) (x : X) → j < length xs → slice_get (slice_set xs j x) j ≡ Some x
 get_same [] j x h = absurd (omega arith)
 get_same (y ∷ ys) zero x h = refl
@@ -61,14 +57,6 @@ get_other (y ∷ ys) zero zero x n = absurd (n refl)
 get_other (y ∷ ys) zero (suc i) x n = refl
 get_other (y ∷ ys) (suc j) zero x n = refl
 get_other (y ∷ ys) (suc j) (suc i) x n = get_other ys j i x (λ e. n (ap (λ z. suc z) e))
-
-take_more : {X : Type 0} (xs : List X) (n : ℕ) (x : X) → slice_get xs n ≡ Some x → take (n + 1) xs ≡ take n xs ++ x ∷ []
-take_more xs n x e = (let q : n + 1 ≡ suc n = omega arith in ap (λ z. take z xs) q) ∙ by_list xs n x e
-  where
-    by_list : {X : Type 0} (xs : List X) (n : ℕ) (x : X) → slice_get xs n ≡ Some x → take (suc n) xs ≡ take n xs ++ x ∷ []
-    by_list [] n x e = cc
-    by_list (y ∷ ys) zero x e = let h : y ≡ x = cc in ap (λ z. z ∷ []) h
-    by_list (y ∷ ys) (suc n) x e = ap (λ z. y ∷ z) (by_list ys n x e)
 
 ordered_one : (count : ℕ) (before : List ℕ) (ls : List Line) (l : Line) → AreOrdered count before ls → IsOrdered count (after before ls) l → AreOrdered count before (ls ++ l ∷ [])
 ordered_one count before [] l a i = (i, tt)
@@ -122,7 +110,7 @@ module _ (count : ℕ) (ls : List Line) (seen : List Bool) (parents : List Paren
 
   pub ordered_next : IsOrdered count (after [] ls) l → is_next seen l ≡ true
   ordered_next i =
-      let g = some_at seen l.entry (omega (arith, i.below, h.size)) in
+      let g = present seen l.entry (omega (arith, i.below, h.size)) in
       by_flag g.0 g.1
     where
       by_flag : (b : Bool) → slice_get seen l.entry ≡ Some b → is_next seen l ≡ true
@@ -164,7 +152,7 @@ module _ (count : ℕ) (ls : List Line) (seen : List Bool) (parents : List Paren
 pub owners_next : (count : ℕ) (all : List Line) (k : ℕ) (l : Line) (seen more : List Bool) (parents now : List Parent) → slice_get all k ≡ Some l → InOwners count (take k all) seen parents → is_next seen l ≡ true
     → more ≡ slice_set seen l.entry true → now ≡ slice_set parents l.entry l.parent → InOwners count (take (k + 1) all) more now
 owners_next count all k l seen more parents now g h e a b =
-    subst (λ z. InOwners count z more now) (sym (take_more all k l g)) (subst (λ z. InOwners count (take k all ++ l ∷ []) z now) (sym a) (subst (InOwners count (take k all ++ l ∷ []) (slice_set seen l.entry true)) (sym b)
+    subst (λ z. InOwners count z more now) (sym (take_next all k l g)) (subst (λ z. InOwners count (take k all ++ l ∷ []) z now) (sym a) (subst (InOwners count (take k all ++ l ∷ []) (slice_set seen l.entry true)) (sym b)
     (owners_one count (take k all) seen parents h l (next_ordered count (take k all) seen parents h l e))))
 
 pub owners_stop : (count : ℕ) (all : List Line) (k : ℕ) (l : Line) (seen : List Bool) (parents : List Parent) → slice_get all k ≡ Some l → InOwners count (take k all) seen parents → is_next seen l ≡ false → AreOrdered count [] all → ⊥

@@ -31,8 +31,7 @@ use Rattle.jfr_verify.specs.Claims.{RefersTo, AreConfirmed}
 use Rattle.jfr_verify.specs.Prefix.{AllInForce, ReceiptPrefix}
 use Rattle.jfr_verify.specs.Reading.{got_in, if_count, lines_of_count}
 use Rattle.jfr_worklist.proofs.Counts.{count_set, count_le, count_none}
-use Rattle.jfr_worklist.proofs.WalkLaws.{all_size}
-use Rattle.jfr_verify.proofs.MarkLaws.{all_only, none_marked, set_only}
+use Rattle.jfr_worklist.proofs.MarkLaws.{all_size, all_only, none_marked, set_only}
 
 line_free : PlaceFree line_format
 line_free = λ v s. λ b. λ n t. tt

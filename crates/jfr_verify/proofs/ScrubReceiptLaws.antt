@@ -21,6 +21,7 @@ use Rattle.jfr_chunk.specs.Meaning.{SameEntry, SameEvent, SameMeaning}
 use Rattle.jfr_chunk.specs.Parts.{AreParts, EventAt, Parts, events_of}
 use Rattle.jfr_chunk.specs.Reach.{kept_by, marked, next_entries, node_entries, roots}
 use Rattle.jfr_chunk.proofs.AllLaws.{all_append}
+use Rattle.jfr_worklist.proofs.MarkLaws.{all_here, all_only, none_marked, set_here, set_old, set_only, set_stays}
 use Rattle.jfr_chunk.proofs.ReachedLaws.{path_reach}
 use Rattle.jfr_chunk.proofs.StandingLaws.{event_is, standing}
 use Rattle.jfr_laws.specs.Laws.{IsKept}
@@ -35,12 +36,12 @@ use Rattle.jfr_verify.specs.Receipts.{event_lines, line_bytes, line_if, lines_fr
 use Rattle.jfr_verify.proofs.CompleteLaws.{kept_passes}
 use Rattle.jfr_verify.proofs.CopyLaws.{copied_length}
 use Rattle.jfr_verify.proofs.LineLaws.{each_has_line, entries, receipt_of_is_receipt}
-use Rattle.jfr_verify.proofs.MarkLaws as marks_laws
-use Rattle.jfr_verify.proofs.MarkLaws.{all_here, all_only, none_marked, set_here, set_old, set_only, set_stays}
+use Rattle.jfr_worklist.proofs.MarkLaws as marks_laws
 use Rattle.jfr_verify.proofs.RankLaws.{rank_once, rank_within}
 use Rattle.jfr_verify.proofs.SpellingLaws.{receipt_exact}
 use Rattle.jfr_verify.proofs.VerifiedLaws.{copy_of, copy_targets, kept_node, meaning, output_event, targets_same}
-use Rattle.jfr_verify.proofs.WalkLaws.{none_left, roots_cons, some_at}
+use Rattle.jfr_verify.proofs.WalkLaws.{none_left, roots_cons}
+use Rattle.jfr_layout.proofs.Lists.{present}
 
 -- ---- lists and marks
 
@@ -164,7 +165,7 @@ module _ (p q : Parts) (a : AreParts p) (b : AreParts q) (flags : List Bool) (re
   -- What a marked entry and its copy refer to.
   next_same : (i : ℕ) → IsMarked marks i → next_entries q (to i) ≡ map to (next_entries p i)
   next_same i m =
-      let f = some_at q q.entries (to i) (to_below i m) in
+      let f = present q.entries (to i) (to_below i m) in
       let c = copy_of p q a b flags receipt h (to i) f.0 f.1 in
       let place : c.place ≡ i = rank_once marks c.place i c.is_marked m c.number_is in
       let there : slice_get p.entries i ≡ Some c.entry = ap (slice_get p.entries) (sym place) ∙ c.stands in

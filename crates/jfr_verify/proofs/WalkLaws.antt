@@ -1,5 +1,5 @@
 -- The loops over events and over lines.
-use Rattle.std.specs.Prelude.{◌≡◌, ◌<◌, ◌≤◌, ◌+◌, ℕ, zero, suc, Bool, List, [], ◌∷◌, ◌++◌, take, drop, length, slice_get, slice_index_or, Option, Some, None, option_map}
+use Rattle.std.specs.Prelude.{◌≡◌, ◌<◌, ◌≤◌, ◌+◌, ℕ, zero, suc, Bool, List, [], ◌∷◌, ◌++◌, take, drop, length, slice_get, Option, Some, None, option_map}
 use Rattle.std.specs.List.{AllByRecursion, flat_map}
 use Rattle.jfr_base.specs.Integer.{spell}
 use Rattle.std.proofs.Common.{ap, arith, refl, sym, ◌∙◌, subst}
@@ -11,12 +11,13 @@ use Rattle.jfr_chunk.specs.Parts.{Parts, EventAt, events_of}
 use Rattle.jfr_worklist.specs.Marks.{marked_at, add, those}
 use Rattle.jfr_chunk.specs.Reach.{all_targets, nodes_of, roots, node_entries, next_entries}
 use Rattle.jfr_pool.proofs.ForceLaws.{force_within}
-use Rattle.jfr_chunk.proofs.RefLaws.{those_append}
+use Rattle.jfr_worklist.proofs.Members.{those_append}
+use Rattle.jfr_worklist.proofs.MarkLaws.{all_size, all_append}
 use Rattle.jfr_verify.specs.declared.line.Line.{Line}
 use Rattle.jfr_verify.specs.declared.line.Parent.TheVariants.{OfEvent, OfEntry}
 use Rattle.jfr_verify.specs.Receipts.{new_lines, event_lines, lines_from, lines_of, no_marks, line_bytes, receipt_of}
-use Rattle.jfr_worklist.proofs.WalkLaws.{all_size}
-use Rattle.jfr_verify.proofs.MarkLaws.{all_append}
+use Rattle.jfr_layout.proofs.Lists.{take_next}
+use Rattle.jfr_chunk.proofs.RootLaws.{roots_one}
 
 -- Numbers in force are below the number of entries.
 pub those_below : (es : List EntryAt) (ts : List (ℕ × ℕ)) → AllByRecursion (λ n. n < length es) (those (number_in_force es) ts)
@@ -39,15 +40,6 @@ module _ (p : Parts) where
   pub given_is : (x : List ℕ) (o : Option EventAt) (e : EventAt) → Some x ≡ option_map refers o → o ≡ Some e → x ≡ refers e
   given_is x o e q h = let z : Some x ≡ Some (refers e) = q ∙ ap (option_map refers) h in cc
 
-  all_targets_append : (xs ys : List EventAt) → all_targets p (nodes_of (xs ++ ys)) ≡ all_targets p (nodes_of xs) ++ all_targets p (nodes_of ys)
-  all_targets_append [] ys = refl
-  all_targets_append (x ∷ xs) ys = ap (λ z. targets p.classes p.bytes x.node ++ z) (all_targets_append xs ys) ∙ sym (append_assoc (targets p.classes p.bytes x.node) (all_targets p (nodes_of xs)) (all_targets p (nodes_of ys)))
-
-  roots_one : (xs : List EventAt) (e : EventAt) → roots p (xs ++ e ∷ []) ≡ roots p xs ++ refers e
-  roots_one xs e =
-      ap (those (number_in_force p.entries)) (all_targets_append xs (e ∷ []) ∙ ap (λ z. all_targets p (nodes_of xs) ++ z) (append-nil (targets p.classes p.bytes e.node)))
-      ∙ those_append (number_in_force p.entries) (all_targets p (nodes_of xs)) (targets p.classes p.bytes e.node)
-
   pub roots_cons : (x : EventAt) (xs : List EventAt) → roots p (x ∷ xs) ≡ refers x ++ roots p xs
   roots_cons x xs = those_append (number_in_force p.entries) (targets p.classes p.bytes x.node) (all_targets p (nodes_of xs))
 
@@ -68,33 +60,18 @@ module _ (p : Parts) where
   pub in_events_size : (n : ℕ) (flags : List Bool) (items : List Line) → InEvents n flags items → length flags ≡ length p.entries
   in_events_size n flags items h = ap length h.marks ∙ (all_size (no_marks p) (roots p (take n (events_of p))) ∙ length-replicate (length p.entries) _)
 
-  take_more : {X : Type 0} (xs : List X) (n : ℕ) (x : X) → slice_get xs n ≡ Some x → take (suc n) xs ≡ take n xs ++ x ∷ []
-  take_more [] n x e = cc
-  take_more (y ∷ ys) zero x e = let h : y ≡ x = cc in ap (λ z. z ∷ []) h
-  take_more (y ∷ ys) (suc n) x e = ap (λ z. y ∷ z) (take_more ys n x e)
-
   get_length : {X : Type 0} (xs : List X) (n : ℕ) (x : X) → slice_get xs n ≡ Some x → length (take n xs) ≡ n
   get_length [] n x e = cc
   get_length (y ∷ ys) zero x e = refl
   get_length (y ∷ ys) (suc n) x e = ap (λ z. suc z) (get_length ys n x e)
 
-  pub some_at : {X : Type 0} (xs : List X) (n : ℕ) → n < length xs → (x : X) × (slice_get xs n ≡ Some x)
-  some_at [] n h = absurd (omega arith)
-  some_at (x ∷ xs) zero h = (x, refl)
-  some_at (x ∷ xs) (suc n) h = some_at xs n (omega arith)
-
-  pub get_here : {X : Type 0} (xs : List X) (n : ℕ) (x : X) → n < length xs → x ≡ slice_index_or xs n x → slice_get xs n ≡ Some x
-  get_here [] n x h e = absurd (omega arith)
-  get_here (y ∷ ys) zero x h e = ap (λ z. Some z) (sym e)
-  get_here (y ∷ ys) (suc n) x h e = get_here ys n x (omega arith) e
-
   pub in_events_next : (n : ℕ) (e : EventAt) (flags more : List Bool) (items now : List Line) → slice_get (events_of p) n ≡ Some e → InEvents n flags items → more ≡ marked_at flags (refers e) → now ≡ items ++ new_lines flags (OfEvent n) (refers e) → InEvents (n + 1) more now
   in_events_next n e flags more items now g h a b =
       let es : List EventAt = take n (events_of p) in
-      let t : take (n + 1) (events_of p) ≡ es ++ e ∷ [] = (let q : n + 1 ≡ suc n = omega arith in ap (λ z. take z (events_of p)) q) ∙ take_more (events_of p) n e g in
+      let t : take (n + 1) (events_of p) ≡ es ++ e ∷ [] = take_next (events_of p) n e g in
       let l : 0 + length es ≡ n = (let z = get_length (events_of p) n e g in omega arith) in
       record {
-        marks = a ∙ (ap (λ z. marked_at z (refers e)) h.marks ∙ (sym (all_append (no_marks p) (roots p es) (refers e)) ∙ ap (marked_at (no_marks p)) (sym (ap (roots p) t ∙ roots_one es e))));
+        marks = a ∙ (ap (λ z. marked_at z (refers e)) h.marks ∙ (sym (all_append (no_marks p) (roots p es) (refers e)) ∙ ap (marked_at (no_marks p)) (sym (ap (roots p) t ∙ roots_one p es e))));
         lines = b ∙ (ap (λ z. z ++ new_lines flags (OfEvent n) (refers e)) h.lines ∙ (ap (λ z. event_lines p (no_marks p) 0 es ++ new_lines z (OfEvent n) (refers e)) h.marks
             ∙ (ap (λ z. event_lines p (no_marks p) 0 es ++ new_lines (marked_at (no_marks p) (roots p es)) (OfEvent z) (refers e)) (sym l) ∙ sym (ap (event_lines p (no_marks p) 0) t ∙ event_lines_one (no_marks p) 0 es e))));
       }
@@ -142,7 +119,7 @@ module _ (p : Parts) where
           let within : suc next ≤ length items = get_within items next l g in
           let d : drop next items ≡ l ∷ drop (suc next) items = drop_get items next l g in
           let q : next + 1 ≡ suc next = omega arith in
-          let t : take (next + 1) now ≡ take next items ++ l ∷ [] = ap (λ z. take z now) q ∙ (ap (take (suc next)) b ∙ (take_front items new (suc next) within ∙ take_more items next l g)) in
+          let t : take (next + 1) now ≡ take next items ++ l ∷ [] = ap (λ z. take z now) q ∙ (ap (take (suc next)) b ∙ (take_front items new (suc next) within ∙ (sym (ap (λ z. take z items) q) ∙ take_next items next l g))) in
           let u : drop (next + 1) now ≡ drop (suc next) items ++ new = ap (λ z. drop z now) q ∙ (ap (drop (suc next)) b ∙ drop_front items new (suc next) within) in
           let v : lines_from n p (marked_at flags (next_entries p l.entry)) (drop (suc next) items ++ new) ≡ lines_from n p more (drop (next + 1) now) =
           ap (λ z. lines_from n p z (drop (suc next) items ++ new)) (sym a) ∙ ap (lines_from n p more) (sym u) in

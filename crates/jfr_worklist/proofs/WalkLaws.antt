@@ -6,14 +6,9 @@ use Rattle.jfr_worklist.specs.Marks.{is_marked, IsMarked, marked_at}
 use Rattle.jfr_worklist.specs.Members.{In}
 use Rattle.jfr_worklist.proofs.SweepLaws.{Reach, AllBelow}
 use Rattle.jfr_worklist.specs.Worklists.{ordered, ordered_all}
-use Rattle.jfr_worklist.proofs.MarkLaws as marks
-use Rattle.jfr_worklist.proofs.MarkLaws.{none_marked}
+use Rattle.jfr_worklist.proofs.MarkLaws.{all_size, none_marked}
 use Rattle.jfr_worklist.proofs.ClosureLaws.{Work, work_starts, work_takes, work_done}
 use Rattle.jfr_worklist.proofs.PutLaws.{weigh, waiting, put_longer, work_all, all_weigh, weigh_all}
-
--- There are as many flags as before.
-pub all_size : (f : List Bool) (ts : List ℕ) → length (marked_at f ts) ≡ length f
-all_size f ts = marks.all_size f ts
 
 put_front : (f : List Bool) (o : List ℕ) (k t : ℕ) → k ≤ length o → take k (ordered f o t) ≡ take k o
 put_front f o k t h = by_mark (is_marked f t)

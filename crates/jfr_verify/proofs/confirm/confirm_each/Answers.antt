@@ -2,7 +2,7 @@ use Rattle.std.proofs.Common.{◌≡◌, length, take, slice_index_or, [], ◌�
 use Rattle.std.proofs.Math.Seq.{take-length}
 use Rattle.jfr_verify.specs.Confirmed.{Confirms}
 use Rattle.jfr_verify.specs.Claims.{children}
-use Rattle.jfr_worklist.proofs.WalkLaws.{all_size}
+use Rattle.jfr_worklist.proofs.MarkLaws.{all_size}
 use Rattle.jfr_verify.proofs.ClaimLaws.{confirms_more}
 use Rattle.jfr_verify.proofs.confirm.confirm_each.Goals as goal
 
