@@ -59,3 +59,12 @@ pub(crate) fn reference(class: u64) -> Shape {
         array: false,
     }
 }
+
+/// An array of references to constants of a class.
+pub(crate) fn references(class: u64) -> Shape {
+    Shape {
+        class,
+        constant: true,
+        array: true,
+    }
+}

@@ -3,7 +3,7 @@
 ghost use Rattle.std.specs.Prelude.{◌≡◌, ◌<◌, IfSome};
 ghost use Rattle.jfr_value.specs.Nodes.{IsValue};
 
-use crate::classes::{add, inline, items, reference};
+use crate::classes::{add, inline, items, reference, references};
 use jfr_base::{Flaw, Reason};
 use jfr_layout::{ClassFault, ClassList, Classes, Kind, Shape};
 use jfr_value::{LeafKind, Leaves, Node, Step, Steps, child, end_of};
@@ -14,16 +14,11 @@ use std::test::Fail;
 
 // A number, a double, a string and a class of two fields: keys of its own class, and a double.
 fn some_classes(alloc: Global) -> Result<Classes, ClassFault> {
-    let keys = Shape {
-        class: 4,
-        constant: true,
-        array: true,
-    };
     let mut list = ClassList::new(alloc);
     add(&mut list, alloc, 1, "long", None, &[])?;
     add(&mut list, alloc, 2, "double", None, &[])?;
     add(&mut list, alloc, 3, "java.lang.String", None, &[])?;
-    let fields = [("a", keys), ("b", inline(2))];
+    let fields = [("a", references(4)), ("b", inline(2))];
     add(&mut list, alloc, 4, "t.Pair", None, &fields)?;
     Classes::make(alloc, list)
 }

@@ -3,7 +3,7 @@
 ghost use Rattle.std.specs.Prelude.{◌≡◌, ◌<◌};
 ghost use Rattle.jfr_value.specs.Nodes.{IsValue};
 
-use crate::classes::{add, inline, items, reference};
+use crate::classes::{add, inline, items, reference, references};
 use crate::value::node_at_front;
 use jfr_base::{Flaw, Reason};
 use jfr_layout::{ClassFault, ClassList, Classes, Shape};
@@ -36,11 +36,6 @@ impl Visit<u64> for Seen {
 
 // A number, a string, a class without fields, and one with a reference, a string, references and a number.
 fn node_classes(alloc: Global) -> Result<Classes, ClassFault> {
-    let keys = Shape {
-        class: 4,
-        constant: true,
-        array: true,
-    };
     let mut list = ClassList::new(alloc);
     add(&mut list, alloc, 1, "long", None, &[])?;
     add(&mut list, alloc, 2, "java.lang.String", None, &[])?;
@@ -48,7 +43,7 @@ fn node_classes(alloc: Global) -> Result<Classes, ClassFault> {
     let fields = [
         ("a", reference(4)),
         ("b", inline(2)),
-        ("c", keys),
+        ("c", references(4)),
         ("d", inline(1)),
     ];
     add(&mut list, alloc, 4, "t.Node", None, &fields)?;
