@@ -80,63 +80,109 @@ fn events_follow_one_another(rt: HostRuntime) -> Result<(), Fail> {
     Ok(())
 }
 
+// The events of the chunk of rings, to the depth 0 and to the depth 2.
+const FLAT_A: &str = "t.A {
+  n = 300
+  node = t.Node#1
+}
+";
+
+const FLAT_B: &str = "t.B {
+  node = t.Node#3
+}
+";
+
+const DEEP_A: &str = "t.A {
+  n = 300
+  node = t.Node {
+    next = t.Node {
+      next = t.Node#1
+      text = \"q\"
+    }
+    text = \"p\"
+  }
+}
+";
+
+const DEEP_B: &str = "t.B {
+  node = t.Node {
+    next = t.Node {
+      next = t.Node#3
+      text = \"s\"
+    }
+    text = \"r\"
+  }
+}
+";
+
 #[test]
 fn references_are_followed_to_the_depth(rt: HostRuntime) -> Result<(), Fail> {
     let alloc = rt.alloc();
     let bytes = with_classes(alloc, RINGS, 333)?;
-    compare(
-        &rt,
-        alloc,
-        &bytes,
-        0,
-        0,
-        "t.A {\n  n = 300\n  node = t.Node#1\n}\n",
-    )?;
-    compare(&rt, alloc, &bytes, 1, 0, "t.B {\n  node = t.Node#3\n}\n")?;
-    compare(
-        &rt,
-        alloc,
-        &bytes,
-        0,
-        2,
-        "t.A {\n  n = 300\n  node = t.Node {\n    next = t.Node {\n      next = t.Node#1\n      text = \"q\"\n    }\n    text = \"p\"\n  }\n}\n",
-    )?;
-    compare(
-        &rt,
-        alloc,
-        &bytes,
-        1,
-        2,
-        "t.B {\n  node = t.Node {\n    next = t.Node {\n      next = t.Node#3\n      text = \"s\"\n    }\n    text = \"r\"\n  }\n}\n",
-    )
+    compare(&rt, alloc, &bytes, 0, 0, FLAT_A)?;
+    compare(&rt, alloc, &bytes, 1, 0, FLAT_B)?;
+    compare(&rt, alloc, &bytes, 0, 2, DEEP_A)?;
+    compare(&rt, alloc, &bytes, 1, 2, DEEP_B)
 }
+
+const MISSING: &str = "t.A {
+  n = 300
+  node = t.Node {
+    next = t.Node#0 (missing)
+    text = java.lang.String#2
+  }
+}
+";
 
 #[test]
 fn missing_constants_are_shown(rt: HostRuntime) -> Result<(), Fail> {
     let alloc = rt.alloc();
     let bytes = with_classes(alloc, STRINGS, 330)?;
-    compare(
-        &rt,
-        alloc,
-        &bytes,
-        0,
-        2,
-        "t.A {\n  n = 300\n  node = t.Node {\n    next = t.Node#0 (missing)\n    text = java.lang.String#2\n  }\n}\n",
-    )
+    compare(&rt, alloc, &bytes, 0, 2, MISSING)
 }
+
+const OF_EACH_KIND: &str = "t.All {
+  flag = true
+  small = -1
+  letter = 65535
+  low = -1
+  count = -2147483648
+  wide = -1
+  ratio = 0x3f800000
+  exact = 0x3ff0000000000000
+  none = null
+  empty = \"\"
+  told = \"a\\\"\\\\\\u000a\\u007fä\"
+  units = \"b€\"
+  latin = \"ä\"
+  place = t.Place {
+    x = 7
+  }
+  numbers = [
+    1
+    -1
+  ]
+  places = [
+    t.Place {
+      x = 5
+    }
+  ]
+  nothing = [
+  ]
+  keys = [
+    t.Place {
+      x = 3
+    }
+    t.Place#9 (missing)
+  ]
+}
+";
 
 #[test]
 fn values_of_each_kind_are_shown(rt: HostRuntime) -> Result<(), Fail> {
     let alloc = rt.alloc();
     let bytes = kinds(alloc)?;
-    compare(
-        &rt,
-        alloc,
-        &bytes,
-        0,
-        1,
-        "t.All {\n  flag = true\n  small = -1\n  letter = 65535\n  low = -1\n  count = -2147483648\n  wide = -1\n  ratio = 0x3f800000\n  exact = 0x3ff0000000000000\n  none = null\n  empty = \"\"\n  told = \"a\\\"\\\\\\u000a\\u007fä\"\n  units = \"b€\"\n  latin = \"ä\"\n  place = t.Place {\n    x = 7\n  }\n  numbers = [\n    1\n    -1\n  ]\n  places = [\n    t.Place {\n      x = 5\n    }\n  ]\n  nothing = [\n  ]\n  keys = [\n    t.Place {\n      x = 3\n    }\n    t.Place#9 (missing)\n  ]\n}\n",
-    )
+    compare(&rt, alloc, &bytes, 0, 1, OF_EACH_KIND)
 }
 
 const PARK: &str = "jdk.ThreadPark {

@@ -35,68 +35,53 @@ fn compare(
     Ok(())
 }
 
+// The events of the chunk of rings.
+const RING_A: &str =
+    r#"{"type":"t.A","values":{"n":300,"node":{"next":{"class":"t.Node","key":2},"text":"p"}}}
+"#;
+
+const RING_B: &str =
+    r#"{"type":"t.B","values":{"node":{"next":{"class":"t.Node","key":4},"text":"r"}}}
+"#;
+
 #[test]
 fn references_are_objects(rt: HostRuntime) -> Result<(), Fail> {
     let alloc = rt.alloc();
     let bytes = with_classes(alloc, RINGS, 333)?;
-    compare(
-        &rt,
-        alloc,
-        &bytes,
-        0,
-        1,
-        "{\"type\":\"t.A\",\"values\":{\"n\":300,\"node\":{\"next\":{\"class\":\"t.Node\",\"key\":2},\"text\":\"p\"}}}\n",
-    )?;
-    compare(
-        &rt,
-        alloc,
-        &bytes,
-        1,
-        1,
-        "{\"type\":\"t.B\",\"values\":{\"node\":{\"next\":{\"class\":\"t.Node\",\"key\":4},\"text\":\"r\"}}}\n",
-    )
+    compare(&rt, alloc, &bytes, 0, 1, RING_A)?;
+    compare(&rt, alloc, &bytes, 1, 1, RING_B)
 }
+
+const MISSING: &str =
+    r#"{"type":"t.A","values":{"n":300,"node":{"next":{"class":"t.Node","key":0,"missing":true},"text":{"class":"java.lang.String","key":2}}}}
+"#;
 
 #[test]
 fn missing_constants_are_members(rt: HostRuntime) -> Result<(), Fail> {
     let alloc = rt.alloc();
     let bytes = with_classes(alloc, STRINGS, 330)?;
-    compare(
-        &rt,
-        alloc,
-        &bytes,
-        0,
-        2,
-        "{\"type\":\"t.A\",\"values\":{\"n\":300,\"node\":{\"next\":{\"class\":\"t.Node\",\"key\":0,\"missing\":true},\"text\":{\"class\":\"java.lang.String\",\"key\":2}}}}\n",
-    )
+    compare(&rt, alloc, &bytes, 0, 2, MISSING)
 }
+
+const OF_EACH_KIND: &str =
+    "{\"type\":\"t.All\",\"values\":{\"count\":-2147483648,\"empty\":\"\",\"exact\":\"0x3ff0000000000000\",\"flag\":true,\"keys\":[{\"x\":3},{\"class\":\"t.Place\",\"key\":9,\"missing\":true}],\"latin\":\"ä\",\"letter\":65535,\"low\":-1,\"none\":null,\"nothing\":[],\"numbers\":[1,-1],\"place\":{\"x\":7},\"places\":[{\"x\":5}],\"ratio\":\"0x3f800000\",\"small\":-1,\"told\":\"a\\\"\\\\\\n\u{7F}ä\",\"units\":\"b€\",\"wide\":-1}}\n";
 
 #[test]
 fn members_are_ordered_by_their_keys(rt: HostRuntime) -> Result<(), Fail> {
     let alloc = rt.alloc();
     let bytes = kinds(alloc)?;
-    compare(
-        &rt,
-        alloc,
-        &bytes,
-        0,
-        1,
-        "{\"type\":\"t.All\",\"values\":{\"count\":-2147483648,\"empty\":\"\",\"exact\":\"0x3ff0000000000000\",\"flag\":true,\"keys\":[{\"x\":3},{\"class\":\"t.Place\",\"key\":9,\"missing\":true}],\"latin\":\"ä\",\"letter\":65535,\"low\":-1,\"none\":null,\"nothing\":[],\"numbers\":[1,-1],\"place\":{\"x\":7},\"places\":[{\"x\":5}],\"ratio\":\"0x3f800000\",\"small\":-1,\"told\":\"a\\\"\\\\\\n\u{7F}ä\",\"units\":\"b€\",\"wide\":-1}}\n",
-    )
+    compare(&rt, alloc, &bytes, 0, 1, OF_EACH_KIND)
 }
+
+const LONG_KEYS: &str =
+    r#"{"type":"t.Long","values":{"bbbbbbbbbbbbbbbbbbbbbbbbbbbbbbbbbbbbbbbbbbbbbbbbbbbbbbbbbbbbbbbbb":3,"cccccccccccccccccccccccccccccccccccccccccccccccccccccccccccccccc":2,"dddddddddddddddddddddddddddddddddddddddddddddddddddddddddddddddd\"":1}}
+"#;
 
 #[test]
 fn long_names_are_keys(rt: HostRuntime) -> Result<(), Fail> {
     let alloc = rt.alloc();
     let bytes = long_names(alloc)?;
-    compare(
-        &rt,
-        alloc,
-        &bytes,
-        0,
-        1,
-        "{\"type\":\"t.Long\",\"values\":{\"bbbbbbbbbbbbbbbbbbbbbbbbbbbbbbbbbbbbbbbbbbbbbbbbbbbbbbbbbbbbbbbbb\":3,\"cccccccccccccccccccccccccccccccccccccccccccccccccccccccccccccccc\":2,\"dddddddddddddddddddddddddddddddddddddddddddddddddddddddddddddddd\\\"\":1}}\n",
-    )
+    compare(&rt, alloc, &bytes, 0, 1, LONG_KEYS)
 }
 
 const PARK: &str =
