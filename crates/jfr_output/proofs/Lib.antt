@@ -1,6 +1,7 @@
 pub mod CheckpointEntries
 pub mod CursorLaws
 pub mod MadeFile
+pub mod MadeOutput
 pub mod NewLaws
 pub mod OutputRecordLaws
 pub mod PoolLaws

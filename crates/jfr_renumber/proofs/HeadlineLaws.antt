@@ -1,15 +1,12 @@
 -- What a renumbering writes is the output of each chunk with new keys.
-use Rattle.std.specs.Prelude.{◌≡◌, ℕ, ◌≤◌, Bool, List, [], ◌∷◌, length, map, true, Option, Some, None, Result, Ok, Err}
-use Rattle.std.specs.List.{AllByRecursion}
+use Rattle.std.specs.Prelude.{◌≡◌, ℕ, ◌≤◌, Bool, List, length, Some, None, Result, Ok, Err}
 use Rattle.std.proofs.Common.{ap, arith, refl, sym, subst, ◌∙◌}
 use Rattle.jfr_base.specs.declared.flaw.Flaw.{Flaw}
 use Rattle.jfr_base.specs.declared.flaw.Refusal.{Refusal}
-use Rattle.jfr_outside.specs.World.{World, State, Told}
+use Rattle.jfr_outside.specs.World.{State, Told}
 use Rattle.jfr_header.specs.declared.ending.Ending.{Ending}
 use Rattle.jfr_header.specs.declared.ending.Ending.TheVariants as ending
-use Rattle.jfr_header.specs.Cuts.{cut}
 use Rattle.jfr_header.specs.Fronts.{Whole}
-use Rattle.jfr_header.proofs.CutLaws.{are_cut, all_whole}
 use Rattle.jfr_filter.specs.Filters.{Given}
 use Rattle.jfr_plan.specs.Ends.{Fine, Refused}
 use Rattle.jfr_plan.specs.Effects.{alone}
@@ -19,10 +16,11 @@ use Rattle.jfr_chunk.specs.Reach.{kept_by}
 use Rattle.jfr_chunk.specs.Chosen.{chosen, kept_of}
 use Rattle.jfr_chunk.specs.Refusal.{read_parts, refusal_of, flaw_in}
 use Rattle.jfr_chunk.proofs.ChainAnswers.{is_computed}
-use Rattle.jfr_output.specs.Recordings.{IsByPlan, before_refused, unless_refused}
-use Rattle.jfr_output.proofs.MadeFile.{Made, made_by_plan}
+use Rattle.jfr_output.specs.Recordings.{IsByPlan}
+use Rattle.jfr_output.proofs.MadeFile.{made_by_plan}
+use Rattle.jfr_output.proofs.MadeOutput.{has_output}
 use Rattle.jfr_output.proofs.RecordingLaws.{MakesWhole, written_chunks}
-use Rattle.jfr_renumber.specs.Headline.{AreRenumberedOutputs, IsRenumberedOutput, IsRenumberingOf, Renumbers, recording_renumbered}
+use Rattle.jfr_renumber.specs.Headline.{IsRenumberedOutput, Renumbers}
 use Rattle.jfr_renumber.specs.Meaning.{IsRenumbered}
 use Rattle.jfr_renumber.specs.Renumber.{renumber_of}
 use Rattle.jfr_renumber.specs.Renumbers.{renumbered, renumbered_by, renumbering}
@@ -62,35 +60,11 @@ outputs_whole g c w n =
     let l : length s.parts.bytes ≡ length c = ap (λ (z : List ℕ). length z) s.bytes in
     (subst Whole (sym s.becomes) s.renumbered.whole, omega arith)
 
--- Each chunk before the first refused one is renumbered.
-are_outputs : (g : Given) (cs : List (List ℕ)) → AllByRecursion Whole cs → AreRenumberedOutputs g (before_refused refusal_of cs) (map (renumbered g) (before_refused refusal_of cs))
-are_outputs g [] w = tt
-are_outputs g (c ∷ cs) w = by_flaw (refusal_of c) refl (are_outputs g cs w.1)
-  where
-    by_flaw : (o : Option Flaw) → refusal_of c ≡ o → AreRenumberedOutputs g (before_refused refusal_of cs) (map (renumbered g) (before_refused refusal_of cs))
-        → AreRenumberedOutputs g (unless_refused o (c ∷ before_refused refusal_of cs)) (map (renumbered g) (unless_refused o (c ∷ before_refused refusal_of cs)))
-    by_flaw None e later = (is_output g c w.0 e, later)
-    by_flaw (Some flaw) e later = tt
-
--- What a recording becomes is its renumbering.
-pub is_renumbering_of : (g : Given) (x : List ℕ) → IsRenumberingOf g x (recording_renumbered g x)
-is_renumbering_of g x =
-    let cs : List (List ℕ) = (cut x 0 true).chunks in
-    record {
-      results = map (renumbered g) (before_refused refusal_of cs);
-      outputs = are_outputs g cs (all_whole cs (cut x 0 true).flaw x 0 true (are_cut x 0 true));
-      bytes = refl;
-      chunks = written_chunks refusal_of (renumbered g) (outputs_whole g) x;
-    }
-
-renumbers : (g : Given) (input output : List ℕ) (w v : World) → Made refusal_of (renumbered g) input output w v → Renumbers g input output w v
-renumbers g input output w v h =
-    record { recording = h.recording; read = h.read; written = recording_renumbered g h.recording; stands = h.stands; renumbering = is_renumbering_of g h.recording }
-
 -- An answer that the plan ends with.
 pub headline : (g : Given) (input output : List ℕ) (e : Ending) (a b : State) → (e ≡ ending.Done → Ended (over (renumbering g output) input) Fine (alone a) (alone b))
     → ((r : Refusal) → e ≡ ending.Refused r → Ended (over (renumbering g output) input) (Refused r) (alone a) (alone b)) → IsByPlan e → Told a.told b.told (Renumbers g input output)
-headline g input output = made_by_plan refusal_of (renumbered g) input output (Renumbers g input output) (renumbers g input output)
+headline g input output = made_by_plan refusal_of (renumbered g) input output (Renumbers g input output)
+    (has_output refusal_of (renumbered g) (IsRenumberedOutput g) (is_output g) (written_chunks refusal_of (renumbered g) (outputs_whole g)) input output)
 
 -- What a chunk is read as is renumbered.
 pub made_of : (g : Given) (c b : List ℕ) (p : Parts) → read_parts c ≡ Ok p → b ≡ renumber_of p (kept_of g p) → (refusal_of c ≡ None) × (b ≡ renumbered g c)

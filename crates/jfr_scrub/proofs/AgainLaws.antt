@@ -16,9 +16,9 @@ use Rattle.jfr_chunk.specs.Scrub.{scrub_of}
 use Rattle.jfr_chunk.specs.Refusal.{flaw_in, read_parts, refusal_of}
 use Rattle.jfr_chunk.proofs.ChainAnswers.{is_computed}
 use Rattle.jfr_laws.proofs.Settled.{settled}
-use Rattle.jfr_output.specs.Recordings.{AreChunksOf, before_refused, unless_refused}
+use Rattle.jfr_output.specs.Recordings.{AreChunksOf, AreOutputs, before_refused, unless_refused}
 use Rattle.jfr_output.proofs.RecordingLaws.{written_chunks}
-use Rattle.jfr_scrub.specs.Headline.{AreScrubbed, IsScrubbed, IsScrubOf, recording_scrubbed}
+use Rattle.jfr_scrub.specs.Headline.{IsScrubbed, IsScrubOf, recording_scrubbed}
 use Rattle.jfr_scrub.specs.Scrubs.{scrubbed, scrubbed_by}
 
 -- ---- one chunk
@@ -109,7 +109,7 @@ recording_again g x =
     by_chunks g (map (scrubbed g) (before_refused refusal_of cs)) (recording_chunks g x) (all_same g cs (all_whole cs (cut x 0 true).flaw x 0 true (are_cut x 0 true)))
 
 -- Outputs that correspond one to one to chunks are those chunks' scrubs.
-are_these : (g : Given) (cs bs : List (List ℕ)) → AllByRecursion Whole cs → AreScrubbed g cs bs → bs ≡ map (scrubbed g) cs
+are_these : (g : Given) (cs bs : List (List ℕ)) → AllByRecursion Whole cs → AreOutputs (IsScrubbed g) cs bs → bs ≡ map (scrubbed g) cs
 are_these g [] [] w a = refl
 are_these g (c ∷ cs) (b ∷ bs) w a =
     ap (λ z. z ∷ bs) (one_scrubbed g c b w.0 a.0).1 ∙ ap (λ z. scrubbed g c ∷ z) (are_these g cs bs w.1 a.1)
@@ -128,4 +128,4 @@ before_whole (c ∷ cs) w = by_flaw (refusal_of c) (before_whole cs w.1)
 pub one_scrub : (g : Given) (x y : List ℕ) → IsScrubOf g x y → y ≡ recording_scrubbed g x
 one_scrub g x y s =
     let cs : List (List ℕ) = (cut x 0 true).chunks in
-    s.bytes ∙ ap joined (are_these g (before_refused refusal_of cs) s.results (before_whole cs (all_whole cs (cut x 0 true).flaw x 0 true (are_cut x 0 true))) s.scrubbed)
+    s.bytes ∙ ap joined (are_these g (before_refused refusal_of cs) s.results (before_whole cs (all_whole cs (cut x 0 true).flaw x 0 true (are_cut x 0 true))) s.outputs)
