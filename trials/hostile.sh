@@ -1,5 +1,5 @@
 #!/usr/bin/env bash
-# Runs the commands on hostile recordings, and holds them to bounds: bench/hostile.sh PROGRAM [SCALE [KIND..]]
+# Runs the commands on hostile recordings, and holds them to bounds: trials/hostile.sh PROGRAM [SCALE [KIND..]]
 #
 # Makes a recording of each kind of hostile.py, or of those that are given, at SCALE (from 0 to 1, without it 1), and
 # runs each command that reads chunks on it, with 6 GB of memory (MEMORY, in KB) and 120 seconds (LIMIT) at most. A run
@@ -17,12 +17,11 @@
 # there were, how many of them lacked memory, and how many missed a bound. The status is 0 where none did. Texts go to
 # /dev/null, files to a temporary folder.
 set -u
+# shellcheck source=common.sh
+. "$(dirname "$(readlink -f -- "$0")")/common.sh"
 program=$(readlink -f "$1")
 scale=${2:-1}
-here=$(dirname "$(readlink -f "$0")")
 python=$(command -v python3)
-work=$(mktemp -d)
-trap 'rm -rf "$work"' EXIT
 shift $(($# > 2 ? 2 : $#))
 [ -x /usr/bin/time ] || { echo "/usr/bin/time isn't there" >&2; exit 1; }
 if [ $# -gt 0 ]; then kinds=("$@"); else mapfile -t kinds < <("$python" "$here/hostile.py"); fi

@@ -1,12 +1,11 @@
 #!/usr/bin/env bash
-# Tries the scripts jfr and dist/make with a made-up toolchain: bench/script.sh
+# Tries the scripts jfr and dist/make with a made-up toolchain: trials/script.sh
 #
 # In a copy of the repository's files, `rt` is a script that writes a program which says its number. Prints a line for
 # each case that is wrong, and at the end how many there were; the status is 0 if none was wrong.
 set -u
-top=$(dirname "$(dirname "$(readlink -f -- "$0")")")
-work=$(mktemp -d)
-trap 'rm -rf -- "$work"' EXIT
+# shellcheck source=common.sh
+. "$(dirname "$(readlink -f -- "$0")")/common.sh"
 mkdir -p "$work/copy/dist" "$work/bin"
 cp -r -- "$top"/{jfr,crates.txt,README.md,CHANGELOG.md,docs} "$work/copy/" || exit 1
 cp -- "$top"/dist/{make,sources} "$work/copy/dist/" || exit 1
@@ -23,8 +22,6 @@ END
 chmod +x "$work/bin/rt"
 cd "$work/copy" || exit 1
 system=/usr/bin:/bin
-cases=0
-wrong=0
 
 # check NAME STATUS TEXT COMMAND..: the command's status, and a text in what it writes to either stream.
 check() {
@@ -34,8 +31,7 @@ check() {
     said=$("$@" 2>&1)
     status=$?
     if [ "$status" != "$expected" ] || [[ $said != *"$text"* ]]; then
-        wrong=$((wrong + 1))
-        printf '%s: status %s, expected %s and %q: %q\n' "$name" "$status" "$expected" "$text" "$said"
+        fail "$(printf '%s: status %s, expected %s and %q: %q' "$name" "$status" "$expected" "$text" "$said")"
     fi
 }
 
@@ -94,5 +90,4 @@ check 'an archive that gives something else' 0 'two summary x' "${with[@]}" NUMB
 rm -rf crates/jfr/out
 rm "$work/bin/rt"
 check 'the same, no toolchain' 69 "can't be unpacked" "${with[@]}" ./jfr summary x
-echo "$cases cases, $wrong wrong"
-[ "$wrong" = 0 ]
+summary

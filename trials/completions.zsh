@@ -1,5 +1,5 @@
 #!/usr/bin/env zsh
-# Tries the completion of zsh in an interactive shell: bench/completions.zsh
+# Tries the completion of zsh in an interactive shell: trials/completions.zsh
 #
 # Types each line, presses the key TAB twice, and looks for a text in what the terminal shows then, or for nothing but
 # the line. Prints a line for each case that is wrong, and at the end how many there were; the status is 0 if none was

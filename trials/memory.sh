@@ -1,5 +1,5 @@
 #!/usr/bin/env bash
-# Tries each command under limits on its memory: bench/memory.sh PROGRAM FILE [STEP]
+# Tries each command under limits on its memory: trials/memory.sh PROGRAM FILE [STEP]
 #
 # The limit on the address space rises by STEP KiB (64 where it isn't given) from where the program can start until
 # each command has twice ended with 0 in a row, so that each allocation that asks the system for more fails in turn.
@@ -8,13 +8,12 @@
 # how many limits were tried, how often it ended with 0 and with 5, and what was wrong; the status is 0 where nothing
 # was.
 set -u
+# shellcheck source=common.sh
+. "$(dirname "$(readlink -f -- "$0")")/common.sh"
 program=$(readlink -f "$1")
 file=$(readlink -f "$2")
 step=${3:-64}
-work=$(mktemp -d)
-trap 'rm -rf "$work"' EXIT
 cd "$work" || exit 1
-wrong=0
 
 # The least limit, in KiB, under which the program can say how its words go.
 start=1024
@@ -33,7 +32,7 @@ try() {
     local name=$1 output=$2 limit=$start done=0 tried=0 well=0 lacking=0 status
     shift 2
     rm -rf whole whole.txt
-    "$program" "$@" >whole.txt 2>/dev/null || { echo "$name: status $? without a limit"; wrong=$((wrong + 1)); return; }
+    "$program" "$@" >whole.txt 2>/dev/null || { fail "$name: status $? without a limit"; return; }
     [ "$output" = - ] || mv "$output" whole
     while [ $done -lt 2 ]; do
         rm -f "$output"
@@ -43,14 +42,13 @@ try() {
         case $status in
             0) done=$((done + 1)); well=$((well + 1)) ;;
             5) done=0; lacking=$((lacking + 1)) ;;
-            *) echo "$name under $limit KiB: status $status"; wrong=$((wrong + 1)) ;;
+            *) fail "$name under $limit KiB: status $status" ;;
         esac
         if ! is_prefix err <(echo 'out of memory') || ! is_prefix out whole.txt || { [ "$output" != - ] && ! is_prefix "$output" whole; }; then
-            echo "$name under $limit KiB: what was written is wrong"
-            wrong=$((wrong + 1))
+            fail "$name under $limit KiB: what was written is wrong"
         fi
         limit=$((limit + step))
-        [ $tried -gt 20000 ] && { echo "$name: no end at $limit KiB"; wrong=$((wrong + 1)); return; }
+        [ $tried -gt 20000 ] && { fail "$name: no end at $limit KiB"; return; }
     done
     rm -f "$output"
     echo "$name: $tried limits from $start KiB, $well done, $lacking out of memory"

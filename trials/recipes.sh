@@ -1,24 +1,20 @@
 #!/usr/bin/env bash
-# Tries the recipes with bad files and names: bench/recipes.sh PROGRAM FILE
+# Tries the recipes with bad files and names: trials/recipes.sh PROGRAM FILE
 #
 # FILE is a recording of JDK 17 or later. The recipes run in a copy beside PROGRAM. Each case has a status, a text that
 # the error stream has, and conditions on the files afterwards. Prints a line for each case that is wrong, and at the
 # end how many there were; the status is 0 if none was wrong. The full disk is a file system of its own, which only
 # root can make: otherwise that case is skipped.
 set -u
+# shellcheck source=common.sh
+. "$(dirname "$(readlink -f -- "$0")")/common.sh"
 program=$(readlink -f -- "$1")
 file=$(readlink -f -- "$2")
-here=$(dirname "$(readlink -f -- "$0")")
-work=$(mktemp -d)
-mounted=
-trap '[ -z "$mounted" ] || umount "$mounted"; rm -rf -- "$work"' EXIT
 cd "$work" || exit 1
 mkdir send
 cp -- "$program" send/jfr
-cp -r -- "$here/../recipes" send/
+cp -r -- "$top/recipes" send/
 r=send/recipes
-cases=0
-wrong=0
 
 # run WORD..: a recipe, with its words.
 run() {
@@ -30,15 +26,12 @@ run() {
 check() {
     cases=$((cases + 1))
     if [ "$status" != "$2" ]; then
-        echo "$1: status $status, expected $2: $(head -n 3 said.err)"
+        fail "$1: status $status, expected $2: $(head -n 3 said.err)"
     elif [ -n "$3" ] && ! grep -qF -- "$3" said.err; then
-        echo "$1: the error stream hasn't '$3': $(head -n 3 said.err)"
+        fail "$1: the error stream hasn't '$3': $(head -n 3 said.err)"
     elif ! bash -c "set -e; $(cat)"; then
-        echo "$1: the files afterwards are wrong"
-    else
-        return
+        fail "$1: the files afterwards are wrong"
     fi
-    wrong=$((wrong + 1))
 }
 
 for recipe in vendor strict 'tenant --addresses' "tenant nobody-*,?"; do
@@ -191,5 +184,4 @@ if mount -t tmpfs -o size=64k tmpfs disk 2>/dev/null; then
 else
     echo 'skipped: a full disk'
 fi
-echo "$cases cases, $wrong wrong"
-[ "$wrong" = 0 ]
+summary

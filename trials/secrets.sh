@@ -1,5 +1,5 @@
 #!/usr/bin/env bash
-# Tries the recipes on recordings with planted strings: bench/secrets.sh [JDK..]
+# Tries the recipes on recordings with planted strings: trials/secrets.sh [JDK..]
 #
 # With each JDK, by default those in /usr/lib/jvm, it starts Secrets.java with strings planted in its environment,
 # properties, arguments, flags, paths, hosts, processes, names and events, and with every type of event on. Each
@@ -10,11 +10,9 @@
 # recipes/left doesn't find, a planted event type that recipes/strangers doesn't find, and an event type of the JDK that
 # recipes/types doesn't have. Says what it skipped.
 set -uf
-here=$(dirname "$(readlink -f "$0")")
-recipes=$here/../recipes
-work=$(mktemp -d)
-trap 'rm -rf "$work"' EXIT
-bad=0
+# shellcheck source=common.sh
+. "$(dirname "$(readlink -f -- "$0")")/common.sh"
+recipes=$top/recipes
 
 # The planted strings, by what the recipes say of them. All take away the first ones.
 secret="
@@ -113,14 +111,14 @@ try() {
     local jdk=$1 recording=$2 leaves=$3 out=$work/out.jfr again=$work/again.jfr found not_found
     shift 3
     rm -f "$out" "$again"
-    "$recipes/$1" "${@:2}" "$recording" "$out" 2>"$work/said" || { echo "$1: status $?"; cat "$work/said"; bad=1; return; }
-    "$recipes/$1" "${@:2}" "$out" "$again" 2>/dev/null && cmp -s "$out" "$again" || { echo "$1: a second scrub differs"; bad=1; }
-    found=$(left_in "$out" "$jdk" $planted) || { echo "$1: the JDK doesn't print the output"; bad=1; return; }
+    "$recipes/$1" "${@:2}" "$recording" "$out" 2>"$work/said" || { fail "$1: status $?"; cat "$work/said"; return; }
+    "$recipes/$1" "${@:2}" "$out" "$again" 2>/dev/null && cmp -s "$out" "$again" || fail "$1: a second scrub differs"
+    found=$(left_in "$out" "$jdk" $planted) || { fail "$1: the JDK doesn't print the output"; return; }
     not_found=$(only "$found" "$(found_by_left "$out" $planted)")
-    [ -z "$not_found" ] || { echo "$1: recipes/left doesn't find $not_found"; bad=1; }
+    [ -z "$not_found" ] || fail "$1: recipes/left doesn't find $not_found"
     echo "$1: $(wc -w <<<"$found") of $(wc -w <<<"$planted") are left; it says that it leaves $(both "$found" "$leaves")"
     found=$(only "$found" "$leaves")
-    [ -z "$found" ] || { echo "$1: LEFT, though it says that it takes them away: $found"; bad=1; }
+    [ -z "$found" ] || fail "$1: LEFT, though it says that it takes them away: $found"
 }
 
 [ $# -gt 0 ] || mapfile -t jdks < <(set +f; readlink -f /usr/lib/jvm/*/bin/java | sort -u | xargs -r -n1 dirname | xargs -r -n1 dirname)
@@ -142,10 +140,10 @@ for jdk in "${@:-${jdks[@]}}"; do
     missing=$(only "$words" "$planted")
     strange=$("$recipes/strangers" "$recording")
     for type in 'bench\.xqeventnameqx' 'jdk\.GCxqjdknameqx' 'jdk\.CPULoad (two'; do
-        grep -q "$type" <<<"$strange" || { echo "$name: recipes/strangers doesn't find $type"; bad=1; }
+        grep -q "$type" <<<"$strange" || fail "$name: recipes/strangers doesn't find $type"
     done
     unlisted=$(unlisted "$jdk")
-    [ -z "$unlisted" ] || { echo "$name: types that recipes/types doesn't have: $unlisted"; bad=1; }
+    [ -z "$unlisted" ] || fail "$name: types that recipes/types doesn't have: $unlisted"
     echo "$name: $(stat -c %s "$recording") bytes, $(wc -w <<<"$planted") strings planted${missing:+; not in its recordings: $missing}"
     try "$jdk" "$recording" "$same $code $threads $addresses $tenant $metadata" vendor
     try "$jdk" "$recording" "$same $metadata" strict
@@ -153,4 +151,4 @@ for jdk in "${@:-${jdks[@]}}"; do
     try "$jdk" "$recording" "$same $code $threads $tenant $metadata" tenant --addresses
 done
 [ -n "${planted-}" ] || echo "skipped: there is no JDK in /usr/lib/jvm that makes recordings"
-exit $bad
+[ "$wrong" = 0 ]

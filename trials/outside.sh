@@ -1,20 +1,17 @@
 #!/usr/bin/env bash
-# Tries the program against the real outside: bench/outside.sh PROGRAM FILE
+# Tries the program against the real outside: trials/outside.sh PROGRAM FILE
 #
 # FILE is a recording that the program accepts. Each case has a status that is expected, a line on the error stream,
 # and conditions on the files afterwards. Cases that this machine can't set up (a file system of its own, another user) are
 # said to be skipped. Prints a line for each case that is wrong, and at the end how many cases there were and how many
 # were wrong; the status is 0 where none was.
 set -u
+# shellcheck source=common.sh
+. "$(dirname "$(readlink -f -- "$0")")/common.sh"
 program=$(readlink -f "$1")
 file=$(readlink -f "$2")
-work=$(mktemp -d)
-mounted=
-trap '[ -n "$mounted" ] && umount "$mounted"; rm -rf "$work"' EXIT
-cd "$work" || exit 1
-cases=0
-wrong=0
 skipped=0
+cd "$work" || exit 1
 
 fault_line() {
     case $1 in
@@ -30,14 +27,11 @@ check() {
     cases=$((cases + 1))
     line=$(fault_line "$expected")
     if [ "$status" != "$expected" ]; then
-        echo "$name: status $status, expected $expected"
-        wrong=$((wrong + 1))
+        fail "$name: status $status, expected $expected"
     elif [ -n "$line" ] && [ "$(cat err 2>/dev/null)" != "$line" ]; then
-        echo "$name: said '$(cat err 2>/dev/null)', expected '$line'"
-        wrong=$((wrong + 1))
+        fail "$name: said '$(cat err 2>/dev/null)', expected '$line'"
     elif ! bash -c "set -e; $(cat)"; then
-        echo "$name: what was written is wrong"
-        wrong=$((wrong + 1))
+        fail "$name: what was written is wrong"
     fi
 }
 
@@ -109,7 +103,7 @@ check 'a closed output stream' 4 <<<'true'
 "$program" scrub missing.jfr other.jfr >out 2>/dev/full
 status=$?
 cases=$((cases + 1))
-[ "$status" = 3 ] || { echo "a full error stream: status $status, expected 3"; wrong=$((wrong + 1)); }
+[ "$status" = 3 ] || fail "a full error stream: status $status, expected 3"
 { "$program" print --depth 0 "$file" 2>err; echo $? >piped; } | head -c 1 >/dev/null
 status=$(cat piped)
 if [ "$("$program" print --depth 0 "$file" | wc -c)" -gt 200000 ]; then
@@ -166,7 +160,7 @@ pkill -P "$feeder" 2>/dev/null
 kill "$feeder" 2>/dev/null
 wait "$feeder" 2>/dev/null
 cases=$((cases + 1))
-[ "$status" = 143 ] && [ -e halted.jfr ] || { echo "a signal in mid-run: status $status"; wrong=$((wrong + 1)); }
+[ "$status" = 143 ] && [ -e halted.jfr ] || fail "a signal in mid-run: status $status"
 run scrub "$file" halted.jfr
 check 'a second run after a signal' 4 <<<'test "$(stat -c %s halted.jfr)" -lt "$(stat -c %s whole.jfr)"'
 
@@ -181,5 +175,4 @@ touch "$(printf 'folder/\377.jfr')"
 run assemble folder again.jfr
 check 'a name that is not UTF-8' 3 <<<'test ! -e again.jfr'
 
-echo "$cases cases, $wrong wrong, $skipped skipped"
-[ "$wrong" = 0 ]
+summary
