@@ -7,7 +7,7 @@ use Rattle.jfr_outside.specs.World.{State, SinkState}
 
 -- The state of a place of whose files nothing is known, and that isn't steady.
 abbrev pub untold : ℕ → ℕ → State
-untold reads writes = record { told = None; read_faults = reads; write_faults = writes; steady = false }
+untold reads writes = record { contents = None; read_faults = reads; write_faults = writes; steady = false }
 
 -- The state of a sink whose bytes aren't known.
 abbrev pub unseen : ℕ → SinkState

@@ -6,7 +6,7 @@ use Rattle.std.proofs.lemmas.Nat.{pow-add, shl_whole}
 use Rattle.std.proofs.Math.Nat.{mul_comm, pow-le-pow_right, mul-le-mul_left}
 use Rattle.jfr_base.specs.declared.integer.Var.{Var}
 use Rattle.jfr_base.specs.Integer.{worth_within}
-use Rattle.jfr_base.specs.Formats.{front_within, int_at}
+use Rattle.jfr_base.specs.Formats.{prefix_length, int_at}
 use Rattle.jfr_base.proofs.Ranges.{range_cons, range_none, range_one}
 
 abbrev var : ℕ → ℕ → Var
@@ -15,7 +15,7 @@ var v q = record { value = v; end = q }
 -- The integer whose groups so far add up to a value, if it ends: at most k more groups of seven bits
 -- follow, the next one counted by a weight.
 unfoldable pub going_on : ℕ → List ℕ → ℕ → ℕ → ℕ → ℕ → Option Var
-going_on k x place end value weight = option_map (λ n. var (value + weight * worth_within k (slice_range x place (place + n))) (place + n)) (front_within k (slice_range x place end))
+going_on k x place end value weight = option_map (λ n. var (value + weight * worth_within k (slice_range x place (place + n))) (place + n)) (prefix_length k (slice_range x place end))
 
 -- What a reader knows between two groups.
 pub record Reading (x : List ℕ) (at end place value shift : ℕ) : Type 0 where
@@ -26,7 +26,7 @@ pub record Reading (x : List ℕ) (at end place value shift : ℕ) : Type 0 wher
 
 pub reading_start : (x : List ℕ) (at end : ℕ) → Reading x at end at 0 0
 unfolding int_at going_on
-reading_start x at end = record { groups = 8; room = refl; small = omega arith; same = by_front (front_within 8 (slice_range x at end)) }
+reading_start x at end = record { groups = 8; room = refl; small = omega arith; same = by_front (prefix_length 8 (slice_range x at end)) }
   where
     by_front : (o : Option ℕ) → option_map (λ n. var (worth_within 8 (slice_range x at (at + n))) (at + n)) o ≡ option_map (λ n. var (0 + 1 * worth_within 8 (slice_range x at (at + n))) (at + n)) o
     by_front None = refl
@@ -34,14 +34,14 @@ reading_start x at end = record { groups = 8; room = refl; small = omega arith; 
 
 pub going_none : (k : ℕ) (x : List ℕ) (place end value weight : ℕ) → end ≤ place → going_on k x place end value weight ≡ None
 unfolding going_on
-going_none k x place end value weight h = ap (λ z. option_map (λ n. var (value + weight * worth_within k (slice_range x place (place + n))) (place + n)) (front_within k z)) (range_none x place end h)
+going_none k x place end value weight h = ap (λ z. option_map (λ n. var (value + weight * worth_within k (slice_range x place (place + n))) (place + n)) (prefix_length k z)) (range_none x place end h)
 
-found : (k : ℕ) (x : List ℕ) (place end value weight n w : ℕ) → front_within k (slice_range x place end) ≡ Some n → worth_within k (slice_range x place (place + n)) ≡ w → going_on k x place end value weight ≡ Some (var (value + weight * w) (place + n))
+found : (k : ℕ) (x : List ℕ) (place end value weight n w : ℕ) → prefix_length k (slice_range x place end) ≡ Some n → worth_within k (slice_range x place (place + n)) ≡ w → going_on k x place end value weight ≡ Some (var (value + weight * w) (place + n))
 unfolding going_on
 found k x place end value weight n w f e =
     ap (option_map (λ m. var (value + weight * worth_within k (slice_range x place (place + m))) (place + m))) f ∙ ap (λ z. Some (var (value + weight * z) (place + n))) e
 
-front_small : (k b : ℕ) (bs : List ℕ) → b < 128 → front_within k (b ∷ bs) ≡ Some 1
+front_small : (k b : ℕ) (bs : List ℕ) → b < 128 → prefix_length k (b ∷ bs) ≡ Some 1
 front_small zero b bs h = refl
 front_small (suc k) b bs h = let t : nat_lt b 128 ≡ true = grind arith in rw t refl
 
@@ -54,7 +54,7 @@ pub going_last : (k : ℕ) (x : List ℕ) (place end value weight : ℕ) → pla
 going_last k x place end value weight h i j =
     let p : place < length x = omega arith in
     found k x place end value weight 1 (slice_index x place)
-    (ap (front_within k) (range_cons x place end h p) ∙ front_small k (slice_index x place) (slice_range x (place + 1) end) j)
+    (ap (prefix_length k) (range_cons x place end h p) ∙ front_small k (slice_index x place) (slice_range x (place + 1) end) j)
     (ap (worth_within k) (range_one x place p) ∙ worth_small k (slice_index x place) j)
 
 -- The ninth byte.
@@ -62,7 +62,7 @@ pub going_ninth : (x : List ℕ) (place end value weight : ℕ) → place < end 
 going_ninth x place end value weight h i =
     let p : place < length x = omega arith in
     found 0 x place end value weight 1 (slice_index x place)
-    (ap (front_within 0) (range_cons x place end h p))
+    (ap (prefix_length 0) (range_cons x place end h p))
     (ap (worth_within 0) (range_one x place p))
 
 -- A group with more to come.
@@ -71,8 +71,8 @@ unfolding going_on
 going_next k x place end value weight h i j =
     let p : place < length x = omega arith in
     let t : nat_lt (slice_index x place) 128 ≡ false = grind arith in
-    ap (λ z. option_map after (front_within (suc k) z)) (range_cons x place end h p)
-    ∙ (rw t (by_front (front_within k (slice_range x (place + 1) end)) p))
+    ap (λ z. option_map after (prefix_length (suc k) z)) (range_cons x place end h p)
+    ∙ (rw t (by_front (prefix_length k (slice_range x (place + 1) end)) p))
   where
     after : ℕ → Var
     after n = var (value + weight * worth_within (suc k) (slice_range x place (place + n))) (place + n)

@@ -43,8 +43,8 @@ holds_copy x y end p q n i h =
     (record { same = sym h.bytes ∙ ap (λ m. slice_range y q (q + m)) l; from_within = i; to_within = omega arith }, omega arith)
 
 -- What comes after the first bytes.
-pub holds_behind : (front b : List ℕ) → Holds (front ++ b) (length (front ++ b)) (length front) b
-holds_behind front b =
+pub holds_after : (front b : List ℕ) → Holds (front ++ b) (length (front ++ b)) (length front) b
+holds_after front b =
     let l : length (front ++ b) ≡ length front + length b = length-append front b in
     let e : length front + length b - length front ≡ length b = omega arith in
     let t : take (length b) b ≡ b = take_all (length b) b (omega arith) in

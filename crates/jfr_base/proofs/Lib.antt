@@ -17,7 +17,7 @@ pub mod Ranges
 pub mod ReadLaws
 pub mod Rows
 pub mod RunLaws
-pub mod SeenLaws
+pub mod FormatEnds
 pub mod Shorts
 pub mod Spelling
 pub mod TextLaws

@@ -8,7 +8,7 @@ use Rattle.jfr_base.specs.declared.integer.Var.{Var}
 use Rattle.jfr_base.specs.Integer.{IntAt}
 use Rattle.jfr_base.specs.Formats.{Format, Done, Stop, Int, Byte, Run, Here, Refuse, Got, Answer, checked, refused, int_at, after_int, run, Reads, Fails}
 use Rattle.jfr_base.specs.Laws.{ReadsSome, FailsSome, HasOneAnswer, IsComputed}
-use Rattle.jfr_base.proofs.Exact.{int_found, int_none, Says, run_says}
+use Rattle.jfr_base.proofs.Exact.{int_found, int_none, ReadsOrFails, run_reads_or_fails}
 use Rattle.jfr_base.proofs.OnceLaws.{once_ok}
 use Rattle.jfr_base.proofs.OneInt.{int_one}
 
@@ -103,10 +103,10 @@ module _ (x : List ℕ) (end : ℕ) (inside : end ≤ length x) where
 
 module _ {A : Type 0} (f : Format A) (x : List ℕ) (end at : ℕ) (order : at ≤ end) (inside : end ≤ length x) where
   read_of : (v : A) (to : ℕ) → run f x end at ≡ Ok (got v to) → Reads f x end at v to
-  read_of v to e = subst (Says f x end at) e (run_says f x end at order inside)
+  read_of v to e = subst (ReadsOrFails f x end at) e (run_reads_or_fails f x end at order inside)
 
   failed_of : (o : ℕ) (why : Reason) → run f x end at ≡ refused o why → Fails f x end at o why
-  failed_of o why e = subst (Says f x end at) e (run_says f x end at order inside)
+  failed_of o why e = subst (ReadsOrFails f x end at) e (run_reads_or_fails f x end at order inside)
 
   pub is_computed : IsComputed f x end at
   is_computed = record {
@@ -114,7 +114,7 @@ module _ {A : Type 0} (f : Format A) (x : List ℕ) (end at : ℕ) (order : at �
     fails = λ o why. (fails_computed x end inside f at o why order, failed_of o why);
   }
 
-  some_of : (r : Answer A) → Says f x end at r → ReadsSome f x end at ⊎ FailsSome f x end at
+  some_of : (r : Answer A) → ReadsOrFails f x end at r → ReadsSome f x end at ⊎ FailsSome f x end at
   some_of (Ok g) s = inl (g.value, g.place, s)
   some_of (Err e) s = inr (e.offset, e.reason, s)
 
@@ -127,7 +127,7 @@ module _ {A : Type 0} (f : Format A) (x : List ℕ) (end at : ℕ) (order : at �
 
   pub has_one_answer : HasOneAnswer f x end at
   has_one_answer = record {
-    some = some_of (run f x end at) (run_says f x end at order inside);
+    some = some_of (run f x end at) (run_reads_or_fails f x end at order inside);
     not_both = λ r s. differ (run f x end at) (reads_computed x end inside f at r.0 r.1 order r.2) (fails_computed x end inside f at s.0 s.1 order s.2);
     one_reading = λ v w p q r s. let o = once_ok v w p q (run f x end at) (reads_computed x end inside f at v p order r) (reads_computed x end inside f at w q order s) in (o.value, o.place);
     one_failure = λ o p why other r s. one_fault o p why other (run f x end at) (fails_computed x end inside f at o why order r) (fails_computed x end inside f at p other order s);

@@ -5,7 +5,7 @@ use Rattle.std.specs.Int.{cast_signed, w64}
 use Rattle.std.proofs.Common.{refl}
 use Rattle.jfr_base.specs.declared.reason.Reason.TheVariants.{Short, Trailing}
 use Rattle.jfr_base.specs.Integer.{spell, spell_in}
-use Rattle.jfr_base.specs.Formats.{Format, Done, Stop, int_at, integer, run, times, refused, seen, ◌>>=◌}
+use Rattle.jfr_base.specs.Formats.{Format, Done, Stop, int_at, integer, run, times, refused, end_or_flaw, ◌>>=◌}
 
 two_bytes : int_at (172 ∷ 2 ∷ []) 0 2 ≡ Some (record { value = 300; end = 2 })
 unfolding int_at
@@ -53,7 +53,7 @@ pair_reads : run pair (172 ∷ 2 ∷ 5 ∷ []) 3 0 ≡ Ok (record { value = 300 
 unfolding run int_at pair
 pair_reads = refl
 
-pair_seen : seen (run pair (172 ∷ 2 ∷ 5 ∷ []) 3 0) ≡ Ok 3
+pair_seen : end_or_flaw (run pair (172 ∷ 2 ∷ 5 ∷ []) 3 0) ≡ Ok 3
 unfolding run int_at pair
 pair_seen = refl
 

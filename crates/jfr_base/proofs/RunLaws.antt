@@ -4,7 +4,7 @@ use Rattle.std.proofs.Common.{ap, arith, sym, ◌∙◌, subst}
 use Rattle.std.proofs.lemmas.List.{length-append, get_or-drop}
 use Rattle.jfr_base.specs.declared.integer.Var.{Var}
 use Rattle.jfr_base.specs.Integer.{Spells, worth_within}
-use Rattle.jfr_base.specs.Formats.{Got, checked, int_at, front_within, Format, Done, Stop, Int, Byte, Run, Here, Refuse, Exactly, after_int, run}
+use Rattle.jfr_base.specs.Formats.{Got, checked, int_at, prefix_length, Format, Done, Stop, Int, Byte, Run, Here, Refuse, Exactly, after_int, run}
 use Rattle.jfr_base.proofs.Exact.{found_within}
 use Rattle.jfr_base.proofs.Ranges.{range_split, range_length}
 use Rattle.jfr_base.proofs.UnitLaws.{one_run}
@@ -48,7 +48,7 @@ module _ (x : List ℕ) (end : ℕ) (inside : end ≤ length x) where
   unfolding int_at
   int_is at h v s i p =
       let d : slice_range x at end ≡ h ++ slice_range x (at + length h) end = range_split x at (at + length h) end s.order i ∙ ap (λ z. z ++ slice_range x (at + length h) end) s.bytes in
-      let f : front_within 8 (slice_range x at end) ≡ Some (length h) = ap (front_within 8) d ∙ found_within 8 h (slice_range x (at + length h) end) p.form in
+      let f : prefix_length 8 (slice_range x at end) ≡ Some (length h) = ap (prefix_length 8) d ∙ found_within 8 h (slice_range x (at + length h) end) p.form in
       let var : ℕ → ℕ → Var = λ w q. record { value = w; end = q } in
       ap (option_map (λ n. var (worth_within 8 (slice_range x at (at + n))) (at + n))) f
       ∙ ap (λ w. Some (var w (at + length h))) (ap (worth_within 8) s.bytes ∙ sym p.worth)

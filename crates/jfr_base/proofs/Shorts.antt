@@ -4,14 +4,14 @@ use Rattle.std.specs.Option.{option_map}
 use Rattle.std.proofs.Common.{ap, arith, sym, ◌∙◌, subst}
 use Rattle.jfr_base.specs.declared.integer.Var.{Var}
 use Rattle.jfr_base.specs.Integer.{worth_within}
-use Rattle.jfr_base.specs.Formats.{front_within, int_at}
+use Rattle.jfr_base.specs.Formats.{prefix_length, int_at}
 use Rattle.jfr_base.proofs.Groups.{reading_start, going_last, going_next, going_none, going_on}
 
 -- An integer that continues ends after the next byte at the earliest.
-front_one : (k : ℕ) (bs : List ℕ) → IfSome (front_within k bs) (λ n. 1 ≤ n)
+front_one : (k : ℕ) (bs : List ℕ) → IfSome (prefix_length k bs) (λ n. 1 ≤ n)
 front_one k [] = tt
 front_one zero (b ∷ bs) = omega arith
-front_one (suc k) (b ∷ bs) = by_byte (nat_lt b 128) (front_within k bs)
+front_one (suc k) (b ∷ bs) = by_byte (nat_lt b 128) (prefix_length k bs)
   where
     by_byte : (t : Bool) (o : Option ℕ) → IfSome (if t then Some 1 else option_map (λ n. suc n) o) (λ n. 1 ≤ n)
     by_byte true o = omega arith
@@ -20,7 +20,7 @@ front_one (suc k) (b ∷ bs) = by_byte (nat_lt b 128) (front_within k bs)
 
 going_further : (k : ℕ) (x : List ℕ) (place end value weight : ℕ) → IfSome (going_on k x place end value weight) (λ v. place < v.end)
 unfolding going_on
-going_further k x place end value weight = by_front (front_within k (slice_range x place end)) (front_one k (slice_range x place end))
+going_further k x place end value weight = by_front (prefix_length k (slice_range x place end)) (front_one k (slice_range x place end))
   where
     by_front : (o : Option ℕ) → IfSome o (λ n. 1 ≤ n) → IfSome (option_map (λ n. record { value = value + weight * worth_within k (slice_range x place (place + n)); end = place + n }) o) (λ (v : Var). place < v.end)
     by_front None h = tt

@@ -121,14 +121,14 @@ checked at (Some why) r = refused at why
 
 -- The length of the integer at the front of the list, if it ends in the list. At most k of its bytes carry
 -- seven bits.
-abbrev pub front_within : ℕ → List ℕ → Option ℕ
-front_within k [] = None
-front_within zero (b ∷ bs) = Some 1
-front_within (suc k) (b ∷ bs) = if nat_lt b 128 then Some 1 else option_map (λ n. suc n) (front_within k bs)
+abbrev pub prefix_length : ℕ → List ℕ → Option ℕ
+prefix_length k [] = None
+prefix_length zero (b ∷ bs) = Some 1
+prefix_length (suc k) (b ∷ bs) = if nat_lt b 128 then Some 1 else option_map (λ n. suc n) (prefix_length k bs)
 
 -- The integer at the offset `at`, if one ends by `end`.
 unfoldable pub int_at : List ℕ → ℕ → ℕ → Option Var
-int_at x at end = option_map (λ n. record { value = worth_within 8 (slice_range x at (at + n)); end = at + n }) (front_within 8 (slice_range x at end))
+int_at x at end = option_map (λ n. record { value = worth_within 8 (slice_range x at (at + n)); end = at + n }) (prefix_length 8 (slice_range x at end))
 
 -- Continues from a value and the offset after it; a flaw is kept.
 abbrev pub on : {A B : Type 0} → Answer A → (A → ℕ → Answer B) → Answer B
@@ -151,6 +151,6 @@ run (Here next) x end at = run (next at) x end at
 run (Refuse why) x end at = refused at why
 
 -- An answer without its value: the offset after it, or the flaw.
-abbrev pub seen : {A : Type 0} → Answer A → Result ℕ Flaw
-seen (Ok g) = Ok g.place
-seen (Err e) = Err e
+abbrev pub end_or_flaw : {A : Type 0} → Answer A → Result ℕ Flaw
+end_or_flaw (Ok g) = Ok g.place
+end_or_flaw (Err e) = Err e

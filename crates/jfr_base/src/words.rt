@@ -35,7 +35,7 @@ impl Words {
     }
 
     /// An empty list with memory for `count` texts.
-    pub fn with_room(alloc: Global, count: usize) -> Result<Words, NoMemory>
+    pub fn with_capacity(alloc: Global, count: usize) -> Result<Words, NoMemory>
         ensures ok { IfOk result (λ words. words ≡ []) }
     {
         Ok(Words {

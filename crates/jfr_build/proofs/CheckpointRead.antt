@@ -22,10 +22,10 @@ use Rattle.jfr_build.proofs.EventsRead.{IsGood}
 use Rattle.jfr_build.proofs.PoolsRead.{all_known, pools_stand}
 
 -- What follows the type of the checkpoint.
-abbrev pub behind_type : Classes → List NumberedLine → List ℕ
-behind_type k ls = 0 ∷ 0 ∷ 0 ∷ 0 ∷ pools_of k ls
+abbrev pub after_type : Classes → List NumberedLine → List ℕ
+after_type k ls = 0 ∷ 0 ∷ 0 ∷ 0 ∷ pools_of k ls
 
-checkpoint_is : (k : Classes) (ls : List NumberedLine) → checkpoint_of k ls ≡ record_of (spell 1 ++ behind_type k ls)
+checkpoint_is : (k : Classes) (ls : List NumberedLine) → checkpoint_of k ls ≡ record_of (spell 1 ++ after_type k ls)
 unfolding spell
 checkpoint_is k ls = refl
 
@@ -37,7 +37,7 @@ one_more : (c : List ℕ) (end at b : ℕ) (rest : List ℕ) → Holds c end at 
 one_more c end at b rest h = holds_parts c end at (b ∷ []) rest h
 
 abbrev pub checkpoint_at : ℕ → Classes → List NumberedLine → Framed
-checkpoint_at at k ls = framed at 1 (behind_type k ls)
+checkpoint_at at k ls = framed at 1 (after_type k ls)
 
 abbrev pub body_at : ℕ → ℕ
 body_at at = at + 5 + length (spell 1)
@@ -64,7 +64,7 @@ checkpoint_stands p at ls sound small good h =
     let ids : List ℕ = with_classes [] ls in
     let items : List ℕ = flat_map (pool_of k ls) ids in
     let n : ℕ = length ids in
-    let s = record_stands c at 1 (behind_type k ls) small (subst (Holds c (length c) at) (checkpoint_is k ls) h) in
+    let s = record_stands c at 1 (after_type k ls) small (subst (Holds c (length c) at) (checkpoint_is k ls) h) in
     let end : ℕ = record_end (checkpoint_at at k ls) in
     let q : ℕ = body_at at in
     let a = one_more c end q 0 (0 ∷ 0 ∷ 0 ∷ pools) s.body in
@@ -82,18 +82,18 @@ checkpoint_stands p at ls sound small good h =
     let ed : q + 1 + 1 + 1 ≤ end = d.0.within in
     let ee : q + 1 + 1 + 1 + 1 ≤ end = e.0.within in
     let ef : first ≤ end = f.0.within in
-    let stand = pools_stand p sound end ls good 0 ids first (all_known k [] ls good tt) f.1 in
+    let read_pools = pools_stand p sound end ls good 0 ids first (all_known k [] ls good tt) f.1 in
     let last : ℕ = first + length items in
-    let ends : last ≡ end = omega (arith, length-append (spell 1) (behind_type k ls), length-append (spell n) items) in
-    let read : Reads (times n (pool_format k)) c end first stand.pools last = stand.reads in
-    let all : Reads (times n (pool_format k) >>= λ pools. Stop (Done pools)) c end first stand.pools last = reads_then (times n (pool_format k)) (λ pools. Stop (Done pools)) c end first stand.pools last stand.pools last read (omega arith, (refl, refl)) in
-    let whole : Reads (checkpoint_format k) c end q stand.pools last =
+    let ends : last ≡ end = omega (arith, length-append (spell 1) (after_type k ls), length-append (spell n) items) in
+    let read : Reads (times n (pool_format k)) c end first read_pools.pools last = read_pools.reads in
+    let all : Reads (times n (pool_format k) >>= λ pools. Stop (Done pools)) c end first read_pools.pools last = reads_then (times n (pool_format k)) (λ pools. Stop (Done pools)) c end first read_pools.pools last read_pools.pools last read (omega arith, (refl, refl)) in
+    let whole : Reads (checkpoint_format k) c end q read_pools.pools last =
     (q + 1, 0, start, ea, refl, (q + 1 + 1, 0, duration, eb, refl, (q + 1 + 1 + 1, 0, delta, ed, refl, (ee, (first, n, count, ef, refl, all))))) in
     record {
       is = s.is;
-      end = omega (arith, ap length (checkpoint_is k ls), length-record (spell 1 ++ behind_type k ls));
+      end = omega (arith, ap length (checkpoint_is k ls), length-record (spell 1 ++ after_type k ls));
       head = (q + 1, 0, start, ea, refl, (q + 1 + 1, 0, duration, eb, refl, (q + 1 + 1 + 1, 0, delta, ed, refl, (refl, refl))));
-      entries = entries_from 0 0 stand.pools;
-      are = (stand.pools, subst (Reads (checkpoint_format k) c end q stand.pools) ends whole, [], sym (append-nil (entries_from 0 0 stand.pools)), refl);
-      of_lines = stand.entries;
+      entries = entries_from 0 0 read_pools.pools;
+      are = (read_pools.pools, subst (Reads (checkpoint_format k) c end q read_pools.pools) ends whole, [], sym (append-nil (entries_from 0 0 read_pools.pools)), refl);
+      of_lines = read_pools.entries;
     }

@@ -2,7 +2,7 @@
 use Rattle.std.specs.Prelude.{◌≡◌, ℕ, ◌^◌, ◌<◌, ◌≤◌, false, nat_le, nat_lt, List, ◌++◌, length, take, None}
 use Rattle.std.proofs.Common.{ap, arith, refl, sym, ◌∙◌, subst}
 use Rattle.std.proofs.lemmas.Bool.Decides.{nat_tests}
-use Rattle.jfr_base.proofs.HoldLaws.{Holds, holds_behind}
+use Rattle.jfr_base.proofs.HoldLaws.{Holds, holds_after}
 use Rattle.jfr_header.specs.declared.header.Header.{Header}
 use Rattle.jfr_header.specs.Headers.{header_of, header_bytes}
 use Rattle.jfr_header.specs.Fronts.{Whole, field_flaw, header_flaw, size_of}
@@ -59,4 +59,4 @@ header_stands c body size pools is e long small within =
 
 -- What is written after the header lies there.
 pub behind_header : (c body : List ℕ) (h : Header) → c ≡ header_bytes h ++ body → Holds c (length c) 68 body
-behind_header c body h is = subst (λ z. Holds z (length z) 68 body) (sym is) (holds_behind (header_bytes h) body)
+behind_header c body h is = subst (λ z. Holds z (length z) 68 body) (sym is) (holds_after (header_bytes h) body)

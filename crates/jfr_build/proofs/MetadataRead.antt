@@ -3,7 +3,7 @@ use Rattle.std.specs.Prelude.{◌≡◌, ℕ, ◌+◌, ◌^◌, ◌<◌, ◌&&�
 use Rattle.std.specs.List.{AllByRecursion}
 use Rattle.std.proofs.Common.{ap, arith, refl, subst, sym, ◌∙◌}
 use Rattle.std.proofs.lemmas.Bool.Decides.{nat_tests}
-use Rattle.jfr_base.proofs.HoldLaws.{Holds, holds_at, holds_behind, holds_parts}
+use Rattle.jfr_base.proofs.HoldLaws.{Holds, holds_at, holds_after, holds_parts}
 use Rattle.jfr_base.specs.Formats.{Reads}
 use Rattle.jfr_frame.specs.declared.framed.Framed.{Framed}
 use Rattle.jfr_frame.specs.Records.{IsRecord, record_bytes, record_end}
@@ -73,26 +73,26 @@ module _ (k : Classes) (good : AllByRecursion GoodClass k) (sound : class_faults
         by_tests true q false e = cc
         by_tests false q u e = cc
 
-    stands : StandsAnew m b
+    holds : StandsAnew m b
     unfolding slim_body
-    stands = read_back 0 0 1 b.strings b.root m slim.indices (omega (arith, slim.levels, root_low k)) written.small (slim.texts (body_texts k good)) written.bytes
+    holds = read_back 0 0 1 b.strings b.root m slim.indices (omega (arith, slim.levels, root_low k)) written.small (slim.texts (body_texts k good)) written.bytes
 
-    own_read : IsMetadata m (own_frame m) (record { start = b.start; duration = b.duration; id = b.id; strings = b.strings; root = stands.tree }) k
+    own_read : IsMetadata m (own_frame m) (record { start = b.start; duration = b.duration; id = b.id; strings = b.strings; root = holds.tree }) k
     own_read = record {
-      body = subst (λ z. Reads meta_format m z 6 (record { start = b.start; duration = b.duration; id = b.id; strings = b.strings; root = stands.tree }) z) (omega arith) stands.body;
-      classes = described_bare b.start b.duration b.id b.strings b.root stands.tree k (sym stands.same) slim_described;
+      body = subst (λ z. Reads meta_format m z 6 (record { start = b.start; duration = b.duration; id = b.id; strings = b.strings; root = holds.tree }) z) (omega arith) holds.body;
+      classes = described_bare b.start b.duration b.id b.strings b.root holds.tree k (sym holds.same) slim_described;
     }
 
     -- The record in a chunk, after 68 bytes.
     in_chunk : (c : List ℕ) → Holds c (length c) 68 m → MetadataStands c m k
     in_chunk c h =
         let held : Holds c (length c) 68 (record_bytes m (own_frame m)) = subst (Holds c (length c) 68) (sym (own_bytes m)) h in
-        let r = metadata_copied m c (own_frame m) 68 (record { start = b.start; duration = b.duration; id = b.id; strings = b.strings; root = stands.tree }) k stands.is_record held own_read in
+        let r = metadata_copied m c (own_frame m) 68 (record { start = b.start; duration = b.duration; id = b.id; strings = b.strings; root = holds.tree }) k holds.is_record held own_read in
         record {
           frame = copied_to m 68 (own_frame m);
           at = refl;
           end = ap (λ z. 68 + length z) (own_bytes m);
-          is = record_copied m c (own_frame m) 68 stands.is_record held;
+          is = record_copied m c (own_frame m) 68 holds.is_record held;
           type_is = refl;
           body = r.0;
           read = r.1;
@@ -101,6 +101,6 @@ module _ (k : Classes) (good : AllByRecursion GoodClass k) (sound : class_faults
 pub metadata_stands : (text : List ℕ) (ls : List NumberedLine) → read_lines text ≡ Ok ls → class_faults (classes_in ls) ≡ [] → (m : List ℕ) → metadata_record (classes_in ls) ≡ Some m
     → (h rest c : List ℕ) → c ≡ h ++ (m ++ rest) → length h ≡ 68 → length c < 2 ^ 30 → MetadataStands c m (classes_in ls)
 metadata_stands text ls e s m made h rest c is long small =
-    let behind : Holds c (length c) (length h) (m ++ rest) = subst (λ z. Holds z (length z) (length h) (m ++ rest)) (sym is) (holds_behind h (m ++ rest)) in
+    let behind : Holds c (length c) (length h) (m ++ rest) = subst (λ z. Holds z (length z) (length h) (m ++ rest)) (sym is) (holds_after h (m ++ rest)) in
     let held : Holds c (length c) 68 m = (holds_parts c (length c) 68 m rest (holds_at c (length c) (length h) 68 (m ++ rest) long behind)).0 in
     in_chunk (classes_in ls) (read_classes text ls e) s m made c held

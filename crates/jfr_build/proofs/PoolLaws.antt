@@ -30,8 +30,8 @@ flat_same f g h [] = refl
 flat_same f g h (x ∷ xs) = ap (λ z. z ++ flat_map f xs) (h x) ∙ ap (λ z. g x ++ z) (flat_same f g h xs)
 
 -- With no line left, these are the pools of all lines.
-told : (k : Classes) (lines : List NumberedLine) (pools : Pools) → Pooled k lines [] pools → pools_bytes pools ≡ pools_of k lines
-told k lines pools p =
+contents : (k : Classes) (lines : List NumberedLine) (pools : Pools) → Pooled k lines [] pools → pools_bytes pools ≡ pools_of k lines
+contents k lines pools p =
     let c : pools.classes.items ≡ with_classes [] lines = sym p.classes in
     ap (λ n. spell n ++ flat_map (pool_bytes pools) pools.classes.items) (ap length c)
     ∙ (ap (λ z. spell (length (with_classes [] lines)) ++ flat_map (pool_bytes pools) z) c
@@ -45,4 +45,4 @@ told k lines pools p =
         ap (λ n. spell id ++ (spell n ++ entries_in (pool_in pools id))) m ∙ ap (λ z. spell id ++ (spell (entry_count lines id) ++ z)) e
 
 pub pooled_end : (k : Classes) (lines : List NumberedLine) (i : ℕ) (pools : Pools) → length lines ≤ i → Pooled k lines (drop i lines) pools → pools_bytes pools ≡ pools_of k lines
-pooled_end k lines i pools l p = told k lines pools (subst (λ z. Pooled k lines z pools) (drop_past lines i l) p)
+pooled_end k lines i pools l p = contents k lines pools (subst (λ z. Pooled k lines z pools) (drop_past lines i l) p)

@@ -102,10 +102,10 @@ value_there p class words v end at s h =
     let to : ℕ = at + length (bytes_of v) in
     let w : to ≤ end = h.within in
     let i : end ≤ length p.bytes = h.inside in
-    let stands : Stands p.bytes at to (bytes_of v) = record { order = omega arith; within = omega arith; bytes = h.bytes } in
-    let found : value_of p.classes p.bytes (node_at (inline class) at to) ≡ Some v = ap got_value (exact_run p.bytes to stands.within (value_format p.classes (inline class)) at to (bytes_of v) v s.exact stands (omega arith)) in
+    let holds : Stands p.bytes at to (bytes_of v) = record { order = omega arith; within = omega arith; bytes = h.bytes } in
+    let found : value_of p.classes p.bytes (node_at (inline class) at to) ≡ Some v = ap got_value (exact_run p.bytes to holds.within (value_format p.classes (inline class)) at to (bytes_of v) v s.exact holds (omega arith)) in
     record {
-      reads = exact_reads (value_format p.classes (inline class)) p.bytes end at to (bytes_of v) v s.exact stands w i;
-      runs = exact_run p.bytes end i (value_format p.classes (inline class)) at to (bytes_of v) v s.exact stands w;
+      reads = exact_reads (value_format p.classes (inline class)) p.bytes end at to (bytes_of v) v s.exact holds w i;
+      runs = exact_run p.bytes end i (value_format p.classes (inline class)) at to (bytes_of v) v s.exact holds w;
       has = record { shape = refl; leaves = subst (λ o. AreWordsOf words (option_map_or (leaves_at at) o [])) (sym found) (s.words_are at) };
     }

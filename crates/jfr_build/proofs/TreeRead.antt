@@ -10,7 +10,7 @@ use Rattle.jfr_base.specs.declared.reason.Reason.TheVariants.{ClassBad, FieldBad
 use Rattle.jfr_layout.specs.Classes.{Class, Classes, Field, class_faults}
 use Rattle.jfr_meta.specs.Trees.{Tree, children_of, list_of-trees_of}
 use Rattle.jfr_meta.specs.Attributes.{attribute, first_value, flag_of, named, not_empty, text_at, values_of}
-use Rattle.jfr_meta.specs.Described.{annotations_of, categories_of, class_elements, class_flaws, class_head, class_of, class_with, classes_of, classes_told, described, field_elements, field_flaws, field_of, first_or, flaw_unless, heads, id_attribute, is_category, shape_of, tree_flaws}
+use Rattle.jfr_meta.specs.Described.{annotations_of, categories_of, class_elements, class_flaws, class_head, class_of, class_with, classes_of, described_classes, described, field_elements, field_flaws, field_of, first_or, flaw_unless, heads, id_attribute, is_category, shape_of, tree_flaws}
 use Rattle.jfr_meta.proofs.Told.{no_flaws}
 use Rattle.jfr_build.specs.Described.{body_of, class_texts, class_tree, class_trees, field_texts, field_tree, field_trees, fixed_texts, mark_pairs, super_pairs}
 use Rattle.jfr_build.proofs.DecimalRead.{decimal_id}
@@ -171,4 +171,4 @@ body_described k g s =
     let there : class_elements strings (body_of k).root ≡ Some ts = ap (λ z. Some (named strings (codes "class") z)) (list_of-trees_of ts) ∙ ap (λ z. Some z) (classes_named more 12 k) in
     let same : classes_of strings ts ≡ k = classes_read more (heads strings ts) 12 k g at in
     let none : tree_flaws strings ts ≡ [] = no_flaws strings ts k (classes_flawless more 12 k g at) (sym same) (record { none = s }) in
-    ap (classes_told strings 0) there ∙ (ap (λ fs. first_or fs (classes_of strings ts)) none ∙ ap (λ z. Ok z) same)
+    ap (described_classes strings 0) there ∙ (ap (λ fs. first_or fs (classes_of strings ts)) none ∙ ap (λ z. Ok z) same)

@@ -13,7 +13,7 @@ use Rattle.jfr_value.specs.declared.leaf.LeafKind.{LeafKind}
 use Rattle.jfr_value.specs.declared.leaf.LeafKind.TheVariants as leaf_kinds
 use Rattle.jfr_value.specs.Values.{Value, Values, Single, Group, Nil, Cons, values_of, list_of, shape_of, shapes_of, bytes_of, Fits, AllFit, IsBase, IsSingle, IsHead}
 use Rattle.jfr_value.specs.Leaves.{LeafAt, leaves_at, leaves_from, leaf_key}
-use Rattle.jfr_value.specs.Walks.{Room}
+use Rattle.jfr_value.specs.Walks.{DepthBound}
 use Rattle.jfr_value.proofs.DepthLaws.{any_none, sound_inline, steps_to, values_again}
 use Rattle.jfr_value.proofs.LeafLaws.{string_key}
 use Rattle.jfr_build.specs.LeafWords.{id_after, base_of, IsWordOf, AreWordsOf}
@@ -151,44 +151,44 @@ module _ (k : Classes) where
       ∙ (ap (λ z. then_take z (λ vs us. took (Group s [] (values_of vs)) us)) t
       ∙ (ap (λ z. took (Group s [] z) rest) (values_again vs) ∙ ap (λ z. took (Group s z vs) rest) (sym z)))))
 
-  abbrev AllRoom : ℕ → Values → Type 0
-  AllRoom n vs = AllByRecursion (λ w. Room k n (shape_of w)) (list_of vs)
+  abbrev AllDepthBounds : ℕ → Values → Type 0
+  AllDepthBounds n vs = AllByRecursion (λ w. DepthBound k n (shape_of w)) (list_of vs)
 
-  room_fields : (n : ℕ) (fs : List Field) (vs : Values) → shapes_of vs ≡ map (λ f. f.shape) fs → AllByRecursion (λ f. option_map_or (λ d. goes_inline n k d) (step_class k f) false ≡ false) fs → AllRoom n vs
-  room_fields n [] Nil e a = tt
-  room_fields n [] (Cons v vs) e a = cc
-  room_fields n (f ∷ fs) Nil e a = cc
-  room_fields n (f ∷ fs) (Cons v vs) e a =
+  depth_of_fields : (n : ℕ) (fs : List Field) (vs : Values) → shapes_of vs ≡ map (λ f. f.shape) fs → AllByRecursion (λ f. option_map_or (λ d. goes_inline n k d) (step_class k f) false ≡ false) fs → AllDepthBounds n vs
+  depth_of_fields n [] Nil e a = tt
+  depth_of_fields n [] (Cons v vs) e a = cc
+  depth_of_fields n (f ∷ fs) Nil e a = cc
+  depth_of_fields n (f ∷ fs) (Cons v vs) e a =
       let q : f.shape ≡ shape_of v = (let x : shape_of v ∷ shapes_of vs ≡ f.shape ∷ map (λ g. g.shape) fs = e in cc) in
       let r : shapes_of vs ≡ map (λ g. g.shape) fs = (let x : shape_of v ∷ shapes_of vs ≡ f.shape ∷ map (λ g. g.shape) fs = e in cc) in
-      (subst (Room k n) q (λ o d g c. ap (λ z. option_map_or (λ d. goes_inline n k d) z false) (sym (steps_to k f d o g c)) ∙ a.0), room_fields n fs vs r a.1)
+      (subst (DepthBound k n) q (λ o d g c. ap (λ z. option_map_or (λ d. goes_inline n k d) z false) (sym (steps_to k f d o g c)) ∙ a.0), depth_of_fields n fs vs r a.1)
 
-  room_items : (n m : ℕ) (s : Shape) (vs : Values) → shapes_of vs ≡ replicate m s → Room k n s → AllRoom n vs
-  room_items n zero s Nil e a = tt
-  room_items n zero s (Cons v vs) e a = cc
-  room_items n (suc m) s Nil e a = cc
-  room_items n (suc m) s (Cons v vs) e a =
+  depth_of_items : (n m : ℕ) (s : Shape) (vs : Values) → shapes_of vs ≡ replicate m s → DepthBound k n s → AllDepthBounds n vs
+  depth_of_items n zero s Nil e a = tt
+  depth_of_items n zero s (Cons v vs) e a = cc
+  depth_of_items n (suc m) s Nil e a = cc
+  depth_of_items n (suc m) s (Cons v vs) e a =
       let q : s ≡ shape_of v = (let x : shape_of v ∷ shapes_of vs ≡ s ∷ replicate m s = e in cc) in
       let r : shapes_of vs ≡ replicate m s = (let x : shape_of v ∷ shapes_of vs ≡ s ∷ replicate m s = e in cc) in
-      (subst (Room k n) q a, room_items n m s vs r a)
+      (subst (DepthBound k n) q a, depth_of_items n m s vs r a)
 
   mutual
-    fits_taken : (v : Value) (n : ℕ) → Room k n (shape_of v) → Fits k v → IsTaken (shape_taken (class_taken (suc n) k) (shape_of v)) v
+    fits_taken : (v : Value) (n : ℕ) → DepthBound k n (shape_of v) → Fits k v → IsTaken (shape_taken (class_taken (suc n) k) (shape_of v)) v
     fits_taken (Single s kind b key) n r f = single_all n s kind b key f
     fits_taken (Group s h vs) n r f = by_head s h f.0 r (λ m g. all_taken vs m g f.1)
       where
         by_room : (n : ℕ) (s : Shape) (h : List ℕ) (c : Class) → s.array ≡ false → s.constant ≡ false → find_class k s.class ≡ Some c → kind_of c.name ≡ kinds.Composite → h ≡ [] → shapes_of vs ≡ map (λ f. f.shape) c.fields → goes_inline n k c ≡ false
-            → ((m : ℕ) → AllRoom m vs → AllTaken (shape_taken (class_taken (suc m) k)) vs) → IsTaken (shape_taken (class_taken (suc n) k) s) (Group s h vs)
+            → ((m : ℕ) → AllDepthBounds m vs → AllTaken (shape_taken (class_taken (suc m) k)) vs) → IsTaken (shape_taken (class_taken (suc n) k) s) (Group s h vs)
         by_room zero s h c a o q e z p g x = cc
         by_room (suc m) s h c a o q e z p g x =
             let i : inline_fields c ≡ c.fields = ap (λ t. if is_composite t then c.fields else []) e in
-            fields_all (suc m) s h vs c a o q e z p (x m (room_fields m c.fields vs p (subst (AllByRecursion (λ f. option_map_or (λ d. goes_inline m k d) (step_class k f) false ≡ false)) i (any_none (λ f. option_map_or (λ d. goes_inline m k d) (step_class k f) false) (inline_fields c) g))))
+            fields_all (suc m) s h vs c a o q e z p (x m (depth_of_fields m c.fields vs p (subst (AllByRecursion (λ f. option_map_or (λ d. goes_inline m k d) (step_class k f) false ≡ false)) i (any_none (λ f. option_map_or (λ d. goes_inline m k d) (step_class k f) false) (inline_fields c) g))))
 
-        by_head : (s : Shape) (h : List ℕ) → IsHead k s h (shapes_of vs) → Room k n s → ((m : ℕ) → AllRoom m vs → AllTaken (shape_taken (class_taken (suc m) k)) vs) → IsTaken (shape_taken (class_taken (suc n) k) s) (Group s h vs)
-        by_head s h (inl p) r x = array_all n s h vs p.0 p.1 p.2 p.3 (x n (room_items n p.1 (item_of s) vs p.3 r))
+        by_head : (s : Shape) (h : List ℕ) → IsHead k s h (shapes_of vs) → DepthBound k n s → ((m : ℕ) → AllDepthBounds m vs → AllTaken (shape_taken (class_taken (suc m) k)) vs) → IsTaken (shape_taken (class_taken (suc n) k) s) (Group s h vs)
+        by_head s h (inl p) r x = array_all n s h vs p.0 p.1 p.2 p.3 (x n (depth_of_items n p.1 (item_of s) vs p.3 r))
         by_head s h (inr p) r x = by_room n s h p.2 p.0 p.1 p.3 p.4 p.5 p.6 (r p.1 p.2 p.3 (ap is_composite p.4)) x
 
-    all_taken : (vs : Values) (n : ℕ) → AllRoom n vs → AllFit k vs → AllTaken (shape_taken (class_taken (suc n) k)) vs
+    all_taken : (vs : Values) (n : ℕ) → AllDepthBounds n vs → AllFit k vs → AllTaken (shape_taken (class_taken (suc n) k)) vs
     all_taken Nil n r f = tt
     all_taken (Cons v vs) n r f = (fits_taken v n r.0 f.0, all_taken vs n r.1 f.1)
 

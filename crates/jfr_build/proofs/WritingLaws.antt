@@ -11,10 +11,10 @@ use Rattle.jfr_layout.specs.declared.kind.Kind.TheVariants as kinds
 use Rattle.jfr_layout.specs.declared.shape.Shape.{Shape}
 use Rattle.jfr_layout.specs.declared.field_layout.FieldLayout.{FieldLayout}
 use Rattle.jfr_value.specs.Values.{IsPlaced, Value, Group, bytes_of, bytes_of_all, values_of}
-use Rattle.jfr_value.specs.Walks.{Room}
+use Rattle.jfr_value.specs.Walks.{DepthBound}
 use Rattle.jfr_value.proofs.FormLaws.{IsInline, fields_kind, inline_there, key_there, other_kind}
 use Rattle.jfr_value.proofs.LayoutLaws.{layout_class}
-use Rattle.jfr_value.proofs.StackLaws.{inner_room}
+use Rattle.jfr_value.proofs.StackLaws.{inner_depth}
 use Rattle.jfr_build.specs.LeafWords.{base_of, id_after}
 use Rattle.jfr_build.specs.Taking.{Taken, Taker, array_taken, base_taken, class_taken, each_taken, inline_taken, item_taken, kind_taken, reference_taken, shape_taken, then_take, times_taken, took, word_taken}
 use Rattle.jfr_build.specs.declared.output.ValueFault.{ValueFault}
@@ -147,13 +147,13 @@ module _ (k : Classes) (s : FieldLayout) (levels : ℕ) (ws : List (List ℕ)) (
   leaf_written (inr (inl e)) = base_written (forms.Raw e.0) e.1 tt (λ q. cc)
   leaf_written (inr (inr e)) = base_written forms.Text e tt (λ q. cc)
 
-  pub fields_written : (ss : List FieldLayout) → s.form ≡ forms.Fields → Room k levels s.shape → IfSome (slice_get k s.class_index) (λ c. AreFieldLayouts k c.fields ss)
+  pub fields_written : (ss : List FieldLayout) → s.form ≡ forms.Fields → DepthBound k levels s.shape → IfSome (slice_get k s.class_index) (λ c. AreFieldLayouts k c.fields ss)
       → wrote_all before (each_taken ss (λ z. shape_taken (class_taken (levels - 1 + 1) k) z.shape) ws) ≡ written
   fields_written ss e r a =
       let h = inline_there s p.form forms.Fields e tt in
       let c = layout_class k s (p.of_class h.constant) in
       let o : kind_of c.class.name ≡ kinds.Composite = sym c.kind ∙ fields_kind s.kind h.form in
-      let l : 1 ≤ levels = (inner_room k levels s.shape c.class r h.constant c.found o).0 in
+      let l : 1 ≤ levels = (inner_depth k levels s.shape c.class r h.constant c.found o).0 in
       let m : levels - 1 + 1 ≡ levels = omega arith in
       let b : AreFieldLayouts k c.class.fields ss = subst (λ o. IfSome o (λ c. AreFieldLayouts k c.fields ss)) c.there a in
       ap (λ n. wrote_all before (each_taken ss (λ z. shape_taken (class_taken n k) z.shape) ws)) m

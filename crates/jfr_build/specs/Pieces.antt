@@ -16,6 +16,6 @@ abbrev pub words_of : List ℕ → List (List ℕ)
 words_of line = pieces 32 line
 
 -- The pieces of what is left, if anything is.
-abbrev pub pieces_left : ℕ → Option (Bor (List ℕ)) → List (List ℕ)
-pieces_left mark None = []
-pieces_left mark (Some rest) = pieces mark rest.now
+abbrev pub rest_pieces : ℕ → Option (Bor (List ℕ)) → List (List ℕ)
+rest_pieces mark None = []
+rest_pieces mark (Some rest) = pieces mark rest.now

@@ -6,9 +6,9 @@ use Rattle.jfr_header.specs.Taking.{Tells, IsKept}
 use Rattle.jfr_header.specs.declared.ending.Ending.{Ending}
 use Rattle.jfr_header.specs.declared.ending.Ending.TheVariants as endings
 use Rattle.jfr_plan.specs.Ends.{Fine}
-use Rattle.jfr_plan.specs.Effects.{AtEnd, Plan, alone, needing, writes}
-use Rattle.jfr_plan.specs.Walks.{File}
-use Rattle.jfr_plan.specs.Outcomes.{Counted, Kept, Rises}
+use Rattle.jfr_plan.specs.Effects.{AtEnd, Plan, without_sink, needing, writes}
+use Rattle.jfr_plan.specs.Rules.{File}
+use Rattle.jfr_plan.specs.Outcomes.{Counted, Unchanged, Rises}
 use Rattle.jfr_plan.specs.Clauses.{CanRead, Task}
 use Rattle.jfr_build.specs.declared.reason.BuildReason.{BuildReason}
 use Rattle.jfr_build.specs.declared.ending.BuildEnding.{BuildEnding}
@@ -56,7 +56,7 @@ IsRefusedText text line reason = option_map build_of text ≡ Some (refused line
 -- A text is refused: the files and the open output are unchanged, and no fault was counted.
 pub record Refuses (text : List ℕ) (line : ℕ) (reason : BuildReason) (a b : State) : Type 0 where
   pub text_is : Tells a b (λ w v. IsRefusedText (file w text) line reason × IsKept w v)
-  pub counts : Counted Kept Kept Kept (alone a) (alone b)
+  pub counts : Counted Unchanged Unchanged Unchanged (without_sink a) (without_sink b)
 
 -- The output has the chunk that is built of the text: a chunk that is accepted, with exactly the classes, the
 -- events and the constants of the lines.
@@ -85,9 +85,9 @@ TextBuilt steady text (Err WriteFault) w v = ⊥
 
 -- The count of read faults rises if a read failed, and no other count changes.
 abbrev pub TextCounts : {T : Type 0} → Result T BuildEnding → State → State → Type 0
-TextCounts (Ok x) a b = Counted Kept Kept Kept (alone a) (alone b)
-TextCounts (Err (Refused line reason)) a b = Counted Kept Kept Kept (alone a) (alone b)
-TextCounts (Err ReadFault) a b = Counted Rises Kept Kept (alone a) (alone b)
-TextCounts (Err Memory) a b = Counted Kept Kept Kept (alone a) (alone b)
+TextCounts (Ok x) a b = Counted Unchanged Unchanged Unchanged (without_sink a) (without_sink b)
+TextCounts (Err (Refused line reason)) a b = Counted Unchanged Unchanged Unchanged (without_sink a) (without_sink b)
+TextCounts (Err ReadFault) a b = Counted Rises Unchanged Unchanged (without_sink a) (without_sink b)
+TextCounts (Err Memory) a b = Counted Unchanged Unchanged Unchanged (without_sink a) (without_sink b)
 TextCounts (Err Done) a b = ⊥
 TextCounts (Err WriteFault) a b = ⊥

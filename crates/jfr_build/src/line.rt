@@ -2,7 +2,7 @@
 ghost use Rattle.std.specs.Prelude.{◌≡◌, IfOk};
 ghost use Rattle.jfr_build.specs.Lines.{class_line, constant_line, field_line, line_by, line_of, marks_of, name_of, record_line};
 
-use crate::pieces::WordsLeft;
+use crate::pieces::RestOfLine;
 use jfr_base::{NoMemory, Text};
 use jfr_layout::Shape;
 use jfr_meta::id_of;
@@ -62,12 +62,12 @@ pub enum Line<'a> {
     Constant {
         class: u64,
         key: u64,
-        words: WordsLeft<'a>,
+        words: RestOfLine<'a>,
     },
     /// An event.
     Record {
         class: u64,
-        words: WordsLeft<'a>,
+        words: RestOfLine<'a>,
     },
 }
 
@@ -77,7 +77,7 @@ pub fn read_line(bytes: &[u8]) -> Option<Line<'_>>
 {
     match str::from_utf8(bytes) {
         Ok(line) => {
-            let mut words = WordsLeft::of(line);
+            let mut words = RestOfLine::of(line);
             let first = words.next()?;
             line_by(first, words)
         }
@@ -86,7 +86,7 @@ pub fn read_line(bytes: &[u8]) -> Option<Line<'_>>
 }
 
 /// The line with this first word.
-fn line_by<'a>(first: &str, words: WordsLeft<'a>) -> Option<Line<'a>>
+fn line_by<'a>(first: &str, words: RestOfLine<'a>) -> Option<Line<'a>>
     ensures { result ≡ line_by first.now words.entry }
 {
     if first == "class" {
@@ -108,7 +108,7 @@ fn line_by<'a>(first: &str, words: WordsLeft<'a>) -> Option<Line<'a>>
 }
 
 /// A class.
-fn class_line(mut words: WordsLeft<'_>, event: bool) -> Option<Line<'_>>
+fn class_line(mut words: RestOfLine<'_>, event: bool) -> Option<Line<'_>>
     ensures { result ≡ class_line event words.entry }
 {
     let id = id_of(words.next()?)?;
@@ -118,7 +118,7 @@ fn class_line(mut words: WordsLeft<'_>, event: bool) -> Option<Line<'_>>
 }
 
 /// A field.
-fn field_line(mut words: WordsLeft<'_>) -> Option<Line<'_>>
+fn field_line(mut words: RestOfLine<'_>) -> Option<Line<'_>>
     ensures { result ≡ field_line words.entry }
 {
     let name = Name::of(words.next()?)?;
@@ -153,7 +153,7 @@ fn marks_of(word: &str) -> Option<(bool, bool)>
 }
 
 /// A constant.
-fn constant_line(mut words: WordsLeft<'_>) -> Option<Line<'_>>
+fn constant_line(mut words: RestOfLine<'_>) -> Option<Line<'_>>
     ensures { result ≡ constant_line words.entry }
 {
     let class = id_of(words.next()?)?;
@@ -162,7 +162,7 @@ fn constant_line(mut words: WordsLeft<'_>) -> Option<Line<'_>>
 }
 
 /// An event.
-fn record_line(mut words: WordsLeft<'_>) -> Option<Line<'_>>
+fn record_line(mut words: RestOfLine<'_>) -> Option<Line<'_>>
     ensures { result ≡ record_line words.entry }
 {
     let class = id_of(words.next()?)?;

@@ -8,7 +8,7 @@ ghost use Rattle.jfr_build.specs.Taking.{value_taken};
 use crate::line::Line;
 use crate::lines::{NumberedLine, has_value};
 use crate::output::{Output, ValueFault};
-use crate::pieces::WordsLeft;
+use crate::pieces::RestOfLine;
 use crate::value::push_value;
 use crate::{BuildFault, BuildReason};
 use jfr_base::NoMemory;
@@ -73,7 +73,7 @@ pub fn line_value(classes: &Classes, line: &Line<'_>, out: &mut Output) -> Resul
 fn spelled_value(
     classes: &Classes,
     layout: &FieldLayout,
-    mut words: WordsLeft<'_>,
+    mut words: RestOfLine<'_>,
     out: &mut Output,
 ) -> Result<bool, NoMemory>
     requires layout { IsFieldLayout classes.now layout.now }

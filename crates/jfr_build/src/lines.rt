@@ -4,7 +4,7 @@ ghost use Rattle.jfr_build.specs.declared.lines.NumberedLine.{NumberedLine};
 ghost use Rattle.jfr_build.specs.Lines.{IsBadLine, any_class, any_value, has_value, is_allowed, is_class, line_after, line_of, read_lines};
 
 use crate::line::{Line, read_line};
-use crate::pieces::LinesLeft;
+use crate::pieces::RestOfText;
 use crate::{BuildFault, BuildReason};
 use std::alloc::Global;
 
@@ -79,7 +79,7 @@ pub fn read_lines(alloc: Global, text: &[u8]) -> Result<Vec<NumberedLine<'_>>, B
         class: false,
         value: false,
     };
-    let mut left = LinesLeft::of(text);
+    let mut left = RestOfText::of(text);
     let mut number: u64 = 0;
     'lines: while let Some(bytes) = left.next() {
         number += 1;

@@ -1,30 +1,30 @@
 //! The lines of a text, and the words of a line.
 ghost use Rattle.std.specs.Prelude.{◌≡◌, ◌∷◌, [], MatchOption, OnSome, IfNone};
-ghost use Rattle.jfr_build.specs.Pieces.{lines_of, pieces_left, words_of};
+ghost use Rattle.jfr_build.specs.Pieces.{lines_of, rest_pieces, words_of};
 
 use std::marker::Model;
 
 /// The lines that have not been taken yet. Contracts see them as a list.
 #[derive(Drop)]
-pub struct LinesLeft<'a> {
+pub struct RestOfText<'a> {
     rest: Option<&'a [u8]>,
 }
 
-impl<'a> Model for LinesLeft<'a> {
+impl<'a> Model for RestOfText<'a> {
     ghost use Rattle.std.specs.Prelude.{ℕ, List};
-    ghost use Rattle.jfr_build.specs.Pieces.{pieces_left};
+    ghost use Rattle.jfr_build.specs.Pieces.{rest_pieces};
 
     ghost Value = { List (List ℕ) };
 
-    ghost view = { λ lines. pieces_left 10 lines.rest };
+    ghost view = { λ lines. rest_pieces 10 lines.rest };
 }
 
-impl<'a> LinesLeft<'a> {
+impl<'a> RestOfText<'a> {
     /// The lines of a text.
-    pub fn of(text: &'a [u8]) -> LinesLeft<'a>
+    pub fn of(text: &'a [u8]) -> RestOfText<'a>
         ensures { result ≡ lines_of text.now }
     {
-        LinesLeft { rest: Some(text) }
+        RestOfText { rest: Some(text) }
     }
 
     /// Takes the first line; `None` exactly if no line is left.
@@ -39,7 +39,7 @@ impl<'a> LinesLeft<'a> {
 
 /// The bytes before the first newline, and those after it, if there is one.
 fn first_line(text: &[u8]) -> (&[u8], Option<&[u8]>)
-    ensures { lines_of text.now ≡ result.0.now ∷ pieces_left 10 result.1 }
+    ensures { lines_of text.now ≡ result.0.now ∷ rest_pieces 10 result.1 }
 {
     for at in 0..text.len() {
         if text[at] == b'\n' {
@@ -53,32 +53,32 @@ fn first_line(text: &[u8]) -> (&[u8], Option<&[u8]>)
 
 /// The words that have not been taken yet. Contracts see them as a list.
 #[derive(Drop)]
-pub struct WordsLeft<'a> {
+pub struct RestOfLine<'a> {
     rest: Option<&'a str>,
 }
 
-impl<'a> Model for WordsLeft<'a> {
+impl<'a> Model for RestOfLine<'a> {
     ghost use Rattle.std.specs.Prelude.{ℕ, List};
-    ghost use Rattle.jfr_build.specs.Pieces.{pieces_left};
+    ghost use Rattle.jfr_build.specs.Pieces.{rest_pieces};
 
     ghost Value = { List (List ℕ) };
 
-    ghost view = { λ words. pieces_left 32 words.rest };
+    ghost view = { λ words. rest_pieces 32 words.rest };
 }
 
-impl<'a> WordsLeft<'a> {
+impl<'a> RestOfLine<'a> {
     /// The words of a line.
-    pub fn of(line: &'a str) -> WordsLeft<'a>
+    pub fn of(line: &'a str) -> RestOfLine<'a>
         ensures { result ≡ words_of line.now }
     {
-        WordsLeft { rest: Some(line) }
+        RestOfLine { rest: Some(line) }
     }
 
     /// These words again, from the first.
-    pub fn again(&self) -> WordsLeft<'a>
+    pub fn again(&self) -> RestOfLine<'a>
         ensures { result ≡ self.now }
     {
-        WordsLeft { rest: self.rest }
+        RestOfLine { rest: self.rest }
     }
 
     /// Takes the first word; `None` exactly if no word is left.

@@ -3,7 +3,7 @@ ghost use Rattle.std.specs.Prelude.{◌≡◌, ◌≢◌, ℕ, List, Ok, IfSome}
 ghost use Rattle.jfr_outside.specs.Counts.{Rose};
 ghost use Rattle.jfr_outside.specs.World.{file};
 ghost use Rattle.jfr_header.specs.Taking.{Tells};
-ghost use Rattle.jfr_plan.specs.Effects.{alone};
+ghost use Rattle.jfr_plan.specs.Effects.{without_sink};
 ghost use Rattle.jfr_plan.specs.Clauses.{CanCreate, CanRead, Ran};
 ghost use Rattle.jfr_build.specs.Accepted.{IsBuiltOf};
 ghost use Rattle.jfr_build.specs.Builds.{build_of};
@@ -18,7 +18,7 @@ use std::alloc::Global;
 
 /// The chunk of the text in a file.
 fn build_file<P: Place>(alloc: Global, place: &mut P, name: &str) -> Result<Vec<u8>, BuildEnding>
-    ensures told { Tells (P.state place.old) (P.state place.new) (TextBuilt (P.state place.old).steady name.now result) }
+    ensures contents { Tells (P.state place.old) (P.state place.new) (TextBuilt (P.state place.old).steady name.now result) }
     ensures counts { TextCounts result (P.state place.old) (P.state place.new) }
 {
     let text = match read_file(alloc, place, name, TEXT_LIMIT) {
@@ -42,12 +42,12 @@ pub fn build_stream<P: Place>(alloc: Global, place: &mut P, text: &str, out: &st
     ensures refused { IfRefused result (λ line reason. Refuses text.now line reason (P.state place.old) (P.state place.new)) }
 
     // What was done otherwise, and which counts rose.
-    ensures ran { IfNotRefused result (λ ending. Ran (builds text.now out.now) ending (alone (P.state place.old)) (alone (P.state place.new))) }
+    ensures ran { IfNotRefused result (λ ending. Ran (builds text.now out.now) ending (without_sink (P.state place.old)) (without_sink (P.state place.new))) }
 
     // Without a fault the text decides how it ends, unless memory runs out.
     ensures complete { (Rose (P.state place.old).read_faults (P.state place.new).read_faults → ⊥)
         → (Rose (P.state place.old).write_faults (P.state place.new).write_faults → ⊥)
-        → IfSome (P.state place.old).told (λ w. IsDecided (file w text.now) result) }
+        → IfSome (P.state place.old).contents (λ w. IsDecided (file w text.now) result) }
 
     // If the text can be read and the output created, no fault occurs.
     ensures can_read { CanRead text.now (P.state place.old)

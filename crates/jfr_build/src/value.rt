@@ -4,13 +4,13 @@ ghost use Rattle.std.specs.List.{AllByRecursion};
 ghost use Rattle.jfr_layout.specs.Classes.{IsFieldLayout};
 ghost use Rattle.jfr_layout.specs.declared.shape.Shape.{Shape};
 ghost use Rattle.jfr_value.specs.Values.{IsPlaced};
-ghost use Rattle.jfr_value.specs.Walks.{Room};
+ghost use Rattle.jfr_value.specs.Walks.{DepthBound};
 ghost use Rattle.jfr_build.specs.Taking.{base_taken, class_taken, each_taken, reference_taken, shape_taken, value_taken};
 ghost use Rattle.jfr_build.specs.Writing.{Writes, wrote, wrote_all};
 
 use crate::leaf::id_after;
 use crate::output::{Output, ValueFault};
-use crate::pieces::WordsLeft;
+use crate::pieces::RestOfLine;
 use jfr_layout::{Classes, FieldLayout, Form, Kind};
 use jfr_value::item_layout;
 
@@ -22,7 +22,7 @@ const LEVELS: u32 = 33;
 pub fn push_value(
     classes: &Classes,
     layout: &FieldLayout,
-    words: &mut WordsLeft<'_>,
+    words: &mut RestOfLine<'_>,
     out: &mut Output,
 ) -> Result<(), ValueFault>
     requires layout { IsFieldLayout classes.now layout.now }
@@ -34,14 +34,14 @@ pub fn push_value(
 }
 
 /// Takes the first word; the value is bad if there is none.
-fn next_word<'a>(words: &mut WordsLeft<'a>) -> Result<&'a str, ValueFault>
+fn next_word<'a>(words: &mut RestOfLine<'a>) -> Result<&'a str, ValueFault>
     ensures { MatchResult result (λ word. words.old ≡ word.now ∷ words.new) (λ fault. (fault ≡ ValueFault.Bad) × (words.old ≡ [])) }
 {
     words.next().ok_or(ValueFault::Bad)
 }
 
 /// Takes the word of a reference.
-fn push_reference(words: &mut WordsLeft<'_>, out: &mut Output) -> Result<(), ValueFault>
+fn push_reference(words: &mut RestOfLine<'_>, out: &mut Output) -> Result<(), ValueFault>
     ensures exact { (s : Shape) → Writes (wrote out.old (reference_taken s words.old)) result out.new words.new }
 {
     let word = next_word(words)?;
@@ -53,7 +53,7 @@ fn push_reference(words: &mut WordsLeft<'_>, out: &mut Output) -> Result<(), Val
 }
 
 /// Takes the word of a value of a base name.
-fn push_base(kind: Kind, words: &mut WordsLeft<'_>, out: &mut Output) -> Result<(), ValueFault>
+fn push_base(kind: Kind, words: &mut RestOfLine<'_>, out: &mut Output) -> Result<(), ValueFault>
     ensures exact { (s : Shape) → Writes (wrote out.old (base_taken kind s words.old)) result out.new words.new }
 {
     let word = next_word(words)?;
@@ -65,12 +65,12 @@ fn push_base(kind: Kind, words: &mut WordsLeft<'_>, out: &mut Output) -> Result<
 fn push_layout(
     classes: &Classes,
     layout: &FieldLayout,
-    words: &mut WordsLeft<'_>,
+    words: &mut RestOfLine<'_>,
     out: &mut Output,
     levels: u32,
 ) -> Result<(), ValueFault>
     requires placed { IsPlaced classes.now layout.now }
-    requires room { Room classes.now levels layout.now.shape }
+    requires depth { DepthBound classes.now levels layout.now.shape }
     ensures exact { Writes (wrote out.old (shape_taken (class_taken (levels + 1) classes.now) layout.now.shape words.old)) result out.new words.new }
 {
     match layout.form {
@@ -89,12 +89,12 @@ fn push_layout(
 fn push_fields(
     classes: &Classes,
     layouts: &[FieldLayout],
-    words: &mut WordsLeft<'_>,
+    words: &mut RestOfLine<'_>,
     out: &mut Output,
     levels: u32,
 ) -> Result<(), ValueFault>
     requires layouts { AllByRecursion (IsFieldLayout classes.now) layouts.now }
-    requires room { AllByRecursion (λ s. Room classes.now levels s.shape) layouts.now }
+    requires depth { AllByRecursion (λ s. DepthBound classes.now levels s.shape) layouts.now }
     ensures exact { Writes (wrote_all out.old (each_taken layouts.now (λ s. shape_taken (class_taken (levels + 1) classes.now) s.shape) words.old)) result out.new words.new }
 {
     for layout in layouts {
@@ -108,13 +108,13 @@ fn push_fields(
 fn push_array(
     classes: &Classes,
     layout: &FieldLayout,
-    words: &mut WordsLeft<'_>,
+    words: &mut RestOfLine<'_>,
     out: &mut Output,
     levels: u32,
 ) -> Result<(), ValueFault>
     requires array { layout.now.shape.array ≡ true }
     requires placed { IsPlaced classes.now layout.now }
-    requires room { Room classes.now levels layout.now.shape }
+    requires depth { DepthBound classes.now levels layout.now.shape }
     ensures exact { Writes (wrote out.old (shape_taken (class_taken (levels + 1) classes.now) layout.now.shape words.old)) result out.new words.new }
 {
     let word = next_word(words)?;

@@ -6,7 +6,7 @@ use Rattle.std.proofs.lemmas.List.Elements.{All-from_recursion, recursion_from_A
 use Rattle.jfr_base.specs.declared.reason.Reason.TheVariants.{RecordSize, MetadataPosition, PoolPosition}
 use Rattle.jfr_base.specs.declared.flaw.Flaw.{Flaw}
 use Rattle.jfr_base.specs.Formats.{Reads, Answer, run}
-use Rattle.jfr_base.proofs.Exact.{Says, run_says}
+use Rattle.jfr_base.proofs.Exact.{ReadsOrFails, run_reads_or_fails}
 use Rattle.jfr_base.proofs.OneAnswer.{reads_computed, fails_computed}
 use Rattle.jfr_layout.specs.Classes.{Classes, is_event_class}
 use Rattle.jfr_frame.specs.declared.framed.Framed.{Framed}
@@ -23,7 +23,7 @@ use Rattle.jfr_chunk.specs.Refusal.{Framing, Chained, Described, Pooled, Refused
 use Rattle.jfr_worklist.proofs.Members.{contains_in}
 use Rattle.jfr_chunk.proofs.AllLaws.{all_in, all_reverse, filter_all}
 use Rattle.jfr_chunk.proofs.PartsLaws.{links_record}
-use Rattle.jfr_chunk.proofs.StandingLaws.{tiles_each, links_each}
+use Rattle.jfr_chunk.proofs.HasNodesLaws.{tiles_each, links_each}
 use Rattle.jfr_chunk.proofs.StageLaws.{flaw_is, there_starts, none_starts, starts_there, starts_none, to_end, EventsTell, events_tell, events_ok, events_err, EntriesTell, entries_tell, entries_ok, entries_err}
 
 -- What the chain that is computed says.
@@ -45,26 +45,26 @@ no_pools = record { offset = 16; reason = PoolPosition }
 
 -- What is left to do after each stage.
 module _ (c : List ℕ) where
-  abbrev behind_entries : List Framed → List Link → Body → Classes → List EntryAt → Result Parts Flaw
-  behind_entries rs ls b k es = and_then (events_checked c k (event_records k rs) (event_records k rs)) λ all. Ok (record { bytes = c; records = rs; chain = ls; body = b; classes = k; entries = es })
+  abbrev after_entries : List Framed → List Link → Body → Classes → List EntryAt → Result Parts Flaw
+  after_entries rs ls b k es = and_then (events_checked c k (event_records k rs) (event_records k rs)) λ all. Ok (record { bytes = c; records = rs; chain = ls; body = b; classes = k; entries = es })
 
-  abbrev behind_classes : List Framed → List Link → Body → Classes → Result Parts Flaw
-  behind_classes rs ls b k = and_then (entries_of c k 0 (reverse ls)) (behind_entries rs ls b k)
+  abbrev after_classes : List Framed → List Link → Body → Classes → Result Parts Flaw
+  after_classes rs ls b k = and_then (entries_of c k 0 (reverse ls)) (after_entries rs ls b k)
 
-  abbrev behind_body : List Framed → List Link → Body → Result Parts Flaw
-  behind_body rs ls b = and_then (described b) (behind_classes rs ls b)
+  abbrev after_body : List Framed → List Link → Body → Result Parts Flaw
+  after_body rs ls b = and_then (described b) (after_classes rs ls b)
 
-  abbrev behind_chain : List Framed → Framed → List Link → Result Parts Flaw
-  behind_chain rs m ls = and_then (body_by (run meta_format c (record_end m) m.body)) (behind_body rs ls)
+  abbrev after_chain : List Framed → Framed → List Link → Result Parts Flaw
+  after_chain rs m ls = and_then (body_by (run meta_format c (record_end m) m.body)) (after_body rs ls)
 
-  abbrev behind_last : List Framed → Framed → Framed → Result Parts Flaw
-  behind_last rs m last = and_then (chain_of c rs last) (behind_chain rs m)
+  abbrev after_last : List Framed → Framed → Framed → Result Parts Flaw
+  after_last rs m last = and_then (chain_of c rs last) (after_chain rs m)
 
-  abbrev behind_metadata : List Framed → Framed → Result Parts Flaw
-  behind_metadata rs m = and_then (found_or no_pools (record_there rs (pools_at c) 1)) (behind_last rs m)
+  abbrev after_metadata : List Framed → Framed → Result Parts Flaw
+  after_metadata rs m = and_then (found_or no_pools (record_there rs (pools_at c) 1)) (after_last rs m)
 
   abbrev behind_records : List Framed → Result Parts Flaw
-  behind_records rs = and_then (found_or no_metadata (record_there rs (metadata_at c) 0)) (behind_metadata rs)
+  behind_records rs = and_then (found_or no_metadata (record_there rs (metadata_at c) 0)) (after_metadata rs)
 
 meta_end : (c : List ℕ) (end at : ℕ) (b : Body) (to : ℕ) → at ≤ end → Reads meta_format c end at b to → to ≡ end
 unfolding meta_format
@@ -88,7 +88,7 @@ module _ (c : List ℕ) (long : 68 ≤ length c) (chains : (rs : List Framed) �
   Tells (Ok p) = (p.bytes ≡ c) × AreParts p
   Tells (Err flaw) = Refused c flaw
 
-  events_told : (d : Pooled c) → Tells (behind_entries c d.described.chained.framing.records d.described.chained.chain d.described.body d.described.classes d.entries)
+  events_told : (d : Pooled c) → Tells (after_entries c d.described.chained.framing.records d.described.chained.chain d.described.body d.described.classes d.entries)
   events_told d =
       by_result (events_checked c k (event_records k rs) (event_records k rs)) (events_tell c k (event_records k rs) (event_records k rs) (event_each k d.described.chained.framing))
     where
@@ -108,21 +108,21 @@ module _ (c : List ℕ) (long : 68 ≤ length c) (chains : (rs : List Framed) �
           metadata_record = d.described.chained.framing.metadata;
           metadata_there = d.described.chained.framing.metadata_there;
           metadata = d.described.metadata;
-          entries = d.stand;
+          entries = d.valid;
           events = All-from_recursion (HasFields c k) (event_records k rs) t;
         },
       )
       by_result (Err f) t = events d t
 
-  entries_told : (d : Described c) → Tells (behind_classes c d.chained.framing.records d.chained.chain d.body d.classes)
+  entries_told : (d : Described c) → Tells (after_classes c d.chained.framing.records d.chained.chain d.body d.classes)
   entries_told d = by_result (entries_of c d.classes 0 (reverse d.chained.chain)) (entries_tell c d.classes 0 (reverse d.chained.chain) (links d.chained))
     where
-      by_result : (r : Result (List EntryAt) Flaw) → EntriesTell c d.classes 0 (reverse d.chained.chain) r → Tells (and_then r (behind_entries c d.chained.framing.records d.chained.chain d.body d.classes))
-      by_result (Ok es) t = events_told (record { described = d; entries = es; stand = t })
+      by_result : (r : Result (List EntryAt) Flaw) → EntriesTell c d.classes 0 (reverse d.chained.chain) r → Tells (and_then r (after_entries c d.chained.framing.records d.chained.chain d.body d.classes))
+      by_result (Ok es) t = events_told (record { described = d; entries = es; valid = t })
       by_result (Err f) t = checkpoints d t
 
-  metadata_told : (h : Chained c) → Tells (behind_chain c h.framing.records h.framing.metadata h.chain)
-  metadata_told h = by_answer (run meta_format c (record_end m) m.body) (run_says meta_format c (record_end m) m.body i.covers i.within)
+  metadata_told : (h : Chained c) → Tells (after_chain c h.framing.records h.framing.metadata h.chain)
+  metadata_told h = by_answer (run meta_format c (record_end m) m.body) (run_reads_or_fails meta_format c (record_end m) m.body i.covers i.within)
     where
       m : Framed
       m = h.framing.metadata
@@ -130,29 +130,29 @@ module _ (c : List ℕ) (long : 68 ≤ length c) (chains : (rs : List Framed) �
       i : IsRecord c m
       i = metadata_is h.framing
 
-      by_classes : (b : Body) (r : Result Classes Flaw) → Reads meta_format c (record_end m) m.body b (record_end m) → described b ≡ r → Tells (and_then r (behind_classes c h.framing.records h.chain b))
+      by_classes : (b : Body) (r : Result Classes Flaw) → Reads meta_format c (record_end m) m.body b (record_end m) → described b ≡ r → Tells (and_then r (after_classes c h.framing.records h.chain b))
       by_classes b (Err f) s e = metadata h (inr (b, s, e))
       by_classes b (Ok k) s e = entries_told (record { chained = h; body = b; classes = k; metadata = record { body = s; classes = e } })
 
-      by_answer : (a : Answer Body) → Says meta_format c (record_end m) m.body a → Tells (and_then (body_by a) (behind_body c h.framing.records h.chain))
+      by_answer : (a : Answer Body) → ReadsOrFails meta_format c (record_end m) m.body a → Tells (and_then (body_by a) (after_body c h.framing.records h.chain))
       by_answer (Err f) s = metadata h (inl s)
       by_answer (Ok g) s = by_classes g.value (described g.value) (subst (λ to. Reads meta_format c (record_end m) m.body g.value to) (meta_end c (record_end m) m.body g.value g.place i.covers s) s) refl
 
-  chain_told : (f : Framing c) → Tells (behind_last c f.records f.metadata f.last)
+  chain_told : (f : Framing c) → Tells (after_last c f.records f.metadata f.last)
   chain_told f = by_result (chain_of c f.records f.last) ((chains f.records f.cover).tells (pools_at c) f.last f.last_there)
     where
-      by_result : (r : Result (List Link) Flaw) → ChainTells c f.records (pools_at c) r → Tells (and_then r (behind_chain c f.records f.metadata))
+      by_result : (r : Result (List Link) Flaw) → ChainTells c f.records (pools_at c) r → Tells (and_then r (after_chain c f.records f.metadata))
       by_result (Ok ls) t = metadata_told (record { framing = f; chain = ls; links = t })
       by_result (Err g) t = chain f t.0 t.1
 
   positions_told : (rs : List Framed) → AreRecords c rs → Tells (behind_records c rs)
   positions_told rs cover = by_metadata (record_there rs (metadata_at c) 0) refl
     where
-      by_last : (m : Framed) → StartsAt rs (metadata_at c) 0 m → (o : Option Framed) → record_there rs (pools_at c) 1 ≡ o → Tells (and_then (found_or no_pools o) (behind_last c rs m))
+      by_last : (m : Framed) → StartsAt rs (metadata_at c) 0 m → (o : Option Framed) → record_there rs (pools_at c) 1 ≡ o → Tells (and_then (found_or no_pools o) (after_last c rs m))
       by_last m s None e = pool_position rs cover m s (none_starts rs (pools_at c) 1 e) refl
       by_last m s (Some last) e = chain_told (record { records = rs; cover = cover; metadata = m; metadata_there = s; last = last; last_there = there_starts rs (pools_at c) 1 last e })
 
-      by_metadata : (o : Option Framed) → record_there rs (metadata_at c) 0 ≡ o → Tells (and_then (found_or no_metadata o) (behind_metadata c rs))
+      by_metadata : (o : Option Framed) → record_there rs (metadata_at c) 0 ≡ o → Tells (and_then (found_or no_metadata o) (after_metadata c rs))
       by_metadata None e = metadata_position rs cover (none_starts rs (metadata_at c) 0 e) refl
       by_metadata (Some m) e = by_last m (there_starts rs (metadata_at c) 0 m e) (record_there rs (pools_at c) 1) refl
 
@@ -172,43 +172,43 @@ module _ (c : List ℕ) (long : 68 ≤ length c) (chains : (rs : List Framed) �
       by_framing (inr (o, f)) = subst Tells (sym (flawed_to o f)) (framing f refl)
 
   -- And back, stage by stage.
-  metadata_to : (rs : List Framed) (m : Framed) → AreRecords c rs → StartsAt rs (metadata_at c) 0 m → read_parts c ≡ behind_metadata c rs m
-  metadata_to rs m cover s = framed_to rs cover ∙ ap (λ x. and_then (found_or no_metadata x) (behind_metadata c rs)) (starts_there c rs (metadata_at c) 0 m (tiles_each c 68 (length c) rs cover) s)
+  metadata_to : (rs : List Framed) (m : Framed) → AreRecords c rs → StartsAt rs (metadata_at c) 0 m → read_parts c ≡ after_metadata c rs m
+  metadata_to rs m cover s = framed_to rs cover ∙ ap (λ x. and_then (found_or no_metadata x) (after_metadata c rs)) (starts_there c rs (metadata_at c) 0 m (tiles_each c 68 (length c) rs cover) s)
 
-  last_to : (f : Framing c) → read_parts c ≡ behind_last c f.records f.metadata f.last
-  last_to f = metadata_to f.records f.metadata f.cover f.metadata_there ∙ ap (λ x. and_then (found_or no_pools x) (behind_last c f.records f.metadata)) (starts_there c f.records (pools_at c) 1 f.last (each f) f.last_there)
+  last_to : (f : Framing c) → read_parts c ≡ after_last c f.records f.metadata f.last
+  last_to f = metadata_to f.records f.metadata f.cover f.metadata_there ∙ ap (λ x. and_then (found_or no_pools x) (after_last c f.records f.metadata)) (starts_there c f.records (pools_at c) 1 f.last (each f) f.last_there)
 
-  chained_to : (h : Chained c) → read_parts c ≡ behind_chain c h.framing.records h.framing.metadata h.chain
-  chained_to h = last_to h.framing ∙ ap (λ x. and_then x (behind_chain c h.framing.records h.framing.metadata)) ((chains h.framing.records h.framing.cover).chain (pools_at c) h.chain h.framing.last h.framing.last_there h.links)
+  chained_to : (h : Chained c) → read_parts c ≡ after_chain c h.framing.records h.framing.metadata h.chain
+  chained_to h = last_to h.framing ∙ ap (λ x. and_then x (after_chain c h.framing.records h.framing.metadata)) ((chains h.framing.records h.framing.cover).chain (pools_at c) h.chain h.framing.last h.framing.last_there h.links)
 
-  body_to : (h : Chained c) (b : Body) → Reads meta_format c (record_end h.framing.metadata) h.framing.metadata.body b (record_end h.framing.metadata) → read_parts c ≡ behind_body c h.framing.records h.chain b
+  body_to : (h : Chained c) (b : Body) → Reads meta_format c (record_end h.framing.metadata) h.framing.metadata.body b (record_end h.framing.metadata) → read_parts c ≡ after_body c h.framing.records h.chain b
   body_to h b r =
       let i = metadata_is h.framing in
-      chained_to h ∙ ap (λ x. and_then (body_by x) (behind_body c h.framing.records h.chain)) (reads_computed c (record_end h.framing.metadata) i.within meta_format h.framing.metadata.body b (record_end h.framing.metadata) i.covers r)
+      chained_to h ∙ ap (λ x. and_then (body_by x) (after_body c h.framing.records h.chain)) (reads_computed c (record_end h.framing.metadata) i.within meta_format h.framing.metadata.body b (record_end h.framing.metadata) i.covers r)
 
-  described_to : (d : Described c) → read_parts c ≡ behind_classes c d.chained.framing.records d.chained.chain d.body d.classes
-  described_to d = body_to d.chained d.body d.metadata.body ∙ ap (λ x. and_then x (behind_classes c d.chained.framing.records d.chained.chain d.body)) d.metadata.classes
+  described_to : (d : Described c) → read_parts c ≡ after_classes c d.chained.framing.records d.chained.chain d.body d.classes
+  described_to d = body_to d.chained d.body d.metadata.body ∙ ap (λ x. and_then x (after_classes c d.chained.framing.records d.chained.chain d.body)) d.metadata.classes
 
-  pooled_to : (p : Pooled c) → read_parts c ≡ behind_entries c p.described.chained.framing.records p.described.chained.chain p.described.body p.described.classes p.entries
+  pooled_to : (p : Pooled c) → read_parts c ≡ after_entries c p.described.chained.framing.records p.described.chained.chain p.described.body p.described.classes p.entries
   pooled_to p =
       described_to p.described
-      ∙ ap (λ x. and_then x (behind_entries c p.described.chained.framing.records p.described.chained.chain p.described.body p.described.classes))
-      (entries_ok c p.described.classes 0 (reverse p.described.chained.chain) p.entries (links p.described.chained) p.stand)
+      ∙ ap (λ x. and_then x (after_entries c p.described.chained.framing.records p.described.chained.chain p.described.body p.described.classes))
+      (entries_ok c p.described.classes 0 (reverse p.described.chained.chain) p.entries (links p.described.chained) p.valid)
 
   pub refused_read : (f : Flaw) → Refused c f → read_parts c ≡ Err f
   refused_read f (framing o e) = flawed_to f.offset o ∙ ap (λ z. Err z) (flaw_is f f.offset RecordSize refl e)
   refused_read f (metadata_position rs cover n e) =
-      framed_to rs cover ∙ (ap (λ x. and_then (found_or no_metadata x) (behind_metadata c rs)) (starts_none rs (metadata_at c) 0 n) ∙ ap (λ z. Err z) (sym e))
+      framed_to rs cover ∙ (ap (λ x. and_then (found_or no_metadata x) (after_metadata c rs)) (starts_none rs (metadata_at c) 0 n) ∙ ap (λ z. Err z) (sym e))
   refused_read f (pool_position rs cover m s n e) =
-      metadata_to rs m cover s ∙ (ap (λ x. and_then (found_or no_pools x) (behind_last c rs m)) (starts_none rs (pools_at c) 1 n) ∙ ap (λ z. Err z) (sym e))
+      metadata_to rs m cover s ∙ (ap (λ x. and_then (found_or no_pools x) (after_last c rs m)) (starts_none rs (pools_at c) 1 n) ∙ ap (λ z. Err z) (sym e))
   refused_read f (chain g before w) =
-      last_to g ∙ ap (λ x. and_then x (behind_chain c g.records g.metadata)) ((chains g.records g.cover).flaw (pools_at c) before f g.last g.last_there w)
+      last_to g ∙ ap (λ x. and_then x (after_chain c g.records g.metadata)) ((chains g.records g.cover).flaw (pools_at c) before f g.last g.last_there w)
   refused_read f (metadata h (inl w)) =
       let i = metadata_is h.framing in
-      chained_to h ∙ ap (λ x. and_then (body_by x) (behind_body c h.framing.records h.chain)) (fails_computed c (record_end h.framing.metadata) i.within meta_format h.framing.metadata.body f.offset f.reason i.covers w)
-  refused_read f (metadata h (inr w)) = body_to h w.0 w.1 ∙ ap (λ x. and_then x (behind_classes c h.framing.records h.chain w.0)) w.2
+      chained_to h ∙ ap (λ x. and_then (body_by x) (after_body c h.framing.records h.chain)) (fails_computed c (record_end h.framing.metadata) i.within meta_format h.framing.metadata.body f.offset f.reason i.covers w)
+  refused_read f (metadata h (inr w)) = body_to h w.0 w.1 ∙ ap (λ x. and_then x (after_classes c h.framing.records h.chain w.0)) w.2
   refused_read f (checkpoints d w) =
-      described_to d ∙ ap (λ x. and_then x (behind_entries c d.chained.framing.records d.chained.chain d.body d.classes)) (entries_err c d.classes 0 (reverse d.chained.chain) f (links d.chained) w)
+      described_to d ∙ ap (λ x. and_then x (after_entries c d.chained.framing.records d.chained.chain d.body d.classes)) (entries_err c d.classes 0 (reverse d.chained.chain) f (links d.chained) w)
   refused_read f (events p w) =
       pooled_to p
       ∙ ap (λ x. and_then x λ all. Ok (record { bytes = c; records = p.described.chained.framing.records; chain = p.described.chained.chain; body = p.described.body; classes = p.described.classes; entries = p.entries }))
@@ -234,4 +234,4 @@ parts_read p long chains a =
     let f : Framing p.bytes = record { records = p.records; cover = a.records; metadata = a.metadata_record; metadata_there = a.metadata_there; last = s.0; last_there = s.1 } in
     let h : Chained p.bytes = record { framing = f; chain = p.chain; links = a.chain } in
     let d : Described p.bytes = record { chained = h; body = p.body; classes = p.classes; metadata = a.metadata } in
-    pooled_read p.bytes long chains (record { described = d; entries = p.entries; stand = a.entries }) a.events
+    pooled_read p.bytes long chains (record { described = d; entries = p.entries; valid = a.entries }) a.events

@@ -23,7 +23,7 @@ use Rattle.jfr_worklist.specs.Members.{In}
 use Rattle.jfr_worklist.proofs.Members.{contains_in}
 use Rattle.jfr_chunk.proofs.AllLaws.{all_reverse}
 use Rattle.jfr_chunk.proofs.PartsLaws.{links_record}
-use Rattle.jfr_chunk.proofs.StandingLaws.{links_each, tiles_each}
+use Rattle.jfr_chunk.proofs.HasNodesLaws.{links_each, tiles_each}
 use Rattle.jfr_chunk.proofs.TestLaws.{left_true}
 
 -- The sum of what a function gives at each member.
@@ -229,7 +229,7 @@ total_suc : {X : Type 0} (w : X → ℕ) (xs : List X) → total (λ x. suc (w x
 total_suc w [] = refl
 total_suc w (x ∷ xs) = let i = total_suc w xs in omega arith
 
-module _ (c : List ℕ) (rs : List Framed) (records : AreRecords c rs) (at : ℕ) (ls : List Link) (chain : IsChain c rs at ls) (k : Classes) (sound : Sound k) (es : List EntryAt) (stand : AreEntries c k 0 (reverse ls) es) where
+module _ (c : List ℕ) (rs : List Framed) (records : AreRecords c rs) (at : ℕ) (ls : List Link) (chain : IsChain c rs at ls) (k : Classes) (sound : Sound k) (es : List EntryAt) (valid : AreEntries c k 0 (reverse ls) es) where
   -- The events' records, the entries and their leaves.
   pub entries_apart : total record_size (event_records k rs) + (total (leaves_of c k) es + length es) ≤ length c
   entries_apart =
@@ -237,7 +237,7 @@ module _ (c : List ℕ) (rs : List Framed) (records : AreRecords c rs) (at : ℕ
       let up = (chain_rises c rs at ls chain).0 in
       let a : 68 + (total record_size (event_records k rs) + total link_size (reverse ls)) ≤ length c = apart c k 68 (length c) rs records 0 (reverse ls) up (all_reverse (Linked rs) ls (linked c rs ls links)) in
       let each = all_reverse (λ (l : Link). IsRecord c l.frame) ls (links_record c rs (tiles_each c 68 (length c) rs records) ls links) in
-      let b : total (entry_weight c k) es ≤ total link_size (reverse ls) = entries_within c k sound 0 (reverse ls) es each stand in
+      let b : total (entry_weight c k) es ≤ total link_size (reverse ls) = entries_within c k sound 0 (reverse ls) es each valid in
       let d = total_suc (leaves_of c k) es in
       omega arith
 

@@ -2,8 +2,8 @@
 use Rattle.std.specs.Prelude.{◌≡◌, ℕ, suc, ◌+◌, ◌^◌, ◌<◌, ◌≤◌, Bool, true, false, cond, List, [], ◌∷◌, drop, filter, length, Option, Some, None, Ok, Err, slice_get}
 use Rattle.std.specs.List.{cons_option, filter_map}
 use Rattle.std.proofs.Common.{ap, arith, refl, subst}
-use Rattle.jfr_base.specs.Formats.{Answer, run, seen}
-use Rattle.jfr_base.proofs.Exact.{Says, run_says}
+use Rattle.jfr_base.specs.Formats.{Answer, run, end_or_flaw}
+use Rattle.jfr_base.proofs.Exact.{ReadsOrFails, run_reads_or_fails}
 use Rattle.jfr_header.specs.Fronts.{Whole}
 use Rattle.jfr_header.proofs.Steps.{size_bounds}
 use Rattle.jfr_layout.specs.Classes.{Classes, Sound, is_event_class}
@@ -123,10 +123,10 @@ module _ (k : Classes) (sound : Sound k) (c : List ℕ) where
       within : end ≤ record_end r
       few : length (node_entries es k c (node_at (inline r.type_id) r.body end)) ≤ r.size
 
-    fields_within : (r : Framed) (end : ℕ) → IsRecord c r → Ok end ≡ seen (run (value_format k (inline r.type_id)) c (record_end r) r.body) → FieldsWithin r end
-    fields_within r end i e = by_answer (run (value_format k (inline r.type_id)) c (record_end r) r.body) (run_says (value_format k (inline r.type_id)) c (record_end r) r.body i.covers i.within) e
+    fields_within : (r : Framed) (end : ℕ) → IsRecord c r → Ok end ≡ end_or_flaw (run (value_format k (inline r.type_id)) c (record_end r) r.body) → FieldsWithin r end
+    fields_within r end i e = by_answer (run (value_format k (inline r.type_id)) c (record_end r) r.body) (run_reads_or_fails (value_format k (inline r.type_id)) c (record_end r) r.body i.covers i.within) e
       where
-        by_answer : (a : Answer Value) → Says (value_format k (inline r.type_id)) c (record_end r) r.body a → Ok end ≡ seen a → FieldsWithin r end
+        by_answer : (a : Answer Value) → ReadsOrFails (value_format k (inline r.type_id)) c (record_end r) r.body a → Ok end ≡ end_or_flaw a → FieldsWithin r end
         by_answer (Err flaw) s e = cc
         by_answer (Ok g) s e =
             let p : g.place ≡ end = cc in
@@ -144,7 +144,7 @@ module _ (k : Classes) (sound : Sound k) (c : List ℕ) where
       pub numbers_fit : length more < 2 ^ 32
       pub counted : Counted c rs (n + 1) (length more)
 
-    pub counted_event : (rs : List Framed) (n end : ℕ) (r : Framed) (numbers more : List ℕ) → Whole c → AreRecords c rs → slice_get rs n ≡ Some r → Ok end ≡ seen (run (value_format k (inline r.type_id)) c (record_end r) r.body)
+    pub counted_event : (rs : List Framed) (n end : ℕ) (r : Framed) (numbers more : List ℕ) → Whole c → AreRecords c rs → slice_get rs n ≡ Some r → Ok end ≡ end_or_flaw (run (value_format k (inline r.type_id)) c (record_end r) r.body)
         → length more ≤ length numbers + length (node_entries es k c (node_at (inline r.type_id) r.body end)) → Counted c rs n (length numbers) → CountedEvent rs n end r more
     counted_event rs n end r numbers more w t g e m h =
         let f = fields_within r end (record_of c rs n r t g) e in

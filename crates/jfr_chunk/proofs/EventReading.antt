@@ -7,7 +7,7 @@ use Rattle.std.proofs.Common.{ap, arith, refl, sym, ◌∙◌, subst, append_ass
 use Rattle.std.proofs.lemmas.List.{map-append, append-nil}
 use Rattle.std.proofs.lemmas.List.Elements.{All-from_recursion}
 use Rattle.jfr_base.specs.declared.flaw.Flaw.{Flaw}
-use Rattle.jfr_base.specs.Formats.{Answer, run, seen}
+use Rattle.jfr_base.specs.Formats.{Answer, run, end_or_flaw}
 use Rattle.jfr_layout.specs.Classes.{Classes, is_event_class}
 use Rattle.jfr_frame.specs.declared.framed.Framed.{Framed}
 use Rattle.jfr_frame.specs.Records.{IsRecord, AreRecords, record_end}
@@ -21,7 +21,7 @@ use Rattle.jfr_chunk.specs.Seen.{event_with, event_kept}
 use Rattle.jfr_chunk.specs.Stages.{AreFields, IsRefusedEvents}
 use Rattle.jfr_chunk.proofs.AllLaws.{all_get, filter_all}
 use Rattle.jfr_chunk.proofs.EndLaws.{AreBefore, EndIs, before_none, before_other, before_event, same_events, this_event}
-use Rattle.jfr_chunk.proofs.StandingLaws.{tiles_each}
+use Rattle.jfr_chunk.proofs.HasNodesLaws.{tiles_each}
 use Rattle.jfr_chunk.proofs.StageLaws.{EventsTell, events_tell}
 
 pub record_of : (c : List ℕ) (rs : List Framed) (n : ℕ) (r : Framed) → AreRecords c rs → slice_get rs n ≡ Some r → IsRecord c r
@@ -75,7 +75,7 @@ module _ (c : List ℕ) (k : Classes) (rs : List Framed) where
   answer r = run (value_format k (inline r.type_id)) c (record_end r) r.body
 
   -- An event whose record has all its fields.
-  pub read_event : (n : ℕ) (early later : BTreeMap ℕ ℕ) (fields : List EventIndexEntry) (r : Framed) (end refs_end : ℕ) → slice_get rs n ≡ Some r → is_event_class k r.type_id ≡ true → Ok end ≡ seen (answer r) → EndIs early later n r end → ReadTo n early fields
+  pub read_event : (n : ℕ) (early later : BTreeMap ℕ ℕ) (fields : List EventIndexEntry) (r : Framed) (end refs_end : ℕ) → slice_get rs n ≡ Some r → is_event_class k r.type_id ≡ true → Ok end ≡ end_or_flaw (answer r) → EndIs early later n r end → ReadTo n early fields
       → ReadTo (n + 1) later (fields ++ record { «record» = n; refs_end = refs_end } ∷ [])
   read_event n early later fields r end refs_end e f s i p = record {
     pending = by_answer (answer r) refl s p.before (subst (λ left. Pending left early fields) (left_event n r e f) p.pending);
@@ -88,7 +88,7 @@ module _ (c : List ℕ) (k : Classes) (rs : List Framed) where
       this : EventIndexEntry
       this = record { «record» = n; refs_end = refs_end }
 
-      by_answer : (a : Answer Value) → answer r ≡ a → Ok end ≡ seen a → AreBefore n early fields → Pending (r ∷ rest) early fields → Pending rest later (fields ++ this ∷ [])
+      by_answer : (a : Answer Value) → answer r ≡ a → Ok end ≡ end_or_flaw a → AreBefore n early fields → Pending (r ∷ rest) early fields → Pending rest later (fields ++ this ∷ [])
       by_answer (Err flaw) q s b p = cc
       by_answer (Ok g) q s b p =
           let t : end ≡ g.place = cc in
@@ -108,13 +108,13 @@ module _ (c : List ℕ) (k : Classes) (rs : List Framed) where
   each t = filter_all (IsRecord c) (λ r. is_event_class k r.type_id) rs (tiles_each c 68 (length c) rs t)
 
   -- An event whose record doesn't have all its fields.
-  pub read_stops : (n : ℕ) (early : BTreeMap ℕ ℕ) (fields : List EventIndexEntry) (r : Framed) (flaw : Flaw) → AreRecords c rs → slice_get rs n ≡ Some r → is_event_class k r.type_id ≡ true → Err flaw ≡ seen (answer r) → ReadTo n early fields → IsRefusedEvents c k rs flaw
+  pub read_stops : (n : ℕ) (early : BTreeMap ℕ ℕ) (fields : List EventIndexEntry) (r : Framed) (flaw : Flaw) → AreRecords c rs → slice_get rs n ≡ Some r → is_event_class k r.type_id ≡ true → Err flaw ≡ end_or_flaw (answer r) → ReadTo n early fields → IsRefusedEvents c k rs flaw
   read_stops n early fields r flaw t e f s p = subst (EventsTell c k all all) (by_answer (answer r) refl s (subst (λ left. Pending left early fields) (left_event n r e f) p.pending)) (events_tell c k all all (each t))
     where
       rest : List Framed
       rest = event_records k (drop (n + 1) rs)
 
-      by_answer : (a : Answer Value) → answer r ≡ a → Err flaw ≡ seen a → Pending (r ∷ rest) early fields → events_checked c k all all ≡ Err flaw
+      by_answer : (a : Answer Value) → answer r ≡ a → Err flaw ≡ end_or_flaw a → Pending (r ∷ rest) early fields → events_checked c k all all ≡ Err flaw
       by_answer (Ok g) q s p = cc
       by_answer (Err other) q s p = let h : other ≡ flaw = cc in sym p.checked ∙ (ap (λ a. fields_by a (events_checked c k all rest)) q ∙ ap (λ z. Err z) h)
 
@@ -123,6 +123,6 @@ module _ (c : List ℕ) (k : Classes) (rs : List Framed) where
   read_all n early fields t h p =
       let q : Pending [] early fields = subst (λ left. Pending left early fields) (ap (event_records k) (drop_past rs n h)) p.pending in
       record {
-        stand = All-from_recursion (HasFields c k) all (subst (EventsTell c k all all) (sym q.checked) (events_tell c k all all (each t)));
+        valid = All-from_recursion (HasFields c k) all (subst (EventsTell c k all all) (sym q.checked) (events_tell c k all all (each t)));
         listed = sym (append-nil (map (event_kept rs early) fields)) ∙ q.listed;
       }

@@ -24,7 +24,7 @@ use Rattle.jfr_chunk.proofs.SeenLaws.{each_length}
 use Rattle.jfr_worklist.specs.Members.{In}
 use Rattle.jfr_worklist.proofs.Members.{contains_in}
 use Rattle.jfr_chunk.proofs.AllLaws.{all_in, filter_all}
-use Rattle.jfr_chunk.proofs.StandingLaws.{tiles_each, links_each}
+use Rattle.jfr_chunk.proofs.HasNodesLaws.{tiles_each, links_each}
 use Rattle.jfr_chunk.proofs.TestLaws.{is_eq}
 
 -- How many pass a test.

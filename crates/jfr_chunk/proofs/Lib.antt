@@ -19,7 +19,7 @@ mod RefusalRows
 pub mod RootLaws
 pub mod SeenLaws
 pub mod StageLaws
-pub mod StandingLaws
+pub mod HasNodesLaws
 pub mod TestLaws
 pub mod UsedLaws
 mod FilterRows

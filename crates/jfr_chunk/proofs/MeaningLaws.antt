@@ -26,7 +26,7 @@ use Rattle.jfr_worklist.specs.Members.{In}
 use Rattle.jfr_worklist.proofs.Members.{contains_in, in_contains}
 use Rattle.jfr_chunk.proofs.AllLaws.{all_in}
 use Rattle.jfr_chunk.proofs.PathLaws.{Pair, MeetsSame, law_of_paths}
-use Rattle.jfr_chunk.proofs.StandingLaws.{IsEvent, standing, event_is, tiles_each}
+use Rattle.jfr_chunk.proofs.HasNodesLaws.{IsEvent, has_nodes, event_is, tiles_each}
 
 -- A record's bytes are those of its size, of its type and of its body.
 record_split : (c : List ℕ) (r : Framed) → IsRecord c r → record_bytes c r ≡ slice_range c r.at r.type_at ++ (slice_range c r.type_at r.body ++ body_bytes c r)
@@ -61,7 +61,7 @@ module _ (p q : Parts) where
       ap (λ z. slice_range p.bytes z e.node.end) i.at ∙ (same ∙ ap (λ z. slice_range q.bytes z f.node.end) (sym j.at))
 
   module _ (a : AreParts p) (b : AreParts q) where
-    event_pair : (e f : EventAt) → IsEvent p e → IsEvent q f → SameRecord p q e f → Pair p q (standing p a) (standing q b) e.node f.node
+    event_pair : (e f : EventAt) → IsEvent p e → IsEvent q f → SameRecord p q e f → Pair p q (has_nodes p a) (has_nodes q b) e.node f.node
     event_pair e f i j h =
         let r = all_in (IsRecord p.bytes) p.records e.record_of (tiles_each p.bytes 68 (length p.bytes) p.records a.records) i.listed in
         let s = all_in (IsRecord q.bytes) q.records f.record_of (tiles_each q.bytes 68 (length q.bytes) q.records b.records) j.listed in
@@ -74,12 +74,12 @@ module _ (p q : Parts) where
         }
 
     events_same : (es fs : List EventAt) → ((e : EventAt) → In es e → IsEvent p e) → ((f : EventAt) → In fs f → IsEvent q f) → SameRecords p q es fs
-        → ((e : EventAt) → In es e → MeetsSame p q (standing p a) (standing q b) e.node) → SameMeaning p q es fs
+        → ((e : EventAt) → In es e → MeetsSame p q (has_nodes p a) (has_nodes q b) e.node) → SameMeaning p q es fs
     events_same [] [] i j h m = tt
     events_same [] (f ∷ fs) i j h m = absurd h
     events_same (e ∷ es) [] i j h m = absurd h
     events_same (e ∷ es) (f ∷ fs) i j h m = (
-      record { class = h.0.class; bytes = h.0.bytes; paths = law_of_paths p q (standing p a) (standing q b) e.node f.node (event_pair e f (i e (inl refl)) (j f (inl refl)) h.0) (m e (inl refl)) },
+      record { class = h.0.class; bytes = h.0.bytes; paths = law_of_paths p q (has_nodes p a) (has_nodes q b) e.node f.node (event_pair e f (i e (inl refl)) (j f (inl refl)) h.0) (m e (inl refl)) },
       events_same es fs (λ e k. i e (inr k)) (λ f k. j f (inr k)) h.1 (λ e k. m e (inr k)),
     )
 

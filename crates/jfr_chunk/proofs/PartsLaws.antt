@@ -18,7 +18,7 @@ use Rattle.jfr_chunk.specs.Parts.{Parts, StartsAt, AreParts, pools_at, metadata_
 use Rattle.jfr_worklist.specs.Members.{In}
 use Rattle.jfr_worklist.proofs.Members.{contains_in}
 use Rattle.jfr_chunk.proofs.AllLaws.{all_in, all_reverse}
-use Rattle.jfr_chunk.proofs.StandingLaws.{tiles_each, links_each}
+use Rattle.jfr_chunk.proofs.HasNodesLaws.{tiles_each, links_each}
 
 link_path : (l m : Link) → l.frame ≡ m.frame → l.delta_at ≡ m.delta_at → l.delta_end ≡ m.delta_end → l.delta ≡ m.delta → l ≡ m
 link_path l m a b c d = λ i. record { frame = a i; delta_at = b i; delta_end = c i; delta = d i }

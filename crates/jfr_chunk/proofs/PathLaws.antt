@@ -22,7 +22,7 @@ use Rattle.jfr_chunk.proofs.AllLaws.{all_get}
 use Rattle.jfr_pool.proofs.ForceLaws.{numbered}
 
 -- The classes are sound, and every entry in force is a node.
-pub record Standing (p : Parts) : Type 0 where
+pub record HasNodes (p : Parts) : Type 0 where
   pub sound : Sound p.classes
   pub entries : (t : ℕ × ℕ) (e : EntryAt) → in_force p.entries t ≡ Some e → (v : Value) × IsNode p.classes p.bytes (entry_node e) v
 
@@ -51,7 +51,7 @@ own_class (Single s kind b None) t e = cc
 own_class (Single s kind b (Some key)) t e = let h : (s.class, key) ≡ t = cc in ap (λ z. z.0) h
 own_class (Group s h vs) t e = cc
 
-module _ (p q : Parts) (s : Standing p) (r : Standing q) where
+module _ (p q : Parts) (s : HasNodes p) (r : HasNodes q) where
   -- Both nodes have the same value, and the class lists agree on its class.
   pub record Pair (n o : NodeAt) : Type 0 where
     pub value : Value

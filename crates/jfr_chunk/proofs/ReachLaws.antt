@@ -12,7 +12,7 @@ use Rattle.jfr_pool.specs.declared.entry.EntryAt.{EntryAt}
 use Rattle.jfr_pool.specs.Entries.{in_force, entry_node}
 use Rattle.jfr_chunk.specs.Parts.{Parts}
 use Rattle.jfr_chunk.specs.Paths.{follow, step, leads}
-use Rattle.jfr_chunk.proofs.PathLaws.{Standing}
+use Rattle.jfr_chunk.proofs.PathLaws.{HasNodes}
 
 some_right : {A B : Type 0} (R : A → B → Type 0) (x : Option A) (y : Option B) (a : A) → Both R x y → x ≡ Some a → (b : B) × R a b
 some_right R None None a r e = cc
@@ -59,7 +59,7 @@ inside_leads p (st ∷ path) n m e = by_step st (child p.classes p.bytes n st) r
     by_step (steps.Item i) (Some u) q r f = ap (option_and_then (λ u. leads p u path)) q ∙ f u r
     by_step steps.Follow (Some u) q r f = let z : None ≡ Some u = q in cc
 
-module _ (p : Parts) (s : Standing p) where
+module _ (p : Parts) (s : HasNodes p) where
   child_node : (n u : NodeAt) (v : Value) (st : Step) → IsNode p.classes p.bytes n v → child p.classes p.bytes n st ≡ Some u → (w : Value) × IsNode p.classes p.bytes u w
   child_node n u v st i e = some_right (IsNode p.classes p.bytes) (child p.classes p.bytes n st) (part v st) u (child_is p.classes p.bytes n v s.sound i st) e
 

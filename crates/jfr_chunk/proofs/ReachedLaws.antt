@@ -14,7 +14,7 @@ use Rattle.jfr_worklist.specs.Marks.{those, IsMarked}
 use Rattle.jfr_worklist.specs.Members.{In}
 use Rattle.jfr_worklist.proofs.Members.{contains_in, in_contains, in_left, in_right, in_cases, those_in, in_those}
 use Rattle.jfr_pool.proofs.ForceLaws.{forced, numbered}
-use Rattle.jfr_chunk.proofs.PathLaws.{Standing}
+use Rattle.jfr_chunk.proofs.PathLaws.{HasNodes}
 use Rattle.jfr_chunk.proofs.ReachLaws.{leads_append, target_path, follow_is, reach_least}
 use Rattle.jfr_worklist.proofs.SweepLaws.{Reach, root, more, AllBelow, marks_reach}
 
@@ -39,7 +39,7 @@ module _ (p : Parts) where
   those_below : (ts : List (ℕ × ℕ)) → AllBelow (length p.entries) (those (number_in_force p.entries) ts)
   those_below ts i j = let t = in_those (number_in_force p.entries) ts i j in (forced p.entries t.0 i t.2).within
 
-  module _ (s : Standing p) (kept : List EventAt) (nodes : (e : EventAt) → In kept e → (v : Value) × IsNode p.classes p.bytes e.node v) where
+  module _ (s : HasNodes p) (kept : List EventAt) (nodes : (e : EventAt) → In kept e → (v : Value) × IsNode p.classes p.bytes e.node v) where
     abbrev Found : ℕ → Type 0
     Found i = Reach (next_entries p) (roots p kept) i
 

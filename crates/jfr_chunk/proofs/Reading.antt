@@ -33,7 +33,7 @@ use Rattle.jfr_chunk.specs.Stages.{AreFields, IsRefusedEvents}
 use Rattle.jfr_worklist.proofs.Members.{contains_in}
 use Rattle.jfr_chunk.proofs.AllLaws.{all_in, all_reverse}
 use Rattle.jfr_chunk.proofs.BoundLaws.{entries_few}
-use Rattle.jfr_chunk.proofs.StandingLaws.{tiles_each, links_each, described_sound}
+use Rattle.jfr_chunk.proofs.HasNodesLaws.{tiles_each, links_each, described_sound}
 use Rattle.jfr_chunk.proofs.PartsLaws.{links_record}
 use Rattle.jfr_chunk.proofs.StageLaws.{there_starts, none_starts, EntriesTell, entries_tell}
 use Rattle.jfr_chunk.proofs.AnswerLaws.{refused_read}
@@ -145,12 +145,12 @@ module _ (c : List ℕ) (h : Header) (rs : List Framed) (m : Framed) (n : Named 
         entries_refused (Flawed flaw) r = checkpoints described (subst (λ z. EntriesTell c k 0 z (Err flaw)) (sym (reverse-reverse ls)) (subst (EntriesTell c k 0 ls) r (entries_tell c k 0 ls each)))
         entries_refused Memory r = tt
 
-        module _ (es : List EntryAt) (stand : AreEntries c k 0 ls es) where
+        module _ (es : List EntryAt) (valid : AreEntries c k 0 ls es) where
           there : AreEntries c k 0 (reverse (reverse ls)) es
-          there = subst (λ z. AreEntries c k 0 z es) (sym (reverse-reverse ls)) stand
+          there = subst (λ z. AreEntries c k 0 z es) (sym (reverse-reverse ls)) valid
 
           pub events_refused : (fault : ReadFault) → IfFlawed (IsRefusedEvents c k rs) fault → IfFlawed (Refused c) fault
-          events_refused (Flawed flaw) w = events (record { described = described; entries = es; stand = there }) w
+          events_refused (Flawed flaw) w = events (record { described = described; entries = es; valid = there }) w
           events_refused Memory w = tt
 
           -- There are no more entries than bytes.
@@ -162,7 +162,7 @@ module _ (c : List ℕ) (h : Header) (rs : List Framed) (m : Framed) (n : Named 
           unfolding events_of
           indexed index whole f refs_end used = record {
             whole = whole;
-            parts = record { records = n.records; chain = links; metadata_record = m; metadata_there = metadata_there; metadata = d; entries = there; events = f.stand };
+            parts = record { records = n.records; chain = links; metadata_record = m; metadata_there = metadata_there; metadata = d; entries = there; events = f.valid };
             header_is = n.header_is;
             metadata_there = metadata_there;
             events = f.listed;

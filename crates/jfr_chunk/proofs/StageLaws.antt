@@ -7,7 +7,7 @@ use Rattle.std.proofs.lemmas.Map.Views.{exact_unsigned_eq}
 use Rattle.jfr_base.specs.declared.flaw.Flaw.{Flaw}
 use Rattle.jfr_base.specs.declared.reason.Reason.{Reason}
 use Rattle.jfr_base.specs.Formats.{Format, Done, Stop, ◌>>=◌, times, Reads, Fails, Answer, run}
-use Rattle.jfr_base.proofs.Exact.{Says, run_says}
+use Rattle.jfr_base.proofs.Exact.{ReadsOrFails, run_reads_or_fails}
 use Rattle.jfr_base.proofs.OneAnswer.{reads_computed, fails_computed}
 use Rattle.jfr_base.proofs.ReadLaws.{reads_parted, reads_within}
 use Rattle.jfr_layout.specs.Classes.{Classes}
@@ -110,9 +110,9 @@ module _ (c : List ℕ) (k : Classes) (all : List Framed) where
   pub events_tell : (rs : List Framed) → AllByRecursion (IsRecord c) rs → EventsTell rs (events_checked c k all rs)
   events_tell [] i = tt
   events_tell (r ∷ rs) i =
-      by_answer (run (value_format k (inline r.type_id)) c (record_end r) r.body) (events_checked c k all rs) (run_says (value_format k (inline r.type_id)) c (record_end r) r.body i.0.covers i.0.within) (events_tell rs i.1)
+      by_answer (run (value_format k (inline r.type_id)) c (record_end r) r.body) (events_checked c k all rs) (run_reads_or_fails (value_format k (inline r.type_id)) c (record_end r) r.body i.0.covers i.0.within) (events_tell rs i.1)
     where
-      by_answer : (a : Answer Value) (later : Result (List Framed) Flaw) → Says (value_format k (inline r.type_id)) c (record_end r) r.body a → EventsTell rs later → EventsTell (r ∷ rs) (fields_by a later)
+      by_answer : (a : Answer Value) (later : Result (List Framed) Flaw) → ReadsOrFails (value_format k (inline r.type_id)) c (record_end r) r.body a → EventsTell rs later → EventsTell (r ∷ rs) (fields_by a later)
       by_answer (Ok g) (Ok es) s t = ((g.value, g.place, s), t)
       by_answer (Ok g) (Err f) s t = first_more (HasFields c k) FieldsFail r rs f (g.value, g.place, s) t
       by_answer (Err e) later s t = first_here (HasFields c k) FieldsFail r rs e s
@@ -159,9 +159,9 @@ module _ (c : List ℕ) (k : Classes) where
   pub entries_tell : (number : ℕ) (ls : List Link) → AllByRecursion LinkRecord ls → EntriesTell number ls (entries_of c k number ls)
   entries_tell number [] i = refl
   entries_tell number (l ∷ ls) i =
-      by_answer (run (checkpoint_format k) c (record_end l.frame) l.frame.body) (entries_of c k (number + 1) ls) (run_says (checkpoint_format k) c (record_end l.frame) l.frame.body i.0.covers i.0.within) (entries_tell (number + 1) ls i.1)
+      by_answer (run (checkpoint_format k) c (record_end l.frame) l.frame.body) (entries_of c k (number + 1) ls) (run_reads_or_fails (checkpoint_format k) c (record_end l.frame) l.frame.body i.0.covers i.0.within) (entries_tell (number + 1) ls i.1)
     where
-      by_answer : (a : Answer (List PoolAt)) (later : Result (List EntryAt) Flaw) → Says (checkpoint_format k) c (record_end l.frame) l.frame.body a → EntriesTell (number + 1) ls later → EntriesTell number (l ∷ ls) (entries_by number a later)
+      by_answer : (a : Answer (List PoolAt)) (later : Result (List EntryAt) Flaw) → ReadsOrFails (checkpoint_format k) c (record_end l.frame) l.frame.body a → EntriesTell (number + 1) ls later → EntriesTell number (l ∷ ls) (entries_by number a later)
       by_answer (Ok g) (Ok es) s t =
           let r = subst (λ to. Reads (checkpoint_format k) c (record_end l.frame) l.frame.body g.value to) (checkpoint_end k c (record_end l.frame) l.frame.body g.value g.place s) s in
           (g.value, r, es, refl, t)

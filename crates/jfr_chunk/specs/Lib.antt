@@ -10,6 +10,6 @@ pub mod Meaning
 pub mod Seen
 pub mod Refs
 pub mod Used
-pub mod Rooms
+pub mod Buffers
 pub mod Stages
 pub mod Laws

@@ -33,5 +33,5 @@ abbrev pub metadata_size : Parts → ℕ
 metadata_size p = option_map_or (λ r. r.size) (find (λ r. r.at == metadata_at p.bytes) p.records) 0
 
 -- The classes of what a chunk becomes: those that stay, if its metadata record is built anew, and else all.
-abbrev pub classes_left : Parts → List EventAt → Classes
-classes_left p kept = option_map_or (λ x. staying (stays_in p kept) p.classes) (rebuilt p kept (metadata_size p)) p.classes
+abbrev pub remaining_classes : Parts → List EventAt → Classes
+remaining_classes p kept = option_map_or (λ x. staying (stays_in p kept) p.classes) (rebuilt p kept (metadata_size p)) p.classes

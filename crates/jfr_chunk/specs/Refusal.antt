@@ -43,7 +43,7 @@ pub record Described (c : List ℕ) : Type 0 where
 pub record Pooled (c : List ℕ) : Type 0 where
   pub described : Described c
   pub entries : List EntryAt
-  pub stand : AreEntries c described.classes 0 (reverse described.chained.chain) entries
+  pub valid : AreEntries c described.classes 0 (reverse described.chained.chain) entries
 
 -- One member fails with this flaw, and those before it are good.
 pub record FirstFails {X : Type 0} (Good : X → Type 0) (Bad : X → ℕ → Reason → Type 0) (xs : List X) (flaw : Flaw) : Type 0 where

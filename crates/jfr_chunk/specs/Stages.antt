@@ -17,7 +17,7 @@ use Rattle.jfr_chunk.specs.Seen.{event_kept}
 -- Each event's record has all its fields. The index has an entry for each event, in order, with the number of
 -- its record, and the early ends are those of the events whose fields end before the record does.
 pub record AreFields (c : List ℕ) (k : Classes) (rs : List Framed) (fields : List EventIndexEntry) (early : BTreeMap ℕ ℕ) : Type 0 where
-  pub stand : All (HasFields c k) (event_records k rs)
+  pub valid : All (HasFields c k) (event_records k rs)
   pub listed : map (event_kept rs early) fields ≡ map Some (filter_map (event_of c k) (event_records k rs))
 
 -- The flaw is that of the first event, in file order, whose record doesn't have all its fields.

@@ -16,12 +16,12 @@ ghost use Rattle.jfr_pool.specs.Faults.{TellsFlaw};
 ghost use Rattle.jfr_chunk.specs.Parts.{AreParts, StartsAt, events_of, is_inert, metadata_at};
 ghost use Rattle.jfr_chunk.specs.Reach.{node_entries, roots};
 ghost use Rattle.jfr_chunk.specs.Refusal.{Refused, read_parts};
-ghost use Rattle.jfr_chunk.specs.Rooms.{IsEmpty};
+ghost use Rattle.jfr_chunk.specs.Buffers.{IsEmpty};
 ghost use Rattle.jfr_chunk.specs.Seen.{IsOfChunk, event_at};
 
 use crate::event_index::EventIndex;
 use crate::read::{header_in, read_events, record_named};
-use crate::{Event, Kept, Room};
+use crate::{Buffers, Event, Kept};
 use jfr_base::{Flaw, NoMemory, ReadFault, Reason, Words};
 use jfr_frame::{CHECKPOINT_TYPE, Framed, Frames, METADATA_TYPE};
 use jfr_header::Header;
@@ -88,24 +88,24 @@ impl<'a> Chunk<'a> {
         // In terms of the computed parts.
         ensures exact { MatchResult result (λ chunk. read_parts bytes.now ≡ Ok chunk) (TellsFlaw (read_parts bytes.now)) }
     {
-        Chunk::read_in(alloc, Room::new(alloc), bytes)
+        Chunk::read_in(alloc, Buffers::new(alloc), bytes)
     }
 
     /// As `read`, but uses the memory of an earlier chunk's indexes again.
-    pub fn read_in(alloc: Global, room: Room, bytes: &'a [u8]) -> Result<Chunk<'a>, ReadFault>
+    pub fn read_in(alloc: Global, buffers: Buffers, bytes: &'a [u8]) -> Result<Chunk<'a>, ReadFault>
         requires { Whole bytes.now }
         ensures ok { IfOk result (λ chunk. chunk.bytes ≡ bytes.now) }
         ensures refused { IfErr result (IfFlawed (Refused bytes.now)) }
         ensures exact { MatchResult result (λ chunk. read_parts bytes.now ≡ Ok chunk) (TellsFlaw (read_parts bytes.now)) }
     {
         let header = header_in(bytes);
-        let frames = Frames::read_in(room.frames, bytes)?;
+        let frames = Frames::read_in(buffers.frames, bytes)?;
         let metadata_frame = record_named(&frames, header.metadata, METADATA_TYPE, NO_METADATA)?;
         record_named(&frames, header.pools, CHECKPOINT_TYPE, NO_CHECKPOINT)?;
         let chain = Chain::read(alloc, bytes, &frames, header.pools)?;
         let metadata = read_metadata(alloc, bytes, &metadata_frame)?;
         let pools = Pools::read(alloc, bytes, &metadata.classes, &chain)?;
-        let events = read_events(room.events, bytes, &frames, &metadata.classes, &pools)?;
+        let events = read_events(buffers.events, bytes, &frames, &metadata.classes, &pools)?;
         Ok(Chunk {
             bytes,
             header,
@@ -119,10 +119,10 @@ impl<'a> Chunk<'a> {
     }
 
     /// The memory of the indexes, for use with the next chunk.
-    pub fn into_room(self) -> Room
+    pub fn into_buffers(self) -> Buffers
         ensures { IsEmpty result }
     {
-        Room::of(self.frames.into_room(), self.events)
+        Buffers::of(self.frames.into_buffers(), self.events)
     }
 
     /// The bytes of the chunk.
@@ -136,7 +136,7 @@ impl<'a> Chunk<'a> {
 
     /// A call that does nothing, for proofs: its clauses hold for every chunk, and laws of parts and of
     /// values require them.
-    pub fn parts_stand(&self)
+    pub fn parts_are_valid(&self)
         ensures parts { AreParts self.now }
         ensures sound { Sound self.now.classes }
     {

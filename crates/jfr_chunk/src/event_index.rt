@@ -1,7 +1,7 @@
 //! The index of a chunk's events: their records, where their fields end, and to which entries they refer.
 ghost use Rattle.std.specs.Prelude.{◌≡◌, ℕ, ◌+◌, ◌<◌, ◌^◌, length, slice_get, option_map, Some};
 ghost use Rattle.jfr_frame.specs.Records.{record_end};
-ghost use Rattle.jfr_chunk.specs.Rooms.{HasNoEvents};
+ghost use Rattle.jfr_chunk.specs.Buffers.{HasNoEvents};
 ghost use Rattle.jfr_chunk.specs.Seen.{end_in};
 
 use crate::used::UsedClasses;

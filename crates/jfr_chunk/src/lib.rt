@@ -9,6 +9,7 @@
 //! the value of an entry. `jfr_example` is such a walk.
 #![tactic(auto)]
 
+mod buffers;
 mod chunk;
 mod event;
 mod event_index;
@@ -16,12 +17,11 @@ mod kept;
 mod laws;
 mod read;
 mod refs;
-mod room;
 mod used;
 
+pub use buffers::Buffers;
 pub use chunk::Chunk;
 pub use event::Event;
 pub use kept::Kept;
 pub use laws::{computed_answer, marked_by_paths, one_answer, one_parts, same_paths};
-pub use room::Room;
 pub use used::UsedClasses;

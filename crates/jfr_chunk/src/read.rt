@@ -2,7 +2,7 @@
 ghost use Rattle.std.specs.Prelude.{◌≡◌, ◌<◌, ◌≤◌, ◌^◌, ℕ, [], length, take, Some, IfOk, IfErr, OnOk};
 ghost use Rattle.std.specs.BTreeMap as tree;
 ghost use Rattle.std.specs.Ordering.{nat_cmp};
-ghost use Rattle.jfr_base.specs.Formats.{run, seen};
+ghost use Rattle.jfr_base.specs.Formats.{run, end_or_flaw};
 ghost use Rattle.jfr_header.specs.Fronts.{Whole};
 ghost use Rattle.jfr_header.specs.Headers.{header_of};
 ghost use Rattle.jfr_frame.specs.Records.{AreRecords, IsRecord, record_end, record_there};
@@ -57,7 +57,7 @@ pub(crate) fn record_named(
 /// The index of the events, in the memory of an earlier one. Fails at the first event whose fields aren't all
 /// in its record.
 pub(crate) fn read_events(
-    room: EventIndex,
+    buffers: EventIndex,
     chunk: &[u8],
     frames: &Frames,
     classes: &Classes,
@@ -72,12 +72,12 @@ pub(crate) fn read_events(
     ensures used { IfOk result (λ index. (id : ℕ) → is_in index.used.ids id ≡ used_in frames.now index.fields.items id) }
     ensures refused { IfErr result (IfFlawed (IsRefusedEvents chunk.now classes.now frames.now)) }
 {
-    let mut fields = emptied(room.fields, frames.len())?;
-    let mut early = room.early;
+    let mut fields = emptied(buffers.fields, frames.len())?;
+    let mut early = buffers.early;
     early.clear();
-    let mut used = room.used;
+    let mut used = buffers.used;
     used.clear();
-    let mut refs = ConstantRefs::new(room.numbers);
+    let mut refs = ConstantRefs::new(buffers.numbers);
     let reader = EventReader {
         chunk,
         classes,
@@ -150,7 +150,7 @@ fn fields_end(
     requires event { IsEventLayout reader.classes.now frame.type_id layout.now }
     requires record { IsRecord reader.chunk.now frame }
     requires entries { length reader.pools.now < 2 ^ 32 }
-    ensures exact { result ≡ seen (run (value_format reader.entry.classes.now (inline frame.type_id)) reader.entry.chunk.now (record_end frame) frame.body) }
+    ensures exact { result ≡ end_or_flaw (run (value_format reader.entry.classes.now (inline frame.type_id)) reader.entry.chunk.now (record_end frame) frame.body) }
     ensures refs_end { IfOk result (λ end. AddsRefs (node_entries reader.entry.pools.now reader.entry.classes.now reader.entry.chunk.now (node_at (inline frame.type_id) frame.body end)) refs.old refs.new) }
 {
     let walk = Walk {

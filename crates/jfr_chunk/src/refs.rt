@@ -15,11 +15,11 @@ pub(crate) struct ConstantRefs {
 
 impl ConstantRefs {
     /// An empty list, in the memory of an earlier one.
-    pub fn new(room: Vec<u32>) -> ConstantRefs
+    pub fn new(memory: Vec<u32>) -> ConstantRefs
         ensures numbers { result.numbers.items ≡ [] }
         ensures lacks { result.lacks ≡ false }
     {
-        let mut numbers = room;
+        let mut numbers = memory;
         numbers.clear();
         ConstantRefs {
             numbers,

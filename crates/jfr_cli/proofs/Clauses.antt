@@ -1,17 +1,17 @@
 -- The separate clauses of the top call, from the one that has all cases.
 use Rattle.std.specs.Prelude.{◌≡◌, ◌<◌, ◌≤◌, ◌⊎◌, ℕ, List, [], length, true, false, Option, None, Some, IfSome, Ok, Err, option_map}
 use Rattle.std.proofs.Common.{ap, arith, refl, sym, ◌∙◌, subst, inl, inr}
-use Rattle.jfr_outside.specs.World.{World, State, SinkState, Told, file}
+use Rattle.jfr_outside.specs.World.{World, State, SinkState, IfKnown, file}
 use Rattle.jfr_outside.specs.Counts.{Rose}
 use Rattle.jfr_base.specs.declared.flaw.Refusal.{Refusal}
 use Rattle.jfr_header.specs.declared.ending.Ending.{Ending}
 use Rattle.jfr_header.specs.declared.ending.Ending.TheVariants.{Done, Refused, ReadFault, WriteFault, TooManyParts, Memory}
 use Rattle.jfr_filter.specs.Filters.{Given}
-use Rattle.jfr_plan.specs.Ends.{End, Fine, way_of}
+use Rattle.jfr_plan.specs.Ends.{End, Fine, command_end}
 use Rattle.jfr_plan.specs.Ends as ends
-use Rattle.jfr_plan.specs.Effects.{Effect, Outside, Stand, effects, stand}
-use Rattle.jfr_plan.specs.Walks.{Target, File, Parts, Text, plan_in}
-use Rattle.jfr_plan.specs.Outcomes.{Counted, Kept, SomeDone, AllDone, Tallied}
+use Rattle.jfr_plan.specs.Effects.{Effect, Outside, Snapshot, effects, snapshot}
+use Rattle.jfr_plan.specs.Rules.{Target, File, Parts, Text, plan_in}
+use Rattle.jfr_plan.specs.Outcomes.{Counted, Unchanged, SomeDone, AllDone, Tallied}
 use Rattle.jfr_plan.specs.Clauses.{write_count}
 use Rattle.jfr_plan.proofs.Clauses as plan
 use Rattle.jfr_output.specs.Recordings.{IsByPlan}
@@ -30,18 +30,18 @@ use Rattle.jfr_build.specs.declared.reason.BuildReason.{BuildReason}
 use Rattle.jfr_build.specs.Builds.{Build, build_of}
 use Rattle.jfr_build.specs.Streams as streams
 use Rattle.jfr_build.specs.Streams.{IsRefusedText, building, plan_by}
-use Rattle.jfr_cli.specs.Works.{Work, Over, Joins, Alone, Checks, Builds, Plans, StopsAs, work_of, verdict_plan, target_of, text_on, Leaves, KeepsSink, KeepsPlace, CanReadAll, CanCreateFor}
+use Rattle.jfr_cli.specs.Works.{Work, Over, Joins, Planned, Checks, Builds, Plans, StopsAs, work_of, verdict_plan, target_of, text_on, Leaves, KeepsSink, KeepsPlace, CanReadAll, CanCreateFor}
 use Rattle.jfr_cli.specs.declared.answer.Answer.{Answer}
 use Rattle.jfr_cli.specs.declared.answer.Answer.TheVariants as answer_kinds
-use Rattle.jfr_cli.specs.Answers.{status_of, line_of, answer_status, answer_line, doubt_line, unbuilt_line, usage_line, read_line, write_line, memory_line, parts_line, IsAnswered, Fully, IsSaid, IsMemorySaid}
+use Rattle.jfr_cli.specs.Answers.{status_of, line_of, answer_status, answer_line, doubt_line, unbuilt_line, usage_line, read_line, write_line, memory_line, parts_line, IsAnswered, Fully, IsLineWritten, IsMemoryLineWritten}
 use Rattle.jfr_cli.specs.Answers as answers
-use Rattle.jfr_cli.proofs.Leaving.{told_by}
+use Rattle.jfr_cli.proofs.Leaving.{known_by}
 use Rattle.jfr_cli.proofs.Counting.{none_rose, tallied_once, text_leaves, place_passed, sink_passed, writes_stay}
-use Rattle.jfr_cli.specs.Runs.{Carries, Obeys, NoOrder, NotRead, CarriedOut, Under, Ended, Halted, Broken, StandsPartly, Prefix, Whole, Met, Torn, CarriesTo, CountsOnce, Doubts, HasStatus, IsCheck, IsDoubted, IsUnbuilt, IsVerdictStatus, Unbuilds, ByEnd, ByMemory, status_of_end, status_of_verdict, IsRefused}
+use Rattle.jfr_cli.specs.Runs.{Carries, Obeys, NoOrder, NotRead, CarriedOut, Under, Ended, Halted, Broken, IsPartlyDone, Prefix, Whole, Met, Torn, CarriesTo, CountsOnce, Doubts, HasStatus, IsCheck, IsDoubted, IsUnbuilt, IsVerdictStatus, Unbuilds, ByEnd, ByMemory, status_of_end, status_of_verdict, IsRefused}
 use Rattle.jfr_cli.specs.Runs as runs
 
 -- The state after an ending, if memory ran out for its line.
-partly : (k : Work) (end : Ending) (a b : Outside) → Leaves k (way_of end) a b → Tallied (target_of k) (way_of end) a b → StandsPartly k a b
+partly : (k : Work) (end : Ending) (a b : Outside) → Leaves k (command_end end) a b → Tallied (target_of k) (command_end end) a b → IsPartlyDone k a b
 partly k Done a b l t = Whole Fine l
 partly k (Refused x) a b l t = Whole (ends.Refused x) l
 partly k TooManyParts a b l t = Whole ends.TooMany l
@@ -50,41 +50,41 @@ partly k WriteFault a b l t = Torn (plan.write_rose (target_of k) WriteFault a b
 partly k Memory a b l t = Prefix l
 
 -- Nothing is done.
-unchanged : (k : Work) (a : Outside) → StandsPartly k a a
-unchanged k a = Prefix (none a.place.told k)
+unchanged : (k : Work) (a : Outside) → IsPartlyDone k a a
+unchanged k a = Prefix (none a.place.contents k)
   where
-    nothing : (es : List Effect) (s : Stand) → SomeDone es s s
-    nothing es s = record { first = []; rest = es; parts = refl; stands = refl }
+    nothing : (es : List Effect) (s : Snapshot) → SomeDone es s s
+    nothing es s = record { first = []; rest = es; parts = refl; holds = refl }
 
-    none : (t : Option World) (k : Work) → Told t t (λ w v. StopsAs k w (stand w (text_on (target_of k) a.sink)) (stand v (text_on (target_of k) a.sink)))
+    none : (t : Option World) (k : Work) → IfKnown t t (λ w v. StopsAs k w (snapshot w (text_on (target_of k) a.sink)) (snapshot v (text_on (target_of k) a.sink)))
     none None k = tt
-    none (Some w) (Over r input) = nothing (effects (plan_in r input w).steps) (stand w (text_on r.target a.sink))
-    none (Some w) (Joins folder output) = nothing (effects (assembling folder output w.files).steps) (stand w None)
-    none (Some w) (Alone p) = nothing (effects p.steps) (stand w a.sink.written)
+    none (Some w) (Over r input) = nothing (effects (plan_in r input w).steps) (snapshot w (text_on r.target a.sink))
+    none (Some w) (Joins folder output) = nothing (effects (assembling folder output w.files).steps) (snapshot w None)
+    none (Some w) (Planned p) = nothing (effects p.steps) (snapshot w a.sink.written)
     none (Some w) (Checks g input output receipt) = refl
-    none (Some w) (Builds text output) = nothing (effects (building output (file w text)).steps) (stand w None)
+    none (Some w) (Builds text output) = nothing (effects (building output (file w text)).steps) (snapshot w None)
 
 -- A doubt changes nothing.
-doubt_partly : (k : Work) (chunk : ℕ) (doubt : Doubt) (a b : Outside) → Doubts k chunk doubt a b → StandsPartly k a b
+doubt_partly : (k : Work) (chunk : ℕ) (doubt : Doubt) (a b : Outside) → Doubts k chunk doubt a b → IsPartlyDone k a b
 doubt_partly (Over r input) chunk doubt a b d = absurd d.check
 doubt_partly (Joins folder output) chunk doubt a b d = absurd d.check
-doubt_partly (Alone p) chunk doubt a b d = absurd d.check
+doubt_partly (Planned p) chunk doubt a b d = absurd d.check
 doubt_partly (Checks g input output receipt) chunk doubt a b d =
     Prefix
-    (told_by a.place.told b.place.told (λ w v. VerdictOf g (three input output receipt w) (verdicts.Doubted chunk doubt) × (stand v b.sink.written ≡ stand w a.sink.written)) (λ w v. stand v b.sink.written ≡ stand w a.sink.written) d.verdict
+    (known_by a.place.contents b.place.contents (λ w v. VerdictOf g (three input output receipt w) (verdicts.Doubted chunk doubt) × (snapshot v b.sink.written ≡ snapshot w a.sink.written)) (λ w v. snapshot v b.sink.written ≡ snapshot w a.sink.written) d.verdict
     (λ w v x. x.1))
 doubt_partly (Builds text output) chunk doubt a b d = absurd d.check
 
 -- A refused text changes nothing.
-refusal_partly : (k : Work) (line : ℕ) (reason : BuildReason) (a b : Outside) → Unbuilds k line reason a b → StandsPartly k a b
+refusal_partly : (k : Work) (line : ℕ) (reason : BuildReason) (a b : Outside) → Unbuilds k line reason a b → IsPartlyDone k a b
 refusal_partly (Over r input) line reason a b d = absurd d.build
 refusal_partly (Joins folder output) line reason a b d = absurd d.build
-refusal_partly (Alone p) line reason a b d = absurd d.build
+refusal_partly (Planned p) line reason a b d = absurd d.build
 refusal_partly (Checks g input output receipt) line reason a b d = absurd d.build
 refusal_partly (Builds text output) line reason a b d =
     Prefix
-    (told_by a.place.told b.place.told (λ w v. IsRefusedText (file w text) line reason × (stand v None ≡ stand w None)) (λ w v. SomeDone (effects (building output (file w text)).steps) (stand w None) (stand v None)) d.refused
-    (λ w v x. record { first = []; rest = effects (building output (file w text)).steps; parts = refl; stands = x.1 }))
+    (known_by a.place.contents b.place.contents (λ w v. IsRefusedText (file w text) line reason × (snapshot v None ≡ snapshot w None)) (λ w v. SomeDone (effects (building output (file w text)).steps) (snapshot w None) (snapshot v None)) d.refused
+    (λ w v x. record { first = []; rest = effects (building output (file w text)).steps; parts = refl; holds = x.1 }))
 
 -- If memory ran out, any end may be planned.
 five : {r : ℕ} {e f : SinkState} {line : Option (List ℕ)} → IsAnswered 5 line r e f → r ≡ 5
@@ -95,7 +95,7 @@ any_end : {r : ℕ} (t : Option World) (k : Work) → r ≡ 5 → IfSome t (HasS
 any_end None k p = tt
 any_end (Some w) (Over r input) p = ByMemory p
 any_end (Some w) (Joins folder output) p = ByMemory p
-any_end (Some w) (Alone plan) p = ByMemory p
+any_end (Some w) (Planned plan) p = ByMemory p
 any_end (Some w) (Checks g input output receipt) p = runs.ForMemory p
 any_end (Some w) (Builds text output) p = runs.OutOfMemory p
 
@@ -147,9 +147,9 @@ record Obeyed (ws : List (List ℕ)) (status : ℕ) (a b : Outside) (e f : SinkS
   pub end : Ending
   pub carries : Carries order end a b
   pub status_is : status_of end ≡ status
-  pub said : answers.Said (line_of end) e f
+  pub said : answers.IsAnyLineWritten (line_of end) e f
 
-from_told : (t s : Option World) (P : World → World → Type 0) (Q : World → Type 0) → Told t s P → ((w v : World) → P w v → Q w) → IfSome t Q
+from_told : (t s : Option World) (P : World → World → Type 0) (Q : World → Type 0) → IfKnown t s P → ((w v : World) → P w v → Q w) → IfSome t Q
 from_told None s P Q h f = tt
 from_told (Some w) None P Q h f = absurd h
 from_told (Some w) (Some v) P Q h f = f w v h
@@ -181,48 +181,48 @@ built_end text output w r x p h = by_build (option_map build_of (file w text)) r
         fine ends.TooMany h = cc
 
 -- The ending is the plan's, and its status is answered.
-planned : (k : Work) (a b : Outside) (r : ℕ) (x : End) → r ≡ status_of_end x → Ended k x a b → IfSome a.place.told (HasStatus k r)
-planned k a b r x p h = from_told a.place.told b.place.told (λ w v. Plans k w (λ q. AllDone q x (stand w (text_on (target_of k) a.sink)) (stand v (text_on (target_of k) b.sink)))) (HasStatus k r) h (λ w v. by_work k w (stand w (text_on (target_of k) a.sink)) (stand v (text_on (target_of k) b.sink)))
+planned : (k : Work) (a b : Outside) (r : ℕ) (x : End) → r ≡ status_of_end x → Ended k x a b → IfSome a.place.contents (HasStatus k r)
+planned k a b r x p h = from_told a.place.contents b.place.contents (λ w v. Plans k w (λ q. AllDone q x (snapshot w (text_on (target_of k) a.sink)) (snapshot v (text_on (target_of k) b.sink)))) (HasStatus k r) h (λ w v. by_work k w (snapshot w (text_on (target_of k) a.sink)) (snapshot v (text_on (target_of k) b.sink)))
   where
-    by_work : (k : Work) (w : World) (s t : Stand) → Plans k w (λ q. AllDone q x s t) → HasStatus k r w
+    by_work : (k : Work) (w : World) (s t : Snapshot) → Plans k w (λ q. AllDone q x s t) → HasStatus k r w
     by_work (Over rule input) w s t d = ByEnd x d.end p
     by_work (Joins folder output) w s t d = ByEnd x d.end p
-    by_work (Alone q) w s t d = ByEnd x d.end p
+    by_work (Planned q) w s t d = ByEnd x d.end p
     by_work (Checks g input output receipt) w s t d = runs.ByVerdict d.0 d.1 (p ∙ sym (verdict_end d.0 x d.2.end))
     by_work (Builds text output) w s t d = built_end text output w r x p d.end
 
 -- A doubt is the verdict of a check.
-doubted_status : (k : Work) (chunk : ℕ) (doubt : Doubt) (a b : Outside) (r : ℕ) → r ≡ 7 → Doubts k chunk doubt a b → IfSome a.place.told (HasStatus k r)
+doubted_status : (k : Work) (chunk : ℕ) (doubt : Doubt) (a b : Outside) (r : ℕ) → r ≡ 7 → Doubts k chunk doubt a b → IfSome a.place.contents (HasStatus k r)
 doubted_status (Over rule input) chunk doubt a b r p d = absurd d.check
 doubted_status (Joins folder output) chunk doubt a b r p d = absurd d.check
-doubted_status (Alone q) chunk doubt a b r p d = absurd d.check
+doubted_status (Planned q) chunk doubt a b r p d = absurd d.check
 doubted_status (Checks g input output receipt) chunk doubt a b r p d =
-    from_told a.place.told b.place.told (λ w v. VerdictOf g (three input output receipt w) (verdicts.Doubted chunk doubt) × (stand v b.sink.written ≡ stand w a.sink.written)) (HasStatus (Checks g input output receipt) r) d.verdict
+    from_told a.place.contents b.place.contents (λ w v. VerdictOf g (three input output receipt w) (verdicts.Doubted chunk doubt) × (snapshot v b.sink.written ≡ snapshot w a.sink.written)) (HasStatus (Checks g input output receipt) r) d.verdict
     (λ w v x. runs.ByVerdict (verdicts.Doubted chunk doubt) x.0 p)
 doubted_status (Builds text output) chunk doubt a b r p d = absurd d.check
 
 -- A refusal is what is built of a text.
-unbuilt_status : (k : Work) (line : ℕ) (reason : BuildReason) (a b : Outside) (r : ℕ) → r ≡ 8 → Unbuilds k line reason a b → IfSome a.place.told (HasStatus k r)
+unbuilt_status : (k : Work) (line : ℕ) (reason : BuildReason) (a b : Outside) (r : ℕ) → r ≡ 8 → Unbuilds k line reason a b → IfSome a.place.contents (HasStatus k r)
 unbuilt_status (Over rule input) line reason a b r p d = absurd d.build
 unbuilt_status (Joins folder output) line reason a b r p d = absurd d.build
-unbuilt_status (Alone q) line reason a b r p d = absurd d.build
+unbuilt_status (Planned q) line reason a b r p d = absurd d.build
 unbuilt_status (Checks g input output receipt) line reason a b r p d = absurd d.build
 unbuilt_status (Builds text output) line reason a b r p d =
-    from_told a.place.told b.place.told (λ w v. IsRefusedText (file w text) line reason × (stand v None ≡ stand w None)) (HasStatus (Builds text output) r) d.refused
+    from_told a.place.contents b.place.contents (λ w v. IsRefusedText (file w text) line reason × (snapshot v None ≡ snapshot w None)) (HasStatus (Builds text output) r) d.refused
     (λ w v x. runs.ByRefusal (record { line = line; reason = reason }) x.0 p)
 
-complete_by : (k : Work) (end : Ending) (a b : Outside) (r : ℕ) (e f : SinkState) → IsAnswered (status_of end) (line_of end) r e f → Leaves k (way_of end) a b → Tallied (target_of k) (way_of end) a b
-    → (Rose a.place.read_faults b.place.read_faults → ⊥) → (Rose (write_count (target_of k) a) (write_count (target_of k) b) → ⊥) → IfSome a.place.told (HasStatus k r)
-complete_by k end a b r e f (answers.ForMemory p q) l t no_read no_write = any_end a.place.told k p
+complete_by : (k : Work) (end : Ending) (a b : Outside) (r : ℕ) (e f : SinkState) → IsAnswered (status_of end) (line_of end) r e f → Leaves k (command_end end) a b → Tallied (target_of k) (command_end end) a b
+    → (Rose a.place.read_faults b.place.read_faults → ⊥) → (Rose (write_count (target_of k) a) (write_count (target_of k) b) → ⊥) → IfSome a.place.contents (HasStatus k r)
+complete_by k end a b r e f (answers.ForMemory p q) l t no_read no_write = any_end a.place.contents k p
 complete_by k Done a b r e f (Fully p q) l t no_read no_write = planned k a b r Fine p l
 complete_by k (Refused x) a b r e f (Fully p q) l t no_read no_write = planned k a b r (ends.Refused x) p l
 complete_by k TooManyParts a b r e f (Fully p q) l t no_read no_write = planned k a b r ends.TooMany p l
 complete_by k ReadFault a b r e f (Fully p q) l t no_read no_write = absurd (no_read (plan.read_rose (target_of k) ReadFault a b t refl))
 complete_by k WriteFault a b r e f (Fully p q) l t no_read no_write = absurd (no_write (plan.write_rose (target_of k) WriteFault a b t refl))
-complete_by k Memory a b r e f (Fully p q) l t no_read no_write = any_end a.place.told k p
+complete_by k Memory a b r e f (Fully p q) l t no_read no_write = any_end a.place.contents k p
 
 -- The line of an ending with status 5 is the one for running out of memory.
-no_room_said : (end : Ending) (e f : SinkState) → status_of end ≡ 5 → answers.Said (line_of end) e f → IsMemorySaid e f
+no_room_said : (end : Ending) (e f : SinkState) → status_of end ≡ 5 → answers.IsAnyLineWritten (line_of end) e f → IsMemoryLineWritten e f
 no_room_said Done e f h q = absurd (omega (arith, h))
 no_room_said (Refused x) e f h q = absurd (omega (arith, h))
 no_room_said ReadFault e f h q = absurd (omega (arith, h))
@@ -235,14 +235,14 @@ order_same ws o p e f = cc
 
 module _ (ws : List (List ℕ)) (n : ℕ) (a b : Outside) (e f : SinkState) (x : Obeyed ws n a b e f) (end : Ending) (is : x.end ≡ end) where
   -- The state, the counts and the line after an order, if its ending is known.
-  left : Leaves (work_of x.order) (way_of end) a b
-  left = subst (λ z. Leaves (work_of x.order) (way_of z) a b) is x.carries.leaves
+  left : Leaves (work_of x.order) (command_end end) a b
+  left = subst (λ z. Leaves (work_of x.order) (command_end z) a b) is x.carries.leaves
 
-  counted : Tallied (target_of (work_of x.order)) (way_of end) a b
-  counted = subst (λ z. Tallied (target_of (work_of x.order)) (way_of z) a b) is x.carries.counts
+  counted : Tallied (target_of (work_of x.order)) (command_end end) a b
+  counted = subst (λ z. Tallied (target_of (work_of x.order)) (command_end z) a b) is x.carries.counts
 
-  said_by : answers.Said (line_of end) e f
-  said_by = subst (λ z. answers.Said (line_of z) e f) is x.said
+  said_by : answers.IsAnyLineWritten (line_of end) e f
+  said_by = subst (λ z. answers.IsAnyLineWritten (line_of z) e f) is x.said
 
 -- A fault that was counted ended the work, and its status is answered.
 passed : (r n : ℕ) (end x : Ending) (e f : SinkState) → n ≡ status_of end → x ≡ end → IsAnswered (status_of x) (line_of x) r e f → (r ≡ n) ⊎ (r ≡ 5)
@@ -269,28 +269,28 @@ keeps_sink Parts s z h = h
 keeps_place : (k : Work) (s z : State) → z ≡ s → KeepsPlace k s z
 keeps_place (Over rule input) s z h = tt
 keeps_place (Joins folder output) s z h = tt
-keeps_place (Alone p) s z h = h
+keeps_place (Planned p) s z h = h
 keeps_place (Checks g input output receipt) s z h = tt
 keeps_place (Builds text output) s z h = tt
 
 check_sink : (k : Work) (s z : SinkState) → IsCheck k → KeepsSink (target_of k) s z
 check_sink (Over rule input) s z c = absurd c
 check_sink (Joins folder output) s z c = absurd c
-check_sink (Alone p) s z c = absurd c
+check_sink (Planned p) s z c = absurd c
 check_sink (Checks g input output receipt) s z c = tt
 check_sink (Builds text output) s z c = absurd c
 
 check_place : (k : Work) (s z : State) → IsCheck k → KeepsPlace k s z
 check_place (Over rule input) s z c = absurd c
 check_place (Joins folder output) s z c = absurd c
-check_place (Alone p) s z c = absurd c
+check_place (Planned p) s z c = absurd c
 check_place (Checks g input output receipt) s z c = tt
 check_place (Builds text output) s z c = absurd c
 
 build_place : (k : Work) (s z : State) → runs.IsBuild k → KeepsPlace k s z
 build_place (Over rule input) s z c = absurd c
 build_place (Joins folder output) s z c = absurd c
-build_place (Alone p) s z c = absurd c
+build_place (Planned p) s z c = absurd c
 build_place (Checks g input output receipt) s z c = absurd c
 build_place (Builds text output) s z c = tt
 
@@ -319,11 +319,11 @@ by_plan Memory (inr h) = absurd (omega (arith, h))
 pub record Judged (o : Order) (status : ℕ) (a b : Outside) : Type 0 where
   pub low : 7 ≤ status
   pub high : status ≤ 8
-  pub partly_done : StandsPartly (work_of o) a b
-  pub counts : Counted Kept Kept Kept a b
+  pub partly_done : IsPartlyDone (work_of o) a b
+  pub counts : Counted Unchanged Unchanged Unchanged a b
   pub sink : KeepsSink (target_of (work_of o)) a.sink b.sink
   pub place : KeepsPlace (work_of o) a.place b.place
-  pub has_status : IfSome a.place.told (HasStatus (work_of o) status)
+  pub has_status : IfSome a.place.contents (HasStatus (work_of o) status)
 
 judged_doubt : (o : Order) (chunk : ℕ) (doubt : Doubt) (a b : Outside) → Doubts (work_of o) chunk doubt a b → Judged o 7 a b
 judged_doubt o chunk doubt a b d = record {
@@ -378,7 +378,7 @@ module _ {ws : List (List ℕ)} {r : ℕ} {a b : Outside} {e f : SinkState} wher
   obeyed (Carried o is end c (Fully p q)) n h no_usage room small = record { order = o; is = is; end = end; carries = c; status_is = sym p ∙ h; said = q }
   obeyed (Stayed o is x d j t) n h no_usage room small = absurd (not_stayed x j t (omega (arith, h, small)) (λ m. room (sym h ∙ m)))
 
-  pub usage_told : Answers ws r a b e f → r ≡ 1 → (order_of ws ≡ None) × IsSaid usage_line e f
+  pub usage_told : Answers ws r a b e f → r ≡ 1 → (order_of ws ≡ None) × IsLineWritten usage_line e f
   usage_told (Usage o s (Fully p q)) h = (o, q)
   usage_told (Usage o s (answers.ForMemory p q)) h = absurd (omega (arith, p, h))
   usage_told (Unread s t) h = absurd (omega (arith, five t, h))
@@ -419,19 +419,19 @@ module _ {ws : List (List ℕ)} {r : ℕ} {a b : Outside} {e f : SinkState} wher
       let d = refused_status k.end k.status_is in
       (k.order, k.is, record { refusal = d.0; ended = left ws 2 a b e f k (Refused d.0) d.1; said = said_by ws 2 a b e f k (Refused d.0) d.1 })
 
-  pub halted_told : Answers ws r a b e f → r ≡ 3 → Under ws (λ o. Halted (work_of o) a b) × IsSaid read_line e f × Rose a.place.read_faults b.place.read_faults
+  pub halted_told : Answers ws r a b e f → r ≡ 3 → Under ws (λ o. Halted (work_of o) a b) × IsLineWritten read_line e f × Rose a.place.read_faults b.place.read_faults
   halted_told x h =
       let k = obeyed x 3 h (λ z. omega (arith, z)) (λ z. omega (arith, z)) (omega arith) in
       let d = read_status k.end k.status_is in
       ((k.order, k.is, left ws 3 a b e f k ReadFault d), said_by ws 3 a b e f k ReadFault d, plan.read_rose (target_of (work_of k.order)) ReadFault a b (counted ws 3 a b e f k ReadFault d) refl)
 
-  pub broken_told : Answers ws r a b e f → r ≡ 4 → Under ws (λ o. Broken (work_of o) a b) × IsSaid write_line e f × Under ws (λ o. Rose (write_count (target_of (work_of o)) a) (write_count (target_of (work_of o)) b))
+  pub broken_told : Answers ws r a b e f → r ≡ 4 → Under ws (λ o. Broken (work_of o) a b) × IsLineWritten write_line e f × Under ws (λ o. Rose (write_count (target_of (work_of o)) a) (write_count (target_of (work_of o)) b))
   broken_told x h =
       let k = obeyed x 4 h (λ z. omega (arith, z)) (λ z. omega (arith, z)) (omega arith) in
       let d = write_status k.end k.status_is in
       ((k.order, k.is, left ws 4 a b e f k WriteFault d), said_by ws 4 a b e f k WriteFault d, (k.order, k.is, plan.write_rose (target_of (work_of k.order)) WriteFault a b (counted ws 4 a b e f k WriteFault d) refl))
 
-  pub parts_told : Answers ws r a b e f → r ≡ 6 → Under ws (λ o. Ended (work_of o) ends.TooMany a b) × IsSaid parts_line e f
+  pub parts_told : Answers ws r a b e f → r ≡ 6 → Under ws (λ o. Ended (work_of o) ends.TooMany a b) × IsLineWritten parts_line e f
   parts_told x h =
       let k = obeyed x 6 h (λ z. omega (arith, z)) (λ z. omega (arith, z)) (omega arith) in
       let d = parts_status k.end k.status_is in
@@ -443,21 +443,21 @@ module _ {ws : List (List ℕ)} {r : ℕ} {a b : Outside} {e f : SinkState} wher
       let c = counted ws 6 a b e f k TooManyParts (parts_status k.end k.status_is) in
       (k.order, k.is, c.0)
 
-  pub memory_told : Answers ws r a b e f → r ≡ 5 → (o : Order) → order_of ws ≡ Some o → StandsPartly (work_of o) a b
+  pub memory_told : Answers ws r a b e f → r ≡ 5 → (o : Order) → order_of ws ≡ Some o → IsPartlyDone (work_of o) a b
   memory_told (Usage p s t) h o is = cc
-  memory_told (Unread s t) h o is = subst (λ z. StandsPartly (work_of o) a z) (sym s) (unchanged (work_of o) a)
-  memory_told (Carried p known end c t) h o is = subst (λ z. StandsPartly (work_of z) a b) (order_same ws p o known is) (partly (work_of p) end a b c.leaves c.counts)
-  memory_told (Stayed p known x d j t) h o is = subst (λ z. StandsPartly (work_of z) a b) (order_same ws p o known is) j.partly_done
+  memory_told (Unread s t) h o is = subst (λ z. IsPartlyDone (work_of o) a z) (sym s) (unchanged (work_of o) a)
+  memory_told (Carried p known end c t) h o is = subst (λ z. IsPartlyDone (work_of z) a b) (order_same ws p o known is) (partly (work_of p) end a b c.leaves c.counts)
+  memory_told (Stayed p known x d j t) h o is = subst (λ z. IsPartlyDone (work_of z) a b) (order_same ws p o known is) j.partly_done
 
-  pub memory_said : Answers ws r a b e f → r ≡ 5 → IsMemorySaid e f
-  memory_said (Usage o s (Fully p q)) h = absurd (omega (arith, p, h))
-  memory_said (Usage o s (answers.ForMemory p q)) h = q
-  memory_said (Unread s (Fully p q)) h = answers.Line q
-  memory_said (Unread s (answers.ForMemory p q)) h = q
-  memory_said (Carried o is end c (answers.ForMemory p q)) h = q
-  memory_said (Carried o is end c (Fully p q)) h = no_room_said end e f (sym p ∙ h) q
-  memory_said (Stayed o is x d j (answers.ForMemory p q)) h = q
-  memory_said (Stayed o is x d j (Fully p q)) h = absurd (omega (arith, j.low, p, h))
+  pub memory_line_written : Answers ws r a b e f → r ≡ 5 → IsMemoryLineWritten e f
+  memory_line_written (Usage o s (Fully p q)) h = absurd (omega (arith, p, h))
+  memory_line_written (Usage o s (answers.ForMemory p q)) h = q
+  memory_line_written (Unread s (Fully p q)) h = answers.Line q
+  memory_line_written (Unread s (answers.ForMemory p q)) h = q
+  memory_line_written (Carried o is end c (answers.ForMemory p q)) h = q
+  memory_line_written (Carried o is end c (Fully p q)) h = no_room_said end e f (sym p ∙ h) q
+  memory_line_written (Stayed o is x d j (answers.ForMemory p q)) h = q
+  memory_line_written (Stayed o is x d j (Fully p q)) h = absurd (omega (arith, j.low, p, h))
 
   pub doubted_told : Answers ws r a b e f → r ≡ 7 → Under ws (λ o. IsDoubted (work_of o) a b e f)
   doubted_told (Usage o s (Fully p q)) h = absurd (omega (arith, p, h))
@@ -513,7 +513,7 @@ module _ {ws : List (List ℕ)} {r : ℕ} {a b : Outside} {e f : SinkState} wher
   pub one_count : Answers ws r a b e f → CountsOnce a b
   one_count (Usage o s t) = runs.NoneRose (none_rose a b s)
   one_count (Unread s t) = runs.NoneRose (none_rose a b s)
-  one_count (Carried o is end c t) = tallied_once (target_of (work_of o)) (way_of end) a b c.counts
+  one_count (Carried o is end c t) = tallied_once (target_of (work_of o)) (command_end end) a b c.counts
   one_count (Stayed o is x d j t) = runs.NoneRose j.counts
 
   pub text_writes : Answers ws r a b e f → (o : Order) → order_of ws ≡ Some o → target_of (work_of o) ≡ Text → b.place.write_faults ≡ a.place.write_faults
@@ -521,24 +521,24 @@ module _ {ws : List (List ℕ)} {r : ℕ} {a b : Outside} {e f : SinkState} wher
   text_writes (Unread s t) o is text = ap (λ (z : Outside). z.place.write_faults) s
   text_writes (Carried p known end c t) o is text =
       let target = ap (λ z. target_of (work_of z)) (order_same ws p o known is) ∙ text in
-      text_leaves (way_of end) a b (subst (λ z. Tallied z (way_of end) a b) target c.counts)
+      text_leaves (command_end end) a b (subst (λ z. Tallied z (command_end end) a b) target c.counts)
   text_writes (Stayed p known x d j t) o is text = j.counts.1
 
   pub same_told : Answers ws r a b e f → b.place.steady ≡ a.place.steady
   same_told (Usage o s t) = ap (λ (z : Outside). z.place.steady) s
   same_told (Unread s t) = ap (λ (z : Outside). z.place.steady) s
-  same_told (Carried o is end c t) = plan.same_clause (target_of (work_of o)) (way_of end) a b c.counts
+  same_told (Carried o is end c t) = plan.same_clause (target_of (work_of o)) (command_end end) a b c.counts
   same_told (Stayed o is x d j t) = j.counts.3
 
-  pub complete : Answers ws r a b e f → (o : Order) → order_of ws ≡ Some o → (Rose a.place.read_faults b.place.read_faults → ⊥) → (Rose (write_count (target_of (work_of o)) a) (write_count (target_of (work_of o)) b) → ⊥) → IfSome a.place.told (HasStatus (work_of o) r)
+  pub complete : Answers ws r a b e f → (o : Order) → order_of ws ≡ Some o → (Rose a.place.read_faults b.place.read_faults → ⊥) → (Rose (write_count (target_of (work_of o)) a) (write_count (target_of (work_of o)) b) → ⊥) → IfSome a.place.contents (HasStatus (work_of o) r)
   complete (Usage p s t) o is h i = cc
-  complete (Unread s t) o is h i = any_end a.place.told (work_of o) (five t)
+  complete (Unread s t) o is h i = any_end a.place.contents (work_of o) (five t)
   complete (Carried p known end c t) o is h i =
       let same = order_same ws p o known is in
-      subst (λ z. IfSome a.place.told (HasStatus (work_of z) r)) same
+      subst (λ z. IfSome a.place.contents (HasStatus (work_of z) r)) same
       (complete_by (work_of p) end a b r e f t c.leaves c.counts h (subst (λ z. Rose (write_count (target_of (work_of z)) a) (write_count (target_of (work_of z)) b) → ⊥) (sym same) i))
-  complete (Stayed p known x d j (Fully m q)) o is h i = subst (λ z. IfSome a.place.told (HasStatus (work_of z) r)) (order_same ws p o known is) (subst (λ n. IfSome a.place.told (HasStatus (work_of p) n)) (sym m) j.has_status)
-  complete (Stayed p known x d j (answers.ForMemory m q)) o is h i = any_end a.place.told (work_of o) m
+  complete (Stayed p known x d j (Fully m q)) o is h i = subst (λ z. IfSome a.place.contents (HasStatus (work_of z) r)) (order_same ws p o known is) (subst (λ n. IfSome a.place.contents (HasStatus (work_of p) n)) (sym m) j.has_status)
+  complete (Stayed p known x d j (answers.ForMemory m q)) o is h i = any_end a.place.contents (work_of o) m
 
   pub can_read : Answers ws r a b e f → (o : Order) → order_of ws ≡ Some o → CanReadAll (work_of o) a.place → (r ≡ 3 → ⊥) × (b.place.read_faults ≡ a.place.read_faults)
   can_read (Usage p s t) o is can = cc
@@ -583,27 +583,27 @@ module _ {ws : List (List ℕ)} {r : ℕ} {a b : Outside} {e f : SinkState} wher
       planned_status m (inl h) = inl (sym m ∙ h)
       planned_status m (inr h) = inr (sym m ∙ h)
 
-  pub headline_told : Answers ws r a b e f → (r ≡ 0) ⊎ (r ≡ 2) → (g : Given) (i o : List ℕ) → order_of ws ≡ Some (orders.Scrub g false i o) → Told a.place.told b.place.told (Scrubs g (file_name i) (file_name o))
+  pub headline_told : Answers ws r a b e f → (r ≡ 0) ⊎ (r ≡ 2) → (g : Given) (i o : List ℕ) → order_of ws ≡ Some (orders.Scrub g false i o) → IfKnown a.place.contents b.place.contents (Scrubs g (file_name i) (file_name o))
   headline_told x h g i o is = let w = wrote_told x h (orders.Scrub g false i o) is in w.2 w.1
 
-  pub renumbered_told : Answers ws r a b e f → (r ≡ 0) ⊎ (r ≡ 2) → (g : Given) (i o : List ℕ) → order_of ws ≡ Some (orders.Scrub g true i o) → Told a.place.told b.place.told (Renumbers g (file_name i) (file_name o))
+  pub renumbered_told : Answers ws r a b e f → (r ≡ 0) ⊎ (r ≡ 2) → (g : Given) (i o : List ℕ) → order_of ws ≡ Some (orders.Scrub g true i o) → IfKnown a.place.contents b.place.contents (Renumbers g (file_name i) (file_name o))
   renumbered_told x h g i o is = let w = wrote_told x h (orders.Scrub g true i o) is in w.2 w.1
 
-  pub verified_told : Answers ws r a b e f → r ≡ 0 → (g : Given) (i o p : List ℕ) → order_of ws ≡ Some (orders.Verify g i o p) → IfSome a.place.told (λ w. (count : ℕ) × AllVerified g (three (file_name i) (file_name o) (file_name p) w) count)
+  pub verified_told : Answers ws r a b e f → r ≡ 0 → (g : Given) (i o p : List ℕ) → order_of ws ≡ Some (orders.Verify g i o p) → IfSome a.place.contents (λ w. (count : ℕ) × AllVerified g (three (file_name i) (file_name o) (file_name p) w) count)
   verified_told x h g i o p is =
       let k = obeyed x 0 h (λ z. omega (arith, z)) (λ z. omega (arith, z)) (omega arith) in
       let w = subst (λ z. runs.Wrote z k.end a.place b.place) (order_same ws k.order (orders.Verify g i o p) k.is is) k.carries.wrote in
       w (done_status k.end k.status_is)
 
-  pub built_told : Answers ws r a b e f → r ≡ 0 → (text output : List ℕ) → order_of ws ≡ Some (orders.Build text output) → Told a.place.told b.place.told (streams.Builds (file_name text) (file_name output))
+  pub built_told : Answers ws r a b e f → r ≡ 0 → (text output : List ℕ) → order_of ws ≡ Some (orders.Build text output) → IfKnown a.place.contents b.place.contents (streams.Builds (file_name text) (file_name output))
   built_told x h text output is =
       let k = obeyed x 0 h (λ z. omega (arith, z)) (λ z. omega (arith, z)) (omega arith) in
       let w = subst (λ z. runs.Wrote z k.end a.place b.place) (order_same ws k.order (orders.Build text output) k.is is) k.carries.wrote in
       w (done_status k.end k.status_is)
 
   pub scrubs_told : ((g : Given) (t : Three) → HasOneVerdict g t) → ((g : Given) (t : Three) → HasVerifiedScrubs g t) → Answers ws r a b e f → (g : Given) (i o p : List ℕ) → order_of ws ≡ Some (orders.Verify g i o p)
-      → (Rose a.place.read_faults b.place.read_faults → ⊥) → (Rose a.sink.faults b.sink.faults → ⊥) → IfSome a.place.told (λ w. AreScrubs g (three (file_name i) (file_name o) (file_name p) w) → (r ≡ 0) ⊎ (r ≡ 5))
-  scrubs_told one verified x g i o p is reads texts = by_told a.place.told (complete x (orders.Verify g i o p) is reads texts)
+      → (Rose a.place.read_faults b.place.read_faults → ⊥) → (Rose a.sink.faults b.sink.faults → ⊥) → IfSome a.place.contents (λ w. AreScrubs g (three (file_name i) (file_name o) (file_name p) w) → (r ≡ 0) ⊎ (r ≡ 5))
+  scrubs_told one verified x g i o p is reads texts = by_told a.place.contents (complete x (orders.Verify g i o p) is reads texts)
     where
       by_status : (t : Three) → IsVerdictStatus g t r → AreScrubs g t → (r ≡ 0) ⊎ (r ≡ 5)
       by_status t (runs.ForMemory m) scrubs = inr m

@@ -3,7 +3,7 @@ use Rattle.std.specs.Prelude.{◌≡◌, ℕ, ◌≤◌, List, take, Some, optio
 use Rattle.std.proofs.Common.{ap, refl, ◌∙◌, subst}
 use Rattle.jfr_outside.specs.World.{SinkState, added}
 use Rattle.jfr_outside.specs.Counts.{Rose}
-use Rattle.jfr_cli.specs.Answers.{IsAnswered, Fully, ForMemory, Part, IsMemorySaid, Line, Silent, memory_line}
+use Rattle.jfr_cli.specs.Answers.{IsAnswered, Fully, ForMemory, Part, IsMemoryLineWritten, Line, Silent, memory_line}
 
 -- A write that failed leaves a part of the line.
 pub said_partly : (line bytes : List ℕ) (status : ℕ) (a b : SinkState) → bytes ≡ line → (k : ℕ) × (b.written ≡ option_map (added (take k bytes)) a.written) → (a.faults ≤ b.faults) × Rose a.faults b.faults → IsAnswered status (Some line) status a b
@@ -19,5 +19,5 @@ pub said_as : (status : ℕ) (line other : List ℕ) (answer : ℕ) (a b : SinkS
 said_as status line other answer a b e h = subst (λ z. IsAnswered status (Some z) answer a b) e h
 
 -- Nothing is said.
-pub nothing_said : (a b : SinkState) → b.written ≡ a.written → b.faults ≡ a.faults → IsMemorySaid a b
+pub nothing_said : (a b : SinkState) → b.written ≡ a.written → b.faults ≡ a.faults → IsMemoryLineWritten a b
 nothing_said a b w f = Silent (ap (λ z. record { written = z; faults = b.faults }) w ∙ ap (λ z. record { written = a.written; faults = z }) f)

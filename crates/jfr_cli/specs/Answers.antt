@@ -79,22 +79,22 @@ answer_line (answers.Doubted chunk doubt) = Some (doubt_line chunk doubt)
 answer_line (answers.Unbuilt line reason) = Some (unbuilt_line line reason)
 
 -- The line was written to the sink. If the sink's count of faults rose, perhaps only a prefix of it was.
-pub data IsSaid (line : List ℕ) (a b : SinkState) : Type 0 where
-  Whole : b ≡ record { written = option_map (added line) a.written; faults = a.faults } → IsSaid line a b
-  Part : Rose a.faults b.faults → (k : ℕ) → b.written ≡ option_map (added (take k line)) a.written → IsSaid line a b
+pub data IsLineWritten (line : List ℕ) (a b : SinkState) : Type 0 where
+  Whole : b ≡ record { written = option_map (added line) a.written; faults = a.faults } → IsLineWritten line a b
+  Part : Rose a.faults b.faults → (k : ℕ) → b.written ≡ option_map (added (take k line)) a.written → IsLineWritten line a b
 
 -- The line for running out of memory was written, or no line and the sink is unchanged, since memory can also
 -- run out while a line is written.
-pub data IsMemorySaid (a b : SinkState) : Type 0 where
-  Line : IsSaid memory_line a b → IsMemorySaid a b
-  Silent : b ≡ a → IsMemorySaid a b
+pub data IsMemoryLineWritten (a b : SinkState) : Type 0 where
+  Line : IsLineWritten memory_line a b → IsMemoryLineWritten a b
+  Silent : b ≡ a → IsMemoryLineWritten a b
 
 -- The line of an ending was written, if it has one; else the sink is unchanged.
-abbrev pub Said : Option (List ℕ) → SinkState → SinkState → Type 0
-Said None a b = b ≡ a
-Said (Some line) a b = IsSaid line a b
+abbrev pub IsAnyLineWritten : Option (List ℕ) → SinkState → SinkState → Type 0
+IsAnyLineWritten None a b = b ≡ a
+IsAnyLineWritten (Some line) a b = IsLineWritten line a b
 
 -- The status with its line, or status 5, as after running out of memory.
 pub data IsAnswered (status : ℕ) (line : Option (List ℕ)) (answer : ℕ) (a b : SinkState) : Type 0 where
-  Fully : answer ≡ status → Said line a b → IsAnswered status line answer a b
-  ForMemory : answer ≡ 5 → IsMemorySaid a b → IsAnswered status line answer a b
+  Fully : answer ≡ status → IsAnyLineWritten line a b → IsAnswered status line answer a b
+  ForMemory : answer ≡ 5 → IsMemoryLineWritten a b → IsAnswered status line answer a b

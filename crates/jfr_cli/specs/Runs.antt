@@ -1,16 +1,16 @@
 -- What the program does and returns.
 use Rattle.std.specs.Prelude.{◌≡◌, ◌≢◌, ℕ, true, false, List, Option, None, Some, option_map, IfSome, Ok, Err, ⊤}
 use Rattle.jfr_base.specs.declared.flaw.Refusal.{Refusal}
-use Rattle.jfr_outside.specs.World.{World, State, SinkState, Told, file}
+use Rattle.jfr_outside.specs.World.{World, State, SinkState, IfKnown, file}
 use Rattle.jfr_outside.specs.Counts.{Rose}
 use Rattle.jfr_header.specs.declared.ending.Ending.{Ending}
 use Rattle.jfr_header.specs.declared.ending.Ending.TheVariants as ending
 use Rattle.jfr_filter.specs.Filters.{Given}
-use Rattle.jfr_plan.specs.Ends.{End, Fine, Refused, TooMany, Ends, NotWritten, NoRoom, way_of}
-use Rattle.jfr_plan.specs.Ends as ways
+use Rattle.jfr_plan.specs.Ends.{End, Fine, Refused, TooMany, Ends, NotWritten, RanOut, command_end}
+use Rattle.jfr_plan.specs.Ends as command_ends
 use Rattle.jfr_plan.specs.Effects.{Outside}
-use Rattle.jfr_plan.specs.Walks.{plan_in}
-use Rattle.jfr_plan.specs.Outcomes.{Kept, Rises, Counted, Tallied}
+use Rattle.jfr_plan.specs.Rules.{plan_in}
+use Rattle.jfr_plan.specs.Outcomes.{Unchanged, Rises, Counted, Tallied}
 use Rattle.jfr_plan.specs.Clauses.{write_count}
 use Rattle.jfr_output.specs.Recordings.{IsByPlan}
 use Rattle.jfr_scrub.specs.Headline.{Scrubs}
@@ -28,16 +28,16 @@ use Rattle.jfr_build.specs.Builds as builds
 use Rattle.jfr_build.specs.Builds.{build_of}
 use Rattle.jfr_build.specs.Streams as streams
 use Rattle.jfr_build.specs.Streams.{IsRefusedText}
-use Rattle.jfr_cli.specs.Works.{Work, Over, Joins, Alone, Checks, Builds, work_of, target_of, Stands, Leaves, KeepsSink, KeepsPlace, CanReadAll, CanCreateFor}
+use Rattle.jfr_cli.specs.Works.{Work, Over, Joins, Planned, Checks, Builds, work_of, target_of, Stands, Leaves, KeepsSink, KeepsPlace, CanReadAll, CanCreateFor}
 use Rattle.jfr_cli.specs.declared.answer.Answer.{Answer}
 use Rattle.jfr_cli.specs.declared.answer.Answer.TheVariants as answers
-use Rattle.jfr_cli.specs.Answers.{doubt_line, refusal_line, unbuilt_line, IsSaid}
+use Rattle.jfr_cli.specs.Answers.{doubt_line, refusal_line, unbuilt_line, IsLineWritten}
 
 -- If a scrub ends as its plan does, the output is the scrub of the input, or its renumbering. If a check ends
 -- well, each chunk of the output is verified; if a build does, the output has the chunk of the text.
 abbrev pub Wrote : Order → Ending → State → State → Type 0
-Wrote (orders.Scrub g false input output) e a b = IsByPlan e → Told a.told b.told (Scrubs g (file_name input) (file_name output))
-Wrote (orders.Scrub g true input output) e a b = IsByPlan e → Told a.told b.told (Renumbers g (file_name input) (file_name output))
+Wrote (orders.Scrub g false input output) e a b = IsByPlan e → IfKnown a.contents b.contents (Scrubs g (file_name input) (file_name output))
+Wrote (orders.Scrub g true input output) e a b = IsByPlan e → IfKnown a.contents b.contents (Renumbers g (file_name input) (file_name output))
 Wrote (orders.Print g depth json file) e a b = ⊤
 Wrote (orders.Summary file) e a b = ⊤
 Wrote (orders.Metadata file) e a b = ⊤
@@ -45,9 +45,9 @@ Wrote (orders.Disassemble file rule) e a b = ⊤
 Wrote (orders.Assemble folder output) e a b = ⊤
 Wrote (orders.Sample seed events) e a b = ⊤
 Wrote (orders.Receipt g input receipt) e a b = ⊤
-Wrote (orders.Verify g input output receipt) e a b = e ≡ ending.Done → IfSome a.told (λ w. (count : ℕ) × AllVerified g (three (file_name input) (file_name output) (file_name receipt) w) count)
+Wrote (orders.Verify g input output receipt) e a b = e ≡ ending.Done → IfSome a.contents (λ w. (count : ℕ) × AllVerified g (three (file_name input) (file_name output) (file_name receipt) w) count)
 Wrote (orders.Stacks g file) e a b = ⊤
-Wrote (orders.Build text output) e a b = e ≡ ending.Done → Told a.told b.told (streams.Builds (file_name text) (file_name output))
+Wrote (orders.Build text output) e a b = e ≡ ending.Done → IfKnown a.contents b.contents (streams.Builds (file_name text) (file_name output))
 
 -- The verdict of the check is a doubt about a chunk.
 abbrev pub IsInDoubt : Work → ℕ → Doubt → World → Type 0
@@ -64,7 +64,7 @@ IsCheck _ = ⊥
 pub record Doubts (k : Work) (chunk : ℕ) (doubt : Doubt) (a b : Outside) : Type 0 where
   pub check : IsCheck k
   pub verdict : Stands k a b (λ w v s t. IsInDoubt k chunk doubt w × (t ≡ s))
-  pub counts : Counted Kept Kept Kept a b
+  pub counts : Counted Unchanged Unchanged Unchanged a b
 
 -- The work is the building of a text that is refused for this line and reason.
 abbrev pub IsUnbuilding : Work → ℕ → BuildReason → World → Type 0
@@ -81,12 +81,12 @@ pub record Unbuilds (k : Work) (line : ℕ) (reason : BuildReason) (a b : Outsid
   pub build : IsBuild k
   pub refused : Stands k a b (λ w v s t. IsUnbuilding k line reason w × (t ≡ s))
   pub sink : b.sink ≡ a.sink
-  pub counts : Counted Kept Kept Kept a b
+  pub counts : Counted Unchanged Unchanged Unchanged a b
 
 -- The state and the counts of faults after an order, for each ending.
 pub record Carries (o : Order) (e : Ending) (a b : Outside) : Type 0 where
-  pub leaves : Leaves (work_of o) (way_of e) a b
-  pub counts : Tallied (target_of (work_of o)) (way_of e) a b
+  pub leaves : Leaves (work_of o) (command_end e) a b
+  pub counts : Tallied (target_of (work_of o)) (command_end e) a b
   pub sink : KeepsSink (target_of (work_of o)) a.sink b.sink
   pub place : KeepsPlace (work_of o) a.place b.place
   pub wrote : Wrote o e a.place b.place
@@ -118,7 +118,7 @@ Ended k e a b = Leaves k (Ends e) a b
 -- A read failed. For one recording exactly the effects whose needs were met are done; for a folder's files
 -- the first effects are.
 abbrev pub Halted : Work → Outside → Outside → Type 0
-Halted k a b = Leaves k ways.NotRead a b
+Halted k a b = Leaves k command_ends.NotRead a b
 
 -- The first effects are done, and of the next, which failed, a prefix of its bytes.
 abbrev pub Broken : Work → Outside → Outside → Type 0
@@ -126,23 +126,23 @@ Broken k a b = Leaves k NotWritten a b
 
 -- The first effects are done.
 abbrev pub Partly : Work → Outside → Outside → Type 0
-Partly k a b = Leaves k NoRoom a b
+Partly k a b = Leaves k RanOut a b
 
 -- The state after memory ran out: the first effects are done; or all of them; or those that are done after a
 -- read fault; or, if the count of write faults rose, the first ones and a prefix of the next one's bytes.
-pub data StandsPartly (k : Work) (a b : Outside) : Type 0 where
-  Prefix : Partly k a b → StandsPartly k a b
-  Whole : (e : End) → Ended k e a b → StandsPartly k a b
-  Met : Halted k a b → StandsPartly k a b
-  Torn : Rose (write_count (target_of k) a) (write_count (target_of k) b) → Broken k a b → StandsPartly k a b
+pub data IsPartlyDone (k : Work) (a b : Outside) : Type 0 where
+  Prefix : Partly k a b → IsPartlyDone k a b
+  Whole : (e : End) → Ended k e a b → IsPartlyDone k a b
+  Met : Halted k a b → IsPartlyDone k a b
+  Torn : Rose (write_count (target_of k) a) (write_count (target_of k) b) → Broken k a b → IsPartlyDone k a b
 
 -- At most one count of faults rose: that of reads, that of writes to the place, or that of writes to the
 -- output sink.
 pub data CountsOnce (a b : Outside) : Type 0 where
-  NoneRose : Counted Kept Kept Kept a b → CountsOnce a b
-  ReadsRose : Counted Rises Kept Kept a b → CountsOnce a b
-  WritesRose : Counted Kept Rises Kept a b → CountsOnce a b
-  TextsRose : Counted Kept Kept Rises a b → CountsOnce a b
+  NoneRose : Counted Unchanged Unchanged Unchanged a b → CountsOnce a b
+  ReadsRose : Counted Rises Unchanged Unchanged a b → CountsOnce a b
+  WritesRose : Counted Unchanged Rises Unchanged a b → CountsOnce a b
+  TextsRose : Counted Unchanged Unchanged Rises a b → CountsOnce a b
 
 -- The status of a plan's end.
 abbrev pub status_of_end : End → ℕ
@@ -178,7 +178,7 @@ pub data IsBuildStatus (text : Option (List ℕ)) (answer : ℕ) : Type 0 where
 abbrev pub HasStatus : Work → ℕ → World → Type 0
 HasStatus (Over r input) answer w = IsPlannedStatus (plan_in r input w).end answer
 HasStatus (Joins folder output) answer w = IsPlannedStatus (assembling folder output w.files).end answer
-HasStatus (Alone p) answer w = IsPlannedStatus p.end answer
+HasStatus (Planned p) answer w = IsPlannedStatus p.end answer
 HasStatus (Checks g input output receipt) answer w = IsVerdictStatus g (three input output receipt w) answer
 HasStatus (Builds text output) answer w = IsBuildStatus (file w text) answer
 
@@ -187,18 +187,18 @@ pub record IsDoubted (k : Work) (a b : Outside) (e f : SinkState) : Type 0 where
   pub chunk : ℕ
   pub doubt : Doubt
   pub doubts : Doubts k chunk doubt a b
-  pub said : IsSaid (doubt_line chunk doubt) e f
+  pub said : IsLineWritten (doubt_line chunk doubt) e f
 
 -- A text is refused, and the line says so.
 pub record IsUnbuilt (k : Work) (a b : Outside) (e f : SinkState) : Type 0 where
   pub line : ℕ
   pub reason : BuildReason
   pub unbuilds : Unbuilds k line reason a b
-  pub said : IsSaid (unbuilt_line line reason) e f
+  pub said : IsLineWritten (unbuilt_line line reason) e f
 
 -- A chunk of the recording is refused: this is the plan's end, all its effects are done, and the line says
 -- so.
 pub record IsRefused (k : Work) (a b : Outside) (e f : SinkState) : Type 0 where
   pub refusal : Refusal
   pub ended : Ended k (Refused refusal) a b
-  pub said : IsSaid (refusal_line refusal) e f
+  pub said : IsLineWritten (refusal_line refusal) e f

@@ -1,11 +1,11 @@
 -- What each order asks to be done.
 use Rattle.std.specs.Prelude.{◌≡◌, ℕ, List, [], ◌∷◌, ◌++◌, Bool, true, false, IsTrue, IsSome, Option, None, Some, ⊤, codes, encode_utf8_all}
 use Rattle.std.specs.Fmt.{decimal}
-use Rattle.jfr_outside.specs.World.{World, State, SinkState, Told, file}
+use Rattle.jfr_outside.specs.World.{World, State, SinkState, IfKnown, file}
 use Rattle.jfr_filter.specs.Filters.{Given}
-use Rattle.jfr_plan.specs.Ends.{Fine, Refused, Way, Ends, NotRead, NotWritten, NoRoom}
-use Rattle.jfr_plan.specs.Effects.{Outside, Write, Nothing, AtEnd, Plan, Stand, stand, effects, needing}
-use Rattle.jfr_plan.specs.Walks.{Rule, Target, File, Parts, Text, plan_in}
+use Rattle.jfr_plan.specs.Ends.{Fine, Refused, CommandEnd, Ends, NotRead, NotWritten, RanOut}
+use Rattle.jfr_plan.specs.Effects.{Outside, Write, Nothing, AtEnd, Plan, Snapshot, snapshot, effects, needing}
+use Rattle.jfr_plan.specs.Rules.{Rule, Target, File, Parts, Text, plan_in}
 use Rattle.jfr_plan.specs.Outcomes.{AllDone, Breaks, HaltedIn, SomeDone}
 use Rattle.jfr_plan.specs.Clauses.{CanRead, CanCreate}
 use Rattle.jfr_scrub.specs.Scrubs.{scrubbing}
@@ -32,7 +32,7 @@ use Rattle.jfr_words.specs.Words.{file_name}
 pub data Work : Type 0 where
   Over : Rule → List ℕ → Work
   Joins : List ℕ → List ℕ → Work
-  Alone : Plan → Work
+  Planned : Plan → Work
   Checks : Given → List ℕ → List ℕ → List ℕ → Work
   Builds : List ℕ → List ℕ → Work
 
@@ -64,7 +64,7 @@ work_of (orders.Metadata file) = Over describing (file_name file)
 work_of (orders.Scrub g renumber input output) = Over (scrub_rule g renumber (file_name output)) (file_name input)
 work_of (orders.Disassemble file rule) = Over (splitting rule (file_name file)) (file_name file)
 work_of (orders.Assemble folder output) = Joins (file_name folder) (file_name output)
-work_of (orders.Sample seed events) = Alone (sample_plan (sampled seed events))
+work_of (orders.Sample seed events) = Planned (sample_plan (sampled seed events))
 work_of (orders.Receipt g input receipt) = Over (receipting g (file_name receipt)) (file_name input)
 work_of (orders.Verify g input output receipt) = Checks g (file_name input) (file_name output) (file_name receipt)
 work_of (orders.Stacks g file) = Over (folding g) (file_name file)
@@ -75,7 +75,7 @@ work_of (orders.Build text output) = Builds (file_name text) (file_name output)
 abbrev pub Plans : Work → World → (Plan → Type 0) → Type 0
 Plans (Over r input) w P = P (plan_in r input w)
 Plans (Joins folder output) w P = P (assembling folder output w.files)
-Plans (Alone p) w P = P p
+Plans (Planned p) w P = P p
 Plans (Checks g input output receipt) w P = (x : Verdict) × VerdictOf g (three input output receipt w) x × P (verdict_plan x)
 Plans (Builds text output) w P = P (building output (file w text))
 
@@ -83,24 +83,24 @@ Plans (Builds text output) w P = P (building output (file w text))
 abbrev pub target_of : Work → Target
 target_of (Over r input) = r.target
 target_of (Joins folder output) = File
-target_of (Alone p) = Text
+target_of (Planned p) = Text
 target_of (Checks g input output receipt) = Text
 target_of (Builds text output) = File
 
 -- The state after a read fault. It can't happen if no file is read, and nothing was done yet in a check or a
 -- build.
-abbrev pub HaltsAs : Bool → Work → World → World → Stand → Stand → Type 0
+abbrev pub HaltsAs : Bool → Work → World → World → Snapshot → Snapshot → Type 0
 HaltsAs steady (Over r input) w v s t = HaltedIn steady r [] (file w input) v.input s t
 HaltsAs steady (Joins folder output) w v s t = Unfinished steady (effects (assembling folder output w.files).steps) s t
-HaltsAs steady (Alone p) w v s t = ⊥
+HaltsAs steady (Planned p) w v s t = ⊥
 HaltsAs steady (Checks g input output receipt) w v s t = (t ≡ s) × (IsTrue steady → LacksOne (three input output receipt w))
 HaltsAs steady (Builds text output) w v s t = (t ≡ s) × (IsTrue steady → file w text ≡ None)
 
 -- The state after memory ran out: the first effects are done. A check has only one, which is its last step.
-abbrev pub StopsAs : Work → World → Stand → Stand → Type 0
+abbrev pub StopsAs : Work → World → Snapshot → Snapshot → Type 0
 StopsAs (Over r input) w s t = SomeDone (effects (plan_in r input w).steps) s t
 StopsAs (Joins folder output) w s t = SomeDone (effects (assembling folder output w.files).steps) s t
-StopsAs (Alone p) w s t = SomeDone (effects p.steps) s t
+StopsAs (Planned p) w s t = SomeDone (effects p.steps) s t
 StopsAs (Checks g input output receipt) w s t = t ≡ s
 StopsAs (Builds text output) w s t = SomeDone (effects (building output (file w text)).steps) s t
 
@@ -111,18 +111,18 @@ text_on File s = None
 text_on Parts s = None
 
 -- A claim about the states before and after the work, if the files of the place are known.
-abbrev pub Stands : Work → Outside → Outside → (World → World → Stand → Stand → Type 0) → Type 0
-Stands k a b P = Told a.place.told b.place.told (λ w v. P w v (stand w (text_on (target_of k) a.sink)) (stand v (text_on (target_of k) b.sink)))
+abbrev pub Stands : Work → Outside → Outside → (World → World → Snapshot → Snapshot → Type 0) → Type 0
+Stands k a b P = IfKnown a.place.contents b.place.contents (λ w v. P w v (snapshot w (text_on (target_of k) a.sink)) (snapshot v (text_on (target_of k) b.sink)))
 
 -- The state after the work, for each way in which it ended.
-abbrev pub LeftBy : Bool → Work → Way → World → World → Stand → Stand → Type 0
-LeftBy steady k (Ends e) w v s t = Plans k w (λ p. AllDone p e s t)
-LeftBy steady k NotRead w v s t = HaltsAs steady k w v s t
-LeftBy steady k NotWritten w v s t = Plans k w (λ p. Breaks steady (effects p.steps) s t)
-LeftBy steady k NoRoom w v s t = StopsAs k w s t
+abbrev pub WorkOutcome : Bool → Work → CommandEnd → World → World → Snapshot → Snapshot → Type 0
+WorkOutcome steady k (Ends e) w v s t = Plans k w (λ p. AllDone p e s t)
+WorkOutcome steady k NotRead w v s t = HaltsAs steady k w v s t
+WorkOutcome steady k NotWritten w v s t = Plans k w (λ p. Breaks steady (effects p.steps) s t)
+WorkOutcome steady k RanOut w v s t = StopsAs k w s t
 
-abbrev pub Leaves : Work → Way → Outside → Outside → Type 0
-Leaves k way a b = Stands k a b (LeftBy a.place.steady k way)
+abbrev pub Leaves : Work → CommandEnd → Outside → Outside → Type 0
+Leaves k ended a b = Stands k a b (WorkOutcome a.place.steady k ended)
 
 -- Only work that writes text writes to the output sink.
 abbrev pub KeepsSink : Target → SinkState → SinkState → Type 0
@@ -134,7 +134,7 @@ KeepsSink Parts a b = b ≡ a
 abbrev pub KeepsPlace : Work → State → State → Type 0
 KeepsPlace (Over r input) a b = ⊤
 KeepsPlace (Joins folder output) a b = ⊤
-KeepsPlace (Alone p) a b = b ≡ a
+KeepsPlace (Planned p) a b = b ≡ a
 KeepsPlace (Checks g input output receipt) a b = ⊤
 KeepsPlace (Builds text output) a b = ⊤
 
@@ -142,7 +142,7 @@ KeepsPlace (Builds text output) a b = ⊤
 pub record CanCheck (input output receipt : List ℕ) (s : State) : Type 0 where
   pub steady : IsTrue s.steady
   pub world : World
-  pub told : s.told ≡ Some world
+  pub contents : s.contents ≡ Some world
   pub has_input : IsSome (file world input)
   pub has_output : IsSome (file world output)
   pub has_receipt : IsSome (file world receipt)
@@ -150,8 +150,8 @@ pub record CanCheck (input output receipt : List ℕ) (s : State) : Type 0 where
 -- The place is steady, and the files that the work reads exist. In a folder it reads only files that exist.
 abbrev pub CanReadAll : Work → State → Type 0
 CanReadAll (Over r input) a = CanRead input a
-CanReadAll (Joins folder output) a = IsTrue a.steady × IsSome a.told
-CanReadAll (Alone p) a = ⊤
+CanReadAll (Joins folder output) a = IsTrue a.steady × IsSome a.contents
+CanReadAll (Planned p) a = ⊤
 CanReadAll (Checks g input output receipt) a = CanCheck input output receipt a
 CanReadAll (Builds text output) a = CanRead text a
 

@@ -5,10 +5,10 @@
 #![tactic(auto)]
 
 mod answer;
-mod carry;
-mod say;
+mod execute;
+mod status;
 mod top;
 
 pub use jfr_words::{Order, WordsFault, read_words};
-pub use say::NO_MEMORY;
+pub use status::NO_MEMORY;
 pub use top::run;

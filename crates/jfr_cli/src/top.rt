@@ -1,12 +1,12 @@
 //! The top call.
 ghost use Rattle.std.specs.Prelude.{◌≡◌, ◌≢◌, ◌<◌, ◌≤◌, ◌⊎◌, ℕ, List, None, Some, Ok, IfSome, true, false};
 ghost use Rattle.jfr_outside.specs.Counts.{Rose};
-ghost use Rattle.jfr_outside.specs.World.{Told};
+ghost use Rattle.jfr_outside.specs.World.{IfKnown};
 ghost use Rattle.jfr_header.specs.Fronts.{Whole};
 ghost use Rattle.jfr_filter.specs.Filters.{Given};
 ghost use Rattle.jfr_plan.specs.Ends.{Fine, TooMany};
 ghost use Rattle.jfr_plan.specs.Effects.{outside};
-ghost use Rattle.jfr_plan.specs.Walks.{Parts, Text};
+ghost use Rattle.jfr_plan.specs.Rules.{Parts, Text};
 ghost use Rattle.jfr_plan.specs.Clauses.{write_count};
 ghost use Rattle.jfr_chunk.specs.Refusal.{refusal_of};
 ghost use Rattle.jfr_scrub.specs.Headline.{IsScrubbed, Scrubs};
@@ -22,12 +22,12 @@ ghost use Rattle.jfr_build.specs.Accepted.{IsBuiltOf};
 ghost use Rattle.jfr_build.specs.Builds.{build_of};
 ghost use Rattle.jfr_build.specs.Streams.{Builds};
 ghost use Rattle.jfr_cli.specs.Works.{work_of, target_of, KeepsSink, KeepsPlace, CanReadAll, CanCreateFor};
-ghost use Rattle.jfr_cli.specs.Answers.{usage_line, read_line, write_line, parts_line, IsSaid, IsMemorySaid};
-ghost use Rattle.jfr_cli.specs.Runs.{Obeys, Under, Ended, Halted, Broken, StandsPartly, CountsOnce, HasStatus, IsDoubted, IsRefused, IsUnbuilt};
+ghost use Rattle.jfr_cli.specs.Answers.{usage_line, read_line, write_line, parts_line, IsLineWritten, IsMemoryLineWritten};
+ghost use Rattle.jfr_cli.specs.Runs.{Obeys, Under, Ended, Halted, Broken, IsPartlyDone, CountsOnce, HasStatus, IsDoubted, IsRefused, IsUnbuilt};
 
 use crate::answer::Answer;
-use crate::carry::carry_out;
-use crate::say::say_answer;
+use crate::execute::execute;
+use crate::status::write_answer;
 use jfr_build::built_is_accepted;
 use jfr_header::Ending;
 use jfr_outside::{Place, Sink, Words};
@@ -40,7 +40,7 @@ fn obey<P: Place, O: Sink>(alloc: Global, words: &Words, place: &mut P, out: &mu
     ensures { Obeys words.now result (outside (P.state place.old) (O.state out.old)) (outside (P.state place.new) (O.state out.new)) }
 {
     match read_words(alloc, words) {
-        Ok(order) => carry_out(alloc, place, out, &order),
+        Ok(order) => execute(alloc, place, out, &order),
         Err(WordsFault::Usage) => Answer::Usage,
         Err(WordsFault::Memory) => Answer::Ended(Ending::Memory),
     }
@@ -57,7 +57,7 @@ pub fn run<P: Place, O: Sink, E: Sink>(
     err: &mut E,
 ) -> u8
     // Words that aren't an order: nothing is done.
-    ensures usage { result ≡ 1 → (order_of words.now ≡ None) × IsSaid usage_line (E.state err.old) (E.state err.new) }
+    ensures usage { result ≡ 1 → (order_of words.now ≡ None) × IsLineWritten usage_line (E.state err.old) (E.state err.new) }
     ensures usage_only { order_of words.now ≡ None → (result ≡ 1) ⊎ (result ≡ 5) }
     ensures untouched { order_of words.now ≡ None → (P.state place.new ≡ P.state place.old) × (O.state out.new ≡ O.state out.old) }
 
@@ -66,13 +66,13 @@ pub fn run<P: Place, O: Sink, E: Sink>(
     // they reach, and of the same meaning. `each` says this of the scrub of every accepted chunk, whatever
     // the status is.
     ensures headline { (result ≡ 0) ⊎ (result ≡ 2) → (g : Given) (input output : List ℕ) → order_of words.now ≡ Some (orders.Scrub g false input output)
-        → Told (P.state place.old).told (P.state place.new).told (Scrubs g (file_name input) (file_name output)) }
+        → IfKnown (P.state place.old).contents (P.state place.new).contents (Scrubs g (file_name input) (file_name output)) }
     ensures each { (g : Given) (c : List ℕ) → Whole c → refusal_of c ≡ None → IsScrubbed g c (scrubbed g c) }
 
     // With `--renumber yes` the output means the same except for the keys of constants, and isn't longer: constants
     // of a class with equal values are merged.
     ensures renumbered { (result ≡ 0) ⊎ (result ≡ 2) → (g : Given) (input output : List ℕ) → order_of words.now ≡ Some (orders.Scrub g true input output)
-        → Told (P.state place.old).told (P.state place.new).told (Renumbers g (file_name input) (file_name output)) }
+        → IfKnown (P.state place.old).contents (P.state place.new).contents (Renumbers g (file_name input) (file_name output)) }
     ensures each_renumbered { (g : Given) (c : List ℕ) → Whole c → refusal_of c ≡ None → IsRenumberedOutput g c (renumbered g c) }
 
     // With the receipt of an accepted chunk, the chunk and its scrub pass the checks.
@@ -82,16 +82,16 @@ pub fn run<P: Place, O: Sink, E: Sink>(
     // input with this number, reduced to the events that the filter keeps. If no call fails and memory doesn't
     // run out, a check finds this of every scrub with its own receipts.
     ensures verified { result ≡ 0 → (g : Given) (input output receipt : List ℕ) → order_of words.now ≡ Some (orders.Verify g input output receipt)
-        → IfSome (P.state place.old).told (λ w. (count : ℕ) × AllVerified g (three (file_name input) (file_name output) (file_name receipt) w) count) }
+        → IfSome (P.state place.old).contents (λ w. (count : ℕ) × AllVerified g (three (file_name input) (file_name output) (file_name receipt) w) count) }
     ensures scrubs_verified { (g : Given) (input output receipt : List ℕ) → order_of words.now ≡ Some (orders.Verify g input output receipt)
         → (Rose (P.state place.old).read_faults (P.state place.new).read_faults → ⊥) → (Rose (O.state out.old).faults (O.state out.new).faults → ⊥)
-        → IfSome (P.state place.old).told (λ w. AreScrubs g (three (file_name input) (file_name output) (file_name receipt) w) → (result ≡ 0) ⊎ (result ≡ 5)) }
+        → IfSome (P.state place.old).contents (λ w. AreScrubs g (three (file_name input) (file_name output) (file_name receipt) w) → (result ≡ 0) ⊎ (result ≡ 5)) }
 
     // With 0 the output of a build has the chunk of the text: a chunk that is accepted, with exactly the
     // classes, the events and the constants of the lines. `each_built` says this of every chunk that is
     // built, whatever the status is.
     ensures built { result ≡ 0 → (text output : List ℕ) → order_of words.now ≡ Some (orders.Build text output)
-        → Told (P.state place.old).told (P.state place.new).told (Builds (file_name text) (file_name output)) }
+        → IfKnown (P.state place.old).contents (P.state place.new).contents (Builds (file_name text) (file_name output)) }
     ensures each_built { (text chunk : List ℕ) → build_of text ≡ Ok chunk → IsBuiltOf text chunk }
 
     // The state after each status, and the line on the error sink.
@@ -99,16 +99,16 @@ pub fn run<P: Place, O: Sink, E: Sink>(
     ensures done_silent { result ≡ 0 → E.state err.new ≡ E.state err.old }
     ensures refused { result ≡ 2 → Under words.now (λ o. IsRefused (work_of o) (outside (P.state place.old) (O.state out.old)) (outside (P.state place.new) (O.state out.new)) (E.state err.old) (E.state err.new)) }
     ensures halted { result ≡ 3 → Under words.now (λ o. Halted (work_of o) (outside (P.state place.old) (O.state out.old)) (outside (P.state place.new) (O.state out.new))) }
-    ensures halted_said { result ≡ 3 → IsSaid read_line (E.state err.old) (E.state err.new) }
+    ensures halted_line_written { result ≡ 3 → IsLineWritten read_line (E.state err.old) (E.state err.new) }
     ensures broken { result ≡ 4 → Under words.now (λ o. Broken (work_of o) (outside (P.state place.old) (O.state out.old)) (outside (P.state place.new) (O.state out.new))) }
-    ensures broken_said { result ≡ 4 → IsSaid write_line (E.state err.old) (E.state err.new) }
+    ensures broken_line_written { result ≡ 4 → IsLineWritten write_line (E.state err.old) (E.state err.new) }
     ensures too_many { result ≡ 6 → Under words.now (λ o. Ended (work_of o) TooMany (outside (P.state place.old) (O.state out.old)) (outside (P.state place.new) (O.state out.new))) }
-    ensures too_many_said { result ≡ 6 → IsSaid parts_line (E.state err.old) (E.state err.new) }
+    ensures too_many_line_written { result ≡ 6 → IsLineWritten parts_line (E.state err.old) (E.state err.new) }
     ensures parts { result ≡ 6 → Under words.now (λ o. target_of (work_of o) ≡ Parts) }
     ensures doubted { result ≡ 7 → Under words.now (λ o. IsDoubted (work_of o) (outside (P.state place.old) (O.state out.old)) (outside (P.state place.new) (O.state out.new)) (E.state err.old) (E.state err.new)) }
     ensures unbuilt { result ≡ 8 → Under words.now (λ o. IsUnbuilt (work_of o) (outside (P.state place.old) (O.state out.old)) (outside (P.state place.new) (O.state out.new)) (E.state err.old) (E.state err.new)) }
-    ensures memory { result ≡ 5 → (o : Order) → order_of words.now ≡ Some o → StandsPartly (work_of o) (outside (P.state place.old) (O.state out.old)) (outside (P.state place.new) (O.state out.new)) }
-    ensures memory_said { result ≡ 5 → IsMemorySaid (E.state err.old) (E.state err.new) }
+    ensures memory { result ≡ 5 → (o : Order) → order_of words.now ≡ Some o → IsPartlyDone (work_of o) (outside (P.state place.old) (O.state out.old)) (outside (P.state place.new) (O.state out.new)) }
+    ensures memory_line_written { result ≡ 5 → IsMemoryLineWritten (E.state err.old) (E.state err.new) }
     ensures statuses { result ≤ 8 }
 
     // Status 3 or 4 comes only if a fault was counted, and a counted fault gives 3, 4 or 5.
@@ -124,7 +124,7 @@ pub fn run<P: Place, O: Sink, E: Sink>(
     ensures complete { (o : Order) → order_of words.now ≡ Some o
         → (Rose (P.state place.old).read_faults (P.state place.new).read_faults → ⊥)
         → (Rose (write_count (target_of (work_of o)) (outside (P.state place.old) (O.state out.old))) (write_count (target_of (work_of o)) (outside (P.state place.new) (O.state out.new))) → ⊥)
-        → IfSome (P.state place.old).told (HasStatus (work_of o) result) }
+        → IfSome (P.state place.old).contents (HasStatus (work_of o) result) }
 
     // If the files can be read and created, no fault occurs.
     ensures can_read { (o : Order) → order_of words.now ≡ Some o → CanReadAll (work_of o) (P.state place.old) → (result ≢ 3) × ((P.state place.new).read_faults ≡ (P.state place.old).read_faults) }
@@ -140,5 +140,5 @@ pub fn run<P: Place, O: Sink, E: Sink>(
     scrubs_are_verified();
     built_is_accepted();
     let answer = obey(alloc, words, place, out);
-    say_answer(alloc, err, answer)
+    write_answer(alloc, err, answer)
 }

@@ -3,7 +3,7 @@ use Rattle.std.specs.Prelude.{◌≡◌, ℕ, ◌+◌, ◌*◌, ◌^◌, ◌<◌
 use Rattle.std.specs.List.{AllByRecursion, range_with_len}
 use Rattle.std.proofs.Common.{ap, arith, refl, sym, ◌∙◌, subst, length-append, append_assoc}
 use Rattle.std.proofs.lemmas.List.Elements.{All-cons, All-nil, Contains-append_right}
-use Rattle.jfr_base.proofs.HoldLaws.{Holds, holds_behind, holds_parts, holds_at}
+use Rattle.jfr_base.proofs.HoldLaws.{Holds, holds_after, holds_parts, holds_at}
 use Rattle.jfr_header.specs.declared.header.Header.{Header}
 use Rattle.jfr_header.specs.Headers.{header_of, header_bytes}
 use Rattle.jfr_header.proofs.Layouts.{header_of-bytes}
@@ -106,7 +106,7 @@ sample_accepted seed events some most =
       in_ticks_per_second = omega arith;
       in_flags = omega arith;
     }) in
-    ap refusal_of e ∙ accepted seed events h refl refl c (omega arith) (built seed events h refl refl c refl (holds_behind (header_bytes h) (before ++ cp)) read long (omega arith))
+    ap refusal_of e ∙ accepted seed events h refl refl c (omega arith) (built seed events h refl refl c refl (holds_after (header_bytes h) (before ++ cp)) read long (omega arith))
   where
     header_long : (h : Header) → length (header_bytes h) ≡ 68
     header_long h = refl

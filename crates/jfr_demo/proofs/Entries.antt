@@ -23,7 +23,7 @@ use Rattle.jfr_pool.specs.Entries.{Constant, PoolAt, AreEntries, checkpoint_form
 use Rattle.jfr_sample.specs.Metadata.{string_of}
 use Rattle.jfr_sample.specs.Sample.{record_of, next_of, entry, entries_to, checkpoint}
 use Rattle.jfr_demo.proofs.Metadata.{node_class, text_class, sample_classes, classes_sound, plain}
-use Rattle.jfr_demo.proofs.Standing.{framed, length-record, record_stands, spelled_int, value_read}
+use Rattle.jfr_demo.proofs.Records.{framed, length-record, record_stands, spelled_int, value_read}
 use Rattle.jfr_demo.proofs.Events.{node_value}
 
 -- The value of entry n.
@@ -116,10 +116,10 @@ pool_read c end n at h =
     )
 
 -- What follows the checkpoint's type.
-abbrev behind_type : ℕ → List ℕ
-behind_type n = 0 ∷ 0 ∷ 0 ∷ 0 ∷ 1 ∷ 7 ∷ (spell n ++ entries_to n)
+abbrev after_type : ℕ → List ℕ
+after_type n = 0 ∷ 0 ∷ 0 ∷ 0 ∷ 1 ∷ 7 ∷ (spell n ++ entries_to n)
 
-checkpoint_is : (n : ℕ) → checkpoint n ≡ record_of (spell 1 ++ behind_type n)
+checkpoint_is : (n : ℕ) → checkpoint n ≡ record_of (spell 1 ++ after_type n)
 unfolding checkpoint spell
 checkpoint_is n = refl
 
@@ -128,7 +128,7 @@ one_more : (c : List ℕ) (end at b : ℕ) (rest : List ℕ) → Holds c end at 
 one_more c end at b rest h = holds_parts c end at (b ∷ []) rest h
 
 abbrev pub checkpoint_at : ℕ → ℕ → Framed
-checkpoint_at at n = framed at 1 (behind_type n)
+checkpoint_at at n = framed at 1 (after_type n)
 
 abbrev body_at : ℕ → ℕ
 body_at at = at + 4 + length (spell 1)
@@ -153,7 +153,7 @@ pub record CheckpointStands (c : List ℕ) (at n : ℕ) : Type 0 where
 pub checkpoint_stands : (c : List ℕ) (at n : ℕ) → length c < 2 ^ 28 → Holds c (length c) at (checkpoint n) → CheckpointStands c at n
 unfolding checkpoint_format
 checkpoint_stands c at n small h =
-    let s = record_stands c at 1 (behind_type n) small (subst (Holds c (length c) at) (checkpoint_is n) h) in
+    let s = record_stands c at 1 (after_type n) small (subst (Holds c (length c) at) (checkpoint_is n) h) in
     let end : ℕ = record_end (checkpoint_at at n) in
     let p : ℕ = body_at at in
     let a = one_more c end p 0 (0 ∷ 0 ∷ 0 ∷ 1 ∷ 7 ∷ (spell n ++ entries_to n)) s.body in
@@ -172,7 +172,7 @@ checkpoint_stands c at n small h =
     let ef : p + 1 + 1 + 1 + 1 + 1 ≤ end = f.0.within in
     let pool : PoolAt = pool_at (first_at at n) n in
     let last : ℕ = first_at at n + length (entries_to n) in
-    let ends : last ≡ end = omega (arith, length-append (spell 1) (behind_type n), length-append (spell n) (entries_to n)) in
+    let ends : last ≡ end = omega (arith, length-append (spell 1) (after_type n), length-append (spell n) (entries_to n)) in
     let read = pool_read c end n (p + 1 + 1 + 1 + 1 + 1) f.1 in
     let one : Reads (times 1 (pool_format sample_classes)) c end (p + 1 + 1 + 1 + 1 + 1) (pool ∷ []) last = reads_then (pool_format sample_classes) (λ q. Done (q ∷ [])) c end (p + 1 + 1 + 1 + 1 + 1) pool last (pool ∷ []) last read (refl, refl) in
     let all : Reads (times 1 (pool_format sample_classes) >>= λ pools. Stop (Done pools)) c end (p + 1 + 1 + 1 + 1 + 1) (pool ∷ []) last = reads_then (times 1 (pool_format sample_classes)) (λ pools. Stop (Done pools)) c end (p + 1 + 1 + 1 + 1 + 1) (pool ∷ []) last (pool ∷ []) last one (omega arith, (refl, refl)) in
@@ -180,7 +180,7 @@ checkpoint_stands c at n small h =
     (p + 1, 0, start, ea, refl, (p + 1 + 1, 0, duration, eb, refl, (p + 1 + 1 + 1, 0, delta, ed, refl, (ee, (p + 1 + 1 + 1 + 1 + 1, 1, count, ef, refl, all))))) in
     record {
       is = s.is;
-      end = omega (arith, ap length (checkpoint_is n), length-record (spell 1 ++ behind_type n));
+      end = omega (arith, ap length (checkpoint_is n), length-record (spell 1 ++ after_type n));
       head = (p + 1, 0, start, ea, refl, (p + 1 + 1, 0, duration, eb, refl, (p + 1 + 1 + 1, 0, delta, ed, refl, (refl, refl))));
       entries = (pool ∷ [], subst (Reads (checkpoint_format sample_classes) c end p (pool ∷ [])) ends whole, [], refl, refl);
     }

@@ -17,7 +17,7 @@ use Rattle.jfr_pool.specs.Entries.{inline}
 use Rattle.jfr_chunk.specs.Parts.{HasFields}
 use Rattle.jfr_sample.specs.Sample.{draw, key_of, record_of, event_a, event_b, event}
 use Rattle.jfr_demo.proofs.Metadata.{a_class, b_class, number_class, sample_classes, classes_sound, plain, node}
-use Rattle.jfr_demo.proofs.Standing.{framed, length-record, record_stands, value_read}
+use Rattle.jfr_demo.proofs.Records.{framed, length-record, record_stands, value_read}
 
 -- A reference to a node.
 abbrev pub node_value : ℕ → Value

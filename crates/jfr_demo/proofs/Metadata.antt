@@ -5,7 +5,7 @@ use Rattle.bstr.specs.Utf8.{pieces_from}
 use Rattle.jfr_base.specs.Integer.{Spells, spell}
 use Rattle.jfr_base.specs.Decimal.{decimal_number}
 use Rattle.jfr_base.specs.Formats.{Answer, Got, Reads, run, int_at}
-use Rattle.jfr_base.proofs.Exact.{Says, run_says}
+use Rattle.jfr_base.proofs.Exact.{ReadsOrFails, run_reads_or_fails}
 use Rattle.jfr_base.proofs.HoldLaws.{Holds, holds_parts, holds_int}
 use Rattle.jfr_text.specs.Strings.{string_format}
 use Rattle.jfr_header.specs.declared.header.Header.{Header}
@@ -18,7 +18,7 @@ use Rattle.jfr_meta.specs.Trees.{Node, Nil}
 use Rattle.jfr_meta.specs.Attributes.{id_of}
 use Rattle.jfr_meta.specs.Body.{Body, meta_format, body_format, element_format}
 use Rattle.jfr_meta.specs.Described.{described, class_flaws, classes_of, class_of, field_of, shape_of, IsMetadata}
-use Rattle.jfr_chunk.proofs.StandingLaws.{described_sound}
+use Rattle.jfr_chunk.proofs.HasNodesLaws.{described_sound}
 use Rattle.jfr_sample.specs.Metadata.{metadata}
 use Rattle.jfr_sample.proofs.Lengths.{length-metadata}
 
@@ -75,9 +75,9 @@ pub classes_sound : Sound sample_classes
 classes_sound = described_sound sample_body sample_classes classes_described
 
 by_run : (x : List ℕ) (end at : ℕ) (b : Body) (to : ℕ) → at ≤ end → end ≤ length x → run meta_format x end at ≡ Ok (record { value = b; place = to }) → Reads meta_format x end at b to
-by_run x end at b to i j e = by_answer (run meta_format x end at) e (run_says meta_format x end at i j)
+by_run x end at b to i j e = by_answer (run meta_format x end at) e (run_reads_or_fails meta_format x end at i j)
   where
-    by_answer : (r : Answer Body) → r ≡ Ok (record { value = b; place = to }) → Says meta_format x end at r → Reads meta_format x end at b to
+    by_answer : (r : Answer Body) → r ≡ Ok (record { value = b; place = to }) → ReadsOrFails meta_format x end at r → Reads meta_format x end at b to
     by_answer (Ok g) e r =
         let q : g ≡ record { value = b; place = to } = cc in
         subst (λ (z : Got Body). Reads meta_format x end at z.value z.place) q r

@@ -35,10 +35,10 @@ impl From<Fault> for FileFault {
 
 // Reads the open input to its end. `None` if it has `limit` bytes or more.
 fn read_rest<P: Place>(alloc: Global, place: &mut P, limit: usize) -> Result<Option<Vec<u8>>, Fault>
-    ensures told { Tells (P.state place.old) (P.state place.new) (RestRead limit result) }
+    ensures contents { Tells (P.state place.old) (P.state place.new) (RestRead limit result) }
     ensures bound { IfOk result (λ read. IfSome read (λ bytes. length bytes.items < limit)) }
     ensures counts { CountsRead result (P.state place.old) (P.state place.new) }
-    ensures steady { IsTrue (P.state place.old).steady → IsErrOf result Fault.Failed → IfSome (P.state place.old).told (λ w. w.input ≡ None) }
+    ensures steady { IsTrue (P.state place.old).steady → IsErrOf result Fault.Failed → IfSome (P.state place.old).contents (λ w. w.input ≡ None) }
 {
     let mut bytes = Buffer::new(alloc);
     'reads: while bytes.len() < limit {
@@ -59,7 +59,7 @@ pub fn read_file<P: Place>(
 ) -> Result<Vec<u8>, FileFault>
     // What the answer says about the file, and what is left of the input. The other files and the output
     // are unchanged.
-    ensures told { Tells (P.state place.old) (P.state place.new) (FileRead name.now limit result) }
+    ensures contents { Tells (P.state place.old) (P.state place.new) (FileRead name.now limit result) }
     ensures bound { IfOk result (λ bytes. length bytes.items < limit) }
 
     // Only the count of read faults changes, and only if a read failed.
@@ -68,7 +68,7 @@ pub fn read_file<P: Place>(
     ensures same { (P.state place.new).steady ≡ (P.state place.old).steady }
 
     // On a steady place no read fails if the file exists.
-    ensures steady { IsTrue (P.state place.old).steady → IsErrOf result FileFault.Failed → IfSome (P.state place.old).told (λ w. file w name.now ≡ None) }
+    ensures steady { IsTrue (P.state place.old).steady → IsErrOf result FileFault.Failed → IfSome (P.state place.old).contents (λ w. file w name.now ≡ None) }
 {
     place.open_input(name)?;
     let read = read_rest(alloc, place, limit)?;

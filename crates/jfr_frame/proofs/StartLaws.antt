@@ -38,14 +38,14 @@ pub record Keeps (c : List ℕ) (all : List Framed) (n : ℕ) (s : Start) (r : F
   pub got : slice_get all n ≡ Some r
   pub below : n < length all
   pub start : s ≡ start_of r
-  pub stands : IsRecord c r
+  pub holds : IsRecord c r
 
 kept_among : (c : List ℕ) (p q : ℕ) (rs : List Framed) (n : ℕ) (s : Start) → Tiles c p rs q → option_map start_of (slice_get rs n) ≡ Some s → (r : Framed) × Keeps c rs n s r
 kept_among c p q [] n s t e = cc
-kept_among c p q (r ∷ rs) zero s t e = (r, record { got = refl; below = omega arith; start = cc; stands = t.1 })
+kept_among c p q (r ∷ rs) zero s t e = (r, record { got = refl; below = omega arith; start = cc; holds = t.1 })
 kept_among c p q (r ∷ rs) (suc n) s t e =
     let k = kept_among c (record_end r) q rs n s t.2 e in
-    (k.0, record { got = k.1.got; below = let i = k.1.below in omega arith; start = k.1.start; stands = k.1.stands })
+    (k.0, record { got = k.1.got; below = let i = k.1.below in omega arith; start = k.1.start; holds = k.1.holds })
 
 pub kept_record : (c : List ℕ) (starts : List Start) (all : List Framed) (n : ℕ) (s : Start) → AreStarts c starts → records_at c starts ≡ all → option_map start_of (slice_get all n) ≡ Some s → (r : Framed) × Keeps c all n s r
 kept_record c starts all n s h v e = kept_among c 68 (length c) all n s (subst (AreRecords c) v h.cover) e
@@ -62,16 +62,16 @@ kept_at c starts all n s h v l e =
 -- What is kept says all but its end.
 kept_parts : (c : List ℕ) (all : List Framed) (n : ℕ) (s : Start) (r : Framed) → Keeps c all n s r → (s.at ≡ r.at) × (s.at + s.type_at ≡ r.type_at) × (s.at + s.body ≡ r.body) × (s.type_id ≡ min r.type_id (2 ^ 16 - 1))
 kept_parts c all n s r k =
-    let h = head_short c r k.stands in
+    let h = head_short c r k.holds in
     subst (λ (z : Start). (z.at ≡ r.at) × (z.at + z.type_at ≡ r.type_at) × (z.at + z.body ≡ r.body) × (z.type_id ≡ min r.type_id (2 ^ 16 - 1))) (sym k.start) (refl, omega (arith, h.0), omega (arith, h.0, h.1), refl)
 
 -- So its type and its body start within the chunk.
 pub parts_fit : (c : List ℕ) (all : List Framed) (n : ℕ) (s : Start) (r : Framed) → Keeps c all n s r → (s.at + s.type_at ≤ length c) × (s.at + s.body ≤ length c)
 parts_fit c all n s r k =
     let p = kept_parts c all n s r k in
-    let h = head_short c r k.stands in
-    let b : r.body ≤ r.at + r.size = k.stands.covers in
-    let w : r.at + r.size ≤ length c = k.stands.within in
+    let h = head_short c r k.holds in
+    let b : r.body ≤ r.at + r.size = k.holds.covers in
+    let w : r.at + r.size ≤ length c = k.holds.within in
     (omega (arith, p.1, h.1), omega (arith, p.2))
 
 -- A type that is kept below the largest number is the record's.
@@ -84,7 +84,7 @@ narrow_type c all n s r k narrow = by_size (kept_parts c all n s r k).3 (cases_l
 
 -- Its type is spelled at the offset that is kept.
 pub type_there : (c : List ℕ) (all : List Framed) (n : ℕ) (s : Start) (r : Framed) → Keeps c all n s r → IntAt c (s.at + s.type_at) r.body r.type_id
-type_there c all n s r k = subst (λ p. IntAt c p r.body r.type_id) (sym (kept_parts c all n s r k).1) k.stands.type_spelled
+type_there c all n s r k = subst (λ p. IntAt c p r.body r.type_id) (sym (kept_parts c all n s r k).1) k.holds.type_spelled
 
 -- It is made of what is kept, of its type and of its end.
 pub rebuilt : (c : List ℕ) (all : List Framed) (n : ℕ) (s : Start) (r : Framed) (end type_id : ℕ) → Keeps c all n s r → option_map record_end (slice_get all n) ≡ Some end → type_id ≡ r.type_id

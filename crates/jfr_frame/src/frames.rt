@@ -8,7 +8,7 @@ ghost use Rattle.jfr_frame.specs.Starts.{start_of};
 
 use crate::framed::wide_type;
 use crate::start::{Start, WIDE};
-use crate::{FrameRoom, Framed, next_record};
+use crate::{FrameBuffers, Framed, next_record};
 use jfr_base::{HEADER_LEN, ReadFault};
 use std::alloc::Global;
 use std::marker::Model;
@@ -45,12 +45,12 @@ impl<'a> Frames<'a> {
         // The answer that `records_of` computes.
         ensures exact { IfOk result (λ rs. records_of chunk.now ≡ Ok rs) }
     {
-        Frames::read_in(FrameRoom::new(alloc), chunk)
+        Frames::read_in(FrameBuffers::new(alloc), chunk)
     }
 
     /// Reads the records of a chunk as `read` does, and keeps their starts in the memory of an earlier
     /// chunk's starts, which are dropped.
-    pub fn read_in(room: FrameRoom, chunk: &'a [u8]) -> Result<Frames<'a>, ReadFault>
+    pub fn read_in(buffers: FrameBuffers, chunk: &'a [u8]) -> Result<Frames<'a>, ReadFault>
         requires { 68 ≤ length chunk.now }
         ensures ok { IfOk result (λ rs. AreRecords chunk.now rs) }
         ensures refused { IfErr result (λ fault. RefusedAt chunk.now fault) }
@@ -59,7 +59,7 @@ impl<'a> Frames<'a> {
         if chunk.len() > u32::MAX as usize {
             return Err(ReadFault::Memory);
         }
-        let mut starts = room.starts;
+        let mut starts = buffers.starts;
         starts.clear();
         let mut at = HEADER_LEN;
         'records: while let Some(record) = next_record(chunk, at)? {
@@ -70,10 +70,10 @@ impl<'a> Frames<'a> {
     }
 
     /// The memory of the starts, for use with the next chunk.
-    pub fn into_room(self) -> FrameRoom
+    pub fn into_buffers(self) -> FrameBuffers
         ensures { result ≡ places_of self.entry }
     {
-        FrameRoom {
+        FrameBuffers {
             starts: self.starts,
         }
     }

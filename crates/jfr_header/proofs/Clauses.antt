@@ -1,13 +1,13 @@
 -- The clauses of the cutter, each from the one on its answer.
 use Rattle.std.proofs.Common.{◌≡◌, ℕ, ◌≤◌, ◌<◌, sym, ◌∙◌, ap, true, List, [], ◌++◌, length, Option, None, Some, IfSome, arith}
-use Rattle.jfr_outside.specs.World.{World, Told}
+use Rattle.jfr_outside.specs.World.{World, IfKnown}
 use Rattle.jfr_header.specs.Fronts.{reach}
 use Rattle.jfr_header.specs.Cutters.{Cutter}
 use Rattle.jfr_header.specs.Taking.{Took, Takes, IsKept}
 use Rattle.jfr_header.specs.Nexts.{CutOf, NextOf, ahead_of, answer_to, IsDue, IfRefused, is_header}
 use Rattle.jfr_header.specs.declared.cutter.Cut.{Cut}
 use Rattle.jfr_header.specs.declared.cutter.Cut.TheVariants.{Chunk, End, Refused, Failed, Memory}
-use Rattle.jfr_header.proofs.Steps.{map_told, some_at, all_some, reach_least, whole_reach, split, some_ahead, same_some}
+use Rattle.jfr_header.proofs.Steps.{map_known, some_at, all_some, reach_least, whole_reach, split, some_ahead, same_some}
 
 decided : (r : Cut) (old new : Cutter) (w v : World) → CutOf r old new → NextOf r old new w v → IfSome w.input (λ rest. IsDue r (answer_to old.number (ahead_of old rest)))
 decided Chunk old new w v c n = some_at w.input n.rest _ n.input (sym (ap (answer_to old.number) n.is))
@@ -18,24 +18,24 @@ decided Failed old new w v c n = all_some w.input _ (λ rest. tt)
 decided Memory old new w v c n = all_some w.input _ (λ rest. tt)
 
 -- The front of what is left decides.
-pub decides : (r : Cut) (old new : Cutter) (b a : Option World) → CutOf r old new → Told b a (NextOf r old new) → IfSome b (λ w. IfSome w.input (λ rest. IsDue r (answer_to old.number (ahead_of old rest))))
+pub decides : (r : Cut) (old new : Cutter) (b a : Option World) → CutOf r old new → IfKnown b a (NextOf r old new) → IfSome b (λ w. IfSome w.input (λ rest. IsDue r (answer_to old.number (ahead_of old rest))))
 decides r old new None a c t = tt
 decides r old new (Some w) None c t = absurd t
 decides r old new (Some w) (Some v) c t = decided r old new w v c t
 
 -- A chunk was taken, and nothing else.
-pub taken : (r : Cut) (old new : Cutter) (b a : Option World) → Told b a (NextOf r old new) → r ≡ Chunk → Told b a (Took new.bytes)
-taken Chunk old new b a t e = map_told b a _ _ t (λ w v n. n.took)
+pub taken : (r : Cut) (old new : Cutter) (b a : Option World) → IfKnown b a (NextOf r old new) → r ≡ Chunk → IfKnown b a (Took new.bytes)
+taken Chunk old new b a t e = map_known b a _ _ t (λ w v n. n.took)
 taken End old new b a t e = cc
 taken (Refused r) old new b a t e = cc
 taken Failed old new b a t e = cc
 taken Memory old new b a t e = cc
 
 -- After a flaw of the header exactly its bytes were taken.
-pub header_taken : (r : Cut) (old new : Cutter) (b a : Option World) → Told b a (NextOf r old new) → IfRefused r (λ refusal. is_header refusal.reason ≡ true → Told b a (Takes (λ taken most. taken ≡ 68)))
+pub header_taken : (r : Cut) (old new : Cutter) (b a : Option World) → IfKnown b a (NextOf r old new) → IfRefused r (λ refusal. is_header refusal.reason ≡ true → IfKnown b a (Takes (λ taken most. taken ≡ 68)))
 header_taken Chunk old new b a t = tt
 header_taken End old new b a t = tt
-header_taken (Refused r) old new b a t = λ h. map_told b a _ _ t (λ w v n. (n.bytes, n.found.took, all_some w.input _ (λ rest. n.exact h)))
+header_taken (Refused r) old new b a t = λ h. map_known b a _ _ t (λ w v n. (n.bytes, n.found.took, all_some w.input _ (λ rest. n.exact h)))
 header_taken Failed old new b a t = tt
 header_taken Memory old new b a t = tt
 
@@ -56,11 +56,11 @@ taken_within Failed old new w v c n = (n.0, n.1, some_map w.input _ _ (λ rest h
 taken_within Memory old new w v c n = n
 
 -- No byte past the header and its chunk was taken.
-pub within : (r : Cut) (old new : Cutter) (b a : Option World) → CutOf r old new → Told b a (NextOf r old new) → Told b a (Takes (λ taken most. taken ≤ most))
-within r old new b a c t = map_told b a _ _ t (λ w v n. taken_within r old new w v c n)
+pub within : (r : Cut) (old new : Cutter) (b a : Option World) → CutOf r old new → IfKnown b a (NextOf r old new) → IfKnown b a (Takes (λ taken most. taken ≤ most))
+within r old new b a c t = map_known b a _ _ t (λ w v n. taken_within r old new w v c n)
 
 -- After a failed read fewer bytes were taken.
-pub fewer : (r : Cut) (old new : Cutter) (b a : Option World) → Told b a (NextOf r old new) → r ≡ Failed → Told b a (Takes (λ taken most. taken < most))
+pub fewer : (r : Cut) (old new : Cutter) (b a : Option World) → IfKnown b a (NextOf r old new) → r ≡ Failed → IfKnown b a (Takes (λ taken most. taken < most))
 fewer Chunk old new b a t e = cc
 fewer End old new b a t e = cc
 fewer (Refused r) old new b a t e = cc
@@ -75,5 +75,5 @@ kept Failed old new w v n = (n.1.files, n.1.output)
 kept Memory old new w v n = (n.1.files, n.1.output)
 
 -- The files and the output stayed.
-pub unchanged : (r : Cut) (old new : Cutter) (b a : Option World) → Told b a (NextOf r old new) → Told b a IsKept
-unchanged r old new b a t = map_told b a _ _ t (λ w v n. kept r old new w v n)
+pub unchanged : (r : Cut) (old new : Cutter) (b a : Option World) → IfKnown b a (NextOf r old new) → IfKnown b a IsKept
+unchanged r old new b a t = map_known b a _ _ t (λ w v n. kept r old new w v n)

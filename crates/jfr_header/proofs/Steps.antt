@@ -12,26 +12,26 @@ use Rattle.jfr_header.specs.Judging.{IsJudged, Follows}
 use Rattle.jfr_header.specs.declared.judge.Verdict.{Verdict}
 use Rattle.jfr_header.specs.declared.judge.Verdict.TheVariants as verdicts
 use Rattle.jfr_header.specs.Cutters.{Cutter}
-use Rattle.jfr_outside.specs.World.{Told}
+use Rattle.jfr_outside.specs.World.{IfKnown}
 use Rattle.jfr_header.specs.Taking.{Moved, MovedWithin, Took, Takes}
 
 -- One claim from another.
-pub map_told : (b a : Option World) (P Q : World → World → Type 0) → Told b a P → ((w v : World) → P w v → Q w v) → Told b a Q
-map_told None a P Q t f = tt
-map_told (Some w) None P Q t f = absurd t
-map_told (Some w) (Some v) P Q t f = f w v t
+pub map_known : (b a : Option World) (P Q : World → World → Type 0) → IfKnown b a P → ((w v : World) → P w v → Q w v) → IfKnown b a Q
+map_known None a P Q t f = tt
+map_known (Some w) None P Q t f = absurd t
+map_known (Some w) (Some v) P Q t f = f w v t
 
 -- One claim from another, and from two facts of the place afterwards, the second under a premise.
-pub with_both : (b a : Option World) (F G : World → Type 0) (L : Type 0) (P Q : World → World → Type 0) → Told b a P → IfSome a F → (L → IfSome a G) → ((w v : World) → P w v → F v → (L → G v) → Q w v) → Told b a Q
+pub with_both : (b a : Option World) (F G : World → Type 0) (L : Type 0) (P Q : World → World → Type 0) → IfKnown b a P → IfSome a F → (L → IfSome a G) → ((w v : World) → P w v → F v → (L → G v) → Q w v) → IfKnown b a Q
 with_both None a F G L P Q t h k f = tt
 with_both (Some w) None F G L P Q t h k f = absurd t
 with_both (Some w) (Some v) F G L P Q t h k f = f w v t h k
 
-pub chain_told : (b a d : Option World) (P Q R : World → World → Type 0) → Told b a P → Told a d Q → ((w v u : World) → P w v → Q v u → R w u) → Told b d R
-chain_told None a d P Q R p q f = tt
-chain_told (Some w) None d P Q R p q f = absurd p
-chain_told (Some w) (Some v) None P Q R p q f = absurd q
-chain_told (Some w) (Some v) (Some u) P Q R p q f = f w v u p q
+pub chain_known : (b a d : Option World) (P Q R : World → World → Type 0) → IfKnown b a P → IfKnown a d Q → ((w v u : World) → P w v → Q v u → R w u) → IfKnown b d R
+chain_known None a d P Q R p q f = tt
+chain_known (Some w) None d P Q R p q f = absurd p
+chain_known (Some w) (Some v) None P Q R p q f = absurd q
+chain_known (Some w) (Some v) (Some u) P Q R p q f = f w v u p q
 
 pub moved_trans : (x y z : List ℕ) (w v u : World) → Moved x y w v → Moved y z v u → Moved x z w u
 moved_trans x y z w v u p q = record { files = q.files ∙ p.files; output = q.output ∙ p.output; kept = q.kept ∙ p.kept }
@@ -40,8 +40,8 @@ none_map : (o : Option (List ℕ)) → option_map (λ (l : List ℕ). [] ++ l) o
 none_map None = refl
 none_map (Some x) = refl
 
-pub from_empty : (b a : Option World) (x y : List ℕ) → x ≡ [] → Told b a (Moved x y) → Told b a (Moved [] y)
-from_empty b a x y e t = subst (λ (l : List ℕ). Told b a (Moved l y)) e t
+pub from_empty : (b a : Option World) (x y : List ℕ) → x ≡ [] → IfKnown b a (Moved x y) → IfKnown b a (Moved [] y)
+from_empty b a x y e t = subst (λ (l : List ℕ). IfKnown b a (Moved l y)) e t
 
 pub took_of : (bytes : List ℕ) (w v : World) → Moved [] bytes w v → Took bytes w v
 took_of bytes w v m = record { files = m.files; output = m.output; input = m.kept ∙ none_map w.input }
@@ -247,13 +247,13 @@ whole_chunk c h bytes w v u s k m size =
     let z : headed p.rest (header_flaw (take 68 p.rest)) ≡ sized p.rest (size_of h) = ap (headed p.rest) (ap header_flaw th ∙ k.flawless) ∙ ap (λ (l : List ℕ). sized p.rest (size_of l)) th in
     found c (Chunk bytes) bytes w u t p (front_headed p.rest c.start (not c.given) s long ∙ z ∙ sized_whole p.rest (size_of h) enough ∙ ap Chunk mine)
 
-pub with_two : (b a d : Option World) (F : World → Type 0) (P Q R : World → World → Type 0) → Told b a P → IfSome a F → Told a d Q → ((w v u : World) → P w v → F v → Q v u → R w u) → Told b d R
+pub with_two : (b a d : Option World) (F : World → Type 0) (P Q R : World → World → Type 0) → IfKnown b a P → IfSome a F → IfKnown a d Q → ((w v u : World) → P w v → F v → Q v u → R w u) → IfKnown b d R
 with_two None a d F P Q R p h q f = tt
 with_two (Some w) None d F P Q R p h q f = absurd p
 with_two (Some w) (Some v) None F P Q R p h q f = absurd q
 with_two (Some w) (Some v) (Some u) F P Q R p h q f = f w v u p h q
 
-pub chain_with : (b a d : Option World) (F G : World → Type 0) (P Q R : World → World → Type 0) → Told b a P → IfSome a F → Told a d Q → IfSome d G → ((w v u : World) → P w v → F v → Q v u → G u → R w u) → Told b d R
+pub chain_with : (b a d : Option World) (F G : World → Type 0) (P Q R : World → World → Type 0) → IfKnown b a P → IfSome a F → IfKnown a d Q → IfSome d G → ((w v u : World) → P w v → F v → Q v u → G u → R w u) → IfKnown b d R
 chain_with None a d F G P Q R p h q k f = tt
 chain_with (Some w) None d F G P Q R p h q k f = absurd p
 chain_with (Some w) (Some v) None F G P Q R p h q k f = absurd q

@@ -1,6 +1,6 @@
 -- How bytes are read from the open input.
 use Rattle.std.specs.Prelude.{◌≡◌, ℕ, ◌≤◌, List, ◌++◌, length, Option, option_map, IfSome}
-use Rattle.jfr_outside.specs.World.{World, State, Told}
+use Rattle.jfr_outside.specs.World.{World, State, IfKnown}
 use Rattle.jfr_header.specs.Fronts.{reach}
 
 -- The bytes in a buffer, followed by those left of the open input.
@@ -30,11 +30,11 @@ Takes Fits w v = (bytes : List ℕ) × Took bytes w v × IfSome w.input (λ rest
 
 -- A claim about the world of a place before and after, if contracts see it.
 abbrev pub Tells : State → State → (World → World → Type 0) → Type 0
-Tells old new Claim = Told old.told new.told Claim
+Tells old new Claim = IfKnown old.contents new.contents Claim
 
 -- A claim about what is left of the open input, if contracts see it.
-abbrev pub IfLeft : State → (List ℕ → Type 0) → Type 0
-IfLeft place Claim = IfSome place.told (λ w. IfSome w.input Claim)
+abbrev pub IfUnread : State → (List ℕ → Type 0) → Type 0
+IfUnread place Claim = IfSome place.contents (λ w. IfSome w.input Claim)
 
 -- The files and the output are unchanged.
 abbrev pub IsKept : World → World → Type 0

@@ -13,7 +13,7 @@ const MIN_GROWTH: usize = 65536;
 /// Bytes that were read. Their memory only grows, and the next bytes are read straight into it.
 #[derive(Drop)]
 pub struct Buffer {
-    room: Vec<u8>,
+    memory: Vec<u8>,
     count: usize,
 }
 
@@ -22,26 +22,26 @@ impl Model for Buffer {
 
     ghost Value = { List ℕ };
 
-    ghost view = { λ b. take b.count b.room.items };
+    ghost view = { λ b. take b.count b.memory.items };
 
-    ghost invariant = { λ b. b.count ≤ vec_len b.room };
+    ghost invariant = { λ b. b.count ≤ vec_len b.memory };
 }
 
 // Makes the vector longer than `count` bytes if it isn't: twice as long, or longer by `MIN_GROWTH` if that is more, but
 // never longer than `until`.
-fn make_room(room: &mut Vec<u8>, count: usize, until: usize) -> Result<(), AllocError>
-    requires count { count ≤ vec_len room.old }
+fn make_space(memory: &mut Vec<u8>, count: usize, until: usize) -> Result<(), AllocError>
+    requires count { count ≤ vec_len memory.old }
     requires wanted { count < until }
-    ensures kept { take count room.new.items ≡ take count room.old.items }
-    ensures within { count ≤ vec_len room.new }
-    ensures more { OnOk result (count < vec_len room.new) }
+    ensures kept { take count memory.new.items ≡ take count memory.old.items }
+    ensures within { count ≤ vec_len memory.new }
+    ensures more { OnOk result (count < vec_len memory.new) }
 {
-    if count < room.len() {
+    if count < memory.len() {
         return Ok(());
     }
     let more = count.max(MIN_GROWTH).min(until - count);
-    room.reserve_exact(more)?;
-    room.resize(count + more, 0)
+    memory.reserve_exact(more)?;
+    memory.resize(count + more, 0)
 }
 
 impl Buffer {
@@ -50,7 +50,7 @@ impl Buffer {
         ensures { result ≡ [] }
     {
         Buffer {
-            room: Vec::new(alloc),
+            memory: Vec::new(alloc),
             count: 0,
         }
     }
@@ -66,16 +66,16 @@ impl Buffer {
     pub fn as_slice(&self) -> &[u8]
         ensures { result.now ≡ self.now }
     {
-        &self.room[..self.count]
+        &self.memory[..self.count]
     }
 
     /// The bytes. They aren't copied.
     pub fn into_bytes(self) -> Vec<u8>
         ensures { result.items ≡ self }
     {
-        let Buffer { mut room, count } = self;
-        room.truncate(count);
-        room
+        let Buffer { mut memory, count } = self;
+        memory.truncate(count);
+        memory
     }
 
     /// Removes the bytes, and keeps their memory for the next ones.
@@ -94,16 +94,16 @@ impl Buffer {
         ensures bound { length self.new ≤ until }
         ensures len { IfOk result (λ n. length self.new ≡ length self.old + n) }
         ensures err { OnErr result (self.new ≡ self.old) }
-        ensures end { IfOk result (λ n. n ≡ 0 → IfSome (P.state place.new).told (λ v. v.input ≡ Some [])) }
-        ensures opened { OnOk result (IfSome (P.state place.new).told (λ v. IsSome v.input)) }
-        ensures fails { IsTrue ((P.state place.old).steady) → IsErrOf result Fault.Failed → IfSome (P.state place.old).told (λ w. w.input ≡ None) }
+        ensures end { IfOk result (λ n. n ≡ 0 → IfSome (P.state place.new).contents (λ v. v.input ≡ Some [])) }
+        ensures opened { OnOk result (IfSome (P.state place.new).contents (λ v. IsSome v.input)) }
+        ensures fails { IsTrue ((P.state place.old).steady) → IsErrOf result Fault.Failed → IfSome (P.state place.old).contents (λ w. w.input ≡ None) }
         ensures cause { Counts result (P.state place.old).read_faults (P.state place.new).read_faults }
         ensures writes { (P.state place.new).write_faults ≡ (P.state place.old).write_faults }
         ensures steady { (P.state place.new).steady ≡ (P.state place.old).steady }
     {
-        make_room(&mut self.room, self.count, until)?;
-        let most = self.room.len().min(until);
-        let count = place.read(&mut self.room[self.count..most])?;
+        make_space(&mut self.memory, self.count, until)?;
+        let most = self.memory.len().min(until);
+        let count = place.read(&mut self.memory[self.count..most])?;
         self.count += count;
         Ok(count)
     }
@@ -115,10 +115,10 @@ impl Buffer {
         ensures ok { OnOk result (Tells (P.state place.old) (P.state place.new) (Moved self.old self.new)) }
         ensures prefix { take (length self.old) self.new ≡ self.old }
         ensures bound { OnOk result (length self.new ≤ until) }
-        ensures end { OnOk result (length self.new < until → IfSome (P.state place.new).told (λ v. v.input ≡ Some [])) }
-        ensures opened { OnOk result (length self.old < until → IfSome (P.state place.new).told (λ v. IsSome v.input)) }
+        ensures end { OnOk result (length self.new < until → IfSome (P.state place.new).contents (λ v. v.input ≡ Some [])) }
+        ensures opened { OnOk result (length self.old < until → IfSome (P.state place.new).contents (λ v. IsSome v.input)) }
         ensures failed { IsErrOf result Fault.Failed → (length self.new < until) × Tells (P.state place.old) (P.state place.new) (Moved self.old self.new) }
-        ensures fails { IsTrue ((P.state place.old).steady) → IsErrOf result Fault.Failed → IfSome (P.state place.old).told (λ w. w.input ≡ None) }
+        ensures fails { IsTrue ((P.state place.old).steady) → IsErrOf result Fault.Failed → IfSome (P.state place.old).contents (λ w. w.input ≡ None) }
         ensures memory { IsErrOf result Fault.Memory → Tells (P.state place.old) (P.state place.new) (MovedWithin self.old until) }
         ensures cause { Counts result (P.state place.old).read_faults (P.state place.new).read_faults }
         ensures writes { (P.state place.new).write_faults ≡ (P.state place.old).write_faults }

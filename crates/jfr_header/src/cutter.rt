@@ -1,6 +1,6 @@
 //! Reading a recording chunk by chunk.
 ghost use Rattle.std.specs.Prelude.{◌≡◌, ◌<◌, ◌≤◌, ◌+◌, ◌^◌, [], true, false, None, IsTrue, IfSome};
-ghost use Rattle.jfr_header.specs.Taking.{Took, Takes, Tells, IfLeft, IsKept};
+ghost use Rattle.jfr_header.specs.Taking.{Took, Takes, Tells, IfUnread, IsKept};
 ghost use Rattle.jfr_header.specs.Nexts.{NextOf, CutOf, Counted, IsDue, IfRefused, answer_to, ahead_of, is_header};
 
 use crate::buffer::Buffer;
@@ -109,11 +109,11 @@ impl ChunkCutter {
     // The body of `next`, which derives its further clauses from these.
     fn advance<P: Place>(&mut self, place: &mut P) -> Cut
         ensures cut { CutOf result self.old self.new }
-        ensures told { Tells (P.state place.old) (P.state place.new) (NextOf result self.old self.new) }
+        ensures contents { Tells (P.state place.old) (P.state place.new) (NextOf result self.old self.new) }
         ensures counts { Counted result (P.state place.old).read_faults (P.state place.new).read_faults }
         ensures writes { (P.state place.new).write_faults ≡ (P.state place.old).write_faults }
         ensures steady { (P.state place.new).steady ≡ (P.state place.old).steady }
-        ensures fails { IsTrue ((P.state place.old).steady) → result ≡ Cut.Failed → IfSome (P.state place.old).told (λ w. w.input ≡ None) }
+        ensures fails { IsTrue ((P.state place.old).steady) → result ≡ Cut.Failed → IfSome (P.state place.old).contents (λ w. w.input ≡ None) }
     {
         self.live = false;
         self.bytes.clear();
@@ -153,10 +153,10 @@ impl ChunkCutter {
 
         // What each answer says about the cutter, and about a place whose content contracts see.
         ensures cut { CutOf result self.old self.new }
-        ensures told { Tells (P.state place.old) (P.state place.new) (NextOf result self.old self.new) }
+        ensures contents { Tells (P.state place.old) (P.state place.new) (NextOf result self.old self.new) }
 
         // The first bytes of what is left decide the answer, except for faults and running out of memory.
-        ensures decides { IfLeft (P.state place.old) (λ rest. IsDue result (answer_to self.old.number (ahead_of self.old rest))) }
+        ensures decides { IfUnread (P.state place.old) (λ rest. IsDue result (answer_to self.old.number (ahead_of self.old rest))) }
 
         // The bytes that were read: after a flaw of the header only the header, and after any other answer no
         // byte past the header and its chunk.
@@ -172,7 +172,7 @@ impl ChunkCutter {
         ensures steady { (P.state place.new).steady ≡ (P.state place.old).steady }
 
         // On a steady place with an open input no read fails.
-        ensures fails { IsTrue ((P.state place.old).steady) → result ≡ Cut.Failed → IfSome (P.state place.old).told (λ w. w.input ≡ None) }
+        ensures fails { IsTrue ((P.state place.old).steady) → result ≡ Cut.Failed → IfSome (P.state place.old).contents (λ w. w.input ≡ None) }
     {
         self.advance(place)
     }

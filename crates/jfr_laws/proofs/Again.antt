@@ -11,7 +11,7 @@ use Rattle.jfr_chunk.specs.Scrub.{OutputRecord, Written, output_records, written
 use Rattle.jfr_chunk.specs.Laws.{AreEvents}
 use Rattle.jfr_laws.proofs.Front.{front_again}
 use Rattle.jfr_laws.proofs.Premises.{GoodAnew, metadata_stands}
-use Rattle.jfr_laws.proofs.Rebuilt.{anew_only, metadata_is, new_parts, parts_stand}
+use Rattle.jfr_laws.proofs.Rebuilt.{anew_only, metadata_is, new_parts, parts_are_valid}
 use Rattle.jfr_laws.proofs.Rewritten.{new_output_records, IsPlaced, Rewritten, rewritten}
 use Rattle.jfr_laws.proofs.Same.{all_remain}
 use Rattle.jfr_laws.proofs.AllOutput.{is_metadata, output_records_settled}
@@ -19,8 +19,8 @@ use Rattle.jfr_frame.specs.declared.framed.Framed.{Framed}
 use Rattle.jfr_laws.proofs.Found.{shown_frame}
 use Rattle.jfr_layout.specs.Classes.{Classes}
 use Rattle.jfr_laws.proofs.Suits.{Suits}
-use Rattle.jfr_laws.proofs.OutputRecords.{bytes_from, OutputRecordStands}
-use Rattle.jfr_laws.proofs.Whole.{left_of, written_of, body_of, is_ready, metadata_found, metadata_new, MetadataReads, Leading, last_of, metadata_of, out}
+use Rattle.jfr_laws.proofs.OutputRecords.{bytes_from, IsOutputRecordIn}
+use Rattle.jfr_laws.proofs.Whole.{remaining_of, written_of, body_of, is_ready, metadata_found, metadata_new, MetadataReads, Leading, last_of, metadata_of, out}
 
 -- An offset leads to itself, or to none, if each record is written at its own offset.
 moved_itself : (ws : List Written) (x : ℕ) → AllByRecursion IsPlaced ws → (moved ws x ≡ x) ⊎ (moved ws x ≡ 0)
@@ -41,15 +41,15 @@ output_records_put ws x place a e h = by_case (moved_itself ws x a)
     by_case (inr f) = absurd (omega arith)
 
 module _ (p : Parts) (a : AreParts p) (kept : List EventAt) (are : AreEvents p kept) (good : GoodAnew p.bytes (written_anew p kept)) (marks : List Bool) (b : List ℕ) (s : Leading p kept marks b)
-    (m : Classes) (suits : Suits p kept m) (stands : AllByRecursion (OutputRecordStands p.bytes (left_of p marks) m) (output_records p kept)) (reads : MetadataReads p kept a m) (small : length b < 2 ^ 63) where
+    (m : Classes) (suits : Suits p kept m) (holds : AllByRecursion (IsOutputRecordIn p.bytes (remaining_of p marks) m) (output_records p kept)) (reads : MetadataReads p kept a m) (small : length b < 2 ^ 63) where
   abbrev q : Parts
-  q = new_parts p a kept are good marks b s m suits stands reads
+  q = new_parts p a kept are good marks b s m suits holds reads
 
-  abbrev stand : AreParts q
-  stand = parts_stand p a kept are good marks b s m suits stands reads small
+  abbrev valid : AreParts q
+  valid = parts_are_valid p a kept are good marks b s m suits holds reads small
 
   abbrev output_records_new : List OutputRecord
-  output_records_new = new_output_records p.bytes (left_of p marks) 0 68 None (output_records p kept)
+  output_records_new = new_output_records p.bytes (remaining_of p marks) 0 68 None (output_records p kept)
 
   abbrev written_new : List Written
   written_new = written b q.entries 68 None output_records_new
@@ -58,39 +58,39 @@ module _ (p : Parts) (a : AreParts p) (kept : List EventAt) (are : AreEvents p k
   bytes_again : Rewritten 68 None (body_of p kept marks) (last_of p kept marks) b q.entries output_records_new
   bytes_again =
       let r = is_ready p kept marks a good in
-      rewritten p.bytes (left_of p marks) m b q.entries (output_records p kept) 0 68 None [] stands r.deltas s.held refl (λ n o. tt)
+      rewritten p.bytes (remaining_of p marks) m b q.entries (output_records p kept) 0 68 None [] holds r.deltas s.held refl (λ n o. tt)
 
-  module _ (reached : (number : ℕ) → number < length q.entries → Reached q (events_of q) number) (settles : written_anew q (events_of q) stand.metadata_record ≡ metadata_new p kept a) where
+  module _ (reached : (number : ℕ) → number < length q.entries → Reached q (events_of q) number) (settles : written_anew q (events_of q) valid.metadata_record ≡ metadata_new p kept a) where
     -- What is built anew of what is written is so too.
     good_again : GoodAnew b (written_anew q (events_of q))
     good_again r x i e =
         let t = anew_only q (events_of q) r x e in
         let h : r.at ≡ metadata_at b = grind (arith, nat_tests) in
-        let g : r ≡ stand.metadata_record = is_metadata p a kept are good marks b s m suits stands reads small settles r i h in
+        let g : r ≡ valid.metadata_record = is_metadata p a kept are good marks b s m suits holds reads small settles r i h in
         let w : metadata_new p kept a ≡ Some x = sym settles ∙ (ap (written_anew q (events_of q)) (sym g) ∙ e) in
         let y = good a.metadata_record x (metadata_stands p a) w in
-        (y.0, subst (λ (z : Framed). length x ≤ z.size) (sym (g ∙ metadata_is p a kept are good marks b s m suits stands reads small)) (shown_size (metadata_new p kept a) w))
+        (y.0, subst (λ (z : Framed). length x ≤ z.size) (sym (g ∙ metadata_is p a kept are good marks b s m suits holds reads small)) (shown_size (metadata_new p kept a) w))
       where
         shown_size : (w : Option (List ℕ)) → w ≡ Some x → length x ≤ (shown_frame p.bytes w a.metadata_record (metadata_found p kept marks a good b s.held).place).size
         shown_size None e = cc
         shown_size (Some y) e = let h : y ≡ x = cc in omega (arith, ap length h)
 
     -- All entries are left, and all records stay.
-    left_again : left_of q (reached_marks q (events_of q)) ≡ q.entries
+    left_again : remaining_of q (reached_marks q (events_of q)) ≡ q.entries
     unfolding remain
-    left_again = all_remain q stand reached
+    left_again = all_remain q valid reached
 
     settled : output_records q (events_of q) ≡ output_records_new
-    settled = output_records_settled p a kept are good marks b s m suits stands reads small settles
+    settled = output_records_settled p a kept are good marks b s m suits holds reads small settles
 
     -- The metadata record is written at its own offset.
     metadata_again : moved written_new (metadata_at b) ≡ metadata_at b
     metadata_again =
         let all : List Bool = reached_marks q (events_of q) in
         let body : body_of q (events_of q) all ≡ body_of p kept marks = (λ i. bytes_from b (left_again i) 68 None (settled i)) ∙ bytes_again.same in
-        let f = metadata_found q (events_of q) all stand good_again b (subst (Holds b (length b) 68) (sym body) s.held) in
+        let f = metadata_found q (events_of q) all valid good_again b (subst (Holds b (length b) 68) (sym body) s.held) in
         let e : written_of q (events_of q) all ≡ written_new = λ i. written b (left_again i) 68 None (settled i) in
-        output_records_put written_new (metadata_at b) f.place bytes_again.placed (sym (ap (λ ws. moved ws (metadata_at b)) e) ∙ (ap (moved (written_of q (events_of q) all)) (sym stand.metadata_there.place) ∙ f.leads)) f.from
+        output_records_put written_new (metadata_at b) f.place bytes_again.placed (sym (ap (λ ws. moved ws (metadata_at b)) e) ∙ (ap (moved (written_of q (events_of q) all)) (sym valid.metadata_there.place) ∙ f.leads)) f.from
 
     -- So what is written again is the same, header and all.
     assembled_again : b ≡ out p kept marks → assembled q q.entries output_records_new ≡ b
@@ -105,4 +105,4 @@ module _ (p : Parts) (a : AreParts p) (kept : List EventAt) (are : AreEvents p k
 
     pub nothing_changes : b ≡ out p kept marks → scrub_of q (events_of q) ≡ b
     unfolding scrub_of
-    nothing_changes o = (λ i. assembled q (all_remain q stand reached i) (settled i)) ∙ assembled_again o
+    nothing_changes o = (λ i. assembled q (all_remain q valid reached i) (settled i)) ∙ assembled_again o

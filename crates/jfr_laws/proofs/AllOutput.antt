@@ -23,15 +23,15 @@ use Rattle.jfr_worklist.proofs.Members.{contains_in, in_contains}
 use Rattle.jfr_chunk.proofs.TestLaws.{is_eq}
 use Rattle.jfr_chunk.proofs.AllLaws.{all_in, in_filter, in_filter_map}
 use Rattle.jfr_laws.proofs.Order as order
-use Rattle.jfr_laws.proofs.Order.{Numbered, numbered_at, output_record_in, output_records_in, Low, low_more, low_append, none_rising, behind_low}
+use Rattle.jfr_laws.proofs.Order.{Numbered, numbered_at, output_record_in, output_records_in, Low, low_more, low_append, none_rising, after_low}
 use Rattle.jfr_laws.proofs.Copied.{copied_to}
-use Rattle.jfr_laws.proofs.OutputRecords.{chained_bytes, own_frame, frame_by, new_frame, new_link, new_links, OutputRecordStands}
+use Rattle.jfr_laws.proofs.OutputRecords.{chained_bytes, own_frame, frame_by, new_frame, new_link, new_links, IsOutputRecordIn}
 use Rattle.jfr_laws.proofs.Found.{output_record_place}
 use Rattle.jfr_laws.proofs.Chosen.{is_kept, rising_more}
 use Rattle.jfr_laws.proofs.Premises.{GoodAnew, all_links, recorded, metadata_stands}
 use Rattle.jfr_laws.proofs.Same.{event_records_of}
-use Rattle.jfr_laws.proofs.Whole.{left_of, written_of, or_right, metadata_new, MetadataReads, Leading}
-use Rattle.jfr_laws.proofs.Rebuilt.{links, anew_only, kept_is_event, new_parts, parts_stand}
+use Rattle.jfr_laws.proofs.Whole.{remaining_of, written_of, or_right, metadata_new, MetadataReads, Leading}
+use Rattle.jfr_laws.proofs.Rebuilt.{links, anew_only, kept_is_event, new_parts, parts_are_valid}
 use Rattle.jfr_laws.proofs.Listed.{all_each, in_any, any_in, in_map, map_in, passes_in, in_passes}
 use Rattle.jfr_laws.proofs.Rewritten.{new_output_records}
 
@@ -40,23 +40,23 @@ rising_earlier : (p q : ℕ) (ts : List Numbered) → p ≤ q → order.Rising q
 rising_earlier p q [] h r = tt
 rising_earlier p q (t ∷ ts) h r = let i : q ≤ t.1.frame.at = r.0 in (omega arith, r.1)
 
-module _ (c : List ℕ) (left : List EntryAt) (b : List ℕ) where
+module _ (c : List ℕ) (remaining : List EntryAt) (b : List ℕ) where
   abbrev frames : ℕ → Option ℕ → List OutputRecord → List Framed
-  frames at older ss = map (new_frame c left) (written c left at older ss)
+  frames at older ss = map (new_frame c remaining) (written c remaining at older ss)
 
   -- The checkpoints that are written from a place on rise from there.
-  links_rise : (ss : List OutputRecord) (j at : ℕ) (older : Option ℕ) (to : ℕ) → Tiles b at (frames at older ss) to → order.Rising at (enumerate_from j (new_links c left at older ss))
+  links_rise : (ss : List OutputRecord) (j at : ℕ) (older : Option ℕ) (to : ℕ) → Tiles b at (frames at older ss) to → order.Rising at (enumerate_from j (new_links c remaining at older ss))
   links_rise [] j at older to t = tt
   links_rise (Whole r ∷ ss) j at older to t =
       let n : ℕ = length (record_bytes c r) in
-      rising_earlier at (at + n) (enumerate_from j (new_links c left (at + n) older ss)) (omega arith) (links_rise ss j (at + n) older to t.2)
+      rising_earlier at (at + n) (enumerate_from j (new_links c remaining (at + n) older ss)) (omega arith) (links_rise ss j (at + n) older to t.2)
   links_rise (Rebuilt r x ∷ ss) j at older to t =
       let n : ℕ = length x in
-      rising_earlier at (at + n) (enumerate_from j (new_links c left (at + n) older ss)) (omega arith) (links_rise ss j (at + n) older to t.2)
+      rising_earlier at (at + n) (enumerate_from j (new_links c remaining (at + n) older ss)) (omega arith) (links_rise ss j (at + n) older to t.2)
   links_rise (Chained i l ∷ ss) j at older to t =
-      let n : ℕ = length (chained_bytes c left at older i l) in
-      let some : at < at + n = some_bytes b (new_link c left at older i l).frame t.1 in
-      (omega arith, rising_earlier (at + 1) (at + n) (enumerate_from (j + 1) (new_links c left (at + n) (Some at) ss)) (omega arith) (links_rise ss (j + 1) (at + n) (Some at) to t.2))
+      let n : ℕ = length (chained_bytes c remaining at older i l) in
+      let some : at < at + n = some_bytes b (new_link c remaining at older i l).frame t.1 in
+      (omega arith, rising_earlier (at + 1) (at + n) (enumerate_from (j + 1) (new_links c remaining (at + n) (Some at) ss)) (omega arith) (links_rise ss (j + 1) (at + n) (Some at) to t.2))
 
   module _ (all : List Numbered) (whole : Framed → Bool) (new : Framed → Option (List ℕ)) where
     -- What was written of a record that stayed whole, or was built anew, stays so.
@@ -66,56 +66,56 @@ module _ (c : List ℕ) (left : List EntryAt) (b : List ℕ) where
     Stays (Chained j l) f = Unit {0}
 
     abbrev pub OutputRecordsWhole : Written → Type 0
-    OutputRecordsWhole w = Stays w.output_record (new_frame c left w)
+    OutputRecordsWhole w = Stays w.output_record (new_frame c remaining w)
 
     -- What stays of the records that were written.
-    output_records_again : (ss : List OutputRecord) (j at : ℕ) (older : Option ℕ) (done : List Numbered) (to : ℕ) → Tiles b at (frames at older ss) to → all ≡ done ++ enumerate_from j (new_links c left at older ss) → Low at done
-        → AllByRecursion OutputRecordsWhole (written c left at older ss) → output_records_in all whole new (frames at older ss) ≡ new_output_records c left j at older ss
+    output_records_again : (ss : List OutputRecord) (j at : ℕ) (older : Option ℕ) (done : List Numbered) (to : ℕ) → Tiles b at (frames at older ss) to → all ≡ done ++ enumerate_from j (new_links c remaining at older ss) → Low at done
+        → AllByRecursion OutputRecordsWhole (written c remaining at older ss) → output_records_in all whole new (frames at older ss) ≡ new_output_records c remaining j at older ss
     output_records_again [] j at older done to t e a w = refl
     output_records_again (Whole r ∷ ss) j at older done to t e a w =
         let n : ℕ = length (record_bytes c r) in
         let f : Framed = copied_to c at r in
-        let todo : List Numbered = enumerate_from j (new_links c left (at + n) older ss) in
+        let todo : List Numbered = enumerate_from j (new_links c remaining (at + n) older ss) in
         let some : at < at + n = some_bytes b f t.1 in
-        let none : numbered_at all at ≡ None = ap (λ z. numbered_at z at) e ∙ (behind_low at at done todo (omega arith) a ∙ none_rising at (at + n) todo some (links_rise ss j (at + n) older to t.2)) in
+        let none : numbered_at all at ≡ None = ap (λ z. numbered_at z at) e ∙ (after_low at at done todo (omega arith) a ∙ none_rising at (at + n) todo some (links_rise ss j (at + n) older to t.2)) in
         ap (λ o. cons_option (output_record_by o (whole f) (new f) f) (output_records_in all whole new (frames (at + n) older ss))) none
         ∙ ((λ i. cons_option (output_record_by None (w.0.0 i) (w.0.1 i) f) (output_records_in all whole new (frames (at + n) older ss)))
         ∙ ap (λ z. Whole f ∷ z) (output_records_again ss j (at + n) older done to t.2 e (low_more at (at + n) done (omega arith) a) w.1))
     output_records_again (Rebuilt r x ∷ ss) j at older done to t e a w =
         let n : ℕ = length x in
         let f : Framed = moved_frame at (own_frame x) n in
-        let todo : List Numbered = enumerate_from j (new_links c left (at + n) older ss) in
+        let todo : List Numbered = enumerate_from j (new_links c remaining (at + n) older ss) in
         let some : at < at + n = some_bytes b f t.1 in
-        let none : numbered_at all at ≡ None = ap (λ z. numbered_at z at) e ∙ (behind_low at at done todo (omega arith) a ∙ none_rising at (at + n) todo some (links_rise ss j (at + n) older to t.2)) in
+        let none : numbered_at all at ≡ None = ap (λ z. numbered_at z at) e ∙ (after_low at at done todo (omega arith) a ∙ none_rising at (at + n) todo some (links_rise ss j (at + n) older to t.2)) in
         ap (λ o. cons_option (output_record_by o (whole f) (new f) f) (output_records_in all whole new (frames (at + n) older ss))) none
         ∙ ((λ i. cons_option (output_record_by None (w.0.0 i) (w.0.1 i) f) (output_records_in all whole new (frames (at + n) older ss)))
         ∙ ap (λ z. Rebuilt f x ∷ z) (output_records_again ss j (at + n) older done to t.2 e (low_more at (at + n) done (omega arith) a) w.1))
     output_records_again (Chained i l ∷ ss) j at older done to t e a w =
-        let n : ℕ = length (chained_bytes c left at older i l) in
-        let m : Link = new_link c left at older i l in
-        let todo : List Numbered = enumerate_from (j + 1) (new_links c left (at + n) (Some at) ss) in
+        let n : ℕ = length (chained_bytes c remaining at older i l) in
+        let m : Link = new_link c remaining at older i l in
+        let todo : List Numbered = enumerate_from (j + 1) (new_links c remaining (at + n) (Some at) ss) in
         let some : at < at + n = some_bytes b m.frame t.1 in
-        let found : numbered_at all at ≡ Some (j, m) = ap (λ z. numbered_at z at) e ∙ (behind_low at at done ((j, m) ∷ todo) (omega arith) a ∙ rw (is_eq at at refl) refl) in
+        let found : numbered_at all at ≡ Some (j, m) = ap (λ z. numbered_at z at) e ∙ (after_low at at done ((j, m) ∷ todo) (omega arith) a ∙ rw (is_eq at at refl) refl) in
         let low = low_append (at + n) done (j, m) (low_more at (at + n) done (omega arith) a) some in
         ap (λ o. cons_option (output_record_by o (whole m.frame) (new m.frame) m.frame) (output_records_in all whole new (frames (at + n) (Some at) ss))) found
         ∙ ap (λ z. Chained j m ∷ z) (output_records_again ss (j + 1) (at + n) (Some at) (done ++ ((j, m) ∷ [])) to t.2 (e ∙ sym (append_assoc done ((j, m) ∷ []) todo)) low w.1)
 
   -- What is written stays.
-  in_written : (ss : List OutputRecord) (at : ℕ) (older : Option ℕ) (w : Written) → In (written c left at older ss) w → In ss w.output_record
+  in_written : (ss : List OutputRecord) (at : ℕ) (older : Option ℕ) (w : Written) → In (written c remaining at older ss) w → In ss w.output_record
   in_written [] at older w i = absurd i
   in_written (Whole r ∷ ss) at older w (inl e) = inl (ap (λ z. z.output_record) e)
   in_written (Whole r ∷ ss) at older w (inr i) = inr (in_written ss (at + length (record_bytes c r)) older w i)
   in_written (Rebuilt r x ∷ ss) at older w (inl e) = inl (ap (λ z. z.output_record) e)
   in_written (Rebuilt r x ∷ ss) at older w (inr i) = inr (in_written ss (at + length x) older w i)
   in_written (Chained j l ∷ ss) at older w (inl e) = inl (ap (λ z. z.output_record) e)
-  in_written (Chained j l ∷ ss) at older w (inr i) = inr (in_written ss (at + length (chained_bytes c left at older j l)) (Some at) w i)
+  in_written (Chained j l ∷ ss) at older w (inr i) = inr (in_written ss (at + length (chained_bytes c remaining at older j l)) (Some at) w i)
 
   -- The records of what is written are those of what stays.
-  written_records : (ss : List OutputRecord) (at : ℕ) (older : Option ℕ) → map (λ w. record_of w.output_record) (written c left at older ss) ≡ map record_of ss
+  written_records : (ss : List OutputRecord) (at : ℕ) (older : Option ℕ) → map (λ w. record_of w.output_record) (written c remaining at older ss) ≡ map record_of ss
   written_records [] at older = refl
   written_records (Whole r ∷ ss) at older = ap (λ z. r ∷ z) (written_records ss (at + length (record_bytes c r)) older)
   written_records (Rebuilt r x ∷ ss) at older = ap (λ z. r ∷ z) (written_records ss (at + length x) older)
-  written_records (Chained j l ∷ ss) at older = ap (λ z. l.frame ∷ z) (written_records ss (at + length (chained_bytes c left at older j l)) (Some at))
+  written_records (Chained j l ∷ ss) at older = ap (λ z. l.frame ∷ z) (written_records ss (at + length (chained_bytes c remaining at older j l)) (Some at))
 
 -- A record stays whole by the test, or is built anew.
 whole_output_records : (all : List Numbered) (whole : Framed → Bool) (new : Framed → Option (List ℕ)) (rs : List Framed) (r : Framed) → In (output_records_in all whole new rs) (Whole r) → In rs r × (whole r ≡ true) × (new r ≡ None)
@@ -184,15 +184,15 @@ event_kept p a f i t =
     in_any (λ (e : EventAt). e.record_of.at == f.at) (events_of p) e.0 e.1 (is_eq e.0.record_of.at f.at (ap (λ (z : Framed). z.at) e.2))
 
 module _ (p : Parts) (a : AreParts p) (kept : List EventAt) (are : AreEvents p kept) (good : GoodAnew p.bytes (written_anew p kept)) (marks : List Bool) (b : List ℕ) (s : Leading p kept marks b)
-    (m : Classes) (suits : Suits p kept m) (stands : AllByRecursion (OutputRecordStands p.bytes (left_of p marks) m) (output_records p kept)) (reads : MetadataReads p kept a m) (small : length b < 2 ^ 63) where
+    (m : Classes) (suits : Suits p kept m) (holds : AllByRecursion (IsOutputRecordIn p.bytes (remaining_of p marks) m) (output_records p kept)) (reads : MetadataReads p kept a m) (small : length b < 2 ^ 63) where
   abbrev q : Parts
-  q = new_parts p a kept are good marks b s m suits stands reads
+  q = new_parts p a kept are good marks b s m suits holds reads
 
-  abbrev stand : AreParts q
-  stand = parts_stand p a kept are good marks b s m suits stands reads small
+  abbrev valid : AreParts q
+  valid = parts_are_valid p a kept are good marks b s m suits holds reads small
 
-  abbrev left : List EntryAt
-  left = left_of p marks
+  abbrev remaining : List EntryAt
+  remaining = remaining_of p marks
 
   abbrev ws : List Written
   ws = written_of p kept marks
@@ -205,32 +205,32 @@ module _ (p : Parts) (a : AreParts p) (kept : List EventAt) (are : AreEvents p k
 
   rising : Rising 68 (map (λ w. record_of w.output_record) ws)
   rising =
-      subst (Rising 68) (sym (written_records p.bytes left b (output_records p kept) 68 None))
+      subst (Rising 68) (sym (written_records p.bytes remaining b (output_records p kept) 68 None))
       (output_records_rise (all_links p) (output_records_whole p kept) (written_anew p kept) 68 p.records (rising_of p.bytes 68 68 (length p.bytes) p.records (omega arith) a.records))
 
   -- Where the metadata record becomes in what is written what it became in it.
-  module _ (settles : new_there stand.metadata_record ≡ metadata_new p kept a) where
+  module _ (settles : new_there valid.metadata_record ≡ metadata_new p kept a) where
     -- A record of the output at the offset of its metadata record is the metadata record.
-    pub is_metadata : (f : Framed) → IsRecord b f → f.at ≡ metadata_at b → f ≡ stand.metadata_record
-    is_metadata f i e = record_one b f stand.metadata_record i (all_in (IsRecord b) q.records stand.metadata_record (recorded q stand) (contains_in q.records stand.metadata_record stand.metadata_there.listed)) (e ∙ sym stand.metadata_there.place)
+    pub is_metadata : (f : Framed) → IsRecord b f → f.at ≡ metadata_at b → f ≡ valid.metadata_record
+    is_metadata f i e = record_one b f valid.metadata_record i (all_in (IsRecord b) q.records valid.metadata_record (recorded q valid) (contains_in q.records valid.metadata_record valid.metadata_there.listed)) (e ∙ sym valid.metadata_there.place)
 
     abbrev of_metadata : (r : Framed) → IsRecord p.bytes r → r.at ≡ metadata_at p.bytes → r ≡ a.metadata_record
     of_metadata r i e = record_one p.bytes r a.metadata_record i (metadata_stands p a) (e ∙ sym a.metadata_there.place)
 
     -- What was written of a record that stayed whole is an event, or the metadata record.
-    whole_again : (w : Written) → In ws w → OutputRecordsWhole p.bytes left b (all_links q) output_records_there new_there w
+    whole_again : (w : Written) → In ws w → OutputRecordsWhole p.bytes remaining b (all_links q) output_records_there new_there w
     whole_again w i = by_output_record w.output_record refl
       where
         f : Framed
-        f = new_frame p.bytes left w
+        f = new_frame p.bytes remaining w
 
         listed : In q.records f
-        listed = in_map (new_frame p.bytes left) ws w i
+        listed = in_map (new_frame p.bytes remaining) ws w i
 
         stands_there : IsRecord b f
-        stands_there = all_in (IsRecord b) q.records f (recorded q stand) listed
+        stands_there = all_in (IsRecord b) q.records f (recorded q valid) listed
 
-        written_at : (s : OutputRecord) → (frame_by s w.at (length (written_bytes p.bytes left w))).at ≡ w.at
+        written_at : (s : OutputRecord) → (frame_by s w.at (length (written_bytes p.bytes remaining w))).at ≡ w.at
         written_at (Whole r) = refl
         written_at (Rebuilt r x) = refl
         written_at (Chained j l) = refl
@@ -247,7 +247,7 @@ module _ (p : Parts) (a : AreParts p) (kept : List EventAt) (are : AreEvents p k
         not_metadata : is_event_class m f.type_id ≡ true → (t : Bool) → (f.at == metadata_at b) ≡ t → new_there f ≡ None
         not_metadata e true y =
             let k : f.at ≡ metadata_at b = grind (arith, nat_tests) in
-            let z : f.type_id ≡ 0 = ap (λ (x : Framed). x.type_id) (is_metadata f stands_there k) ∙ stand.metadata_there.type_is in
+            let z : f.type_id ≡ 0 = ap (λ (x : Framed). x.type_id) (is_metadata f stands_there k) ∙ valid.metadata_there.type_is in
             let u : is_event_class m f.type_id ≡ false = ap (is_event_class m) z ∙ no_metadata_event m in
             let x : true ≡ false = sym e ∙ u in
             cc
@@ -255,27 +255,27 @@ module _ (p : Parts) (a : AreParts p) (kept : List EventAt) (are : AreEvents p k
 
         by_cause : (r : Framed) → w.output_record ≡ Whole r → In p.records r → (u v : Bool) → is_kept kept r ≡ u → (r.at == metadata_at p.bytes) ≡ v → (u || v) ≡ true → written_anew p kept r ≡ None → (output_records_there f ≡ true) × (new_there f ≡ None)
         by_cause r e o true v x y z n =
-            let t : is_event_class m f.type_id ≡ true = ap (λ z. is_event_class m (frame_by z w.at (length (written_bytes p.bytes left w))).type_id) e ∙ (kept_is_event p a kept are good marks b s m suits stands reads r o x).0 in
-            let u : is_kept (events_of q) f ≡ true = event_kept q stand f listed t in
+            let t : is_event_class m f.type_id ≡ true = ap (λ z. is_event_class m (frame_by z w.at (length (written_bytes p.bytes remaining w))).type_id) e ∙ (kept_is_event p a kept are good marks b s m suits holds reads r o x).0 in
+            let u : is_kept (events_of q) f ≡ true = event_kept q valid f listed t in
             (ap (λ z. z || (f.at == metadata_at b)) u, not_metadata t (f.at == metadata_at b) refl)
         by_cause r e o false true x y z n =
             let h : r.at ≡ metadata_at p.bytes = grind (arith, nat_tests) in
             at_metadata r (all_in (IsRecord p.bytes) p.records r (recorded p a) o) (ap (λ z. (record_of z).at) e) h None n
         by_cause r e o false false x y z n = cc
 
-        by_output_record : (t : OutputRecord) → w.output_record ≡ t → Stays p.bytes left b (all_links q) output_records_there new_there t f
+        by_output_record : (t : OutputRecord) → w.output_record ≡ t → Stays p.bytes remaining b (all_links q) output_records_there new_there t f
         by_output_record (Chained j l) e = tt
         by_output_record (Whole r) e =
-            let x = whole_output_records (all_links p) (output_records_whole p kept) (written_anew p kept) p.records r (subst (In (output_records p kept)) e (in_written p.bytes left b (output_records p kept) 68 None w i)) in
+            let x = whole_output_records (all_links p) (output_records_whole p kept) (written_anew p kept) p.records r (subst (In (output_records p kept)) e (in_written p.bytes remaining b (output_records p kept) 68 None w i)) in
             by_cause r e x.0 (is_kept kept r) (r.at == metadata_at p.bytes) refl refl x.1 x.2
         by_output_record (Rebuilt r y) e =
-            let x = anew_output_records (all_links p) (output_records_whole p kept) (written_anew p kept) p.records r y (subst (In (output_records p kept)) e (in_written p.bytes left b (output_records p kept) 68 None w i)) in
+            let x = anew_output_records (all_links p) (output_records_whole p kept) (written_anew p kept) p.records r y (subst (In (output_records p kept)) e (in_written p.bytes remaining b (output_records p kept) 68 None w i)) in
             let t = anew_only p kept r y x.1 in
             let h : r.at ≡ metadata_at p.bytes = grind (arith, nat_tests) in
             at_metadata r (all_in (IsRecord p.bytes) p.records r (recorded p a) x.0) (ap (λ z. (record_of z).at) e) h (Some y) x.1
 
     -- So all of it stays.
-    pub output_records_settled : output_records q (events_of q) ≡ new_output_records p.bytes left 0 68 None (output_records p kept)
+    pub output_records_settled : output_records q (events_of q) ≡ new_output_records p.bytes remaining 0 68 None (output_records p kept)
     output_records_settled =
-        output_records_again p.bytes left b (all_links q) output_records_there new_there (output_records p kept) 0 68 None [] (length b) stand.records (ap (enumerate_from 0) (reverse-reverse (links p kept marks))) tt
-        (all_each (OutputRecordsWhole p.bytes left b (all_links q) output_records_there new_there) ws whole_again)
+        output_records_again p.bytes remaining b (all_links q) output_records_there new_there (output_records p kept) 0 68 None [] (length b) valid.records (ap (enumerate_from 0) (reverse-reverse (links p kept marks))) tt
+        (all_each (OutputRecordsWhole p.bytes remaining b (all_links q) output_records_there new_there) ws whole_again)

@@ -9,7 +9,7 @@ use Rattle.std.proofs.Common.{ap, arith, refl, sym, ◌∙◌, subst}
 use Rattle.std.proofs.lemmas.Bool.Decides.{nat_tests}
 use Rattle.jfr_layout.specs.Classes.{Class, Classes, Sound, Agree, find_class, has_id, is_event_class, extends_event}
 use Rattle.jfr_frame.specs.declared.framed.Framed.{Framed}
-use Rattle.jfr_meta.specs.Trees.{Tree, place_of}
+use Rattle.jfr_meta.specs.Trees.{Tree, element_offset}
 use Rattle.jfr_meta.specs.Described.{class_elements, class_flaws, described}
 use Rattle.jfr_meta.specs.Written.{IsText}
 use Rattle.jfr_meta.proofs.Depths.{shallow}
@@ -97,7 +97,7 @@ module _ (p : Parts) (a : AreParts p) (kept : List EventAt) where
 
   pub d : Describes p.body.strings (class_elements p.body.strings p.body.root) p.classes
   unfolding described
-  d = told_well p.body.strings (place_of p.body.root) (class_elements p.body.strings p.body.root) p.classes a.metadata.classes
+  d = told_well p.body.strings (element_offset p.body.root) (class_elements p.body.strings p.body.root) p.classes a.metadata.classes
 
   abbrev ts : List Tree
   ts = d.elements

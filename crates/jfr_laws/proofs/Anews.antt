@@ -22,11 +22,11 @@ use Rattle.jfr_chunk.specs.Laws.{AreEvents, SameRecords}
 use Rattle.jfr_chunk.proofs.AllLaws.{all_in}
 use Rattle.jfr_worklist.specs.Members.{In}
 use Rattle.jfr_worklist.proofs.Members.{contains_in, in_contains}
-use Rattle.jfr_chunk.proofs.StandingLaws.{standing}
+use Rattle.jfr_chunk.proofs.HasNodesLaws.{has_nodes}
 use Rattle.jfr_chunk.proofs.TestLaws.{is_eq}
 use Rattle.jfr_layout.specs.Staying.{staying}
 use Rattle.jfr_meta.specs.Slimmed.{slim_body}
-use Rattle.jfr_chunk.specs.Metas.{used_by, stays_in, slim_of, rebuilt, metadata_size, classes_left}
+use Rattle.jfr_chunk.specs.Metas.{used_by, stays_in, slim_of, rebuilt, metadata_size, remaining_classes}
 use Rattle.jfr_chunk.specs.Scrub.{written_anew}
 use Rattle.jfr_laws.proofs.Agrees.{agree_on_event}
 use Rattle.jfr_laws.proofs.Anew.{own_bytes}
@@ -47,7 +47,7 @@ use Rattle.jfr_laws.proofs.Whole.{metadata_new, shown_body, MetadataReads}
 
 pub record Anew (p : Parts) (a : AreParts p) (kept : List EventAt) : Type 0 where
   pub classes : Classes
-  pub left : classes ≡ classes_left p kept
+  pub remaining : classes ≡ remaining_classes p kept
   pub suits : Suits p kept classes
   pub reads : MetadataReads p kept a classes
 
@@ -76,7 +76,7 @@ module _ (p : Parts) (a : AreParts p) (kept : List EventAt) (are : AreEvents p k
       in_passes (λ (r : Framed). is_event_class p.classes r.type_id) p.records e.record_of (subst (λ z. In z e.record_of) (event_records_of p a) (in_map (λ (e : EventAt). e.record_of) (events_of p) e j))
 
   suits_all : Suits p kept p.classes
-  suits_all = record { sound = (standing p a).sound; agree = λ id e. agree_on_event p.classes id (standing p a).sound e; before = λ id e. e; event = is_event }
+  suits_all = record { sound = (has_nodes p a).sound; agree = λ id e. agree_on_event p.classes id (has_nodes p a).sound e; before = λ id e. e; event = is_event }
 
   abbrev stays : ℕ → Bool
   stays = stays_in p kept
@@ -106,7 +106,7 @@ module _ (p : Parts) (a : AreParts p) (kept : List EventAt) (are : AreEvents p k
   new_is = ap (λ t. if t then rebuilt p kept a.metadata_record.size else None) (is_eq a.metadata_record.at (metadata_at p.bytes) a.metadata_there.place)
 
   -- The class of a kept event is as it was.
-  pub left_found : (e : EventAt) → In kept e → find_class (classes_left p kept) e.record_of.type_id ≡ find_class p.classes e.record_of.type_id
+  pub left_found : (e : EventAt) → In kept e → find_class (remaining_classes p kept) e.record_of.type_id ≡ find_class p.classes e.record_of.type_id
   left_found e i = by_new (rebuilt p kept (metadata_size p))
     where
       by_new : (w : Option (List ℕ)) → find_class (option_map_or (λ x. staying stays p.classes) w p.classes) e.record_of.type_id ≡ find_class p.classes e.record_of.type_id
@@ -138,13 +138,13 @@ module _ (p : Parts) (a : AreParts p) (kept : List EventAt) (are : AreEvents p k
       by_new : (w : Option (List ℕ)) → rebuilt p kept a.metadata_record.size ≡ w → Anew p a kept
       by_new None e = record {
         classes = p.classes;
-        left = sym (ap (λ z. option_map_or (λ x. staying stays p.classes) (rebuilt p kept z) p.classes) (size_is p a) ∙ ap (λ o. option_map_or (λ x. staying stays p.classes) o p.classes) e);
+        remaining = sym (ap (λ z. option_map_or (λ x. staying stays p.classes) (rebuilt p kept z) p.classes) (size_is p a) ∙ ap (λ o. option_map_or (λ x. staying stays p.classes) o p.classes) e);
         suits = suits_all;
         reads = subst (λ w. Reading w p.classes) (sym (new_is ∙ e)) (λ b place h. metadata_copied p.bytes b a.metadata_record place p.body p.classes (metadata_stands p a) h a.metadata);
       }
       by_new (Some x) e = record {
         classes = staying stays p.classes;
-        left = sym (ap (λ z. option_map_or (λ x. staying stays p.classes) (rebuilt p kept z) p.classes) (size_is p a) ∙ ap (λ o. option_map_or (λ x. staying stays p.classes) o p.classes) e);
+        remaining = sym (ap (λ z. option_map_or (λ x. staying stays p.classes) (rebuilt p kept z) p.classes) (size_is p a) ∙ ap (λ o. option_map_or (λ x. staying stays p.classes) o p.classes) e);
         suits = suits_left;
         reads = subst (λ w. Reading w (staying stays p.classes)) (sym (new_is ∙ e)) (λ b place h. reads_anew x (is_anew p kept a.metadata_record.size x e) b place h);
       }

@@ -26,13 +26,13 @@ use Rattle.jfr_chunk.specs.Scrub.{groups_of}
 use Rattle.jfr_chunk.proofs.AllLaws.{all_append}
 use Rattle.jfr_chunk.proofs.TestLaws.{is_eq}
 use Rattle.jfr_laws.proofs.Marks.{all_marked, marked_append}
-use Rattle.jfr_laws.specs.InChunk.{EntryStands, GroupStands, LinkStands, Constants, Pools, BodyStands}
-use Rattle.jfr_laws.proofs.Standing.{body_stands}
+use Rattle.jfr_laws.specs.InChunk.{IsEntryIn, IsGroupIn, IsLinkIn, Constants, Pools, BodyStands}
+use Rattle.jfr_laws.proofs.InChunk.{body_stands}
 use Rattle.jfr_laws.proofs.Groups.{groups_stand}
 use Rattle.jfr_laws.proofs.Room.{int_room, have_room}
 
 -- A link whose body was read.
-link_stands : (c : List ℕ) (k : Classes) (rs : List Framed) (l : Link) (pools : List PoolAt) → IsRecord c l.frame → IsLink c rs l → (s : BodyStands c k (record_end l.frame) l.frame.body pools) → LinkStands c l × (s.delta_end ≡ l.delta_end)
+link_stands : (c : List ℕ) (k : Classes) (rs : List Framed) (l : Link) (pools : List PoolAt) → IsRecord c l.frame → IsLink c rs l → (s : BodyStands c k (record_end l.frame) l.frame.body pools) → IsLinkIn c l × (s.delta_end ≡ l.delta_end)
 link_stands c k rs l pools r i s =
     let h = i.head in
     let d = h.5 in
@@ -64,21 +64,21 @@ link_stands c k rs l pools r i s =
     )
 
 -- The entries of pools that are spelled by bytes.
-constants_entries : (c : List ℕ) (k : Classes) (checkpoint number class at : ℕ) (xs : List Constant) (to : ℕ) → pool_check k class ≡ None → Constants c k class at xs to → AllByRecursion (EntryStands c k) (map (entry_of checkpoint number class) xs)
+constants_entries : (c : List ℕ) (k : Classes) (checkpoint number class at : ℕ) (xs : List Constant) (to : ℕ) → pool_check k class ≡ None → Constants c k class at xs to → AllByRecursion (IsEntryIn c k) (map (entry_of checkpoint number class) xs)
 constants_entries c k checkpoint number class at [] to n s = tt
 constants_entries c k checkpoint number class at (x ∷ xs) to n s =
     (record { value = x.value; known = n; key = s.0.key; order = s.0.order; within = s.0.within; exact = s.0.exact }, constants_entries c k checkpoint number class x.end xs to n s.1)
 
-pools_entries : (c : List ℕ) (k : Classes) (checkpoint number at : ℕ) (pools : List PoolAt) (to : ℕ) → Pools c k at pools to → AllByRecursion (EntryStands c k) (entries_from checkpoint number pools)
+pools_entries : (c : List ℕ) (k : Classes) (checkpoint number at : ℕ) (pools : List PoolAt) (to : ℕ) → Pools c k at pools to → AllByRecursion (IsEntryIn c k) (entries_from checkpoint number pools)
 pools_entries c k checkpoint number at [] to s = tt
 pools_entries c k checkpoint number at (p ∷ ps) to s =
-    all_append (EntryStands c k) (map (entry_of checkpoint number p.class) p.constants) (entries_from checkpoint (number + 1) ps)
+    all_append (IsEntryIn c k) (map (entry_of checkpoint number p.class) p.constants) (entries_from checkpoint (number + 1) ps)
     (constants_entries c k checkpoint number p.class s.1.first p.constants s.0 s.1.known s.1.constants) (pools_entries c k checkpoint (number + 1) s.0 ps to s.2)
 
 -- What is needed to write a checkpoint with these groups.
 pub record CanWrite (c : List ℕ) (k : Classes) (l : Link) (gs : List Group) : Type 0 where
-  pub link : LinkStands c l
-  pub groups : AllByRecursion (GroupStands c k) gs
+  pub link : IsLinkIn c l
+  pub groups : AllByRecursion (IsGroupIn c k) gs
   pub room : l.delta_end + 1 + length (spell (length gs)) + length (flat_map (group_bytes c) gs) ≤ record_end l.frame
 
 -- A checkpoint that was read, with those of its entries that are marked.
@@ -95,7 +95,7 @@ one_can c k rs marks number l pools r h b =
     let f : s.delta_end ≡ l.delta_end = ls.1 in
     record {
       link = ls.0;
-      groups = groups_stand c k (marked marks es) (all_marked (EntryStands c k) marks es (pools_entries c k number 0 s.first pools end s.rest));
+      groups = groups_stand c k (marked marks es) (all_marked (IsEntryIn c k) marks es (pools_entries c k number 0 s.first pools end s.rest));
       room = omega (arith, m.bytes);
     }
 
@@ -207,27 +207,27 @@ pub checkpoints_can : (c : List ℕ) (k : Classes) (rs : List Framed) (marks : L
     → AllByRecursion (λ (m : ℕ × Link). CanWrite c k m.1 (groups_of (marked marks es) m.0)) (enumerate_from 0 ls)
 checkpoints_can c k rs marks ls es h a = can_behind c k rs marks es 0 ls [] es h (record { entries = a; split = refl; earlier = λ n i. tt })
 
-all_behind : (c : List ℕ) (k : Classes) (marks : List Bool) (whole : List EntryAt) (number : ℕ) (ls : List Link) (before es : List EntryAt) → Behind c k whole number ls before es
+all_after : (c : List ℕ) (k : Classes) (marks : List Bool) (whole : List EntryAt) (number : ℕ) (ls : List Link) (before es : List EntryAt) → Behind c k whole number ls before es
     → flat_map (λ (m : ℕ × Link). those_of m.0 (marked marks whole)) (enumerate_from number ls) ≡ marked (drop (length before) marks) es
-all_behind c k marks whole number [] before es a = sym (ap (marked (drop (length before) marks)) a.entries ∙ none_marked (drop (length before) marks))
+all_after c k marks whole number [] before es a = sym (ap (marked (drop (length before) marks)) a.entries ∙ none_marked (drop (length before) marks))
   where
     none_marked : (ms : List Bool) → marked {X = EntryAt} ms [] ≡ []
     none_marked [] = refl
     none_marked (m ∷ ms) = refl
-all_behind c k marks whole number (l ∷ ls) before es a =
+all_after c k marks whole number (l ∷ ls) before es a =
     let block : List EntryAt = entries_from number 0 a.entries.0 in
     let more : List Bool = drop (length before) marks in
     let later : List EntryAt = flat_map (λ (m : ℕ × Link). those_of m.0 (marked marks whole)) (enumerate_from (number + 1) ls) in
     let e : drop (length (before ++ block)) marks ≡ drop (length block) more = ap (λ n. drop n marks) (length-append before block) ∙ sym (drop-drop (length block) (length before) marks) in
     let r : later ≡ marked (drop (length block) more) a.entries.2 =
-    all_behind c k marks whole (number + 1) ls (before ++ block) a.entries.2 (behind_next c k whole number l ls before es a) ∙ ap (λ z. marked z a.entries.2) e in
+    all_after c k marks whole (number + 1) ls (before ++ block) a.entries.2 (behind_next c k whole number l ls before es a) ∙ ap (λ z. marked z a.entries.2) e in
     ap (λ z. z ++ later) (behind_block c k whole marks number l ls before es a)
     ∙ (ap (λ z. marked more block ++ z) r ∙ (sym (marked_append more block a.entries.2) ∙ ap (marked more) (sym a.entries.3)))
 
 -- Those of one checkpoint after another are all that are marked.
 pub all_numbers : (c : List ℕ) (k : Classes) (marks : List Bool) (ls : List Link) (es : List EntryAt) → AreEntries c k 0 ls es
     → flat_map (λ (m : ℕ × Link). filter (λ e. e.checkpoint == m.0) (marked marks es)) (enumerate_from 0 ls) ≡ marked marks es
-all_numbers c k marks ls es a = all_behind c k marks es 0 ls [] es (record { entries = a; split = refl; earlier = λ n i. tt })
+all_numbers c k marks ls es a = all_after c k marks es 0 ls [] es (record { entries = a; split = refl; earlier = λ n i. tt })
 
 -- Entries of one checkpoint have its number.
 pub have_number : (n : ℕ) (es : List EntryAt) → AllByRecursion (λ e. e.checkpoint ≡ n) (filter (λ e. e.checkpoint == n) es)
@@ -246,7 +246,7 @@ no_way : (at to w : ℕ) → to < at → pos at +ℤ pos w ≡ pos to → ⊥
 no_way at to w h e = omega (arith, ints)
 
 -- A delta that leads to an earlier place took nine bytes.
-pub nine_of : (c : List ℕ) (l : Link) (to : ℕ) → LinkStands c l → StepsTo l.frame.at l.delta to → l.delta_end ≡ l.delta_at + 9
+pub nine_of : (c : List ℕ) (l : Link) (to : ℕ) → IsLinkIn c l → StepsTo l.frame.at l.delta to → l.delta_end ≡ l.delta_at + 9
 nine_of c l to s t = by_size (cases_lt s.word 72057594037927936)
   where
     by_size : (s.word < 72057594037927936) ⊎ (72057594037927936 ≤ s.word) → l.delta_end ≡ l.delta_at + 9

@@ -21,7 +21,7 @@ use Rattle.jfr_chunk.specs.Reach.{marked}
 use Rattle.jfr_chunk.specs.Written.{Group, entry_bytes, group_bytes}
 use Rattle.jfr_laws.specs.Laws.{IsCopied, AreCopied}
 use Rattle.jfr_laws.proofs.Marks.{rank, rank_get, rank_order, Ranked, ranked}
-use Rattle.jfr_laws.specs.InChunk.{EntryStands, GroupStands}
+use Rattle.jfr_laws.specs.InChunk.{IsEntryIn, IsGroupIn}
 use Rattle.jfr_laws.proofs.ReadBack.{placed, placed_group, entry_held}
 
 -- An entry of c and one of b have one class, key and checkpoint, and equal value bytes.
@@ -40,10 +40,10 @@ each_append R (x ∷ xs) (y ∷ ys) us vs a b = (a.0, each_append R xs ys us vs 
 
 module _ (c : List ℕ) (k : Classes) (b : List ℕ) (end : ℕ) (checkpoint : ℕ) where
   -- An entry that is read back, and those of a pool.
-  entry_same : (e : EntryAt) (pool class at : ℕ) → EntryStands c k e → e.class ≡ class → e.checkpoint ≡ checkpoint → Holds b end at (entry_bytes c e) → IsCopy c b e (entry_of checkpoint pool class (placed c k at e))
+  entry_same : (e : EntryAt) (pool class at : ℕ) → IsEntryIn c k e → e.class ≡ class → e.checkpoint ≡ checkpoint → Holds b end at (entry_bytes c e) → IsCopy c b e (entry_of checkpoint pool class (placed c k at e))
   entry_same e pool class at s w n h = record { class = w; key = refl; checkpoint = n; value = (entry_held c k b end at e s h).value }
 
-  entries_same : (es : List EntryAt) (pool class at : ℕ) → AllByRecursion (λ e. EntryStands c k e × (e.class ≡ class)) es → AllByRecursion (λ e. e.checkpoint ≡ checkpoint) es → Holds b end at (flat_map (entry_bytes c) es)
+  entries_same : (es : List EntryAt) (pool class at : ℕ) → AllByRecursion (λ e. IsEntryIn c k e × (e.class ≡ class)) es → AllByRecursion (λ e. e.checkpoint ≡ checkpoint) es → Holds b end at (flat_map (entry_bytes c) es)
       → Each (IsCopy c b) es (map (entry_of checkpoint pool class) (placed_each (entry_bytes c) (placed c k) at es))
   entries_same [] pool class at s n h = tt
   entries_same (e ∷ es) pool class at s n h =
@@ -55,7 +55,7 @@ module _ (c : List ℕ) (k : Classes) (b : List ℕ) (end : ℕ) (checkpoint : �
   split_all (x ∷ xs) ys a = let i = split_all xs ys a.1 in ((a.0, i.0), i.1)
 
   -- The entries of the pools that are read are those of the groups that were written.
-  pub groups_same : (gs : List Group) (pool at : ℕ) → AllByRecursion (GroupStands c k) gs → AllByRecursion (λ e. e.checkpoint ≡ checkpoint) (flat_map (λ g. g.entries) gs) → Holds b end at (flat_map (group_bytes c) gs)
+  pub groups_same : (gs : List Group) (pool at : ℕ) → AllByRecursion (IsGroupIn c k) gs → AllByRecursion (λ e. e.checkpoint ≡ checkpoint) (flat_map (λ g. g.entries) gs) → Holds b end at (flat_map (group_bytes c) gs)
       → Each (IsCopy c b) (flat_map (λ g. g.entries) gs) (entries_from checkpoint pool (placed_each (group_bytes c) (placed_group c k) at gs))
   groups_same [] pool at s n h = tt
   groups_same (g ∷ gs) pool at s n h =
@@ -106,7 +106,7 @@ marked_force marks es target n e m =
     (last_is (marked marks es) target (rank marks n)).1
     (record {
       entry = i.entry;
-      stands = rank_get marks es n m ∙ i.stands;
+      holds = rank_get marks es n m ∙ i.holds;
       has = i.has;
       last = λ later other l g a. last i later other l g a;
     })

@@ -15,7 +15,7 @@ use Rattle.jfr_chunk.proofs.TestLaws.{is_eq}
 use Rattle.jfr_laws.proofs.Order.{Numbered, numbered_at, output_record_in, output_records_in, found_numbered}
 use Rattle.jfr_laws.proofs.Copied.{copied_to}
 use Rattle.jfr_laws.proofs.ReadBack.{moved_frame}
-use Rattle.jfr_laws.proofs.OutputRecords.{Deltas, own_frame, chained_bytes, bytes_from, new_frame, OutputRecordStands}
+use Rattle.jfr_laws.proofs.OutputRecords.{Deltas, own_frame, chained_bytes, bytes_from, new_frame, IsOutputRecordIn}
 
 -- What is written for a record was at the record's offset.
 pub output_record_place : (all : List Numbered) (whole : Framed → Bool) (new : Framed → Option (List ℕ)) (r : Framed) (s : OutputRecord) → output_record_in all whole new r ≡ Some s → (record_of s).at ≡ r.at
@@ -44,28 +44,28 @@ abbrev pub shown_frame : List ℕ → Option (List ℕ) → Framed → ℕ → F
 shown_frame c None f at = copied_to c at f
 shown_frame c (Some x) f at = moved_frame at (own_frame x) (length x)
 
-module _ (c : List ℕ) (left : List EntryAt) (k : Classes) (b : List ℕ) where
+module _ (c : List ℕ) (remaining : List EntryAt) (k : Classes) (b : List ℕ) where
   -- The record is at an offset in the output, to which its old offset leads.
   pub record Found (f : Framed) (w : Option (List ℕ)) (at : ℕ) (ws : List Written) : Type 0 where
     pub place : ℕ
     pub from : at ≤ place
     pub held : Holds b (length b) place (shown_bytes c w f)
     pub leads : moved ws f.at ≡ place
-    pub listed : In (map (new_frame c left) ws) (shown_frame c w f place)
+    pub listed : In (map (new_frame c remaining) ws) (shown_frame c w f place)
 
   module _ (all : List Numbered) (whole : Framed → Bool) (new : Framed → Option (List ℕ)) (f : Framed) (f_is : IsRecord c f) (no_link : numbered_at all f.at ≡ None) (output_records : whole f ≡ true) where
-    abbrev Left : List Framed → List OutputRecord
-    Left rs = output_records_in all whole new rs
+    abbrev RecordsAfter : List Framed → List OutputRecord
+    RecordsAfter rs = output_records_in all whole new rs
 
     -- It is the first that is written.
-    found_here : (w : Option (List ℕ)) (rest : List OutputRecord) (at : ℕ) (older : Option ℕ) → Holds b (length b) at (bytes_from c left at older (shown w f ∷ rest)) → Found f w at (written c left at older (shown w f ∷ rest))
+    found_here : (w : Option (List ℕ)) (rest : List OutputRecord) (at : ℕ) (older : Option ℕ) → Holds b (length b) at (bytes_from c remaining at older (shown w f ∷ rest)) → Found f w at (written c remaining at older (shown w f ∷ rest))
     found_here None rest at older h =
         let n : ℕ = length (record_bytes c f) in
-        let p = holds_parts b (length b) at (record_bytes c f) (bytes_from c left (at + n) older rest) h in
+        let p = holds_parts b (length b) at (record_bytes c f) (bytes_from c remaining (at + n) older rest) h in
         record { place = at; from = omega arith; held = p.0; leads = rw (is_eq f.at f.at refl) refl; listed = inl refl }
     found_here (Some x) rest at older h =
         let n : ℕ = length x in
-        let p = holds_parts b (length b) at x (bytes_from c left (at + n) older rest) h in
+        let p = holds_parts b (length b) at x (bytes_from c remaining (at + n) older rest) h in
         record { place = at; from = omega arith; held = p.0; leads = rw (is_eq f.at f.at refl) refl; listed = inl refl }
 
     -- It is written after another.
@@ -80,13 +80,13 @@ module _ (c : List ℕ) (left : List EntryAt) (k : Classes) (b : List ℕ) where
     shown_is None false w e g = cc
     shown_is (Some l) t w e g = cc
 
-    pub found_back : (rs : List Framed) (at : ℕ) (older : Option ℕ) → AllByRecursion (IsRecord c) rs → In rs f → AllByRecursion (OutputRecordStands c left k) (Left rs) → Deltas (is_some older) (Left rs)
-        → Holds b (length b) at (bytes_from c left at older (Left rs)) → Found f (new f) at (written c left at older (Left rs))
+    pub found_back : (rs : List Framed) (at : ℕ) (older : Option ℕ) → AllByRecursion (IsRecord c) rs → In rs f → AllByRecursion (IsOutputRecordIn c remaining k) (RecordsAfter rs) → Deltas (is_some older) (RecordsAfter rs)
+        → Holds b (length b) at (bytes_from c remaining at older (RecordsAfter rs)) → Found f (new f) at (written c remaining at older (RecordsAfter rs))
     found_back [] at older a i s d h = absurd i
     found_back (r ∷ rs) at older a i s d h = by_place (r.at == f.at) refl i (λ at older i s d h. found_back rs at older a.1 i s d h) (output_record_in all whole new r) refl s d h
       where
         Later : Type 0
-        Later = (at : ℕ) (older : Option ℕ) → In rs f → AllByRecursion (OutputRecordStands c left k) (Left rs) → Deltas (is_some older) (Left rs) → Holds b (length b) at (bytes_from c left at older (Left rs)) → Found f (new f) at (written c left at older (Left rs))
+        Later = (at : ℕ) (older : Option ℕ) → In rs f → AllByRecursion (IsOutputRecordIn c remaining k) (RecordsAfter rs) → Deltas (is_some older) (RecordsAfter rs) → Holds b (length b) at (bytes_from c remaining at older (RecordsAfter rs)) → Found f (new f) at (written c remaining at older (RecordsAfter rs))
 
         same_test : (x y z : ℕ) → (x == y) ≡ false → z ≡ x → (z == y) ≡ false
         same_test x y z h g = rw g h
@@ -96,24 +96,24 @@ module _ (c : List ℕ) (left : List EntryAt) (k : Classes) (b : List ℕ) where
         behind t (inl e) = let u : (r.at == f.at) ≡ true = is_eq r.at f.at (ap (λ (z : Framed). z.at) e) in cc
 
         by_place : (t : Bool) → (r.at == f.at) ≡ t → In (r ∷ rs) f → Later → (o : Option OutputRecord) → output_record_in all whole new r ≡ o
-            → AllByRecursion (OutputRecordStands c left k) (cons_option o (Left rs)) → Deltas (is_some older) (cons_option o (Left rs)) → Holds b (length b) at (bytes_from c left at older (cons_option o (Left rs)))
-            → Found f (new f) at (written c left at older (cons_option o (Left rs)))
+            → AllByRecursion (IsOutputRecordIn c remaining k) (cons_option o (RecordsAfter rs)) → Deltas (is_some older) (cons_option o (RecordsAfter rs)) → Holds b (length b) at (bytes_from c remaining at older (cons_option o (RecordsAfter rs)))
+            → Found f (new f) at (written c remaining at older (cons_option o (RecordsAfter rs)))
         by_place true t i later o q s d h =
             let p : r.at ≡ f.at = grind (arith, nat_tests) in
             let rf : r ≡ f = record_one c r f a.0 f_is p in
             let w : output_record_in all whole new f ≡ Some (shown (new f) f) = shown_is (numbered_at all f.at) (whole f) (new f) no_link output_records in
             let e : o ≡ Some (shown (new f) f) = sym q ∙ (ap (output_record_in all whole new) rf ∙ w) in
-            subst (λ z. Found f (new f) at (written c left at older (cons_option z (Left rs)))) (sym e) (found_here (new f) (Left rs) at older (subst (λ z. Holds b (length b) at (bytes_from c left at older (cons_option z (Left rs)))) e h))
+            subst (λ z. Found f (new f) at (written c remaining at older (cons_option z (RecordsAfter rs)))) (sym e) (found_here (new f) (RecordsAfter rs) at older (subst (λ z. Holds b (length b) at (bytes_from c remaining at older (cons_option z (RecordsAfter rs)))) e h))
         by_place false t i later None q s d h = later at older (behind t i) s d h
         by_place false t i later (Some (Whole x)) q s d h =
             let n : ℕ = length (record_bytes c x) in
-            let p = holds_parts b (length b) at (record_bytes c x) (bytes_from c left (at + n) older (Left rs)) h in
-            found_later (new f) (Whole x) (written c left (at + n) older (Left rs)) at n older (same_test r.at f.at x.at t (output_record_place all whole new r (Whole x) q)) (later (at + n) older (behind t i) s.1 d p.1)
+            let p = holds_parts b (length b) at (record_bytes c x) (bytes_from c remaining (at + n) older (RecordsAfter rs)) h in
+            found_later (new f) (Whole x) (written c remaining (at + n) older (RecordsAfter rs)) at n older (same_test r.at f.at x.at t (output_record_place all whole new r (Whole x) q)) (later (at + n) older (behind t i) s.1 d p.1)
         by_place false t i later (Some (Rebuilt x y)) q s d h =
             let n : ℕ = length y in
-            let p = holds_parts b (length b) at y (bytes_from c left (at + n) older (Left rs)) h in
-            found_later (new f) (Rebuilt x y) (written c left (at + n) older (Left rs)) at n older (same_test r.at f.at x.at t (output_record_place all whole new r (Rebuilt x y) q)) (later (at + n) older (behind t i) s.1 d p.1)
+            let p = holds_parts b (length b) at y (bytes_from c remaining (at + n) older (RecordsAfter rs)) h in
+            found_later (new f) (Rebuilt x y) (written c remaining (at + n) older (RecordsAfter rs)) at n older (same_test r.at f.at x.at t (output_record_place all whole new r (Rebuilt x y) q)) (later (at + n) older (behind t i) s.1 d p.1)
         by_place false t i later (Some (Chained j l)) q s d h =
-            let n : ℕ = length (chained_bytes c left at older j l) in
-            let p = holds_parts b (length b) at (chained_bytes c left at older j l) (bytes_from c left (at + n) (Some at) (Left rs)) h in
-            found_later (new f) (Chained j l) (written c left (at + n) (Some at) (Left rs)) at n older (same_test r.at f.at l.frame.at t (output_record_place all whole new r (Chained j l) q)) (later (at + n) (Some at) (behind t i) s.1 d.1 p.1)
+            let n : ℕ = length (chained_bytes c remaining at older j l) in
+            let p = holds_parts b (length b) at (chained_bytes c remaining at older j l) (bytes_from c remaining (at + n) (Some at) (RecordsAfter rs)) h in
+            found_later (new f) (Chained j l) (written c remaining (at + n) (Some at) (RecordsAfter rs)) at n older (same_test r.at f.at l.frame.at t (output_record_place all whole new r (Chained j l) q)) (later (at + n) (Some at) (behind t i) s.1 d.1 p.1)

@@ -3,7 +3,7 @@ use Rattle.std.specs.Prelude.{◌≡◌, ℕ, ◌+◌, ◌-◌, ◌≤◌, List,
 use Rattle.std.proofs.Common.{ap, arith, refl, sym, ◌∙◌, subst}
 use Rattle.jfr_base.specs.Formats.{Got, Format, Done, Stop, Int, Byte, Run, Here, Refuse, Reads, run}
 use Rattle.jfr_base.proofs.AlikeLaws.{Alike, Each}
-use Rattle.jfr_base.proofs.Exact.{Says, run_says}
+use Rattle.jfr_base.proofs.Exact.{ReadsOrFails, run_reads_or_fails}
 use Rattle.jfr_base.proofs.FreeLaws.{PlaceFree, reads_exact}
 use Rattle.jfr_base.proofs.Ranges.{range_split, range_length}
 use Rattle.jfr_base.proofs.RunLaws.{Stands, exact_run}
@@ -31,7 +31,7 @@ free_alike (Refuse why) p = tt
 pub free_run : {A : Type 0} (f : Format A) → PlaceFree f → (x y : List ℕ) (at end from to : ℕ) → at ≤ end → end ≤ length x → from ≤ to → to ≤ length y → slice_range x at end ≡ slice_range y from to
     → (g : Got A) → run f x end at ≡ Ok g → (q : ℕ) × (run f y to from ≡ Ok (record { value = g.value; place = q }))
 free_run f p x y at end from to i j k l e g r =
-    let reads : Reads f x end at g.value g.place = subst (Says f x end at) r (run_says f x end at i j) in
+    let reads : Reads f x end at g.value g.place = subst (ReadsOrFails f x end at) r (run_reads_or_fails f x end at i j) in
     let h = reads_exact f x end at g.value g.place j i p reads in
     let front : List ℕ = slice_range x at g.place in
     let rest : List ℕ = slice_range x g.place end in

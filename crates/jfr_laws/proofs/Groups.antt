@@ -8,7 +8,7 @@ use Rattle.jfr_layout.specs.Classes.{Classes}
 use Rattle.jfr_pool.specs.declared.entry.EntryAt.{EntryAt}
 use Rattle.jfr_chunk.specs.Written.{Group, add_entry, by_pool}
 use Rattle.jfr_chunk.proofs.TestLaws.{left_true, right_true, is_eq}
-use Rattle.jfr_laws.specs.InChunk.{EntryStands, GroupStands}
+use Rattle.jfr_laws.specs.InChunk.{IsEntryIn, IsGroupIn}
 
 -- The entry joins the group.
 abbrev joins : EntryAt → Group → Bool
@@ -21,15 +21,15 @@ abbrev joined : EntryAt → Group → Group
 joined e g = record { class = g.class; pool = g.pool; entries = e ∷ g.entries }
 
 -- Each group has one class, and its entries are in the chunk if all are.
-pub groups_stand : (c : List ℕ) (k : Classes) (es : List EntryAt) → AllByRecursion (EntryStands c k) es → AllByRecursion (GroupStands c k) (by_pool es)
+pub groups_stand : (c : List ℕ) (k : Classes) (es : List EntryAt) → AllByRecursion (IsEntryIn c k) es → AllByRecursion (IsGroupIn c k) (by_pool es)
 groups_stand c k [] a = tt
 groups_stand c k (e ∷ es) a = added (by_pool es) (groups_stand c k es a.1)
   where
-    by_test : (g : Group) (gs : List Group) (t : Bool) → joins e g ≡ t → GroupStands c k g → AllByRecursion (GroupStands c k) gs → AllByRecursion (GroupStands c k) (if t then joined e g ∷ gs else alone e ∷ (g ∷ gs))
+    by_test : (g : Group) (gs : List Group) (t : Bool) → joins e g ≡ t → IsGroupIn c k g → AllByRecursion (IsGroupIn c k) gs → AllByRecursion (IsGroupIn c k) (if t then joined e g ∷ gs else alone e ∷ (g ∷ gs))
     by_test g gs true h s i = ((s.0, ((a.0, exact_unsigned_eq e.class g.class (right_true (e.pool == g.pool) (e.class == g.class) h)), s.1)), i)
     by_test g gs false h s i = ((a.0.known, ((a.0, refl), tt)), (s, i))
 
-    added : (gs : List Group) → AllByRecursion (GroupStands c k) gs → AllByRecursion (GroupStands c k) (add_entry e gs)
+    added : (gs : List Group) → AllByRecursion (IsGroupIn c k) gs → AllByRecursion (IsGroupIn c k) (add_entry e gs)
     added [] i = ((a.0.known, ((a.0, refl), tt)), tt)
     added (g ∷ gs) i = by_test g gs (joins e g) refl i.0 i.1
 

@@ -12,7 +12,7 @@ use Rattle.jfr_chunk.specs.Scrub.{OutputRecord, Whole, Chained, Rebuilt, output_
 use Rattle.jfr_laws.proofs.Chains.{last_place}
 use Rattle.jfr_laws.proofs.Order.{Numbered, numbered_at, output_records_in, chained_of, found_numbered}
 use Rattle.jfr_laws.proofs.Copied.{record_length}
-use Rattle.jfr_laws.proofs.OutputRecords.{Deltas, rebuilt_length, chained_bytes, bytes_from, new_link, new_links, OutputRecordStands, chained_small, whole_length, chained_length}
+use Rattle.jfr_laws.proofs.OutputRecords.{Deltas, rebuilt_length, chained_bytes, bytes_from, new_link, new_links, IsOutputRecordIn, chained_small, whole_length, chained_length}
 
 -- The sizes of the records that stay, in all.
 abbrev pub sizes : List OutputRecord → ℕ
@@ -38,26 +38,26 @@ last_joined : (l : Link) (ls : List Link) → last_from (Some l.frame.at) ls ≡
 last_joined l [] = refl
 last_joined l (m ∷ ls) = refl
 
-module _ (c : List ℕ) (left : List EntryAt) where
-  pub length_back : (k : Classes) (ss : List OutputRecord) (at : ℕ) (older : Option ℕ) → AllByRecursion (OutputRecordStands c left k) ss → Deltas (is_some older) ss → length (bytes_from c left at older ss) ≤ sizes ss
+module _ (c : List ℕ) (remaining : List EntryAt) where
+  pub length_back : (k : Classes) (ss : List OutputRecord) (at : ℕ) (older : Option ℕ) → AllByRecursion (IsOutputRecordIn c remaining k) ss → Deltas (is_some older) ss → length (bytes_from c remaining at older ss) ≤ sizes ss
   length_back k [] at older s d = omega arith
   length_back k (Whole r ∷ ss) at older s d =
       let n : ℕ = length (record_bytes c r) in
       let i : n ≡ r.size = record_length c r s.0 in
       let j = length_back k ss (at + n) older s.1 d in
-      omega (arith, whole_length c left r ss at older)
+      omega (arith, whole_length c remaining r ss at older)
   length_back k (Rebuilt r x ∷ ss) at older s d =
       let i : length x ≤ r.size = s.0.2 in
       let j = length_back k ss (at + length x) older s.1 d in
-      omega (arith, rebuilt_length c left r x ss at older)
+      omega (arith, rebuilt_length c remaining r x ss at older)
   length_back k (Chained i l ∷ ss) at older s d =
-      let n : ℕ = length (chained_bytes c left at older i l) in
-      let e : n ≤ l.frame.size = chained_small c left k i l at older s.0 d.0 in
+      let n : ℕ = length (chained_bytes c remaining at older i l) in
+      let e : n ≤ l.frame.size = chained_small c remaining k i l at older s.0 d.0 in
       let j = length_back k ss (at + n) (Some at) s.1 d.1 in
-      omega (arith, chained_length c left i l ss at older)
+      omega (arith, chained_length c remaining i l ss at older)
 
   -- The last checkpoint starts at the offset of the last link.
-  pub last_back : (ss : List OutputRecord) (at : ℕ) (older : Option ℕ) → last_at older (written c left at older ss) ≡ last_from older (new_links c left at older ss)
+  pub last_back : (ss : List OutputRecord) (at : ℕ) (older : Option ℕ) → last_at older (written c remaining at older ss) ≡ last_from older (new_links c remaining at older ss)
   last_back [] at None = refl
   last_back [] at (Some o) = refl
   last_back (Whole r ∷ ss) at None = last_back ss (at + length (record_bytes c r)) None
@@ -65,41 +65,41 @@ module _ (c : List ℕ) (left : List EntryAt) where
   last_back (Rebuilt r x ∷ ss) at None = last_back ss (at + length x) None
   last_back (Rebuilt r x ∷ ss) at (Some o) = last_back ss (at + length x) (Some o)
   last_back (Chained i l ∷ ss) at None =
-      let n : ℕ = length (chained_bytes c left at None i l) in
-      last_back ss (at + n) (Some at) ∙ last_joined (new_link c left at None i l) (new_links c left (at + n) (Some at) ss)
+      let n : ℕ = length (chained_bytes c remaining at None i l) in
+      last_back ss (at + n) (Some at) ∙ last_joined (new_link c remaining at None i l) (new_links c remaining (at + n) (Some at) ss)
   last_back (Chained i l ∷ ss) at (Some o) =
-      let n : ℕ = length (chained_bytes c left at (Some o) i l) in
-      last_back ss (at + n) (Some at) ∙ last_joined (new_link c left at (Some o) i l) (new_links c left (at + n) (Some at) ss)
+      let n : ℕ = length (chained_bytes c remaining at (Some o) i l) in
+      last_back ss (at + n) (Some at) ∙ last_joined (new_link c remaining at (Some o) i l) (new_links c remaining (at + n) (Some at) ss)
 
   -- It starts in what is written.
-  pub last_bound : (ss : List OutputRecord) (at : ℕ) (older : Option ℕ) → AtMost older at → last_at older (written c left at older ss) ≤ at + length (bytes_from c left at older ss)
+  pub last_bound : (ss : List OutputRecord) (at : ℕ) (older : Option ℕ) → AtMost older at → last_at older (written c remaining at older ss) ≤ at + length (bytes_from c remaining at older ss)
   last_bound [] at None o = omega arith
   last_bound [] at (Some z) o = let i : z ≤ at = o in omega arith
   last_bound (Whole r ∷ ss) at None o =
       let n : ℕ = length (record_bytes c r) in
       let i = last_bound ss (at + n) None tt in
-      omega (arith, whole_length c left r ss at None)
+      omega (arith, whole_length c remaining r ss at None)
   last_bound (Whole r ∷ ss) at (Some z) o =
       let n : ℕ = length (record_bytes c r) in
       let i = last_bound ss (at + n) (Some z) (at_most_more (Some z) at n o) in
-      omega (arith, whole_length c left r ss at (Some z))
+      omega (arith, whole_length c remaining r ss at (Some z))
   last_bound (Rebuilt r x ∷ ss) at None o =
       let i = last_bound ss (at + length x) None tt in
-      omega (arith, rebuilt_length c left r x ss at None)
+      omega (arith, rebuilt_length c remaining r x ss at None)
   last_bound (Rebuilt r x ∷ ss) at (Some z) o =
       let i = last_bound ss (at + length x) (Some z) (at_most_more (Some z) at (length x) o) in
-      omega (arith, rebuilt_length c left r x ss at (Some z))
+      omega (arith, rebuilt_length c remaining r x ss at (Some z))
   last_bound (Chained j l ∷ ss) at older o =
-      let n : ℕ = length (chained_bytes c left at older j l) in
+      let n : ℕ = length (chained_bytes c remaining at older j l) in
       let i = last_bound ss (at + n) (Some at) (omega arith) in
-      omega (arith, chained_length c left j l ss at older)
+      omega (arith, chained_length c remaining j l ss at older)
 
   -- Where no link is written, no checkpoint stays.
-  pub no_links : (ss : List OutputRecord) (at : ℕ) (older : Option ℕ) → new_links c left at older ss ≡ [] → chained_of ss ≡ []
+  pub no_links : (ss : List OutputRecord) (at : ℕ) (older : Option ℕ) → new_links c remaining at older ss ≡ [] → chained_of ss ≡ []
   no_links [] at older e = refl
   no_links (Whole r ∷ ss) at older e = no_links ss (at + length (record_bytes c r)) older e
   no_links (Rebuilt r x ∷ ss) at older e = no_links ss (at + length x) older e
-  no_links (Chained i l ∷ ss) at older e = absurd (none (new_link c left at older i l) (new_links c left (at + length (chained_bytes c left at older i l)) (Some at) ss) e)
+  no_links (Chained i l ∷ ss) at older e = absurd (none (new_link c remaining at older i l) (new_links c remaining (at + length (chained_bytes c remaining at older i l)) (Some at) ss) e)
     where
       none : (x : Link) (xs : List Link) → x ∷ xs ≡ [] → ⊥
       none x xs e = cc

@@ -1,6 +1,6 @@
 pub mod Values
 pub mod Marks
-pub mod Standing
+pub mod InChunk
 pub mod Groups
 pub mod Room
 pub mod ReadBack

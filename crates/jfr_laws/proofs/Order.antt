@@ -66,17 +66,17 @@ none_rising at p (t ∷ ts) h a =
     rw e (none_rising at (t.1.frame.at + 1) ts (omega arith) a.1)
 
 -- Those before a place are passed over.
-pub behind_low : (at p : ℕ) (ds ts : List Numbered) → p ≤ at → Low p ds → numbered_at (ds ++ ts) at ≡ numbered_at ts at
-behind_low at p [] ts h a = refl
-behind_low at p (d ∷ ds) ts h a =
+pub after_low : (at p : ℕ) (ds ts : List Numbered) → p ≤ at → Low p ds → numbered_at (ds ++ ts) at ≡ numbered_at ts at
+after_low at p [] ts h a = refl
+after_low at p (d ∷ ds) ts h a =
     let i : d.1.frame.at < p = a.0 in
     let e : (d.1.frame.at == at) ≡ false = grind (arith, nat_tests) in
-    rw e (behind_low at p ds ts h a.1)
+    rw e (after_low at p ds ts h a.1)
 
 -- Links that start after a record occur after it.
-occur_behind : (r : Framed) (rs : List Framed) (p : ℕ) (ts : List Numbered) → r.at < p → Rising p ts → AllOccur (r ∷ rs) ts → AllOccur rs ts
-occur_behind r rs p [] h a o = tt
-occur_behind r rs p (t ∷ ts) h a o = (one o.0, occur_behind r rs (t.1.frame.at + 1) ts (omega (arith, a.0)) a.1 o.1)
+occur_after : (r : Framed) (rs : List Framed) (p : ℕ) (ts : List Numbered) → r.at < p → Rising p ts → AllOccur (r ∷ rs) ts → AllOccur rs ts
+occur_after r rs p [] h a o = tt
+occur_after r rs p (t ∷ ts) h a o = (one o.0, occur_after r rs (t.1.frame.at + 1) ts (omega (arith, a.0)) a.1 o.1)
   where
     one : ((r.at ≡ t.1.frame.at) ⊎ Occurs t.1.frame.at rs) → Occurs t.1.frame.at rs
     one (inl e) = let i : p ≤ t.1.frame.at = a.0 in absurd (omega arith)
@@ -107,7 +107,7 @@ module _ (c : List ℕ) (all : List Numbered) (whole : Framed → Bool) (new : F
   in_order (r ∷ rs) p q done [] t e a b o =
       let i : r.at < record_end r = some_bytes c r t.1 in
       let s : r.at ≡ p = t.0 in
-      let f : numbered_at all r.at ≡ None = ap (λ z. numbered_at z r.at) e ∙ behind_low r.at p done [] (omega arith) a in
+      let f : numbered_at all r.at ≡ None = ap (λ z. numbered_at z r.at) e ∙ after_low r.at p done [] (omega arith) a in
       output_record_none r rs f ∙ in_order rs (record_end r) q done [] t.2 e (low_more p (record_end r) done (omega arith) a) tt tt
   in_order (r ∷ rs) p q done (x ∷ todo) t e a b o =
       by_place (cases_lt r.at x.1.frame.at)
@@ -120,9 +120,9 @@ module _ (c : List ℕ) (all : List Numbered) (whole : Framed → Bool) (new : F
       s : r.at ≡ p
       s = t.0
 
-      all_behind : (ts : List Numbered) → AllOccur rs ts → (m : ℕ) → Rising m ts → Rising (record_end r) ts
-      all_behind [] o m a = tt
-      all_behind (z ∷ ts) o m a = (occurs_low c (record_end r) q rs z.1.frame.at t.2 o.0, a.1)
+      all_after : (ts : List Numbered) → AllOccur rs ts → (m : ℕ) → Rising m ts → Rising (record_end r) ts
+      all_after [] o m a = tt
+      all_after (z ∷ ts) o m a = (occurs_low c (record_end r) q rs z.1.frame.at t.2 o.0, a.1)
 
       by_place : ((r.at < x.1.frame.at) ⊎ (x.1.frame.at ≤ r.at))
           → (Low (record_end r) done → Rising (record_end r) (x ∷ todo) → AllOccur rs (x ∷ todo) → chained_of (output_records_in all whole new rs) ≡ x ∷ todo)
@@ -130,16 +130,16 @@ module _ (c : List ℕ) (all : List Numbered) (whole : Framed → Bool) (new : F
           → chained_of (output_records_in all whole new (r ∷ rs)) ≡ x ∷ todo
       by_place (inl h) f g =
           let u : Rising (r.at + 1) (x ∷ todo) = (omega arith, b.1) in
-          let v = occur_behind r rs (r.at + 1) (x ∷ todo) (omega arith) u o in
-          let w : numbered_at all r.at ≡ None = ap (λ z. numbered_at z r.at) e ∙ (behind_low r.at p done (x ∷ todo) (omega arith) a ∙ none_rising r.at (r.at + 1) (x ∷ todo) (omega arith) u) in
-          output_record_none r rs w ∙ f (low_more p (record_end r) done (omega arith) a) (all_behind (x ∷ todo) v (r.at + 1) u) v
+          let v = occur_after r rs (r.at + 1) (x ∷ todo) (omega arith) u o in
+          let w : numbered_at all r.at ≡ None = ap (λ z. numbered_at z r.at) e ∙ (after_low r.at p done (x ∷ todo) (omega arith) a ∙ none_rising r.at (r.at + 1) (x ∷ todo) (omega arith) u) in
+          output_record_none r rs w ∙ f (low_more p (record_end r) done (omega arith) a) (all_after (x ∷ todo) v (r.at + 1) u) v
       by_place (inr h) f g =
           let y : p ≤ x.1.frame.at = b.0 in
           let u : r.at < record_end r = i in
           let z : x.1.frame.at ≡ r.at = omega arith in
-          let v = occur_behind r rs (x.1.frame.at + 1) todo (omega arith) b.1 o.1 in
-          let w : numbered_at all r.at ≡ Some x = ap (λ z. numbered_at z r.at) e ∙ (behind_low r.at p done (x ∷ todo) (omega arith) a ∙ found z) in
-          output_record_some r rs x w ∙ ap (λ ts. x ∷ ts) (g (low_append (record_end r) done x (low_more p (record_end r) done (omega arith) a) (omega arith)) (all_behind todo v (x.1.frame.at + 1) b.1) v)
+          let v = occur_after r rs (x.1.frame.at + 1) todo (omega arith) b.1 o.1 in
+          let w : numbered_at all r.at ≡ Some x = ap (λ z. numbered_at z r.at) e ∙ (after_low r.at p done (x ∷ todo) (omega arith) a ∙ found z) in
+          output_record_some r rs x w ∙ ap (λ ts. x ∷ ts) (g (low_append (record_end r) done x (low_more p (record_end r) done (omega arith) a) (omega arith)) (all_after todo v (x.1.frame.at + 1) b.1) v)
         where
           found : x.1.frame.at ≡ r.at → numbered_at (x ∷ todo) r.at ≡ Some x
           found z = let k : (x.1.frame.at == r.at) ≡ true = grind (arith, nat_tests) in rw k refl

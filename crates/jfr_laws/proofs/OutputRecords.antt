@@ -14,7 +14,7 @@ use Rattle.jfr_pool.specs.declared.entry.EntryAt.{EntryAt}
 use Rattle.jfr_pool.specs.Entries.{PoolAt, entries_from}
 use Rattle.jfr_chunk.specs.Written.{group_bytes, checkpoint_tail, checkpoint_bytes, distance}
 use Rattle.jfr_chunk.specs.Scrub.{OutputRecord, Whole, Chained, Rebuilt, Written, groups_of, written_bytes, written, record_of}
-use Rattle.jfr_laws.specs.InChunk.{GroupStands, LinkStands}
+use Rattle.jfr_laws.specs.InChunk.{IsGroupIn, IsLinkIn}
 use Rattle.jfr_laws.proofs.ReadBack.{CheckpointStands, checkpoint_stands, placed_group, moved_frame, moved_link, pools_place, tail_small, checkpoint_small}
 
 -- After the first checkpoint, each took nine bytes for its delta.
@@ -34,18 +34,18 @@ frame_by (Whole r) at n = moved_frame at r n
 frame_by (Chained i l) at n = moved_frame at l.frame n
 frame_by (Rebuilt r x) at n = moved_frame at (own_frame x) n
 
-module _ (c : List ℕ) (left : List EntryAt) where
+module _ (c : List ℕ) (remaining : List EntryAt) where
   -- What is written of a checkpoint.
   abbrev pub chained_bytes : ℕ → Option ℕ → ℕ → Link → List ℕ
-  chained_bytes at older i l = checkpoint_bytes c l (distance at older) (groups_of left i)
+  chained_bytes at older i l = checkpoint_bytes c l (distance at older) (groups_of remaining i)
 
   -- The bytes of all that is written.
   abbrev pub bytes_from : ℕ → Option ℕ → List OutputRecord → List ℕ
-  bytes_from at older ss = flat_map (written_bytes c left) (written c left at older ss)
+  bytes_from at older ss = flat_map (written_bytes c remaining) (written c remaining at older ss)
 
   -- Its records.
   abbrev pub new_frame : Written → Framed
-  new_frame w = frame_by w.output_record w.at (length (written_bytes c left w))
+  new_frame w = frame_by w.output_record w.at (length (written_bytes c remaining w))
 
   -- Its links, oldest first.
   abbrev pub new_link : ℕ → Option ℕ → ℕ → Link → Link
@@ -59,12 +59,12 @@ module _ (c : List ℕ) (left : List EntryAt) where
 
   -- Where the pools of a checkpoint begin.
   abbrev pub new_place : ℕ → Option ℕ → ℕ → Link → ℕ
-  new_place at older i l = pools_place at l (distance at older) (length (groups_of left i))
+  new_place at older i l = pools_place at l (distance at older) (length (groups_of remaining i))
 
   module _ (k : Classes) where
     -- Its pools and its entries.
     abbrev pub new_pools : ℕ → Option ℕ → ℕ → Link → List PoolAt
-    new_pools at older i l = placed_each (group_bytes c) (placed_group c k) (new_place at older i l) (groups_of left i)
+    new_pools at older i l = placed_each (group_bytes c) (placed_group c k) (new_place at older i l) (groups_of remaining i)
 
     abbrev pub new_entries : ℕ → ℕ → Option ℕ → List OutputRecord → List EntryAt
     new_entries j at older [] = []
@@ -73,28 +73,28 @@ module _ (c : List ℕ) (left : List EntryAt) where
     new_entries j at older (Chained i l ∷ ss) = entries_from j 0 (new_pools at older i l) ++ new_entries (j + 1) (at + length (chained_bytes at older i l)) (Some at) ss
 
     -- The output record was in the chunk, and can be written.
-    abbrev pub OutputRecordStands : OutputRecord → Type 0
-    OutputRecordStands (Whole r) = IsRecord c r
-    OutputRecordStands (Rebuilt r x) = IsRecord c r × IsRecord x (own_frame x) × (length x ≤ r.size)
-    OutputRecordStands (Chained i l) = LinkStands c l × AllByRecursion (GroupStands c k) (groups_of left i)
-        × (l.delta_end + 1 + length (spell (length (groups_of left i))) + length (flat_map (group_bytes c) (groups_of left i)) ≤ record_end l.frame)
+    abbrev pub IsOutputRecordIn : OutputRecord → Type 0
+    IsOutputRecordIn (Whole r) = IsRecord c r
+    IsOutputRecordIn (Rebuilt r x) = IsRecord c r × IsRecord x (own_frame x) × (length x ≤ r.size)
+    IsOutputRecordIn (Chained i l) = IsLinkIn c l × AllByRecursion (IsGroupIn c k) (groups_of remaining i)
+        × (l.delta_end + 1 + length (spell (length (groups_of remaining i))) + length (flat_map (group_bytes c) (groups_of remaining i)) ≤ record_end l.frame)
 
-    room : (l : Link) → LinkStands c l → (at : ℕ) (older : Option ℕ) → (is_some older ≡ true → l.delta_end ≡ l.delta_at + 9) → l.delta_at + length (spell (distance at older)) ≤ l.delta_end
+    room : (l : Link) → IsLinkIn c l → (at : ℕ) (older : Option ℕ) → (is_some older ≡ true → l.delta_end ≡ l.delta_at + 9) → l.delta_at + length (spell (distance at older)) ≤ l.delta_end
     unfolding spell
     room l s at None d = let i : l.delta_at < l.delta_end = int_some c l.delta_at l.delta_end s.word s.delta_spelled in omega arith
     room l s at (Some o) d = let e : l.delta_end ≡ l.delta_at + 9 = d refl in let i = spell_most (distance at (Some o)) in omega arith
 
     -- What is written for a checkpoint is no longer than it was, and is a checkpoint.
-    pub chained_fits : (i : ℕ) (l : Link) (at : ℕ) (older : Option ℕ) → OutputRecordStands (Chained i l) → (is_some older ≡ true → l.delta_end ≡ l.delta_at + 9)
-        → length (checkpoint_tail c l (distance at older) (groups_of left i)) + (l.frame.type_at - l.frame.at) ≤ l.frame.size
-    chained_fits i l at older s d = tail_small c l (distance at older) (groups_of left i) s.0 (room l s.0 at older d) s.2
+    pub chained_fits : (i : ℕ) (l : Link) (at : ℕ) (older : Option ℕ) → IsOutputRecordIn (Chained i l) → (is_some older ≡ true → l.delta_end ≡ l.delta_at + 9)
+        → length (checkpoint_tail c l (distance at older) (groups_of remaining i)) + (l.frame.type_at - l.frame.at) ≤ l.frame.size
+    chained_fits i l at older s d = tail_small c l (distance at older) (groups_of remaining i) s.0 (room l s.0 at older d) s.2
 
-    pub chained_small : (i : ℕ) (l : Link) (at : ℕ) (older : Option ℕ) → OutputRecordStands (Chained i l) → (is_some older ≡ true → l.delta_end ≡ l.delta_at + 9) → length (chained_bytes at older i l) ≤ l.frame.size
-    chained_small i l at older s d = checkpoint_small c l (distance at older) (groups_of left i) s.0.record_stands (chained_fits i l at older s d)
+    pub chained_small : (i : ℕ) (l : Link) (at : ℕ) (older : Option ℕ) → IsOutputRecordIn (Chained i l) → (is_some older ≡ true → l.delta_end ≡ l.delta_at + 9) → length (chained_bytes at older i l) ≤ l.frame.size
+    chained_small i l at older s d = checkpoint_small c l (distance at older) (groups_of remaining i) s.0.record_stands (chained_fits i l at older s d)
 
-    pub chained_stands : (b : List ℕ) (i : ℕ) (l : Link) (at : ℕ) (older : Option ℕ) → OutputRecordStands (Chained i l) → (is_some older ≡ true → l.delta_end ≡ l.delta_at + 9) → Holds b (length b) at (chained_bytes at older i l)
-        → CheckpointStands k b (new_link at older i l) (new_pools at older i l) (new_place at older i l) (flat_map (group_bytes c) (groups_of left i))
-    chained_stands b i l at older s d h = checkpoint_stands c k b l (distance at older) at (groups_of left i) s.0 s.1 (chained_fits i l at older s d) h
+    pub chained_stands : (b : List ℕ) (i : ℕ) (l : Link) (at : ℕ) (older : Option ℕ) → IsOutputRecordIn (Chained i l) → (is_some older ≡ true → l.delta_end ≡ l.delta_at + 9) → Holds b (length b) at (chained_bytes at older i l)
+        → CheckpointStands k b (new_link at older i l) (new_pools at older i l) (new_place at older i l) (flat_map (group_bytes c) (groups_of remaining i))
+    chained_stands b i l at older s d h = checkpoint_stands c k b l (distance at older) at (groups_of remaining i) s.0 s.1 (chained_fits i l at older s d) h
 
   -- What is written for the first, and the rest after it.
   pub whole_length : (r : Framed) (ss : List OutputRecord) (at : ℕ) (older : Option ℕ) → at + length (record_bytes c r) + length (bytes_from (at + length (record_bytes c r)) older ss) ≡ at + length (bytes_from at older (Whole r ∷ ss))

@@ -14,11 +14,11 @@ use Rattle.jfr_chunk.specs.Scrub.{OutputRecord, Whole, Chained, Rebuilt, output_
 use Rattle.jfr_worklist.specs.Members.{In}
 use Rattle.jfr_worklist.proofs.Members.{contains_in}
 use Rattle.jfr_chunk.proofs.AllLaws.{all_in}
-use Rattle.jfr_chunk.proofs.StandingLaws.{tiles_each}
+use Rattle.jfr_chunk.proofs.HasNodesLaws.{tiles_each}
 use Rattle.jfr_laws.proofs.Chains.{Linked, chain_linked}
 use Rattle.jfr_laws.proofs.Checkpoints.{CanWrite, checkpoints_can, nine_of}
 use Rattle.jfr_laws.proofs.Order.{Numbered, numbered_at, output_records_in, chained_of, Rising, Occurs, AllOccur, occurs_low, in_order}
-use Rattle.jfr_laws.proofs.OutputRecords.{Deltas, OutputRecordStands, own_frame}
+use Rattle.jfr_laws.proofs.OutputRecords.{Deltas, IsOutputRecordIn, own_frame}
 
 -- The chained checkpoints with their numbers, oldest first.
 abbrev pub all_links : Parts → List Numbered
@@ -63,10 +63,10 @@ Nines true ts = AllByRecursion IsNine ts
 Nines false [] = ⊤
 Nines false (t ∷ ts) = AllByRecursion IsNine ts
 
-module _ (c : List ℕ) (k : Classes) (left : List EntryAt) where
+module _ (c : List ℕ) (k : Classes) (remaining : List EntryAt) where
   -- It can be written with the entries that are left.
   abbrev CanOutputRecord : Numbered → Type 0
-  CanOutputRecord m = CanWrite c k m.1 (groups_of left m.0)
+  CanOutputRecord m = CanWrite c k m.1 (groups_of remaining m.0)
 
   nines_later : (rs : List Framed) (older i : ℕ) (ls : List Link) → AllByRecursion CanOutputRecord (enumerate_from i ls) → Linked c rs (Some older) ls → AllByRecursion IsNine (enumerate_from i ls)
   nines_later rs older i [] a b = tt
@@ -119,16 +119,16 @@ on_anew c all whole new g (r ∷ rs) a = one (numbered_at all r.at) (whole r) (n
     one None true (Some x) q i = (let h = g r x a.0 q in ((a.0, h.0, h.1), i))
     one None false w q i = i
 
-output_records_stand : (c : List ℕ) (left : List EntryAt) (k : Classes) (ss : List OutputRecord) → AllByRecursion (OnWhole (IsRecord c)) ss → AllByRecursion (OnAnew c) ss → AllByRecursion (CanOutputRecord c k left) (chained_of ss) → AllByRecursion (OutputRecordStands c left k) ss
-output_records_stand c left k [] a w d = tt
-output_records_stand c left k (Whole r ∷ ss) a w d = (a.0, output_records_stand c left k ss a.1 w.1 d)
-output_records_stand c left k (Rebuilt r x ∷ ss) a w d = (w.0, output_records_stand c left k ss a.1 w.1 d)
-output_records_stand c left k (Chained i l ∷ ss) a w d = ((d.0.link, d.0.groups, d.0.room), output_records_stand c left k ss a.1 w.1 d.1)
+output_records_stand : (c : List ℕ) (remaining : List EntryAt) (k : Classes) (ss : List OutputRecord) → AllByRecursion (OnWhole (IsRecord c)) ss → AllByRecursion (OnAnew c) ss → AllByRecursion (CanOutputRecord c k remaining) (chained_of ss) → AllByRecursion (IsOutputRecordIn c remaining k) ss
+output_records_stand c remaining k [] a w d = tt
+output_records_stand c remaining k (Whole r ∷ ss) a w d = (a.0, output_records_stand c remaining k ss a.1 w.1 d)
+output_records_stand c remaining k (Rebuilt r x ∷ ss) a w d = (w.0, output_records_stand c remaining k ss a.1 w.1 d)
+output_records_stand c remaining k (Chained i l ∷ ss) a w d = ((d.0.link, d.0.groups, d.0.room), output_records_stand c remaining k ss a.1 w.1 d.1)
 
 -- What stays can be written, with these entries left.
-pub record Ready (p : Parts) (left : List EntryAt) (ss : List OutputRecord) : Type 0 where
+pub record Ready (p : Parts) (remaining : List EntryAt) (ss : List OutputRecord) : Type 0 where
   pub order : chained_of ss ≡ all_links p
-  pub stand : AllByRecursion (OutputRecordStands p.bytes left p.classes) ss
+  pub valid : AllByRecursion (IsOutputRecordIn p.bytes remaining p.classes) ss
   pub deltas : Deltas false ss
 
 module _ (p : Parts) (a : AreParts p) where
@@ -151,7 +151,7 @@ module _ (p : Parts) (a : AreParts p) where
   ready whole new g marks =
       let c : List ℕ = p.bytes in
       let ls : List Link = reverse p.chain in
-      let left : List EntryAt = marked marks p.entries in
+      let remaining : List EntryAt = marked marks p.entries in
       let ss : List OutputRecord = output_records_in (all_links p) whole new p.records in
       let order : chained_of ss ≡ all_links p =
       in_order c (all_links p) whole new p.records 68 (length c) [] (all_links p) a.records refl tt
@@ -159,6 +159,6 @@ module _ (p : Parts) (a : AreParts p) where
       let can = checkpoints_can c p.classes p.records marks ls p.entries standing_links a.entries in
       record {
         order = order;
-        stand = output_records_stand c left p.classes ss (on_whole (IsRecord c) (all_links p) whole new p.records recorded) (on_anew c (all_links p) whole new g p.records recorded) (subst (AllByRecursion (CanOutputRecord c p.classes left)) (sym order) can);
-        deltas = deltas_of false ss (subst (Nines false) (sym order) (nines c p.classes left p.records ls can linked));
+        valid = output_records_stand c remaining p.classes ss (on_whole (IsRecord c) (all_links p) whole new p.records recorded) (on_anew c (all_links p) whole new g p.records recorded) (subst (AllByRecursion (CanOutputRecord c p.classes remaining)) (sym order) can);
+        deltas = deltas_of false ss (subst (Nines false) (sym order) (nines c p.classes remaining p.records ls can linked));
       }

@@ -21,7 +21,7 @@ use Rattle.jfr_pool.specs.Chains.{head_format}
 use Rattle.jfr_pool.specs.Entries.{inline, Constant, constant_format, PoolAt, pool_format, checkpoint_format}
 use Rattle.jfr_chunk.specs.Written.{Group, entry_bytes, group_bytes, checkpoint_tail, checkpoint_bytes}
 use Rattle.jfr_laws.proofs.Values.{exact_reads, value_in, value_there}
-use Rattle.jfr_laws.specs.InChunk.{EntryStands, GroupStands, LinkStands}
+use Rattle.jfr_laws.specs.InChunk.{IsEntryIn, IsGroupIn, IsLinkIn}
 
 -- How many bytes an entry has.
 abbrev pub size_of : EntryAt → ℕ
@@ -36,7 +36,7 @@ abbrev pub placed_group : List ℕ → Classes → ℕ → Group → PoolAt
 placed_group c k at g = record { class = g.class; constants = placed_each (entry_bytes c) (placed c k) (at + length (spell g.class) + length (spell (length g.entries))) g.entries }
 
 -- The length of an entry's bytes.
-pub entry_length : (c : List ℕ) (k : Classes) (e : EntryAt) → EntryStands c k e → length (entry_bytes c e) ≡ size_of e
+pub entry_length : (c : List ℕ) (k : Classes) (e : EntryAt) → IsEntryIn c k e → length (entry_bytes c e) ≡ size_of e
 entry_length c k e s = range_length c e.key_at e.end s.within
 
 -- The bytes of an entry are in b before an end: those of its key and of its value.
@@ -46,7 +46,7 @@ pub record EntryHeld (c b : List ℕ) (end at : ℕ) (e : EntryAt) : Type 0 wher
   pub before : at + size_of e ≤ end
 
 -- If the bytes of an entry are there, those of its parts are.
-pub entry_held : (c : List ℕ) (k : Classes) (b : List ℕ) (end at : ℕ) (e : EntryAt) → EntryStands c k e → Holds b end at (entry_bytes c e) → EntryHeld c b end at e
+pub entry_held : (c : List ℕ) (k : Classes) (b : List ℕ) (end at : ℕ) (e : EntryAt) → IsEntryIn c k e → Holds b end at (entry_bytes c e) → EntryHeld c b end at e
 entry_held c k b end at e s h =
     let i : e.key_at ≤ e.value_at = s.key.order in
     let j : e.value_at ≤ e.end = s.order in
@@ -67,7 +67,7 @@ entry_held c k b end at e s h =
 
 module _ (c : List ℕ) (k : Classes) (b : List ℕ) (end : ℕ) where
   -- An entry is read at the offset of its bytes.
-  entry_reads : (e : EntryAt) (class at : ℕ) → EntryStands c k e → e.class ≡ class → Holds b end at (entry_bytes c e) → Reads (constant_format k class) b end at (placed c k at e) (at + size_of e)
+  entry_reads : (e : EntryAt) (class at : ℕ) → IsEntryIn c k e → e.class ≡ class → Holds b end at (entry_bytes c e) → Reads (constant_format k class) b end at (placed c k at e) (at + size_of e)
   entry_reads e class at s w h =
       let i : e.key_at ≤ e.value_at = s.key.order in
       let j : e.value_at ≤ e.end = s.order in
@@ -92,15 +92,15 @@ module _ (c : List ℕ) (k : Classes) (b : List ℕ) (end : ℕ) where
       )
 
   -- Entries, one after another.
-  entries_read : (es : List EntryAt) (class at : ℕ) → AllByRecursion (λ e. EntryStands c k e × (e.class ≡ class)) es → Holds b end at (flat_map (entry_bytes c) es)
+  entries_read : (es : List EntryAt) (class at : ℕ) → AllByRecursion (λ e. IsEntryIn c k e × (e.class ≡ class)) es → Holds b end at (flat_map (entry_bytes c) es)
       → Reads (times (length es) (constant_format k class)) b end at (placed_each (entry_bytes c) (placed c k) at es) (at + length (flat_map (entry_bytes c) es))
-  entries_read es class at s h = times_read (constant_format k class) (entry_bytes c) (placed c k) (λ e. EntryStands c k e × (e.class ≡ class)) b end one es at s h
+  entries_read es class at s h = times_read (constant_format k class) (entry_bytes c) (placed c k) (λ e. IsEntryIn c k e × (e.class ≡ class)) b end one es at s h
     where
-      one : (e : EntryAt) (at : ℕ) → EntryStands c k e × (e.class ≡ class) → Holds b end at (entry_bytes c e) → Reads (constant_format k class) b end at (placed c k at e) (at + length (entry_bytes c e))
+      one : (e : EntryAt) (at : ℕ) → IsEntryIn c k e × (e.class ≡ class) → Holds b end at (entry_bytes c e) → Reads (constant_format k class) b end at (placed c k at e) (at + length (entry_bytes c e))
       one e at s h = let l : length (entry_bytes c e) ≡ size_of e = entry_length c k e s.0 in rw l (entry_reads e class at s.0 s.1 h)
 
   -- A pool: its class, its count and its entries.
-  group_reads : (g : Group) (at : ℕ) → GroupStands c k g → Holds b end at (group_bytes c g) → Reads (pool_format k) b end at (placed_group c k at g) (at + length (group_bytes c g))
+  group_reads : (g : Group) (at : ℕ) → IsGroupIn c k g → Holds b end at (group_bytes c g) → Reads (pool_format k) b end at (placed_group c k at g) (at + length (group_bytes c g))
   group_reads g at s h =
       let n : ℕ = length g.entries in
       let items : List ℕ = flat_map (entry_bytes c) g.entries in
@@ -129,9 +129,9 @@ module _ (c : List ℕ) (k : Classes) (b : List ℕ) (end : ℕ) where
       )
 
   -- Pools, one after another.
-  groups_read : (gs : List Group) (at : ℕ) → AllByRecursion (GroupStands c k) gs → Holds b end at (flat_map (group_bytes c) gs)
+  groups_read : (gs : List Group) (at : ℕ) → AllByRecursion (IsGroupIn c k) gs → Holds b end at (flat_map (group_bytes c) gs)
       → Reads (times (length gs) (pool_format k)) b end at (placed_each (group_bytes c) (placed_group c k) at gs) (at + length (flat_map (group_bytes c) gs))
-  groups_read gs at s h = times_read (pool_format k) (group_bytes c) (placed_group c k) (GroupStands c k) b end (λ g at s h. group_reads g at s h) gs at s h
+  groups_read gs at s h = times_read (pool_format k) (group_bytes c) (placed_group c k) (IsGroupIn c k) b end (λ g at s h. group_reads g at s h) gs at s h
 
 -- A record at another place, of another size.
 abbrev pub moved_frame : ℕ → Framed → ℕ → Framed
@@ -165,7 +165,7 @@ module _ (c : List ℕ) (l : Link) (delta : ℕ) (gs : List Group) where
     pub kind : length (slice_range c l.delta_end (l.delta_end + 1)) ≡ 1
     pub whole : length (checkpoint_tail c l delta gs) ≡ (l.frame.body - l.frame.type_at) + ((l.delta_at - l.frame.body) + (length (spell delta) + (1 + (length (spell (length gs)) + length (flat_map (group_bytes c) gs)))))
 
-  pub tail_lengths : LinkStands c l → TailLengths
+  pub tail_lengths : IsLinkIn c l → TailLengths
   tail_lengths s =
       let t : List ℕ = slice_range c l.frame.type_at l.frame.body in
       let h : List ℕ = slice_range c l.frame.body l.delta_at in
@@ -184,7 +184,7 @@ module _ (c : List ℕ) (l : Link) (delta : ℕ) (gs : List Group) where
       }
 
   -- With a delta and pools that take no more room than before, it is no longer.
-  pub tail_small : LinkStands c l → l.delta_at + length (spell delta) ≤ l.delta_end
+  pub tail_small : IsLinkIn c l → l.delta_at + length (spell delta) ≤ l.delta_end
       → l.delta_end + 1 + length (spell (length gs)) + length (flat_map (group_bytes c) gs) ≤ record_end l.frame
       → length (checkpoint_tail c l delta gs) + (l.frame.type_at - l.frame.at) ≤ l.frame.size
   tail_small s h i =
@@ -234,7 +234,7 @@ pub record CheckpointHeld (c b : List ℕ) (l : Link) (delta at end : ℕ) (gs :
   pub count : Holds b end (at + (l.delta_at - l.frame.at) + length (spell delta) + 1) (spell (length gs))
   pub pools : Holds b end (pools_place at l delta (length gs)) (flat_map (group_bytes c) gs)
 
-pub checkpoint_held : (c b : List ℕ) (l : Link) (delta at : ℕ) (gs : List Group) → LinkStands c l → length (checkpoint_tail c l delta gs) + (l.frame.type_at - l.frame.at) ≤ l.frame.size
+pub checkpoint_held : (c b : List ℕ) (l : Link) (delta at : ℕ) (gs : List Group) → IsLinkIn c l → length (checkpoint_tail c l delta gs) + (l.frame.type_at - l.frame.at) ≤ l.frame.size
     → Holds b (length b) at (checkpoint_bytes c l delta gs) → CheckpointHeld c b l delta at (at + length (checkpoint_bytes c l delta gs)) gs
 checkpoint_held c b l delta at gs s small h =
     let f : Framed = l.frame in
@@ -268,7 +268,7 @@ checkpoint_held c b l delta at gs s small h =
     record { size = p0.0; type = p1.0; head = p2.0; word = p3.0; kind = p4.0; count = p5.0; pools = p5.1 }
 
 -- What is written for a checkpoint, if it is no longer than it was, is a checkpoint.
-pub checkpoint_stands : (c : List ℕ) (k : Classes) (b : List ℕ) (l : Link) (delta at : ℕ) (gs : List Group) → LinkStands c l → AllByRecursion (GroupStands c k) gs
+pub checkpoint_stands : (c : List ℕ) (k : Classes) (b : List ℕ) (l : Link) (delta at : ℕ) (gs : List Group) → IsLinkIn c l → AllByRecursion (IsGroupIn c k) gs
     → length (checkpoint_tail c l delta gs) + (l.frame.type_at - l.frame.at) ≤ l.frame.size
     → Holds b (length b) at (checkpoint_bytes c l delta gs)
     → CheckpointStands k b (moved_link at l delta (length (checkpoint_bytes c l delta gs))) (placed_each (group_bytes c) (placed_group c k) (pools_place at l delta (length gs)) gs) (pools_place at l delta (length gs)) (flat_map (group_bytes c) gs)

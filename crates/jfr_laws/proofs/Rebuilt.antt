@@ -27,7 +27,7 @@ use Rattle.jfr_chunk.specs.Scrub.{moved, output_records, output_records_whole, w
 use Rattle.jfr_chunk.proofs.AllLaws.{all_in}
 use Rattle.jfr_worklist.specs.Members.{In}
 use Rattle.jfr_worklist.proofs.Members.{contains_in, in_contains}
-use Rattle.jfr_chunk.proofs.StandingLaws.{event_is}
+use Rattle.jfr_chunk.proofs.HasNodesLaws.{event_is}
 use Rattle.jfr_chunk.specs.Laws.{AreEvents}
 use Rattle.std.proofs.lemmas.List.Elements.{All-contains}
 use Rattle.jfr_laws.proofs.Listed.{any_in, all_each}
@@ -36,7 +36,7 @@ use Rattle.jfr_laws.proofs.Checkpoints.{all_numbers}
 use Rattle.jfr_laws.proofs.Chains.{Linked, linked_chain}
 use Rattle.jfr_laws.proofs.Entries.{IsCopy}
 use Rattle.jfr_laws.proofs.Order.{chained_of}
-use Rattle.jfr_laws.proofs.OutputRecords.{new_frame, new_links, new_entries, OutputRecordStands}
+use Rattle.jfr_laws.proofs.OutputRecords.{new_frame, new_links, new_entries, IsOutputRecordIn}
 use Rattle.jfr_laws.proofs.Output.{entries_by_number, tiles_back, linked_back, entries_back, entries_same_back}
 use Rattle.jfr_laws.proofs.Lengths.{last_from, last_back, no_links}
 use Rattle.jfr_laws.proofs.Metadata.{SameBody}
@@ -46,7 +46,7 @@ use Rattle.jfr_laws.proofs.Chosen.{is_kept}
 use Rattle.jfr_laws.proofs.Premises.{GoodAnew, all_links, on_whole, recorded}
 use Rattle.jfr_laws.proofs.Quiet.{quiet_records}
 use Rattle.jfr_laws.proofs.Kept.{CopiedRecord, fields_back, events_back}
-use Rattle.jfr_laws.proofs.Whole.{shown_body, left_of, written_of, is_ready, metadata_found, metadata_new, MetadataReads, Leading}
+use Rattle.jfr_laws.proofs.Whole.{shown_body, remaining_of, written_of, is_ready, metadata_found, metadata_new, MetadataReads, Leading}
 
 none_numbered : (xs : List Link) → enumerate_from 0 xs ≡ [] → xs ≡ []
 none_numbered [] e = refl
@@ -63,13 +63,13 @@ chain_new c rs (l ∷ ls) n h = linked_chain c rs l ls h
 
 module _ (p : Parts) (kept : List EventAt) (marks : List Bool) where
   abbrev new_records : List Framed
-  new_records = map (new_frame p.bytes (left_of p marks)) (written_of p kept marks)
+  new_records = map (new_frame p.bytes (remaining_of p marks)) (written_of p kept marks)
 
   abbrev pub links : List Link
-  links = new_links p.bytes (left_of p marks) 68 None (output_records p kept)
+  links = new_links p.bytes (remaining_of p marks) 68 None (output_records p kept)
 
   abbrev entries : Classes → List EntryAt
-  entries m = new_entries p.bytes (left_of p marks) m 0 68 None (output_records p kept)
+  entries m = new_entries p.bytes (remaining_of p marks) m 0 68 None (output_records p kept)
 
   abbrev pub parts_with : List ℕ → Body → Classes → Parts
   parts_with b body m = record { bytes = b; records = new_records; chain = reverse links; body = body; classes = m; entries = entries m }
@@ -101,8 +101,8 @@ same_both test one two (r ∷ rs) f = by_tests (test r) refl (one r) refl (two r
     by_tests false e false g true h i f = rw e i
 
 module _ (p : Parts) (a : AreParts p) (kept : List EventAt) (are : AreEvents p kept) (good : GoodAnew p.bytes (written_anew p kept)) (marks : List Bool) (b : List ℕ) (s : Leading p kept marks b) where
-  abbrev left : List EntryAt
-  left = left_of p marks
+  abbrev remaining : List EntryAt
+  remaining = remaining_of p marks
 
   abbrev rs : List Framed
   rs = new_records p kept marks
@@ -113,21 +113,21 @@ module _ (p : Parts) (a : AreParts p) (kept : List EventAt) (are : AreEvents p k
   tiles : Tiles b 68 rs (length b)
   tiles =
       let r = is_ready p kept marks a good in
-      subst (Tiles b 68 rs) (sym s.size) (tiles_back p.bytes left p.classes b (output_records p kept) 68 None r.stand r.deltas s.held)
+      subst (Tiles b 68 rs) (sym s.size) (tiles_back p.bytes remaining p.classes b (output_records p kept) 68 None r.valid r.deltas s.held)
 
   some_links : ls ≡ [] → ⊥
   some_links e =
       let r = is_ready p kept marks a good in
-      some_chain p.bytes p.records (pools_at p.bytes) p.chain a.chain (none_numbered (reverse p.chain) (sym r.order ∙ no_links p.bytes left (output_records p kept) 68 None e))
+      some_chain p.bytes p.records (pools_at p.bytes) p.chain a.chain (none_numbered (reverse p.chain) (sym r.order ∙ no_links p.bytes remaining (output_records p kept) 68 None e))
 
   chain : length b < 2 ^ 63 → IsChain b rs (pools_at b) (reverse ls)
   chain small =
       let r = is_ready p kept marks a good in
-      let l = linked_back p.bytes left p.classes b rs small (output_records p kept) [] 68 None r.stand r.deltas tt s.held refl in
-      let e : last_from None ls ≡ pools_at b = sym (last_back p.bytes left (output_records p kept) 68 None) ∙ sym s.pools in
+      let l = linked_back p.bytes remaining p.classes b rs small (output_records p kept) [] 68 None r.valid r.deltas tt s.held refl in
+      let e : last_from None ls ≡ pools_at b = sym (last_back p.bytes remaining (output_records p kept) 68 None) ∙ sym s.pools in
       subst (λ z. IsChain b rs z (reverse ls)) e (chain_new b rs ls some_links l)
 
-  abbrev pub found : Found p.bytes left p.classes b a.metadata_record (metadata_new p kept a) 68 (written_of p kept marks)
+  abbrev pub found : Found p.bytes remaining p.classes b a.metadata_record (metadata_new p kept a) 68 (written_of p kept marks)
   found = metadata_found p kept marks a good b s.held
 
   abbrev metadata_record : Framed
@@ -147,14 +147,14 @@ module _ (p : Parts) (a : AreParts p) (kept : List EventAt) (are : AreEvents p k
       record { listed = in_contains rs metadata_record found.listed; place = shown_at (metadata_new p kept a) ∙ e; type_is = shown_type (metadata_new p kept a) }
 
   -- Under classes that suit what is kept.
-  module _ (m : Classes) (suits : Suits p kept m) (stands : AllByRecursion (OutputRecordStands p.bytes left m) (output_records p kept)) (reads : MetadataReads p kept a m) where
+  module _ (m : Classes) (suits : Suits p kept m) (holds : AllByRecursion (IsOutputRecordIn p.bytes remaining m) (output_records p kept)) (reads : MetadataReads p kept a m) where
     pub metadata_read : (body : Body) × IsMetadata b metadata_record body m × SameBody (shown_body p kept (metadata_new p kept a)) body
     metadata_read = reads b found.place found.held
 
     are_entries : AreEntries b m 0 (reverse (reverse ls)) (entries p kept marks m)
     are_entries =
         let r = is_ready p kept marks a good in
-        subst (λ z. AreEntries b m 0 z (entries p kept marks m)) (sym (reverse-reverse ls)) (entries_back p.bytes left m b (output_records p kept) 0 68 None stands r.deltas s.held)
+        subst (λ z. AreEntries b m 0 z (entries p kept marks m)) (sym (reverse-reverse ls)) (entries_back p.bytes remaining m b (output_records p kept) 0 68 None holds r.deltas s.held)
 
     abbrev is_event : Framed → Bool
     is_event r = is_event_class m r.type_id
@@ -169,7 +169,7 @@ module _ (p : Parts) (a : AreParts p) (kept : List EventAt) (are : AreEvents p k
     fields : AllByRecursion (HasFields b m) (event_records m rs)
     fields =
         let f = if_passes (HasFields p.bytes p.classes) (λ r. is_event_class p.classes r.type_id) p.records (recursion_from_All (HasFields p.bytes p.classes) (event_records p.classes p.records) a.events) in
-        fields_back p.bytes left m b (output_records p kept) 68 None stands
+        fields_back p.bytes remaining m b (output_records p kept) 68 None holds
         (on_whole (IfPasses is_event (HasFields p.bytes m)) (all_links p) (output_records_whole p kept) (written_anew p kept) p.records (passes_too p.records f)) s.held
 
     -- The parts of what is written.
@@ -177,8 +177,8 @@ module _ (p : Parts) (a : AreParts p) (kept : List EventAt) (are : AreEvents p k
     new_parts = parts_with p kept marks b metadata_read.0 m
 
     -- These are the parts of the output.
-    pub parts_stand : length b < 2 ^ 63 → AreParts new_parts
-    parts_stand small = record {
+    pub parts_are_valid : length b < 2 ^ 63 → AreParts new_parts
+    parts_are_valid small = record {
       records = tiles;
       chain = chain small;
       metadata_record = metadata_record;
@@ -188,19 +188,19 @@ module _ (p : Parts) (a : AreParts p) (kept : List EventAt) (are : AreEvents p k
       events = All-from_recursion (HasFields b m) (event_records m rs) fields;
     }
 
-    pub metadata_is : (small : length b < 2 ^ 63) → (parts_stand small).metadata_record ≡ shown_frame p.bytes (metadata_new p kept a) a.metadata_record found.place
-    unfolding parts_stand
+    pub metadata_is : (small : length b < 2 ^ 63) → (parts_are_valid small).metadata_record ≡ shown_frame p.bytes (metadata_new p kept a) a.metadata_record found.place
+    unfolding parts_are_valid
     metadata_is small = refl
 
     pub same_body : SameBody (shown_body p kept (metadata_new p kept a)) new_parts.body
     same_body = metadata_read.2
 
     -- The entries are copies of those that are left.
-    pub entries_copied : Each (IsCopy p.bytes b) left (entries p kept marks m)
+    pub entries_copied : Each (IsCopy p.bytes b) remaining (entries p kept marks m)
     entries_copied =
         let r = is_ready p kept marks a good in
-        let same = entries_same_back p.bytes left m b (output_records p kept) (reverse p.chain) 0 68 None stands r.deltas s.held r.order in
-        let e : entries_by_number left (chained_of (output_records p kept)) ≡ left = ap (entries_by_number left) r.order ∙ all_numbers p.bytes p.classes marks (reverse p.chain) p.entries a.entries in
+        let same = entries_same_back p.bytes remaining m b (output_records p kept) (reverse p.chain) 0 68 None holds r.deltas s.held r.order in
+        let e : entries_by_number remaining (chained_of (output_records p kept)) ≡ remaining = ap (entries_by_number remaining) r.order ∙ all_numbers p.bytes p.classes marks (reverse p.chain) p.entries a.entries in
         subst (λ z. Each (IsCopy p.bytes b) z (entries p kept marks m)) e same
 
     -- A record at the offset of a kept event is that event's.
@@ -217,4 +217,4 @@ module _ (p : Parts) (a : AreParts p) (kept : List EventAt) (are : AreEvents p k
     pub records_copied : Each (CopiedRecord p.bytes b m) (filter (is_kept kept) (event_records p.classes p.records)) (event_records m rs)
     records_copied =
         subst (λ z. Each (CopiedRecord p.bytes b m) z (event_records m rs)) (same_both (is_kept kept) (λ r. is_event_class m r.type_id) (λ r. is_event_class p.classes r.type_id) p.records kept_is_event)
-        (events_back p.bytes left m b (all_links p) (is_kept kept) (written_anew p kept) (metadata_at p.bytes) (anew_only p kept) p.records 68 None (quiet_records p a m) s.held)
+        (events_back p.bytes remaining m b (all_links p) (is_kept kept) (written_anew p kept) (metadata_at p.bytes) (anew_only p kept) p.records 68 None (quiet_records p a m) s.held)

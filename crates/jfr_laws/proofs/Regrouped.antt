@@ -9,7 +9,7 @@ use Rattle.jfr_layout.specs.Classes.{Classes}
 use Rattle.jfr_pool.specs.declared.entry.EntryAt.{EntryAt}
 use Rattle.jfr_pool.specs.Entries.{Constant, PoolAt, entry_of, entries_from}
 use Rattle.jfr_chunk.specs.Written.{Group, add_entry, by_pool, entry_bytes, group_bytes}
-use Rattle.jfr_laws.specs.InChunk.{EntryStands, GroupStands}
+use Rattle.jfr_laws.specs.InChunk.{IsEntryIn, IsGroupIn}
 use Rattle.jfr_laws.proofs.Groups.{apart, in_front, by_front}
 use Rattle.jfr_laws.proofs.Room.{of_pool, later_pools}
 use Rattle.jfr_laws.proofs.ReadBack.{size_of, placed, placed_group, entry_length}
@@ -79,10 +79,10 @@ module _ (checkpoint : ℕ) where
 
     module _ (b : List ℕ) (end : ℕ) where
       -- An entry's bytes, and those of a pool's entries.
-      entry_again : (e : EntryAt) (pool class at : ℕ) → EntryStands c k e → Holds b end at (entry_bytes c e) → entry_bytes b (entry_of checkpoint pool class (placed c k at e)) ≡ entry_bytes c e
+      entry_again : (e : EntryAt) (pool class at : ℕ) → IsEntryIn c k e → Holds b end at (entry_bytes c e) → entry_bytes b (entry_of checkpoint pool class (placed c k at e)) ≡ entry_bytes c e
       entry_again e pool class at s h = let l : length (entry_bytes c e) ≡ size_of e = entry_length c k e s in rw l at h.bytes
 
-      entries_again : (es : List EntryAt) (pool class at : ℕ) → AllByRecursion (λ e. EntryStands c k e × (e.class ≡ class)) es → Holds b end at (flat_map (entry_bytes c) es)
+      entries_again : (es : List EntryAt) (pool class at : ℕ) → AllByRecursion (λ e. IsEntryIn c k e × (e.class ≡ class)) es → Holds b end at (flat_map (entry_bytes c) es)
           → flat_map (entry_bytes b) (map (entry_of checkpoint pool class) (placed_each (entry_bytes c) (placed c k) at es)) ≡ flat_map (entry_bytes c) es
       entries_again [] pool class at s h = refl
       entries_again (e ∷ es) pool class at s h =
@@ -91,7 +91,7 @@ module _ (checkpoint : ℕ) where
           let y = entries_again es pool class (at + length (entry_bytes c e)) s.1 p.1 in
           λ i. x i ++ y i
 
-      group_again : (g : Group) (number at : ℕ) → GroupStands c k g → Holds b end at (group_bytes c g) → group_bytes b (group_at number (placed_group c k at g)) ≡ group_bytes c g
+      group_again : (g : Group) (number at : ℕ) → IsGroupIn c k g → Holds b end at (group_bytes c g) → group_bytes b (group_at number (placed_group c k at g)) ≡ group_bytes c g
       group_again g number at s h =
           let items : List ℕ = flat_map (entry_bytes c) g.entries in
           let count : List ℕ = spell (length g.entries) in
@@ -104,7 +104,7 @@ module _ (checkpoint : ℕ) where
           λ i. spell g.class ++ (spell (n i) ++ e i)
 
       -- The groups have the same bytes.
-      pub groups_again : (gs : List Group) (number at : ℕ) → AllByRecursion (GroupStands c k) gs → Holds b end at (flat_map (group_bytes c) gs)
+      pub groups_again : (gs : List Group) (number at : ℕ) → AllByRecursion (IsGroupIn c k) gs → Holds b end at (flat_map (group_bytes c) gs)
           → flat_map (group_bytes b) (groups_at number (placed_groups at gs)) ≡ flat_map (group_bytes c) gs
       groups_again [] number at s h = refl
       groups_again (g ∷ gs) number at s h =

@@ -17,8 +17,8 @@ use Rattle.jfr_chunk.specs.Laws.{AreEvents, SameRecords, SameOnPaths, AreReached
 use Rattle.jfr_worklist.specs.Members.{In}
 use Rattle.jfr_worklist.proofs.Members.{contains_in, in_contains}
 use Rattle.jfr_chunk.proofs.AllLaws.{filter_all}
-use Rattle.jfr_chunk.proofs.PathLaws.{Standing}
-use Rattle.jfr_chunk.proofs.StandingLaws.{IsEvent, standing, event_is, tiles_each}
+use Rattle.jfr_chunk.proofs.PathLaws.{HasNodes}
+use Rattle.jfr_chunk.proofs.HasNodesLaws.{IsEvent, has_nodes, event_is, tiles_each}
 use Rattle.jfr_chunk.proofs.MeaningLaws.{same_meaning}
 use Rattle.jfr_chunk.proofs.ReachedLaws.{reached_marked}
 use Rattle.jfr_laws.specs.Laws.{AreCopied}
@@ -47,7 +47,7 @@ event_of_chunk p a kept k e i = event_is p a e (contains_in (events_of p) e (All
 
 -- The entries that paths from events reach are exactly the marked ones.
 are_reached : (p : Parts) (kept : List EventAt) → AreParts p → AreEvents p kept → AreReached p kept
-are_reached p kept a k number = reached_marked p (standing p a) kept (λ e i. (let v = event_of_chunk p a kept k e i in (v.value, v.node))) number
+are_reached p kept a k number = reached_marked p (has_nodes p a) kept (λ e i. (let v = event_of_chunk p a kept k e i in (v.value, v.node))) number
 
 -- All entries remain if each is reached.
 pub all_remain : (p : Parts) → AreParts p → ((number : ℕ) → number < length p.entries → Reached p (events_of p) number) → remain p (events_of p) ≡ p.entries
@@ -103,8 +103,8 @@ module _ (p q : Parts) (a : AreParts p) (b : AreParts q) (flags : List Bool) (su
         let i : In kept r.event = contains_in kept r.event r.is_kept in
         let x = event_beside p q kept (events_of q) r.event mean_the_same i in
         let w = event_of_chunk q b (events_of q) (All-contains_itself (events_of q)) x.0 x.1 in
-        let g = event_agreed p q.classes (standing p a) kept suits (event_of_chunk p a kept (chosen_events p flags)) r.event i in
-        let t = refers_too p q (standing p a) (standing q b) r.event x.0 w.value r.path r.node r.key g w.node x.2.paths r.leads_there r.refers in
+        let g = event_agreed p q.classes (has_nodes p a) kept suits (event_of_chunk p a kept (chosen_events p flags)) r.event i in
+        let t = refers_too p q (has_nodes p a) (has_nodes q b) r.event x.0 w.value r.path r.node r.key g w.node x.2.paths r.leads_there r.refers in
         let f : number_in_force q.entries r.key ≡ Some number =
         sym (copied_force p q (marked marks p.entries) q.entries r.key entries) ∙ (marked_force marks p.entries r.key place r.in_force m ∙ ap (λ z. Some z) n) in
         record { event = x.0; is_kept = in_contains (events_of q) x.0 x.1; path = r.path; node = t.node; leads_there = t.leads_there; key = r.key; refers = t.refers; in_force = f }

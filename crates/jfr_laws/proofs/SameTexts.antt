@@ -17,7 +17,7 @@ use Rattle.jfr_value.specs.Laws.{SameNode}
 use Rattle.jfr_chunk.specs.Parts.{Parts}
 use Rattle.jfr_chunk.specs.Paths.{follow, step, leads, follow_while, is_reference, always, content_in, content_by, string_of, text_of, named_field, named_node, named_text}
 use Rattle.jfr_chunk.specs.Meaning.{SamePaths}
-use Rattle.jfr_chunk.proofs.PathLaws.{Standing}
+use Rattle.jfr_chunk.proofs.PathLaws.{HasNodes}
 use Rattle.jfr_laws.proofs.Free.{free_run}
 use Rattle.jfr_laws.proofs.Targets.{path_node}
 use Rattle.jfr_laws.proofs.Suits.{Agreed, agreed_class, path_agreed}
@@ -33,7 +33,7 @@ same_content (Err u) (Err w) f h = refl
 reference_same : (n m : NodeAt) → n.shape ≡ m.shape → is_reference n ≡ is_reference m
 reference_same n m e = ap (λ (z : Shape). if z.array then false else z.constant) e
 
-module _ (p q : Parts) (s : Standing p) (r : Standing q) where
+module _ (p q : Parts) (s : HasNodes p) (r : HasNodes q) where
   -- Both nodes have values, and every path leads to the same from both.
   pub record Twins (n m : NodeAt) : Type 0 where
     pub value : Value

@@ -3,7 +3,7 @@ use Rattle.std.specs.Prelude.{◌≡◌, ℕ, ◌^◌, ◌<◌, ◌≤◌, Bool,
 use Rattle.std.specs.List.{AllByRecursion}
 use Rattle.jfr_layout.specs.Classes.{Classes}
 use Rattle.jfr_chunk.specs.Laws.{AreEvents}
-use Rattle.jfr_chunk.proofs.StandingLaws.{standing}
+use Rattle.jfr_chunk.proofs.HasNodesLaws.{has_nodes}
 use Rattle.std.proofs.Common.{ap, arith, refl, sym, ◌∙◌, subst}
 use Rattle.jfr_header.specs.Fronts as fronts
 use Rattle.jfr_pool.specs.declared.entry.EntryAt.{EntryAt}
@@ -16,10 +16,10 @@ use Rattle.jfr_laws.proofs.AnewLaws.{good_anew}
 use Rattle.jfr_laws.specs.Laws.{AreCopied, IsKept}
 use Rattle.jfr_laws.proofs.Entries.{are_copied}
 use Rattle.jfr_laws.proofs.Header.{whole_small}
-use Rattle.jfr_laws.proofs.Whole.{metadata_new, Leading, left_of, is_ready, out, out_leading, out_whole, out_shorter}
-use Rattle.jfr_laws.proofs.Rebuilt.{found, metadata_is, same_body, new_parts, parts_stand, entries_copied, records_copied}
+use Rattle.jfr_laws.proofs.Whole.{metadata_new, Leading, remaining_of, is_ready, out, out_leading, out_whole, out_shorter}
+use Rattle.jfr_laws.proofs.Rebuilt.{found, metadata_is, same_body, new_parts, parts_are_valid, entries_copied, records_copied}
 use Rattle.jfr_laws.proofs.Again.{nothing_changes}
-use Rattle.jfr_laws.proofs.OutputRecords.{OutputRecordStands}
+use Rattle.jfr_laws.proofs.OutputRecords.{IsOutputRecordIn}
 use Rattle.jfr_laws.proofs.Suits.{left_agree, records_too}
 use Rattle.jfr_laws.proofs.Anews.{Anew, anew}
 use Rattle.jfr_laws.proofs.Settles.{settles_again, new_size}
@@ -58,43 +58,43 @@ module _ (p : Parts) (a : AreParts p) (flags : List Bool) where
   abbrev m : Classes
   m = n.classes
 
-  stands : AllByRecursion (OutputRecordStands p.bytes (left_of p marks) m) (output_records p kept)
-  stands =
-      records_too p.bytes p.classes m (left_of p marks) (left_agree p m (standing p a) kept n.suits (event_of_chunk p a kept are) marks (marks_reached p a flags)) (output_records p kept) (is_ready p kept marks a good).stand
+  holds : AllByRecursion (IsOutputRecordIn p.bytes (remaining_of p marks) m) (output_records p kept)
+  holds =
+      records_too p.bytes p.classes m (remaining_of p marks) (left_agree p m (has_nodes p a) kept n.suits (event_of_chunk p a kept are) marks (marks_reached p a flags)) (output_records p kept) (is_ready p kept marks a good).valid
 
   -- The output after a header that leads to it.
   module _ (b : List ℕ) (s : Leading p kept marks b) (small : length b < 2 ^ 63) where
     abbrev parts : Parts
-    parts = new_parts p a kept are good marks b s m n.suits stands n.reads
+    parts = new_parts p a kept are good marks b s m n.suits holds n.reads
 
-    abbrev stand : AreParts parts
-    stand = parts_stand p a kept are good marks b s m n.suits stands n.reads small
+    abbrev valid : AreParts parts
+    valid = parts_are_valid p a kept are good marks b s m n.suits holds n.reads small
 
     shown_size : (w : Option (List ℕ)) → (shown_frame p.bytes w a.metadata_record (found p a kept are good marks b s).place).size ≡ new_size p a w
     shown_size None = record_length p.bytes a.metadata_record (metadata_stands p a)
     shown_size (Some x) = refl
 
     copied : AreCopied p parts (marked marks p.entries) parts.entries
-    copied = are_copied p parts (marked marks p.entries) parts.entries (entries_copied p a kept are good marks b s m n.suits stands n.reads)
+    copied = are_copied p parts (marked marks p.entries) parts.entries (entries_copied p a kept are good marks b s m n.suits holds n.reads)
 
     parts_kept : b ≡ scrub_of p kept → fronts.Whole b → length b ≤ length p.bytes → IsKept p kept
     unfolding remain
     parts_kept e w l =
-        let records = records_copied p a kept are good marks b s m n.suits stands n.reads in
-        let reached = all_reached p parts a stand flags n.suits records copied (copied_length p parts (marked marks p.entries) parts.entries copied) in
-        let events = same_events p parts a stand flags n.suits records copied in
+        let records = records_copied p a kept are good marks b s m n.suits holds n.reads in
+        let reached = all_reached p parts a valid flags n.suits records copied (copied_length p parts (marked marks p.entries) parts.entries copied) in
+        let events = same_events p parts a valid flags n.suits records copied in
         record {
           parts = parts;
-          classes = n.left;
+          classes = n.remaining;
           bytes = e;
           whole = subst fronts.Whole e w;
-          stand = stand;
+          valid = valid;
           size = subst (λ z. length z ≤ length p.bytes) e l;
           events = events;
           entries = copied;
-          meaning = mean_the_same p parts a stand flags n.suits records copied;
+          meaning = mean_the_same p parts a valid flags n.suits records copied;
           reached = reached;
-          again = nothing_changes p a kept are good marks b s m n.suits stands n.reads small reached (settles_again p a kept are n parts stand refl events (same_body p a kept are good marks b s m n.suits stands n.reads) (ap (λ (z : Framed). z.size) (metadata_is p a kept are good marks b s m n.suits stands n.reads small) ∙ shown_size (metadata_new p kept a))) (e ∙ sym out_is);
+          again = nothing_changes p a kept are good marks b s m n.suits holds n.reads small reached (settles_again p a kept are n parts valid refl events (same_body p a kept are good marks b s m n.suits holds n.reads) (ap (λ (z : Framed). z.size) (metadata_is p a kept are good marks b s m n.suits holds n.reads small) ∙ shown_size (metadata_new p kept a))) (e ∙ sym out_is);
         }
 
   pub scrubbed_kept : fronts.Whole p.bytes → IsKept p kept

@@ -17,7 +17,7 @@ use Rattle.jfr_chunk.specs.Chosen.{java_names, system_names, or_else, thread_tex
 use Rattle.jfr_chunk.specs.Scrub.{scrub_of}
 use Rattle.jfr_chunk.specs.Meaning.{SameEvent, SameMeaning}
 use Rattle.jfr_worklist.specs.Members.{In}
-use Rattle.jfr_chunk.proofs.StandingLaws.{IsEvent, standing, event_is}
+use Rattle.jfr_chunk.proofs.HasNodesLaws.{IsEvent, has_nodes, event_is}
 use Rattle.jfr_laws.specs.Laws.{IsKept, IsSettled}
 use Rattle.jfr_laws.proofs.Marks.{all_of_them, marked_pass}
 use Rattle.jfr_laws.proofs.Same.{chosen_events, event_of_chunk}
@@ -29,9 +29,9 @@ module _ (g : Given) (p q : Parts) (a : AreParts p) (b : AreParts q) (kept : Lis
   same_answer : (e f : EventAt) → In kept e → IsEvent p e → IsEvent q f → SameRecord p q e f → SameEvent p q e f → is_chosen g p e ≡ is_chosen g q f
   same_answer e f k i j r h =
       let agree : Agree p.classes q.classes (shape_of i.value).class = subst (Agree p.classes q.classes) (ap (λ (y : Shape). y.class) (sym i.shape ∙ i.node.shape)) r.agree in
-      let twins : Twins p q (standing p a) (standing q b) e.node f.node = record { value = i.value; left = i.node; other = j.value; right = j.node; paths = h.paths; agree = agree } in
+      let twins : Twins p q (has_nodes p a) (has_nodes q b) e.node f.node = record { value = i.value; left = i.node; other = j.value; right = j.node; paths = h.paths; agree = agree } in
       let text : thread_text p e ≡ thread_text q f =
-      λ z. or_else (texts_same p q (standing p a) (standing q b) java_names e.node f.node twins z) (texts_same p q (standing p a) (standing q b) system_names e.node f.node twins z) in
+      λ z. or_else (texts_same p q (has_nodes p a) (has_nodes q b) java_names e.node f.node twins z) (texts_same p q (has_nodes p a) (has_nodes q b) system_names e.node f.node twins z) in
       ap (λ t. option_map_or (λ c. keeps g c.name c.categories t) (find_class p.classes e.record_of.type_id) false) text
       ∙ (ap (λ o. option_map_or (λ c. keeps g c.name c.categories (thread_text q f)) o false) (sym (found e k))
       ∙ ap (λ t. option_map_or (λ c. keeps g c.name c.categories (thread_text q f)) (find_class q.classes t) false) h.class)
@@ -62,5 +62,5 @@ pub settled : (g : Given) (p : Parts) → Whole p.bytes → AreParts p → IsSet
 settled g p whole a =
     let k : IsKept p (kept_of g p) = scrubbed_kept p a (chosen g p) whole in
     let found = λ (e : EventAt) (i : In (kept_of g p) e). ap (λ m. find_class m e.record_of.type_id) k.classes ∙ left_found p a (kept_of g p) (chosen_events p (chosen g p)) e i in
-    let all : chosen g k.parts ≡ replicate (length (events_of k.parts)) true = all_chosen g p k.parts a k.stand (kept_of g p) found refl k.events k.meaning in
+    let all : chosen g k.parts ≡ replicate (length (events_of k.parts)) true = all_chosen g p k.parts a k.valid (kept_of g p) found refl k.events k.meaning in
     record { kept = k; all = all; again = again_same g k.parts all k.again }

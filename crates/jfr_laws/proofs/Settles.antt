@@ -18,7 +18,7 @@ use Rattle.jfr_layout.specs.Staying.{staying}
 use Rattle.jfr_meta.specs.Stays.{IsStay, stay_of}
 use Rattle.jfr_meta.specs.Held.{stays_of}
 use Rattle.jfr_meta.specs.Slimmed.{slim_body, bytes_of_body, table_len, slim_in}
-use Rattle.jfr_chunk.specs.Metas.{used_by, stays_in, slim_of, rebuilt, metadata_size, classes_left}
+use Rattle.jfr_chunk.specs.Metas.{used_by, stays_in, slim_of, rebuilt, metadata_size, remaining_classes}
 use Rattle.jfr_chunk.specs.Scrub.{written_anew}
 use Rattle.jfr_laws.proofs.AnewLaws as laws
 use Rattle.jfr_laws.proofs.AnewLaws.{IsAnew, is_anew}
@@ -74,7 +74,7 @@ module _ (p : Parts) (a : AreParts p) (kept : List EventAt) (are : AreEvents p k
 
   classes_are : (w : Option (List ℕ)) → rebuilt p kept a.metadata_record.size ≡ w → q.classes ≡ option_map_or (λ x. staying (stays_in p kept) p.classes) w p.classes
   classes_are w e =
-      classes ∙ (n.left ∙ (ap (λ z. option_map_or (λ x. staying (stays_in p kept) p.classes) (rebuilt p kept z) p.classes) (size_is p a) ∙ ap (λ o. option_map_or (λ x. staying (stays_in p kept) p.classes) o p.classes) e))
+      classes ∙ (n.remaining ∙ (ap (λ z. option_map_or (λ x. staying (stays_in p kept) p.classes) (rebuilt p kept z) p.classes) (size_is p a) ∙ ap (λ o. option_map_or (λ x. staying (stays_in p kept) p.classes) o p.classes) e))
 
   -- It is copied again.
   copied_again : rebuilt p kept a.metadata_record.size ≡ None → SameBody p.body q.body → rebuilt q (events_of q) a.metadata_record.size ≡ None

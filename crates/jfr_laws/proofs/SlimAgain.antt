@@ -6,7 +6,7 @@ use Rattle.std.specs.Str.{bytes_eq}
 use Rattle.std.proofs.Common.{ap, refl, sym, ◌∙◌, subst, inl, inr}
 use Rattle.std.proofs.lemmas.Bool.{eqb-true}
 use Rattle.jfr_layout.specs.Classes.{Class, Classes, Sound, has_id, class_index, is_event_class}
-use Rattle.jfr_meta.specs.Trees.{Tree, Node, Trees, Nil, Cons, list_of, trees_of, place_of, name_of, pairs_of, children_of}
+use Rattle.jfr_meta.specs.Trees.{Tree, Node, Trees, Nil, Cons, list_of, trees_of, element_offset, name_of, pairs_of, children_of}
 use Rattle.jfr_meta.specs.Attributes.{text_at, named}
 use Rattle.jfr_meta.specs.Body.{Body}
 use Rattle.jfr_meta.specs.Described.{class_elements, class_head, class_flaws, classes_of, described, id_attribute}
@@ -172,7 +172,7 @@ module _ (texts : List (List ℕ)) (t : Tree) where
 module _ (b : Body) (k : Classes) (used stays : ℕ → Bool) (told : described b ≡ Ok k) (is : (ts : List Tree) → class_elements b.strings b.root ≡ Some ts → IsStay b.strings ts k used stays) where
   d : Describes b.strings (class_elements b.strings b.root) k
   unfolding described
-  d = told_well b.strings (place_of b.root) (class_elements b.strings b.root) k told
+  d = told_well b.strings (element_offset b.root) (class_elements b.strings b.root) k told
 
   abbrev ts : List Tree
   ts = d.elements
@@ -180,14 +180,14 @@ module _ (b : Body) (k : Classes) (used stays : ℕ → Bool) (told : described 
   stay : IsStay b.strings ts k used stays
   stay = is ts d.there
 
-  abbrev left : Tree
-  left = slim_root b.strings stays b.root
+  abbrev remaining : Tree
+  remaining = slim_root b.strings stays b.root
 
   abbrev table : List (List ℕ)
-  table = table_of b.strings left
+  table = table_of b.strings remaining
 
   abbrev over : Tree
-  over = retabled b.strings left
+  over = retabled b.strings remaining
 
   abbrev m : Classes
   m = staying stays k
@@ -197,7 +197,7 @@ module _ (b : Body) (k : Classes) (used stays : ℕ → Bool) (told : described 
 
   pub c : Describes table (class_elements table over) m
   unfolding described slim_body
-  c = told_well table (place_of over) (class_elements table over) m told_slim
+  c = told_well table (element_offset over) (class_elements table over) m told_slim
 
   abbrev us : List Tree
   us = c.elements
@@ -210,9 +210,9 @@ module _ (b : Body) (k : Classes) (used stays : ℕ → Bool) (told : described 
 
   zip : AllZip (Alike b.strings table) (filter (head_stays b.strings stays) ts) us
   zip =
-      let there : class_elements b.strings left ≡ Some (filter (head_stays b.strings stays) ts) = slim_elements b.strings stays b.root ∙ ap (option_map (filter (head_stays b.strings stays))) d.there in
+      let there : class_elements b.strings remaining ≡ Some (filter (head_stays b.strings stays) ts) = slim_elements b.strings stays b.root ∙ ap (option_map (filter (head_stays b.strings stays))) d.there in
       subst (λ o. lists.Beside (AllZip (Alike b.strings table)) (Some (filter (head_stays b.strings stays) ts)) o) c.there
-      (subst (λ o. lists.Beside (AllZip (Alike b.strings table)) o (class_elements table over)) there (elements_alike b.strings table left over (retabled_alike b.strings left)))
+      (subst (λ o. lists.Beside (AllZip (Alike b.strings table)) o (class_elements table over)) there (elements_alike b.strings table remaining over (retabled_alike b.strings remaining)))
 
   again_has : (id : ℕ) → again id ≡ true → has_id m id ≡ true
   again_has id e = by_index (class_index m id) refl e
@@ -276,8 +276,8 @@ module _ (b : Body) (k : Classes) (used stays : ℕ → Bool) (told : described 
     start = b.start;
     duration = b.duration;
     id = b.id;
-    strings = (ap (table_of table) root_again ∙ table_again b.strings left) i;
-    root = (ap (retabled table) root_again ∙ retabled_again b.strings left) i;
+    strings = (ap (table_of table) root_again ∙ table_again b.strings remaining) i;
+    root = (ap (retabled table) root_again ∙ retabled_again b.strings remaining) i;
   }
 
   pub again_is : (id : ℕ) → option_map_or (λ xs. stay_of (slim_body b stays).strings xs m used id) (class_elements (slim_body b stays).strings (slim_body b stays).root) false ≡ again id

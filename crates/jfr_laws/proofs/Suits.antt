@@ -26,10 +26,10 @@ use Rattle.jfr_chunk.specs.Scrub.{OutputRecord, Whole, Chained, Rebuilt}
 use Rattle.jfr_pool.proofs.ForceLaws.{forced, numbered}
 use Rattle.jfr_worklist.specs.Members.{In}
 use Rattle.jfr_worklist.proofs.Members.{contains_in}
-use Rattle.jfr_chunk.proofs.PathLaws.{Standing, part_agree, own_class}
-use Rattle.jfr_chunk.proofs.StandingLaws.{IsEvent}
-use Rattle.jfr_laws.specs.InChunk.{EntryStands, GroupStands}
-use Rattle.jfr_laws.proofs.OutputRecords.{OutputRecordStands}
+use Rattle.jfr_chunk.proofs.PathLaws.{HasNodes, part_agree, own_class}
+use Rattle.jfr_chunk.proofs.HasNodesLaws.{IsEvent}
+use Rattle.jfr_laws.specs.InChunk.{IsEntryIn, IsGroupIn}
+use Rattle.jfr_laws.proofs.OutputRecords.{IsOutputRecordIn}
 use Rattle.jfr_laws.proofs.Regrouped.{NotEmpty, some_each}
 
 pub record Suits (p : Parts) (kept : List EventAt) (m : Classes) : Type 0 where
@@ -44,7 +44,7 @@ beside R (Some c) (Some b) a r e = let h : c ≡ a = cc in (b, refl, subst (λ z
 beside R None (Some c) a r e = absurd r
 beside R (Some c) None a r e = absurd r
 
-module _ (p : Parts) (m : Classes) (s : Standing p) where
+module _ (p : Parts) (m : Classes) (s : HasNodes p) where
   -- A node of whose class the lists agree, and its value.
   pub record Agreed (n : NodeAt) : Type 0 where
     pub value : Value
@@ -120,7 +120,7 @@ module _ (c : List ℕ) (k m : Classes) where
   known_too : (id : ℕ) → Agree k m id → pool_check m id ≡ None
   known_too id g = let a = g 1 in ap (λ o. if is_some o then None else Some PoolType) a.3
 
-  entry_too : (e : EntryAt) → Agree k m e.class → EntryStands c k e → EntryStands c m e
+  entry_too : (e : EntryAt) → Agree k m e.class → IsEntryIn c k e → IsEntryIn c m e
   entry_too e g s = record {
     value = s.value;
     known = known_too e.class g;
@@ -133,14 +133,14 @@ module _ (c : List ℕ) (k m : Classes) where
   abbrev AgreeEach : List EntryAt → Type 0
   AgreeEach es = AllByRecursion (λ e. Agree k m e.class) es
 
-  entries_too : (class : ℕ) (es : List EntryAt) → AgreeEach es → AllByRecursion (λ e. EntryStands c k e × (e.class ≡ class)) es → AllByRecursion (λ e. EntryStands c m e × (e.class ≡ class)) es
+  entries_too : (class : ℕ) (es : List EntryAt) → AgreeEach es → AllByRecursion (λ e. IsEntryIn c k e × (e.class ≡ class)) es → AllByRecursion (λ e. IsEntryIn c m e × (e.class ≡ class)) es
   entries_too class [] g s = tt
   entries_too class (e ∷ es) g s = ((entry_too e g.0 s.0.0, s.0.1), entries_too class es g.1 s.1)
 
-  group_too : (g : written_specs.Group) → NotEmpty g.entries → AgreeEach g.entries → GroupStands c k g → GroupStands c m g
+  group_too : (g : written_specs.Group) → NotEmpty g.entries → AgreeEach g.entries → IsGroupIn c k g → IsGroupIn c m g
   group_too g n a s = (by_first g.entries n a s.1, entries_too g.class g.entries a s.1)
     where
-      by_first : (es : List EntryAt) → NotEmpty es → AgreeEach es → AllByRecursion (λ e. EntryStands c k e × (e.class ≡ g.class)) es → pool_check m g.class ≡ None
+      by_first : (es : List EntryAt) → NotEmpty es → AgreeEach es → AllByRecursion (λ e. IsEntryIn c k e × (e.class ≡ g.class)) es → pool_check m g.class ≡ None
       by_first [] n a s = absurd n
       by_first (e ∷ es) n a s = subst (λ z. pool_check m z ≡ None) s.0.1 (known_too e.class a.0)
 
@@ -157,7 +157,7 @@ module _ (c : List ℕ) (k m : Classes) where
       added [] b = ((a.0, tt), tt)
       added (g ∷ gs) b = by_test g gs ((e.pool == g.pool) && (e.class == g.class)) b.0 b.1
 
-  groups_too : (gs : List written_specs.Group) → AllByRecursion (λ g. NotEmpty g.entries) gs → AllByRecursion (λ g. AgreeEach g.entries) gs → AllByRecursion (GroupStands c k) gs → AllByRecursion (GroupStands c m) gs
+  groups_too : (gs : List written_specs.Group) → AllByRecursion (λ g. NotEmpty g.entries) gs → AllByRecursion (λ g. AgreeEach g.entries) gs → AllByRecursion (IsGroupIn c k) gs → AllByRecursion (IsGroupIn c m) gs
   groups_too [] n a s = tt
   groups_too (g ∷ gs) n a s = (group_too g n.0 a.0 s.0, groups_too gs n.1 a.1 s.1)
 
@@ -169,10 +169,10 @@ module _ (c : List ℕ) (k m : Classes) where
       by_test true i = (a.0, i)
       by_test false i = i
 
-  pub records_too : (left : List EntryAt) → AgreeEach left → (ss : List OutputRecord) → AllByRecursion (OutputRecordStands c left k) ss → AllByRecursion (OutputRecordStands c left m) ss
-  records_too left a [] s = tt
-  records_too left a (Whole r ∷ ss) s = (s.0, records_too left a ss s.1)
-  records_too left a (Rebuilt r x ∷ ss) s = (s.0, records_too left a ss s.1)
-  records_too left a (Chained i l ∷ ss) s =
-      let these : List EntryAt = filter (λ e. e.checkpoint == i) left in
-      ((s.0.0, groups_too (by_pool these) (some_each these) (groups_agree these (filter_agree (λ e. e.checkpoint == i) left a)) s.0.1, s.0.2), records_too left a ss s.1)
+  pub records_too : (remaining : List EntryAt) → AgreeEach remaining → (ss : List OutputRecord) → AllByRecursion (IsOutputRecordIn c remaining k) ss → AllByRecursion (IsOutputRecordIn c remaining m) ss
+  records_too remaining a [] s = tt
+  records_too remaining a (Whole r ∷ ss) s = (s.0, records_too remaining a ss s.1)
+  records_too remaining a (Rebuilt r x ∷ ss) s = (s.0, records_too remaining a ss s.1)
+  records_too remaining a (Chained i l ∷ ss) s =
+      let these : List EntryAt = filter (λ e. e.checkpoint == i) remaining in
+      ((s.0.0, groups_too (by_pool these) (some_each these) (groups_agree these (filter_agree (λ e. e.checkpoint == i) remaining a)) s.0.1, s.0.2), records_too remaining a ss s.1)

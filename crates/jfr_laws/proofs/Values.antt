@@ -2,7 +2,7 @@
 use Rattle.std.specs.Prelude.{◌≡◌, ℕ, ◌≤◌, List, [], length, Some, Ok, Err, unwrap_or, slice_range}
 use Rattle.std.proofs.Common.{ap, arith, refl, subst}
 use Rattle.jfr_base.specs.Formats.{Format, Exactly, Reads, Answer, Got, run}
-use Rattle.jfr_base.proofs.Exact.{Says, run_says}
+use Rattle.jfr_base.proofs.Exact.{ReadsOrFails, run_reads_or_fails}
 use Rattle.jfr_base.proofs.RunLaws.{Stands, exact_run}
 use Rattle.jfr_layout.specs.Classes.{Classes}
 use Rattle.jfr_value.specs.Values.{Value, Group, Nil}
@@ -13,9 +13,9 @@ use Rattle.jfr_pool.specs.Entries.{inline, entry_node}
 
 -- A value whose exact bytes are there is read there.
 pub exact_reads : {A : Type 0} (f : Format A) (x : List ℕ) (end at to : ℕ) (b : List ℕ) (a : A) → Exactly f b a → Stands x at to b → to ≤ end → end ≤ length x → Reads f x end at a to
-exact_reads {A = A} f x end at to b a e s i h = by_answer (run f x end at) (exact_run x end h f at to b a e s i) (run_says f x end at (omega (arith, s.order)) h)
+exact_reads {A = A} f x end at to b a e s i h = by_answer (run f x end at) (exact_run x end h f at to b a e s i) (run_reads_or_fails f x end at (omega (arith, s.order)) h)
   where
-    by_answer : (r : Answer A) → r ≡ Ok (record { value = a; place = to }) → Says f x end at r → Reads f x end at a to
+    by_answer : (r : Answer A) → r ≡ Ok (record { value = a; place = to }) → ReadsOrFails f x end at r → Reads f x end at a to
     by_answer (Ok g) q r =
         let p : g ≡ record { value = a; place = to } = cc in
         subst (λ (z : Got A). Reads f x end at z.value z.place) p r

@@ -2,7 +2,7 @@
 use Rattle.std.specs.Prelude.{◌≡◌, ℕ, ◌+◌, ◌^◌, ◌<◌, ◌≤◌, Bool, true, false, ◌==◌, ◌||◌, List, [], ◌∷◌, ◌++◌, length, Option, Some, None}
 use Rattle.std.specs.List.{AllByRecursion}
 use Rattle.std.proofs.Common.{ap, arith, refl, sym, ◌∙◌, length-append}
-use Rattle.jfr_base.proofs.HoldLaws.{Holds, holds_at, holds_behind}
+use Rattle.jfr_base.proofs.HoldLaws.{Holds, holds_at, holds_after}
 use Rattle.jfr_header.specs.Fronts as fronts
 use Rattle.jfr_layout.specs.Classes.{Classes}
 use Rattle.jfr_meta.specs.Body.{Body}
@@ -48,8 +48,8 @@ no_link_at c all f a s t = by_find (numbered_at all f.at) refl
         absurd (omega arith)
 
 -- The entries that are left, by marks.
-abbrev pub left_of : Parts → List Bool → List EntryAt
-left_of p marks = marked marks p.entries
+abbrev pub remaining_of : Parts → List Bool → List EntryAt
+remaining_of p marks = marked marks p.entries
 
 -- What is built anew of the metadata record, if anything is.
 abbrev pub metadata_new : (p : Parts) → List EventAt → AreParts p → Option (List ℕ)
@@ -67,10 +67,10 @@ MetadataReads p kept a m = (b : List ℕ) (place : ℕ) → Holds b (length b) p
 module _ (p : Parts) (kept : List EventAt) (marks : List Bool) where
   -- What is written, and its bytes.
   abbrev pub written_of : List Written
-  written_of = written p.bytes (left_of p marks) 68 None (output_records p kept)
+  written_of = written p.bytes (remaining_of p marks) 68 None (output_records p kept)
 
   abbrev pub body_of : List ℕ
-  body_of = bytes_from p.bytes (left_of p marks) 68 None (output_records p kept)
+  body_of = bytes_from p.bytes (remaining_of p marks) 68 None (output_records p kept)
 
   -- The offsets of the output's last checkpoint and of its metadata record.
   abbrev pub last_of : ℕ
@@ -88,7 +88,7 @@ module _ (p : Parts) (kept : List EventAt) (marks : List Bool) where
 
   -- The chunk of it.
   abbrev pub out : List ℕ
-  out = assembled p (left_of p marks) (output_records p kept)
+  out = assembled p (remaining_of p marks) (output_records p kept)
 
   abbrev header : List ℕ
   header = header_with p.bytes (68 + length body_of) last_of metadata_of
@@ -100,15 +100,15 @@ module _ (p : Parts) (kept : List EventAt) (marks : List Bool) where
   out_size = let l : length (header ++ body_of) ≡ length header + length body_of = length-append header body_of in omega (arith, header_is_long)
 
   out_held : Holds out (length out) 68 body_of
-  out_held = holds_at out (length out) (length header) 68 body_of header_is_long (holds_behind header body_of)
+  out_held = holds_at out (length out) (length header) 68 body_of header_is_long (holds_after header body_of)
 
   module _ (a : AreParts p) (good : GoodAnew p.bytes (written_anew p kept)) where
-    pub is_ready : Ready p (left_of p marks) (output_records p kept)
+    pub is_ready : Ready p (remaining_of p marks) (output_records p kept)
     is_ready = ready p a (output_records_whole p kept) (written_anew p kept) good marks
 
     body_fits : 68 + length body_of ≤ length p.bytes
     body_fits =
-        let l = length_back p.bytes (left_of p marks) p.classes (output_records p kept) 68 None is_ready.stand is_ready.deltas in
+        let l = length_back p.bytes (remaining_of p marks) p.classes (output_records p kept) 68 None is_ready.valid is_ready.deltas in
         let s = sizes_within p.bytes (all_links p) (output_records_whole p kept) (written_anew p kept) (only_records p.bytes (all_links p) (chained_checkpoints p a)) p.records 68 (length p.bytes) a.records in
         omega (arith, l, s)
 
@@ -116,13 +116,13 @@ module _ (p : Parts) (kept : List EventAt) (marks : List Bool) where
     out_shorter = omega (arith, body_fits, out_size)
 
     -- The metadata record is found if the body is there.
-    pub metadata_found : (b : List ℕ) → Holds b (length b) 68 body_of → Found p.bytes (left_of p marks) p.classes b a.metadata_record (metadata_new p kept a) 68 written_of
+    pub metadata_found : (b : List ℕ) → Holds b (length b) 68 body_of → Found p.bytes (remaining_of p marks) p.classes b a.metadata_record (metadata_new p kept a) 68 written_of
     metadata_found b h =
         let f : Framed = a.metadata_record in
-        found_back p.bytes (left_of p marks) p.classes b (all_links p) (output_records_whole p kept) (written_anew p kept) f (metadata_stands p a)
+        found_back p.bytes (remaining_of p marks) p.classes b (all_links p) (output_records_whole p kept) (written_anew p kept) f (metadata_stands p a)
         (no_link_at p.bytes (all_links p) f (chained_checkpoints p a) (metadata_stands p a) a.metadata_there.type_is)
         (or_right (is_kept kept f) (f.at == metadata_at p.bytes) (is_eq f.at (metadata_at p.bytes) a.metadata_there.place))
-        p.records 68 None (recorded p a) (contains_in p.records f a.metadata_there.listed) is_ready.stand is_ready.deltas h
+        p.records 68 None (recorded p a) (contains_in p.records f a.metadata_there.listed) is_ready.valid is_ready.deltas h
 
     module _ (whole : fronts.Whole p.bytes) where
       small : length p.bytes < 2 ^ 30
@@ -133,7 +133,7 @@ module _ (p : Parts) (kept : List EventAt) (marks : List Bool) where
           let f = metadata_found out out_held in
           let m : metadata_of ≡ f.place = ap (moved written_of) (sym a.metadata_there.place) ∙ f.leads in
           let w : f.place + length (shown_bytes p.bytes (metadata_new p kept a) a.metadata_record) ≤ length out = f.held.within in
-          let l = last_bound p.bytes (left_of p marks) (output_records p kept) 68 None tt in
+          let l = last_bound p.bytes (remaining_of p marks) (output_records p kept) 68 None tt in
           record {
             held = out_held;
             size = out_size;

@@ -14,7 +14,7 @@ use Rattle.jfr_pool.specs.Entries.{inline, pool_check, Constant, PoolAt}
 use Rattle.jfr_chunk.specs.Written.{Group}
 
 -- The entry is in the chunk: its class is known, and its key and its value are at its offsets.
-pub record EntryStands (c : List ℕ) (k : Classes) (e : EntryAt) : Type 0 where
+pub record IsEntryIn (c : List ℕ) (k : Classes) (e : EntryAt) : Type 0 where
   pub value : Value
   pub known : pool_check k e.class ≡ None
   pub key : IntAt c e.key_at e.value_at e.key
@@ -23,11 +23,11 @@ pub record EntryStands (c : List ℕ) (k : Classes) (e : EntryAt) : Type 0 where
   pub exact : Exactly (value_format k (inline e.class)) (slice_range c e.value_at e.end) value
 
 -- The entries of a group are in the chunk, and have its class.
-abbrev pub GroupStands : List ℕ → Classes → Group → Type 0
-GroupStands c k g = (pool_check k g.class ≡ None) × AllByRecursion (λ e. EntryStands c k e × (e.class ≡ g.class)) g.entries
+abbrev pub IsGroupIn : List ℕ → Classes → Group → Type 0
+IsGroupIn c k g = (pool_check k g.class ≡ None) × AllByRecursion (λ e. IsEntryIn c k e × (e.class ≡ g.class)) g.entries
 
 -- The link is in the chunk: its record, and the integers of its head.
-pub record LinkStands (c : List ℕ) (l : Link) : Type 0 where
+pub record IsLinkIn (c : List ℕ) (l : Link) : Type 0 where
   pub record_stands : IsRecord c l.frame
   pub is_checkpoint : l.frame.type_id ≡ 1
   pub middle : ℕ

@@ -9,7 +9,7 @@ use Rattle.jfr_chunk.specs.Parts.{Parts, EventAt, AreParts, events_of}
 use Rattle.jfr_chunk.specs.Reach.{Reached, remain}
 use Rattle.jfr_chunk.specs.Chosen.{chosen, kept_of}
 use Rattle.jfr_chunk.specs.Scrub.{scrub_of}
-use Rattle.jfr_chunk.specs.Metas.{classes_left}
+use Rattle.jfr_chunk.specs.Metas.{remaining_classes}
 use Rattle.jfr_chunk.specs.Meaning.{SameMeaning}
 use Rattle.jfr_chunk.specs.Laws.{SameRecords}
 
@@ -33,10 +33,10 @@ AreCopied p q (e ∷ es) [] = ⊥
 -- it doesn't change.
 pub record IsKept (p : Parts) (kept : List EventAt) : Type 0 where
   pub parts : Parts
-  pub classes : parts.classes ≡ classes_left p kept
+  pub classes : parts.classes ≡ remaining_classes p kept
   pub bytes : parts.bytes ≡ scrub_of p kept
   pub whole : Whole (scrub_of p kept)
-  pub stand : AreParts parts
+  pub valid : AreParts parts
   pub size : length (scrub_of p kept) ≤ length p.bytes
   pub events : SameRecords p parts kept (events_of parts)
   pub entries : AreCopied p parts (remain p kept) parts.entries

@@ -12,7 +12,7 @@ use Rattle.jfr_layout.specs.declared.field_layout.FieldLayout.{FieldLayout}
 use Rattle.jfr_layout.specs.Classes.{Class, Classes, Field, IsFieldLayout, AreFieldLayouts, class_index, field_at, kind_of, layout_with}
 use Rattle.jfr_layout.specs.Resolved.{AreClassLayouts, IsClassLayout}
 use Rattle.jfr_layout.proofs.Lists.{all_at, all_push, chained, mapped_at, present, value_in, zip_at}
-use Rattle.jfr_layout.proofs.Indices.{index_within, stands}
+use Rattle.jfr_layout.proofs.Indices.{index_within, holds}
 
 -- The layout of a shape whose class has an index.
 pub layout_at : (k : Classes) (kinds : List Kind) (s : Shape) (p : ℕ) (d : Kind) → kinds ≡ map (λ c. kind_of c.name) k → class_index k s.class ≡ Some p → IsFieldLayout k (layout_with s p (get_or kinds p d))
@@ -21,7 +21,7 @@ layout_at k kinds s p d ks e =
     let q : slice_get kinds p ≡ Some (kind_of c.0.name) = ap (λ z. slice_get z p) ks ∙ (slice_get-map (λ (z : Class). kind_of z.name) k p ∙ ap (option_map (λ (z : Class). kind_of z.name)) c.1) in
     record {
       class_index = e;
-      kind = ap (option_map (λ (z : Class). kind_of z.name)) (stands k s.class p e ∙ c.1) ∙ ap Some (sym (get_or_from_slice_get kinds p (kind_of c.0.name) d q));
+      kind = ap (option_map (λ (z : Class). kind_of z.name)) (holds k s.class p e ∙ c.1) ∙ ap Some (sym (get_or_from_slice_get kinds p (kind_of c.0.name) d q));
       form = refl;
     }
 

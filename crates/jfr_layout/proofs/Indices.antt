@@ -49,5 +49,5 @@ pub index_within : (k : Classes) (id p : ℕ) → class_index k id ≡ Some p �
 index_within [] id p e = cc
 index_within (c ∷ k) id p e = (position-Some (λ (d : Class). d.id == id) (c ∷ k) p c e).0
 
-pub stands : (k : Classes) (id p : ℕ) → class_index k id ≡ Some p → find_class k id ≡ slice_get k p
-stands k id p e = find-position (λ (c : Class). c.id == id) k p e
+pub holds : (k : Classes) (id p : ℕ) → class_index k id ≡ Some p → find_class k id ≡ slice_get k p
+holds k id p e = find-position (λ (c : Class). c.id == id) k p e

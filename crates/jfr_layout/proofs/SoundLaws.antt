@@ -10,7 +10,7 @@ use Rattle.std.proofs.lemmas.Iterator.Adapters.{position_from-zero}
 use Rattle.std.proofs.lemmas.Option.{same_Some}
 use Rattle.jfr_base.specs.declared.reason.Reason.TheVariants.{ClassTwice, FieldTwice, EmptyInline, InlineDeep}
 use Rattle.jfr_layout.specs.Classes.{Class, Classes, Field, Sound, class_faults, repeats, unknown, empty_inline, deep, has_id, has_name, name_repeats, flaw_if, find_class, class_index, field_number, is_empty_inline, goes_inline, Agree, AgreeWithin}
-use Rattle.jfr_layout.specs.Laws.{StandOnce, AreKnown, EndsInline, AgreeOnFields}
+use Rattle.jfr_layout.specs.Laws.{AreFound, AreKnown, EndsInline, AgreeOnFields}
 use Rattle.jfr_layout.proofs.Lists.{nil_parts, none_at, chained}
 use Rattle.jfr_layout.proofs.Indices.{find-position, is_some-find}
 use Rattle.jfr_layout.proofs.Stages.{no_flaw}
@@ -62,8 +62,8 @@ name_number k i j c f s e g =
     first_at (λ (h : Field). bytes_eq h.name f.name) c.fields j f g ((bytes_eq-Decides f.name f.name).1 refl)
     (no_flaw (has_name (take j c.fields) f.name) i (Some j) FieldTwice (none_at (found_name i c.fields) c.fields j f n g))
 
-pub stand_once : (k : Classes) → Sound k → StandOnce k
-stand_once k s = record {
+pub are_found : (k : Classes) → Sound k → AreFound k
+are_found k s = record {
   id = λ i c e. (id_index k i c s e, find-position (λ (d : Class). d.id == c.id) k i (id_index k i c s e) ∙ e);
   name = λ i j c f e g. name_number k i j c f s e g;
 }

@@ -11,7 +11,7 @@ use Rattle.jfr_layout.specs.declared.shape.Shape.{Shape}
 use Rattle.jfr_layout.specs.declared.field_layout.FieldLayout.{FieldLayout}
 use Rattle.jfr_layout.specs.Classes.{Class, Classes, Field, IsFieldLayout, field_at, find_class, step_class, kind_of, is_composite, extends_event}
 use Rattle.jfr_layout.proofs.FieldLayouts.{HasLayout}
-use Rattle.jfr_layout.proofs.Indices.{index_within, stands}
+use Rattle.jfr_layout.proofs.Indices.{index_within, holds}
 
 pub field_of : (k : Classes) (i j : ℕ) (c : Class) (f : Field) → slice_get k i ≡ Some c → slice_get c.fields j ≡ Some f → field_at k i j ≡ Some f
 field_of k i j c f e s = ap (option_and_then (λ (d : Class). slice_get d.fields j)) e ∙ s
@@ -26,8 +26,8 @@ layout_step : (k : Classes) (f : Field) (s : FieldLayout) → s.shape ≡ f.shap
 layout_step k f s e i =
     ap (λ (z : Shape). if z.constant then None else option_and_then (λ (d : Class). if is_composite (kind_of d.name) then Some d else None) (find_class k z.class)) (sym e)
     ∙ ap (λ o. if s.shape.constant then None else o)
-    (ap (option_and_then (λ (d : Class). if is_composite (kind_of d.name) then Some d else None)) (stands k s.shape.class s.class_index i.class_index)
-    ∙ by_kind (slice_get k s.class_index) s.kind (ap (option_map (λ (d : Class). kind_of d.name)) (sym (stands k s.shape.class s.class_index i.class_index)) ∙ i.kind))
+    (ap (option_and_then (λ (d : Class). if is_composite (kind_of d.name) then Some d else None)) (holds k s.shape.class s.class_index i.class_index)
+    ∙ by_kind (slice_get k s.class_index) s.kind (ap (option_map (λ (d : Class). kind_of d.name)) (sym (holds k s.shape.class s.class_index i.class_index)) ∙ i.kind))
 
 not_composite : (kind : Kind) → (kind ≡ Composite → ⊥) → is_composite kind ≡ false
 not_composite Composite n = absurd (n refl)

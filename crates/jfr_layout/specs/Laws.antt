@@ -4,7 +4,7 @@ use Rattle.std.specs.List.{AllByRecursion}
 use Rattle.jfr_layout.specs.Classes.{Class, Classes, Field, find_class, class_index, field_at, field_number, step_class, goes_inline, Agree}
 
 -- Each class is found by its id, and each field of a class by its name.
-pub record StandOnce (k : Classes) : Type 0 where
+pub record AreFound (k : Classes) : Type 0 where
   pub id : (i : ℕ) (c : Class) → slice_get k i ≡ Some c → (class_index k c.id ≡ Some i) × (find_class k c.id ≡ Some c)
   pub name : (i j : ℕ) (c : Class) (f : Field) → slice_get k i ≡ Some c → slice_get c.fields j ≡ Some f → field_number c.fields f.name ≡ Some j
 

@@ -1,12 +1,12 @@
 //! Laws of sound classes and of agreement that no other contract states. The functions do nothing; their
 //! contracts are the laws.
 ghost use Rattle.jfr_layout.specs.Classes.{Classes, Sound};
-ghost use Rattle.jfr_layout.specs.Laws.{AgreeOnFields, AreKnown, EndsInline, StandOnce};
+ghost use Rattle.jfr_layout.specs.Laws.{AgreeOnFields, AreKnown, EndsInline, AreFound};
 
 /// In a sound list no two classes have the same id, and no two fields of a class the same name.
-#[tactic(auto, using(crate::proofs::SoundLaws::stand_once))]
-pub fn ids_stand_once()
-    ensures { (k : Classes) → Sound k → StandOnce k }
+#[tactic(auto, using(crate::proofs::SoundLaws::are_found))]
+pub fn ids_are_found()
+    ensures { (k : Classes) → Sound k → AreFound k }
 {}
 
 /// In a sound list each field's class is known, and has fields if it is composite and its values are inline.

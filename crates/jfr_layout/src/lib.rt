@@ -32,6 +32,6 @@ pub use field_layout::FieldLayout;
 pub use form::Form;
 pub use fused::{FusedFields, FusedKind};
 pub use kind::Kind;
-pub use laws::{classes_are_known, fields_agree, ids_stand_once, values_end};
+pub use laws::{classes_are_known, fields_agree, ids_are_found, values_end};
 pub use name::is_text;
 pub use shape::Shape;

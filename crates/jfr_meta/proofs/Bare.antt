@@ -9,9 +9,9 @@ use Rattle.jfr_base.specs.declared.reason.Reason.{Reason}
 use Rattle.jfr_base.specs.declared.reason.Reason.TheVariants.{ClassBad, FieldBad}
 use Rattle.jfr_base.specs.declared.flaw.Flaw.{Flaw}
 use Rattle.jfr_layout.specs.Classes.{Class, Classes, Field, ClassFlaw, class_faults}
-use Rattle.jfr_meta.specs.Trees.{Tree, Node, Trees, Nil, Cons, list_of, place_of, name_of, children_of}
+use Rattle.jfr_meta.specs.Trees.{Tree, Node, Trees, Nil, Cons, list_of, element_offset, name_of, children_of}
 use Rattle.jfr_meta.specs.Attributes.{text_at, attribute, named, values_of}
-use Rattle.jfr_meta.specs.Described.{class_elements, field_elements, class_head, shape_of, field_of, flaw_unless, field_flaws, class_flaws, heads, is_category, annotations_of, categories_of, class_of, classes_of, element_place, flaw_place, placed, list_flaws, tree_flaws, first_or, classes_told, described}
+use Rattle.jfr_meta.specs.Described.{class_elements, field_elements, class_head, shape_of, field_of, flaw_unless, field_flaws, class_flaws, heads, is_category, annotations_of, categories_of, class_of, classes_of, element_place, flaw_place, placed, list_flaws, tree_flaws, first_or, described_classes, described}
 use Rattle.jfr_meta.specs.Written.{bare, bares}
 
 -- Parts of a bare tree.
@@ -25,7 +25,7 @@ children_bare (Node place name pairs children) = these children
 pub name_bare : (t : Tree) → name_of (bare t) ≡ name_of t
 name_bare (Node place name pairs children) = refl
 
-place_bare : (t : Tree) → place_of (bare t) ≡ 0
+place_bare : (t : Tree) → element_offset (bare t) ≡ 0
 place_bare (Node place name pairs children) = refl
 
 -- A test that gives the same on a bare tree.
@@ -136,14 +136,14 @@ attributes_bare texts (t ∷ ts) =
     ap (λ z. z ++ flat_map (class_flaws texts) (map bare ts)) (one_bare texts t)
     ∙ (ap (λ z. map erased (class_flaws texts t) ++ z) (attributes_bare texts ts) ∙ sym (erased_append (class_flaws texts t) (flat_map (class_flaws texts) ts)))
 
-no_place : (o : Option Tree) → option_map_or place_of (option_map bare o) 0 ≡ 0
+no_place : (o : Option Tree) → option_map_or element_offset (option_map bare o) 0 ≡ 0
 no_place None = refl
 no_place (Some t) = place_bare t
 
 no_element_place : (texts : List (List ℕ)) (t : Tree) (field : Option ℕ) → element_place texts (bare t) field ≡ 0
 no_element_place texts t None = place_bare t
 no_element_place texts t (Some n) =
-    ap (λ z. option_map_or place_of z 0) (ap (λ z. slice_get z n) (named_bare texts (codes "field") t) ∙ slice_get-map bare (field_elements texts t) n) ∙ no_place (slice_get (field_elements texts t) n)
+    ap (λ z. option_map_or element_offset z 0) (ap (λ z. slice_get z n) (named_bare texts (codes "field") t) ∙ slice_get-map bare (field_elements texts t) n) ∙ no_place (slice_get (field_elements texts t) n)
 
 no_flaw_place : (texts : List (List ℕ)) (ts : List Tree) (class : ℕ) (field : Option ℕ) → flaw_place texts (map bare ts) class field ≡ 0
 no_flaw_place texts ts class field = ap (λ z. option_map_or (λ t. element_place texts t field) z 0) (slice_get-map bare ts class) ∙ by_one (slice_get ts class)
@@ -171,20 +171,20 @@ first_bare : (fs : List Flaw) (k : Classes) → classes_in (first_or (map erased
 first_bare [] k = refl
 first_bare (f ∷ fs) k = refl
 
-told_bare : (texts : List (List ℕ)) (at from : ℕ) (o : Option (List Tree)) → classes_in (classes_told texts at (option_map (map bare) o)) ≡ classes_in (classes_told texts from o)
+told_bare : (texts : List (List ℕ)) (at from : ℕ) (o : Option (List Tree)) → classes_in (described_classes texts at (option_map (map bare) o)) ≡ classes_in (described_classes texts from o)
 told_bare texts at from None = refl
 told_bare texts at from (Some ts) =
     ap (λ z. classes_in (first_or z (classes_of texts (map bare ts)))) (flaws_bare texts ts)
     ∙ (ap (λ z. classes_in (first_or (map erased (tree_flaws texts ts)) z)) (classes_bare texts ts) ∙ first_bare (tree_flaws texts ts) (classes_of texts ts))
 
 abbrev told_of : List (List ℕ) → Tree → Result Classes Flaw
-told_of texts root = classes_told texts (place_of root) (class_elements texts root)
+told_of texts root = described_classes texts (element_offset root) (class_elements texts root)
 
 same_told : (texts : List (List ℕ)) (t u : Tree) → bare t ≡ bare u → classes_in (told_of texts t) ≡ classes_in (told_of texts u)
 same_told texts t u e = sym (to_bare t) ∙ (ap (λ z. classes_in (told_of texts z)) e ∙ to_bare u)
   where
     to_bare : (t : Tree) → classes_in (told_of texts (bare t)) ≡ classes_in (told_of texts t)
-    to_bare t = ap (λ z. classes_in (classes_told texts (place_of (bare t)) z)) (elements_bare texts t) ∙ told_bare texts (place_of (bare t)) (place_of t) (class_elements texts t)
+    to_bare t = ap (λ z. classes_in (described_classes texts (element_offset (bare t)) z)) (elements_bare texts t) ∙ told_bare texts (element_offset (bare t)) (element_offset t) (class_elements texts t)
 
 -- Two trees that are the same but for their places describe the same classes.
 pub described_bare : (start duration id : ℕ) (strings : List (List ℕ)) (t u : Tree) (k : Classes) → bare t ≡ bare u

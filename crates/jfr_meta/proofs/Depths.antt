@@ -22,4 +22,4 @@ mutual
   elements_depth x limit levels p q (Cons t ts) e = omega (arith, element_depth x limit levels p e.0 t e.1, elements_depth x limit levels e.0 q ts e.2)
 
 pub shallow : (x : List ℕ) (r : Framed) (b : Body) (k : Classes) → IsMetadata x r b k → depth b.root ≤ 16
-shallow x r b k m = let s = root_stands x r b k m in element_depth x (length b.strings) 16 s.behind_strings (record_end r) b.root s.root
+shallow x r b k m = let s = root_stands x r b k m in element_depth x (length b.strings) 16 s.after_strings (record_end r) b.root s.root

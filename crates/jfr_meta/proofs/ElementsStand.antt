@@ -13,9 +13,9 @@ use Rattle.jfr_meta.specs.Trees.{Tree, tree, trees_of}
 use Rattle.jfr_meta.specs.Body.{Body, table_string, index, index_check, pair, element_format, body_format, meta_format, ArePairs, IsElement, AreElements, how_many}
 use Rattle.jfr_meta.specs.Described.{IsMetadata}
 use Rattle.jfr_meta.specs.Heads.{head_format}
-use Rattle.jfr_meta.specs.Laws.{RootStands}
-use Rattle.jfr_meta.proofs.Bodies.{Four, behind_head, behind_strings, body_of}
-use Rattle.jfr_meta.proofs.Parts.{behind_name, behind_count, behind_pairs, behind_number}
+use Rattle.jfr_meta.specs.Laws.{SpellsBody}
+use Rattle.jfr_meta.proofs.Bodies.{Four, after_head, after_strings, body_of}
+use Rattle.jfr_meta.proofs.Parts.{after_name, after_count, after_pairs, after_number}
 
 module _ (x : List ℕ) (end : ℕ) where
   integer_is : (at v p : ℕ) → Reads integer x end at v p → IntAt x at p v
@@ -65,10 +65,10 @@ module _ (x : List ℕ) (end : ℕ) where
   unfolding element_format
   element_is zero limit at t p r = absurd r
   element_is (suc levels) limit at t p r =
-      let a = reads_parted (index limit) (behind_name levels limit at) x end at t p r in
-      let b = reads_parted integer (behind_count levels limit at a.value) x end a.place t p a.second in
-      let c = reads_parted (times b.value (pair limit)) (behind_pairs levels limit at a.value) x end b.place t p b.second in
-      let d = reads_parted integer (behind_number levels limit at a.value c.value) x end c.place t p c.second in
+      let a = reads_parted (index limit) (after_name levels limit at) x end at t p r in
+      let b = reads_parted integer (after_count levels limit at a.value) x end a.place t p a.second in
+      let c = reads_parted (times b.value (pair limit)) (after_pairs levels limit at a.value) x end b.place t p b.second in
+      let d = reads_parted integer (after_number levels limit at a.value c.value) x end c.place t p c.second in
       let e = reads_parted (times d.value (element_format levels limit)) (λ children. Done (tree at a.value c.value children)) x end d.place t p d.second in
       let ia = index_is limit at a.value a.place a.first in
       let ps = pairs_are b.value limit b.place c.value c.place c.first in
@@ -103,25 +103,25 @@ module _ (x : List ℕ) (end : ℕ) where
       )
 
   -- The parts of a body, which ends at the end.
-  parts_are : (r : Framed) (b : Body) → record_end r ≡ end → Reads meta_format x end r.body b end → RootStands x r b
+  parts_are : (r : Framed) (b : Body) → record_end r ≡ end → Reads meta_format x end r.body b end → SpellsBody x r b
   unfolding meta_format body_format
   parts_are record_of b ends r =
       let s = reads_parted body_format (λ b. Stop (Done b)) x end record_of.body b end r in
-      let h = reads_parted head_format behind_head x end record_of.body s.value s.place s.first in
-      let c = reads_parted (times h.value.3 table_string) (behind_strings h.value) x end h.place s.value s.place h.second in
+      let h = reads_parted head_format after_head x end record_of.body s.value s.place s.first in
+      let c = reads_parted (times h.value.3 table_string) (after_strings h.value) x end h.place s.value s.place h.second in
       let e = reads_parted (element_format 16 h.value.3) (λ root. Done (body_of h.value c.value root)) x end c.place s.value s.place c.second in
       let same : body_of h.value c.value e.value ≡ b = sym (s.second.1.0 ∙ e.second.0) in
       let there : e.place ≡ end = sym (s.second.1.1 ∙ e.second.1) in
       let count : h.value.3 ≡ length c.value = sym (times_length h.value.3 table_string h.place c.value c.place c.first) in
       let i = head_is record_of.body h.value h.place h.first in
-      let stands : IsElement x h.value.3 16 c.place e.place e.value = element_is 16 h.value.3 c.place e.value e.place e.first in
-      subst (RootStands x record_of) same (record {
-        behind_head = h.place;
-        behind_strings = c.place;
-        head = record { behind_start = i.0; behind_duration = i.1; behind_id = i.2; start = i.3; duration = i.4; id = i.5; count = subst (IntAt x i.2 h.place) count i.6 };
+      let holds : IsElement x h.value.3 16 c.place e.place e.value = element_is 16 h.value.3 c.place e.value e.place e.first in
+      subst (SpellsBody x record_of) same (record {
+        after_head = h.place;
+        after_strings = c.place;
+        head = record { after_start = i.0; after_duration = i.1; after_id = i.2; start = i.3; duration = i.4; id = i.5; count = subst (IntAt x i.2 h.place) count i.6 };
         strings = subst (λ z. Reads (times z table_string) x (record_end record_of) h.place c.value c.place) count (subst (λ z. Reads (times h.value.3 table_string) x z h.place c.value c.place) (sym ends) c.first);
-        root = subst (λ z. IsElement x z 16 c.place (record_end record_of) e.value) count (subst (λ z. IsElement x h.value.3 16 c.place z e.value) (there ∙ sym ends) stands);
+        root = subst (λ z. IsElement x z 16 c.place (record_end record_of) e.value) count (subst (λ z. IsElement x h.value.3 16 c.place z e.value) (there ∙ sym ends) holds);
       })
 
-pub root_stands : (x : List ℕ) (r : Framed) (b : Body) (k : Classes) → IsMetadata x r b k → RootStands x r b
+pub root_stands : (x : List ℕ) (r : Framed) (b : Body) (k : Classes) → IsMetadata x r b k → SpellsBody x r b
 root_stands x r b k m = parts_are x (record_end r) r b refl m.body

@@ -26,8 +26,8 @@ first_stays [] ys f e = cc
 first_stays (x ∷ xs) ys f e = e
 
 -- The reference at an index leads to the member at this index.
-pub behind_ref : {A : Type 0} (refs : List (Bor A)) (xs : List A) (i : ℕ) (r : Bor A) → map (λ e. e.now) refs ≡ xs → i < length refs → r ≡ get_or refs i r → slice_get xs i ≡ Some r.now
-behind_ref refs xs i r m l e =
+pub after_ref : {A : Type 0} (refs : List (Bor A)) (xs : List A) (i : ℕ) (r : Bor A) → map (λ e. e.now) refs ≡ xs → i < length refs → r ≡ get_or refs i r → slice_get xs i ≡ Some r.now
+after_ref refs xs i r m l e =
     sym (ap (λ z. slice_get z i) m) ∙ (slice_get-map (λ e. e.now) refs i ∙ (ap (option_map (λ e. e.now)) (slice_get-get_or refs i r l) ∙ ap (λ z. Some z.now) (sym e)))
 
 pub record Judging {A B : Type 0} (flaws : A → List Flaw) (make : A → Option B) (xs : List A) (i : ℕ) (made : List B) : Type 0 where

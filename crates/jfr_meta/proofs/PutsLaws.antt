@@ -10,7 +10,7 @@ use Rattle.std.proofs.lemmas.List.Elements.{filter_map-append}
 use Rattle.std.proofs.lemmas.Grind.{flat_map-append}
 use Rattle.jfr_layout.specs.Classes.{Class, Classes, Sound, class_index, is_event_class}
 use Rattle.jfr_layout.proofs.Lists.{take_next, present}
-use Rattle.jfr_layout.proofs.SoundLaws.{stand_once}
+use Rattle.jfr_layout.proofs.SoundLaws.{are_found}
 use Rattle.jfr_meta.specs.Trees.{Tree, Node, Trees, Nil, Cons, list_of, children_of}
 use Rattle.jfr_meta.specs.Described.{id_attribute}
 use Rattle.jfr_worklist.specs.Marks.{those, is_marked, marked_at, swept}
@@ -173,7 +173,7 @@ module _ (marks : List Bool) (k : Classes) (sound : Sound k) where
   below_next at id c e = by_index (class_index k id) refl
     where
       own : class_index k c.id ≡ Some at
-      own = ((stand_once k sound).id at c e).0
+      own = ((are_found k sound).id at c e).0
 
       by_place : (i : ℕ) → class_index k id ≡ Some i → (t : Bool) → (c.id == id) ≡ t → (nat_lt i (at + 1) && is_marked marks i) ≡ ((nat_lt i at && is_marked marks i) || (t && is_marked marks at))
       by_place i q true h =

@@ -9,7 +9,7 @@ use Rattle.std.proofs.lemmas.Str.{chars-encodes}
 use Rattle.bstr.proofs.lemmas.EncodeLemmas.{lossy_chars-encode}
 use Rattle.jfr_base.specs.Integer.{IntAt, Spells, FitsIn, spell, spell_in}
 use Rattle.jfr_base.specs.Formats.{Format, Done, ◌>>=◌, Answer, Exactly, Reads, integer, run, times}
-use Rattle.jfr_base.proofs.Exact.{Says, run_says}
+use Rattle.jfr_base.proofs.Exact.{ReadsOrFails, run_reads_or_fails}
 use Rattle.jfr_base.proofs.ExactLaws.{bind_exact}
 use Rattle.jfr_base.proofs.Ranges.{range_length}
 use Rattle.jfr_base.proofs.RunLaws.{Stands, Halves, stands_split, exact_run}
@@ -212,7 +212,7 @@ module _ (start duration id : ℕ) (strings : List (List ℕ)) (root : Tree) (x 
       let fits : FitsIn size 5 = inl (omega (arith, body_measured start duration id strings root, spell_most start, spell_most duration, spell_most id, spell_most (length strings))) in
       let r = body_run start duration id strings root x good shallow texts s4 in
       let b : Body = record { start = start; duration = duration; id = id; strings = strings; root = r.0 } in
-      let P : Answer Body → Type 0 = λ a. Says meta_format x n 6 a in
+      let P : Answer Body → Type 0 = λ a. ReadsOrFails meta_format x n 6 a in
       let size_at : IntAt x 0 5 n = record { order = omega arith; within = s1.within; spelled = subst (λ z. Spells z n) (sym s1.bytes) (subst (Spells front) (sym whole) (fits_spells size 5 (omega arith) (omega arith) fits)) } in
       let type_at : IntAt x 5 6 0 = record { order = omega arith; within = s3.within; spelled = subst (λ z. Spells z 0) (sym s3.bytes) zero_spelled } in
       let covers : 6 ≤ 0 + n = omega arith in
@@ -223,7 +223,7 @@ module _ (start duration id : ℕ) (strings : List (List ℕ)) (root : Tree) (x 
         is_record = record { size_spelled = size_at; type_spelled = type_at; covers = covers; within = within };
         tree = r.0;
         same = r.1;
-        body = subst P r.2 (run_says meta_format x n 6 order inside);
+        body = subst P r.2 (run_reads_or_fails meta_format x n 6 order inside);
         long = omega arith;
       }
 

@@ -173,9 +173,9 @@ module _ (texts : List (List ℕ)) (ts : List Tree) (k : Classes) (stays : ℕ �
         (all_members (λ t. (h : ℕ × List ℕ) × (class_head texts t ≡ Some h) × (head_stays texts stays t ≡ stays h.0)) ts (λ t i. (let h = head_in t i in (h.0, h.1, head_test t h.0 h.1))))
 
     -- The class elements that are left describe the classes that stay.
-    pub classes_left : classes_of texts (filter (head_stays texts stays) ts) ≡ staying stays k
+    pub remaining_classes : classes_of texts (filter (head_stays texts stays) ts) ≡ staying stays k
     unfolding classes_of
-    classes_left =
+    remaining_classes =
         ap (λ z. filter_map (class_of texts z) (filter (head_stays texts stays) ts)) heads_left
         ∙ (same_filter_map (class_of texts hs_left) (class_of texts hs) (filter (head_stays texts stays) ts)
         (all_members (λ t. class_of texts hs_left t ≡ class_of texts hs t) (filter (head_stays texts stays) ts)

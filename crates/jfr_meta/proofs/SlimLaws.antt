@@ -4,9 +4,9 @@ use Rattle.std.specs.List.{AllZip, AllByRecursion, filter_map, flat_map}
 use Rattle.std.proofs.Common.{ap, refl, sym, ◌∙◌, arith, subst}
 use Rattle.jfr_base.specs.declared.flaw.Flaw.{Flaw}
 use Rattle.jfr_layout.specs.Classes.{Classes, Sound, class_faults, has_id}
-use Rattle.jfr_meta.specs.Trees.{Tree, place_of}
+use Rattle.jfr_meta.specs.Trees.{Tree, element_offset}
 use Rattle.jfr_meta.specs.Body.{Body}
-use Rattle.jfr_meta.specs.Described.{class_elements, class_flaws, class_head, class_of, heads, classes_of, placed, list_flaws, tree_flaws, first_or, classes_told, described}
+use Rattle.jfr_meta.specs.Described.{class_elements, class_flaws, class_head, class_of, heads, classes_of, placed, list_flaws, tree_flaws, first_or, described_classes, described}
 use Rattle.jfr_meta.proofs.Told.{no_flaws}
 use Rattle.jfr_layout.specs.Staying.{staying}
 use Rattle.jfr_meta.specs.Stays.{ids_below, HasHead}
@@ -14,7 +14,7 @@ use Rattle.jfr_meta.specs.Slimmed.{head_stays, slim_root, table_of, retabled, sl
 use Rattle.jfr_layout.proofs.StayingLaws.{staying_sound}
 use Rattle.jfr_meta.proofs.Lists.{Beside, nothing_each, all_filter, filter_map_zip, flat_map_none}
 use Rattle.jfr_meta.proofs.Alike.{Alike, head_alike, class_alike, class_good, elements_alike}
-use Rattle.jfr_meta.proofs.SlimClasses.{slim_elements, classes_left, fields_closed}
+use Rattle.jfr_meta.proofs.SlimClasses.{slim_elements, remaining_classes, fields_closed}
 use Rattle.jfr_meta.proofs.Tables.{retabled_alike, retabled_below, retabled_depth, table_texts, slim_depth}
 
 -- What a body that describes classes has: elements for them, of which none is faulty.
@@ -33,7 +33,7 @@ none_mapped : {A B : Type 0} (f : A → B) (xs : List A) → map f xs ≡ [] →
 none_mapped f [] e = refl
 none_mapped f (x ∷ xs) e = cc
 
-pub told_well : (texts : List (List ℕ)) (at : ℕ) (o : Option (List Tree)) (k : Classes) → classes_told texts at o ≡ Ok k → Describes texts o k
+pub told_well : (texts : List (List ℕ)) (at : ℕ) (o : Option (List Tree)) (k : Classes) → described_classes texts at o ≡ Ok k → Describes texts o k
 told_well texts at None k e = cc
 told_well texts at (Some ts) k e = by_flaws (tree_flaws texts ts) refl e
   where
@@ -53,7 +53,7 @@ same_classes texts table ts us z =
 module _ (b : Body) (k : Classes) (stays : ℕ → Bool) (told : described b ≡ Ok k) where
   d : Describes b.strings (class_elements b.strings b.root) k
   unfolding described
-  d = told_well b.strings (place_of b.root) (class_elements b.strings b.root) k told
+  d = told_well b.strings (element_offset b.root) (class_elements b.strings b.root) k told
 
   abbrev left : Tree
   left = slim_root b.strings stays b.root
@@ -75,7 +75,7 @@ module _ (b : Body) (k : Classes) (stays : ℕ → Bool) (told : described b ≡
     good_each = nothing_each (class_flaws b.strings) ts d.good
 
     left_classes : classes_of b.strings ts_left ≡ staying stays k
-    left_classes = classes_left b.strings ts k stays (sym d.classes) (closed ts d.there) good_each
+    left_classes = remaining_classes b.strings ts k stays (sym d.classes) (closed ts d.there) good_each
 
     sound : Sound (staying stays k)
     sound = staying_sound k stays d.sound (fields_closed b.strings ts k stays (sym d.classes) (closed ts d.there) good_each d.sound)
@@ -83,7 +83,7 @@ module _ (b : Body) (k : Classes) (stays : ℕ → Bool) (told : described b ≡
     there : class_elements b.strings left ≡ Some ts_left
     there = slim_elements b.strings stays b.root ∙ ap (option_map (filter (head_stays b.strings stays))) d.there
 
-    told_over : (at : ℕ) (o : Option (List Tree)) → Beside (AllZip (Alike b.strings table)) (Some ts_left) o → classes_told table at o ≡ Ok (staying stays k)
+    told_over : (at : ℕ) (o : Option (List Tree)) → Beside (AllZip (Alike b.strings table)) (Some ts_left) o → described_classes table at o ≡ Ok (staying stays k)
     told_over at None z = absurd z
     told_over at (Some us) z =
         let classes : classes_of table us ≡ staying stays k = same_classes b.strings table ts_left us z ∙ left_classes in
@@ -94,7 +94,7 @@ module _ (b : Body) (k : Classes) (stays : ℕ → Bool) (told : described b ≡
     pub is_slim : IsSlim b k stays
     unfolding slim_body described
     is_slim = record {
-      classes = told_over (place_of over) (class_elements table over) (subst (λ o. Beside (AllZip (Alike b.strings table)) o (class_elements table over)) there (elements_alike b.strings table left over (retabled_alike b.strings left)));
+      classes = told_over (element_offset over) (class_elements table over) (subst (λ o. Beside (AllZip (Alike b.strings table)) o (class_elements table over)) there (elements_alike b.strings table left over (retabled_alike b.strings left)));
       indices = retabled_below b.strings left;
       levels = omega (arith, retabled_depth b.strings left, slim_depth b.strings stays b.root);
       texts = table_texts b.strings left;

@@ -8,7 +8,7 @@ use Rattle.std.proofs.lemmas.List.Quantifiers.{position-Some}
 use Rattle.std.proofs.lemmas.Option.{slice_get_within, get_or_from_slice_get}
 use Rattle.jfr_layout.specs.Classes.{Class, Classes, Sound, class_index, has_id, is_event_class}
 use Rattle.jfr_layout.proofs.Lists.{present}
-use Rattle.jfr_layout.proofs.SoundLaws.{stand_once}
+use Rattle.jfr_layout.proofs.SoundLaws.{are_found}
 use Rattle.jfr_meta.specs.Trees.{Tree}
 use Rattle.jfr_meta.specs.Described.{class_head, class_flaws, class_with, class_of, classes_of, heads}
 use Rattle.jfr_worklist.specs.Marks.{those, is_marked, IsMarked}
@@ -96,7 +96,7 @@ module _ (texts : List (List ℕ)) (ts : List Tree) (k : Classes) (used : ℕ �
       (c.0, ap (λ z. slice_get z i) made_each ∙ (mapped_at (class_of texts hs) ts each_made i t e ∙ c.1), head_of t c.0 c.1)
 
   index_of : (i : ℕ) (c : Class) → slice_get k i ≡ Some c → class_index k c.id ≡ Some i
-  index_of i c e = ((stand_once k sound).id i c e).0
+  index_of i c e = ((are_found k sound).id i c e).0
 
   abbrev next : ℕ → List ℕ
   next = next_classes texts ts k

@@ -14,7 +14,7 @@ use Rattle.jfr_frame.specs.Records.{record_end}
 use Rattle.jfr_layout.specs.declared.shape.Shape.{Shape}
 use Rattle.jfr_layout.specs.Classes.{Class, Classes, Field, ClassFlaw, class_faults}
 use Rattle.jfr_meta.specs.declared.named.ClassNames.{ClassNames}
-use Rattle.jfr_meta.specs.Trees.{Tree, place_of, name_of, pairs_of, children_of}
+use Rattle.jfr_meta.specs.Trees.{Tree, element_offset, name_of, pairs_of, children_of}
 use Rattle.jfr_meta.specs.Body.{Body, meta_format}
 use Rattle.jfr_meta.specs.Attributes.{text_at, first_value, attribute, named, id_of, flag_of, values_of}
 
@@ -49,7 +49,7 @@ field_of texts t = option_and_then (λ name. option_map (λ shape. record { name
 
 -- The flaw of an element with this reason, unless the element is good.
 abbrev pub flaw_unless : Bool → Tree → Reason → List Flaw
-flaw_unless good t why = if good then [] else record { offset = place_of t; reason = why } ∷ []
+flaw_unless good t why = if good then [] else record { offset = element_offset t; reason = why } ∷ []
 
 -- The flaw of a field element.
 abbrev pub field_flaws : List (List ℕ) → Tree → List Flaw
@@ -119,8 +119,8 @@ pub record IsNamedBy (texts : List (List ℕ)) (class : Class) (names : ClassNam
 
 -- The offset of a class element, or of its field element with this number.
 abbrev pub element_place : List (List ℕ) → Tree → Option ℕ → ℕ
-element_place texts t None = place_of t
-element_place texts t (Some number) = option_map_or place_of (slice_get (field_elements texts t) number) 0
+element_place texts t None = element_offset t
+element_place texts t (Some number) = option_map_or element_offset (slice_get (field_elements texts t) number) 0
 
 -- The offset of the class element with this index, or of its field element with this number.
 abbrev pub flaw_place : List (List ℕ) → List Tree → ℕ → Option ℕ → ℕ
@@ -145,13 +145,13 @@ first_or (f ∷ fs) a = Err f
 
 -- The classes of the class elements, or the first flaw. If the root, which starts at this offset, has no
 -- child for them, that is the flaw.
-abbrev pub classes_told : List (List ℕ) → ℕ → Option (List Tree) → Result Classes Flaw
-classes_told texts at None = Err (record { offset = at; reason = NoClasses })
-classes_told texts at (Some ts) = first_or (tree_flaws texts ts) (classes_of texts ts)
+abbrev pub described_classes : List (List ℕ) → ℕ → Option (List Tree) → Result Classes Flaw
+described_classes texts at None = Err (record { offset = at; reason = NoClasses })
+described_classes texts at (Some ts) = first_or (tree_flaws texts ts) (classes_of texts ts)
 
 -- The classes that a body describes, or the first flaw.
 unfoldable pub described : Body → Result Classes Flaw
-described b = classes_told b.strings (place_of b.root) (class_elements b.strings b.root)
+described b = described_classes b.strings (element_offset b.root) (class_elements b.strings b.root)
 
 -- The record in the chunk x spells this body, which describes these classes.
 pub record IsMetadata (x : List ℕ) (r : Framed) (b : Body) (k : Classes) : Type 0 where

@@ -16,5 +16,5 @@ head_answer (Ok h) = Ok (record { value = (h.start, h.duration, h.id, h.count); 
 head_answer (Err e) = Err e
 
 -- The body that was read, as a value in contracts.
-abbrev pub seen_body : read.Body → Body
-seen_body b = record { start = b.start; duration = b.duration; id = b.id; strings = b.strings; root = b.root }
+abbrev pub body_value : read.Body → Body
+body_value b = record { start = b.start; duration = b.duration; id = b.id; strings = b.strings; root = b.root }

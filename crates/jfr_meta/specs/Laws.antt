@@ -18,20 +18,20 @@ pub record HasOneDescription (x : List ℕ) (r : Framed) : Type 0 where
 
 -- The bytes from p to q spell the body's start, its duration, its id, and the number of its strings, one
 -- after another.
-pub record HeadStands (x : List ℕ) (p q : ℕ) (b : Body) : Type 0 where
-  pub behind_start : ℕ
-  pub behind_duration : ℕ
-  pub behind_id : ℕ
-  pub start : IntAt x p behind_start b.start
-  pub duration : IntAt x behind_start behind_duration b.duration
-  pub id : IntAt x behind_duration behind_id b.id
-  pub count : IntAt x behind_id q (length b.strings)
+pub record SpellsHead (x : List ℕ) (p q : ℕ) (b : Body) : Type 0 where
+  pub after_start : ℕ
+  pub after_duration : ℕ
+  pub after_id : ℕ
+  pub start : IntAt x p after_start b.start
+  pub duration : IntAt x after_start after_duration b.duration
+  pub id : IntAt x after_duration after_id b.id
+  pub count : IntAt x after_id q (length b.strings)
 
 -- The bytes of the record spell the body: the head, the strings, and up to the record's end the tree, which
 -- has at most sixteen levels and whose indices are below the number of strings.
-pub record RootStands (x : List ℕ) (r : Framed) (b : Body) : Type 0 where
-  pub behind_head : ℕ
-  pub behind_strings : ℕ
-  pub head : HeadStands x r.body behind_head b
-  pub strings : Reads (times (length b.strings) table_string) x (record_end r) behind_head b.strings behind_strings
-  pub root : IsElement x (length b.strings) 16 behind_strings (record_end r) b.root
+pub record SpellsBody (x : List ℕ) (r : Framed) (b : Body) : Type 0 where
+  pub after_head : ℕ
+  pub after_strings : ℕ
+  pub head : SpellsHead x r.body after_head b
+  pub strings : Reads (times (length b.strings) table_string) x (record_end r) after_head b.strings after_strings
+  pub root : IsElement x (length b.strings) 16 after_strings (record_end r) b.root

@@ -6,7 +6,7 @@ use Rattle.std.specs.Option.{option_map_or}
 use Rattle.std.specs.Str.{bytes_eq}
 use Rattle.jfr_base.specs.Integer.{spell_in}
 use Rattle.jfr_layout.specs.Classes.{Classes}
-use Rattle.jfr_meta.specs.Trees.{Tree, Node, Trees, Nil, Cons, place_of, name_of, pairs_of, children_of, tree}
+use Rattle.jfr_meta.specs.Trees.{Tree, Node, Trees, Nil, Cons, element_offset, name_of, pairs_of, children_of, tree}
 use Rattle.jfr_meta.specs.Attributes.{text_at}
 use Rattle.jfr_meta.specs.Body.{Body}
 use Rattle.jfr_meta.specs.Described.{class_head, described}
@@ -15,7 +15,7 @@ use Rattle.jfr_layout.specs.Staying.{staying}
 
 -- The element with these children in place of its own.
 abbrev pub with_children : List Tree → Tree → Tree
-with_children ts t = tree (place_of t) (name_of t) (pairs_of t) ts
+with_children ts t = tree (element_offset t) (name_of t) (pairs_of t) ts
 
 -- Whether this is the name of the element.
 abbrev pub is_named : List (List ℕ) → List ℕ → Tree → Bool

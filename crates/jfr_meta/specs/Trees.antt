@@ -25,8 +25,8 @@ trees_of [] = Nil
 trees_of (t ∷ ts) = Cons t (trees_of ts)
 
 -- The offset in the chunk at which the element starts.
-abbrev pub place_of : Tree → ℕ
-place_of (Node place name pairs children) = place
+abbrev pub element_offset : Tree → ℕ
+element_offset (Node place name pairs children) = place
 
 -- The index of the element's name in the table of strings.
 abbrev pub name_of : Tree → ℕ

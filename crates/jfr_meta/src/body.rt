@@ -3,7 +3,7 @@ ghost use Rattle.std.specs.Prelude.{◌≡◌, ◌<◌, ◌≤◌, length, Ok, I
 ghost use Rattle.jfr_base.specs.Formats.{run, times};
 ghost use Rattle.jfr_meta.specs.Answers.{var_answer, Tells, IsFault};
 ghost use Rattle.jfr_meta.specs.Body.{index, pair, element_format, meta_format};
-ghost use Rattle.jfr_meta.specs.Heads.{head_format, head_answer, seen_body};
+ghost use Rattle.jfr_meta.specs.Heads.{head_format, head_answer, body_value};
 
 use crate::strings::read_strings;
 use crate::{Element, Elements, Pairs};
@@ -78,7 +78,7 @@ pub(crate) fn read_body(
 ) -> Result<Body, ReadFault>
     requires order { at ≤ end }
     requires within { end ≤ length bytes.now }
-    ensures exact { MatchResult result (λ b. run meta_format bytes.now end at ≡ Ok (record { value = seen_body b; place = end })) (IsFault (run meta_format bytes.now end at)) }
+    ensures exact { MatchResult result (λ b. run meta_format bytes.now end at ≡ Ok (record { value = body_value b; place = end })) (IsFault (run meta_format bytes.now end at)) }
 {
     let head = read_head(bytes, at, end)?;
     let (strings, place) = read_strings(alloc, bytes, head.end, end, head.count)?;
@@ -131,7 +131,7 @@ fn read_pairs(reader: Reader<'_>, at: usize, count: u64) -> Result<(Pairs, usize
     ensures range { IfOk result (λ r. (at ≤ r.1) × (r.1 ≤ reader.entry.end)) }
 {
     let room = count.min(((reader.end - at) / PAIR_LEN) as u64) as usize;
-    let mut pairs = Pairs::with_room(reader.alloc, room)?;
+    let mut pairs = Pairs::with_capacity(reader.alloc, room)?;
     let mut place = at;
     for _ in 0..count {
         let key = read_index(reader, place)?;
@@ -179,7 +179,7 @@ fn read_elements(
     ensures range { IfOk result (λ r. (at ≤ r.1) × (r.1 ≤ reader.entry.end)) }
 {
     let room = count.min(((reader.end - at) / ELEMENT_LEN) as u64) as usize;
-    let mut elements = Elements::with_room(reader.alloc, room)?;
+    let mut elements = Elements::with_capacity(reader.alloc, room)?;
     let mut place = at;
     for _ in 0..count {
         let (element, next) = read_element(reader, place, levels)?;

@@ -10,7 +10,7 @@ ghost use Rattle.jfr_meta.specs.Answers.{Judges};
 ghost use Rattle.jfr_meta.specs.Attributes.{text_at};
 ghost use Rattle.jfr_meta.specs.Described.{AreCategoryIds, heads, is_category, is_category_id, category_annotation, categories_of, class_head, class_of, classes_of, class_flaws, field_of, field_elements, field_flaws};
 ghost use Rattle.jfr_meta.specs.Names.{AreNumbers, Grow, number_of};
-ghost use Rattle.jfr_meta.specs.Trees.{place_of};
+ghost use Rattle.jfr_meta.specs.Trees.{element_offset};
 
 use crate::Element;
 use crate::attributes::{attribute, attribute_index, is_word};
@@ -27,7 +27,7 @@ const CATEGORY: &str = "jdk.jfr.Category";
 
 /// The flaw at this element, for this reason.
 pub(crate) fn refused(element: &Element, reason: Reason) -> ReadFault
-    ensures { result ≡ Flawed (record { offset = place_of element.now; reason = reason }) }
+    ensures { result ≡ Flawed (record { offset = element_offset element.now; reason = reason }) }
 {
     ReadFault::Flawed(Flaw {
         offset: element.at() as u64,

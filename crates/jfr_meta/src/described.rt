@@ -4,8 +4,8 @@ ghost use Rattle.std.specs.Option.{option_copied};
 ghost use Rattle.std.specs.Str.{bytes_eq};
 ghost use Rattle.jfr_meta.specs.Answers.{IsFault, TellsFirst, Judges};
 ghost use Rattle.jfr_meta.specs.Attributes.{IsWord, text_at};
-ghost use Rattle.jfr_meta.specs.Described.{element_place, flaw_place, list_flaws, tree_flaws, classes_told, class_elements, classes_of};
-ghost use Rattle.jfr_meta.specs.Trees.{place_of, name_of, children_of};
+ghost use Rattle.jfr_meta.specs.Described.{element_place, flaw_place, list_flaws, tree_flaws, described_classes, class_elements, classes_of};
+ghost use Rattle.jfr_meta.specs.Trees.{element_offset, name_of, children_of};
 ghost use Rattle.jfr_layout.specs.Classes as classes;
 
 use crate::Element;
@@ -122,7 +122,7 @@ pub(crate) fn class_elements<'a>(
 /// The classes that the tree describes, or the first flaw. Names and attributes in the tree are indices into
 /// the table of strings.
 pub(crate) fn describe(alloc: Global, strings: &Words, root: &Element) -> Result<Classes, ReadFault>
-    ensures { MatchResult result (λ classes. classes_told strings.now (place_of root.now) (class_elements strings.now root.now) ≡ Ok classes) (IsFault (classes_told strings.now (place_of root.now) (class_elements strings.now root.now))) }
+    ensures { MatchResult result (λ classes. described_classes strings.now (element_offset root.now) (class_elements strings.now root.now) ≡ Ok classes) (IsFault (described_classes strings.now (element_offset root.now) (class_elements strings.now root.now))) }
 {
     match class_elements(alloc, strings, root)? {
         Some(elements) => sound_classes(alloc, strings, &elements),

@@ -1,7 +1,7 @@
 //! The tree of elements.
 ghost use Rattle.std.specs.Prelude.{◌≡◌, [], ◌∷◌, ◌++◌, length, IfOk, OnOk, OnErr, slice_get};
 ghost use Rattle.std.specs.Option.{option_copied};
-ghost use Rattle.jfr_meta.specs.Trees.{tree, place_of, name_of, pairs_of, children_of};
+ghost use Rattle.jfr_meta.specs.Trees.{tree, element_offset, name_of, pairs_of, children_of};
 
 use crate::Pairs;
 use jfr_base::NoMemory;
@@ -73,7 +73,7 @@ impl Element {
 
     /// The offset of its first byte in the chunk.
     pub fn at(&self) -> usize
-        ensures { result ≡ place_of self.now }
+        ensures { result ≡ element_offset self.now }
     {
         self.at
     }
@@ -111,7 +111,7 @@ impl Elements {
     }
 
     /// An empty list with capacity for `count` elements.
-    pub fn with_room(alloc: Global, count: usize) -> Result<Elements, NoMemory>
+    pub fn with_capacity(alloc: Global, count: usize) -> Result<Elements, NoMemory>
         ensures ok { IfOk result (λ elements. elements ≡ []) }
     {
         Ok(Elements {

@@ -31,7 +31,7 @@ mod write;
 pub use attributes::id_of;
 pub use element::{Element, Elements};
 pub use ids::Ids;
-pub use laws::{elements_stand, one_description};
+pub use laws::{elements_are_spelled, one_description};
 pub use metadata::{Metadata, read_metadata};
 pub use named::{ClassNames, class_names};
 pub use pairs::Pairs;

@@ -4,8 +4,8 @@ ghost use Rattle.std.specs.List.{AllZip, filter_map};
 ghost use Rattle.std.specs.Option.{option_to_list};
 ghost use Rattle.jfr_layout.specs.Classes.{Classes};
 ghost use Rattle.jfr_meta.specs.Attributes.{text_at};
-ghost use Rattle.jfr_meta.specs.Described.{AreCategoryIds, IsNamedBy, class_elements, class_of, classes_of, classes_told, field_elements, field_of};
-ghost use Rattle.jfr_meta.specs.Trees.{place_of};
+ghost use Rattle.jfr_meta.specs.Described.{AreCategoryIds, IsNamedBy, class_elements, class_of, classes_of, described_classes, field_elements, field_of};
+ghost use Rattle.jfr_meta.specs.Trees.{element_offset};
 
 use crate::Element;
 use crate::attributes::attribute_index;
@@ -115,7 +115,7 @@ pub fn class_names(
     strings: &Words,
     root: &Element,
 ) -> Result<Vec<ClassNames>, NoMemory>
-    ensures ok { IfOk result (λ names. (classes : Classes) → classes_told strings.now (place_of root.now) (class_elements strings.now root.now) ≡ Ok classes
+    ensures ok { IfOk result (λ names. (classes : Classes) → described_classes strings.now (element_offset root.now) (class_elements strings.now root.now) ≡ Ok classes
         → AllZip (IsNamedBy strings.now) classes names.items) }
 {
     match class_elements(alloc, strings, root)? {

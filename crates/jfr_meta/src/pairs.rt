@@ -30,7 +30,7 @@ impl Pairs {
     }
 
     /// An empty list with capacity for `count` attributes.
-    pub fn with_room(alloc: Global, count: usize) -> Result<Pairs, NoMemory>
+    pub fn with_capacity(alloc: Global, count: usize) -> Result<Pairs, NoMemory>
         ensures ok { IfOk result (λ pairs. pairs ≡ []) }
     {
         Ok(Pairs {

@@ -70,7 +70,7 @@ pub(crate) fn read_strings(
     ensures range { IfOk result (λ r. (at ≤ r.1) × (r.1 ≤ end)) }
 {
     let room = count.min((end - at) as u64) as usize;
-    let mut strings = Words::with_room(alloc, room)?;
+    let mut strings = Words::with_capacity(alloc, room)?;
     let mut place = at;
     for _ in 0..count {
         let (text, next) = read_text(alloc, bytes, place, end)?;

@@ -24,8 +24,8 @@ fn first_values<'a>(
     ensures ok { IfOk result (HasFirst strings.now pairs.now) }
 {
     let mut values = BTreeMap::new(alloc);
-    for behind in 0..pairs.len() {
-        let (index, value) = pairs[pairs.len() - 1 - behind];
+    for from_end in 0..pairs.len() {
+        let (index, value) = pairs[pairs.len() - 1 - from_end];
         let key = text_at(strings, index);
         if key.len() > KEY_LEN {
             continue;
@@ -108,7 +108,7 @@ pub(crate) fn shared_text(alloc: Global, strings: &Words, index: u64) -> Result<
 pub(crate) fn texts_at(alloc: Global, strings: &Words, indices: &[u64]) -> Result<Words, NoMemory>
     ensures ok { IfOk result (λ words. words ≡ map (text_at strings.now) indices.now) }
 {
-    let mut words = Words::with_room(alloc, indices.len())?;
+    let mut words = Words::with_capacity(alloc, indices.len())?;
     for index in indices {
         let text = shared_text(alloc, strings, *index)?;
         words.push_text(text)?;

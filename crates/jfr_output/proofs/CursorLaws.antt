@@ -21,9 +21,9 @@ use Rattle.jfr_laws.proofs.Marks.{all_marked}
 use Rattle.jfr_laws.proofs.Order.{Numbered, numbered_at, found_numbered, output_records_in, chained_of}
 use Rattle.jfr_laws.proofs.Premises.{all_links, IsCheckpoint, chained_checkpoints, metadata_stands, ready}
 use Rattle.jfr_output.specs.declared.output_records.Cursor.{Cursor}
-use Rattle.jfr_output.specs.declared.output_records.OutputRecord as told
-use Rattle.jfr_output.specs.declared.output_records.OutputRecord.TheVariants as told_records
-use Rattle.jfr_output.specs.OutputRecords.{IsChosen, IsCursor, IsKeptEvent, ShowsEvent, ShowsMetadata, output_record_in, events_from, event_there, link_there, still_output_records, is_kept_at, event_behind, linked_at, link_behind}
+use Rattle.jfr_output.specs.declared.output_records.OutputRecord as contents
+use Rattle.jfr_output.specs.declared.output_records.OutputRecord.TheVariants as declared_records
+use Rattle.jfr_output.specs.OutputRecords.{IsChosen, IsCursor, IsKeptEvent, ShowsEvent, ShowsMetadata, output_record_in, events_from, event_there, link_there, still_output_records, is_kept_at, event_after, linked_at, link_after}
 use Rattle.jfr_output.proofs.OutputRecordLaws.{Rises, rises_given, rises_marked, Stands, at_head, past_head, elsewhere, found_place, any_found, Occurs, AllOccur, in_order}
 
 -- Where an event, or a numbered checkpoint, starts.
@@ -47,8 +47,8 @@ drop_none [] (suc n) e = refl
 drop_none (y ∷ xs) zero e = cc
 drop_none (y ∷ xs) (suc n) e = drop_none xs n e
 
-none_behind : {X : Type 0} (xs : List X) (n : ℕ) → slice_get xs n ≡ None → drop (n + 1) xs ≡ []
-none_behind xs n e = ap (λ m. drop m xs) (add-one n) ∙ behind xs n e
+none_after : {X : Type 0} (xs : List X) (n : ℕ) → slice_get xs n ≡ None → drop (n + 1) xs ≡ []
+none_after xs n e = ap (λ m. drop m xs) (add-one n) ∙ behind xs n e
   where
     behind : {X : Type 0} (xs : List X) (n : ℕ) → slice_get xs n ≡ None → drop (suc n) xs ≡ []
     behind [] n e = refl
@@ -104,7 +104,7 @@ pub record Passed (f g : Framed → Option EventAt) (es : List EventAt) (fs : Li
   pub found : g r ≡ (if keep then slice_get es n else None)
 
 pub event_passed : (f g : Framed → Option EventAt) → Stands event_place f → Stands event_place g → (es : List EventAt) (fs : List Bool) (n : ℕ) (r : Framed) (rs : List Framed) → Rising r.at (r ∷ rs) →
-    drop n es ≡ filter_map f (r ∷ rs) → marked (drop n fs) (drop n es) ≡ filter_map g (r ∷ rs) → Passed f g es fs r rs n (event_behind es n r.at) (is_kept_at es fs n r.at)
+    drop n es ≡ filter_map f (r ∷ rs) → marked (drop n fs) (drop n es) ≡ filter_map g (r ∷ rs) → Passed f g es fs r rs n (event_after es n r.at) (is_kept_at es fs n r.at)
 event_passed f g s t es fs n r rs a e k = by_head (slice_get es n) refl
   where
     none_here : Rises event_place (r.at + 1) (drop n es) → Passed f g es fs r rs n n false
@@ -123,7 +123,7 @@ event_passed f g s t es fs n r rs a e k = by_head (slice_get es n) refl
         by_value u b None q =
             let z : marked (drop n fs) (drop n es) ≡ [] = ap (λ y. marked y (drop n es)) (drop_none fs n q) in
             let v = past_head event_place g t r rs [] (sym z ∙ k) tt in
-            record { events = u; kept = ap (λ y. marked y (drop (n + 1) es)) (none_behind fs n q) ∙ v.1; here = sym (ap is_some v.0); found = v.0 }
+            record { events = u; kept = ap (λ y. marked y (drop (n + 1) es)) (none_after fs n q) ∙ v.1; here = sym (ap is_some v.0); found = v.0 }
         by_value u b (Some true) q =
             let z : marked (drop n fs) (drop n es) ≡ x ∷ marked (drop (n + 1) fs) (drop (n + 1) es) = ap (λ y. marked y (drop n es)) (drop_at fs n true q) ∙ ap (marked (true ∷ drop (n + 1) fs)) d in
             let v = at_head event_place g t r rs x (marked (drop (n + 1) fs) (drop (n + 1) es)) a.1 (sym z ∙ k) w in
@@ -147,7 +147,7 @@ pub record LinkPassed (f : Framed → Option (ℕ × Link)) (ls : List Link) (r 
   pub here : there ≡ f r
 
 pub link_passed : (f : Framed → Option (ℕ × Link)) → Stands link_place f → (ls : List Link) (n : ℕ) (r : Framed) (rs : List Framed) → Rising r.at (r ∷ rs) → enumerate_from n (drop n ls) ≡ filter_map f (r ∷ rs) →
-    LinkPassed f ls r rs (link_behind ls n r.at) (linked_at ls n r.at)
+    LinkPassed f ls r rs (link_after ls n r.at) (linked_at ls n r.at)
 link_passed f s ls n r rs a e = by_head (slice_get ls n) refl
   where
     none_here : Rises link_place (r.at + 1) (enumerate_from n (drop n ls)) → LinkPassed f ls r rs n None
@@ -166,7 +166,7 @@ link_passed f s ls n r rs a e = by_head (slice_get ls n) refl
 
 -- A cursor after a record.
 pub cursor_passed : (p : Parts) (flags : List Bool) (c : Cursor) (r : Framed) → IsCursor p flags c → slice_get p.records c.frame ≡ Some r →
-    IsCursor p flags (record { frame = c.frame + 1; event = event_behind (events_of p) c.event r.at; link = link_behind (reverse p.chain) c.link r.at })
+    IsCursor p flags (record { frame = c.frame + 1; event = event_after (events_of p) c.event r.at; link = link_after (reverse p.chain) c.link r.at })
     × (is_kept_at (events_of p) flags c.event r.at ≡ list_any (λ e. e.record_of.at == r.at) (kept_by p flags))
     × (linked_at (reverse p.chain) c.link r.at ≡ link_there p r)
     × (event_there (kept_by p flags) r ≡ (if is_kept_at (events_of p) flags c.event r.at then slice_get (events_of p) c.event else None))
@@ -183,9 +183,9 @@ cursor_passed p flags c r i e =
     )
 
 -- A cursor after the record at an offset.
-abbrev pub Behind : Parts → List Bool → Cursor → Framed → ℕ → Type 0
-Behind p flags c r at =
-    IsCursor p flags (record { frame = c.frame + 1; event = event_behind (events_of p) c.event at; link = link_behind (reverse p.chain) c.link at })
+abbrev pub IsAfter : Parts → List Bool → Cursor → Framed → ℕ → Type 0
+IsAfter p flags c r at =
+    IsCursor p flags (record { frame = c.frame + 1; event = event_after (events_of p) c.event at; link = link_after (reverse p.chain) c.link at })
     × (is_kept_at (events_of p) flags c.event at ≡ list_any (λ e. e.record_of.at == r.at) (kept_by p flags))
     × (linked_at (reverse p.chain) c.link at ≡ link_there p r)
     × (event_there (kept_by p flags) r ≡ (if is_kept_at (events_of p) flags c.event at then slice_get (events_of p) c.event else None))
@@ -194,21 +194,21 @@ pub record PlacePassed (p : Parts) (flags : List Bool) (c : Cursor) (at : ℕ) :
   pub frame : Framed
   pub there : slice_get p.records c.frame ≡ Some frame
   pub place : frame.at ≡ at
-  pub behind : Behind p flags c frame at
+  pub behind : IsAfter p flags c frame at
 
 pub place_passed : (p : Parts) (flags : List Bool) (c : Cursor) (at : ℕ) → IsCursor p flags c → option_map (λ r. r.at) (slice_get p.records c.frame) ≡ Some at → PlacePassed p flags c at
 place_passed p flags c at i h = by_record (slice_get p.records c.frame) refl h
   where
     by_record : (o : Option Framed) → slice_get p.records c.frame ≡ o → option_map (λ r. r.at) o ≡ Some at → PlacePassed p flags c at
     by_record None e h = cc
-    by_record (Some r) e h = let q : r.at ≡ at = cc in record { frame = r; there = e; place = q; behind = subst (Behind p flags c r) q (cursor_passed p flags c r i e) }
+    by_record (Some r) e h = let q : r.at ≡ at = cc in record { frame = r; there = e; place = q; behind = subst (IsAfter p flags c r) q (cursor_passed p flags c r i e) }
 
 pub some_if : (b : Bool) (n : ℕ) → is_some (if b then Some n else None) ≡ b
 some_if true n = refl
 some_if false n = refl
 
 -- The event that a cursor passes, if it is kept.
-pub passed_event : (p : Parts) (flags : List Bool) (c : Cursor) (r s : Framed) (at number : ℕ) (event : Option ℕ) → Behind p flags c r at → event ≡ (if is_kept_at (events_of p) flags c.event at then Some c.event else None) → event ≡ Some number → s ≡ r
+pub passed_event : (p : Parts) (flags : List Bool) (c : Cursor) (r s : Framed) (at number : ℕ) (event : Option ℕ) → IsAfter p flags c r at → event ≡ (if is_kept_at (events_of p) flags c.event at then Some c.event else None) → event ≡ Some number → s ≡ r
     → IsKeptEvent p flags number s
 passed_event p flags c r s at number event b e n same = subst (IsKeptEvent p flags number) (sym same) (by_test (is_kept_at (events_of p) flags c.event at) refl (sym e ∙ n) b.3)
   where
@@ -237,19 +237,19 @@ link_other p a r l e = by_test (l.1.frame.at == metadata_at p.bytes) refl
         absurd (omega arith)
 
 -- What is chosen for a record shows whether it is the metadata record, and which event it is.
-pub chosen_metadata : (p : Parts) → AreParts p → (r : Framed) (link : Option (ℕ × Link)) (event : Option ℕ) (metadata : Bool) (o : Option told.OutputRecord) → link ≡ link_there p r → metadata ≡ (r.at == metadata_at p.bytes) → IfSome o (IsChosen link event metadata r)
+pub chosen_metadata : (p : Parts) → AreParts p → (r : Framed) (link : Option (ℕ × Link)) (event : Option ℕ) (metadata : Bool) (o : Option contents.OutputRecord) → link ≡ link_there p r → metadata ≡ (r.at == metadata_at p.bytes) → IfSome o (IsChosen link event metadata r)
     → IfSome o (ShowsMetadata (metadata_at p.bytes))
 chosen_metadata p a r link event metadata None l m h = tt
-chosen_metadata p a r link event metadata (Some (told_records.Event number s)) l m h = ap (λ (z : Framed). z.at == metadata_at p.bytes) h.2 ∙ (sym m ∙ h.1)
-chosen_metadata p a r link event metadata (Some (told_records.Metadata s)) l m h = ap (λ (z : Framed). z.at == metadata_at p.bytes) h.1 ∙ (sym m ∙ h.0)
-chosen_metadata p a r link event metadata (Some (told_records.Chained number x)) l m h = link_other p a r (number, x) (sym l ∙ h)
+chosen_metadata p a r link event metadata (Some (declared_records.Event number s)) l m h = ap (λ (z : Framed). z.at == metadata_at p.bytes) h.2 ∙ (sym m ∙ h.1)
+chosen_metadata p a r link event metadata (Some (declared_records.Metadata s)) l m h = ap (λ (z : Framed). z.at == metadata_at p.bytes) h.1 ∙ (sym m ∙ h.0)
+chosen_metadata p a r link event metadata (Some (declared_records.Chained number x)) l m h = link_other p a r (number, x) (sym l ∙ h)
 
-pub chosen_event : (p : Parts) (flags : List Bool) (c : Cursor) (r : Framed) (at : ℕ) (link : Option (ℕ × Link)) (event : Option ℕ) (metadata : Bool) (o : Option told.OutputRecord) → Behind p flags c r at
+pub chosen_event : (p : Parts) (flags : List Bool) (c : Cursor) (r : Framed) (at : ℕ) (link : Option (ℕ × Link)) (event : Option ℕ) (metadata : Bool) (o : Option contents.OutputRecord) → IsAfter p flags c r at
     → event ≡ (if is_kept_at (events_of p) flags c.event at then Some c.event else None) → IfSome o (IsChosen link event metadata r) → IfSome o (ShowsEvent p flags)
 chosen_event p flags c r at link event metadata None b e h = tt
-chosen_event p flags c r at link event metadata (Some (told_records.Event number s)) b e h = passed_event p flags c r s at number event b e h.0 h.2
-chosen_event p flags c r at link event metadata (Some (told_records.Metadata s)) b e h = tt
-chosen_event p flags c r at link event metadata (Some (told_records.Chained number x)) b e h = tt
+chosen_event p flags c r at link event metadata (Some (declared_records.Event number s)) b e h = passed_event p flags c r s at number event b e h.0 h.2
+chosen_event p flags c r at link event metadata (Some (declared_records.Metadata s)) b e h = tt
+chosen_event p flags c r at link event metadata (Some (declared_records.Chained number x)) b e h = tt
 
 -- What stays from a record on.
 pub output_records_at : (p : Parts) (flags : List Bool) (c : Cursor) (r : Framed) → slice_get p.records c.frame ≡ Some r →
@@ -259,7 +259,7 @@ output_records_at p flags c r e = ap (filter_map (output_record_of p (kept_by p 
 pub output_records_none : (p : Parts) (flags : List Bool) (c : Cursor) → length p.records ≤ c.frame → still_output_records p flags c ≡ []
 output_records_none p flags c h = ap (filter_map (output_record_of p (kept_by p flags))) (drop_all c.frame p.records h)
 
-pub output_record_next : (p : Parts) (flags : List Bool) (c d : Cursor) (frames : List Framed) (at : ℕ) (o : Option told.OutputRecord) → frames ≡ p.records → option_map (λ r. r.at) (slice_get frames c.frame) ≡ Some at → d.frame ≡ c.frame + 1 →
+pub output_record_next : (p : Parts) (flags : List Bool) (c d : Cursor) (frames : List Framed) (at : ℕ) (o : Option contents.OutputRecord) → frames ≡ p.records → option_map (λ r. r.at) (slice_get frames c.frame) ≡ Some at → d.frame ≡ c.frame + 1 →
     IfSome (slice_get p.records c.frame) (λ r. option_map (output_record_in p flags) o ≡ output_record_of p (kept_by p flags) r) → still_output_records p flags c ≡ cons_option (option_map (output_record_in p flags) o) (still_output_records p flags d)
 output_record_next p flags c d frames at o e h f g = by_record (slice_get p.records c.frame) refl (ap (λ rs. option_map (λ r. r.at) (slice_get rs c.frame)) (sym e) ∙ h) g
   where
@@ -267,11 +267,11 @@ output_record_next p flags c d frames at o e h f g = by_record (slice_get p.reco
     by_record None e h g = cc
     by_record (Some r) e h g = output_records_at p flags c r e ∙ (λ i. cons_option (sym g i) (filter_map (output_record_of p (kept_by p flags)) (drop (sym f i) p.records)))
 
-pub told_some : (p : Parts) (flags : List Bool) (before rest : List OutputRecord) (o : Option told.OutputRecord) → before ≡ cons_option (option_map (output_record_in p flags) o) rest → is_some o ≡ true → MatchOption o (before ≡ []) (λ s. before ≡ output_record_in p flags s ∷ rest)
+pub told_some : (p : Parts) (flags : List Bool) (before rest : List OutputRecord) (o : Option contents.OutputRecord) → before ≡ cons_option (option_map (output_record_in p flags) o) rest → is_some o ≡ true → MatchOption o (before ≡ []) (λ s. before ≡ output_record_in p flags s ∷ rest)
 told_some p flags before rest None e h = cc
 told_some p flags before rest (Some s) e h = e
 
-pub told_none : (p : Parts) (flags : List Bool) (before rest : List OutputRecord) (o : Option told.OutputRecord) → before ≡ cons_option (option_map (output_record_in p flags) o) rest → is_some o ≡ false → before ≡ rest
+pub told_none : (p : Parts) (flags : List Bool) (before rest : List OutputRecord) (o : Option contents.OutputRecord) → before ≡ cons_option (option_map (output_record_in p flags) o) rest → is_some o ≡ false → before ≡ rest
 told_none p flags before rest None e h = e
 told_none p flags before rest (Some s) e h = cc
 

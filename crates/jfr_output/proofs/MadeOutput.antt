@@ -35,4 +35,4 @@ module _ (refusal : List ℕ → Option Flaw) (becomes : List ℕ → List ℕ) 
 
     pub has_output : (input output : List ℕ) (w v : World) → Made refusal becomes input output w v → HasOutput refusal Is input output w v
     has_output input output w v h =
-        record { recording = h.recording; read = h.read; written = recording_output refusal becomes h.recording; stands = h.stands; made = is_output_of h.recording }
+        record { recording = h.recording; read = h.read; written = recording_output refusal becomes h.recording; holds = h.holds; made = is_output_of h.recording }

@@ -124,16 +124,16 @@ none_rising place at p (x ∷ xs) h a =
     let e : (place x == at) ≡ false = grind (arith, nat_tests) in
     rw e (none_rising place at (place x + 1) xs (omega arith) a.1)
 
-behind_low : {X : Type 0} (place : X → ℕ) (at p : ℕ) (ds xs : List X) → p ≤ at → Low place p ds → find (λ y. place y == at) (ds ++ xs) ≡ find (λ y. place y == at) xs
-behind_low place at p [] xs h a = refl
-behind_low place at p (d ∷ ds) xs h a =
+after_low : {X : Type 0} (place : X → ℕ) (at p : ℕ) (ds xs : List X) → p ≤ at → Low place p ds → find (λ y. place y == at) (ds ++ xs) ≡ find (λ y. place y == at) xs
+after_low place at p [] xs h a = refl
+after_low place at p (d ∷ ds) xs h a =
     let i : place d < p = a.0 in
     let e : (place d == at) ≡ false = grind (arith, nat_tests) in
-    rw e (behind_low place at p ds xs h a.1)
+    rw e (after_low place at p ds xs h a.1)
 
-occur_behind : {X : Type 0} (place : X → ℕ) (r : Framed) (rs : List Framed) (p : ℕ) (xs : List X) → r.at < p → Rises place p xs → AllOccur place (r ∷ rs) xs → AllOccur place rs xs
-occur_behind place r rs p [] h a o = tt
-occur_behind place r rs p (x ∷ xs) h a o = (one o.0, occur_behind place r rs (place x + 1) xs (omega (arith, a.0)) a.1 o.1)
+occur_after : {X : Type 0} (place : X → ℕ) (r : Framed) (rs : List Framed) (p : ℕ) (xs : List X) → r.at < p → Rises place p xs → AllOccur place (r ∷ rs) xs → AllOccur place rs xs
+occur_after place r rs p [] h a o = tt
+occur_after place r rs p (x ∷ xs) h a o = (one o.0, occur_after place r rs (place x + 1) xs (omega (arith, a.0)) a.1 o.1)
   where
     one : ((r.at ≡ place x) ⊎ Occurs (place x) rs) → Occurs (place x) rs
     one (inl e) = let i : p ≤ place x = a.0 in absurd (omega arith)
@@ -149,7 +149,7 @@ module _ {X : Type 0} (place : X → ℕ) (all : List X) where
   in_order [] p done (x ∷ todo) t e a b o = absurd o.0
   in_order (r ∷ rs) p done [] t e a b o =
       let i : p ≤ r.at = t.0 in
-      let f : at_record r ≡ None = ap (find (λ x. place x == r.at)) e ∙ behind_low place r.at p done [] i a in
+      let f : at_record r ≡ None = ap (find (λ x. place x == r.at)) e ∙ after_low place r.at p done [] i a in
       ap (λ z. cons_option z (filter_map at_record rs)) f ∙ in_order rs (r.at + 1) done [] t.1 e (low_more place p (r.at + 1) done (omega arith) a) tt tt
   in_order (r ∷ rs) p done (x ∷ todo) t e a b o =
       by_place (cases_lt r.at (place x))
@@ -163,15 +163,15 @@ module _ {X : Type 0} (place : X → ℕ) (all : List X) where
       by_place (inl h) f g =
           let i : p ≤ r.at = t.0 in
           let u : Rises place (r.at + 1) (x ∷ todo) = (omega arith, b.1) in
-          let v = occur_behind place r rs (r.at + 1) (x ∷ todo) (omega arith) u o in
-          let w : at_record r ≡ None = ap (find (λ x. place x == r.at)) e ∙ (behind_low place r.at p done (x ∷ todo) i a ∙ none_rising place r.at (r.at + 1) (x ∷ todo) (omega arith) u) in
+          let v = occur_after place r rs (r.at + 1) (x ∷ todo) (omega arith) u o in
+          let w : at_record r ≡ None = ap (find (λ x. place x == r.at)) e ∙ (after_low place r.at p done (x ∷ todo) i a ∙ none_rising place r.at (r.at + 1) (x ∷ todo) (omega arith) u) in
           ap (λ z. cons_option z (filter_map at_record rs)) w ∙ f (low_more place p (r.at + 1) done (omega arith) a) u v
       by_place (inr h) f g =
           let i : p ≤ r.at = t.0 in
           let z : place x ≡ r.at = same_place o.0 in
-          let v = occur_behind place r rs (place x + 1) todo (omega arith) b.1 o.1 in
+          let v = occur_after place r rs (place x + 1) todo (omega arith) b.1 o.1 in
           let k : (place x == r.at) ≡ true = grind (arith, nat_tests) in
-          let w : at_record r ≡ Some x = ap (find (λ x. place x == r.at)) e ∙ (behind_low place r.at p done (x ∷ todo) i a ∙ ap (λ c. if c then Some x else find (λ x. place x == r.at) todo) k) in
+          let w : at_record r ≡ Some x = ap (find (λ x. place x == r.at)) e ∙ (after_low place r.at p done (x ∷ todo) i a ∙ ap (λ c. if c then Some x else find (λ x. place x == r.at) todo) k) in
           ap (λ z. cons_option z (filter_map at_record rs)) w
           ∙ ap (λ ts. x ∷ ts) (g (low_append place (r.at + 1) done x (low_more place p (r.at + 1) done (omega arith) a) (omega arith)) (subst (λ n. Rises place (n + 1) todo) z b.1) v)
         where

@@ -3,7 +3,7 @@ use Rattle.std.specs.Prelude.{◌≡◌, ℕ, ◌<◌, Bool, true, false, ◌==�
 use Rattle.std.specs.Option.{option_map_or}
 use Rattle.std.proofs.Common.{arith, refl}
 use Rattle.jfr_chunk.specs.Scrub.{OutputRecord, Whole, Chained, Rebuilt, Written, older_after, last_at, record_of, moved}
-use Rattle.jfr_output.specs.Positions.{IsBefore, place_seen}
+use Rattle.jfr_output.specs.Positions.{IsBefore, offset_so_far}
 
 -- A place that was seen, or else one that comes later.
 abbrev pub or_place : Option ℕ → ℕ → ℕ
@@ -14,11 +14,11 @@ pub last_next : (older : Option ℕ) (w : Written) (ws : List Written) → last_
 last_next None w ws = refl
 last_next (Some at) w ws = refl
 
-pub moved_next : (before : Option ℕ) (w : Written) (ws : List Written) (at : ℕ) → or_place before (moved (w ∷ ws) at) ≡ or_place (place_seen before ((record_of w.output_record).at == at) w.at) (moved ws at)
+pub moved_next : (before : Option ℕ) (w : Written) (ws : List Written) (at : ℕ) → or_place before (moved (w ∷ ws) at) ≡ or_place (offset_so_far before ((record_of w.output_record).at == at) w.at) (moved ws at)
 moved_next (Some place) w ws at = refl
 moved_next None w ws at = by_test ((record_of w.output_record).at == at)
   where
-    by_test : (b : Bool) → option_map_or (λ (v : Written). v.at) (if b then Some w else find (λ (v : Written). (record_of v.output_record).at == at) ws) 0 ≡ or_place (place_seen None b w.at) (moved ws at)
+    by_test : (b : Bool) → option_map_or (λ (v : Written). v.at) (if b then Some w else find (λ (v : Written). (record_of v.output_record).at == at) ws) 0 ≡ or_place (offset_so_far None b w.at) (moved ws at)
     by_test true = refl
     by_test false = refl
 

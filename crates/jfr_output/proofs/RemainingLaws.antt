@@ -15,15 +15,15 @@ marked_suc (true ∷ ms) (x ∷ es) zero e h g = let s : x ≡ e = cc in ap (λ 
 marked_suc (false ∷ ms) (x ∷ es) zero e h g = refl
 marked_suc (m ∷ ms) (x ∷ es) (suc i) e h g = marked_suc ms es i e (omega arith) g
 
-pub marked_next : (ms : List Bool) (es left new : List EntryAt) (i : ℕ) (e : EntryAt) (keep : Bool) → i < length ms → slice_get es i ≡ Some e → keep ≡ is_marked ms i → left ++ marked (drop i ms) (drop i es) ≡ marked ms es →
-    new ≡ left ++ (if keep then e ∷ [] else []) → new ++ marked (drop (i + 1) ms) (drop (i + 1) es) ≡ marked ms es
-marked_next ms es left new i e keep h g k l n =
+pub marked_next : (ms : List Bool) (es remaining new : List EntryAt) (i : ℕ) (e : EntryAt) (keep : Bool) → i < length ms → slice_get es i ≡ Some e → keep ≡ is_marked ms i → remaining ++ marked (drop i ms) (drop i es) ≡ marked ms es →
+    new ≡ remaining ++ (if keep then e ∷ [] else []) → new ++ marked (drop (i + 1) ms) (drop (i + 1) es) ≡ marked ms es
+marked_next ms es remaining new i e keep h g k l n =
     let s : marked (drop i ms) (drop i es) ≡ (if keep then e ∷ [] else []) ++ marked (drop (i + 1) ms) (drop (i + 1) es) =
     marked_suc ms es i e h g ∙ (ap (λ b. (if b then e ∷ [] else []) ++ marked (drop (suc i) ms) (drop (suc i) es)) (sym k) ∙ ap (λ j. (if keep then e ∷ [] else []) ++ marked (drop j ms) (drop j es)) (sym (add-one i))) in
-    ap (λ z. z ++ marked (drop (i + 1) ms) (drop (i + 1) es)) n ∙ (append_assoc left (if keep then e ∷ [] else []) (marked (drop (i + 1) ms) (drop (i + 1) es)) ∙ (ap (λ z. left ++ z) (sym s) ∙ l))
+    ap (λ z. z ++ marked (drop (i + 1) ms) (drop (i + 1) es)) n ∙ (append_assoc remaining (if keep then e ∷ [] else []) (marked (drop (i + 1) ms) (drop (i + 1) es)) ∙ (ap (λ z. remaining ++ z) (sym s) ∙ l))
 
-pub marked_all : (ms : List Bool) (es left : List EntryAt) (i : ℕ) → length ms ≤ i → left ++ marked (drop i ms) (drop i es) ≡ marked ms es → left ≡ marked ms es
-marked_all ms es left i h l = sym (append-nil left) ∙ (ap (λ z. left ++ marked z (drop i es)) (sym (drop_all i ms h)) ∙ l)
+pub marked_all : (ms : List Bool) (es remaining : List EntryAt) (i : ℕ) → length ms ≤ i → remaining ++ marked (drop i ms) (drop i es) ≡ marked ms es → remaining ≡ marked ms es
+marked_all ms es remaining i h l = sym (append-nil remaining) ∙ (ap (λ z. remaining ++ marked z (drop i es)) (sym (drop_all i ms h)) ∙ l)
 
 -- While all members so far are marked.
 whole_suc : (ms : List Bool) (es : List EntryAt) (i : ℕ) → i < length ms → length ms ≡ length es → is_marked ms i ≡ true → take (suc i) es ++ marked (drop (suc i) ms) (drop (suc i) es) ≡ take i es ++ marked (drop i ms) (drop i es)
@@ -53,6 +53,6 @@ unfolding reached_marks
 marks_length p kept = swept_length (length p.entries) (next_entries p) (marked_at (replicate (length p.entries) false) (roots p kept)) ∙ (marked_length (replicate (length p.entries) false) (roots p kept) ∙ length-replicate (length p.entries) false)
 
 -- The entries that are marked remain.
-pub left_is : (p : Parts) (kept : List EventAt) (ms : List Bool) (es left : List EntryAt) → ms ≡ reached_marks p kept → es ≡ p.entries → left ≡ marked ms es → left ≡ remain p kept
+pub left_is : (p : Parts) (kept : List EventAt) (ms : List Bool) (es remaining : List EntryAt) → ms ≡ reached_marks p kept → es ≡ p.entries → remaining ≡ marked ms es → remaining ≡ remain p kept
 unfolding remain
-left_is p kept ms es left m e l = l ∙ (λ i. marked (m i) (e i))
+left_is p kept ms es remaining m e l = l ∙ (λ i. marked (m i) (e i))

@@ -8,8 +8,8 @@ use Rattle.jfr_chunk.specs.Parts.{Parts, EventAt, AreParts, event_of, event_reco
 use Rattle.jfr_chunk.specs.Reach.{marked, kept_by}
 use Rattle.jfr_chunk.specs.Scrub.{OutputRecord, Whole, Chained, Rebuilt, output_record_of}
 use Rattle.jfr_chunk.specs.Metas.{metadata_size, rebuilt}
-use Rattle.jfr_output.specs.declared.output_records.OutputRecord as told
-use Rattle.jfr_output.specs.declared.output_records.OutputRecord.TheVariants as told_records
+use Rattle.jfr_output.specs.declared.output_records.OutputRecord as contents
+use Rattle.jfr_output.specs.declared.output_records.OutputRecord.TheVariants as declared_records
 use Rattle.jfr_output.specs.declared.output_records.Cursor.{Cursor}
 
 -- The output record for a record: the whole record, or the bytes that replace it.
@@ -22,23 +22,23 @@ abbrev pub new_at : ℕ → Option (List ℕ) → Framed → Option (List ℕ)
 new_at place new r = if r.at == place then new else None
 
 -- The output record of a value of the code's enum, given the new metadata record, if there is one.
-abbrev pub output_record_as : Option (List ℕ) → told.OutputRecord → OutputRecord
-output_record_as new (told_records.Event number r) = Whole r
-output_record_as new (told_records.Metadata r) = whole_or new r
-output_record_as new (told_records.Chained number l) = Chained number l
+abbrev pub output_record_as : Option (List ℕ) → contents.OutputRecord → OutputRecord
+output_record_as new (declared_records.Event number r) = Whole r
+output_record_as new (declared_records.Metadata r) = whole_or new r
+output_record_as new (declared_records.Chained number l) = Chained number l
 
 -- A value of the code's enum is that of the metadata record exactly if its record starts at this offset.
-abbrev pub ShowsMetadata : ℕ → told.OutputRecord → Type 0
-ShowsMetadata place (told_records.Event number r) = (r.at == place) ≡ false
-ShowsMetadata place (told_records.Metadata r) = (r.at == place) ≡ true
-ShowsMetadata place (told_records.Chained number l) = (l.frame.at == place) ≡ false
+abbrev pub ShowsMetadata : ℕ → contents.OutputRecord → Type 0
+ShowsMetadata place (declared_records.Event number r) = (r.at == place) ≡ false
+ShowsMetadata place (declared_records.Metadata r) = (r.at == place) ≡ true
+ShowsMetadata place (declared_records.Chained number l) = (l.frame.at == place) ≡ false
 
 -- The new metadata record if these events are kept, if it is built anew.
 abbrev pub new_metadata : Parts → List Bool → Option (List ℕ)
 new_metadata p flags = rebuilt p (kept_by p flags) (metadata_size p)
 
 -- The output record of a value of the code's enum, for a chunk of which these events are kept.
-abbrev pub output_record_in : Parts → List Bool → told.OutputRecord → OutputRecord
+abbrev pub output_record_in : Parts → List Bool → contents.OutputRecord → OutputRecord
 output_record_in p flags s = output_record_as (new_metadata p flags) s
 
 -- The events of some of the records.
@@ -56,17 +56,17 @@ pub record IsKeptEvent (p : Parts) (flags : List Bool) (number : ℕ) (r : Frame
   pub there : event_there (kept_by p flags) r ≡ Some event
 
 -- If a value of the code's enum is that of an event, the event is kept.
-abbrev pub ShowsEvent : Parts → List Bool → told.OutputRecord → Type 0
-ShowsEvent p flags (told_records.Event number r) = IsKeptEvent p flags number r
-ShowsEvent p flags (told_records.Metadata r) = ⊤
-ShowsEvent p flags (told_records.Chained number l) = ⊤
+abbrev pub ShowsEvent : Parts → List Bool → contents.OutputRecord → Type 0
+ShowsEvent p flags (declared_records.Event number r) = IsKeptEvent p flags number r
+ShowsEvent p flags (declared_records.Metadata r) = ⊤
+ShowsEvent p flags (declared_records.Chained number l) = ⊤
 
 -- The value of the code's enum for a record, given the checkpoint and the event that start there, and whether
 -- it is the metadata record.
-abbrev pub IsChosen : Option (ℕ × Link) → Option ℕ → Bool → Framed → told.OutputRecord → Type 0
-IsChosen link event metadata r (told_records.Event number s) = (event ≡ Some number) × (metadata ≡ false) × (s ≡ r)
-IsChosen link event metadata r (told_records.Metadata s) = (metadata ≡ true) × (s ≡ r)
-IsChosen link event metadata r (told_records.Chained number l) = link ≡ Some (number, l)
+abbrev pub IsChosen : Option (ℕ × Link) → Option ℕ → Bool → Framed → contents.OutputRecord → Type 0
+IsChosen link event metadata r (declared_records.Event number s) = (event ≡ Some number) × (metadata ≡ false) × (s ≡ r)
+IsChosen link event metadata r (declared_records.Metadata s) = (metadata ≡ true) × (s ≡ r)
+IsChosen link event metadata r (declared_records.Chained number l) = link ≡ Some (number, l)
 
 -- The chained checkpoint that starts where this record does, with its number.
 abbrev pub link_there : Parts → Framed → Option (ℕ × Link)
@@ -89,13 +89,13 @@ abbrev pub is_kept_at : List EventAt → List Bool → ℕ → ℕ → Bool
 is_kept_at es flags n at = option_map_or (λ e. (e.record_of.at == at) && unwrap_or (slice_get flags n) false) (slice_get es n) false
 
 -- The number of the next event after this offset, given that of the next event from it on.
-abbrev pub event_behind : List EventAt → ℕ → ℕ → ℕ
-event_behind es n at = option_map_or (λ e. if e.record_of.at == at then n + 1 else n) (slice_get es n) n
+abbrev pub event_after : List EventAt → ℕ → ℕ → ℕ
+event_after es n at = option_map_or (λ e. if e.record_of.at == at then n + 1 else n) (slice_get es n) n
 
 -- The checkpoint with this number, and the number, if it starts at this offset.
 abbrev pub linked_at : List Link → ℕ → ℕ → Option (ℕ × Link)
 linked_at ls n at = option_and_then (λ l. if l.frame.at == at then Some (n, l) else None) (slice_get ls n)
 
 -- The number of the next checkpoint after this offset, given that of the next checkpoint from it on.
-abbrev pub link_behind : List Link → ℕ → ℕ → ℕ
-link_behind ls n at = option_map_or (λ l. if l.frame.at == at then n + 1 else n) (slice_get ls n) n
+abbrev pub link_after : List Link → ℕ → ℕ → ℕ
+link_after ls n at = option_map_or (λ l. if l.frame.at == at then n + 1 else n) (slice_get ls n) n

@@ -7,7 +7,7 @@ IsBefore None at = ⊤
 IsBefore (Some older) at = older < at
 
 -- The offset of the metadata record in the output, if it has been written before or is the current record.
-abbrev pub place_seen : Option ℕ → Bool → ℕ → Option ℕ
-place_seen (Some place) now at = Some place
-place_seen None true at = Some at
-place_seen None false at = None
+abbrev pub offset_so_far : Option ℕ → Bool → ℕ → Option ℕ
+offset_so_far (Some place) now at = Some place
+offset_so_far None true at = Some at
+offset_so_far None false at = None

@@ -45,7 +45,7 @@ pub record HasOutput (refusal : List ℕ → Option Flaw) (Is : List ℕ → Lis
   pub recording : List ℕ
   pub read : file w input ≡ Some recording
   pub written : List ℕ
-  pub stands : file v output ≡ Some written
+  pub holds : file v output ≡ Some written
   pub made : IsOutputOf refusal Is recording written
 
 -- The ending is one with which the plan of such a command ends.

@@ -19,7 +19,7 @@ pub fn slim_metadata(alloc: Global, chunk: &Chunk, kept: &Kept) -> Result<Option
     ensures exact { IfOk result (λ found. option_map (λ v. v.items) found ≡ new_metadata chunk.now kept.now) }
     ensures metadata { IfOk result (λ found. IfSome found (λ v. IsMetadataRecord v.items)) }
 {
-    chunk.parts_stand();
+    chunk.parts_are_valid();
     let stay = staying_classes(alloc, chunk, kept)?;
     slim(alloc, chunk.metadata(), &stay, chunk.metadata_frame().size)
 }

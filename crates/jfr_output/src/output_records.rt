@@ -3,7 +3,7 @@ ghost use Rattle.std.specs.Prelude.{◌≡◌, ◌||◌, ◌+◌, ◌-◌, ◌^�
 ghost use Rattle.jfr_chunk.specs.Parts.{events_of, metadata_at};
 ghost use Rattle.jfr_chunk.specs.Reach.{kept_by};
 ghost use Rattle.jfr_chunk.specs.Scrub.{output_record_by, output_record_of};
-ghost use Rattle.jfr_output.specs.OutputRecords.{IsChosen, IsCursor, ShowsEvent, ShowsMetadata, event_behind, is_kept_at, link_behind, linked_at, output_record_as, output_record_in, still_output_records};
+ghost use Rattle.jfr_output.specs.OutputRecords.{IsChosen, IsCursor, ShowsEvent, ShowsMetadata, event_after, is_kept_at, link_after, linked_at, output_record_as, output_record_in, still_output_records};
 
 use jfr_chunk::{Chunk, Kept};
 use jfr_frame::{Framed, Frames};
@@ -108,7 +108,7 @@ fn chosen(
 // or not, `number` becomes that of the next event.
 #[inline(always)]
 fn pass_event(chunk: &Chunk, kept: &Kept, number: &mut usize, at: usize) -> Option<usize>
-    ensures number { number.new ≡ event_behind (events_of chunk.now) number.old at }
+    ensures number { number.new ≡ event_after (events_of chunk.now) number.old at }
     ensures kept { result ≡ (if is_kept_at (events_of chunk.now) kept.now number.old at then Some number.old else None) }
 {
     let old = *number;
@@ -129,7 +129,7 @@ fn pass_event(chunk: &Chunk, kept: &Kept, number: &mut usize, at: usize) -> Opti
 // The chained checkpoint that starts at this offset, with its number. `number` then becomes that of the next one.
 #[inline(always)]
 fn pass_link(chain: &Chain, number: &mut usize, at: usize) -> Option<(usize, Link)>
-    ensures number { number.new ≡ link_behind chain.now number.old at }
+    ensures number { number.new ≡ link_after chain.now number.old at }
     ensures link { result ≡ linked_at chain.now number.old at }
 {
     let old = *number;

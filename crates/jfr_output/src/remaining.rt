@@ -36,7 +36,7 @@ pub fn remaining_entries<'p>(
     marks: &Marks,
 ) -> Result<RemainingEntries<'p>, NoMemory>
     requires { length marks.now ≡ length pools.now }
-    ensures { IfOk result (λ left. entries_in left ≡ marked marks.now pools.now) }
+    ensures { IfOk result (λ remaining. entries_in remaining ≡ marked marks.now pools.now) }
 {
     if are_all_reached(pools, marks) {
         return Ok(RemainingEntries::All(pools.as_slice()));
@@ -60,13 +60,13 @@ fn are_all_reached(pools: &Pools, marks: &Marks) -> bool
 // A list of the entries that are reached.
 fn reached(alloc: Global, pools: &Pools, marks: &Marks) -> Result<Vec<EntryAt>, NoMemory>
     requires { length marks.now ≡ length pools.now }
-    ensures { IfOk result (λ left. left.items ≡ marked marks.now pools.now) }
+    ensures { IfOk result (λ remaining. remaining.items ≡ marked marks.now pools.now) }
 {
-    let mut left = Vec::new(alloc);
+    let mut remaining = Vec::new(alloc);
     for at in 0..pools.len() {
-        push_if(&mut left, entry_at(pools, at), marks.is_reached(at))?;
+        push_if(&mut remaining, entry_at(pools, at), marks.is_reached(at))?;
     }
-    Ok(left)
+    Ok(remaining)
 }
 
 fn entry_at(pools: &Pools, at: usize) -> EntryAt
@@ -80,21 +80,22 @@ fn entry_at(pools: &Pools, at: usize) -> EntryAt
 }
 
 // Adds the entry if `keep` is true.
-fn push_if(left: &mut Vec<EntryAt>, entry: EntryAt, keep: bool) -> Result<(), NoMemory>
-    ensures ok { OnOk result (left.new.items ≡ left.old.items ++ (if keep then entry ∷ [] else [])) }
+fn push_if(remaining: &mut Vec<EntryAt>, entry: EntryAt, keep: bool) -> Result<(), NoMemory>
+    ensures ok { OnOk result (remaining.new.items ≡ remaining.old.items ++ (if keep then entry ∷ [] else [])) }
 {
     if keep {
-        left.push(entry)?;
+        remaining.push(entry)?;
     }
     Ok(())
 }
 
 /// The entries of checkpoint `number`. The given entries are in the order of their checkpoints.
-pub fn entries_of(left: &[EntryAt], number: usize) -> &[EntryAt]
-    requires { NotFalling 0 left.now }
-    ensures { result.now ≡ filter (λ e. e.checkpoint == number) left.now }
+pub fn entries_of(remaining: &[EntryAt], number: usize) -> &[EntryAt]
+    requires { NotFalling 0 remaining.now }
+    ensures { result.now ≡ filter (λ e. e.checkpoint == number) remaining.now }
 {
-    let (_, rest) = left.split_at(left.partition_point(|entry| entry.checkpoint < number));
+    let (_, rest) = remaining.split_at(remaining.partition_point(|entry| entry.checkpoint
+        < number));
     let (entries, _) = rest.split_at(rest.partition_point(|entry| entry.checkpoint <= number));
     entries
 }

@@ -22,7 +22,7 @@ pub record World : Type 0 where
 -- The world of a place, if it lets contracts see it; how often reads and writes failed; and whether it fails
 -- only for stated causes.
 pub record State : Type 0 where
-  pub told : Option World
+  pub contents : Option World
   pub read_faults : ℕ
   pub write_faults : ℕ
   pub steady : Bool
@@ -126,7 +126,7 @@ LeavesPrefix (Err Failed) before after bytes add = (k : ℕ) × (after ≡ optio
 LeavesPrefix (Err Memory) before after bytes add = after ≡ before
 
 -- A claim about the world before and after, if contracts see it before; then they see it after, too.
-abbrev pub Told : Option World → Option World → (World → World → Type 0) → Type 0
-Told None after P = Unit {0}
-Told (Some w) None P = ⊥
-Told (Some w) (Some v) P = P w v
+abbrev pub IfKnown : Option World → Option World → (World → World → Type 0) → Type 0
+IfKnown None after P = Unit {0}
+IfKnown (Some w) None P = ⊥
+IfKnown (Some w) (Some v) P = P w v

@@ -23,7 +23,7 @@ pub struct MemoryPlace {
 impl MemoryPlace {
     /// A place without files, with nothing open and no faults.
     pub fn new(alloc: Global) -> MemoryPlace
-        ensures told { (state_of result).told ≡ Some empty_world }
+        ensures contents { (state_of result).contents ≡ Some empty_world }
         ensures reads { (state_of result).read_faults ≡ 0 }
         ensures writes { (state_of result).write_faults ≡ 0 }
         ensures steady { (state_of result).steady ≡ true }
@@ -39,7 +39,7 @@ impl MemoryPlace {
 
     /// Sets a file to these bytes, whether it existed before or not.
     pub fn put(&mut self, name: &str, bytes: &[u8]) -> Result<(), NoMemory>
-        ensures ok { OnOk result (state_of self.new ≡ record (state_of self.old) { told = option_map (put name.now bytes.now) (state_of self.old).told }) }
+        ensures ok { OnOk result (state_of self.new ≡ record (state_of self.old) { contents = option_map (put name.now bytes.now) (state_of self.old).contents }) }
         ensures unchanged { OnErr result (state_of self.new ≡ state_of self.old) }
         ensures scripts { scripts_of self.new ≡ scripts_of self.old }
         ensures most { most_of self.new ≡ most_of self.old }
@@ -49,7 +49,7 @@ impl MemoryPlace {
 
     /// The bytes of a file, if it exists.
     pub fn file(&self, name: &str) -> Option<&[u8]>
-        ensures { IfSome (state_of self.now).told (λ w. slice_of result ≡ file w name.now) }
+        ensures { IfSome (state_of self.now).contents (λ w. slice_of result ≡ file w name.now) }
     {
         self.place.file(name)
     }
@@ -82,13 +82,13 @@ impl Place for MemoryPlace {
     ghost state = { λ p. state_of p };
 
     fn open_input(&mut self, name: &str) -> Result<(), Fault>
-        ensures told { Leaves result (state_of self.old).told (state_of self.new).told (λ _. opened name.now) shut }
-        ensures there { OnOk result (IfSome (state_of self.old).told (λ w. IsSome (file w name.now))) }
+        ensures contents { Leaves result (state_of self.old).contents (state_of self.new).contents (λ _. opened name.now) shut }
+        ensures there { OnOk result (IfSome (state_of self.old).contents (λ w. IsSome (file w name.now))) }
         ensures counted { CountsRead result (state_of self.old) (state_of self.new) }
-        ensures steady { IsTrue (state_of self.old).steady → IsErrOf result Failed → IfSome (state_of self.old).told (λ w. file w name.now ≡ None) }
+        ensures steady { IsTrue (state_of self.old).steady → IsErrOf result Failed → IfSome (state_of self.old).contents (λ w. file w name.now ≡ None) }
 
         ensures due { IsDue Open (scripts_of self.old) → IsErrOf result Failed }
-        ensures cause { IsErrOf result Failed → IsDue Open (scripts_of self.old) ⊎ IfSome (state_of self.old).told (λ w. file w name.now ≡ None) }
+        ensures cause { IsErrOf result Failed → IsDue Open (scripts_of self.old) ⊎ IfSome (state_of self.old).contents (λ w. file w name.now ≡ None) }
         ensures scripts { scripts_of self.new ≡ after_call Open (scripts_of self.old) }
         ensures most { most_of self.new ≡ most_of self.old }
     {
@@ -101,16 +101,16 @@ impl Place for MemoryPlace {
     fn read(&mut self, into: &mut [u8]) -> Result<usize, Fault>
         requires { 0 < length into.old }
         ensures bound { IfOk result (λ n. n ≤ length into.new) }
-        ensures told { Leaves result (state_of self.old).told (state_of self.new).told taken unchanged }
-        ensures bytes { IfOk result (λ n. IfSome (state_of self.old).told (λ w. IfSome w.input (λ left. (n ≤ length left) × (take n into.new ≡ take n left)))) }
-        ensures end { IfOk result (λ n. IfSome (state_of self.old).told (λ w. IfSome w.input (λ left. (n ≡ 0) ↔ (left ≡ [])))) }
-        ensures open { OnOk result (IfSome (state_of self.old).told (λ w. IsSome w.input)) }
+        ensures contents { Leaves result (state_of self.old).contents (state_of self.new).contents taken unchanged }
+        ensures bytes { IfOk result (λ n. IfSome (state_of self.old).contents (λ w. IfSome w.input (λ left. (n ≤ length left) × (take n into.new ≡ take n left)))) }
+        ensures end { IfOk result (λ n. IfSome (state_of self.old).contents (λ w. IfSome w.input (λ left. (n ≡ 0) ↔ (left ≡ [])))) }
+        ensures open { OnOk result (IfSome (state_of self.old).contents (λ w. IsSome w.input)) }
         ensures counted { CountsRead result (state_of self.old) (state_of self.new) }
-        ensures steady { IsTrue (state_of self.old).steady → IsErrOf result Failed → IfSome (state_of self.old).told (λ w. w.input ≡ None) }
+        ensures steady { IsTrue (state_of self.old).steady → IsErrOf result Failed → IfSome (state_of self.old).contents (λ w. w.input ≡ None) }
         ensures cut { IfOk result (λ n. n ≤ most_of self.old) }
 
         ensures due { IsDue Read (scripts_of self.old) → IsErrOf result Failed }
-        ensures cause { IsErrOf result Failed → IsDue Read (scripts_of self.old) ⊎ IfSome (state_of self.old).told (λ w. w.input ≡ None) }
+        ensures cause { IsErrOf result Failed → IsDue Read (scripts_of self.old) ⊎ IfSome (state_of self.old).contents (λ w. w.input ≡ None) }
         ensures scripts { scripts_of self.new ≡ after_call Read (scripts_of self.old) }
         ensures most { most_of self.new ≡ most_of self.old }
     {
@@ -121,7 +121,7 @@ impl Place for MemoryPlace {
     }
 
     fn shut_input(&mut self)
-        ensures told { (state_of self.new).told ≡ option_map shut (state_of self.old).told }
+        ensures contents { (state_of self.new).contents ≡ option_map shut (state_of self.old).contents }
         ensures reads { (state_of self.new).read_faults ≡ (state_of self.old).read_faults }
         ensures writes { (state_of self.new).write_faults ≡ (state_of self.old).write_faults }
         ensures same { (state_of self.new).steady ≡ (state_of self.old).steady }
@@ -132,13 +132,13 @@ impl Place for MemoryPlace {
     }
 
     fn create_output(&mut self, name: &str) -> Result<(), Fault>
-        ensures told { Leaves result (state_of self.old).told (state_of self.new).told (λ _. created name.now) finished }
-        ensures was_new { OnOk result (IfSome (state_of self.old).told (λ w. (file w name.now ≡ None) × (w.output ≡ None))) }
+        ensures contents { Leaves result (state_of self.old).contents (state_of self.new).contents (λ _. created name.now) finished }
+        ensures was_new { OnOk result (IfSome (state_of self.old).contents (λ w. (file w name.now ≡ None) × (w.output ≡ None))) }
         ensures counted { CountsWrite result (state_of self.old) (state_of self.new) }
-        ensures steady { IsTrue (state_of self.old).steady → IsErrOf result Failed → IfSome (state_of self.old).told (λ w. (file w name.now ≡ None) → IsSome w.output) }
+        ensures steady { IsTrue (state_of self.old).steady → IsErrOf result Failed → IfSome (state_of self.old).contents (λ w. (file w name.now ≡ None) → IsSome w.output) }
 
         ensures due { IsDue Create (scripts_of self.old) → IsErrOf result Failed }
-        ensures cause { IsErrOf result Failed → IsDue Create (scripts_of self.old) ⊎ IfSome (state_of self.old).told (λ w. (file w name.now ≡ None) → IsSome w.output) }
+        ensures cause { IsErrOf result Failed → IsDue Create (scripts_of self.old) ⊎ IfSome (state_of self.old).contents (λ w. (file w name.now ≡ None) → IsSome w.output) }
         ensures scripts { scripts_of self.new ≡ after_call Create (scripts_of self.old) }
         ensures most { most_of self.new ≡ most_of self.old }
     {
@@ -149,14 +149,14 @@ impl Place for MemoryPlace {
     }
 
     fn append(&mut self, bytes: &[u8]) -> Result<(), Fault>
-        ensures told { LeavesPrefix result (state_of self.old).told (state_of self.new).told bytes.now appended }
-        ensures open { OnOk result (IfSome (state_of self.old).told (λ w. IsSome w.output)) }
+        ensures contents { LeavesPrefix result (state_of self.old).contents (state_of self.new).contents bytes.now appended }
+        ensures open { OnOk result (IfSome (state_of self.old).contents (λ w. IsSome w.output)) }
         ensures counted { CountsWrite result (state_of self.old) (state_of self.new) }
-        ensures steady { IsTrue (state_of self.old).steady → IsErrOf result Failed → IfSome (state_of self.old).told (λ w. w.output ≡ None) }
+        ensures steady { IsTrue (state_of self.old).steady → IsErrOf result Failed → IfSome (state_of self.old).contents (λ w. w.output ≡ None) }
 
-        ensures keeps { IfSome (kept Append (scripts_of self.old)) (λ keep. KeepsPrefix keep (state_of self.old).told (state_of self.new).told bytes.now appended) }
+        ensures keeps { IfSome (kept Append (scripts_of self.old)) (λ keep. KeepsPrefix keep (state_of self.old).contents (state_of self.new).contents bytes.now appended) }
         ensures due { IsDue Append (scripts_of self.old) → IsErrOf result Failed }
-        ensures cause { IsErrOf result Failed → IsDue Append (scripts_of self.old) ⊎ IfSome (state_of self.old).told (λ w. w.output ≡ None) }
+        ensures cause { IsErrOf result Failed → IsDue Append (scripts_of self.old) ⊎ IfSome (state_of self.old).contents (λ w. w.output ≡ None) }
         ensures scripts { scripts_of self.new ≡ after_call Append (scripts_of self.old) }
         ensures most { most_of self.new ≡ most_of self.old }
     {
@@ -167,14 +167,14 @@ impl Place for MemoryPlace {
     }
 
     fn append_pieces(&mut self, pieces: &[&[u8]]) -> Result<(), Fault>
-        ensures told { LeavesPrefix result (state_of self.old).told (state_of self.new).told (bytes_in pieces.now) appended }
-        ensures open { OnOk result (IfSome (state_of self.old).told (λ w. IsSome w.output)) }
+        ensures contents { LeavesPrefix result (state_of self.old).contents (state_of self.new).contents (bytes_in pieces.now) appended }
+        ensures open { OnOk result (IfSome (state_of self.old).contents (λ w. IsSome w.output)) }
         ensures counted { CountsWrite result (state_of self.old) (state_of self.new) }
-        ensures steady { IsTrue (state_of self.old).steady → IsErrOf result Failed → IfSome (state_of self.old).told (λ w. w.output ≡ None) }
+        ensures steady { IsTrue (state_of self.old).steady → IsErrOf result Failed → IfSome (state_of self.old).contents (λ w. w.output ≡ None) }
 
-        ensures keeps { IfSome (kept Append (scripts_of self.old)) (λ keep. KeepsPrefix keep (state_of self.old).told (state_of self.new).told (bytes_in pieces.now) appended) }
+        ensures keeps { IfSome (kept Append (scripts_of self.old)) (λ keep. KeepsPrefix keep (state_of self.old).contents (state_of self.new).contents (bytes_in pieces.now) appended) }
         ensures due { IsDue Append (scripts_of self.old) → IsErrOf result Failed }
-        ensures cause { IsErrOf result Failed → IsDue Append (scripts_of self.old) ⊎ IfSome (state_of self.old).told (λ w. w.output ≡ None) }
+        ensures cause { IsErrOf result Failed → IsDue Append (scripts_of self.old) ⊎ IfSome (state_of self.old).contents (λ w. w.output ≡ None) }
         ensures scripts { scripts_of self.new ≡ after_call Append (scripts_of self.old) }
         ensures most { most_of self.new ≡ most_of self.old }
     {
@@ -185,13 +185,13 @@ impl Place for MemoryPlace {
     }
 
     fn finish_output(&mut self) -> Result<(), Fault>
-        ensures told { Leaves result (state_of self.old).told (state_of self.new).told (λ _. finished) finished }
-        ensures open { OnOk result (IfSome (state_of self.old).told (λ w. IsSome w.output)) }
+        ensures contents { Leaves result (state_of self.old).contents (state_of self.new).contents (λ _. finished) finished }
+        ensures open { OnOk result (IfSome (state_of self.old).contents (λ w. IsSome w.output)) }
         ensures counted { CountsWrite result (state_of self.old) (state_of self.new) }
-        ensures steady { IsTrue (state_of self.old).steady → IsErrOf result Failed → IfSome (state_of self.old).told (λ w. w.output ≡ None) }
+        ensures steady { IsTrue (state_of self.old).steady → IsErrOf result Failed → IfSome (state_of self.old).contents (λ w. w.output ≡ None) }
 
         ensures due { IsDue Finish (scripts_of self.old) → IsErrOf result Failed }
-        ensures cause { IsErrOf result Failed → IsDue Finish (scripts_of self.old) ⊎ IfSome (state_of self.old).told (λ w. w.output ≡ None) }
+        ensures cause { IsErrOf result Failed → IsDue Finish (scripts_of self.old) ⊎ IfSome (state_of self.old).contents (λ w. w.output ≡ None) }
         ensures scripts { scripts_of self.new ≡ after_call Finish (scripts_of self.old) }
         ensures most { most_of self.new ≡ most_of self.old }
     {
@@ -202,8 +202,8 @@ impl Place for MemoryPlace {
     }
 
     fn list(&mut self, alloc: Global, folder: &str) -> Result<Words, Fault>
-        ensures told { Leaves result (state_of self.old).told (state_of self.new).told (λ _. unchanged) unchanged }
-        ensures names { IfOk result (λ names. IfSome (state_of self.old).told (λ w. IsListing folder.now w.files names)) }
+        ensures contents { Leaves result (state_of self.old).contents (state_of self.new).contents (λ _. unchanged) unchanged }
+        ensures names { IfOk result (λ names. IfSome (state_of self.old).contents (λ w. IsListing folder.now w.files names)) }
         ensures counted { CountsRead result (state_of self.old) (state_of self.new) }
         ensures steady { IsTrue (state_of self.old).steady → IsErrOf result Failed → ⊥ }
 

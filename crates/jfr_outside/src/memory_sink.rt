@@ -24,7 +24,7 @@ pub struct MemorySink {
 impl MemorySink {
     /// A sink without bytes and scripts, with no faults.
     pub fn new(alloc: Global) -> MemorySink
-        ensures told { (state_of result).written ≡ Some [] }
+        ensures contents { (state_of result).written ≡ Some [] }
         ensures faults { (state_of result).faults ≡ 0 }
         ensures scripts { scripts_of result ≡ [] }
     {
@@ -45,7 +45,7 @@ impl MemorySink {
     /// Makes the nth write from now on fail, counted from 1, with at most `keep` of its bytes kept. With 0 no
     /// write fails.
     pub fn fail(&mut self, nth: u64, keep: usize) -> Result<(), NoMemory>
-        ensures told { state_of self.new ≡ state_of self.old }
+        ensures contents { state_of self.new ≡ state_of self.old }
         ensures ok { OnOk result (scripts_of self.new ≡ scripts_of self.old ++ record { call = Append; left = nth; keep = keep } ∷ []) }
         ensures unchanged { OnErr result (scripts_of self.new ≡ scripts_of self.old) }
     {
@@ -57,7 +57,7 @@ impl Sink for MemorySink {
     ghost state = { λ s. state_of s };
 
     fn write(&mut self, bytes: &[u8]) -> Result<(), Fault>
-        ensures told { LeavesPrefix result (state_of self.old).written (state_of self.new).written bytes.now added }
+        ensures contents { LeavesPrefix result (state_of self.old).written (state_of self.new).written bytes.now added }
         ensures faults { Counts result (state_of self.old).faults (state_of self.new).faults }
 
         // A write fails exactly if a script says so, and keeps no more bytes than that script allows.

@@ -13,6 +13,6 @@ pub trait Sink {
 
     /// Adds bytes at the end of the stream; on failure, a prefix of them.
     fn write(&mut self, bytes: &[u8]) -> Result<(), Fault>
-        ensures told { LeavesPrefix result (state self.old).written (state self.new).written bytes.now added }
+        ensures contents { LeavesPrefix result (state self.old).written (state self.new).written bytes.now added }
         ensures faults { Counts result (state self.old).faults (state self.new).faults };
 }

@@ -10,11 +10,11 @@ pub struct Source {
 }
 
 impl Source {
-    ghost use Rattle.jfr_outside.specs.Source.{left_of};
+    ghost use Rattle.jfr_outside.specs.Source.{unread_bytes};
 
     /// An input of which all bytes are left.
     pub fn new(bytes: Vec<u8>) -> Source
-        ensures { left_of result ≡ bytes.items }
+        ensures { unread_bytes result ≡ bytes.items }
     {
         Source { bytes, at: 0 }
     }
@@ -25,10 +25,10 @@ impl Source {
         requires most { 0 < most }
         ensures bound { result ≤ length into.new }
         ensures most { result ≤ most }
-        ensures left { left_of self.new ≡ drop result (left_of self.old) }
-        ensures within { result ≤ length (left_of self.old) }
-        ensures bytes { take result into.new ≡ take result (left_of self.old) }
-        ensures end { (result ≡ 0) ↔ (left_of self.old ≡ []) }
+        ensures left { unread_bytes self.new ≡ drop result (unread_bytes self.old) }
+        ensures within { result ≤ length (unread_bytes self.old) }
+        ensures bytes { take result into.new ≡ take result (unread_bytes self.old) }
+        ensures end { (result ≡ 0) ↔ (unread_bytes self.old ≡ []) }
     {
         let left = self.bytes.len() - self.at;
         let count = left.min(most).min(into.len());

@@ -33,7 +33,7 @@ impl SteadyPlace {
 
     /// A place without files, with nothing open and no faults.
     pub fn new(alloc: Global) -> SteadyPlace
-        ensures told { (state_of result).told ≡ Some empty_world }
+        ensures contents { (state_of result).contents ≡ Some empty_world }
         ensures reads { (state_of result).read_faults ≡ 0 }
         ensures writes { (state_of result).write_faults ≡ 0 }
         ensures steady { (state_of result).steady ≡ true }
@@ -52,7 +52,7 @@ impl SteadyPlace {
 
     /// Sets a file to these bytes, whether it existed before or not.
     pub fn put(&mut self, name: &str, bytes: &[u8]) -> Result<(), NoMemory>
-        ensures ok { OnOk result (state_of self.new ≡ record (state_of self.old) { told = option_map (put name.now bytes.now) (state_of self.old).told }) }
+        ensures ok { OnOk result (state_of self.new ≡ record (state_of self.old) { contents = option_map (put name.now bytes.now) (state_of self.old).contents }) }
         ensures unchanged { OnErr result (state_of self.new ≡ state_of self.old) }
         ensures most { most_of self.new ≡ most_of self.old }
     {
@@ -62,7 +62,7 @@ impl SteadyPlace {
 
     /// The bytes of a file, if it exists.
     pub fn file(&self, name: &str) -> Option<&[u8]>
-        ensures { IfSome (state_of self.now).told (λ w. slice_of result ≡ file w name.now) }
+        ensures { IfSome (state_of self.now).contents (λ w. slice_of result ≡ file w name.now) }
     {
         file_in(&self.files, name)
     }
@@ -79,7 +79,7 @@ impl SteadyPlace {
     // Fails a call that opens an input: then no input is open.
     pub(crate) fn refuse_input(&mut self) -> Fault
         ensures failed { result ≡ Failed }
-        ensures told { (state_of self.new).told ≡ option_map shut (state_of self.old).told }
+        ensures contents { (state_of self.new).contents ≡ option_map shut (state_of self.old).contents }
         ensures rose { Rose (state_of self.old).read_faults (state_of self.new).read_faults }
         ensures reads { (state_of self.old).read_faults ≤ (state_of self.new).read_faults }
         ensures writes { (state_of self.new).write_faults ≡ (state_of self.old).write_faults }
@@ -92,7 +92,7 @@ impl SteadyPlace {
     // Fails a read: the input is unchanged.
     pub(crate) fn refuse_read(&mut self) -> Fault
         ensures failed { result ≡ Failed }
-        ensures told { (state_of self.new).told ≡ (state_of self.old).told }
+        ensures contents { (state_of self.new).contents ≡ (state_of self.old).contents }
         ensures rose { Rose (state_of self.old).read_faults (state_of self.new).read_faults }
         ensures reads { (state_of self.old).read_faults ≤ (state_of self.new).read_faults }
         ensures writes { (state_of self.new).write_faults ≡ (state_of self.old).write_faults }
@@ -105,7 +105,7 @@ impl SteadyPlace {
     // Fails a call that creates or finishes an output: then no output is open.
     pub(crate) fn refuse_output(&mut self) -> Fault
         ensures failed { result ≡ Failed }
-        ensures told { (state_of self.new).told ≡ option_map finished (state_of self.old).told }
+        ensures contents { (state_of self.new).contents ≡ option_map finished (state_of self.old).contents }
         ensures reads { (state_of self.new).read_faults ≡ (state_of self.old).read_faults }
         ensures rose { Rose (state_of self.old).write_faults (state_of self.new).write_faults }
         ensures writes { (state_of self.old).write_faults ≤ (state_of self.new).write_faults }
@@ -119,7 +119,7 @@ impl SteadyPlace {
     // Fails an append: the output keeps at most `keep` of the bytes, and none of them if memory runs out.
     pub(crate) fn refuse_append(&mut self, bytes: &[u8], keep: usize) -> Fault
         ensures failed { result ≡ Failed }
-        ensures told { KeepsPrefix keep (state_of self.old).told (state_of self.new).told bytes.now appended }
+        ensures contents { KeepsPrefix keep (state_of self.old).contents (state_of self.new).contents bytes.now appended }
         ensures reads { (state_of self.new).read_faults ≡ (state_of self.old).read_faults }
         ensures rose { Rose (state_of self.old).write_faults (state_of self.new).write_faults }
         ensures writes { (state_of self.old).write_faults ≤ (state_of self.new).write_faults }
@@ -137,7 +137,7 @@ impl SteadyPlace {
     // runs out.
     pub(crate) fn refuse_pieces(&mut self, pieces: &[&[u8]], keep: usize) -> Fault
         ensures failed { result ≡ Failed }
-        ensures told { KeepsPrefix keep (state_of self.old).told (state_of self.new).told (bytes_in pieces.now) appended }
+        ensures contents { KeepsPrefix keep (state_of self.old).contents (state_of self.new).contents (bytes_in pieces.now) appended }
         ensures reads { (state_of self.new).read_faults ≡ (state_of self.old).read_faults }
         ensures rose { Rose (state_of self.old).write_faults (state_of self.new).write_faults }
         ensures writes { (state_of self.old).write_faults ≤ (state_of self.new).write_faults }
@@ -156,10 +156,10 @@ impl Place for SteadyPlace {
     ghost state = { λ p. state_of p };
 
     fn open_input(&mut self, name: &str) -> Result<(), Fault>
-        ensures told { Leaves result (state_of self.old).told (state_of self.new).told (λ _. opened name.now) shut }
-        ensures there { OnOk result (IfSome (state_of self.old).told (λ w. IsSome (file w name.now))) }
+        ensures contents { Leaves result (state_of self.old).contents (state_of self.new).contents (λ _. opened name.now) shut }
+        ensures there { OnOk result (IfSome (state_of self.old).contents (λ w. IsSome (file w name.now))) }
         ensures counted { CountsRead result (state_of self.old) (state_of self.new) }
-        ensures steady { IsErrOf result Failed → IfSome (state_of self.old).told (λ w. file w name.now ≡ None) }
+        ensures steady { IsErrOf result Failed → IfSome (state_of self.old).contents (λ w. file w name.now ≡ None) }
         ensures most { most_of self.new ≡ most_of self.old }
     {
         match file_in(&self.files, name) {
@@ -175,12 +175,12 @@ impl Place for SteadyPlace {
     fn read(&mut self, into: &mut [u8]) -> Result<usize, Fault>
         requires { 0 < length into.old }
         ensures bound { IfOk result (λ n. n ≤ length into.new) }
-        ensures told { Leaves result (state_of self.old).told (state_of self.new).told taken unchanged }
-        ensures bytes { IfOk result (λ n. IfSome (state_of self.old).told (λ w. IfSome w.input (λ left. (n ≤ length left) × (take n into.new ≡ take n left)))) }
-        ensures end { IfOk result (λ n. IfSome (state_of self.old).told (λ w. IfSome w.input (λ left. (n ≡ 0) ↔ (left ≡ [])))) }
-        ensures open { OnOk result (IfSome (state_of self.old).told (λ w. IsSome w.input)) }
+        ensures contents { Leaves result (state_of self.old).contents (state_of self.new).contents taken unchanged }
+        ensures bytes { IfOk result (λ n. IfSome (state_of self.old).contents (λ w. IfSome w.input (λ left. (n ≤ length left) × (take n into.new ≡ take n left)))) }
+        ensures end { IfOk result (λ n. IfSome (state_of self.old).contents (λ w. IfSome w.input (λ left. (n ≡ 0) ↔ (left ≡ [])))) }
+        ensures open { OnOk result (IfSome (state_of self.old).contents (λ w. IsSome w.input)) }
         ensures counted { CountsRead result (state_of self.old) (state_of self.new) }
-        ensures steady { IsErrOf result Failed → IfSome (state_of self.old).told (λ w. w.input ≡ None) }
+        ensures steady { IsErrOf result Failed → IfSome (state_of self.old).contents (λ w. w.input ≡ None) }
         ensures cut { IfOk result (λ n. n ≤ most_of self.old) }
         ensures most { most_of self.new ≡ most_of self.old }
     {
@@ -191,7 +191,7 @@ impl Place for SteadyPlace {
     }
 
     fn shut_input(&mut self)
-        ensures told { (state_of self.new).told ≡ option_map shut (state_of self.old).told }
+        ensures contents { (state_of self.new).contents ≡ option_map shut (state_of self.old).contents }
         ensures reads { (state_of self.new).read_faults ≡ (state_of self.old).read_faults }
         ensures writes { (state_of self.new).write_faults ≡ (state_of self.old).write_faults }
         ensures same { (state_of self.new).steady ≡ (state_of self.old).steady }
@@ -201,10 +201,10 @@ impl Place for SteadyPlace {
     }
 
     fn create_output(&mut self, name: &str) -> Result<(), Fault>
-        ensures told { Leaves result (state_of self.old).told (state_of self.new).told (λ _. created name.now) finished }
-        ensures was_new { OnOk result (IfSome (state_of self.old).told (λ w. (file w name.now ≡ None) × (w.output ≡ None))) }
+        ensures contents { Leaves result (state_of self.old).contents (state_of self.new).contents (λ _. created name.now) finished }
+        ensures was_new { OnOk result (IfSome (state_of self.old).contents (λ w. (file w name.now ≡ None) × (w.output ≡ None))) }
         ensures counted { CountsWrite result (state_of self.old) (state_of self.new) }
-        ensures steady { IsErrOf result Failed → IfSome (state_of self.old).told (λ w. (file w name.now ≡ None) → IsSome w.output) }
+        ensures steady { IsErrOf result Failed → IfSome (state_of self.old).contents (λ w. (file w name.now ≡ None) → IsSome w.output) }
         ensures most { most_of self.new ≡ most_of self.old }
     {
         if self.output.is_some() || file_in(&self.files, name).is_some() {
@@ -217,10 +217,10 @@ impl Place for SteadyPlace {
     }
 
     fn append(&mut self, bytes: &[u8]) -> Result<(), Fault>
-        ensures told { LeavesPrefix result (state_of self.old).told (state_of self.new).told bytes.now appended }
-        ensures open { OnOk result (IfSome (state_of self.old).told (λ w. IsSome w.output)) }
+        ensures contents { LeavesPrefix result (state_of self.old).contents (state_of self.new).contents bytes.now appended }
+        ensures open { OnOk result (IfSome (state_of self.old).contents (λ w. IsSome w.output)) }
         ensures counted { CountsWrite result (state_of self.old) (state_of self.new) }
-        ensures steady { IsErrOf result Failed → IfSome (state_of self.old).told (λ w. w.output ≡ None) }
+        ensures steady { IsErrOf result Failed → IfSome (state_of self.old).contents (λ w. w.output ≡ None) }
         ensures most { most_of self.new ≡ most_of self.old }
     {
         match &self.output {
@@ -230,10 +230,10 @@ impl Place for SteadyPlace {
     }
 
     fn append_pieces(&mut self, pieces: &[&[u8]]) -> Result<(), Fault>
-        ensures told { LeavesPrefix result (state_of self.old).told (state_of self.new).told (bytes_in pieces.now) appended }
-        ensures open { OnOk result (IfSome (state_of self.old).told (λ w. IsSome w.output)) }
+        ensures contents { LeavesPrefix result (state_of self.old).contents (state_of self.new).contents (bytes_in pieces.now) appended }
+        ensures open { OnOk result (IfSome (state_of self.old).contents (λ w. IsSome w.output)) }
         ensures counted { CountsWrite result (state_of self.old) (state_of self.new) }
-        ensures steady { IsErrOf result Failed → IfSome (state_of self.old).told (λ w. w.output ≡ None) }
+        ensures steady { IsErrOf result Failed → IfSome (state_of self.old).contents (λ w. w.output ≡ None) }
         ensures most { most_of self.new ≡ most_of self.old }
     {
         let bytes = join(self.alloc, pieces)?;
@@ -241,10 +241,10 @@ impl Place for SteadyPlace {
     }
 
     fn finish_output(&mut self) -> Result<(), Fault>
-        ensures told { Leaves result (state_of self.old).told (state_of self.new).told (λ _. finished) finished }
-        ensures open { OnOk result (IfSome (state_of self.old).told (λ w. IsSome w.output)) }
+        ensures contents { Leaves result (state_of self.old).contents (state_of self.new).contents (λ _. finished) finished }
+        ensures open { OnOk result (IfSome (state_of self.old).contents (λ w. IsSome w.output)) }
         ensures counted { CountsWrite result (state_of self.old) (state_of self.new) }
-        ensures steady { IsErrOf result Failed → IfSome (state_of self.old).told (λ w. w.output ≡ None) }
+        ensures steady { IsErrOf result Failed → IfSome (state_of self.old).contents (λ w. w.output ≡ None) }
         ensures most { most_of self.new ≡ most_of self.old }
     {
         if self.output.is_some() {
@@ -256,8 +256,8 @@ impl Place for SteadyPlace {
     }
 
     fn list(&mut self, alloc: Global, folder: &str) -> Result<Words, Fault>
-        ensures told { Leaves result (state_of self.old).told (state_of self.new).told (λ _. unchanged) unchanged }
-        ensures names { IfOk result (λ names. IfSome (state_of self.old).told (λ w. IsListing folder.now w.files names)) }
+        ensures contents { Leaves result (state_of self.old).contents (state_of self.new).contents (λ _. unchanged) unchanged }
+        ensures names { IfOk result (λ names. IfSome (state_of self.old).contents (λ w. IsListing folder.now w.files names)) }
         ensures counted { CountsRead result (state_of self.old) (state_of self.new) }
         ensures steady { IsErrOf result Failed → ⊥ }
         ensures most { most_of self.new ≡ most_of self.old }

@@ -36,7 +36,7 @@ impl Sink for SteadySink {
     ghost state = { λ s. state_of s };
 
     fn write(&mut self, bytes: &[u8]) -> Result<(), Fault>
-        ensures told { LeavesPrefix result (state_of self.old).written (state_of self.new).written bytes.now added }
+        ensures contents { LeavesPrefix result (state_of self.old).written (state_of self.new).written bytes.now added }
         ensures faults { Counts result (state_of self.old).faults (state_of self.new).faults }
         ensures steady { IsOkUnless result Memory }
     {

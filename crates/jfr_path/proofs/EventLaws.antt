@@ -16,7 +16,7 @@ use Rattle.jfr_frame.specs.Records.{record_end}
 use Rattle.jfr_value.specs.declared.node.Step.TheVariants as steps
 use Rattle.jfr_value.specs.Values.{Value, Values, list_of}
 use Rattle.jfr_value.specs.Reading.{value_format}
-use Rattle.jfr_value.specs.Nodes.{NodeAt, IsRow, child, laid, node_at}
+use Rattle.jfr_value.specs.Nodes.{NodeAt, AreValues, child, laid, node_at}
 use Rattle.jfr_value.proofs.ChildLaws.{field_is}
 use Rattle.jfr_value.proofs.PlaceLaws.{get_within}
 use Rattle.jfr_value.proofs.RowLaws.{row_at, start_of}
@@ -24,7 +24,7 @@ use Rattle.jfr_pool.specs.Entries.{inline}
 use Rattle.jfr_chunk.specs.Parts.{Parts, EventAt, AreParts, event_by, event_of, event_records, events_of}
 use Rattle.jfr_chunk.proofs.AllLaws.{in_filter_map}
 use Rattle.jfr_worklist.specs.Members.{In}
-use Rattle.jfr_chunk.proofs.StandingLaws.{event_is}
+use Rattle.jfr_chunk.proofs.HasNodesLaws.{event_is}
 use Rattle.jfr_path.proofs.StepLaws.{sound}
 
 passes : {X : Type 0} (test : X → Bool) (xs : List X) (x : X) → In (filter test xs) x → test x ≡ true
@@ -80,7 +80,7 @@ known k id e = by_class (find_class k id) refl (and_parts (nat_lt 1 id) (option_
     }
 
 -- One of a row of values.
-one_of_row : (k : Classes) (c : List ℕ) (at end number : ℕ) (fs : List Field) (f : Field) (vs : Values) (o : Option NodeAt) → IsRow k c at end (map (λ f. f.shape) fs) vs → slice_get fs number ≡ Some f → o ≡ slice_get (laid at (list_of vs)) number → (n : NodeAt) × (o ≡ Some n)
+one_of_row : (k : Classes) (c : List ℕ) (at end number : ℕ) (fs : List Field) (f : Field) (vs : Values) (o : Option NodeAt) → AreValues k c at end (map (λ f. f.shape) fs) vs → slice_get fs number ≡ Some f → o ≡ slice_get (laid at (list_of vs)) number → (n : NodeAt) × (o ≡ Some n)
 one_of_row k c at end number fs f vs o r g e = (node_at f.shape (start_of at vs number) (start_of at vs (number + 1)), e ∙ (row_at k c at end (map (λ f. f.shape) fs) vs number f.shape r (slice_get-map (λ (f : Field). f.shape) fs number ∙ ap (option_map (λ (f : Field). f.shape)) g)).is)
 
 module _ (p : Parts) (parts : AreParts p) (e : EventAt) (listed : In (events_of p) e) where

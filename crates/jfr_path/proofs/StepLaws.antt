@@ -11,9 +11,9 @@ use Rattle.jfr_chunk.specs.declared.event.Event.{Event}
 use Rattle.jfr_chunk.specs.Parts.{Parts, AreParts, events_of}
 use Rattle.jfr_chunk.specs.Paths.{step}
 use Rattle.jfr_chunk.specs.Seen.{event_at}
-use Rattle.jfr_chunk.proofs.PathLaws.{Standing}
+use Rattle.jfr_chunk.proofs.PathLaws.{HasNodes}
 use Rattle.jfr_worklist.proofs.Members.{get_in}
-use Rattle.jfr_chunk.proofs.StandingLaws.{standing, event_is}
+use Rattle.jfr_chunk.proofs.HasNodesLaws.{has_nodes, event_is}
 
 -- A value of the chunk.
 abbrev pub IsPlace : Parts → NodeAt → Type 0
@@ -23,11 +23,11 @@ pub value_place : (p : Parts) (n : Node) → n.bytes.now ≡ p.bytes → IsValue
 value_place p n e (v, i) = (v, subst (λ z. IsNode p.classes z (node_of n) v) e i)
 
 module _ (p : Parts) (parts : AreParts p) where
-  abbrev stands : Standing p
-  stands = standing p parts
+  abbrev holds : HasNodes p
+  holds = has_nodes p parts
 
   pub sound : Sound p.classes
-  sound = stands.sound
+  sound = holds.sound
 
   pub event_place : (e : Event) → slice_get (events_of p) e.number ≡ Some (event_at e) → IsPlace p (node_of e.node)
   event_place e q = let i = event_is p parts (event_at e) (get_in (events_of p) e.number (event_at e) q) in (i.value, i.node)

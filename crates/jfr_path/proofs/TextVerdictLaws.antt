@@ -17,7 +17,7 @@ use Rattle.jfr_value.specs.Nodes.{NodeAt}
 use Rattle.jfr_chunk.specs.Parts.{Parts}
 use Rattle.jfr_chunk.specs.Paths.{content_by, content_in, follow_while, is_reference, named_field, named_text, string_of, text_of}
 use Rattle.jfr_chunk.specs.Chosen.{or_else}
-use Rattle.jfr_path.specs.Threads.{AreTextVerdicts, allows_thread_at, pair_cmp, said_of, thread_text_at}
+use Rattle.jfr_path.specs.Threads.{AreTextVerdicts, allows_thread_at, pair_cmp, allows_if_named, thread_text_at}
 
 module _ (s : Content) (r : Option Content) where
   by_kind : (k : Kind) → content_by k r ≡ Some s → r ≡ Some s
@@ -55,17 +55,17 @@ module _ (p : Parts) where
 
 module _ (g : Given) (p : Parts) where
   -- A verdict that was kept.
-  pub text_kept : (verdicts : BTreeMap (ℕ × ℕ) (Option Bool)) (n : NodeAt) (s : Content) (said : Option Bool) → AreTextVerdicts g p verdicts → string_of p n ≡ Some s → Some said ≡ tree.get pair_cmp verdicts (n.at, n.end) → said ≡ said_of g (strings.text_of s)
-  text_kept verdicts n s said a h e = subst (λ z. IfSome z (λ said. said ≡ said_of g (strings.text_of s))) (sym e) (a.each n s h)
+  pub text_kept : (verdicts : BTreeMap (ℕ × ℕ) (Option Bool)) (n : NodeAt) (s : Content) (said : Option Bool) → AreTextVerdicts g p verdicts → string_of p n ≡ Some s → Some said ≡ tree.get pair_cmp verdicts (n.at, n.end) → said ≡ allows_if_named g (strings.text_of s)
+  text_kept verdicts n s said a h e = subst (λ z. IfSome z (λ said. said ≡ allows_if_named g (strings.text_of s))) (sym e) (a.each n s h)
 
   -- A verdict more.
-  pub texts_next : (old new : BTreeMap (ℕ × ℕ) (Option Bool)) (n : NodeAt) (s : Content) (said : Option Bool) → AreTextVerdicts g p old → string_of p n ≡ Some s → said ≡ said_of g (strings.text_of s) → tree.Updates pair_cmp old new (n.at, n.end) (Some said) → AreTextVerdicts g p new
-  texts_next old new n s said a h e up = record { each = λ m t f. subst (λ z. IfSome z (λ said. said ≡ said_of g (strings.text_of t))) (sym (up.0 (m.at, m.end))) (by_place m t f (is_at (pair_cmp (n.at, n.end)) (m.at, m.end)) refl) }
+  pub texts_next : (old new : BTreeMap (ℕ × ℕ) (Option Bool)) (n : NodeAt) (s : Content) (said : Option Bool) → AreTextVerdicts g p old → string_of p n ≡ Some s → said ≡ allows_if_named g (strings.text_of s) → tree.Updates pair_cmp old new (n.at, n.end) (Some said) → AreTextVerdicts g p new
+  texts_next old new n s said a h e up = record { each = λ m t f. subst (λ z. IfSome z (λ said. said ≡ allows_if_named g (strings.text_of t))) (sym (up.0 (m.at, m.end))) (by_place m t f (is_at (pair_cmp (n.at, n.end)) (m.at, m.end)) refl) }
     where
-      by_place : (m : NodeAt) (t : Content) → string_of p m ≡ Some t → (b : Bool) → is_at (pair_cmp (n.at, n.end)) (m.at, m.end) ≡ b → IfSome (cond b (Some said) (tree.get pair_cmp old (m.at, m.end))) (λ said. said ≡ said_of g (strings.text_of t))
+      by_place : (m : NodeAt) (t : Content) → string_of p m ≡ Some t → (b : Bool) → is_at (pair_cmp (n.at, n.end)) (m.at, m.end) ≡ b → IfSome (cond b (Some said) (tree.get pair_cmp old (m.at, m.end))) (λ said. said ≡ allows_if_named g (strings.text_of t))
       by_place m t f true q =
           let same = exact_pairs nat_cmp nat_cmp exact_unsigned exact_unsigned (n.at, n.end) (m.at, m.end) ((Equal-is (pair_cmp (n.at, n.end) (m.at, m.end))).0 q) in
-          e ∙ ap (λ z. said_of g (strings.text_of z)) (one_string p n m s t h f (ap (λ (z : ℕ × ℕ). z.0) same) (ap (λ (z : ℕ × ℕ). z.1) same))
+          e ∙ ap (λ z. allows_if_named g (strings.text_of z)) (one_string p n m s t h f (ap (λ (z : ℕ × ℕ). z.0) same) (ap (λ (z : ℕ × ℕ). z.1) same))
       by_place m t f false q = a.each m t f
 
 -- The text of one name's field.
@@ -79,11 +79,11 @@ one_name p name n holder e = ap (λ z. option_and_then (text_of p) (named_field 
 
 -- What is said by the first name that has a text.
 module _ (g : Given) where
-  by_first : (a b : Option (List ℕ)) (allowed : Bool) → said_of g a ≡ Some allowed → allowed ≡ allows_thread g (or_else a b)
+  by_first : (a b : Option (List ℕ)) (allowed : Bool) → allows_if_named g a ≡ Some allowed → allowed ≡ allows_thread g (or_else a b)
   by_first None b allowed e = cc
   by_first (Some t) b allowed e = let f : allows_thread g (Some t) ≡ allowed = cc in sym f
 
-  by_second : (a b : Option (List ℕ)) (allowed : Bool) → said_of g a ≡ None → said_of g b ≡ Some allowed → allowed ≡ allows_thread g (or_else a b)
+  by_second : (a b : Option (List ℕ)) (allowed : Bool) → allows_if_named g a ≡ None → allows_if_named g b ≡ Some allowed → allowed ≡ allows_thread g (or_else a b)
   by_second None b allowed e f = by_first b None allowed f ∙ ap (allows_thread g) (alone b)
     where
       alone : (b : Option (List ℕ)) → or_else b None ≡ b
@@ -91,7 +91,7 @@ module _ (g : Given) where
       alone (Some t) = refl
   by_second (Some t) b allowed e f = cc
 
-  by_none : (a b : Option (List ℕ)) → said_of g a ≡ None → said_of g b ≡ None → allows_thread g None ≡ allows_thread g (or_else a b)
+  by_none : (a b : Option (List ℕ)) → allows_if_named g a ≡ None → allows_if_named g b ≡ None → allows_thread g None ≡ allows_thread g (or_else a b)
   by_none None None e f = refl
   by_none None (Some t) e f = cc
   by_none (Some t) b e f = cc
@@ -103,11 +103,11 @@ module _ (g : Given) (p : Parts) (n holder : NodeAt) (e : holder ≡ follow_whil
   both : or_else (text (codes "javaName")) (text (codes "osName")) ≡ thread_text_at p n
   both = λ i. or_else (one_name p (codes "javaName") n holder e i) (one_name p (codes "osName") n holder e i)
 
-  pub first_says : (allowed : Bool) → said_of g (text (codes "javaName")) ≡ Some allowed → allowed ≡ allows_thread_at g p n
+  pub first_says : (allowed : Bool) → allows_if_named g (text (codes "javaName")) ≡ Some allowed → allowed ≡ allows_thread_at g p n
   first_says allowed h = by_first g (text (codes "javaName")) (text (codes "osName")) allowed h ∙ ap (allows_thread g) both
 
-  pub second_says : (allowed : Bool) → said_of g (text (codes "javaName")) ≡ None → said_of g (text (codes "osName")) ≡ Some allowed → allowed ≡ allows_thread_at g p n
+  pub second_says : (allowed : Bool) → allows_if_named g (text (codes "javaName")) ≡ None → allows_if_named g (text (codes "osName")) ≡ Some allowed → allowed ≡ allows_thread_at g p n
   second_says allowed h k = by_second g (text (codes "javaName")) (text (codes "osName")) allowed h k ∙ ap (allows_thread g) both
 
-  pub none_says : said_of g (text (codes "javaName")) ≡ None → said_of g (text (codes "osName")) ≡ None → allows_thread g None ≡ allows_thread_at g p n
+  pub none_says : allows_if_named g (text (codes "javaName")) ≡ None → allows_if_named g (text (codes "osName")) ≡ None → allows_thread g None ≡ allows_thread_at g p n
   none_says h k = by_none g (text (codes "javaName")) (text (codes "osName")) h k ∙ ap (allows_thread g) both

@@ -19,8 +19,8 @@ abbrev pub thread_text_at : Parts → NodeAt → Option (List ℕ)
 thread_text_at p n = or_else (named_text p n (codes "javaName" ∷ [])) (named_text p n (codes "osName" ∷ []))
 
 -- Whether the filter allows a thread with this name, if there is a name.
-abbrev pub said_of : Given → Option (List ℕ) → Option Bool
-said_of g text = option_map (λ t. allows_thread g (Some t)) text
+abbrev pub allows_if_named : Given → Option (List ℕ) → Option Bool
+allows_if_named g text = option_map (λ t. allows_thread g (Some t)) text
 
 -- Whether the filter allows the thread that a value leads to.
 abbrev pub allows_thread_at : Given → Parts → NodeAt → Bool
@@ -44,7 +44,7 @@ pub record AreVerdicts (g : Given) (p : Parts) (verdicts : BTreeMap (ℕ × ℕ)
 -- Each verdict in the map is right for a thread whose name is the string between its two offsets; it is
 -- `None` if the string has no text.
 pub record AreTextVerdicts (g : Given) (p : Parts) (verdicts : BTreeMap (ℕ × ℕ) (Option Bool)) : Type 0 where
-  pub each : (n : NodeAt) (s : Content) → string_of p n ≡ Some s → IfSome (tree.get pair_cmp verdicts (n.at, n.end)) (λ said. said ≡ said_of g (strings.text_of s))
+  pub each : (n : NodeAt) (s : Content) → string_of p n ≡ Some s → IfSome (tree.get pair_cmp verdicts (n.at, n.end)) (λ said. said ≡ allows_if_named g (strings.text_of s))
 
 -- A filter, and the chunk whose threads are looked up.
 pub record Asked : Type 0 where

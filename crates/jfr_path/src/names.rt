@@ -45,7 +45,7 @@ pub fn node_at<'a>(chunk: &Chunk<'a>, node: &Node<'a>, names: &Words) -> Option<
     ensures bytes { IfSome result (λ to. to.bytes.now ≡ chunk.now.bytes) }
     ensures value { IfSome result (IsValue chunk.now.classes) }
 {
-    chunk.parts_stand();
+    chunk.parts_are_valid();
     let place = named_node(chunk, node, names)?;
     Some(follow_references(chunk, &place, MOST_FOLLOWED))
 }

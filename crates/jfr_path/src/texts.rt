@@ -6,7 +6,7 @@ ghost use Rattle.jfr_chunk.specs.Paths.{named_field, text_of};
 ghost use Rattle.jfr_text.specs.Spans.{content_of};
 ghost use Rattle.jfr_text.specs.Strings as strings;
 ghost use Rattle.jfr_value.specs.Nodes.{IsValue, node_of};
-ghost use Rattle.jfr_path.specs.Threads.{allows_thread_at, said_of};
+ghost use Rattle.jfr_path.specs.Threads.{allows_thread_at, allows_if_named};
 
 use crate::following::{MOST_FOLLOWED, follow_keys, follow_references, named_field};
 use crate::steps::string_of;
@@ -79,10 +79,10 @@ impl<'c, 'a> TextVerdicts<'c, 'a> {
         ensures same { self.new ≡ self.old }
     {
         let holder = follow_references(self.chunk, thread, MOST_FOLLOWED);
-        if let Some(allowed) = self.says_by(&holder, "javaName")? {
+        if let Some(allowed) = self.allows_by(&holder, "javaName")? {
             return Ok(allowed);
         }
-        if let Some(allowed) = self.says_by(&holder, "osName")? {
+        if let Some(allowed) = self.allows_by(&holder, "osName")? {
             return Ok(allowed);
         }
         Ok(self.filter.allows_thread(None))
@@ -90,26 +90,26 @@ impl<'c, 'a> TextVerdicts<'c, 'a> {
 
     /// Whether the filter allows a thread by its field with this name; `None` exactly if this leads to no
     /// text.
-    fn says_by(&mut self, holder: &Node<'a>, field: &str) -> Result<Option<bool>, NoMemory>
+    fn allows_by(&mut self, holder: &Node<'a>, field: &str) -> Result<Option<bool>, NoMemory>
         requires parts { AreParts self.old.chunk }
         requires value { IsValue self.old.chunk.classes holder.now }
         requires of_chunk { holder.now.bytes.now ≡ self.old.chunk.bytes }
-        ensures ok { IfOk result (λ said. said ≡ said_of self.old.filter (option_and_then (text_of self.old.chunk) (named_field self.old.chunk (chars field.now) (node_of holder.now)))) }
+        ensures ok { IfOk result (λ said. said ≡ allows_if_named self.old.filter (option_and_then (text_of self.old.chunk) (named_field self.old.chunk (chars field.now) (node_of holder.now)))) }
         ensures same { self.new ≡ self.old }
     {
         match named_field(self.chunk, holder, field) {
-            Some(name) => self.says(&name),
+            Some(name) => self.allows_text(&name),
             None => Ok(None),
         }
     }
 
     /// Whether the filter allows a thread whose name is this value; `None` exactly if this leads to no text.
     /// For all values that lead to the same string, its text is made once and matched once.
-    fn says(&mut self, name: &Node<'a>) -> Result<Option<bool>, NoMemory>
+    fn allows_text(&mut self, name: &Node<'a>) -> Result<Option<bool>, NoMemory>
         requires parts { AreParts self.old.chunk }
         requires value { IsValue self.old.chunk.classes name.now }
         requires of_chunk { name.now.bytes.now ≡ self.old.chunk.bytes }
-        ensures ok { IfOk result (λ said. said ≡ said_of self.old.filter (text_of self.old.chunk (node_of name.now))) }
+        ensures ok { IfOk result (λ said. said ≡ allows_if_named self.old.filter (text_of self.old.chunk (node_of name.now))) }
         ensures same { self.new ≡ self.old }
     {
         let last = follow_keys(self.chunk, name);
@@ -120,19 +120,19 @@ impl<'c, 'a> TextVerdicts<'c, 'a> {
         if let Some(said) = self.verdicts.get(&place) {
             return Ok(*said);
         }
-        let said = said_of_string(self.alloc, self.filter, &span)?;
+        let said = allows_string(self.alloc, self.filter, &span)?;
         self.verdicts.insert(place, said)?;
         Ok(said)
     }
 }
 
 /// Whether the filter allows a thread whose name is this string; `None` exactly if this has no text.
-fn said_of_string(
+fn allows_string(
     alloc: Global,
     filter: &Filter,
     span: &StringSpan<'_>,
 ) -> Result<Option<bool>, NoMemory>
-    ensures { IfOk result (λ said. said ≡ said_of filter.now (strings.text_of (content_of span.now))) }
+    ensures { IfOk result (λ said. said ≡ allows_if_named filter.now (strings.text_of (content_of span.now))) }
 {
     match text_of(alloc, span)? {
         Some(text) => Ok(Some(filter.allows_thread(Some(text.as_str())))),

@@ -4,7 +4,7 @@ use Rattle.std.specs.Prelude.{◌↔◌}
 use Rattle.std.specs.List.{AllByRecursion}
 use Rattle.jfr_base.specs.declared.flaw.Flaw.{Flaw}
 use Rattle.jfr_plan.specs.Ends.{End, Fine}
-use Rattle.jfr_plan.specs.Walks.{Rule, Asked, Stops, Goes, walk, walk_on, walk_end, asked, IsGoing, AllGo, cut_after, plan_after}
+use Rattle.jfr_plan.specs.Rules.{Rule, Asked, Stops, Goes, walk, walk_on, walk_end, asked, IsGoing, AllGo, cut_after, plan_after}
 use Rattle.jfr_plan.specs.Makes.{making, asks_made}
 use Rattle.jfr_plan.specs.Accepted.{AllGood, AllAccepted}
 

@@ -5,8 +5,8 @@ use Rattle.jfr_base.specs.declared.flaw.Flaw.{Flaw}
 use Rattle.jfr_header.specs.Fronts.{Front, Bad, End, Chunk, front, headed, sized, header_flaw, size_of, reach, reach_by}
 use Rattle.jfr_header.specs.Nexts.{is_header}
 use Rattle.jfr_header.specs.Cuts.{Cuts, cut, cut_by, cut_within, joined, whole_in}
-use Rattle.jfr_plan.specs.Effects.{Effect, Step, Stand, Need, Opened, Chunks, AtEnd, needing, effects, done, is_met, keep_met}
-use Rattle.jfr_plan.specs.Walks.{Rule, Walk, Asked, Stops, Goes, walk, walk_on, walk_end, gone, asked, AllGo, cut_after, plan_after}
+use Rattle.jfr_plan.specs.Effects.{Effect, Step, Snapshot, Need, Opened, Chunks, AtEnd, needing, effects, done, is_met, keep_met}
+use Rattle.jfr_plan.specs.Rules.{Rule, Walk, Asked, Stops, Goes, walk, walk_on, walk_end, gone, asked, AllGo, cut_after, plan_after}
 use Rattle.jfr_plan.specs.Outcomes.{NeedsMet, IsBelowHeader, held, held_count}
 use Rattle.jfr_header.proofs.Cutting.{cut_open}
 use Rattle.jfr_plan.proofs.Walking.{effects_needing, effects_append}
@@ -191,7 +191,7 @@ kept_is r earlier x before later cs go =
     ∙ ap (λ (l : List Effect). r.opens ++ l) (kept_past r n earlier before later (cut_after earlier x).flaw go refl)
 
 -- Exactly the effects whose need is met are done.
-pub needs_met : (r : Rule) (earlier : List (List ℕ)) (x left : List ℕ) (before : List (List ℕ)) (bytes : List ℕ) (s t : Stand) → Stuck r earlier x left before bytes → t ≡ done (r.opens ++ gone r earlier before) s → NeedsMet r earlier x left s t
+pub needs_met : (r : Rule) (earlier : List (List ℕ)) (x left : List ℕ) (before : List (List ℕ)) (bytes : List ℕ) (s t : Snapshot) → Stuck r earlier x left before bytes → t ≡ done (r.opens ++ gone r earlier before) s → NeedsMet r earlier x left s t
 needs_met r earlier x left before bytes s t h d =
     let taken = joined before ++ bytes in
     let n : length taken ≡ length (joined before) + length bytes = length-append (joined before) bytes in
@@ -205,7 +205,7 @@ needs_met r earlier x left before bytes s t h d =
     record {
       taken = taken;
       parts = h.parts ∙ ap (λ (l : List ℕ). joined before ++ l) h.taken ∙ sym (append_assoc (joined before) bytes left);
-      stands = d ∙ ap (λ (l : List Effect). done l s) (sym (kept_is r earlier x before later h.chunks h.go)) ∙ ap (λ (k : ℕ). done (effects (keep_met (Some (length earlier + k)) (plan_after r earlier (Some x)).steps)) s) (sym (stuck_count r earlier x left before bytes h));
+      holds = d ∙ ap (λ (l : List Effect). done l s) (sym (kept_is r earlier x before later h.chunks h.go)) ∙ ap (λ (k : ℕ). done (effects (keep_met (Some (length earlier + k)) (plan_after r earlier (Some x)).steps)) s) (sym (stuck_count r earlier x left before bytes h));
       go = subst (AllGo r earlier) (sym is) h.go;
       short = subst (λ (cs : List (List ℕ)). length taken < length (joined cs) + reach (drop (length (joined cs)) x)) (sym is) short;
       header =

@@ -5,7 +5,7 @@ use Rattle.jfr_header.specs.Fronts.{front, header_flaw}
 use Rattle.jfr_header.specs.Cuts.{cut, cut_within}
 use Rattle.jfr_plan.specs.Ends.{Fine, Refused}
 use Rattle.jfr_plan.specs.Effects.{Create, Append, Finish, Opened, Chunks, AtEnd, effects, keep_met}
-use Rattle.jfr_plan.specs.Walks.{Rule, plan_after}
+use Rattle.jfr_plan.specs.Rules.{Rule, plan_after}
 use Rattle.jfr_plan.specs.Makes.{making}
 
 abbrev header : List ℕ

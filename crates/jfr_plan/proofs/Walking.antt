@@ -1,11 +1,11 @@
 -- Laws of what chunks ask for.
 use Rattle.std.proofs.Common.{◌≡◌, ℕ, ◌+◌, refl, sym, ◌∙◌, ap, subst, List, [], ◌∷◌, ◌++◌, length, Option, Some, append_assoc, append-nil}
 use Rattle.jfr_base.specs.declared.flaw.Flaw.{Flaw}
-use Rattle.jfr_plan.specs.Effects.{Effect, Step, Stand, Need, Opened, Chunks, needing, effects, done, apply}
+use Rattle.jfr_plan.specs.Effects.{Effect, Step, Snapshot, Need, Opened, Chunks, needing, effects, done, apply}
 use Rattle.jfr_plan.specs.Ends.{End}
-use Rattle.jfr_plan.specs.Walks.{Rule, Walk, Asked, Goes, walk, walk_on, gone, asked, AllGo, cut_after, plan_after}
+use Rattle.jfr_plan.specs.Rules.{Rule, Walk, Asked, Goes, walk, walk_on, gone, asked, AllGo, cut_after, plan_after}
 
-pub done_append : (a b : List Effect) (s : Stand) → done (a ++ b) s ≡ done b (done a s)
+pub done_append : (a b : List Effect) (s : Snapshot) → done (a ++ b) s ≡ done b (done a s)
 done_append [] b s = refl
 done_append (e ∷ a) b s = done_append a b (apply e s)
 

@@ -1,20 +1,20 @@
 -- What a call promises of each of its answers.
 use Rattle.std.specs.Prelude.{◌≡◌, ◌≢◌, ◌<◌, ℕ, Bool, List, [], Option, None, Some, IsTrue, IsSome, IfSome}
 use Rattle.jfr_base.specs.declared.flaw.Refusal.{Refusal}
-use Rattle.jfr_outside.specs.World.{World, State, Told, file}
+use Rattle.jfr_outside.specs.World.{World, State, IfKnown, file}
 use Rattle.jfr_outside.specs.Counts.{Rose}
 use Rattle.jfr_header.specs.declared.ending.Ending.{Ending}
 use Rattle.jfr_header.specs.declared.ending.Ending.TheVariants as ending
-use Rattle.jfr_plan.specs.Ends.{End, Fine, Refused, Way, Ends, NoRoom, way_of}
-use Rattle.jfr_plan.specs.Effects.{Outside, Plan, Stand, stand, effects}
-use Rattle.jfr_plan.specs.Walks.{Rule, Target, File, Parts, Text, plan_in}
+use Rattle.jfr_plan.specs.Ends.{End, Fine, Refused, CommandEnd, Ends, RanOut, command_end}
+use Rattle.jfr_plan.specs.Effects.{Outside, Plan, Snapshot, snapshot, effects}
+use Rattle.jfr_plan.specs.Rules.{Rule, Target, File, Parts, Text, plan_in}
 use Rattle.jfr_plan.specs.Outcomes.{Outcome, AllDone, SomeDone, Breaks, HaltedIn, Tallied}
 
 -- What a call has to do: its plan, given the files of the place; what is there after a read fault, on a steady
 -- place or on another; when all of its input can be read; and what it writes to.
 pub record Task : Type 1 where
   pub plan : World → Plan
-  pub Halts : Bool → World → World → Stand → Stand → Type 0
+  pub Halts : Bool → World → World → Snapshot → Snapshot → Type 0
   pub Readable : State → Type 0
   pub target : Target
 
@@ -22,7 +22,7 @@ pub record Task : Type 1 where
 pub record CanRead (input : List ℕ) (s : State) : Type 0 where
   pub steady : IsTrue s.steady
   pub world : World
-  pub told : s.told ≡ Some world
+  pub contents : s.contents ≡ Some world
   pub there : IsSome (file world input)
 
 -- A rule over the one input of this name.
@@ -35,12 +35,12 @@ over r input = record {
 }
 
 -- If the place's files are known, the claim holds of them and of the text written, before and after a call.
-abbrev pub Stands : Outside → Outside → (World → World → Stand → Stand → Type 0) → Type 0
-Stands a b P = Told a.place.told b.place.told (λ w v. P w v (stand w a.sink.written) (stand v b.sink.written))
+abbrev pub Stands : Outside → Outside → (World → World → Snapshot → Snapshot → Type 0) → Type 0
+Stands a b P = IfKnown a.place.contents b.place.contents (λ w v. P w v (snapshot w a.sink.written) (snapshot v b.sink.written))
 
 -- What a task leaves, by the way that it ended.
-abbrev pub Leaves : Task → Way → Outside → Outside → Type 0
-Leaves k way a b = Stands a b (λ w v. Outcome a.place.steady (k.plan w) (k.Halts a.place.steady w v) way)
+abbrev pub Leaves : Task → CommandEnd → Outside → Outside → Type 0
+Leaves k ended a b = Stands a b (λ w v. Outcome a.place.steady (k.plan w) (k.Halts a.place.steady w v) ended)
 
 -- The plan ends so, and all its effects are done.
 abbrev pub Ended : Task → End → Outside → Outside → Type 0
@@ -59,9 +59,9 @@ abbrev pub Partly : Task → Outside → Outside → Type 0
 Partly k a b = Stands a b (λ w v. SomeDone (effects (k.plan w).steps))
 
 -- The way is the plan's end, or memory ran out.
-pub data IsPlanned (way : Way) (o : Option End) : Type 0 where
-  ByPlan : (e : End) → way ≡ Ends e → o ≡ Some e → IsPlanned way o
-  ForMemory : way ≡ NoRoom → IsPlanned way o
+pub data IsPlanned (ended : CommandEnd) (o : Option End) : Type 0 where
+  ByPlan : (e : End) → ended ≡ Ends e → o ≡ Some e → IsPlanned ended o
+  ForMemory : ended ≡ RanOut → IsPlanned ended o
 
 -- The count of write faults for a command with this target.
 abbrev pub write_count : Target → Outside → ℕ
@@ -70,17 +70,17 @@ write_count Parts a = a.place.write_faults
 write_count Text a = a.sink.faults
 
 -- If the place's files are known and neither count rose, the way is the plan's end, or memory ran out.
-abbrev pub IsComplete : Task → Way → Outside → Outside → Type 0
-IsComplete k way a b =
+abbrev pub IsComplete : Task → CommandEnd → Outside → Outside → Type 0
+IsComplete k ended a b =
     (Rose a.place.read_faults b.place.read_faults → ⊥)
     → (Rose (write_count k.target a) (write_count k.target b) → ⊥)
-    → IfSome a.place.told (λ w. IsPlanned way (k.plan w).end)
+    → IfSome a.place.contents (λ w. IsPlanned ended (k.plan w).end)
 
 -- What a call that carries out a task promises, by its answer.
 pub record Ran (task : Task) (result : Ending) (before after : Outside) : Type 0 where
   -- What is there after the call, and which counts rose, by the answer.
-  pub told : Leaves task (way_of result) before after
-  pub counts : Tallied task.target (way_of result) before after
+  pub contents : Leaves task (command_end result) before after
+  pub counts : Tallied task.target (command_end result) before after
   -- What is there after each answer, if the place's files are known.
   pub done : result ≡ ending.Done → Ended task Fine before after
   pub refused : (r : Refusal) → result ≡ ending.Refused r → Ended task (Refused r) before after
@@ -93,7 +93,7 @@ pub record Ran (task : Task) (result : Ending) (before after : Outside) : Type 0
   pub no_read_passed : before.place.read_faults < after.place.read_faults → result ≡ ending.ReadFault
   pub no_write_passed : write_count task.target before < write_count task.target after → result ≡ ending.WriteFault
   -- Without a fault the answer is the plan's end, or memory ran out. Only parts can be too many.
-  pub complete : IsComplete task (way_of result) before after
+  pub complete : IsComplete task (command_end result) before after
   pub parts : result ≡ ending.TooManyParts → task.target ≡ Parts
   -- No read fails if all of the input can be read. A steady place stays steady.
   pub can_read : task.Readable before.place → (result ≢ ending.ReadFault) × (after.place.read_faults ≡ before.place.read_faults)
@@ -103,6 +103,6 @@ pub record Ran (task : Task) (result : Ending) (before after : Outside) : Type 0
 pub record CanCreate (output : List ℕ) (s : State) : Type 0 where
   pub steady : IsTrue s.steady
   pub world : World
-  pub told : s.told ≡ Some world
+  pub contents : s.contents ≡ Some world
   pub new : file world output ≡ None
   pub closed : world.output ≡ None

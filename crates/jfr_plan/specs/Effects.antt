@@ -18,20 +18,20 @@ abbrev pub no_sink : SinkState
 no_sink = record { written = None; faults = 0 }
 
 -- The state of a place, with a sink of which nothing is known.
-abbrev pub alone : State → Outside
-alone place = outside place no_sink
+abbrev pub without_sink : State → Outside
+without_sink place = outside place no_sink
 
 -- The state that effects change: the files, the name of the open output, the text on the output sink if it is
 -- known, and whether each effect so far could be done.
-pub record Stand : Type 0 where
+pub record Snapshot : Type 0 where
   pub files : Files
   pub output : Option (List ℕ)
   pub text : Option (List ℕ)
   pub sound : Bool
 
 -- The state before any effect, given those of a place and a sink.
-abbrev pub stand : World → Option (List ℕ) → Stand
-stand w text = record { files = w.files; output = w.output; text = text; sound = true }
+abbrev pub snapshot : World → Option (List ℕ) → Snapshot
+snapshot w text = record { files = w.files; output = w.output; text = text; sound = true }
 
 -- An effect: a file is created as the output, bytes are appended to the output, the output is finished, or
 -- text is written.
@@ -42,14 +42,14 @@ pub data Effect : Type 0 where
   Write : List ℕ → Effect
 
 -- The state after an effect.
-abbrev pub apply : Effect → Stand → Stand
+abbrev pub apply : Effect → Snapshot → Snapshot
 apply (Create name) s = record s { files = fin.insert s.files name []; output = Some name; sound = s.sound && not (is_some (fin.get s.files name)) && not (is_some s.output) }
 apply (Append bytes) s = record s { files = grown s.output bytes s.files; sound = s.sound && is_some s.output }
 apply Finish s = record s { output = None; sound = s.sound && is_some s.output }
 apply (Write bytes) s = record s { text = option_map (added bytes) s.text }
 
 -- The state after these effects, one after another.
-abbrev pub done : List Effect → Stand → Stand
+abbrev pub done : List Effect → Snapshot → Snapshot
 done [] s = s
 done (e ∷ es) s = done es (apply e s)
 
@@ -58,14 +58,14 @@ abbrev pub writes : List ℕ → List ℕ → List Effect
 writes name bytes = Create name ∷ Append bytes ∷ Finish ∷ []
 
 -- The state after an effect that failed: no output is open, or only the first k of the bytes were written.
-abbrev pub broken : ℕ → Effect → Stand → Stand
+abbrev pub broken : ℕ → Effect → Snapshot → Snapshot
 broken k (Create name) s = record s { output = None }
 broken k (Append bytes) s = record s { files = grown s.output (take k bytes) s.files }
 broken k Finish s = record s { output = None }
 broken k (Write bytes) s = apply (Write (take k bytes)) s
 
 -- When a steady place may fail at an effect. A sink may fail at any text.
-abbrev pub Cannot : Effect → Stand → Type 0
+abbrev pub Cannot : Effect → Snapshot → Type 0
 Cannot (Create name) s = (fin.get s.files name ≡ None) → IsSome s.output
 Cannot (Append bytes) s = s.output ≡ None
 Cannot Finish s = s.output ≡ None

@@ -14,20 +14,20 @@ pub data End : Type 0 where
 
 -- The end of a command: that of its plan, or an earlier one because a read failed, a write failed, or memory
 -- ran out.
-pub data Way : Type 0 where
-  Ends : End → Way
-  NotRead : Way
-  NotWritten : Way
-  NoRoom : Way
+pub data CommandEnd : Type 0 where
+  Ends : End → CommandEnd
+  NotRead : CommandEnd
+  NotWritten : CommandEnd
+  RanOut : CommandEnd
 
 -- The end that the code's value means.
-abbrev pub way_of : Ending → Way
-way_of ending.Done = Ends Fine
-way_of (ending.Refused r) = Ends (Refused r)
-way_of ending.ReadFault = NotRead
-way_of ending.WriteFault = NotWritten
-way_of ending.TooManyParts = Ends TooMany
-way_of ending.Memory = NoRoom
+abbrev pub command_end : Ending → CommandEnd
+command_end ending.Done = Ends Fine
+command_end (ending.Refused r) = Ends (Refused r)
+command_end ending.ReadFault = NotRead
+command_end ending.WriteFault = NotWritten
+command_end ending.TooManyParts = Ends TooMany
+command_end ending.Memory = RanOut
 
 -- Chunk number n is refused for this flaw.
 abbrev pub refused : ℕ → Flaw → End

@@ -2,8 +2,8 @@
 use Rattle.std.specs.Prelude.{◌≡◌, ℕ, ◌+◌, Bool, not, List, ◌++◌, length, Option, Some, IfSome}
 use Rattle.jfr_outside.specs.World.{World, file}
 use Rattle.jfr_header.specs.Cuts.{Cuts, cut, joined}
-use Rattle.jfr_plan.specs.Effects.{stand, done}
-use Rattle.jfr_plan.specs.Walks.{Rule, cut_after, gone, AllGo}
+use Rattle.jfr_plan.specs.Effects.{snapshot, done}
+use Rattle.jfr_plan.specs.Rules.{Rule, cut_after, gone, AllGo}
 
 -- The chunk after these starts at this byte of the recording and has this number.
 abbrev pub IsAt : List (List ℕ) → ℕ → ℕ → Type 0
@@ -25,7 +25,7 @@ pub record Going (r : Rule) (earlier : List (List ℕ)) (input : List ℕ) (star
   pub go : AllGo r earlier before
   pub number_is : number ≡ length (earlier ++ before) + 1
   pub start_is : start ≡ length (joined (earlier ++ before))
-  pub stands : stand v p ≡ done (r.opens ++ gone r earlier before) (stand w o)
+  pub holds : snapshot v p ≡ done (r.opens ++ gone r earlier before) (snapshot w o)
 
 -- As `Going`, for a stage whose state is that after the chunks so far.
 pub record Staged (r : Rule) (earlier : List (List ℕ)) (Seen : List (List ℕ) → Type 0) (input : List ℕ) (start number : ℕ) (given : Bool) (o p : Option (List ℕ)) (w v : World) : Type 0 where

@@ -1,6 +1,6 @@
 pub mod Ends
 pub mod Effects
-pub mod Walks
+pub mod Rules
 pub mod Outcomes
 pub mod Parts
 pub mod Goings

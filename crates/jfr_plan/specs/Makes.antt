@@ -5,7 +5,7 @@ use Rattle.jfr_base.specs.declared.flaw.ReadFault.{ReadFault}
 use Rattle.jfr_base.specs.declared.flaw.ReadFault.TheVariants.{Flawed, Memory}
 use Rattle.jfr_plan.specs.Ends.{refused}
 use Rattle.jfr_plan.specs.Effects.{Create, Append, Finish}
-use Rattle.jfr_plan.specs.Walks.{Rule, Asked, Stops, Goes, File}
+use Rattle.jfr_plan.specs.Rules.{Rule, Asked, Stops, Goes, File}
 
 -- The fault is this flaw, or memory ran out.
 abbrev pub IsFlawOf : Option Flaw → ReadFault → Type 0

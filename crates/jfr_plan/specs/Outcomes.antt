@@ -1,44 +1,44 @@
 -- The state after each ending, and the counts of faults that rose.
 use Rattle.std.specs.Prelude.{◌≡◌, ℕ, ◌+◌, ◌<◌, ◌≤◌, Bool, true, IsTrue, IfSome, List, ◌∷◌, ◌++◌, length, take, drop, Option, None, Some}
-use Rattle.jfr_outside.specs.World.{World, Told, file}
+use Rattle.jfr_outside.specs.World.{World, IfKnown, file}
 use Rattle.jfr_outside.specs.Counts.{Rose}
 use Rattle.jfr_header.specs.Fronts.{reach}
 use Rattle.jfr_header.specs.Nexts.{is_header}
 use Rattle.jfr_base.specs.declared.flaw.Flaw.{Flaw}
 use Rattle.jfr_header.specs.Cuts.{Cuts, joined, whole_in}
-use Rattle.jfr_plan.specs.Ends.{End, Fine, Refused, TooMany, Way, Ends, NotRead, NotWritten, NoRoom}
-use Rattle.jfr_plan.specs.Effects.{Outside, Effect, Plan, Stand, stand, done, broken, effects, keep_met, Cannot}
-use Rattle.jfr_plan.specs.Walks.{Rule, Target, File, Parts, Text, AllGo, cut_after, plan_after}
+use Rattle.jfr_plan.specs.Ends.{End, Fine, Refused, TooMany, CommandEnd, Ends, NotRead, NotWritten, RanOut}
+use Rattle.jfr_plan.specs.Effects.{Outside, Effect, Plan, Snapshot, snapshot, done, broken, effects, keep_met, Cannot}
+use Rattle.jfr_plan.specs.Rules.{Rule, Target, File, Parts, Text, AllGo, cut_after, plan_after}
 
 -- The plan has this end, and all its effects are done.
-pub record AllDone (plan : Plan) (e : End) (s t : Stand) : Type 0 where
+pub record AllDone (plan : Plan) (e : End) (s t : Snapshot) : Type 0 where
   pub end : plan.end ≡ Some e
-  pub stands : t ≡ done (effects plan.steps) s
+  pub holds : t ≡ done (effects plan.steps) s
 
 -- The first of these effects are done.
-pub record SomeDone (all : List Effect) (s t : Stand) : Type 0 where
+pub record SomeDone (all : List Effect) (s t : Snapshot) : Type 0 where
   pub first : List Effect
   pub rest : List Effect
   pub parts : all ≡ first ++ rest
-  pub stands : t ≡ done first s
+  pub holds : t ≡ done first s
 
 -- The first of these effects are done, and the next one failed after a number of its bytes. On a steady place
 -- there was a cause.
-pub record Breaks (steady : Bool) (all : List Effect) (s t : Stand) : Type 0 where
+pub record Breaks (steady : Bool) (all : List Effect) (s t : Snapshot) : Type 0 where
   pub first : List Effect
   pub failed : Effect
   pub rest : List Effect
   pub bytes : ℕ
   pub parts : all ≡ first ++ failed ∷ rest
-  pub stands : t ≡ broken bytes failed (done first s)
+  pub holds : t ≡ broken bytes failed (done first s)
   pub cause : IsTrue steady → Cannot failed (done first s)
 
 -- The state after a command with this plan, for each end. `halted` describes that after a read fault.
-abbrev pub Outcome : Bool → Plan → (Stand → Stand → Type 0) → Way → Stand → Stand → Type 0
+abbrev pub Outcome : Bool → Plan → (Snapshot → Snapshot → Type 0) → CommandEnd → Snapshot → Snapshot → Type 0
 Outcome steady plan halted (Ends e) s t = AllDone plan e s t
 Outcome steady plan halted NotRead s t = halted s t
 Outcome steady plan halted NotWritten s t = Breaks steady (effects plan.steps) s t
-Outcome steady plan halted NoRoom s t = SomeDone (effects plan.steps) s t
+Outcome steady plan halted RanOut s t = SomeDone (effects plan.steps) s t
 
 -- The number of whole chunks in these first bytes of a file.
 abbrev pub held_count : List (List ℕ) → List ℕ → List ℕ → ℕ
@@ -60,40 +60,40 @@ IsBelowHeader cuts n flaw = is_header flaw.reason ≡ true → n < length (joine
 -- effects whose needs the whole chunks in them meet are done, and the command did not end at any of these
 -- chunks. After them fewer bytes were taken than the next chunk has, and fewer than 68 bytes of a chunk that
 -- is refused for its header.
-pub record NeedsMet (r : Rule) (earlier : List (List ℕ)) (x left : List ℕ) (s t : Stand) : Type 0 where
+pub record NeedsMet (r : Rule) (earlier : List (List ℕ)) (x left : List ℕ) (s t : Snapshot) : Type 0 where
   pub taken : List ℕ
   pub parts : x ≡ taken ++ left
-  pub stands : t ≡ done (met_effects r earlier x taken) s
+  pub holds : t ≡ done (met_effects r earlier x taken) s
   pub go : AllGo r earlier (held earlier x taken)
   pub short : length taken < length (joined (held earlier x taken)) + reach (drop (length (joined (held earlier x taken))) x)
   pub header : IfSome (cut_after earlier x).flaw (IsBelowHeader (cut_after earlier x) (length taken))
 
 -- The effects done are those whose needs are met, given the file, if it exists, and what is left of the open
 -- input. Without an open input nothing is done.
-abbrev pub MetIn : Rule → List (List ℕ) → Option (List ℕ) → Option (List ℕ) → Stand → Stand → Type 0
+abbrev pub MetIn : Rule → List (List ℕ) → Option (List ℕ) → Option (List ℕ) → Snapshot → Snapshot → Type 0
 MetIn r earlier file None s t = t ≡ s
 MetIn r earlier None (Some left) s t = ⊥
 MetIn r earlier (Some x) (Some left) s t = NeedsMet r earlier x left s t
 
 -- The state after a read fault. On a steady place it means that the file doesn't exist.
-abbrev pub HaltedIn : Bool → Rule → List (List ℕ) → Option (List ℕ) → Option (List ℕ) → Stand → Stand → Type 0
+abbrev pub HaltedIn : Bool → Rule → List (List ℕ) → Option (List ℕ) → Option (List ℕ) → Snapshot → Snapshot → Type 0
 HaltedIn steady r earlier file left s t = MetIn r earlier file left s t × (IsTrue steady → file ≡ None)
 
 -- The state after a command over one input, given the file that is the input and what is left of it.
-abbrev pub OutcomeIn : Bool → Rule → List (List ℕ) → Option (List ℕ) → Option (List ℕ) → Way → Stand → Stand → Type 0
-OutcomeIn steady r earlier file left way s t = Outcome steady (plan_after r earlier file) (HaltedIn steady r earlier file left) way s t
+abbrev pub OutcomeIn : Bool → Rule → List (List ℕ) → Option (List ℕ) → Option (List ℕ) → CommandEnd → Snapshot → Snapshot → Type 0
+OutcomeIn steady r earlier file left ended s t = Outcome steady (plan_after r earlier file) (HaltedIn steady r earlier file left) ended s t
 
 -- The state of the world after a command over the input with this name, given the one before.
-abbrev pub OutcomeOf : Bool → Rule → List (List ℕ) → List ℕ → Option (List ℕ) → Option (List ℕ) → Way → World → World → Type 0
-OutcomeOf steady r earlier input text text' way w v = OutcomeIn steady r earlier (file w input) v.input way (stand w text) (stand v text')
+abbrev pub OutcomeOf : Bool → Rule → List (List ℕ) → List ℕ → Option (List ℕ) → Option (List ℕ) → CommandEnd → World → World → Type 0
+OutcomeOf steady r earlier input text text' ended w v = OutcomeIn steady r earlier (file w input) v.input ended (snapshot w text) (snapshot v text')
 
 -- The state after a command over the input with this name, whose chunks come after those of earlier files.
-abbrev pub After : Rule → List (List ℕ) → List ℕ → Way → Outside → Outside → Type 0
-After r earlier input way a b = Told a.place.told b.place.told (OutcomeOf a.place.steady r earlier input a.sink.written b.sink.written way)
+abbrev pub After : Rule → List (List ℕ) → List ℕ → CommandEnd → Outside → Outside → Type 0
+After r earlier input ended a b = IfKnown a.place.contents b.place.contents (OutcomeOf a.place.steady r earlier input a.sink.written b.sink.written ended)
 
 -- The count is unchanged.
-abbrev pub Kept : ℕ → ℕ → Type 0
-Kept before now = now ≡ before
+abbrev pub Unchanged : ℕ → ℕ → Type 0
+Unchanged before now = now ≡ before
 
 -- The count rose, and isn't smaller.
 abbrev pub Rises : ℕ → ℕ → Type 0
@@ -112,13 +112,13 @@ MayEnd target TooMany = target ≡ Parts
 
 -- Only the count of write faults for this target rose.
 abbrev pub CountedWrite : Target → Outside → Outside → Type 0
-CountedWrite File a b = Counted Kept Rises Kept a b
-CountedWrite Parts a b = Counted Kept Rises Kept a b
-CountedWrite Text a b = Counted Kept Kept Rises a b
+CountedWrite File a b = Counted Unchanged Rises Unchanged a b
+CountedWrite Parts a b = Counted Unchanged Rises Unchanged a b
+CountedWrite Text a b = Counted Unchanged Unchanged Rises a b
 
 -- The counts that rose, for each end: a fault is counted, and no fault is ignored.
-abbrev pub Tallied : Target → Way → Outside → Outside → Type 0
-Tallied target (Ends e) a b = MayEnd target e × Counted Kept Kept Kept a b
-Tallied target NotRead a b = Counted Rises Kept Kept a b
+abbrev pub Tallied : Target → CommandEnd → Outside → Outside → Type 0
+Tallied target (Ends e) a b = MayEnd target e × Counted Unchanged Unchanged Unchanged a b
+Tallied target NotRead a b = Counted Rises Unchanged Unchanged a b
 Tallied target NotWritten a b = CountedWrite target a b
-Tallied target NoRoom a b = Counted Kept Kept Kept a b
+Tallied target RanOut a b = Counted Unchanged Unchanged Unchanged a b

@@ -1,6 +1,6 @@
 //! The command that makes an output from each chunk.
 ghost use Rattle.std.specs.Prelude.{◌≡◌, ◌≢◌};
-ghost use Rattle.jfr_plan.specs.Effects.{alone};
+ghost use Rattle.jfr_plan.specs.Effects.{without_sink};
 ghost use Rattle.jfr_plan.specs.Makes.{making};
 ghost use Rattle.jfr_plan.specs.Clauses.{over, Ran, CanCreate};
 
@@ -58,7 +58,7 @@ pub fn make_stream<P: Place, M: Make>(
     output: &str,
 ) -> Ending
     ensures ran { Ran (over (making output.now (M.refusal make) (M.becomes make)) input.now) result
-        (alone (P.state place.old)) (alone (P.state place.new)) }
+        (without_sink (P.state place.old)) (without_sink (P.state place.new)) }
 
     // If the output can be created, there is no write fault.
     ensures can_create { CanCreate output.now (P.state place.old)

@@ -52,11 +52,11 @@ impl Position {
     pub(crate) fn next<P: Place>(&mut self, place: &mut P) -> Cut
         requires { self.old.live ≡ true }
         ensures cut { CutOf result self.old self.new }
-        ensures told { Tells (P.state place.old) (P.state place.new) (NextOf result self.old self.new) }
+        ensures contents { Tells (P.state place.old) (P.state place.new) (NextOf result self.old self.new) }
         ensures counts { Counted result (P.state place.old).read_faults (P.state place.new).read_faults }
         ensures writes { (P.state place.new).write_faults ≡ (P.state place.old).write_faults }
         ensures steady { (P.state place.new).steady ≡ (P.state place.old).steady }
-        ensures fails { IsTrue ((P.state place.old).steady) → result ≡ Cut.Failed → IfSome (P.state place.old).told (λ w. w.input ≡ None) }
+        ensures fails { IsTrue ((P.state place.old).steady) → result ≡ Cut.Failed → IfSome (P.state place.old).contents (λ w. w.input ≡ None) }
         ensures small { result ≡ Cut.Chunk → self.new.number ≤ 17000000000 }
     {
         self.cutter.next(place)

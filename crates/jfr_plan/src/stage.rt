@@ -1,10 +1,10 @@
 //! The loop over the chunks of an input.
 ghost use Rattle.std.specs.Prelude.{◌≡◌, ◌<◌, ◌+◌, ◌^◌, ℕ, List, ◌∷◌, [], ◌++◌, length, Option, OnOk, IfSome, false, true};
-ghost use Rattle.jfr_outside.specs.World.{World, Told};
+ghost use Rattle.jfr_outside.specs.World.{World, IfKnown};
 ghost use Rattle.jfr_header.specs.Fronts.{Whole};
-ghost use Rattle.jfr_plan.specs.Ends.{way_of};
+ghost use Rattle.jfr_plan.specs.Ends.{command_end};
 ghost use Rattle.jfr_plan.specs.Effects.{outside};
-ghost use Rattle.jfr_plan.specs.Walks.{Rule, Goes};
+ghost use Rattle.jfr_plan.specs.Rules.{Rule, Goes};
 ghost use Rattle.jfr_plan.specs.Outcomes.{After, OutcomeOf, Tallied};
 ghost use Rattle.jfr_plan.specs.Parts.{PartLeaves, PartTallied};
 ghost use Rattle.jfr_plan.specs.Goings.{Staged, IsAt, IsPast};
@@ -25,7 +25,7 @@ pub trait Stage {
 
     /// Does what the command does when the input is open.
     fn opened<P: Place, O: Sink>(&self, place: &mut P, out: &mut O) -> Result<(), Ending>
-        ensures told { PartLeaves (Goes (rule self.now).opens) result
+        ensures contents { PartLeaves (Goes (rule self.now).opens) result
             (outside (P.state place.old) (O.state out.old))
             (outside (P.state place.new) (O.state out.new)) }
         ensures counts { PartTallied (rule self.now).target result
@@ -45,7 +45,7 @@ pub trait Stage {
         ensures rule { rule self.new ≡ rule self.old }
         ensures seen { (before : List (List ℕ)) → seen self.old before → number ≡ length before + 1
             → OnOk result (seen self.new (before ++ chunk.now ∷ [])) }
-        ensures told { (before : List (List ℕ)) → seen self.old before → number ≡ length before + 1
+        ensures contents { (before : List (List ℕ)) → seen self.old before → number ≡ length before + 1
             → PartLeaves ((rule self.old).asks before chunk.now) result
             (outside (P.state place.old) (O.state out.old))
             (outside (P.state place.new) (O.state out.new)) }
@@ -55,7 +55,7 @@ pub trait Stage {
 
     /// Does what the command does at the input's end.
     fn end<P: Place, O: Sink>(&self, place: &mut P, out: &mut O) -> Result<(), Ending>
-        ensures told { (before : List (List ℕ)) → seen self.now before
+        ensures contents { (before : List (List ℕ)) → seen self.now before
             → PartLeaves (Goes ((rule self.now).ends before)) result
             (outside (P.state place.old) (O.state out.old))
             (outside (P.state place.new) (O.state out.new)) }
@@ -73,18 +73,18 @@ fn run_chunks<P: Place, O: Sink, S: Stage>(
 ) -> Ending
     requires first { at.old.given ≡ false }
     requires live { at.old.live ≡ true }
-    ensures told { (earlier : List (List ℕ)) (input : List ℕ) (b : Option World) (o : Option (List ℕ))
-        → Told b (P.state place.old).told
+    ensures contents { (earlier : List (List ℕ)) (input : List ℕ) (b : Option World) (o : Option (List ℕ))
+        → IfKnown b (P.state place.old).contents
         (Staged (S.rule stage.old) earlier (S.seen stage.old) input at.old.start at.old.number false o (O.state out.old).written)
-        → Told b (P.state place.new).told
-        (OutcomeOf (P.state place.old).steady (S.rule stage.old) earlier input o (O.state out.new).written (way_of result)) }
+        → IfKnown b (P.state place.new).contents
+        (OutcomeOf (P.state place.old).steady (S.rule stage.old) earlier input o (O.state out.new).written (command_end result)) }
     ensures later { (earlier : List (List ℕ)) (input : List ℕ) (b : Option World) (o : Option (List ℕ))
-        → Told b (P.state place.old).told
+        → IfKnown b (P.state place.old).contents
         (Staged (S.rule stage.old) earlier (S.seen stage.old) input at.old.start at.old.number false o (O.state out.old).written)
         → result ≡ Ending.Done
         → IfSome b (IsPast (S.seen stage.new) earlier input at.new.start at.new.number) }
     ensures rule { S.rule stage.new ≡ S.rule stage.old }
-    ensures counts { Tallied (S.rule stage.old).target (way_of result)
+    ensures counts { Tallied (S.rule stage.old).target (command_end result)
         (outside (P.state place.old) (O.state out.old))
         (outside (P.state place.new) (O.state out.new)) }
 {
@@ -116,15 +116,15 @@ pub fn run_stage<P: Place, O: Sink, S: Stage>(
     input: &str,
     at: &mut Position,
 ) -> Ending
-    ensures told { (earlier : List (List ℕ)) → S.seen stage.old earlier → IsAt earlier at.old.start at.old.number
-        → After (S.rule stage.old) earlier input.now (way_of result)
+    ensures contents { (earlier : List (List ℕ)) → S.seen stage.old earlier → IsAt earlier at.old.start at.old.number
+        → After (S.rule stage.old) earlier input.now (command_end result)
         (outside (P.state place.old) (O.state out.old))
         (outside (P.state place.new) (O.state out.new)) }
     ensures later { (earlier : List (List ℕ)) → S.seen stage.old earlier → IsAt earlier at.old.start at.old.number
         → result ≡ Ending.Done
-        → IfSome (P.state place.old).told (IsPast (S.seen stage.new) earlier input.now at.new.start at.new.number) }
+        → IfSome (P.state place.old).contents (IsPast (S.seen stage.new) earlier input.now at.new.start at.new.number) }
     ensures rule { S.rule stage.new ≡ S.rule stage.old }
-    ensures counts { Tallied (S.rule stage.old).target (way_of result)
+    ensures counts { Tallied (S.rule stage.old).target (command_end result)
         (outside (P.state place.old) (O.state out.old))
         (outside (P.state place.new) (O.state out.new)) }
 {

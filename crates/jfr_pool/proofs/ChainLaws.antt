@@ -5,12 +5,12 @@ use Rattle.jfr_base.specs.declared.flaw.Flaw.{Flaw}
 use Rattle.jfr_base.specs.declared.reason.Reason.{Reason}
 use Rattle.jfr_base.specs.declared.reason.Reason.TheVariants.{ChainDelta}
 use Rattle.jfr_base.specs.Formats.{Reads, Fails, Answer, Got, run}
-use Rattle.jfr_base.proofs.Exact.{Says, run_says}
+use Rattle.jfr_base.proofs.Exact.{ReadsOrFails, run_reads_or_fails}
 use Rattle.jfr_base.proofs.OneAnswer.{reads_computed, fails_computed}
 use Rattle.jfr_frame.specs.declared.framed.Framed.{Framed}
 use Rattle.jfr_frame.specs.Records.{IsRecord, starts_at, record_end}
 use Rattle.jfr_pool.specs.declared.link.Link.{Link}
-use Rattle.jfr_pool.specs.Chains.{Delta, head_format, IsLink, StepsTo, IsChain, LeadsAstray, LinkFlaw, ChainFlaw, earlier_place, checkpoint_at, earlier_checkpoint, link_of, before_links, links_behind, links_by, chain_within, chain_of}
+use Rattle.jfr_pool.specs.Chains.{Delta, head_format, IsLink, StepsTo, IsChain, LeadsAstray, LinkFlaw, ChainFlaw, earlier_place, checkpoint_at, earlier_checkpoint, link_of, before_links, links_after, links_by, chain_within, chain_of}
 use Rattle.jfr_pool.proofs.Among.{Among, among_of, contains_of, CheckpointAt, found_checkpoint, some_found, passes, any_found, found_any, count_before, count_less, count_all}
 
 -- Where a delta leads by computing.
@@ -29,7 +29,7 @@ step_earlier : (at : ℕ) (d : ℤ) (to : ℕ) → pos at +ℤ d ≡ pos to → 
 step_earlier at d to e h = let t : nat_lt to at ≡ true = grind arith in ap (earlier_place at) e ∙ rw t refl
 
 -- The links after one depend on the rest only if a checkpoint is found.
-links_alike : (d : Delta) (delta : ℤ) (o : Option Framed) (f g : Framed → Result (List Link) Flaw) → ((r : Framed) → o ≡ Some r → f r ≡ g r) → links_behind d delta o f ≡ links_behind d delta o g
+links_alike : (d : Delta) (delta : ℤ) (o : Option Framed) (f g : Framed → Result (List Link) Flaw) → ((r : Framed) → o ≡ Some r → f r ≡ g r) → links_after d delta o f ≡ links_after d delta o g
 links_alike d (pos zero) o f g h = refl
 links_alike d (pos (suc n)) None f g h = refl
 links_alike d (pos (suc n)) (Some r) f g h = h r refl
@@ -114,7 +114,7 @@ module _ (c : List ℕ) (rs : List Framed) (records : (r : Framed) → Among rs 
           clash r o p q = cc
 
   abbrev Behind : Framed → Delta → ℤ → Option Framed → (Framed → Result (List Link) Flaw) → Type 0
-  Behind r d delta o next = Tells r.at (before_links (link_of r d) (links_behind d delta o next))
+  Behind r d delta o next = Tells r.at (before_links (link_of r d) (links_after d delta o next))
 
   not_zero : (n : ℕ) → pos (suc n) ≡ pos 0 → ⊥
   not_zero n e = cc
@@ -145,9 +145,9 @@ module _ (c : List ℕ) (rs : List Framed) (records : (r : Framed) → Among rs 
   within_tells zero r a h = absurd (omega arith)
   within_tells (suc n) r a h =
       let b = body_in r a.among in
-      by_head (run head_format c (record_end r) r.body) (run_says head_format c (record_end r) r.body b.0 b.1) (λ s t j. within_tells n s t (omega arith))
+      by_head (run head_format c (record_end r) r.body) (run_reads_or_fails head_format c (record_end r) r.body b.0 b.1) (λ s t j. within_tells n s t (omega arith))
     where
-      by_head : (g : Answer Delta) → Says head_format c (record_end r) r.body g → ((s : Framed) → CheckpointAt rs s.at s → count_before rs s.at < count_before rs r.at → Tells s.at (chain_within n c rs s)) → Tells r.at (links_by rs r g (chain_within n c rs))
+      by_head : (g : Answer Delta) → ReadsOrFails head_format c (record_end r) r.body g → ((s : Framed) → CheckpointAt rs s.at s → count_before rs s.at < count_before rs r.at → Tells s.at (chain_within n c rs s)) → Tells r.at (links_by rs r g (chain_within n c rs))
       by_head (Err f) h next = ([], (r, contains_of rs r a.among, refl, inl h))
       by_head (Ok g) h next =
           tells_behind r g.value g.value.value (earlier_checkpoint rs (earlier_place r.at (pos r.at +ℤ g.value.value))) (chain_within n c rs)
@@ -177,21 +177,21 @@ module _ (c : List ℕ) (rs : List Framed) (records : (r : Framed) → Among rs 
 
     -- One turn over a link.
     turn_over : (l : Link) → IsLink c rs l → (next : Framed → Result (List Link) Flaw)
-        → links_by rs l.frame (run head_format c (record_end l.frame) l.frame.body) next ≡ before_links l (links_behind (delta_of l) l.delta (earlier_checkpoint rs (earlier_place l.frame.at (pos l.frame.at +ℤ l.delta))) next)
+        → links_by rs l.frame (run head_format c (record_end l.frame) l.frame.body) next ≡ before_links l (links_after (delta_of l) l.delta (earlier_checkpoint rs (earlier_place l.frame.at (pos l.frame.at +ℤ l.delta))) next)
     turn_over l i next = ap (λ a. links_by rs l.frame a next) (head_read l.frame (among_of rs l.frame i.framed) (delta_of l) l.delta_end i.head)
 
-    last_behind : (d : Delta) (delta : ℤ) (o : Option Framed) (next : Framed → Result (List Link) Flaw) → delta ≡ pos 0 → links_behind d delta o next ≡ Ok []
-    last_behind d delta o next e = ap (λ z. links_behind d z o next) e
+    last_behind : (d : Delta) (delta : ℤ) (o : Option Framed) (next : Framed → Result (List Link) Flaw) → delta ≡ pos 0 → links_after d delta o next ≡ Ok []
+    last_behind d delta o next e = ap (λ z. links_after d z o next) e
 
-    goes_behind : (d : Delta) (delta : ℤ) (r : Framed) (next : Framed → Result (List Link) Flaw) → delta ≢ pos 0 → links_behind d delta (Some r) next ≡ next r
+    goes_behind : (d : Delta) (delta : ℤ) (r : Framed) (next : Framed → Result (List Link) Flaw) → delta ≢ pos 0 → links_after d delta (Some r) next ≡ next r
     goes_behind d (pos zero) r next n = absurd (n refl)
     goes_behind d (pos (suc k)) r next n = refl
     goes_behind d (negsuc k) r next n = refl
 
-    none_behind : (d : Delta) (delta : ℤ) (next : Framed → Result (List Link) Flaw) → delta ≢ pos 0 → links_behind d delta None next ≡ Err (record { offset = d.at; reason = ChainDelta })
-    none_behind d (pos zero) next n = absurd (n refl)
-    none_behind d (pos (suc k)) next n = refl
-    none_behind d (negsuc k) next n = refl
+    none_after : (d : Delta) (delta : ℤ) (next : Framed → Result (List Link) Flaw) → delta ≢ pos 0 → links_after d delta None next ≡ Err (record { offset = d.at; reason = ChainDelta })
+    none_after d (pos zero) next n = absurd (n refl)
+    none_after d (pos (suc k)) next n = refl
+    none_after d (negsuc k) next n = refl
 
     older_is : (at : ℕ) (d : ℤ) (r : Framed) → StepsTo at d r.at → CheckpointAt rs r.at r → earlier_checkpoint rs (earlier_place at (pos at +ℤ d)) ≡ Some r
     older_is at d r s a = ap (earlier_checkpoint rs) (step_earlier at d r.at s.lands s.earlier) ∙ found_there r a
@@ -207,7 +207,7 @@ module _ (c : List ℕ) (rs : List Framed) (records : (r : Framed) → Among rs 
     turn_on : (l : Link) (r : Framed) → IsLink c rs l → StepsTo l.frame.at l.delta r.at → CheckpointAt rs r.at r → chain_of c rs l.frame ≡ before_links l (chain_of c rs r)
     turn_on l r i s a =
         chain_turn c rs l.frame (among_of rs l.frame i.framed) ∙ turn_over l i (chain_of c rs)
-        ∙ ap (λ o. before_links l (links_behind (delta_of l) l.delta o (chain_of c rs))) (older_is l.frame.at l.delta r s a)
+        ∙ ap (λ o. before_links l (links_after (delta_of l) l.delta o (chain_of c rs))) (older_is l.frame.at l.delta r s a)
         ∙ ap (before_links l) (goes_behind (delta_of l) l.delta r (chain_of c rs) s.moves)
 
     step_from : (at p : ℕ) (d : ℤ) (to : ℕ) → p ≡ at → StepsTo at d to → StepsTo p d to
@@ -244,8 +244,8 @@ module _ (c : List ℕ) (rs : List Framed) (records : (r : Framed) → Among rs 
         by_fault (inr (d, h, p, w, g)) =
             let flaw : ℕ → Reason → Result (List Link) Flaw = λ o r. Err (record { offset = o; reason = r }) in
             ap (λ a. links_by rs s a (chain_of c rs)) (head_read s (among_of rs s i) d d.end h)
-            ∙ ap (λ x. before_links (link_of s d) (links_behind d d.value x (chain_of c rs))) (none_earlier s.at d.value (subst (λ (z : ℕ). LeadsAstray rs z d.value) (sym e) g))
-            ∙ ap (before_links (link_of s d)) (none_behind d d.value (chain_of c rs) g.moves)
+            ∙ ap (λ x. before_links (link_of s d) (links_after d d.value x (chain_of c rs))) (none_earlier s.at d.value (subst (λ (z : ℕ). LeadsAstray rs z d.value) (sym e) g))
+            ∙ ap (before_links (link_of s d)) (none_after d d.value (chain_of c rs) g.moves)
             ∙ ap (λ z. flaw z ChainDelta) (sym p) ∙ ap (flaw o) (sym w)
 
     pub chain_fails : (at : ℕ) (ls : List Link) (o : ℕ) (why : Reason) → ChainFlaw c rs at ls o why → (r : Framed) → CheckpointAt rs at r → chain_of c rs r ≡ Err (record { offset = o; reason = why })

@@ -8,7 +8,7 @@ use Rattle.jfr_base.specs.Formats.{Answer, run}
 use Rattle.jfr_frame.specs.declared.framed.Framed.{Framed}
 use Rattle.jfr_frame.specs.Records.{AreRecords, starts_at, record_end}
 use Rattle.jfr_pool.specs.declared.link.Link.{Link}
-use Rattle.jfr_pool.specs.Chains.{Delta, head_format, IsChain, IsRefusedChain, checkpoint_at, before_links, links_behind, links_by, older_by, older_of, linked, link_of, chain_of}
+use Rattle.jfr_pool.specs.Chains.{Delta, head_format, IsChain, IsRefusedChain, checkpoint_at, before_links, links_after, links_by, older_by, older_of, linked, link_of, chain_of}
 use Rattle.jfr_pool.proofs.Among.{Among, CheckpointAt, found_checkpoint, are_records, any_found}
 use Rattle.jfr_pool.proofs.ChainLaws.{older_found, chain_turn, chain_tells, Tells}
 
@@ -54,7 +54,7 @@ then_rest c rs (Ok o) = rest c rs o
 then_rest c rs (Err f) = Err f
 
 -- What follows a link is the rest.
-behind_rest : (c : List ℕ) (rs : List Framed) (d : Delta) (delta : ℤ) (o : Option Framed) → links_behind d delta o (chain_of c rs) ≡ then_rest c rs (older_by d.at delta o)
+behind_rest : (c : List ℕ) (rs : List Framed) (d : Delta) (delta : ℤ) (o : Option Framed) → links_after d delta o (chain_of c rs) ≡ then_rest c rs (older_by d.at delta o)
 behind_rest c rs d (pos zero) o = refl
 behind_rest c rs d (pos (suc n)) None = refl
 behind_rest c rs d (pos (suc n)) (Some r) = refl

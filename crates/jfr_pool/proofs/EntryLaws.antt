@@ -8,7 +8,7 @@ use Rattle.jfr_base.specs.declared.flaw.ReadFault.{ReadFault}
 use Rattle.jfr_base.specs.declared.flaw.ReadFault.TheVariants.{Flawed, Memory}
 use Rattle.jfr_base.specs.declared.reason.Reason.{Reason}
 use Rattle.jfr_base.specs.Formats.{Stop, Done, Reads, Answer, run, times}
-use Rattle.jfr_base.proofs.Exact.{Says, run_says}
+use Rattle.jfr_base.proofs.Exact.{ReadsOrFails, run_reads_or_fails}
 use Rattle.jfr_base.proofs.OneAnswer.{reads_computed, fails_computed}
 use Rattle.jfr_base.proofs.ReadLaws.{reads_parted, reads_within}
 use Rattle.jfr_layout.specs.Classes.{Classes}
@@ -71,9 +71,9 @@ module _ (c : List ℕ) (k : Classes) where
   entries_told n [] s = refl
   entries_told n (l ∷ ls) s =
       let i = s l (inl refl) in
-      by_body (run (checkpoint_format k) c (record_end l.frame) l.frame.body) (run_says (checkpoint_format k) c (record_end l.frame) l.frame.body i.covers i.within) (entries_told (n + 1) ls (λ m a. s m (inr a)))
+      by_body (run (checkpoint_format k) c (record_end l.frame) l.frame.body) (run_reads_or_fails (checkpoint_format k) c (record_end l.frame) l.frame.body i.covers i.within) (entries_told (n + 1) ls (λ m a. s m (inr a)))
     where
-      by_body : (a : Answer (List PoolAt)) → Says (checkpoint_format k) c (record_end l.frame) l.frame.body a → Told (n + 1) ls (entries_of c k (n + 1) ls) → Told n (l ∷ ls) (entries_by n a (entries_of c k (n + 1) ls))
+      by_body : (a : Answer (List PoolAt)) → ReadsOrFails (checkpoint_format k) c (record_end l.frame) l.frame.body a → Told (n + 1) ls (entries_of c k (n + 1) ls) → Told n (l ∷ ls) (entries_by n a (entries_of c k (n + 1) ls))
       by_body (Err f) h t = inl h
       by_body (Ok g) h t =
           let i = s l (inl refl) in

@@ -20,10 +20,10 @@ forced es t i q =
     let l : IsLast es t i = (last_is es t i).0 q in
     record {
       entry = l.entry;
-      within = slice_get_within es i l.entry l.stands;
-      there = l.stands;
+      within = slice_get_within es i l.entry l.holds;
+      there = l.holds;
       class = ap (λ (z : ℕ × ℕ). z.0) l.has;
-      is = ap (option_and_then (λ n. slice_get es n)) q ∙ l.stands;
+      is = ap (option_and_then (λ n. slice_get es n)) q ∙ l.holds;
     }
 
 pub force_within : (es : List EntryAt) (t : ℕ × ℕ) (i : ℕ) → number_in_force es t ≡ Some i → i < length es

@@ -7,7 +7,7 @@ use Rattle.jfr_base.specs.declared.flaw.ReadFault.{ReadFault}
 use Rattle.jfr_base.specs.declared.flaw.ReadFault.TheVariants.{Flawed, Memory}
 use Rattle.jfr_base.specs.declared.integer.Var.{Var}
 use Rattle.jfr_base.specs.declared.reason.Reason.TheVariants.{Short, Trailing, PoolType}
-use Rattle.jfr_base.specs.Formats.{Format, Done, Stop, Here, ◌>>=◌, Answer, run, seen, on, times, integer, int_at, unchecked, after_int, refused, checked}
+use Rattle.jfr_base.specs.Formats.{Format, Done, Stop, Here, ◌>>=◌, Answer, run, end_or_flaw, on, times, integer, int_at, unchecked, after_int, refused, checked}
 use Rattle.jfr_base.proofs.FormatLaws.{run-bind}
 use Rattle.jfr_layout.specs.Classes.{Classes, find_class}
 use Rattle.jfr_value.specs.Values.{Value}
@@ -16,7 +16,7 @@ use Rattle.jfr_pool.specs.declared.checkpoint.PoolId.{PoolId}
 use Rattle.jfr_pool.specs.declared.entry.EntryAt.{EntryAt}
 use Rattle.jfr_pool.specs.Entries.{inline, Constant, PoolAt, pool_check, constant_format, pool_format, checkpoint_format, entry_of, entries_from}
 use Rattle.jfr_pool.specs.Faults.{TellsFlaw}
-use Rattle.jfr_pool.specs.Listing.{Listing, listed, single, Adds, entry_in, entry_alone, pool_entries, count_format, integer_by}
+use Rattle.jfr_pool.specs.Listing.{Listing, listed, single, Adds, entry_in, only_entry, pool_entries, count_format, integer_by}
 
 -- Entries before others.
 abbrev pub behind : List EntryAt → Listing → Listing
@@ -97,10 +97,10 @@ module _ (pool : PoolId) (k : Classes) (x : List ℕ) (end at count : ℕ) where
   entries_at n p = listed (map (entry_in pool)) (run (times n (constant_format k pool.class)) x end p)
 
   abbrev pub entry_there : ℕ → Listing
-  entry_there p = listed (entry_alone pool) (run (constant_format k pool.class) x end p)
+  entry_there p = listed (only_entry pool) (run (constant_format k pool.class) x end p)
 
   entry_step : (i p : ℕ) → i < count → entries_at (count - i) p ≡ chained (entry_there p) (λ q. entries_at (count - (i + 1)) q)
-  entry_step i p h = left_step (entry_alone pool) (map (entry_in pool)) (map (entry_in pool)) (λ a bs. refl) count i (constant_format k pool.class) x end p h
+  entry_step i p h = left_step (only_entry pool) (map (entry_in pool)) (map (entry_in pool)) (λ a bs. refl) count i (constant_format k pool.class) x end p h
 
   pub entries_start : (old : List EntryAt) → Adding (entries_at count at) old old (entries_at (count - 0) at)
   entries_start old = adding_none (entries_at count at) (entries_at (count - 0) at) old old refl (none_yet (map (entry_in pool)) count (constant_format k pool.class) x end at)
@@ -143,18 +143,18 @@ valued pool at v (Ok to) = single (Ok (record { class = pool.class; key = v.valu
 valued pool at v (Err f) = Err f
 
 module _ (pool : PoolId) (k : Classes) (x : List ℕ) (end at : ℕ) where
-  pub entry_short : int_at x at end ≡ None → listed (entry_alone pool) (run (constant_format k pool.class) x end at) ≡ Err (record { offset = at; reason = Short })
+  pub entry_short : int_at x at end ≡ None → listed (only_entry pool) (run (constant_format k pool.class) x end at) ≡ Err (record { offset = at; reason = Short })
   unfolding run
-  entry_short e = ap (λ o. listed (entry_alone pool) (after_int x at unchecked (λ v s p. run (value_format k (inline pool.class) >>= λ value. Here λ to. Done (record { key = v; key_at = at; value_at = p; end = to; value = value })) x end p) o)) e
+  entry_short e = ap (λ o. listed (only_entry pool) (after_int x at unchecked (λ v s p. run (value_format k (inline pool.class) >>= λ value. Here λ to. Done (record { key = v; key_at = at; value_at = p; end = to; value = value })) x end p) o)) e
 
-  pub entry_valued : (v : Var) → int_at x at end ≡ Some v → listed (entry_alone pool) (run (constant_format k pool.class) x end at) ≡ valued pool at v (seen (run (value_format k (inline pool.class)) x end v.end))
+  pub entry_valued : (v : Var) → int_at x at end ≡ Some v → listed (only_entry pool) (run (constant_format k pool.class) x end at) ≡ valued pool at v (end_or_flaw (run (value_format k (inline pool.class)) x end v.end))
   unfolding run
   entry_valued v e =
-      ap (λ o. listed (entry_alone pool) (after_int x at unchecked (λ v s p. run (value_format k (inline pool.class) >>= λ value. Here λ to. Done (record { key = v; key_at = at; value_at = p; end = to; value = value })) x end p) o)) e
-      ∙ ap (listed (entry_alone pool)) (run-bind (value_format k (inline pool.class)) (λ value. Here λ to. Done (record { key = v.value; key_at = at; value_at = v.end; end = to; value = value })) x end v.end)
+      ap (λ o. listed (only_entry pool) (after_int x at unchecked (λ v s p. run (value_format k (inline pool.class) >>= λ value. Here λ to. Done (record { key = v; key_at = at; value_at = p; end = to; value = value })) x end p) o)) e
+      ∙ ap (listed (only_entry pool)) (run-bind (value_format k (inline pool.class)) (λ value. Here λ to. Done (record { key = v.value; key_at = at; value_at = v.end; end = to; value = value })) x end v.end)
       ∙ by_value (run (value_format k (inline pool.class)) x end v.end)
     where
-      by_value : (r : Answer Value) → listed (entry_alone pool) (on r (λ value p. run (Here λ to. Done (record { key = v.value; key_at = at; value_at = v.end; end = to; value = value })) x end p)) ≡ valued pool at v (seen r)
+      by_value : (r : Answer Value) → listed (only_entry pool) (on r (λ value p. run (Here λ to. Done (record { key = v.value; key_at = at; value_at = v.end; end = to; value = value })) x end p)) ≡ valued pool at v (end_or_flaw r)
       by_value (Ok g) = refl
       by_value (Err f) = refl
 

@@ -108,7 +108,7 @@ told_last n (x ∷ es) t = by_later (last_from (n + 1) es t) (told_last (n + 1) 
     this_last h (suc l) e i g = h l e g
 
     by_test : (b : Bool) → hits x t ≡ b → NoneHits es t → ToldLast n (x ∷ es) t (or_later n b None)
-    by_test true e h = record { place = 0; counted = omega arith; last = record { entry = x; stands = refl; has = same_target x.class x.key t e; last = this_last h } }
+    by_test true e h = record { place = 0; counted = omega arith; last = record { entry = x; holds = refl; has = same_target x.class x.key t e; last = this_last h } }
     by_test false e h = none
       where
         clash : (b : Bool) → b ≡ true → b ≡ false → ⊥
@@ -123,7 +123,7 @@ told_last n (x ∷ es) t = by_later (last_from (n + 1) es t) (told_last (n + 1) 
     by_later (Some m) h = record {
       place = suc h.place;
       counted = omega (arith, h.counted);
-      last = record { entry = h.last.entry; stands = h.last.stands; has = h.last.has; last = last_here };
+      last = record { entry = h.last.entry; holds = h.last.holds; has = h.last.has; last = last_here };
     }
       where
         last_here : (later : ℕ) (e : EntryAt) → suc h.place < later → slice_get (x ∷ es) later ≡ Some e → (e.class, e.key) ≢ t
@@ -138,13 +138,13 @@ last_is es t m = ((λ e. by_some (subst (ToldLast 0 es t) e (told_last 0 es t)))
     by_some h = let q : h.place ≡ m = omega (arith, h.counted) in subst (IsLast es t) q h.last
 
     by_order : (p : ℕ) → IsLast es t p → IsLast es t m → ((p < m) ⊎ (m ≤ p)) → p ≡ m
-    by_order p g h (inl i) = absurd (g.last m h.entry i h.stands h.has)
+    by_order p g h (inl i) = absurd (g.last m h.entry i h.holds h.has)
     by_order p g h (inr i) = by_equal (cases_lt m p)
       where
         by_equal : ((m < p) ⊎ (p ≤ m)) → p ≡ m
-        by_equal (inl j) = absurd (h.last p g.entry j g.stands g.has)
+        by_equal (inl j) = absurd (h.last p g.entry j g.holds g.has)
         by_equal (inr j) = omega arith
 
     by_answer : (o : Option ℕ) → ToldLast 0 es t o → IsLast es t m → o ≡ Some m
-    by_answer None g h = absurd (g m h.entry h.stands h.has)
+    by_answer None g h = absurd (g m h.entry h.holds h.has)
     by_answer (Some k) g h = let q : g.place ≡ m = by_order g.place g.last h (cases_lt g.place m) in let r : k ≡ m = omega (arith, g.counted) in ap (λ z. Some z) r

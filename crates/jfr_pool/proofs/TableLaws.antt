@@ -84,9 +84,9 @@ pub no_table : (by_class : List Table) (t : ℕ × ℕ) → length by_class ≤ 
 no_table by_class t h = ap (option_and_then (in_table t.1)) (slice_get_past by_class t.0 h)
 
 -- An entry whose table is set.
-module _ (old new : Tables) (table new_table : Table) (e : EntryAt) (number : ℕ) (stands : slice_get old.by_class.items e.class ≡ Some table) (outer : new.by_class.items ≡ set old.by_class.items e.class new_table) (here : in_table e.key new_table ≡ option_map (λ _. number + 1) (in_table e.key table)) (others : (key : ℕ) → key ≢ e.key → in_table key new_table ≡ in_table key table) where
+module _ (old new : Tables) (table new_table : Table) (e : EntryAt) (number : ℕ) (holds : slice_get old.by_class.items e.class ≡ Some table) (outer : new.by_class.items ≡ set old.by_class.items e.class new_table) (here : in_table e.key new_table ≡ option_map (λ _. number + 1) (in_table e.key table)) (others : (key : ℕ) → key ≢ e.key → in_table key new_table ≡ in_table key table) where
   table_set : slice_get new.by_class.items e.class ≡ Some new_table
-  table_set = ap (λ z. slice_get z e.class) outer ∙ get_set_same old.by_class.items e.class new_table (slice_get_within old.by_class.items e.class table stands)
+  table_set = ap (λ z. slice_get z e.class) outer ∙ get_set_same old.by_class.items e.class new_table (slice_get_within old.by_class.items e.class table holds)
 
   elsewhere : (t : ℕ × ℕ) → hits e t ≡ false → ordinal_at new.by_class.items t ≡ ordinal_at old.by_class.items t
   elsewhere t f = by_class (cases_eq t.0 e.class)
@@ -97,7 +97,7 @@ module _ (old new : Tables) (table new_table : Table) (e : EntryAt) (number : �
       by_class : ((t.0 ≡ e.class) ⊎ (t.0 ≢ e.class)) → ordinal_at new.by_class.items t ≡ ordinal_at old.by_class.items t
       by_class (inl q) =
           ap (λ z. option_and_then (in_table t.1) (slice_get new.by_class.items z)) q ∙ ap (option_and_then (in_table t.1)) table_set ∙ others t.1 (apart q)
-          ∙ sym (ap (λ z. option_and_then (in_table t.1) (slice_get old.by_class.items z)) q ∙ ap (option_and_then (in_table t.1)) stands)
+          ∙ sym (ap (λ z. option_and_then (in_table t.1) (slice_get old.by_class.items z)) q ∙ ap (option_and_then (in_table t.1)) holds)
       by_class (inr q) = ap (λ z. ordinal_at z t) outer ∙ ap (option_and_then (in_table t.1)) (get_set_other old.by_class.items e.class t.0 new_table q)
 
   -- At its place, if it has one.

@@ -89,10 +89,10 @@ before_links l (Ok ls) = Ok (l ∷ ls)
 before_links l (Err flaw) = Err flaw
 
 -- The links after one, by the checkpoint to which its delta leads.
-abbrev pub links_behind : Delta → ℤ → Option Framed → (Framed → Result (List Link) Flaw) → Result (List Link) Flaw
-links_behind d (pos zero) earlier next = Ok []
-links_behind d delta None next = Err (record { offset = d.at; reason = ChainDelta })
-links_behind d delta (Some r) next = next r
+abbrev pub links_after : Delta → ℤ → Option Framed → (Framed → Result (List Link) Flaw) → Result (List Link) Flaw
+links_after d (pos zero) earlier next = Ok []
+links_after d delta None next = Err (record { offset = d.at; reason = ChainDelta })
+links_after d delta (Some r) next = next r
 
 -- The checkpoint that starts at this offset, if there is an offset and a checkpoint starts there.
 abbrev pub earlier_checkpoint : List Framed → Option ℕ → Option Framed
@@ -118,7 +118,7 @@ linked r (Ok g) = Ok (link_of r g.value)
 -- The chain from a checkpoint on, by what was read of its head, and by the chain from the earlier one on.
 abbrev pub links_by : List Framed → Framed → Answer Delta → (Framed → Result (List Link) Flaw) → Result (List Link) Flaw
 links_by rs r (Err flaw) next = Err flaw
-links_by rs r (Ok g) next = before_links (link_of r g.value) (links_behind g.value g.value.value (earlier_checkpoint rs (earlier_place r.at (pos r.at +ℤ g.value.value))) next)
+links_by rs r (Ok g) next = before_links (link_of r g.value) (links_after g.value g.value.value (earlier_checkpoint rs (earlier_place r.at (pos r.at +ℤ g.value.value))) next)
 
 -- The chain from a checkpoint on, newest first, or its flaw. Each step goes to an earlier record, so the
 -- number of records is a large enough bound.

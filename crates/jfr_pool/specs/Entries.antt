@@ -118,7 +118,7 @@ in_force es target = option_and_then (λ n. slice_get es n) (number_in_force es 
 -- The entry with this number is the one in force for its class and key.
 pub record IsInForce (es : List EntryAt) (number : ℕ) : Type 0 where
   pub entry : EntryAt
-  pub stands : slice_get es number ≡ Some entry
+  pub holds : slice_get es number ≡ Some entry
   pub last : number_in_force es (entry.class, entry.key) ≡ Some number
 
 -- The node of an entry's value.

@@ -38,6 +38,6 @@ pub record AreComputed (c : List ℕ) (k : Classes) (ls : List Link) : Type 0 wh
 -- The entry with this number has the class and the key, and no later one has them.
 pub record IsLast (es : List EntryAt) (target : ℕ × ℕ) (number : ℕ) : Type 0 where
   pub entry : EntryAt
-  pub stands : slice_get es number ≡ Some entry
+  pub holds : slice_get es number ≡ Some entry
   pub has : (entry.class, entry.key) ≡ target
   pub last : (later : ℕ) (e : EntryAt) → number < later → slice_get es later ≡ Some e → (e.class, e.key) ≢ target

@@ -33,8 +33,8 @@ abbrev pub entry_in : PoolId → Constant → EntryAt
 entry_in pool e = entry_of pool.checkpoint pool.number pool.class e
 
 -- The list of only this entry.
-abbrev pub entry_alone : PoolId → Constant → List EntryAt
-entry_alone pool e = entry_in pool e ∷ []
+abbrev pub only_entry : PoolId → Constant → List EntryAt
+only_entry pool e = entry_in pool e ∷ []
 
 -- The entries of the pool with this number.
 abbrev pub pool_entries : ℕ → ℕ → PoolAt → List EntryAt

@@ -4,7 +4,7 @@ ghost use Rattle.jfr_base.specs.Formats.{run, times};
 ghost use Rattle.jfr_frame.specs.Records.{IsRecord, record_end};
 ghost use Rattle.jfr_layout.specs.Classes.{IsFieldLayout, Sound, find_class};
 ghost use Rattle.jfr_pool.specs.Entries.{checkpoint_format, constant_format, entries_from, inline, pool_format};
-ghost use Rattle.jfr_pool.specs.Listing.{Adds, count_format, entry_alone, entry_in, integer_by, listed, pool_entries, single};
+ghost use Rattle.jfr_pool.specs.Listing.{Adds, count_format, only_entry, entry_in, integer_by, listed, pool_entries, single};
 
 use crate::EntryAt;
 use jfr_base::{Flaw, ReadFault, Reason, Var, read_within};
@@ -169,7 +169,7 @@ fn read_entry(
     requires layout { IsFieldLayout body.classes.now layout.now }
     requires shape { layout.now.shape ≡ inline pool.class }
     requires order { at ≤ body.limit }
-    ensures exact { listed (entry_alone pool) (run (constant_format body.entry.classes.now pool.class) body.entry.chunk.now body.entry.limit at) ≡ single result }
+    ensures exact { listed (only_entry pool) (run (constant_format body.entry.classes.now pool.class) body.entry.chunk.now body.entry.limit at) ≡ single result }
     ensures range { IfOk result (λ e. e.end ≤ body.entry.limit) }
 {
     let key = read_within(body.chunk, at, body.limit)?;

@@ -16,7 +16,7 @@ use Rattle.jfr_worklist.specs.Members.{In}
 use Rattle.jfr_chunk.proofs.AllLaws.{all_in}
 use Rattle.jfr_chunk.proofs.BoundLaws.{total, record_size, leaves_of, entries_apart}
 use Rattle.jfr_chunk.proofs.CountLaws.{leaves_few}
-use Rattle.jfr_chunk.proofs.StandingLaws.{standing, event_is, tiles_each}
+use Rattle.jfr_chunk.proofs.HasNodesLaws.{has_nodes, event_is, tiles_each}
 use Rattle.jfr_reach.specs.Walks.{node_leaves, event_leaves, entry_leaves}
 use Rattle.jfr_worklist.proofs.PutLaws.{weigh}
 
@@ -51,7 +51,7 @@ module _ (p : Parts) (parts : AreParts p) where
   event_within e i =
       let v = event_is p parts e i in
       let r = all_in (IsRecord p.bytes) p.records e.record_of (tiles_each p.bytes 68 (length p.bytes) p.records parts.records) v.listed in
-      leaves_few p.classes (standing p parts).sound p.bytes e.record_of e.node v.value r v.at v.within v.node
+      leaves_few p.classes (has_nodes p parts).sound p.bytes e.record_of e.node v.value r v.at v.within v.node
 
   events_within : total (λ e. node_leaves p e.node) (events_of p) ≤ total record_size (event_records p.classes p.records)
   unfolding events_of
@@ -63,7 +63,7 @@ module _ (p : Parts) (parts : AreParts p) where
   -- Each kept event and each entry once.
   pub leaves_bound : (flags : List Bool) → event_leaves p (kept_by p flags) + weigh (replicate (length p.entries) true) (entry_leaves p) ≤ length p.bytes
   leaves_bound flags =
-      let a = entries_apart p.bytes p.records parts.records (pools_at p.bytes) p.chain parts.chain p.classes (standing p parts).sound p.entries parts.entries in
+      let a = entries_apart p.bytes p.records parts.records (pools_at p.bytes) p.chain parts.chain p.classes (has_nodes p parts).sound p.entries parts.entries in
       let g = events_total p (kept_by p flags) in
       let d : weigh (replicate (length p.entries) true) (entry_leaves p) ≡ total (leaves_of p.bytes p.classes) p.entries = weigh_total (leaves_of p.bytes p.classes) p.entries in
       let e : total (λ e. node_leaves p e.node) (kept_by p flags) ≤ total (λ e. node_leaves p e.node) (events_of p) = total_marked (λ e. node_leaves p e.node) flags (events_of p) in

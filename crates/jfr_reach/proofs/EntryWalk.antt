@@ -10,7 +10,7 @@ use Rattle.jfr_pool.proofs.ForceLaws.{force_within}
 use Rattle.jfr_worklist.specs.Members.{In}
 use Rattle.jfr_worklist.proofs.Members.{in_those}
 use Rattle.jfr_chunk.proofs.ReachedLaws.{reached_marked}
-use Rattle.jfr_chunk.proofs.StandingLaws.{standing, event_is}
+use Rattle.jfr_chunk.proofs.HasNodesLaws.{has_nodes, event_is}
 use Rattle.jfr_worklist.proofs.SweepLaws.{AllBelow, marks_reach}
 use Rattle.jfr_worklist.specs.Worklists.{ordered_all}
 use Rattle.jfr_reach.specs.Walks.{event_leaves, entry_leaves}
@@ -73,5 +73,5 @@ module _ (p : Parts) where
     -- The marked entries are exactly those that paths reach.
     pub marked_reached : AreParts p → (f : List Bool) → f ≡ reached_marks p (kept_by p keep) → (i : ℕ) → IsMarked f i ↔ Reached p (kept_by p keep) i
     marked_reached parts f e i =
-        let r = reached_marked p (standing p parts) (kept_by p keep) (λ x k. (let v = event_is p parts x (in_marked keep (events_of p) x k) in (v.value, v.node))) i in
+        let r = reached_marked p (has_nodes p parts) (kept_by p keep) (λ x k. (let v = event_is p parts x (in_marked keep (events_of p) x k) in (v.value, v.node))) i in
         (λ k. r.1 (subst (λ z. IsMarked z i) e k), λ k. subst (λ z. IsMarked z i) (sym e) (r.0 k))

@@ -13,7 +13,7 @@ use Rattle.jfr_worklist.specs.Members.{In}
 use Rattle.jfr_worklist.proofs.Members.{those_append, get_in}
 use Rattle.jfr_worklist.proofs.MarkLaws.{all_append, all_size}
 use Rattle.jfr_worklist.proofs.PuttingLaws.{ordered_append}
-use Rattle.jfr_chunk.proofs.StandingLaws.{event_is, standing}
+use Rattle.jfr_chunk.proofs.HasNodesLaws.{event_is, has_nodes}
 use Rattle.jfr_worklist.proofs.SweepLaws.{AllBelow}
 use Rattle.jfr_worklist.specs.Worklists.{ordered_all}
 use Rattle.jfr_reach.specs.Walks.{kept_at, event_leaves, node_leaves}
@@ -29,7 +29,7 @@ kept_in keep es i e h = by_flag (slice_get keep i) h
     by_flag (Some false) h = cc
 
 entries_few : (p : Parts) → AreParts p → (e : EventAt) → In (events_of p) e → length (node_entries p.entries p.classes p.bytes e.node) ≤ node_leaves p e.node
-entries_few p parts e i = let v = event_is p parts e i in references_few p.classes (standing p parts).sound p.bytes p.entries e.node v.value v.node
+entries_few p parts e i = let v = event_is p parts e i in references_few p.classes (has_nodes p parts).sound p.bytes p.entries e.node v.value v.node
 
 -- The entries to which the event with this number refers, if it is kept.
 pub record KeptEntries (p : Parts) (keep : List Bool) (i : ℕ) (numbers : List ℕ) : Type 0 where

@@ -25,7 +25,7 @@ pub(crate) fn put_reached<L: Ledger>(
     ensures cost { steps.new ≤ steps.old + length chunk.now.bytes }
     ensures parts { AreParts chunk.now }
 {
-    chunk.parts_stand();
+    chunk.parts_are_valid();
     put_roots(list, chunk, kept, steps);
     let mut next: usize = 0;
     while next < list.order.len() {

@@ -20,7 +20,7 @@ use Rattle.jfr_receipt.specs.Receipting.{IsReceipted, receipt_by, scrub_receipt}
 
 -- The parts of the scrub of a chunk.
 pub scrub_read : (p : Parts) (g : Given) (k : IsKept p (kept_of g p)) → read_parts (scrub_of p (kept_of g p)) ≡ Ok k.parts
-scrub_read p g k = ((is_computed (scrub_of p (kept_of g p)) k.whole.long).parts k.parts).0 (k.bytes, k.stand)
+scrub_read p g k = ((is_computed (scrub_of p (kept_of g p)) k.whole.long).parts k.parts).0 (k.bytes, k.valid)
 
 -- The receipt of what a chunk becomes.
 pub receipt_is : (g : Given) (c r : List ℕ) (p : Parts) → Whole c → read_parts c ≡ Ok p → ((k : IsKept p (kept_of g p)) → r ≡ receipt_of k.parts) → (refusal_of c ≡ None) × (r ≡ scrub_receipt g c)
@@ -40,9 +40,9 @@ is_receipted passed g c w n =
     record {
       input = h.parts;
       bytes = h.bytes;
-      stand = h.stand;
+      valid = h.valid;
       output = k.parts;
       becomes = k.bytes ∙ sym h.becomes;
-      accepted = k.stand;
-      passes = subst (Passes h.parts k.parts (kept_of g h.parts)) (sym (ap receipt_by e)) (passed h.parts (chosen g h.parts) h.stand k);
+      accepted = k.valid;
+      passes = subst (Passes h.parts k.parts (kept_of g h.parts)) (sym (ap receipt_by e)) (passed h.parts (chosen g h.parts) h.valid k);
     }

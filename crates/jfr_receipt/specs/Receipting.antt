@@ -2,7 +2,7 @@
 use Rattle.std.specs.Prelude.{◌≡◌, ℕ, List, [], Result, Ok, Err}
 use Rattle.jfr_base.specs.declared.flaw.Flaw.{Flaw}
 use Rattle.jfr_filter.specs.Filters.{Given}
-use Rattle.jfr_plan.specs.Walks.{Rule}
+use Rattle.jfr_plan.specs.Rules.{Rule}
 use Rattle.jfr_plan.specs.Makes.{making}
 use Rattle.jfr_chunk.specs.Parts.{Parts, AreParts}
 use Rattle.jfr_chunk.specs.Chosen.{kept_of}
@@ -29,7 +29,7 @@ receipting g receipt = making receipt refusal_of (scrub_receipt g)
 pub record IsReceipted (g : Given) (c r : List ℕ) : Type 0 where
   pub input : Parts
   pub bytes : input.bytes ≡ c
-  pub stand : AreParts input
+  pub valid : AreParts input
   pub output : Parts
   pub becomes : output.bytes ≡ scrubbed g c
   pub accepted : AreParts output

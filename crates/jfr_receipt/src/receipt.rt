@@ -2,12 +2,12 @@
 ghost use Rattle.std.specs.Prelude.{◌≡◌, ◌≢◌, ℕ, List, None};
 ghost use Rattle.jfr_header.specs.Fronts.{Whole};
 ghost use Rattle.jfr_plan.specs.Clauses.{over, Ran, CanCreate};
-ghost use Rattle.jfr_plan.specs.Effects.{alone};
+ghost use Rattle.jfr_plan.specs.Effects.{without_sink};
 ghost use Rattle.jfr_chunk.specs.Refusal.{refusal_of};
 ghost use Rattle.jfr_receipt.specs.Receipting.{IsReceipted, receipting, scrub_receipt};
 
 use jfr_base::ReadFault;
-use jfr_chunk::{Chunk, Room};
+use jfr_chunk::{Buffers, Chunk};
 use jfr_filter::Filter;
 use jfr_header::Ending;
 use jfr_outside::{NoMemory, Place};
@@ -17,12 +17,12 @@ use jfr_verify::{Receipt, kept_is_passed, receipt_of_scrub};
 use std::alloc::Global;
 use std::mem;
 
-/// Makes the receipt of each chunk's scrub with a filter, without making the scrub. `room` holds the last
+/// Makes the receipt of each chunk's scrub with a filter, without making the scrub. `buffers` holds the last
 /// chunk's memory, which the next chunk uses again.
 #[derive(Drop)]
 struct Receipts<'f> {
     filter: &'f Filter,
-    room: Room,
+    buffers: Buffers,
     receipt: Option<Receipt>,
 }
 
@@ -40,11 +40,11 @@ impl<'f> Make for Receipts<'f> {
     ghost last = { λ s chunk. unwrap_or s.receipt [] };
 
     fn make(&mut self, alloc: Global, chunk: &[u8]) -> Result<(), ReadFault> {
-        let room = mem::replace(&mut self.room, Room::new(alloc));
-        let chunk = Chunk::read_in(alloc, room, chunk)?;
+        let buffers = mem::replace(&mut self.buffers, Buffers::new(alloc));
+        let chunk = Chunk::read_in(alloc, buffers, chunk)?;
         let kept = choose(alloc, &chunk, self.filter)?;
         self.receipt = Some(receipt_of_scrub(alloc, &chunk, &kept)?);
-        self.room = chunk.into_room();
+        self.buffers = chunk.into_buffers();
         Ok(())
     }
 
@@ -71,7 +71,7 @@ pub fn receipt_stream<P: Place>(
     ensures each { (c : List ℕ) → Whole c → refusal_of c ≡ None → IsReceipted filter.now c (scrub_receipt filter.now c) }
 
     ensures ran { Ran (over (receipting filter.now receipt.now) input.now) result
-        (alone (P.state place.old)) (alone (P.state place.new)) }
+        (without_sink (P.state place.old)) (without_sink (P.state place.new)) }
 
     // If the output can be created, there is no write fault.
     ensures can_create { CanCreate receipt.now (P.state place.old)
@@ -83,7 +83,7 @@ pub fn receipt_stream<P: Place>(
         place,
         Receipts {
             filter,
-            room: Room::new(alloc),
+            buffers: Buffers::new(alloc),
             receipt: None,
         },
         input,

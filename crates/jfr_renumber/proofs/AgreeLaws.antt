@@ -25,7 +25,7 @@ use Rattle.jfr_worklist.proofs.Members.{in_left, in_right}
 use Rattle.jfr_pool.specs.declared.entry.EntryAt.{EntryAt}
 use Rattle.jfr_chunk.specs.Parts.{Parts, EventAt, AreParts}
 use Rattle.jfr_chunk.specs.Reach.{kept_by, marked, reached_marks, remain}
-use Rattle.jfr_chunk.proofs.StandingLaws.{standing}
+use Rattle.jfr_chunk.proofs.HasNodesLaws.{has_nodes}
 use Rattle.jfr_laws.proofs.Same.{chosen_events}
 use Rattle.jfr_renumber.specs.Firsts.{firsts_by, same_new}
 use Rattle.jfr_renumber.specs.Numbers.{NumberedPairs, number_of, numbers_of}
@@ -82,7 +82,7 @@ module _ (p : Parts) (a : AreParts p) (flags : List Bool) where
   pub number_used : (k : NumberedPairs) → ((t : ℕ × ℕ) → number_of k t ≡ new_key_of p kept t) → (t : ℕ × ℕ) → Used p kept t → numbers_of k t ≡ new_key p kept t
   number_used k h t u =
       ap (λ o. unwrap_or o 0) (h t)
-      ∙ ap (λ b. unwrap_or (if b then Some (new_key p kept t) else None) 0) (any_of (used_keys p kept) t (used_in p (standing p a) kept (kept_nodes p a kept (chosen_events p flags)) t u))
+      ∙ ap (λ b. unwrap_or (if b then Some (new_key p kept t) else None) 0) (any_of (used_keys p kept) t (used_in p (has_nodes p a) kept (kept_nodes p a kept (chosen_events p flags)) t u))
 
   module _ (new : ℕ × ℕ → ℕ) (same : (t : ℕ × ℕ) → Used p kept t → new t ≡ new_key p kept t) where
     -- Two entries that remain have the same class and new key exactly if they are together.
@@ -90,10 +90,10 @@ module _ (p : Parts) (a : AreParts p) (flags : List Bool) where
     together_by e f i j = both_ways (same_new new e f) (together p (pair_of e) (pair_of f)) there back
       where
         first : Used p kept (pair_of e)
-        first = (remains_used p (standing p a) kept (kept_nodes p a kept (chosen_events p flags)) e i).used
+        first = (remains_used p (has_nodes p a) kept (kept_nodes p a kept (chosen_events p flags)) e i).used
 
         second : Used p kept (pair_of f)
-        second = (remains_used p (standing p a) kept (kept_nodes p a kept (chosen_events p flags)) f j).used
+        second = (remains_used p (has_nodes p a) kept (kept_nodes p a kept (chosen_events p flags)) f j).used
 
         there : same_new new e f ≡ true → together p (pair_of e) (pair_of f) ≡ true
         there h =
@@ -120,17 +120,17 @@ module _ (p : Parts) (a : AreParts p) (flags : List Bool) where
   -- What is written of events and entries is the same, and so is all that is written.
   module _ (new : ℕ × ℕ → ℕ) (same : (t : ℕ × ℕ) → Used p kept t → new t ≡ new_key p kept t) where
     listed : (t : ℕ × ℕ) → In (used_keys p kept) t → new t ≡ new_key p kept t
-    listed t i = same t (in_used p (standing p a) kept (kept_nodes p a kept (chosen_events p flags)) t i)
+    listed t i = same t (in_used p (has_nodes p a) kept (kept_nodes p a kept (chosen_events p flags)) t i)
 
     pub event_same : (e : EventAt) → In kept e → event_bytes new p e ≡ event_bytes (new_key p kept) p e
     event_same e i =
         ap (λ z. sized (e.record_of.type_at - e.record_of.at) (slice_range p.bytes e.record_of.type_at e.record_of.body ++ (z ++ slice_range p.bytes e.node.end (record_end e.record_of))))
-        (bytes_same new (new_key p kept) p.classes p.bytes e.node (λ t j. listed t (event_used p (standing p a) kept (kept_nodes p a kept (chosen_events p flags)) e t i j)))
+        (bytes_same new (new_key p kept) p.classes p.bytes e.node (λ t j. listed t (event_used p (has_nodes p a) kept (kept_nodes p a kept (chosen_events p flags)) e t i j)))
 
     pub entry_same : (e : EntryAt) → In (remain p kept) e → entry_bytes new p e ≡ entry_bytes (new_key p kept) p e
     entry_same e i =
-        ap (λ n. spell n ++ rekeyed_bytes new p.classes p.bytes (entry_node e)) (same (pair_of e) (remains_used p (standing p a) kept (kept_nodes p a kept (chosen_events p flags)) e i).used)
-        ∙ ap (λ z. spell (new_key p kept (pair_of e)) ++ z) (bytes_same new (new_key p kept) p.classes p.bytes (entry_node e) (λ t j. listed t (entry_used p (standing p a) kept (kept_nodes p a kept (chosen_events p flags)) e t i j)))
+        ap (λ n. spell n ++ rekeyed_bytes new p.classes p.bytes (entry_node e)) (same (pair_of e) (remains_used p (has_nodes p a) kept (kept_nodes p a kept (chosen_events p flags)) e i).used)
+        ∙ ap (λ z. spell (new_key p kept (pair_of e)) ++ z) (bytes_same new (new_key p kept) p.classes p.bytes (entry_node e) (λ t j. listed t (entry_used p (has_nodes p a) kept (kept_nodes p a kept (chosen_events p flags)) e t i j)))
 
     abbrev SameEntry : EntryAt → Type 0
     SameEntry e = entry_bytes new p e ≡ entry_bytes (new_key p kept) p e

@@ -16,7 +16,7 @@ use Rattle.jfr_pool.specs.declared.link.Link.{Link}
 use Rattle.jfr_pool.specs.Entries.{inline, entry_node}
 use Rattle.jfr_chunk.specs.Parts.{Parts}
 use Rattle.jfr_chunk.specs.Written.{by_pool, sized}
-use Rattle.jfr_laws.specs.InChunk.{EntryStands, LinkStands}
+use Rattle.jfr_laws.specs.InChunk.{IsEntryIn, IsLinkIn}
 use Rattle.jfr_laws.proofs.Values.{exact_reads}
 use Rattle.jfr_output.specs.Pools.{leading}
 use Rattle.jfr_output.proofs.PoolLaws.{by_first_of}
@@ -25,7 +25,7 @@ use Rattle.jfr_renumber.specs.Renumber.{checkpoint_tail, entry_bytes, group_byte
 use Rattle.jfr_renumber.proofs.EventWriting.{front_taken, both_dropped}
 
 -- An entry is a node.
-pub entry_is : (k : Classes) (c : List ℕ) (e : EntryAt) → (s : EntryStands c k e) → IsNode k c (entry_node e) s.value
+pub entry_is : (k : Classes) (c : List ℕ) (e : EntryAt) → (s : IsEntryIn c k e) → IsNode k c (entry_node e) s.value
 entry_is k c e s =
     let o : e.value_at ≤ e.end = s.order in
     let w : e.end ≤ length c = s.within in
@@ -68,7 +68,7 @@ sized_fits c r old a t o from s l n e h =
     let y : length o - from ≡ (r.type_at - r.at) + length t = (let f = ap length e in omega (arith, f, x, l, n)) in
     subst (λ z. FitsIn z (r.type_at - r.at)) (sym y) (size_fits c r ((r.type_at - r.at) + length t) s h)
 
-module _ (new : ℕ × ℕ → ℕ) (p : Parts) (l : Link) (s : LinkStands p.bytes l) (delta : ℕ) (es : List EntryAt) where
+module _ (new : ℕ × ℕ → ℕ) (p : Parts) (l : Link) (s : IsLinkIn p.bytes l) (delta : ℕ) (es : List EntryAt) where
   abbrev c : List ℕ
   c = p.bytes
 

@@ -22,4 +22,4 @@ module _ (new : ℕ × ℕ → ℕ) (es : List EntryAt) (t : ℕ × ℕ) (i : �
   pub in_force_number : slice_get numbers i ≡ Some (new t)
   in_force_number =
       let l : IsLast es t i = (last_is es t i).0 q in
-      slice_get-map (λ (e : EntryAt). new (pair_of e)) es i ∙ (ap (option_map (λ (e : EntryAt). new (pair_of e))) l.stands ∙ ap (λ z. Some (new z)) l.has)
+      slice_get-map (λ (e : EntryAt). new (pair_of e)) es i ∙ (ap (option_map (λ (e : EntryAt). new (pair_of e))) l.holds ∙ ap (λ z. Some (new z)) l.has)

@@ -17,7 +17,7 @@ use Rattle.jfr_chunk.specs.Written.{Group, by_pool, distance, sized}
 use Rattle.jfr_chunk.specs.Written as old
 use Rattle.jfr_chunk.proofs.TestLaws.{is_eq}
 use Rattle.jfr_laws.proofs.Marks.{all_marked, marked_append}
-use Rattle.jfr_laws.specs.InChunk.{EntryStands, GroupStands}
+use Rattle.jfr_laws.specs.InChunk.{IsEntryIn, IsGroupIn}
 use Rattle.jfr_laws.proofs.Groups.{apart, in_front, by_front}
 use Rattle.jfr_laws.proofs.Room.{of_pool, later_pools}
 use Rattle.jfr_laws.proofs.Checkpoints.{Of, NotOf, others, of_number, later_numbers, block_only}
@@ -67,10 +67,10 @@ number_short : (m n : ℕ) → m ≤ n → length (spell m) ≤ length (spell n)
 number_short m n h = spell_short (spell n) m n (spell_spells n) h
 
 module _ (p : Parts) (sound : Sound p.classes) (new : ℕ × ℕ → ℕ) (most : (t : ℕ × ℕ) → new t ≤ t.1) where
-  one_short : (e : EntryAt) → EntryStands p.bytes p.classes e → length (entry_bytes new p e) ≤ length (old.entry_bytes p.bytes e)
+  one_short : (e : EntryAt) → IsEntryIn p.bytes p.classes e → length (entry_bytes new p e) ≤ length (old.entry_bytes p.bytes e)
   one_short e s = subst (λ z. length z ≤ length (old.entry_bytes p.bytes e)) (sym (entry_spelled p sound new most e s)) (entry_short p sound new most e s)
 
-  under_short : (fs ms : List Bool) (xs : List EntryAt) → Under fs ms → AllByRecursion (EntryStands p.bytes p.classes) (marked fs xs)
+  under_short : (fs ms : List Bool) (xs : List EntryAt) → Under fs ms → AllByRecursion (IsEntryIn p.bytes p.classes) (marked fs xs)
       → length (flat_map (entry_bytes new p) (marked fs xs)) ≤ length (flat_map (old.entry_bytes p.bytes) (marked ms xs))
   under_short [] ms xs u a = omega arith
   under_short (f ∷ fs) ms [] u a = omega arith
@@ -128,17 +128,17 @@ module _ (p : Parts) (sound : Sound p.classes) (new : ℕ × ℕ → ℕ) (most 
       (all_marked (λ e. (e.pool ≡ number) × (e.class ≡ q.class)) marks these (of_pool checkpoint number q.class q.constants))
       (apart number (marked more rest) (all_marked (λ e. number < e.pool) more rest (later_pools checkpoint number (number + 1) ps (omega arith))))
 
-  pub pools_short : (checkpoint number : ℕ) (pools : List PoolAt) (fs ms : List Bool) → Under fs ms → AllByRecursion (EntryStands p.bytes p.classes) (marked fs (entries_from checkpoint number pools))
+  pub pools_short : (checkpoint number : ℕ) (pools : List PoolAt) (fs ms : List Bool) → Under fs ms → AllByRecursion (IsEntryIn p.bytes p.classes) (marked fs (entries_from checkpoint number pools))
       → Shorter (by_pool (marked fs (entries_from checkpoint number pools))) (by_pool (marked ms (entries_from checkpoint number pools)))
   pools_short checkpoint number [] fs ms u a = subst (λ z. Shorter (by_pool z) (by_pool (marked ms []))) (sym (marked_none fs)) (subst (λ z. Shorter [] (by_pool z)) (sym (marked_none ms)) none_short)
   pools_short checkpoint number (q ∷ ps) fs ms u a =
       let these : List EntryAt = map (entry_of checkpoint number q.class) q.constants in
       let rest : List EntryAt = entries_from checkpoint (number + 1) ps in
       let n : ℕ = length these in
-      let b : AllByRecursion (EntryStands p.bytes p.classes) (marked fs these ++ marked (drop n fs) rest) = subst (AllByRecursion (EntryStands p.bytes p.classes)) (marked_append fs these rest) a in
-      let i = pools_short checkpoint (number + 1) ps (drop n fs) (drop n ms) (under_drop n fs ms u) (all_right (EntryStands p.bytes p.classes) (marked fs these) (marked (drop n fs) rest) b) in
+      let b : AllByRecursion (IsEntryIn p.bytes p.classes) (marked fs these ++ marked (drop n fs) rest) = subst (AllByRecursion (IsEntryIn p.bytes p.classes)) (marked_append fs these rest) a in
+      let i = pools_short checkpoint (number + 1) ps (drop n fs) (drop n ms) (under_drop n fs ms u) (all_right (IsEntryIn p.bytes p.classes) (marked fs these) (marked (drop n fs) rest) b) in
       let s = front_short number q.class (marked fs these) (marked ms these) (by_pool (marked (drop n fs) rest)) (by_pool (marked (drop n ms) rest)) (under_fewer fs ms these u)
-      (under_short fs ms these u (all_left (EntryStands p.bytes p.classes) (marked fs these) (marked (drop n fs) rest) b)) i in
+      (under_short fs ms these u (all_left (IsEntryIn p.bytes p.classes) (marked fs these) (marked (drop n fs) rest) b)) i in
       subst (λ z. Shorter z (by_pool (marked ms (these ++ rest)))) (sym (split_groups checkpoint number q ps fs))
       (subst (λ z. Shorter (in_front number q.class (marked fs these) (by_pool (marked (drop n fs) rest))) z) (sym (split_groups checkpoint number q ps ms)) s)
 
@@ -164,21 +164,21 @@ module _ (p : Parts) (sound : Sound p.classes) (new : ℕ × ℕ → ℕ) (most 
       ∙ ap (λ z. z ++ of_one n (marked more later)) (none_of n (marked marks block) (all_marked (λ e. (e.checkpoint == n) ≡ false) marks block b)))
 
   pub numbers_short : (number : ℕ) (ls : List Link) (es : List EntryAt) (fs ms : List Bool) → Under fs ms → AreEntries p.bytes p.classes number ls es
-      → (i : ℕ) → AllByRecursion (EntryStands p.bytes p.classes) (of_one i (marked fs es)) → Shorter (by_pool (of_one i (marked fs es))) (by_pool (of_one i (marked ms es)))
+      → (i : ℕ) → AllByRecursion (IsEntryIn p.bytes p.classes) (of_one i (marked fs es)) → Shorter (by_pool (of_one i (marked fs es))) (by_pool (of_one i (marked ms es)))
   numbers_short number [] es fs ms u a i s =
       subst (λ z. Shorter (by_pool (of_one i (marked fs z))) (by_pool (of_one i (marked ms z)))) (sym a)
       (subst (λ z. Shorter (by_pool (of_one i z)) (by_pool (of_one i (marked ms [])))) (sym (marked_none fs)) (subst (λ z. Shorter [] (by_pool (of_one i z))) (sym (marked_none ms)) none_short))
   numbers_short number (l ∷ ls) es fs ms u a i s =
       subst (λ z. Shorter (by_pool (of_one i (marked fs z))) (by_pool (of_one i (marked ms z)))) (sym a.3)
-      (by_test (numbers_short (number + 1) ls a.2 (drop (length (entries_from number 0 a.0)) fs) (drop (length (entries_from number 0 a.0)) ms) (under_drop (length (entries_from number 0 a.0)) fs ms u) a.4 i) (number == i) refl (subst (λ z. AllByRecursion (EntryStands p.bytes p.classes) (of_one i (marked fs z))) a.3 s))
+      (by_test (numbers_short (number + 1) ls a.2 (drop (length (entries_from number 0 a.0)) fs) (drop (length (entries_from number 0 a.0)) ms) (under_drop (length (entries_from number 0 a.0)) fs ms u) a.4 i) (number == i) refl (subst (λ z. AllByRecursion (IsEntryIn p.bytes p.classes) (of_one i (marked fs z))) a.3 s))
     where
       n : ℕ
       n = length (entries_from number 0 a.0)
 
       Later : Type 0
-      Later = AllByRecursion (EntryStands p.bytes p.classes) (of_one i (marked (drop n fs) a.2)) → Shorter (by_pool (of_one i (marked (drop n fs) a.2))) (by_pool (of_one i (marked (drop n ms) a.2)))
+      Later = AllByRecursion (IsEntryIn p.bytes p.classes) (of_one i (marked (drop n fs) a.2)) → Shorter (by_pool (of_one i (marked (drop n fs) a.2))) (by_pool (of_one i (marked (drop n ms) a.2)))
 
-      by_test : Later → (t : Bool) → (number == i) ≡ t → AllByRecursion (EntryStands p.bytes p.classes) (of_one i (marked fs (entries_from number 0 a.0 ++ a.2))) → Shorter (by_pool (of_one i (marked fs (entries_from number 0 a.0 ++ a.2)))) (by_pool (of_one i (marked ms (entries_from number 0 a.0 ++ a.2))))
+      by_test : Later → (t : Bool) → (number == i) ≡ t → AllByRecursion (IsEntryIn p.bytes p.classes) (of_one i (marked fs (entries_from number 0 a.0 ++ a.2))) → Shorter (by_pool (of_one i (marked fs (entries_from number 0 a.0 ++ a.2)))) (by_pool (of_one i (marked ms (entries_from number 0 a.0 ++ a.2))))
       by_test r true e st =
           let q : number ≡ i = exact_unsigned_eq number i e in
           let mine : Of i (entries_from number 0 a.0) = subst (λ z. Of z (entries_from number 0 a.0)) q (of_number number 0 a.0) in
@@ -186,23 +186,23 @@ module _ (p : Parts) (sound : Sound p.classes) (new : ℕ × ℕ → ℕ) (most 
           let x = block_here i fs (entries_from number 0 a.0) a.2 mine none in
           let y = block_here i ms (entries_from number 0 a.0) a.2 mine none in
           subst (λ z. Shorter (by_pool z) (by_pool (of_one i (marked ms (entries_from number 0 a.0 ++ a.2))))) (sym x)
-          (subst (λ z. Shorter (by_pool (marked fs (entries_from number 0 a.0))) (by_pool z)) (sym y) (pools_short number 0 a.0 fs ms u (subst (AllByRecursion (EntryStands p.bytes p.classes)) x st)))
+          (subst (λ z. Shorter (by_pool (marked fs (entries_from number 0 a.0))) (by_pool z)) (sym y) (pools_short number 0 a.0 fs ms u (subst (AllByRecursion (IsEntryIn p.bytes p.classes)) x st)))
       by_test r false e st =
           let none : NotOf i (entries_from number 0 a.0) = others number i (entries_from number 0 a.0) (λ q. differ q e) (of_number number 0 a.0) in
           let x = block_there i fs (entries_from number 0 a.0) a.2 none in
           let y = block_there i ms (entries_from number 0 a.0) a.2 none in
           subst (λ z. Shorter (by_pool z) (by_pool (of_one i (marked ms (entries_from number 0 a.0 ++ a.2))))) (sym x)
-          (subst (λ z. Shorter (by_pool (of_one i (marked (drop n fs) a.2))) (by_pool z)) (sym y) (r (subst (AllByRecursion (EntryStands p.bytes p.classes)) x st)))
+          (subst (λ z. Shorter (by_pool (of_one i (marked (drop n fs) a.2))) (by_pool z)) (sym y) (r (subst (AllByRecursion (IsEntryIn p.bytes p.classes)) x st)))
         where
           differ : number ≡ i → (number == i) ≡ false → ⊥
           differ q e = let f : (number == i) ≡ true = is_eq number i q in cc
 
   -- The entries of these groups.
-  pub entries_stand : (gs : List Group) → AllByRecursion (GroupStands p.bytes p.classes) gs → AllByRecursion (EntryStands p.bytes p.classes) (flat_map (λ g. g.entries) gs)
+  pub entries_stand : (gs : List Group) → AllByRecursion (IsGroupIn p.bytes p.classes) gs → AllByRecursion (IsEntryIn p.bytes p.classes) (flat_map (λ g. g.entries) gs)
   entries_stand [] a = tt
   entries_stand (g ∷ gs) a = join (entries_stand gs a.1) g.entries a.0.1
     where
-      join : AllByRecursion (EntryStands p.bytes p.classes) (flat_map (λ g. g.entries) gs) → (es : List EntryAt) → AllByRecursion (λ e. EntryStands p.bytes p.classes e × (e.class ≡ g.class)) es → AllByRecursion (EntryStands p.bytes p.classes) (es ++ flat_map (λ g. g.entries) gs)
+      join : AllByRecursion (IsEntryIn p.bytes p.classes) (flat_map (λ g. g.entries) gs) → (es : List EntryAt) → AllByRecursion (λ e. IsEntryIn p.bytes p.classes e × (e.class ≡ g.class)) es → AllByRecursion (IsEntryIn p.bytes p.classes) (es ++ flat_map (λ g. g.entries) gs)
       join r [] b = r
       join r (e ∷ es) b = (b.0.0, join r es b.1)
 

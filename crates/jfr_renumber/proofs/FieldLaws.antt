@@ -19,7 +19,7 @@ use Rattle.jfr_layout.specs.declared.shape.Shape.{Shape}
 use Rattle.jfr_layout.specs.declared.field_layout.FieldLayout.{FieldLayout}
 use Rattle.jfr_value.specs.declared.leaf.LeafKind.TheVariants as leaf_kinds
 use Rattle.jfr_value.specs.Values.{Value, Values, Single, Group, Nil, Cons, bytes_of, bytes_of_all, shape_of, shapes_of, IsBase, IsHead, IsSingle}
-use Rattle.jfr_value.specs.Nodes.{EndsAt, IsNode, IsRow, NodeAt, node_at}
+use Rattle.jfr_value.specs.Nodes.{EndsAt, IsNode, AreValues, NodeAt, node_at}
 use Rattle.jfr_value.proofs.ChildLaws.{inline_known}
 use Rattle.jfr_value.proofs.LayoutLaws.{layout_class}
 use Rattle.jfr_value.proofs.NodeLaws.{value_is}
@@ -46,7 +46,7 @@ pub record FieldAt (new : ℕ × ℕ → ℕ) (k : Classes) (c : List ℕ) (at t
   pub within : start_of at vs (i + 1) ≤ to
   pub next : rekeyed_first new vs (i + 1) ≡ rekeyed_first new vs i ++ bytes_of (rekeyed new value)
 
-pub field_at : (new : ℕ × ℕ → ℕ) (k : Classes) (c : List ℕ) (at to : ℕ) (ss : List Shape) (vs : Values) (i : ℕ) (s : Shape) → IsRow k c at to ss vs → slice_get ss i ≡ Some s → FieldAt new k c at to vs i s
+pub field_at : (new : ℕ × ℕ → ℕ) (k : Classes) (c : List ℕ) (at to : ℕ) (ss : List Shape) (vs : Values) (i : ℕ) (s : Shape) → AreValues k c at to ss vs → slice_get ss i ≡ Some s → FieldAt new k c at to vs i s
 field_at new k c at to [] vs i s r e = cc
 field_at new k c at to (t ∷ ss) Nil i s r e = let h = r.of_shapes in cc
 field_at new k c at to (t ∷ ss) (Cons v vs) zero s r e =
@@ -75,7 +75,7 @@ field_at new k c at to (t ∷ ss) (Cons v vs) (suc i) s r e =
 -- The fields of a composite value.
 pub record RowOf (new : ℕ × ℕ → ℕ) (k : Classes) (c : List ℕ) (n : NodeAt) (v : Value) (fs : List Field) : Type 0 where
   pub parts : Values
-  pub row : IsRow k c n.at n.end (map (λ f. f.shape) fs) parts
+  pub row : AreValues k c n.at n.end (map (λ f. f.shape) fs) parts
   pub bytes : bytes_of (rekeyed new v) ≡ bytes_of_all (rekeyed_all new parts)
 
 pub row_of : (new : ℕ × ℕ → ℕ) (k : Classes) (c : List ℕ) (n : NodeAt) (v : Value) (d : Class) → IsNode k c n v → n.shape.array ≡ false → n.shape.constant ≡ false → find_class k n.shape.class ≡ Some d → kind_of d.name ≡ kinds.Composite → RowOf new k c n v d.fields
@@ -200,8 +200,8 @@ start_all at (Cons v vs) (suc n) e =
     let l : length (bytes_of v ++ bytes_of_all vs) ≡ length (bytes_of v) + length (bytes_of_all vs) = length-append (bytes_of v) (bytes_of_all vs) in
     omega arith
 
-pub row_end : (k : Classes) (c : List ℕ) (at to : ℕ) (ls : List FieldLayout) (vs : Values) (n : ℕ) → IsRow k c at to (map (λ s. s.shape) ls) vs → n ≡ length ls → start_of at vs n ≡ to
-row_end k c at to ls vs n r e =
+pub end_of_values : (k : Classes) (c : List ℕ) (at to : ℕ) (ls : List FieldLayout) (vs : Values) (n : ℕ) → AreValues k c at to (map (λ s. s.shape) ls) vs → n ≡ length ls → start_of at vs n ≡ to
+end_of_values k c at to ls vs n r e =
     let w : length (shapes_of vs) ≡ length ls = ap (λ (z : List Shape). length z) r.of_shapes ∙ length-map ls (λ (s : FieldLayout). s.shape) in
     let a : start_of at vs n ≡ at + length (bytes_of_all vs) = start_all at vs n (w ∙ sym e) in
     let b : length (bytes_of_all vs) ≡ to - at = ap length (sym r.bytes) ∙ range_length c at to r.within in
@@ -210,12 +210,12 @@ row_end k c at to ls vs n r e =
 
 -- The row of an object's fields, by the layouts of its class.
 pub layouts_row : (new : ℕ × ℕ → ℕ) (k : Classes) (c : List ℕ) (n : NodeAt) (v : Value) (l : FieldLayout) (ls : List FieldLayout) → Sound k → IsNode k c n v → l.shape ≡ n.shape → IsFieldLayout k l → forms.Fields ≡ l.form → IfSome (slice_get k l.class_index) (λ d. AreFieldLayouts k d.fields ls)
-    → (vs : Values) × IsRow k c n.at n.end (map (λ s. s.shape) ls) vs × (rekeyed_bytes new k c n ≡ rekeyed_first new vs (length ls)) × AllByRecursion (IsFieldLayout k) ls
+    → (vs : Values) × AreValues k c n.at n.end (map (λ s. s.shape) ls) vs × (rekeyed_bytes new k c n ≡ rekeyed_first new vs (length ls)) × AllByRecursion (IsFieldLayout k) ls
 layouts_row new k c n v l ls sound i e y f h =
     let d = layout_class k l y in
     let m = fields_shape l.shape l.kind (f ∙ y.form) in
     let g : AreFieldLayouts k d.class.fields ls = subst (λ z. IfSome z (λ d. AreFieldLayouts k d.fields ls)) d.there h in
     let q = row_of new k c n v d.class i (ap (λ (z : Shape). z.array) (sym e) ∙ m.0) (ap (λ (z : Shape). z.constant) (sym e) ∙ m.1) (ap (λ (z : Shape). find_class k z.class) (sym e) ∙ d.found) (sym d.kind ∙ m.2) in
-    let r : IsRow k c n.at n.end (map (λ s. s.shape) ls) q.parts = subst (λ z. IsRow k c n.at n.end z q.parts) (sym g.shapes) q.row in
+    let r : AreValues k c n.at n.end (map (λ s. s.shape) ls) q.parts = subst (λ z. AreValues k c n.at n.end z q.parts) (sym g.shapes) q.row in
     let w : length (shapes_of q.parts) ≡ length ls = ap (λ (z : List Shape). length z) r.of_shapes ∙ length-map ls (λ (s : FieldLayout). s.shape) in
     (q.parts, r, rekeyed_is new k c n v sound i ∙ (q.bytes ∙ sym (first_all new q.parts (length ls) w)), g.each)

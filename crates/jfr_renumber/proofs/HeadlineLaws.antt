@@ -3,13 +3,13 @@ use Rattle.std.specs.Prelude.{◌≡◌, ℕ, ◌≤◌, Bool, List, length, Som
 use Rattle.std.proofs.Common.{ap, arith, refl, sym, subst, ◌∙◌}
 use Rattle.jfr_base.specs.declared.flaw.Flaw.{Flaw}
 use Rattle.jfr_base.specs.declared.flaw.Refusal.{Refusal}
-use Rattle.jfr_outside.specs.World.{State, Told}
+use Rattle.jfr_outside.specs.World.{State, IfKnown}
 use Rattle.jfr_header.specs.declared.ending.Ending.{Ending}
 use Rattle.jfr_header.specs.declared.ending.Ending.TheVariants as ending
 use Rattle.jfr_header.specs.Fronts.{Whole}
 use Rattle.jfr_filter.specs.Filters.{Given}
 use Rattle.jfr_plan.specs.Ends.{Fine, Refused}
-use Rattle.jfr_plan.specs.Effects.{alone}
+use Rattle.jfr_plan.specs.Effects.{without_sink}
 use Rattle.jfr_plan.specs.Clauses.{over, Ended}
 use Rattle.jfr_chunk.specs.Parts.{EventAt, Parts, AreParts}
 use Rattle.jfr_chunk.specs.Reach.{kept_by}
@@ -28,7 +28,7 @@ use Rattle.jfr_renumber.proofs.Renumbered.{is_renumbered}
 
 -- The output of a chunk, from what is known of it.
 made_output : (g : Given) (c b : List ℕ) (p : Parts) → p.bytes ≡ c → AreParts p → b ≡ renumber_of p (kept_of g p) → IsRenumbered p (kept_of g p) → IsRenumberedOutput g c b
-made_output g c b p h a e r = record { parts = p; bytes = h; stand = a; becomes = e; renumbered = r }
+made_output g c b p h a e r = record { parts = p; bytes = h; valid = a; becomes = e; renumbered = r }
 
 -- The output of an accepted chunk with the events that are chosen.
 renumbered_with : (p : Parts) (flags : List Bool) (kept : List EventAt) → kept ≡ kept_by p flags → Whole p.bytes → AreParts p → IsRenumbered p kept
@@ -61,8 +61,8 @@ outputs_whole g c w n =
     (subst Whole (sym s.becomes) s.renumbered.whole, omega arith)
 
 -- An answer that the plan ends with.
-pub headline : (g : Given) (input output : List ℕ) (e : Ending) (a b : State) → (e ≡ ending.Done → Ended (over (renumbering g output) input) Fine (alone a) (alone b))
-    → ((r : Refusal) → e ≡ ending.Refused r → Ended (over (renumbering g output) input) (Refused r) (alone a) (alone b)) → IsByPlan e → Told a.told b.told (Renumbers g input output)
+pub headline : (g : Given) (input output : List ℕ) (e : Ending) (a b : State) → (e ≡ ending.Done → Ended (over (renumbering g output) input) Fine (without_sink a) (without_sink b))
+    → ((r : Refusal) → e ≡ ending.Refused r → Ended (over (renumbering g output) input) (Refused r) (without_sink a) (without_sink b)) → IsByPlan e → IfKnown a.contents b.contents (Renumbers g input output)
 headline g input output = made_by_plan refusal_of (renumbered g) input output (Renumbers g input output)
     (has_output refusal_of (renumbered g) (IsRenumberedOutput g) (is_output g) (written_chunks refusal_of (renumbered g) (outputs_whole g)) input output)
 

@@ -18,7 +18,7 @@ use Rattle.jfr_chunk.specs.Parts.{Parts, EventAt, AreParts, events_of}
 use Rattle.jfr_chunk.specs.Laws.{AreEvents}
 use Rattle.jfr_worklist.specs.Members.{In}
 use Rattle.jfr_worklist.proofs.Members.{contains_in, in_contains}
-use Rattle.jfr_chunk.proofs.StandingLaws.{IsEvent, standing, event_is}
+use Rattle.jfr_chunk.proofs.HasNodesLaws.{IsEvent, has_nodes, event_is}
 use Rattle.jfr_renumber.specs.Rekeyed.{rekeyed, rekeyed_all, moved}
 use Rattle.jfr_renumber.specs.Renumber.{Used, new_key, firsts}
 use Rattle.jfr_renumber.specs.Meaning.{AreNewKeys, AreRenamed, RenamedMeaning}
@@ -66,23 +66,23 @@ module _ (p : Parts) (a : AreParts p) (kept : List EventAt) (are : AreEvents p k
   kept_nodes e i = let h = kept_event e i in (h.value, h.node)
 
   pub new_keys_are : AreNewKeys p kept (new_key p kept)
-  new_keys_are = new_keys p (standing p a) kept kept_nodes
+  new_keys_are = new_keys p (has_nodes p a) kept kept_nodes
 
   module _ (q : Parts) (b : AreParts q) (new : ℕ × ℕ → ℕ) where
     over_used : AgreeOnUsed p q kept → (t : ℕ × ℕ) → Used p kept t → (v : Value) → (shape_of v).class ≡ t.0 → Fits p.classes v → Fits q.classes v
     over_used agree t u v e f = fits_agree p.classes q.classes v (subst (Agree p.classes q.classes) (sym e) (agree t u)) f
 
-    pub event_paired : (e f : EventAt) → IsEvent p e → IsEvent q f → RenamedRecord new p q e f → PairedEvent p q (standing p a) (standing q b) new e f
+    pub event_paired : (e f : EventAt) → IsEvent p e → IsEvent q f → RenamedRecord new p q e f → PairedEvent p q (has_nodes p a) (has_nodes q b) new e f
     event_paired e f i j h =
         let shape : shape_of j.value ≡ shape_of i.value = sym j.node.shape ∙ (j.shape ∙ (ap inline (sym h.class) ∙ (sym i.shape ∙ i.node.shape))) in
         let g : Agree p.classes q.classes (shape_of i.value).class = subst (λ (z : Shape). Agree p.classes q.classes z.class) (sym i.shape ∙ i.node.shape) h.agree in
         let bytes : bytes_of j.value ≡ bytes_of (rekeyed new i.value) =
-        sym j.node.bytes ∙ (sym h.fields ∙ ap (λ o. option_map_or (λ v. bytes_of (rekeyed new v)) o []) (value_is p.classes p.bytes e.node i.value (standing p a).sound i.node)) in
+        sym j.node.bytes ∙ (sym h.fields ∙ ap (λ o. option_map_or (λ v. bytes_of (rekeyed new v)) o []) (value_is p.classes p.bytes e.node i.value (has_nodes p a).sound i.node)) in
         let same : j.value ≡ rekeyed new i.value =
-        fits_once q.classes j.value (rekeyed new i.value) (standing q b).sound j.node.fits (rekeyed_fits new q.classes i.value (fits_agree p.classes q.classes i.value g i.node.fits)) (shape ∙ sym (rekeyed_shape new i.value)) bytes in
+        fits_once q.classes j.value (rekeyed new i.value) (has_nodes q b).sound j.node.fits (rekeyed_fits new q.classes i.value (fits_agree p.classes q.classes i.value g i.node.fits)) (shape ∙ sym (rekeyed_shape new i.value)) bytes in
         record { class = h.class; rest = h.rest; fields = record { value = i.value; other = j.value; left = i.node; right = j.node; related = same } }
 
-    pub events_paired : (es fs : List EventAt) → ((e : EventAt) → In es e → IsEvent p e) → ((f : EventAt) → In fs f → IsEvent q f) → RenamedRecords new p q es fs → PairedEvents p q (standing p a) (standing q b) new es fs
+    pub events_paired : (es fs : List EventAt) → ((e : EventAt) → In es e → IsEvent p e) → ((f : EventAt) → In fs f → IsEvent q f) → RenamedRecords new p q es fs → PairedEvents p q (has_nodes p a) (has_nodes q b) new es fs
     events_paired [] [] i j h = tt
     events_paired [] (f ∷ fs) i j h = absurd h
     events_paired (e ∷ es) [] i j h = absurd h
@@ -90,10 +90,10 @@ module _ (p : Parts) (a : AreParts p) (kept : List EventAt) (are : AreEvents p k
 
     pub renamed_the_same : (others : List EventAt) → AreEvents q others → AreNewKeys p kept new → AgreeOnUsed p q kept → AreRenamed new p q (firsts p kept) q.entries → RenamedRecords new p q kept others → RenamedMeaning new p q kept others
     renamed_the_same others those keys agree entries records =
-        renamed_meaning p q (standing p a) (standing q b) new kept others
+        renamed_meaning p q (has_nodes p a) (has_nodes q b) new kept others
         (events_paired kept others kept_event (λ f i. event_is q b f (contains_in (events_of q) f (All-contains (Contains (events_of q)) others f those (in_contains others f i)))) records)
-        (entries_paired p q (standing p a) (standing q b) new kept kept_nodes keys entries (over_used agree))
+        (entries_paired p q (has_nodes p a) (has_nodes q b) new kept kept_nodes keys entries (over_used agree))
 
     -- What is used has an entry in force exactly if its new key has one.
     pub same_missing : AreNewKeys p kept new → AgreeOnUsed p q kept → AreRenamed new p q (firsts p kept) q.entries → (t : ℕ × ℕ) → Used p kept t → IsSome (in_force p.entries t) ↔ IsSome (in_force q.entries (moved new t))
-    same_missing keys agree entries t u = both_there _ (in_force p.entries t) (in_force q.entries (moved new t)) (entries_paired p q (standing p a) (standing q b) new kept kept_nodes keys entries (over_used agree) t u)
+    same_missing keys agree entries t u = both_there _ (in_force p.entries t) (in_force q.entries (moved new t)) (entries_paired p q (has_nodes p a) (has_nodes q b) new kept kept_nodes keys entries (over_used agree) t u)

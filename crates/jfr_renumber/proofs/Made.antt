@@ -234,8 +234,8 @@ module _ (k : Classes) (bytes : OutputRecord → ℕ → Option ℕ → List ℕ
       pub listed : In (map frame_of ws) (frame_by (shown w f) place (length (bytes (shown w f) place older)))
 
     module _ (c : List ℕ) (all : List Numbered) (whole : Framed → Bool) (new : Framed → Option (List ℕ)) (f : Framed) (f_is : IsRecord c f) (no_link : numbered_at all f.at ≡ None) (chosen : whole f ≡ true) where
-      abbrev Left : List Framed → List OutputRecord
-      Left rs = output_records_in all whole new rs
+      abbrev RecordsAfter : List Framed → List OutputRecord
+      RecordsAfter rs = output_records_in all whole new rs
 
       leads_here : (w : Option (List ℕ)) (rest : List Written) (at : ℕ) (older : Option ℕ) → moved (record { output_record = shown w f; at = at; older = older } ∷ rest) f.at ≡ at
       leads_here None rest at older = rw (is_eq f.at f.at refl) refl
@@ -258,12 +258,12 @@ module _ (k : Classes) (bytes : OutputRecord → ℕ → Option ℕ → List ℕ
       shown_is None false w e g = cc
       shown_is (Some l) t w e g = cc
 
-      pub found_made : (rs : List Framed) (at : ℕ) (older : Option ℕ) → AllByRecursion (IsRecord c) rs → In rs f → Holds b (length b) at (bytes_from at older (Left rs)) → Found f (new f) at (written_by bytes at older (Left rs))
+      pub found_made : (rs : List Framed) (at : ℕ) (older : Option ℕ) → AllByRecursion (IsRecord c) rs → In rs f → Holds b (length b) at (bytes_from at older (RecordsAfter rs)) → Found f (new f) at (written_by bytes at older (RecordsAfter rs))
       found_made [] at older a i h = absurd i
       found_made (r ∷ rs) at older a i h = by_place (r.at == f.at) refl i (λ at older i h. found_made rs at older a.1 i h) (output_record_in all whole new r) refl h
         where
           Later : Type 0
-          Later = (at : ℕ) (older : Option ℕ) → In rs f → Holds b (length b) at (bytes_from at older (Left rs)) → Found f (new f) at (written_by bytes at older (Left rs))
+          Later = (at : ℕ) (older : Option ℕ) → In rs f → Holds b (length b) at (bytes_from at older (RecordsAfter rs)) → Found f (new f) at (written_by bytes at older (RecordsAfter rs))
 
           same_test : (x y z : ℕ) → (x == y) ≡ false → z ≡ x → (z == y) ≡ false
           same_test x y z h g = rw g h
@@ -273,23 +273,23 @@ module _ (k : Classes) (bytes : OutputRecord → ℕ → Option ℕ → List ℕ
           behind t (inl e) = let u : (r.at == f.at) ≡ true = is_eq r.at f.at (ap (λ (z : Framed). z.at) e) in cc
 
           by_place : (t : Bool) → (r.at == f.at) ≡ t → In (r ∷ rs) f → Later → (o : Option OutputRecord) → output_record_in all whole new r ≡ o
-              → Holds b (length b) at (bytes_from at older (cons_option o (Left rs))) → Found f (new f) at (written_by bytes at older (cons_option o (Left rs)))
+              → Holds b (length b) at (bytes_from at older (cons_option o (RecordsAfter rs))) → Found f (new f) at (written_by bytes at older (cons_option o (RecordsAfter rs)))
           by_place true t i later o q h =
               let p : r.at ≡ f.at = grind (arith, nat_tests) in
               let rf : r ≡ f = record_one c r f a.0 f_is p in
               let w : output_record_in all whole new f ≡ Some (shown (new f) f) = shown_is (numbered_at all f.at) (whole f) (new f) no_link chosen in
               let e : o ≡ Some (shown (new f) f) = sym q ∙ (ap (output_record_in all whole new) rf ∙ w) in
-              subst (λ z. Found f (new f) at (written_by bytes at older (cons_option z (Left rs)))) (sym e) (found_here (new f) (Left rs) at older (subst (λ z. Holds b (length b) at (bytes_from at older (cons_option z (Left rs)))) e h))
+              subst (λ z. Found f (new f) at (written_by bytes at older (cons_option z (RecordsAfter rs)))) (sym e) (found_here (new f) (RecordsAfter rs) at older (subst (λ z. Holds b (length b) at (bytes_from at older (cons_option z (RecordsAfter rs)))) e h))
           by_place false t i later None q h = later at older (behind t i) h
           by_place false t i later (Some (Whole x)) q h =
               let n : ℕ = length (bytes (Whole x) at older) in
-              let p = holds_parts b (length b) at (bytes (Whole x) at older) (bytes_from (at + n) older (Left rs)) h in
-              found_later (new f) (Whole x) (written_by bytes (at + n) older (Left rs)) at n older (same_test r.at f.at x.at t (output_record_place all whole new r (Whole x) q)) (later (at + n) older (behind t i) p.1)
+              let p = holds_parts b (length b) at (bytes (Whole x) at older) (bytes_from (at + n) older (RecordsAfter rs)) h in
+              found_later (new f) (Whole x) (written_by bytes (at + n) older (RecordsAfter rs)) at n older (same_test r.at f.at x.at t (output_record_place all whole new r (Whole x) q)) (later (at + n) older (behind t i) p.1)
           by_place false t i later (Some (Rebuilt x y)) q h =
               let n : ℕ = length (bytes (Rebuilt x y) at older) in
-              let p = holds_parts b (length b) at (bytes (Rebuilt x y) at older) (bytes_from (at + n) older (Left rs)) h in
-              found_later (new f) (Rebuilt x y) (written_by bytes (at + n) older (Left rs)) at n older (same_test r.at f.at x.at t (output_record_place all whole new r (Rebuilt x y) q)) (later (at + n) older (behind t i) p.1)
+              let p = holds_parts b (length b) at (bytes (Rebuilt x y) at older) (bytes_from (at + n) older (RecordsAfter rs)) h in
+              found_later (new f) (Rebuilt x y) (written_by bytes (at + n) older (RecordsAfter rs)) at n older (same_test r.at f.at x.at t (output_record_place all whole new r (Rebuilt x y) q)) (later (at + n) older (behind t i) p.1)
           by_place false t i later (Some (Chained j l)) q h =
               let n : ℕ = length (bytes (Chained j l) at older) in
-              let p = holds_parts b (length b) at (bytes (Chained j l) at older) (bytes_from (at + n) (Some at) (Left rs)) h in
-              found_later (new f) (Chained j l) (written_by bytes (at + n) (Some at) (Left rs)) at n older (same_test r.at f.at l.frame.at t (output_record_place all whole new r (Chained j l) q)) (later (at + n) (Some at) (behind t i) p.1)
+              let p = holds_parts b (length b) at (bytes (Chained j l) at older) (bytes_from (at + n) (Some at) (RecordsAfter rs)) h in
+              found_later (new f) (Chained j l) (written_by bytes (at + n) (Some at) (RecordsAfter rs)) at n older (same_test r.at f.at l.frame.at t (output_record_place all whole new r (Chained j l) q)) (later (at + n) (Some at) (behind t i) p.1)

@@ -50,8 +50,8 @@ module _ (p : Parts) (a : AreParts p) (flags : List Bool) (n : Anew p a (kept_by
   abbrev anew : Framed → Option (List ℕ)
   anew = written_anew p these
 
-  abbrev Left : List Framed → List OutputRecord
-  Left rs = output_records_in (all_links p) whole anew rs
+  abbrev RecordsAfter : List Framed → List OutputRecord
+  RecordsAfter rs = output_records_in (all_links p) whole anew rs
 
   abbrev from : ℕ → Option ℕ → List OutputRecord → List ℕ
   from = bytes_from classes written_bytes (pools p a flags n new most fm agree)
@@ -87,13 +87,13 @@ module _ (p : Parts) (a : AreParts p) (flags : List Bool) (n : Anew p a (kept_by
             held = subst (λ o. Holds b (length b) at (whole_bytes new p r o)) q h;
           }
 
-  pub events_each : (rs : List Framed) (at : ℕ) (older : Option ℕ) → AllByRecursion (IsQuiet p a classes) rs → AllByRecursion (IsRecord p.bytes) rs → Holds b (length b) at (from at older (Left rs))
-      → Each NewEvent (filter (λ r. is_event r && is_kept these r) rs) (filter is_event (frames (written_by written_bytes at older (Left rs))))
+  pub events_each : (rs : List Framed) (at : ℕ) (older : Option ℕ) → AllByRecursion (IsQuiet p a classes) rs → AllByRecursion (IsRecord p.bytes) rs → Holds b (length b) at (from at older (RecordsAfter rs))
+      → Each NewEvent (filter (λ r. is_event r && is_kept these r) rs) (filter is_event (frames (written_by written_bytes at older (RecordsAfter rs))))
   events_each [] at older y s h = tt
   events_each (r ∷ rs) at older y s h = by_find (numbered_at (all_links p) r.at) refl (is_event_class classes r.type_id) refl (is_kept these r) refl (r.at == metadata_at p.bytes) refl (anew r) refl (λ at older h. events_each rs at older y.1 s.1 h) h
     where
       rest : List OutputRecord
-      rest = Left rs
+      rest = RecordsAfter rs
 
       wanted : List Framed
       wanted = filter (λ r. is_event r && is_kept these r) rs

@@ -9,7 +9,7 @@ use Rattle.jfr_base.specs.Integer.{spell}
 use Rattle.jfr_base.proofs.Copies.{int_some}
 use Rattle.jfr_base.proofs.Spelling.{spell_most}
 use Rattle.jfr_base.proofs.AlikeLaws.{Each}
-use Rattle.jfr_base.proofs.HoldLaws.{Holds, holds_parts, holds_behind, placed_each}
+use Rattle.jfr_base.proofs.HoldLaws.{Holds, holds_parts, holds_after, placed_each}
 use Rattle.jfr_layout.specs.Classes.{Agree, Classes, Sound, is_event_class}
 use Rattle.jfr_frame.specs.declared.framed.Framed.{Framed}
 use Rattle.jfr_frame.specs.Records.{IsRecord}
@@ -28,12 +28,12 @@ use Rattle.jfr_chunk.specs.Written.{Group, distance}
 use Rattle.jfr_chunk.specs.Scrub.{OutputRecord, Whole, Chained, Rebuilt, groups_of, output_records_whole, output_records, output_record_by, written_anew}
 use Rattle.jfr_worklist.specs.Members.{In}
 use Rattle.jfr_chunk.proofs.AllLaws.{all_in, filter_all}
-use Rattle.jfr_chunk.proofs.StandingLaws.{IsEvent, standing}
-use Rattle.jfr_laws.specs.InChunk.{LinkStands}
+use Rattle.jfr_chunk.proofs.HasNodesLaws.{IsEvent, has_nodes}
+use Rattle.jfr_laws.specs.InChunk.{IsLinkIn}
 use Rattle.jfr_laws.proofs.ReadBack.{moved_frame, pools_place}
 use Rattle.jfr_laws.proofs.Copied.{record_copied, record_length}
 use Rattle.jfr_laws.proofs.Order.{Numbered, numbered_at, output_records_in, chained_of}
-use Rattle.jfr_laws.proofs.OutputRecords.{Deltas, OutputRecordStands}
+use Rattle.jfr_laws.proofs.OutputRecords.{Deltas, IsOutputRecordIn}
 use Rattle.jfr_laws.proofs.Suits.{records_too}
 use Rattle.jfr_laws.proofs.Anew.{anew_stands}
 use Rattle.jfr_laws.proofs.Anews.{Anew}
@@ -90,55 +90,55 @@ module _ (p : Parts) (a : AreParts p) (flags : List Bool) (n : Anew p a (kept_by
   abbrev pub kept : List EventAt
   kept = kept_by p flags
 
-  abbrev pub left : List EntryAt
-  left = marked fm p.entries
+  abbrev pub remaining : List EntryAt
+  remaining = marked fm p.entries
 
   abbrev sound : Sound p.classes
-  sound = (standing p a).sound
+  sound = (has_nodes p a).sound
 
   -- The classes of the output.
   abbrev pub m : Classes
   m = n.classes
 
   abbrev pub bytes : OutputRecord → ℕ → Option ℕ → List ℕ
-  bytes = new_bytes new p kept left
+  bytes = new_bytes new p kept remaining
 
   abbrev spelled_groups : ℕ → List SpelledPool
-  spelled_groups i = map (spelled_pool p sound new most) (groups_of left i)
+  spelled_groups i = map (spelled_pool p sound new most) (groups_of remaining i)
 
   abbrev pub pools : ℕ → Option ℕ → ℕ → Link → List PoolAt
   pools at older i l = placed_each bytes_of_pool placed_pool (pools_place at l (distance at older) (length (spelled_groups i))) (spelled_groups i)
 
   -- A checkpoint.
-  delta_room : (l : Link) → LinkStands p.bytes l → (at : ℕ) (older : Option ℕ) → (is_some older ≡ true → l.delta_end ≡ l.delta_at + 9) → l.delta_at + length (spell (distance at older)) ≤ l.delta_end
+  delta_room : (l : Link) → IsLinkIn p.bytes l → (at : ℕ) (older : Option ℕ) → (is_some older ≡ true → l.delta_end ≡ l.delta_at + 9) → l.delta_at + length (spell (distance at older)) ≤ l.delta_end
   unfolding spell
   delta_room l s at None d = let i : l.delta_at < l.delta_end = int_some p.bytes l.delta_at l.delta_end s.word s.delta_spelled in omega arith
   delta_room l s at (Some o) d = let e : l.delta_end ≡ l.delta_at + 9 = d refl in let i = spell_most (distance at (Some o)) in omega arith
 
-  has_room : (i : ℕ) (l : Link) → OutputRecordStands p.bytes left p.classes (Chained i l) → (at : ℕ) (older : Option ℕ) → (is_some older ≡ true → l.delta_end ≡ l.delta_at + 9) → HasRoom p.bytes l (distance at older) (spelled_groups i)
+  has_room : (i : ℕ) (l : Link) → IsOutputRecordIn p.bytes remaining p.classes (Chained i l) → (at : ℕ) (older : Option ℕ) → (is_some older ≡ true → l.delta_end ≡ l.delta_at + 9) → HasRoom p.bytes l (distance at older) (spelled_groups i)
   has_room i l s at older d =
-      let n : length (spell (length (spelled_groups i))) ≡ length (spell (length (groups_of left i))) = ap (λ m. length (spell m)) (length-map (groups_of left i) (spelled_pool p sound new most)) in
-      let g = groups_short p sound new most (groups_of left i) s.1 in
+      let n : length (spell (length (spelled_groups i))) ≡ length (spell (length (groups_of remaining i))) = ap (λ m. length (spell m)) (length-map (groups_of remaining i) (spelled_pool p sound new most)) in
+      let g = groups_short p sound new most (groups_of remaining i) s.1 in
       record { delta_room = delta_room l s.0 at older d; pool_room = omega (arith, s.2) }
 
-  chained_is : (i : ℕ) (l : Link) → OutputRecordStands p.bytes left p.classes (Chained i l) → (at : ℕ) (older : Option ℕ) → bytes (Chained i l) at older ≡ whole_of p.bytes l (distance at older) (spelled_groups i)
-  chained_is i l s at older = tail_spelled p sound new most l (distance at older) (groups_of left i) s.1
+  chained_is : (i : ℕ) (l : Link) → IsOutputRecordIn p.bytes remaining p.classes (Chained i l) → (at : ℕ) (older : Option ℕ) → bytes (Chained i l) at older ≡ whole_of p.bytes l (distance at older) (spelled_groups i)
+  chained_is i l s at older = tail_spelled p sound new most l (distance at older) (groups_of remaining i) s.1
 
   -- The entries of its pools are of classes on which both lists agree.
-  groups_agree : (i : ℕ) → AllByRecursion (λ e. Agree p.classes m e.class) (flat_map (λ g. g.entries) (groups_of left i))
+  groups_agree : (i : ℕ) → AllByRecursion (λ e. Agree p.classes m e.class) (flat_map (λ g. g.entries) (groups_of remaining i))
   groups_agree i =
-      let these : List EntryAt = filter (λ e. e.checkpoint == i) left in
-      subst (AllByRecursion (λ e. Agree p.classes m e.class)) (sym (groups_hold these)) (filter_all (λ e. Agree p.classes m e.class) (λ e. e.checkpoint == i) left agree)
+      let these : List EntryAt = filter (λ e. e.checkpoint == i) remaining in
+      subst (AllByRecursion (λ e. Agree p.classes m e.class)) (sym (groups_hold these)) (filter_all (λ e. Agree p.classes m e.class) (λ e. e.checkpoint == i) remaining agree)
 
   -- It can be written under either list.
   record Can (o : OutputRecord) : Type 0 where
-    before : OutputRecordStands p.bytes left p.classes o
-    after : OutputRecordStands p.bytes left m o
+    before : IsOutputRecordIn p.bytes remaining p.classes o
+    after : IsOutputRecordIn p.bytes remaining m o
 
   chained_stood : (b : List ℕ) (i : ℕ) (l : Link) → Can (Chained i l) → (at : ℕ) (older : Option ℕ) → (is_some older ≡ true → l.delta_end ≡ l.delta_at + 9) → Holds b (length b) at (bytes (Chained i l) at older)
       → Stood p.bytes l (distance at older) (spelled_groups i) m b at
   chained_stood b i l s at older d h =
-      stood p.bytes l (distance at older) (spelled_groups i) m b at s.before.0 (pools_under p sound new most m (groups_of left i) s.before.1 s.after.1 (groups_agree i)) (has_room i l s.before at older d) (subst (Holds b (length b) at) (chained_is i l s.before at older) h)
+      stood p.bytes l (distance at older) (spelled_groups i) m b at s.before.0 (pools_under p sound new most m (groups_of remaining i) s.before.1 s.after.1 (groups_agree i)) (has_room i l s.before at older d) (subst (Holds b (length b) at) (chained_is i l s.before at older) h)
 
   chained_stands : (b : List ℕ) (i : ℕ) (l : Link) → Can (Chained i l) → (at : ℕ) (older : Option ℕ) → (is_some older ≡ true → l.delta_end ≡ l.delta_at + 9) → Holds b (length b) at (bytes (Chained i l) at older)
       → ChainedStands m bytes pools b i l at older
@@ -157,7 +157,7 @@ module _ (p : Parts) (a : AreParts p) (flags : List Bool) (n : Anew p a (kept_by
   chained_short : (i : ℕ) (l : Link) → Can (Chained i l) → (at : ℕ) (older : Option ℕ) → (is_some older ≡ true → l.delta_end ≡ l.delta_at + 9) → length (bytes (Chained i l) at older) ≤ l.frame.size
   chained_short i l s at older d =
       let x : List ℕ = whole_of p.bytes l (distance at older) (spelled_groups i) in
-      let st = stood p.bytes l (distance at older) (spelled_groups i) m x 0 s.before.0 (pools_under p sound new most m (groups_of left i) s.before.1 s.after.1 (groups_agree i)) (has_room i l s.before at older d) (holds_behind [] x) in
+      let st = stood p.bytes l (distance at older) (spelled_groups i) m x 0 s.before.0 (pools_under p sound new most m (groups_of remaining i) s.before.1 s.after.1 (groups_agree i)) (has_room i l s.before at older d) (holds_after [] x) in
       subst (λ z. length z ≤ l.frame.size) (sym (chained_is i l s.before at older)) st.short
 
   -- An event, or the metadata record.
@@ -189,7 +189,7 @@ module _ (p : Parts) (a : AreParts p) (flags : List Bool) (n : Anew p a (kept_by
 
   -- It is a record, and has its fields if it is an event.
   record WholeStands (b : List ℕ) (r : Framed) (at : ℕ) (size : ℕ) : Type 0 where
-    stands : IsRecord b (moved_frame at r size)
+    holds : IsRecord b (moved_frame at r size)
     fields : is_event_class m r.type_id ≡ true → HasFields b m (moved_frame at r size)
 
   -- What is read under the chunk's classes is read so under the output's.
@@ -201,17 +201,17 @@ module _ (p : Parts) (a : AreParts p) (flags : List Bool) (n : Anew p a (kept_by
       let f = found_event r e s q in
       let st = event_stands b e f.0 at h in
       let size : ℕ = length (event_bytes new p e) in
-      subst (λ z. WholeStands b z at size) f.1 (record { stands = st.record_stands; fields = λ t. (_, _, read_under e.record_of.type_id b _ _ _ _ t st.fields) })
+      subst (λ z. WholeStands b z at size) f.1 (record { holds = st.record_stands; fields = λ t. (_, _, read_under e.record_of.type_id b _ _ _ _ t st.fields) })
   whole_by b r s w at None q h =
       let f : r ≡ a.metadata_record = found_metadata r s w q in
       let no_event : is_event_class m r.type_id ≡ false = ap (λ (z : Framed). is_event_class m z.type_id) f ∙ (ap (is_event_class m) a.metadata_there.type_is ∙ no_metadata_event m) in
-      record { stands = record_copied p.bytes b r at s h; fields = λ t. absurd (clash (is_event_class m r.type_id) t no_event) }
+      record { holds = record_copied p.bytes b r at s h; fields = λ t. absurd (clash (is_event_class m r.type_id) t no_event) }
 
   whole_short : (r : Framed) → IsRecord p.bytes r → (o : Option EventAt) → find (test r) kept ≡ o → length (whole_bytes new p r o) ≤ r.size
   whole_short r s (Some e) q =
       let f = found_event r e s q in
       let x : List ℕ = event_bytes new p e in
-      let st = event_stands x e f.0 0 (holds_behind [] x) in
+      let st = event_stands x e f.0 0 (holds_after [] x) in
       subst (λ (z : Framed). length x ≤ z.size) f.1 st.short
   whole_short r s None q = let l = record_length p.bytes r s in omega arith
 
@@ -219,7 +219,7 @@ module _ (p : Parts) (a : AreParts p) (flags : List Bool) (n : Anew p a (kept_by
   abbrev pub ss : List OutputRecord
   ss = output_records p kept
 
-  is_ready : Ready p left ss
+  is_ready : Ready p remaining ss
   is_ready = ready p a (output_records_whole p kept) (written_anew p kept) (good_anew p a kept) fm
 
   pub order : chained_of ss ≡ all_links p
@@ -231,16 +231,16 @@ module _ (p : Parts) (a : AreParts p) (flags : List Bool) (n : Anew p a (kept_by
   abbrev OnEach : OutputRecord → Type 0
   OnEach = OnChosen (IsRecord p.bytes) (output_records_whole p kept)
 
-  can_each : (xs : List OutputRecord) → AllByRecursion (OutputRecordStands p.bytes left p.classes) xs → AllByRecursion (OutputRecordStands p.bytes left m) xs → AllByRecursion Can xs
+  can_each : (xs : List OutputRecord) → AllByRecursion (IsOutputRecordIn p.bytes remaining p.classes) xs → AllByRecursion (IsOutputRecordIn p.bytes remaining m) xs → AllByRecursion Can xs
   can_each [] s t = tt
   can_each (x ∷ xs) s t = (record { before = s.0; after = t.0 }, can_each xs s.1 t.1)
 
   can_all : AllByRecursion Can ss
-  can_all = can_each ss is_ready.stand (records_too p.bytes p.classes m left agree ss is_ready.stand)
+  can_all = can_each ss is_ready.valid (records_too p.bytes p.classes m remaining agree ss is_ready.valid)
 
   each_stands : (b : List ℕ) (xs : List OutputRecord) → AllByRecursion Can xs → AllByRecursion OnEach xs → AllByRecursion (Stands m bytes pools b) xs
   each_stands b [] s w = tt
-  each_stands b (Whole r ∷ xs) s w = ((λ at older h. (whole_by b r w.0.0 w.0.1 at (find (test r) kept) refl h).stands), each_stands b xs s.1 w.1)
+  each_stands b (Whole r ∷ xs) s w = ((λ at older h. (whole_by b r w.0.0 w.0.1 at (find (test r) kept) refl h).holds), each_stands b xs s.1 w.1)
   each_stands b (Rebuilt r x ∷ xs) s w = ((λ at older h. anew_stands x b at s.0.before.1 h), each_stands b xs s.1 w.1)
   each_stands b (Chained i l ∷ xs) s w = ((s.0.before.0.is_checkpoint, λ at older d h. chained_stands b i l s.0 at older d h), each_stands b xs s.1 w.1)
 
@@ -290,7 +290,7 @@ module _ (p : Parts) (a : AreParts p) (flags : List Bool) (n : Anew p a (kept_by
       heads x y xs ys e = cc
 
   entries_each : (b : List ℕ) (xs : List OutputRecord) (ls : List Link) (j at : ℕ) (older : Option ℕ) → AllByRecursion Can xs → Deltas (is_some older) xs → Holds b (length b) at (bytes_from m bytes pools at older xs)
-      → chained_of xs ≡ enumerate_from j ls → Each (Renamed p sound new most b) (entries_by_number left (chained_of xs)) (entries_at m bytes pools j at older xs)
+      → chained_of xs ≡ enumerate_from j ls → Each (Renamed p sound new most b) (entries_by_number remaining (chained_of xs)) (entries_at m bytes pools j at older xs)
   entries_each b [] ls j at older s d h o = tt
   entries_each b (Whole r ∷ xs) ls j at older s d h o =
       let k : ℕ = length (bytes (Whole r) at older) in
@@ -309,12 +309,12 @@ module _ (p : Parts) (a : AreParts p) (flags : List Bool) (n : Anew p a (kept_by
       let q = holds_parts b (length b) at (bytes (Chained i l) at older) (bytes_from m bytes pools (at + k) (Some at) xs) h in
       let st = chained_stood b i l s.0 at older d.0 q.0 in
       let f = first_equal i j l x (chained_of xs) (enumerate_from (j + 1) ls) o in
-      let gs : List Group = groups_of left i in
-      let these : List EntryAt = filter (λ e. e.checkpoint == i) left in
-      let nums : AllByRecursion (λ e. e.checkpoint ≡ j) (flat_map (λ g. g.entries) gs) = subst (AllByRecursion (λ e. e.checkpoint ≡ j)) (sym (groups_hold these)) (subst (λ z. AllByRecursion (λ e. e.checkpoint ≡ z) these) f.0 (have_number i left)) in
+      let gs : List Group = groups_of remaining i in
+      let these : List EntryAt = filter (λ e. e.checkpoint == i) remaining in
+      let nums : AllByRecursion (λ e. e.checkpoint ≡ j) (flat_map (λ g. g.entries) gs) = subst (AllByRecursion (λ e. e.checkpoint ≡ j)) (sym (groups_hold these)) (subst (λ z. AllByRecursion (λ e. e.checkpoint ≡ z) these) f.0 (have_number i remaining)) in
       let g = groups_renamed p sound new most b (at + length (whole_of p.bytes l (distance at older) (spelled_groups i))) j gs 0 (pools_place at l (distance at older) (length (spelled_groups i))) s.0.before.1 nums st.pools_held in
-      each_append (Renamed p sound new most b) these (entries_from j 0 (pools at older i l)) (entries_by_number left (chained_of xs)) (entries_at m bytes pools (j + 1) (at + k) (Some at) xs)
+      each_append (Renamed p sound new most b) these (entries_from j 0 (pools at older i l)) (entries_by_number remaining (chained_of xs)) (entries_at m bytes pools (j + 1) (at + k) (Some at) xs)
       (subst (λ z. Each (Renamed p sound new most b) z (entries_from j 0 (pools at older i l))) (groups_hold these) g) (entries_each b xs ls (j + 1) (at + k) (Some at) s.1 d.1 q.1 f.1)
 
-  pub all_entries : (b : List ℕ) (ls : List Link) → Holds b (length b) 68 (bytes_from m bytes pools 68 None ss) → chained_of ss ≡ enumerate_from 0 ls → Each (Renamed p sound new most b) (entries_by_number left (chained_of ss)) (entries_at m bytes pools 0 68 None ss)
+  pub all_entries : (b : List ℕ) (ls : List Link) → Holds b (length b) 68 (bytes_from m bytes pools 68 None ss) → chained_of ss ≡ enumerate_from 0 ls → Each (Renamed p sound new most b) (entries_by_number remaining (chained_of ss)) (entries_at m bytes pools 0 68 None ss)
   all_entries b ls h o = entries_each b ss ls 0 68 None can_all deltas h o

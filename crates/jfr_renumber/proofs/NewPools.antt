@@ -25,7 +25,7 @@ use Rattle.jfr_chunk.specs.Parts.{Parts}
 use Rattle.jfr_chunk.specs.Written.{Group}
 use Rattle.jfr_chunk.specs.Written as old
 use Rattle.jfr_laws.proofs.Values.{exact_reads, value_in, value_there}
-use Rattle.jfr_laws.specs.InChunk.{EntryStands, GroupStands}
+use Rattle.jfr_laws.specs.InChunk.{IsEntryIn, IsGroupIn}
 use Rattle.jfr_laws.proofs.Entries.{each_append}
 use Rattle.jfr_renumber.specs.Rekeyed.{rekeyed, rekeyed_bytes}
 use Rattle.jfr_renumber.specs.Renumber.{pair_of, entry_bytes, group_bytes, checkpoint_tail}
@@ -53,25 +53,25 @@ module _ (p : Parts) (sound : Sound p.classes) (new : ℕ × ℕ → ℕ) (most 
   spelled_pool g = record { class = g.class; entries = map spelled g.entries }
 
   -- An entry is a node.
-  entry_is : (e : EntryAt) → (s : EntryStands p.bytes p.classes e) → IsNode p.classes p.bytes (entry_node e) s.value
+  entry_is : (e : EntryAt) → (s : IsEntryIn p.bytes p.classes e) → IsNode p.classes p.bytes (entry_node e) s.value
   entry_is e s =
       let o : e.value_at ≤ e.end = s.order in
       let w : e.end ≤ length p.bytes = s.within in
       let r : Reads (value_format p.classes (inline e.class)) p.bytes e.end e.value_at s.value e.end = exact_reads (value_format p.classes (inline e.class)) p.bytes e.end e.value_at e.end (slice_range p.bytes e.value_at e.end) s.value s.exact (record { order = o; within = w; bytes = refl }) (omega arith) w in
       (read_node p.classes (inline e.class) p.bytes e.end e.value_at e.end s.value w o r).0
 
-  value_here : (e : EntryAt) → (s : EntryStands p.bytes p.classes e) → value_in p.bytes p.classes e ≡ s.value
+  value_here : (e : EntryAt) → (s : IsEntryIn p.bytes p.classes e) → value_in p.bytes p.classes e ≡ s.value
   value_here e s = value_there p.bytes p.classes e s.value s.order s.within s.exact
 
   -- Its new bytes are those of the spelled entry.
-  rekeyed_here : (e : EntryAt) → EntryStands p.bytes p.classes e → rekeyed_bytes new p.classes p.bytes (entry_node e) ≡ bytes_of (rekeyed new (value_in p.bytes p.classes e))
+  rekeyed_here : (e : EntryAt) → IsEntryIn p.bytes p.classes e → rekeyed_bytes new p.classes p.bytes (entry_node e) ≡ bytes_of (rekeyed new (value_in p.bytes p.classes e))
   rekeyed_here e s =
       ap (λ o. option_map_or (λ v. bytes_of (rekeyed new v)) o []) (value_is p.classes p.bytes (entry_node e) s.value sound (entry_is e s)) ∙ ap (λ v. bytes_of (rekeyed new v)) (sym (value_here e s))
 
-  pub entry_spelled : (e : EntryAt) → EntryStands p.bytes p.classes e → entry_bytes new p e ≡ bytes_of_entry (spelled e)
+  pub entry_spelled : (e : EntryAt) → IsEntryIn p.bytes p.classes e → entry_bytes new p e ≡ bytes_of_entry (spelled e)
   entry_spelled e s = ap (λ z. spell (new (pair_of e)) ++ z) (rekeyed_here e s)
 
-  pub is_spelled : (e : EntryAt) → EntryStands p.bytes p.classes e → IsSpelled p.classes (spelled e)
+  pub is_spelled : (e : EntryAt) → IsEntryIn p.bytes p.classes e → IsSpelled p.classes (spelled e)
   is_spelled e s =
       let i = entry_is e s in
       let v : Value = value_in p.bytes p.classes e in
@@ -85,7 +85,7 @@ module _ (p : Parts) (sound : Sound p.classes) (new : ℕ × ℕ → ℕ) (most 
       }
 
   -- And no longer than the old ones.
-  pub entry_short : (e : EntryAt) → EntryStands p.bytes p.classes e → length (bytes_of_entry (spelled e)) ≤ length (old.entry_bytes p.bytes e)
+  pub entry_short : (e : EntryAt) → IsEntryIn p.bytes p.classes e → length (bytes_of_entry (spelled e)) ≤ length (old.entry_bytes p.bytes e)
   entry_short e s =
       let i = entry_is e s in
       let v : Value = value_in p.bytes p.classes e in
@@ -101,11 +101,11 @@ module _ (p : Parts) (sound : Sound p.classes) (new : ℕ × ℕ → ℕ) (most 
       let w : e.value_at ≤ e.end = s.order in
       omega arith
 
-  entries_spelled : (es : List EntryAt) (class : ℕ) → AllByRecursion (λ e. EntryStands p.bytes p.classes e × (e.class ≡ class)) es → flat_map (entry_bytes new p) es ≡ flat_map bytes_of_entry (map spelled es)
+  entries_spelled : (es : List EntryAt) (class : ℕ) → AllByRecursion (λ e. IsEntryIn p.bytes p.classes e × (e.class ≡ class)) es → flat_map (entry_bytes new p) es ≡ flat_map bytes_of_entry (map spelled es)
   entries_spelled [] class a = refl
   entries_spelled (e ∷ es) class a = ap (λ z. z ++ flat_map (entry_bytes new p) es) (entry_spelled e a.0.0) ∙ ap (λ z. bytes_of_entry (spelled e) ++ z) (entries_spelled es class a.1)
 
-  entries_short : (es : List EntryAt) (class : ℕ) → AllByRecursion (λ e. EntryStands p.bytes p.classes e × (e.class ≡ class)) es → length (flat_map bytes_of_entry (map spelled es)) ≤ length (flat_map (old.entry_bytes p.bytes) es)
+  entries_short : (es : List EntryAt) (class : ℕ) → AllByRecursion (λ e. IsEntryIn p.bytes p.classes e × (e.class ≡ class)) es → length (flat_map bytes_of_entry (map spelled es)) ≤ length (flat_map (old.entry_bytes p.bytes) es)
   entries_short [] class a = omega arith
   entries_short (e ∷ es) class a =
       let x = entry_short e a.0.0 in
@@ -113,12 +113,12 @@ module _ (p : Parts) (sound : Sound p.classes) (new : ℕ × ℕ → ℕ) (most 
       omega (arith, length-append (bytes_of_entry (spelled e)) (flat_map bytes_of_entry (map spelled es)), length-append (old.entry_bytes p.bytes e) (flat_map (old.entry_bytes p.bytes) es))
 
   -- A pool.
-  group_spelled : (g : Group) → GroupStands p.bytes p.classes g → group_bytes new p g ≡ bytes_of_pool (spelled_pool g)
+  group_spelled : (g : Group) → IsGroupIn p.bytes p.classes g → group_bytes new p g ≡ bytes_of_pool (spelled_pool g)
   group_spelled g s =
       ap (λ z. spell g.class ++ (spell (length g.entries) ++ z)) (entries_spelled g.entries g.class s.1)
       ∙ ap (λ n. spell g.class ++ (spell n ++ flat_map bytes_of_entry (map spelled g.entries))) (sym (length-map g.entries spelled))
 
-  group_short : (g : Group) → GroupStands p.bytes p.classes g → length (bytes_of_pool (spelled_pool g)) ≤ length (old.group_bytes p.bytes g)
+  group_short : (g : Group) → IsGroupIn p.bytes p.classes g → length (bytes_of_pool (spelled_pool g)) ≤ length (old.group_bytes p.bytes g)
   group_short g s =
       let n : length (spell (length (map spelled g.entries))) ≡ length (spell (length g.entries)) = ap (λ m. length (spell m)) (length-map g.entries spelled) in
       let x = entries_short g.entries g.class s.1 in
@@ -130,7 +130,7 @@ module _ (p : Parts) (sound : Sound p.classes) (new : ℕ × ℕ → ℕ) (most 
       let d = length-append (spell (length g.entries)) old_items in
       omega arith
 
-  pub groups_spelled : (gs : List Group) → AllByRecursion (GroupStands p.bytes p.classes) gs → flat_map (group_bytes new p) gs ≡ flat_map bytes_of_pool (map spelled_pool gs)
+  pub groups_spelled : (gs : List Group) → AllByRecursion (IsGroupIn p.bytes p.classes) gs → flat_map (group_bytes new p) gs ≡ flat_map bytes_of_pool (map spelled_pool gs)
   groups_spelled [] a = refl
   groups_spelled (g ∷ gs) a = ap (λ z. z ++ flat_map (group_bytes new p) gs) (group_spelled g a.0) ∙ ap (λ z. bytes_of_pool (spelled_pool g) ++ z) (groups_spelled gs a.1)
 
@@ -139,7 +139,7 @@ module _ (p : Parts) (sound : Sound p.classes) (new : ℕ × ℕ → ℕ) (most 
     abbrev pub AgreeEach : List EntryAt → Type 0
     AgreeEach es = AllByRecursion (λ e. Agree p.classes m e.class) es
 
-    spelled_under : (e : EntryAt) → EntryStands p.bytes p.classes e → EntryStands p.bytes m e → Agree p.classes m e.class → IsSpelled m (spelled e)
+    spelled_under : (e : EntryAt) → IsEntryIn p.bytes p.classes e → IsEntryIn p.bytes m e → Agree p.classes m e.class → IsSpelled m (spelled e)
     spelled_under e s t g =
         let i = is_spelled e s in
         record {
@@ -148,18 +148,18 @@ module _ (p : Parts) (sound : Sound p.classes) (new : ℕ × ℕ → ℕ) (most 
           value = subst (λ (f : Format Value). Exactly f (bytes_of (spelled e).value) (spelled e).value) (value_agree p.classes m (inline e.class) g) i.value;
         }
 
-    each_under : (es : List EntryAt) (class : ℕ) → AllByRecursion (λ e. EntryStands p.bytes p.classes e × (e.class ≡ class)) es → AllByRecursion (λ e. EntryStands p.bytes m e × (e.class ≡ class)) es → AgreeEach es
+    each_under : (es : List EntryAt) (class : ℕ) → AllByRecursion (λ e. IsEntryIn p.bytes p.classes e × (e.class ≡ class)) es → AllByRecursion (λ e. IsEntryIn p.bytes m e × (e.class ≡ class)) es → AgreeEach es
         → AllByRecursion (λ e. IsSpelled m e × (e.class ≡ class)) (map spelled es)
     each_under [] class a b g = tt
     each_under (e ∷ es) class a b g = ((spelled_under e a.0.0 b.0.0 g.0, a.0.1), each_under es class a.1 b.1 g.1)
 
-    pub pools_under : (gs : List Group) → AllByRecursion (GroupStands p.bytes p.classes) gs → AllByRecursion (GroupStands p.bytes m) gs → AgreeEach (flat_map (λ g. g.entries) gs) → AllByRecursion (IsSpelledPool m) (map spelled_pool gs)
+    pub pools_under : (gs : List Group) → AllByRecursion (IsGroupIn p.bytes p.classes) gs → AllByRecursion (IsGroupIn p.bytes m) gs → AgreeEach (flat_map (λ g. g.entries) gs) → AllByRecursion (IsSpelledPool m) (map spelled_pool gs)
     pools_under [] a b g = tt
     pools_under (x ∷ gs) a b g =
         let h = all_parts (λ e. Agree p.classes m e.class) x.entries (flat_map (λ g. g.entries) gs) g in
         ((b.0.0, each_under x.entries x.class a.0.1 b.0.1 h.0), pools_under gs a.1 b.1 h.1)
 
-  pub groups_short : (gs : List Group) → AllByRecursion (GroupStands p.bytes p.classes) gs → length (flat_map bytes_of_pool (map spelled_pool gs)) ≤ length (flat_map (old.group_bytes p.bytes) gs)
+  pub groups_short : (gs : List Group) → AllByRecursion (IsGroupIn p.bytes p.classes) gs → length (flat_map bytes_of_pool (map spelled_pool gs)) ≤ length (flat_map (old.group_bytes p.bytes) gs)
   groups_short [] a = omega arith
   groups_short (g ∷ gs) a =
       let x = group_short g a.0 in
@@ -167,7 +167,7 @@ module _ (p : Parts) (sound : Sound p.classes) (new : ℕ × ℕ → ℕ) (most 
       omega (arith, length-append (bytes_of_pool (spelled_pool g)) (flat_map bytes_of_pool (map spelled_pool gs)), length-append (old.group_bytes p.bytes g) (flat_map (old.group_bytes p.bytes) gs))
 
   -- A checkpoint after its size.
-  pub tail_spelled : (l : Link) (delta : ℕ) (gs : List Group) → AllByRecursion (GroupStands p.bytes p.classes) gs → old.sized (l.frame.type_at - l.frame.at) (checkpoint_tail new p l delta gs) ≡ whole_of p.bytes l delta (map spelled_pool gs)
+  pub tail_spelled : (l : Link) (delta : ℕ) (gs : List Group) → AllByRecursion (IsGroupIn p.bytes p.classes) gs → old.sized (l.frame.type_at - l.frame.at) (checkpoint_tail new p l delta gs) ≡ whole_of p.bytes l delta (map spelled_pool gs)
   tail_spelled l delta gs a =
       let tail : ℕ → List ℕ → List ℕ = λ n items. slice_range p.bytes l.frame.type_at l.frame.body ++ (slice_range p.bytes l.frame.body l.delta_at ++ (spell delta ++ (slice_range p.bytes l.delta_end (l.delta_end + 1) ++ (spell n ++ items)))) in
       ap (λ z. old.sized (l.frame.type_at - l.frame.at) (tail (length gs) z)) (groups_spelled gs a)
@@ -182,7 +182,7 @@ module _ (p : Parts) (sound : Sound p.classes) (new : ℕ × ℕ → ℕ) (most 
     pub value : rekeyed_bytes new p.classes p.bytes (entry_node e) ≡ node_bytes b (entry_node f)
 
   module _ (b : List ℕ) (end : ℕ) (checkpoint : ℕ) where
-    entry_renamed : (e : EntryAt) (pool class at : ℕ) → EntryStands p.bytes p.classes e → e.class ≡ class → e.checkpoint ≡ checkpoint → Holds b end at (bytes_of_entry (spelled e)) → Renamed b e (entry_of checkpoint pool class (placed at (spelled e)))
+    entry_renamed : (e : EntryAt) (pool class at : ℕ) → IsEntryIn p.bytes p.classes e → e.class ≡ class → e.checkpoint ≡ checkpoint → Holds b end at (bytes_of_entry (spelled e)) → Renamed b e (entry_of checkpoint pool class (placed at (spelled e)))
     entry_renamed e pool class at s w n h =
         let q = holds_parts b end at (spelled e).key_bytes (bytes_of (spelled e).value) h in
         let l : at + length (spelled e).key_bytes + length (bytes_of (spelled e).value) ≡ at + length (bytes_of_entry (spelled e)) = omega (arith, length-append (spelled e).key_bytes (bytes_of (spelled e).value)) in
@@ -193,7 +193,7 @@ module _ (p : Parts) (sound : Sound p.classes) (new : ℕ × ℕ → ℕ) (most 
           value = rekeyed_here e s ∙ (sym q.1.bytes ∙ ap (slice_range b (at + length (spelled e).key_bytes)) l);
         }
 
-    entries_renamed : (es : List EntryAt) (pool class at : ℕ) → AllByRecursion (λ e. EntryStands p.bytes p.classes e × (e.class ≡ class)) es → AllByRecursion (λ e. e.checkpoint ≡ checkpoint) es → Holds b end at (flat_map bytes_of_entry (map spelled es))
+    entries_renamed : (es : List EntryAt) (pool class at : ℕ) → AllByRecursion (λ e. IsEntryIn p.bytes p.classes e × (e.class ≡ class)) es → AllByRecursion (λ e. e.checkpoint ≡ checkpoint) es → Holds b end at (flat_map bytes_of_entry (map spelled es))
         → Each (Renamed b) es (map (entry_of checkpoint pool class) (placed_each bytes_of_entry placed at (map spelled es)))
     entries_renamed [] pool class at s n h = tt
     entries_renamed (e ∷ es) pool class at s n h =
@@ -201,7 +201,7 @@ module _ (p : Parts) (sound : Sound p.classes) (new : ℕ × ℕ → ℕ) (most 
         (entry_renamed e pool class at s.0.0 s.0.1 n.0 q.0, entries_renamed es pool class (at + length (bytes_of_entry (spelled e))) s.1 n.1 q.1)
 
     -- The entries of the pools that are read are those of the groups.
-    pub groups_renamed : (gs : List Group) (pool at : ℕ) → AllByRecursion (GroupStands p.bytes p.classes) gs → AllByRecursion (λ e. e.checkpoint ≡ checkpoint) (flat_map (λ g. g.entries) gs) → Holds b end at (flat_map bytes_of_pool (map spelled_pool gs))
+    pub groups_renamed : (gs : List Group) (pool at : ℕ) → AllByRecursion (IsGroupIn p.bytes p.classes) gs → AllByRecursion (λ e. e.checkpoint ≡ checkpoint) (flat_map (λ g. g.entries) gs) → Holds b end at (flat_map bytes_of_pool (map spelled_pool gs))
         → Each (Renamed b) (flat_map (λ g. g.entries) gs) (entries_from checkpoint pool (placed_each bytes_of_pool placed_pool at (map spelled_pool gs)))
     groups_renamed [] pool at s n h = tt
     groups_renamed (g ∷ gs) pool at s n h =

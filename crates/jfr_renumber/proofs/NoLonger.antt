@@ -9,16 +9,16 @@ use Rattle.jfr_pool.specs.declared.entry.EntryAt.{EntryAt}
 use Rattle.jfr_chunk.specs.Parts.{Parts, EventAt, AreParts, metadata_at}
 use Rattle.jfr_chunk.specs.Reach.{marked, kept_by}
 use Rattle.jfr_chunk.specs.Scrub.{OutputRecord, Whole, Chained, Rebuilt, assembled, groups_of, header_with, last_at, moved, output_records, output_records_whole, written, written_anew}
-use Rattle.jfr_chunk.proofs.StandingLaws.{standing}
+use Rattle.jfr_chunk.proofs.HasNodesLaws.{has_nodes}
 use Rattle.jfr_laws.proofs.Anews.{Anew}
 use Rattle.jfr_laws.proofs.AnewLaws.{good_anew}
 use Rattle.jfr_laws.proofs.Copied.{record_length}
 use Rattle.jfr_laws.proofs.Groups.{groups_hold}
 use Rattle.jfr_laws.proofs.Header.{header_length, whole_small}
-use Rattle.jfr_laws.proofs.OutputRecords.{OutputRecordStands, chained_bytes}
+use Rattle.jfr_laws.proofs.OutputRecords.{IsOutputRecordIn, chained_bytes}
 use Rattle.jfr_laws.proofs.OutputRecords as before
 use Rattle.jfr_laws.proofs.Premises.{Ready, ready}
-use Rattle.jfr_laws.specs.InChunk.{EntryStands, GroupStands}
+use Rattle.jfr_laws.specs.InChunk.{IsEntryIn, IsGroupIn}
 use Rattle.jfr_laws.proofs.Whole.{out_shorter}
 use Rattle.jfr_renumber.specs.Renumber.{written_by}
 use Rattle.jfr_renumber.proofs.Fewer.{Under, Shorter, numbers_short, entries_stand, checkpoint_short}
@@ -37,15 +37,15 @@ module _ (p : Parts) (a : AreParts p) (flags : List Bool) (n : Anew p a (kept_by
   theirs = marked ms p.entries
 
   abbrev sound : Sound p.classes
-  sound = (standing p a).sound
+  sound = (has_nodes p a).sound
 
   abbrev write : OutputRecord → ℕ → Option ℕ → List ℕ
   write = bytes p a flags n new most fm agree
 
-  groups_shorter : (i : ℕ) → AllByRecursion (GroupStands p.bytes p.classes) (groups_of ours i) → Shorter p sound new most (groups_of ours i) (groups_of theirs i)
+  groups_shorter : (i : ℕ) → AllByRecursion (IsGroupIn p.bytes p.classes) (groups_of ours i) → Shorter p sound new most (groups_of ours i) (groups_of theirs i)
   groups_shorter i g =
       numbers_short p sound new most 0 (reverse p.chain) p.entries fm ms u a.entries i
-      (subst (AllByRecursion (EntryStands p.bytes p.classes)) (groups_hold (filter (λ e. e.checkpoint == i) ours)) (entries_stand p sound new most (groups_of ours i) g))
+      (subst (AllByRecursion (IsEntryIn p.bytes p.classes)) (groups_hold (filter (λ e. e.checkpoint == i) ours)) (entries_stand p sound new most (groups_of ours i) g))
 
   abbrev new_from : ℕ → Option ℕ → List OutputRecord → List ℕ
   new_from at older xs = bytes_from n.classes write (pools p a flags n new most fm agree) at older xs
@@ -54,7 +54,7 @@ module _ (p : Parts) (a : AreParts p) (flags : List Bool) (n : Anew p a (kept_by
   old_from at older xs = before.bytes_from p.bytes theirs at older xs
 
   body_short : (xs : List OutputRecord) (at other : ℕ) (older elder : Option ℕ) → is_some older ≡ is_some elder → other + length (old_from other elder xs) < 2 ^ 63
-      → AllByRecursion (OutputRecordStands p.bytes ours p.classes) xs → AllByRecursion (Small n.classes write (pools p a flags n new most fm agree)) xs → length (new_from at older xs) ≤ length (old_from other elder xs)
+      → AllByRecursion (IsOutputRecordIn p.bytes ours p.classes) xs → AllByRecursion (Small n.classes write (pools p a flags n new most fm agree)) xs → length (new_from at older xs) ≤ length (old_from other elder xs)
   body_short [] at other older elder e h s t = omega arith
   body_short (Whole r ∷ xs) at other older elder e h s t =
       let k : ℕ = length (write (Whole r) at older) in
@@ -94,5 +94,5 @@ module _ (p : Parts) (a : AreParts p) (flags : List Bool) (n : Anew p a (kept_by
       let bound : length (assembled p theirs outs) ≤ length p.bytes = out_shorter p kept ms a (good_anew p a kept) in
       let small = whole_small p.bytes whole in
       let is_ready : Ready p ours outs = ready p a (output_records_whole p kept) (written_anew p kept) (good_anew p a kept) fm in
-      let i = body_short outs 68 68 None None refl (omega (arith, bound, small, hy, y)) is_ready.stand (all_small p a flags n new most fm agree) in
+      let i = body_short outs 68 68 None None refl (omega (arith, bound, small, hy, y)) is_ready.valid (all_small p a flags n new most fm agree) in
       omega (arith, i, hx, hy, x, y)

@@ -6,20 +6,20 @@ use Rattle.std.proofs.lemmas.List.{append_assoc}
 use Rattle.jfr_base.proofs.Ranges.{range_none, range_split}
 use Rattle.jfr_layout.specs.Classes.{Classes, IsFieldLayout}
 use Rattle.jfr_layout.specs.declared.field_layout.FieldLayout.{FieldLayout}
-use Rattle.jfr_value.specs.Nodes.{IsRow}
+use Rattle.jfr_value.specs.Nodes.{AreValues}
 use Rattle.jfr_value.specs.Values.{Values, bytes_of}
 use Rattle.jfr_value.proofs.LayoutLaws.{layout_there, layouts_at, no_layout}
 use Rattle.jfr_value.proofs.RowLaws.{shapes_get, start_of}
 use Rattle.jfr_renumber.specs.Fields.{IsNumber, rekeyed_first}
 use Rattle.jfr_renumber.specs.Rekeyed.{rekeyed}
 use Rattle.jfr_renumber.proofs.BaseLaws.{plain_bytes}
-use Rattle.jfr_renumber.proofs.FieldLaws.{field_at, row_end}
+use Rattle.jfr_renumber.proofs.FieldLaws.{field_at, end_of_values}
 
 -- All fields from this one on are numbers.
 abbrev pub NumbersFrom : List FieldLayout → ℕ → Type 0
 NumbersFrom ls from = (i : ℕ) (s : FieldLayout) → from ≤ i → slice_get ls i ≡ Some s → IsNumber s
 
-module _ (new : ℕ × ℕ → ℕ) (k : Classes) (c : List ℕ) (at end : ℕ) (ls : List FieldLayout) (vs : Values) (known : AllByRecursion (IsFieldLayout k) ls) (row : IsRow k c at end (map (λ s. s.shape) ls) vs) (from : ℕ) (numbers : NumbersFrom ls from) where
+module _ (new : ℕ × ℕ → ℕ) (k : Classes) (c : List ℕ) (at end : ℕ) (ls : List FieldLayout) (vs : Values) (known : AllByRecursion (IsFieldLayout k) ls) (row : AreValues k c at end (map (λ s. s.shape) ls) vs) (from : ℕ) (numbers : NumbersFrom ls from) where
   -- The bytes of fields from this one on that are written, if they are the same.
   abbrev Same : ℕ → Type 0
   Same n = (start_of at vs from ≤ start_of at vs n) × (rekeyed_first new vs n ≡ rekeyed_first new vs from ++ slice_range c (start_of at vs from) (start_of at vs n))
@@ -50,7 +50,7 @@ module _ (new : ℕ × ℕ → ℕ) (k : Classes) (c : List ℕ) (at end : ℕ) 
       → (waits ≤ end) × (out ++ slice_range c waits end ≡ old ++ rekeyed_first new vs (length ls))
   unwalked out old waits w o l e =
       let here : ℕ = start_of at vs from in
-      let last = row_end k c at end ls vs (length ls) row refl in
+      let last = end_of_values k c at end ls vs (length ls) row refl in
       let same = all_same (length ls - from) (length ls) (omega (arith, w)) (omega arith) in
       let rest : rekeyed_first new vs (length ls) ≡ rekeyed_first new vs from ++ slice_range c here end = same.1 ∙ ap (λ z. rekeyed_first new vs from ++ slice_range c here z) last in (
         omega (arith, o, l),

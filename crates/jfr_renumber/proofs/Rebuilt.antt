@@ -6,7 +6,7 @@ use Rattle.std.proofs.lemmas.List.{length-reverse, reverse-reverse}
 use Rattle.std.proofs.lemmas.List.Elements.{All-from_recursion, All-contains}
 use Rattle.jfr_base.specs.Formats.{Answer, Reads, run}
 use Rattle.jfr_base.proofs.AlikeLaws.{Each}
-use Rattle.jfr_base.proofs.HoldLaws.{Holds, holds_at, holds_behind}
+use Rattle.jfr_base.proofs.HoldLaws.{Holds, holds_at, holds_after}
 use Rattle.jfr_base.proofs.OneAnswer.{has_one_answer}
 use Rattle.jfr_layout.specs.Classes.{Agree, Classes, is_event_class}
 use Rattle.jfr_header.specs.Fronts as fronts
@@ -28,7 +28,7 @@ use Rattle.jfr_worklist.specs.Members.{In}
 use Rattle.jfr_worklist.proofs.Members.{contains_in, in_contains}
 use Rattle.jfr_chunk.proofs.AllLaws.{in_filter_map}
 use Rattle.jfr_chunk.proofs.TestLaws.{is_eq}
-use Rattle.jfr_chunk.proofs.StandingLaws.{standing, event_is}
+use Rattle.jfr_chunk.proofs.HasNodesLaws.{has_nodes, event_is}
 use Rattle.jfr_laws.proofs.Chains.{Linked, linked_chain}
 use Rattle.jfr_laws.proofs.OutputRecords.{frame_by}
 use Rattle.jfr_laws.proofs.Found.{shown, shown_bytes, shown_frame}
@@ -54,7 +54,7 @@ use Rattle.jfr_renumber.specs.Meaning.{AreRenamed}
 use Rattle.jfr_renumber.specs.Laws.{RenamedRecord, RenamedRecords}
 use Rattle.jfr_renumber.proofs.Made.{Found, bytes_from, frame_of, links_from, entries_at, found_made, last_inside, last_made, length_made, linked_made, no_links, tiles_made, entries_made}
 use Rattle.jfr_renumber.proofs.NewPools.{Renamed}
-use Rattle.jfr_renumber.proofs.NewOutput.{kept, left, bytes, pools, ss, order, deltas, all_stand, all_small, all_fields, all_entries, event_here, event_record, event_stands, found_event, read_under}
+use Rattle.jfr_renumber.proofs.NewOutput.{kept, remaining, bytes, pools, ss, order, deltas, all_stand, all_small, all_fields, all_entries, event_here, event_record, event_stands, found_event, read_under}
 use Rattle.jfr_renumber.proofs.NewEvents.{NewEvent, events_each}
 use Rattle.jfr_renumber.proofs.RecordBack.{fields_are}
 
@@ -222,7 +222,7 @@ module _ (p : Parts) (a : AreParts p) (flags : List Bool) (n : Anew p a (kept_by
   out_size = let l : length (header ++ body_of) ≡ length header + length body_of = length-append header body_of in omega (arith, header_is_long)
 
   out_held : Holds out (length out) 68 body_of
-  out_held = holds_at out (length out) (length header) 68 body_of header_is_long (holds_behind header body_of)
+  out_held = holds_at out (length out) (length header) 68 body_of header_is_long (holds_after header body_of)
 
   body_fits : 68 + length body_of ≤ length p.bytes
   body_fits =
@@ -309,8 +309,8 @@ module _ (p : Parts) (a : AreParts p) (flags : List Bool) (n : Anew p a (kept_by
     parts = record { bytes = b; records = rs; chain = reverse ls; body = metadata_read.0; classes = m; entries = es }
 
     -- These are the parts of the output.
-    pub stand : AreParts parts
-    stand = record {
+    pub valid : AreParts parts
+    valid = record {
       records = tiles;
       chain = chain;
       metadata_record = metadata_frame;
@@ -321,18 +321,18 @@ module _ (p : Parts) (a : AreParts p) (flags : List Bool) (n : Anew p a (kept_by
     }
 
     -- Its entries are those that are left, with new keys.
-    each_renamed : (xs ys : List EntryAt) → Each (Renamed p (standing p a).sound new most b) xs ys → AreRenamed new p parts xs ys
+    each_renamed : (xs ys : List EntryAt) → Each (Renamed p (has_nodes p a).sound new most b) xs ys → AreRenamed new p parts xs ys
     each_renamed [] [] e = tt
     each_renamed [] (y ∷ ys) e = absurd e
     each_renamed (x ∷ xs) [] e = absurd e
     each_renamed (x ∷ xs) (y ∷ ys) e = (record { class = e.0.class; key = e.0.key; checkpoint = e.0.checkpoint; value = e.0.value }, each_renamed xs ys e.1)
 
-    pub entries_renamed : AreRenamed new p parts (left p a flags n new most fm agree) es
+    pub entries_renamed : AreRenamed new p parts (remaining p a flags n new most fm agree) es
     entries_renamed =
-        let remaining : List EntryAt = left p a flags n new most fm agree in
+        let es_remaining : List EntryAt = remaining p a flags n new most fm agree in
         let each = all_entries p a flags n new most fm agree b (reverse p.chain) l.held (order p a flags n new most fm agree) in
-        let e : entries_by_number remaining _ ≡ remaining = ap (entries_by_number remaining) (order p a flags n new most fm agree) ∙ all_numbers p.bytes p.classes fm (reverse p.chain) p.entries a.entries in
-        each_renamed remaining es (subst (λ z. Each (Renamed p (standing p a).sound new most b) z es) e each)
+        let e : entries_by_number es_remaining _ ≡ es_remaining = ap (entries_by_number es_remaining) (order p a flags n new most fm agree) ∙ all_numbers p.bytes p.classes fm (reverse p.chain) p.entries a.entries in
+        each_renamed es_remaining es (subst (λ z. Each (Renamed p (has_nodes p a).sound new most b) z es) e each)
 
     -- Its events are the kept ones, with new keys in their fields.
     one_event : (e d : EventAt) → In (events_of p) e → In (events_of p) d → d.record_of ≡ e.record_of → d ≡ e
@@ -350,7 +350,7 @@ module _ (p : Parts) (a : AreParts p) (flags : List Bool) (n : Anew p a (kept_by
         by_event k g h =
             let id : ℕ = e.record_of.type_id in
             let st = event_stands p a flags n new most fm agree b e k w.at h in
-            let x = event_is parts stand f j in
+            let x = event_is parts valid f j in
             let at : ℕ = w.at + (e.record_of.body - e.record_of.at) in
             let end : ℕ = w.at + length (event_bytes new p e) in
             let type : f.record_of.type_id ≡ id = ap (λ (z : Framed). z.type_id) g in
@@ -366,7 +366,7 @@ module _ (p : Parts) (a : AreParts p) (flags : List Bool) (n : Anew p a (kept_by
             let last : record_end f.record_of ≡ end = ap record_end g in
             record {
               class = sym type;
-              fields = fields_are p (standing p a).sound new e (event_here p a flags n new most fm agree e k) (event_record p a flags n new most fm agree e k) ∙ (sym st.fields_held.bytes ∙ (ap (λ z. slice_range b z to) (sym start) ∙ ap (slice_range b f.node.at) (sym one.1)));
+              fields = fields_are p (has_nodes p a).sound new e (event_here p a flags n new most fm agree e k) (event_record p a flags n new most fm agree e k) ∙ (sym st.fields_held.bytes ∙ (ap (λ z. slice_range b z to) (sym start) ∙ ap (slice_range b f.node.at) (sym one.1)));
               rest = sym st.rest_held.bytes ∙ (ap (λ z. slice_range b z (to + length (slice_range p.bytes e.node.end (record_end e.record_of)))) (sym one.1) ∙ ap (slice_range b f.node.end) (st.ends ∙ sym last));
               agree = n.suits.agree id (n.suits.event e k);
             }
@@ -390,7 +390,7 @@ module _ (p : Parts) (a : AreParts p) (flags : List Bool) (n : Anew p a (kept_by
     events_renamed =
         let rising : Rising 68 (event_records p.classes p.records) = rising_filter (λ r. is_event_class p.classes r.type_id) 68 p.records (rising_of p.bytes 68 68 (length p.bytes) p.records (omega arith) a.records) in
         let chosen : filter (is_kept these) (event_records p.classes p.records) ≡ records_of these = chosen_records flags (events_of p) (event_records p.classes p.records) 68 (event_records_of p a) rising in
-        let news : event_records m rs ≡ records_of (events_of parts) = sym (event_records_of parts stand) in
+        let news : event_records m rs ≡ records_of (events_of parts) = sym (event_records_of parts valid) in
         let each = events_each p a flags n new most fm agree b p.records 68 None (quiet_records p a m) (recorded p a) l.held in
         let same = same_both (is_kept these) (λ r. is_event_class m r.type_id) (λ r. is_event_class p.classes r.type_id) p.records kept_is_event in
         renamed_records these (events_of parts) (λ e i. i) (λ f i. i)

@@ -20,7 +20,7 @@ use Rattle.jfr_chunk.specs.Reach.{remain}
 use Rattle.jfr_worklist.specs.Members.{In}
 use Rattle.jfr_worklist.proofs.Members.{in_contains, get_in}
 use Rattle.jfr_pool.proofs.ForceLaws.{forced, numbered}
-use Rattle.jfr_chunk.proofs.PathLaws.{Standing}
+use Rattle.jfr_chunk.proofs.PathLaws.{HasNodes}
 use Rattle.jfr_renumber.specs.Rekeyed.{SameButKeys, rekeyed, rekeyed_bytes, moved}
 use Rattle.jfr_renumber.specs.Renumber.{Used, together, firsts, pair_of}
 use Rattle.jfr_renumber.specs.Meaning.{RenamedPaths, RenamedMeaning, AreNewKeys, IsRenamed, AreRenamed}
@@ -89,7 +89,7 @@ module _ (es : List EntryAt) where
     where
       by_last : (i : ℕ) → slice_get es i ≡ Some e → IsLast es t i → Found t
       by_last i g l =
-          let h : l.entry ≡ e = (let x : slice_get es i ≡ Some l.entry = l.stands in cc) in
+          let h : l.entry ≡ e = (let x : slice_get es i ≡ Some l.entry = l.holds in cc) in
           record { entry = e; is_forced = q; member = get_in es i e g; has = ap pair_of (sym h) ∙ l.has }
 
   pub forced_pair : (t : ℕ × ℕ) (e : EntryAt) → in_force es t ≡ Some e → pair_of e ≡ t
@@ -103,7 +103,7 @@ module _ (es : List EntryAt) where
       by_force None q = absurd (never_none es 0 e i (no_number es (pair_of e) (number_in_force es (pair_of e)) refl q))
       by_force (Some f) q = found (pair_of e) f q
 
-module _ (p q : Parts) (s : Standing p) (r : Standing q) (new : ℕ × ℕ → ℕ) where
+module _ (p q : Parts) (s : HasNodes p) (r : HasNodes q) (new : ℕ × ℕ → ℕ) where
   abbrev pub Pair : NodeAt → NodeAt → Type 0
   Pair n o = Paired p q (IsRekeyed new) n o
 

@@ -15,7 +15,7 @@ use Rattle.jfr_chunk.specs.Parts.{Parts, EventAt, AreParts, events_of}
 use Rattle.jfr_chunk.specs.Laws.{AreEvents}
 use Rattle.jfr_chunk.specs.Reach.{marked, reached_marks, kept_by, remain}
 use Rattle.jfr_chunk.specs.Scrub.{output_records, scrub_of}
-use Rattle.jfr_chunk.proofs.StandingLaws.{standing}
+use Rattle.jfr_chunk.proofs.HasNodesLaws.{has_nodes}
 use Rattle.jfr_laws.proofs.Anews.{Anew, anew}
 use Rattle.jfr_laws.proofs.Header.{whole_small}
 use Rattle.jfr_laws.proofs.Passing.{clash}
@@ -26,7 +26,7 @@ use Rattle.jfr_renumber.specs.Meaning.{AreNewKeys, AreRenamed, IsRenumbered}
 use Rattle.jfr_renumber.proofs.Fewer.{Under}
 use Rattle.jfr_renumber.proofs.NoLonger.{no_longer}
 use Rattle.jfr_renumber.proofs.LawLaws.{new_keys_are, renamed_the_same, same_missing}
-use Rattle.jfr_renumber.proofs.Rebuilt.{Leading, out, out_shorter, out_leading, out_whole, parts, stand, entries_renamed, events_renamed}
+use Rattle.jfr_renumber.proofs.Rebuilt.{Leading, out, out_shorter, out_leading, out_whole, parts, valid, entries_renamed, events_renamed}
 
 -- A list without some of its members is what marks leave of it.
 abbrev Sub : {X : Type 0} → List X → List X → Type 0
@@ -123,15 +123,15 @@ module _ (p : Parts) (a : AreParts p) (flags : List Bool) (whole : fronts.Whole 
     -- They agree with the chunk's on the class of each entry that is left.
     agree : AllByRecursion (λ x. Agree p.classes n.classes x.class) (marked fm p.entries)
     agree =
-        left_agree p n.classes (standing p a) these n.suits (event_of_chunk p a these are) fm
+        left_agree p n.classes (has_nodes p a) these n.suits (event_of_chunk p a these are) fm
         (λ i h. marks_reached p a flags i (under_marked fm (reached_marks p these) (firsts_marked p these).2 i h))
 
     -- And on the class of all that is used.
     agree_used : (t : ℕ × ℕ) → Used p these t → Agree p.classes n.classes t.0
     agree_used t u =
         let i : In these u.event = contains_in these u.event u.is_kept in
-        let g = path_agreed p n.classes (standing p a) u.path u.event.node u.node (event_agreed p n.classes (standing p a) these n.suits (event_of_chunk p a these are) u.event i) u.leads_there in
-        subst (Agree p.classes n.classes) (own_class g.value t (sym (target_is p.classes p.bytes u.node g.value (standing p a).sound g.node) ∙ u.refers)) g.agree
+        let g = path_agreed p n.classes (has_nodes p a) u.path u.event.node u.node (event_agreed p n.classes (has_nodes p a) these n.suits (event_of_chunk p a these are) u.event i) u.leads_there in
+        subst (Agree p.classes n.classes) (own_class g.value t (sym (target_is p.classes p.bytes u.node g.value (has_nodes p a).sound g.node) ∙ u.refers)) g.agree
 
     abbrev b : List ℕ
     b = out p a flags n new keys.most fm agree
@@ -157,7 +157,7 @@ module _ (p : Parts) (a : AreParts p) (flags : List Bool) (whole : fronts.Whole 
     q = parts p a flags n new keys.most fm agree b leading tiny
 
     abbrev q_stands : AreParts q
-    q_stands = stand p a flags n new keys.most fm agree b leading tiny
+    q_stands = valid p a flags n new keys.most fm agree b leading tiny
 
     entries_are : AreRenamed new p q (firsts p these) q.entries
     entries_are = subst (λ z. AreRenamed new p q z q.entries) (sym (firsts_marked p these).1) (entries_renamed p a flags n new keys.most fm agree b leading tiny)
@@ -166,10 +166,10 @@ module _ (p : Parts) (a : AreParts p) (flags : List Bool) (whole : fronts.Whole 
     renumbered_by = record {
       keys = keys;
       parts = q;
-      classes = n.left;
+      classes = n.remaining;
       bytes = out_is;
       whole = subst fronts.Whole out_is (out_whole p a flags n new keys.most fm agree whole);
-      stand = q_stands;
+      valid = q_stands;
       size = subst (λ z. length z ≤ length p.bytes) out_is shorter;
       no_longer = subst (λ z. length z ≤ length (scrub_of p these)) out_is no_longer_than_scrubbed;
       entries = entries_are;

@@ -3,7 +3,7 @@ use Rattle.std.specs.Prelude.{◌≡◌, ℕ, ◌+◌, ◌-◌, ◌<◌, ◌≤�
 use Rattle.std.proofs.Common.{ap, arith, refl, sym, subst, ◌∙◌}
 use Rattle.jfr_base.specs.declared.integer.Var.{Var}
 use Rattle.jfr_base.specs.Integer.{IntAt, Spells, spell}
-use Rattle.jfr_base.specs.Formats.{int_at, run, seen}
+use Rattle.jfr_base.specs.Formats.{int_at, run, end_or_flaw}
 use Rattle.jfr_base.proofs.OneAnswer.{int_computed}
 use Rattle.jfr_base.proofs.Ranges.{range_cons, range_length}
 use Rattle.jfr_text.specs.Strings.{IsString, Content, Key, Null, Empty, Utf8, Units, Latin}
@@ -110,6 +110,6 @@ module _ (k : Classes) (c : List ℕ) (at to : ℕ) (l : FieldLayout) (y : IsFie
       ∙ ap (λ z. bytes_of (rekeyed new (Single l.shape (leaf_kinds.Base l.kind) (slice_range c at to) z))) (string_other (slice_range c at to) (slice_range c (at + 1) to) (slice_index c at) q.content q.string q.bytes (λ e. n (omega arith, e))))
 
   -- Where it ends.
-  pub text_ended : (end : ℕ) → Sound k → EndsAt k c l.shape at to → to ≤ end → end ≤ length c → seen (run (base_format kinds.Text) c end at) ≡ Ok to
+  pub text_ended : (end : ℕ) → Sound k → EndsAt k c l.shape at to → to ≤ end → end ≤ length c → end_or_flaw (run (base_format kinds.Text) c end at) ≡ Ok to
   unfolding value_format
   text_ended end sound t h w = text_ends k l 33 c end at (record { form = y.form; of_class = λ o. y }) f ∙ end_seen k c l.shape at end to sound t h w

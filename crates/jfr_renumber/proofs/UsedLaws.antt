@@ -15,7 +15,7 @@ use Rattle.jfr_chunk.specs.Reach.{Reached, all_targets, nodes_of, reached_marks,
 use Rattle.jfr_worklist.specs.Members.{In}
 use Rattle.jfr_worklist.proofs.Members.{contains_in, in_contains, in_left, in_right, in_cases}
 use Rattle.jfr_pool.proofs.ForceLaws.{Forced, forced, numbered}
-use Rattle.jfr_chunk.proofs.PathLaws.{Standing}
+use Rattle.jfr_chunk.proofs.PathLaws.{HasNodes}
 use Rattle.jfr_chunk.proofs.ReachLaws.{leads_append, target_path, follow_is, reach_least}
 use Rattle.jfr_chunk.proofs.ReachedLaws.{reached_marked}
 use Rattle.jfr_renumber.specs.Renumber.{Used, used_keys, together, new_key, pair_of}
@@ -27,14 +27,14 @@ use Rattle.jfr_renumber.proofs.TogetherLaws.{together_is}
 record Marked {X : Type 0} (ms : List Bool) (xs : List X) (x : X) : Type 0 where
   place : ℕ
   is_so : IsMarked ms place
-  stands : slice_get xs place ≡ Some x
+  holds : slice_get xs place ≡ Some x
 
 in_marked : {X : Type 0} (ms : List Bool) (xs : List X) (x : X) → In (marked ms xs) x → Marked ms xs x
 in_marked [] xs x i = absurd i
 in_marked (m ∷ ms) [] x i = absurd i
-in_marked (true ∷ ms) (y ∷ xs) x (inl e) = record { place = 0; is_so = refl; stands = ap (λ z. Some z) e }
-in_marked (true ∷ ms) (y ∷ xs) x (inr i) = let r = in_marked ms xs x i in record { place = suc r.place; is_so = r.is_so; stands = r.stands }
-in_marked (false ∷ ms) (y ∷ xs) x i = let r = in_marked ms xs x i in record { place = suc r.place; is_so = r.is_so; stands = r.stands }
+in_marked (true ∷ ms) (y ∷ xs) x (inl e) = record { place = 0; is_so = refl; holds = ap (λ z. Some z) e }
+in_marked (true ∷ ms) (y ∷ xs) x (inr i) = let r = in_marked ms xs x i in record { place = suc r.place; is_so = r.is_so; holds = r.holds }
+in_marked (false ∷ ms) (y ∷ xs) x i = let r = in_marked ms xs x i in record { place = suc r.place; is_so = r.is_so; holds = r.holds }
 
 marked_in : {X : Type 0} (ms : List Bool) (xs : List X) (x : X) (i : ℕ) → IsMarked ms i → slice_get xs i ≡ Some x → In (marked ms xs) x
 marked_in [] xs x i m e = let z : false ≡ true = m in cc
@@ -79,7 +79,7 @@ map_in f [] x i = absurd i
 map_in f (z ∷ xs) x (inl q) = inl (ap f q)
 map_in f (z ∷ xs) x (inr i) = inr (map_in f xs x i)
 
-module _ (p : Parts) (s : Standing p) (kept : List EventAt) (nodes : (e : EventAt) → In kept e → (v : Value) × IsNode p.classes p.bytes e.node v) where
+module _ (p : Parts) (s : HasNodes p) (kept : List EventAt) (nodes : (e : EventAt) → In kept e → (v : Value) × IsNode p.classes p.bytes e.node v) where
   reached_is : (i : ℕ) → Reached p kept i ↔ IsMarked (reached_marks p kept) i
   reached_is = reached_marked p s kept nodes
 
@@ -103,7 +103,7 @@ module _ (p : Parts) (s : Standing p) (kept : List EventAt) (nodes : (e : EventA
     where
       by_last : IsLast p.entries r.key i → Forced p.entries r.key i → Remaining e
       by_last l f =
-          let h : l.entry ≡ e = (let x : slice_get p.entries i ≡ Some l.entry = l.stands in cc) in
+          let h : l.entry ≡ e = (let x : slice_get p.entries i ≡ Some l.entry = l.holds in cc) in
           let k : f.entry ≡ e = (let x : slice_get p.entries i ≡ Some f.entry = f.there in cc) in
           let q : r.key ≡ pair_of e = sym l.has ∙ ap pair_of h in
           let d : in_force p.entries r.key ≡ Some e = f.is ∙ ap (λ z. Some z) k in
@@ -117,7 +117,7 @@ module _ (p : Parts) (s : Standing p) (kept : List EventAt) (nodes : (e : EventA
 
   pub remains_used : (e : EntryAt) → In (remain p kept) e → Remaining e
   unfolding remain
-  remains_used e i = let m = in_marked (reached_marks p kept) p.entries e i in remaining e m.place m.stands ((reached_is m.place).1 m.is_so)
+  remains_used e i = let m = in_marked (reached_marks p kept) p.entries e i in remaining e m.place m.holds ((reached_is m.place).1 m.is_so)
 
   -- The list has what is used, and nothing else.
   pub in_used : (t : ℕ × ℕ) → In (used_keys p kept) t → Used p kept t

@@ -12,13 +12,13 @@ use Rattle.jfr_pool.proofs.OneLaws.{last_is}
 use Rattle.jfr_chunk.specs.Parts.{Parts, EventAt, AreParts}
 use Rattle.jfr_worklist.specs.Marks.{is_marked}
 use Rattle.jfr_chunk.specs.Reach.{kept_by, marked, reached_marks, remain}
-use Rattle.jfr_chunk.proofs.StandingLaws.{standing}
+use Rattle.jfr_chunk.proofs.HasNodesLaws.{has_nodes}
 use Rattle.jfr_laws.proofs.Same.{chosen_events}
 use Rattle.jfr_chunk.proofs.AllLaws.{all_in, in_filter}
 use Rattle.jfr_pool.proofs.ForceLaws.{forced}
 use Rattle.jfr_worklist.specs.Members.{In}
 use Rattle.jfr_worklist.proofs.Members.{contains_in, in_contains, in_left, in_right, in_cases}
-use Rattle.jfr_chunk.proofs.PathLaws.{Standing}
+use Rattle.jfr_chunk.proofs.PathLaws.{HasNodes}
 use Rattle.jfr_renumber.specs.declared.numbering.UsedKey.{UsedKey}
 use Rattle.jfr_renumber.specs.Missing.{IsRising, flagged, is_missing}
 use Rattle.jfr_renumber.specs.Numbering.{ArePairsOf, HasValue, RisingPairs, SameValue, pair_at, pair_numbers}
@@ -82,7 +82,7 @@ module _ (p : Parts) where
       back : (k.class ≡ l.class) × ((k.key ≡ l.key) ⊎ SameValue k l) → together p (pair_at k) (pair_at l) ≡ true
       back z = alike_together p (pair_at k) (pair_at l) (z.0, off z.1)
 
-module _ (p : Parts) (s : Standing p) (kept : List EventAt) (nodes : (e : EventAt) → In kept e → (v : Value) × IsNode p.classes p.bytes e.node v) where
+module _ (p : Parts) (s : HasNodes p) (kept : List EventAt) (nodes : (e : EventAt) → In kept e → (v : Value) × IsNode p.classes p.bytes e.node v) where
   abbrev pub all_pairs : List (ℕ × ℕ)
   all_pairs = filter (is_missing p.entries) (used_keys p kept) ++ map pair_of (remain p kept)
 
@@ -103,7 +103,7 @@ module _ (p : Parts) (s : Standing p) (kept : List EventAt) (nodes : (e : EventA
       by_number (Some n) e =
           let f = forced p.entries t n e in
           let l = (last_is p.entries t n).0 e in
-          let h : l.entry ≡ f.entry = (let x : Some l.entry ≡ Some f.entry = sym l.stands ∙ f.there in cc) in
+          let h : l.entry ≡ f.entry = (let x : Some l.entry ≡ Some f.entry = sym l.holds ∙ f.there in cc) in
           let q : pair_of f.entry ≡ t = ap pair_of (sym h) ∙ l.has in
           let r = used_remains p s kept nodes t f.entry (in_used p s kept nodes t i) f.is in
           in_right (filter (is_missing p.entries) (used_keys p kept)) (map pair_of (remain p kept)) t (subst (In (map pair_of (remain p kept))) q (map_in pair_of (remain p kept) f.entry r))
@@ -177,7 +177,7 @@ module _ (p : Parts) (a : AreParts p) (flags marks : List Bool) (m : marks ≡ r
       → ((t : ℕ × ℕ) → Contains l t → Contains ps t) → ((t : ℕ × ℕ) → Contains ps t → Contains l t) → qs ≡ ps → map pair_at ks ≡ qs → AllByRecursion (HasValue p) ks → js ≡ ks → ArePairsOf (together p) (used_keys p kept) js
   they_are ms l ps qs ks js d e f r on off q b v j =
       subst (ArePairsOf (together p) (used_keys p kept)) (sym j)
-      (are_pairs p (standing p a) kept (kept_nodes p a kept (chosen_events p flags)) ps ks r (λ t c. on t (from_all ms l d f t c)) (λ t c. to_all ms l e f t (off t c)) (b ∙ q) v)
+      (are_pairs p (has_nodes p a) kept (kept_nodes p a kept (chosen_events p flags)) ps ks r (λ t c. on t (from_all ms l d f t c)) (λ t c. to_all ms l e f t (off t c)) (b ∙ q) v)
 
   pub used_by : (js ks : List UsedKey) → ArePairsOf (together p) (used_keys p kept) js → js ≡ ks → (t : ℕ × ℕ) → Contains (map pair_at ks) t ↔ Used p kept t
   used_by js ks are j t = subst (λ z. Contains (map pair_at z) t ↔ Used p kept t) j (there, back)
@@ -185,11 +185,11 @@ module _ (p : Parts) (a : AreParts p) (flags marks : List Bool) (m : marks ≡ r
       there : Contains (map pair_at js) t → Used p kept t
       there c =
           let r = in_map pair_at js t (contains_in (map pair_at js) t c) in
-          in_used p (standing p a) kept (kept_nodes p a kept (chosen_events p flags)) t (subst (In (used_keys p kept)) r.2 (contains_in (used_keys p kept) (pair_at r.0) (are.used r.0 (in_contains js r.0 r.1))))
+          in_used p (has_nodes p a) kept (kept_nodes p a kept (chosen_events p flags)) t (subst (In (used_keys p kept)) r.2 (contains_in (used_keys p kept) (pair_at r.0) (are.used r.0 (in_contains js r.0 r.1))))
 
       back : Used p kept t → Contains (map pair_at js) t
       back u =
-          let r = are.all t (in_contains (used_keys p kept) t (used_in p (standing p a) kept (kept_nodes p a kept (chosen_events p flags)) t u)) in
+          let r = are.all t (in_contains (used_keys p kept) t (used_in p (has_nodes p a) kept (kept_nodes p a kept (chosen_events p flags)) t u)) in
           in_contains (map pair_at js) t (subst (In (map pair_at js)) r.2 (map_in pair_at js r.0 (contains_in js r.0 r.1)))
 
   -- So the numbers of the pairs are the new keys of all that is used.
@@ -207,8 +207,8 @@ module _ (p : Parts) (a : AreParts p) (flags marks : List Bool) (m : marks ≡ r
         each = λ t. (let x : number_at ps ns t ≡ (if list_any (λ u. pair_same u t) ps then Some (new_key p kept t) else None) = ap (λ z. number_at ps z t) numbers ∙ number_given (new_key p kept) ps t in
             x ∙ ap (λ o. if o then Some (new_key p kept t) else None)
             (any_same ps (used_keys p kept) t
-            (λ i. used_in p (standing p a) kept (kept_nodes p a kept (chosen_events p flags)) t ((same t).0 (in_contains (map pair_at js) t (subst (λ z. In z t) (sym pairs) i))))
-            (λ i. subst (λ z. In z t) pairs (contains_in (map pair_at js) t ((same t).1 (in_used p (standing p a) kept (kept_nodes p a kept (chosen_events p flags)) t i))))));
+            (λ i. used_in p (has_nodes p a) kept (kept_nodes p a kept (chosen_events p flags)) t ((same t).0 (in_contains (map pair_at js) t (subst (λ z. In z t) (sym pairs) i))))
+            (λ i. subst (λ z. In z t) pairs (contains_in (map pair_at js) t ((same t).1 (in_used p (has_nodes p a) kept (kept_nodes p a kept (chosen_events p flags)) t i))))));
         count = ap length numbers ∙ length-map ps (new_key p kept);
       }
 

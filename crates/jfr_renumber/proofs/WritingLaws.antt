@@ -23,19 +23,19 @@ use Rattle.jfr_chunk.specs.Written as old
 use Rattle.jfr_chunk.specs.Written.{Group, by_pool, distance, sized}
 use Rattle.jfr_chunk.specs.Scrub.{OutputRecord, Whole, Chained, Rebuilt, Written, groups_of, last_at, moved, older_after, output_records, output_records_whole, record_of, written_anew}
 use Rattle.jfr_chunk.proofs.AllLaws.{all_in}
-use Rattle.jfr_chunk.proofs.StandingLaws.{standing}
+use Rattle.jfr_chunk.proofs.HasNodesLaws.{has_nodes}
 use Rattle.jfr_laws.proofs.AnewLaws.{good_anew}
 use Rattle.jfr_laws.proofs.Groups.{groups_hold}
-use Rattle.jfr_laws.proofs.OutputRecords.{Deltas, OutputRecordStands, chained_fits}
+use Rattle.jfr_laws.proofs.OutputRecords.{Deltas, IsOutputRecordIn, chained_fits}
 use Rattle.jfr_laws.proofs.Passing.{clash}
 use Rattle.jfr_laws.proofs.Premises.{Ready, metadata_stands, ready, recorded}
 use Rattle.jfr_laws.proofs.Quiet.{no_metadata_event}
 use Rattle.jfr_laws.proofs.Same.{chosen_events, event_of_chunk}
-use Rattle.jfr_laws.specs.InChunk.{EntryStands, GroupStands}
-use Rattle.jfr_output.specs.declared.output_records.OutputRecord as told
-use Rattle.jfr_output.specs.declared.output_records.OutputRecord.TheVariants as told_records
+use Rattle.jfr_laws.specs.InChunk.{IsEntryIn, IsGroupIn}
+use Rattle.jfr_output.specs.declared.output_records.OutputRecord as contents
+use Rattle.jfr_output.specs.declared.output_records.OutputRecord.TheVariants as declared_records
 use Rattle.jfr_output.specs.OutputRecords.{IsKeptEvent, ShowsEvent, ShowsMetadata, output_record_as, whole_or}
-use Rattle.jfr_output.specs.Positions.{IsBefore, place_seen}
+use Rattle.jfr_output.specs.Positions.{IsBefore, offset_so_far}
 use Rattle.jfr_output.specs.Remaining.{NotFalling}
 use Rattle.jfr_output.proofs.CheckpointEntries.{marked_order}
 use Rattle.jfr_output.proofs.PositionLaws.{last_next, last_none, moved_next, or_none, or_place}
@@ -80,32 +80,32 @@ numbers_below p a flags k h t = subst (λ o. unwrap_or o 0 ≤ t.1) (sym (h t)) 
     by_test false = omega arith
 
 module _ (p : Parts) (a : AreParts p) (flags : List Bool) (new : ℕ × ℕ → ℕ) (most : (t : ℕ × ℕ) → new t ≤ t.1) (fm : List Bool) where
-  abbrev left : List EntryAt
-  left = marked fm p.entries
+  abbrev remaining : List EntryAt
+  remaining = marked fm p.entries
 
   abbrev kept : List EventAt
   kept = kept_by p flags
 
   abbrev sound : Sound p.classes
-  sound = (standing p a).sound
+  sound = (has_nodes p a).sound
 
-  group_entries : (g : Group) → GroupStands p.bytes p.classes g → AllByRecursion (EntryStands p.bytes p.classes) g.entries
+  group_entries : (g : Group) → IsGroupIn p.bytes p.classes g → AllByRecursion (IsEntryIn p.bytes p.classes) g.entries
   group_entries g s = each g.entries s.1
     where
-      each : (es : List EntryAt) → AllByRecursion (λ e. EntryStands p.bytes p.classes e × (e.class ≡ g.class)) es → AllByRecursion (EntryStands p.bytes p.classes) es
+      each : (es : List EntryAt) → AllByRecursion (λ e. IsEntryIn p.bytes p.classes e × (e.class ≡ g.class)) es → AllByRecursion (IsEntryIn p.bytes p.classes) es
       each [] h = tt
       each (e ∷ es) h = (h.0.0, each es h.1)
 
-  both : (xs ys : List EntryAt) → AllByRecursion (EntryStands p.bytes p.classes) xs → AllByRecursion (EntryStands p.bytes p.classes) ys → AllByRecursion (EntryStands p.bytes p.classes) (xs ++ ys)
+  both : (xs ys : List EntryAt) → AllByRecursion (IsEntryIn p.bytes p.classes) xs → AllByRecursion (IsEntryIn p.bytes p.classes) ys → AllByRecursion (IsEntryIn p.bytes p.classes) (xs ++ ys)
   both [] ys h i = i
   both (x ∷ xs) ys h i = (h.0, both xs ys h.1 i)
 
-  groups_entries : (gs : List Group) → AllByRecursion (GroupStands p.bytes p.classes) gs → AllByRecursion (EntryStands p.bytes p.classes) (flat_map (λ g. g.entries) gs)
+  groups_entries : (gs : List Group) → AllByRecursion (IsGroupIn p.bytes p.classes) gs → AllByRecursion (IsEntryIn p.bytes p.classes) (flat_map (λ g. g.entries) gs)
   groups_entries [] s = tt
   groups_entries (g ∷ gs) s = both g.entries (flat_map (λ g. g.entries) gs) (group_entries g s.0) (groups_entries gs s.1)
 
   -- A checkpoint isn't longer with new keys than with the old ones.
-  tail_short : (l : Link) (delta : ℕ) (gs : List Group) → AllByRecursion (GroupStands p.bytes p.classes) gs → length (checkpoint_tail new p l delta gs) ≤ length (old.checkpoint_tail p.bytes l delta gs)
+  tail_short : (l : Link) (delta : ℕ) (gs : List Group) → AllByRecursion (IsGroupIn p.bytes p.classes) gs → length (checkpoint_tail new p l delta gs) ≤ length (old.checkpoint_tail p.bytes l delta gs)
   tail_short l delta gs s =
       let t : List ℕ = slice_range p.bytes l.frame.type_at l.frame.body in
       let m : List ℕ = slice_range p.bytes l.frame.body l.delta_at in
@@ -129,21 +129,21 @@ module _ (p : Parts) (a : AreParts p) (flags : List Bool) (new : ℕ × ℕ → 
         length-append n y,
       )
 
-  checkpoint_fits : (i : ℕ) (l : Link) (at : ℕ) (older : Option ℕ) → OutputRecordStands p.bytes left p.classes (Chained i l) → (is_some older ≡ true → l.delta_end ≡ l.delta_at + 9) → CanWrite new p left (Chained i l) at older
+  checkpoint_fits : (i : ℕ) (l : Link) (at : ℕ) (older : Option ℕ) → IsOutputRecordIn p.bytes remaining p.classes (Chained i l) → (is_some older ≡ true → l.delta_end ≡ l.delta_at + 9) → CanWrite new p remaining (Chained i l) at older
   unfolding CanWrite
   checkpoint_fits i l at older s d =
-      let es : List EntryAt = filter (λ e. e.checkpoint == i) left in
-      let f = chained_fits p.bytes left p.classes i l at older s d in
+      let es : List EntryAt = filter (λ e. e.checkpoint == i) remaining in
+      let f = chained_fits p.bytes remaining p.classes i l at older s d in
       let t = tail_short l (distance at older) (by_pool es) s.1 in
-      record { link = s.0; entries = subst (AllByRecursion (EntryStands p.bytes p.classes)) (groups_hold es) (groups_entries (by_pool es) s.1); room = omega arith }
+      record { link = s.0; entries = subst (AllByRecursion (IsEntryIn p.bytes p.classes)) (groups_hold es) (groups_entries (by_pool es) s.1); room = omega arith }
 
   abbrev bytes : OutputRecord → ℕ → Option ℕ → List ℕ
-  bytes = new_bytes new p kept left
+  bytes = new_bytes new p kept remaining
 
   abbrev pub CanBeWritten : Written → Type 0
-  CanBeWritten w = CanWrite new p left w.output_record w.at w.older
+  CanBeWritten w = CanWrite new p remaining w.output_record w.at w.older
 
-  each_can : (ss : List OutputRecord) (at : ℕ) (older : Option ℕ) → AllByRecursion (OutputRecordStands p.bytes left p.classes) ss → Deltas (is_some older) ss → AllByRecursion CanBeWritten (written_by bytes at older ss)
+  each_can : (ss : List OutputRecord) (at : ℕ) (older : Option ℕ) → AllByRecursion (IsOutputRecordIn p.bytes remaining p.classes) ss → Deltas (is_some older) ss → AllByRecursion CanBeWritten (written_by bytes at older ss)
   unfolding CanWrite
   each_can [] at older s d = tt
   each_can (Whole r ∷ ss) at older s d = (s.0, each_can ss (at + length (bytes (Whole r) at older)) older s.1 d)
@@ -153,13 +153,13 @@ module _ (p : Parts) (a : AreParts p) (flags : List Bool) (new : ℕ × ℕ → 
   -- All output records can be written.
   pub all_can : AllByRecursion CanBeWritten (written_by bytes 68 None (output_records p kept))
   all_can =
-      let r : Ready p left (output_records p kept) = ready p a (output_records_whole p kept) (written_anew p kept) (good_anew p a kept) fm in
-      each_can (output_records p kept) 68 None r.stand r.deltas
+      let r : Ready p remaining (output_records p kept) = ready p a (output_records_whole p kept) (written_anew p kept) (good_anew p a kept) fm in
+      each_can (output_records p kept) 68 None r.valid r.deltas
 
-seen_not : (o : Option ℕ) (t : Bool) (at : ℕ) → t ≡ false → place_seen o t at ≡ o
-seen_not o t at e = ap (λ z. place_seen o z at) e ∙ by_place o
+seen_not : (o : Option ℕ) (t : Bool) (at : ℕ) → t ≡ false → offset_so_far o t at ≡ o
+seen_not o t at e = ap (λ z. offset_so_far o z at) e ∙ by_place o
   where
-    by_place : (o : Option ℕ) → place_seen o false at ≡ o
+    by_place : (o : Option ℕ) → offset_so_far o false at ≡ o
     by_place None = refl
     by_place (Some place) = refl
 
@@ -173,10 +173,10 @@ module _ (p : Parts) (flags : List Bool) (new : ℕ × ℕ → ℕ) (entries : L
       λ i. record { bytes = (w ∙ ap (λ o. b.bytes ++ whole_bytes new p r o) (sym k.there)) i; newest = b.newest; metadata = sym (seen_not b.metadata (r.at == place) (length b.bytes) t) i }
 
   pub metadata_written : (a : AreParts p) (r : Framed) (slim : Option (List ℕ)) (b : Progress) → IsRecord p.bytes r → (r.at == metadata_at p.bytes) ≡ true
-      → record { bytes = b.bytes ++ unwrap_or slim (record_bytes p.bytes r); newest = b.newest; metadata = place_seen b.metadata true (length b.bytes) } ≡ with_record (new_bytes new p (kept_by p flags) entries) (metadata_at p.bytes) b (whole_or slim r)
+      → record { bytes = b.bytes ++ unwrap_or slim (record_bytes p.bytes r); newest = b.newest; metadata = offset_so_far b.metadata true (length b.bytes) } ≡ with_record (new_bytes new p (kept_by p flags) entries) (metadata_at p.bytes) b (whole_or slim r)
   unfolding with_record
-  metadata_written a r None b s t = λ i. record { bytes = b.bytes ++ whole_bytes new p r (sym (metadata_no_event p a flags r s t) i); newest = b.newest; metadata = place_seen b.metadata (sym t i) (length b.bytes) }
-  metadata_written a r (Some x) b s t = λ i. record { bytes = b.bytes ++ x; newest = b.newest; metadata = place_seen b.metadata (sym t i) (length b.bytes) }
+  metadata_written a r None b s t = λ i. record { bytes = b.bytes ++ whole_bytes new p r (sym (metadata_no_event p a flags r s t) i); newest = b.newest; metadata = offset_so_far b.metadata (sym t i) (length b.bytes) }
+  metadata_written a r (Some x) b s t = λ i. record { bytes = b.bytes ++ x; newest = b.newest; metadata = offset_so_far b.metadata (sym t i) (length b.bytes) }
 
   pub link_written : (number : ℕ) (l : Link) (place : ℕ) (b : Progress) → (l.frame.at == place) ≡ false
       → record { bytes = b.bytes ++ sized (l.frame.type_at - l.frame.at) (checkpoint_tail new p l (distance (length b.bytes) b.newest) (groups_of entries number)); newest = Some (length b.bytes); metadata = b.metadata }
@@ -190,21 +190,21 @@ module _ (p : Parts) (flags : List Bool) (new : ℕ × ℕ → ℕ) (entries : L
       }
 
   -- So it is for the values of the code's enum.
-  pub event_is : (slim : Option (List ℕ)) (s : told.OutputRecord) (number : ℕ) (r : Framed) (b : Progress) (after : List ℕ) → s ≡ told_records.Event number r → IfSome (slice_get (events_of p) number) (λ e. after ≡ b.bytes ++ event_bytes new p e)
+  pub event_is : (slim : Option (List ℕ)) (s : contents.OutputRecord) (number : ℕ) (r : Framed) (b : Progress) (after : List ℕ) → s ≡ declared_records.Event number r → IfSome (slice_get (events_of p) number) (λ e. after ≡ b.bytes ++ event_bytes new p e)
       → IsWritten new p flags entries slim s b (record { bytes = after; newest = b.newest; metadata = b.metadata })
   unfolding IsWritten
   event_is slim s number r b after q h =
       subst (λ z. ShowsEvent p flags z → ShowsMetadata (metadata_at p.bytes) z → record { bytes = after; newest = b.newest; metadata = b.metadata } ≡ with_record (new_bytes new p (kept_by p flags) entries) (metadata_at p.bytes) b (output_record_as slim z)) (sym q)
       (λ k t. event_written number r (metadata_at p.bytes) b after k t h)
 
-  pub metadata_is : (a : AreParts p) (slim : Option (List ℕ)) (s : told.OutputRecord) (r : Framed) (b after : Progress) → s ≡ told_records.Metadata r → IsRecord p.bytes r
-      → after ≡ record { bytes = b.bytes ++ unwrap_or slim (record_bytes p.bytes r); newest = b.newest; metadata = place_seen b.metadata true (length b.bytes) } → IsWritten new p flags entries slim s b after
+  pub metadata_is : (a : AreParts p) (slim : Option (List ℕ)) (s : contents.OutputRecord) (r : Framed) (b after : Progress) → s ≡ declared_records.Metadata r → IsRecord p.bytes r
+      → after ≡ record { bytes = b.bytes ++ unwrap_or slim (record_bytes p.bytes r); newest = b.newest; metadata = offset_so_far b.metadata true (length b.bytes) } → IsWritten new p flags entries slim s b after
   unfolding IsWritten
   metadata_is a slim s r b after q i e =
       subst (λ z. ShowsEvent p flags z → ShowsMetadata (metadata_at p.bytes) z → after ≡ with_record (new_bytes new p (kept_by p flags) entries) (metadata_at p.bytes) b (output_record_as slim z)) (sym q)
       (λ k t. e ∙ metadata_written a r slim b i t)
 
-  pub link_is : (slim : Option (List ℕ)) (s : told.OutputRecord) (number : ℕ) (l : Link) (b after : Progress) → s ≡ told_records.Chained number l
+  pub link_is : (slim : Option (List ℕ)) (s : contents.OutputRecord) (number : ℕ) (l : Link) (b after : Progress) → s ≡ declared_records.Chained number l
       → after ≡ record { bytes = b.bytes ++ sized (l.frame.type_at - l.frame.at) (checkpoint_tail new p l (distance (length b.bytes) b.newest) (groups_of entries number)); newest = Some (length b.bytes); metadata = b.metadata }
       → IsWritten new p flags entries slim s b after
   unfolding IsWritten
@@ -213,18 +213,18 @@ module _ (p : Parts) (flags : List Bool) (new : ℕ × ℕ → ℕ) (entries : L
       (λ k t. e ∙ link_written number l (metadata_at p.bytes) b t)
 
   -- What has been written.
-  pub written_is : (slim : Option (List ℕ)) (s : told.OutputRecord) (b after : Progress) → IsWritten new p flags entries slim s b after → ShowsEvent p flags s → ShowsMetadata (metadata_at p.bytes) s
+  pub written_is : (slim : Option (List ℕ)) (s : contents.OutputRecord) (b after : Progress) → IsWritten new p flags entries slim s b after → ShowsEvent p flags s → ShowsMetadata (metadata_at p.bytes) s
       → after ≡ with_record (new_bytes new p (kept_by p flags) entries) (metadata_at p.bytes) b (output_record_as slim s)
   unfolding IsWritten
   written_is slim s b after w k t = w k t
 
   -- What a checkpoint and the metadata record need.
-  pub link_fits : (slim : Option (List ℕ)) (s : told.OutputRecord) (number : ℕ) (l : Link) (at : ℕ) (older : Option ℕ) → s ≡ told_records.Chained number l → CanWrite new p entries (output_record_as slim s) at older
+  pub link_fits : (slim : Option (List ℕ)) (s : contents.OutputRecord) (number : ℕ) (l : Link) (at : ℕ) (older : Option ℕ) → s ≡ declared_records.Chained number l → CanWrite new p entries (output_record_as slim s) at older
       → CheckpointFits new p l (distance at older) (filter (λ e. e.checkpoint == number) entries)
   unfolding CanWrite
   link_fits slim s number l at older q c = subst (λ z. CanWrite new p entries (output_record_as slim z) at older) q c
 
-  pub record_written : (slim : Option (List ℕ)) (s : told.OutputRecord) (r : Framed) (at : ℕ) (older : Option ℕ) → s ≡ told_records.Metadata r → CanWrite new p entries (output_record_as slim s) at older → IsRecord p.bytes r
+  pub record_written : (slim : Option (List ℕ)) (s : contents.OutputRecord) (r : Framed) (at : ℕ) (older : Option ℕ) → s ≡ declared_records.Metadata r → CanWrite new p entries (output_record_as slim s) at older → IsRecord p.bytes r
   unfolding CanWrite
   record_written slim s r at older q c = by_slim slim (subst (λ z. CanWrite new p entries (output_record_as slim z) at older) q c)
     where
@@ -233,16 +233,16 @@ module _ (p : Parts) (flags : List Bool) (new : ℕ × ℕ → ℕ) (entries : L
       by_slim (Some x) c = c
 
 -- After a record the newest checkpoint is before what comes next.
-pub next_before : (new : ℕ × ℕ → ℕ) (p : Parts) (kept : List EventAt) (left : List EntryAt) (s : OutputRecord) (at : ℕ) (older : Option ℕ) → CanWrite new p left s at older → IsBefore older at
-    → IsBefore (older_after s at older) (at + length (new_bytes new p kept left s at older))
+pub next_before : (new : ℕ × ℕ → ℕ) (p : Parts) (kept : List EventAt) (remaining : List EntryAt) (s : OutputRecord) (at : ℕ) (older : Option ℕ) → CanWrite new p remaining s at older → IsBefore older at
+    → IsBefore (older_after s at older) (at + length (new_bytes new p kept remaining s at older))
 unfolding CanWrite
-next_before new p kept left (Whole r) at None c h = tt
-next_before new p kept left (Whole r) at (Some o) c h = omega (arith, h)
-next_before new p kept left (Rebuilt r x) at None c h = tt
-next_before new p kept left (Rebuilt r x) at (Some o) c h = omega (arith, h)
-next_before new p kept left (Chained i l) at older c h =
+next_before new p kept remaining (Whole r) at None c h = tt
+next_before new p kept remaining (Whole r) at (Some o) c h = omega (arith, h)
+next_before new p kept remaining (Rebuilt r x) at None c h = tt
+next_before new p kept remaining (Rebuilt r x) at (Some o) c h = omega (arith, h)
+next_before new p kept remaining (Chained i l) at older c h =
     let w : ℕ = l.frame.type_at - l.frame.at in
-    let tail : List ℕ = checkpoint_tail new p l (distance at older) (groups_of left i) in
+    let tail : List ℕ = checkpoint_tail new p l (distance at older) (groups_of remaining i) in
     let some = size_width p.bytes l.frame c.link.record_stands in
     let long = spelled_length p.bytes l.frame (w + length tail) c.link.record_stands c.room in
     omega (arith, some.0, long, length-append (spell_in w (w + length tail)) tail)
@@ -275,7 +275,7 @@ module _ (p : Parts) (bytes : OutputRecord → ℕ → Option ℕ → List ℕ) 
           record {
             body = ap (λ n. (b.bytes ++ x) ++ flat_map (bytes_by bytes) (written_by bytes n o ss)) l ∙ (append_assoc b.bytes x (flat_map (bytes_by bytes) ws) ∙ g.body);
             newest = ap (λ n. last_at o (written_by bytes n o ss)) l ∙ (sym (last_next b.newest w ws) ∙ g.newest);
-            metadata = ap (λ n. or_place (place_seen b.metadata ((record_of s).at == metadata_at p.bytes) at) (moved (written_by bytes n o ss) (metadata_at p.bytes))) l ∙ (sym (moved_next b.metadata w ws (metadata_at p.bytes)) ∙ g.metadata);
+            metadata = ap (λ n. or_place (offset_so_far b.metadata ((record_of s).at == metadata_at p.bytes) at) (moved (written_by bytes n o ss) (metadata_at p.bytes))) l ∙ (sym (moved_next b.metadata w ws (metadata_at p.bytes)) ∙ g.metadata);
             can = subst (λ n. AllByRecursion (λ w. Can w.output_record w.at w.older) (written_by bytes n o ss)) (sym l) g.can.1;
             before = subst (IsBefore o) (sym l) h;
           }

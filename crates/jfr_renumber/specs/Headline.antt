@@ -15,7 +15,7 @@ use Rattle.jfr_renumber.specs.Renumber.{renumber_of}
 pub record IsRenumberedOutput (g : Given) (c b : List ℕ) : Type 0 where
   pub parts : Parts
   pub bytes : parts.bytes ≡ c
-  pub stand : AreParts parts
+  pub valid : AreParts parts
   pub becomes : b ≡ renumber_of parts (kept_of g parts)
   pub renumbered : IsRenumbered parts (kept_of g parts)
 

@@ -9,7 +9,7 @@ use Rattle.jfr_pool.specs.declared.entry.EntryAt.{EntryAt}
 use Rattle.jfr_pool.specs.Entries.{in_force, entry_node}
 use Rattle.jfr_chunk.specs.Parts.{Parts, EventAt, AreParts, events_of}
 use Rattle.jfr_chunk.specs.Scrub.{scrub_of}
-use Rattle.jfr_chunk.specs.Metas.{classes_left}
+use Rattle.jfr_chunk.specs.Metas.{remaining_classes}
 use Rattle.jfr_chunk.specs.Paths.{leads}
 use Rattle.jfr_renumber.specs.Rekeyed.{SameButKeys, rekeyed_bytes, moved}
 use Rattle.jfr_renumber.specs.Renumber.{Used, together, new_key, firsts, pair_of, renumber_of}
@@ -60,10 +60,10 @@ AreRenamed new p q (e ∷ es) [] = ⊥
 pub record IsRenumbered (p : Parts) (kept : List EventAt) : Type 0 where
   pub keys : AreNewKeys p kept (new_key p kept)
   pub parts : Parts
-  pub classes : parts.classes ≡ classes_left p kept
+  pub classes : parts.classes ≡ remaining_classes p kept
   pub bytes : parts.bytes ≡ renumber_of p kept
   pub whole : Whole (renumber_of p kept)
-  pub stand : AreParts parts
+  pub valid : AreParts parts
   pub size : length (renumber_of p kept) ≤ length p.bytes
   pub no_longer : length (renumber_of p kept) ≤ length (scrub_of p kept)
   pub entries : AreRenamed (new_key p kept) p parts (firsts p kept) parts.entries

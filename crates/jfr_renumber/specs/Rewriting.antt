@@ -7,8 +7,8 @@ use Rattle.jfr_value.specs.Leaves.{LeafAt}
 use Rattle.jfr_renumber.specs.Rekeyed.{rekeyed_leaf}
 
 -- In a string that is a key, the key follows the kind byte.
-abbrev pub KeyStands : LeafAt → Type 0
-KeyStands l = l.kind ≡ leaf_kinds.Base kinds.Text → (rest : List ℕ) → l.spelled ≡ 2 ∷ rest → (key : ℕ) × Spells rest key
+abbrev pub KeyFollowsKind : LeafAt → Type 0
+KeyFollowsKind l = l.kind ≡ leaf_kinds.Base kinds.Text → (rest : List ℕ) → l.spelled ≡ 2 ∷ rest → (key : ℕ) × Spells rest key
 
 -- The bytes of a leaf with its new key, if it has a key.
 abbrev pub leaf_with : (ℕ × ℕ → ℕ) → LeafAt → List ℕ

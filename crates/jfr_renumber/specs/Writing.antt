@@ -8,10 +8,10 @@ use Rattle.jfr_chunk.specs.Parts.{Parts, metadata_at}
 use Rattle.jfr_chunk.specs.Reach.{kept_by}
 use Rattle.jfr_chunk.specs.Scrub.{OutputRecord, Whole, Chained, Rebuilt, last_at, moved, older_after, record_of}
 use Rattle.jfr_chunk.specs.Written.{by_pool, distance}
-use Rattle.jfr_laws.specs.InChunk.{EntryStands, LinkStands}
-use Rattle.jfr_output.specs.declared.output_records.OutputRecord as told
+use Rattle.jfr_laws.specs.InChunk.{IsEntryIn, IsLinkIn}
+use Rattle.jfr_output.specs.declared.output_records.OutputRecord as contents
 use Rattle.jfr_output.specs.OutputRecords.{ShowsEvent, ShowsMetadata, output_record_as}
-use Rattle.jfr_output.specs.Positions.{place_seen}
+use Rattle.jfr_output.specs.Positions.{offset_so_far}
 use Rattle.jfr_renumber.specs.declared.output.Output.{Output}
 use Rattle.jfr_renumber.specs.Renumber.{bytes_by, checkpoint_tail, new_bytes, written_by}
 
@@ -32,14 +32,14 @@ unfoldable pub with_record : (OutputRecord → ℕ → Option ℕ → List ℕ) 
 with_record bytes place b s = record {
   bytes = b.bytes ++ bytes s (length b.bytes) b.newest;
   newest = older_after s (length b.bytes) b.newest;
-  metadata = place_seen b.metadata ((record_of s).at == place) (length b.bytes);
+  metadata = offset_so_far b.metadata ((record_of s).at == place) (length b.bytes);
 }
 
 -- If what this value of the code's enum says of the kept events and of the metadata record is true, the output
 -- has this output record more.
-unfoldable pub IsWritten : (ℕ × ℕ → ℕ) → Parts → List Bool → List EntryAt → Option (List ℕ) → told.OutputRecord → Progress → Progress → Type 0
-IsWritten new p flags left slim s b after =
-    ShowsEvent p flags s → ShowsMetadata (metadata_at p.bytes) s → after ≡ with_record (new_bytes new p (kept_by p flags) left) (metadata_at p.bytes) b (output_record_as slim s)
+unfoldable pub IsWritten : (ℕ × ℕ → ℕ) → Parts → List Bool → List EntryAt → Option (List ℕ) → contents.OutputRecord → Progress → Progress → Type 0
+IsWritten new p flags remaining slim s b after =
+    ShowsEvent p flags s → ShowsMetadata (metadata_at p.bytes) s → after ≡ with_record (new_bytes new p (kept_by p flags) remaining) (metadata_at p.bytes) b (output_record_as slim s)
 
 -- The output has all output records, given the bytes of each, and 68 bytes for the header.
 pub record IsBody (p : Parts) (bytes : OutputRecord → ℕ → Option ℕ → List ℕ) (ss : List OutputRecord) (b : Progress) : Type 0 where
@@ -50,12 +50,12 @@ pub record IsBody (p : Parts) (bytes : OutputRecord → ℕ → Option ℕ → L
 -- The checkpoint and these entries are in the chunk, and with the delta, the entries and new keys the
 -- checkpoint isn't longer.
 pub record CheckpointFits (new : ℕ × ℕ → ℕ) (p : Parts) (l : Link) (delta : ℕ) (es : List EntryAt) : Type 0 where
-  pub link : LinkStands p.bytes l
-  pub entries : AllByRecursion (EntryStands p.bytes p.classes) es
+  pub link : IsLinkIn p.bytes l
+  pub entries : AllByRecursion (IsEntryIn p.bytes p.classes) es
   pub room : (l.frame.type_at - l.frame.at) + length (checkpoint_tail new p l delta (by_pool es)) ≤ l.frame.size
 
 -- The output record can be written at this offset: what it is made of is in the chunk.
 unfoldable pub CanWrite : (ℕ × ℕ → ℕ) → Parts → List EntryAt → OutputRecord → ℕ → Option ℕ → Type 0
-CanWrite new p left (Whole r) at older = IsRecord p.bytes r
-CanWrite new p left (Rebuilt r x) at older = IsRecord p.bytes r
-CanWrite new p left (Chained number l) at older = CheckpointFits new p l (distance at older) (filter (λ e. e.checkpoint == number) left)
+CanWrite new p remaining (Whole r) at older = IsRecord p.bytes r
+CanWrite new p remaining (Rebuilt r x) at older = IsRecord p.bytes r
+CanWrite new p remaining (Chained number l) at older = CheckpointFits new p l (distance at older) (filter (λ e. e.checkpoint == number) remaining)

@@ -2,7 +2,7 @@
 ghost use Rattle.std.specs.Prelude.{◌≡◌, ◌≤◌, ◌+◌, ◌-◌, ◌++◌, length, OnOk};
 ghost use Rattle.std.specs.List.{AllByRecursion, flat_map};
 ghost use Rattle.jfr_chunk.specs.Written.{by_pool, sized};
-ghost use Rattle.jfr_laws.specs.InChunk.{EntryStands, LinkStands};
+ghost use Rattle.jfr_laws.specs.InChunk.{IsEntryIn, IsLinkIn};
 ghost use Rattle.jfr_renumber.specs.Renumber.{checkpoint_tail, entry_bytes, group_bytes};
 
 use crate::fields::put_value;
@@ -33,10 +33,10 @@ fn put_entry<N: NewKeys, L: Ledger>(
     new: &N,
     steps: &mut Steps<L>,
 ) -> Result<(), NoMemory>
-    requires stands { EntryStands chunk.now.bytes chunk.now.classes entry.now }
+    requires holds { IsEntryIn chunk.now.bytes chunk.now.classes entry.now }
     ensures ok { OnOk result (out.new.items ≡ out.old.items ++ entry_bytes (N.keys new.now) chunk.now entry.now) }
 {
-    chunk.parts_stand();
+    chunk.parts_are_valid();
     let node = Node {
         shape: Shape::inline(entry.class),
         bytes: chunk.bytes(),
@@ -55,7 +55,7 @@ fn put_entries<N: NewKeys, L: Ledger>(
     new: &N,
     steps: &mut Steps<L>,
 ) -> Result<(), NoMemory>
-    requires stand { AllByRecursion (EntryStands chunk.now.bytes chunk.now.classes) entries.now }
+    requires valid { AllByRecursion (IsEntryIn chunk.now.bytes chunk.now.classes) entries.now }
     ensures ok { OnOk result (out.new.items ≡ out.old.items ++ flat_map (entry_bytes (N.keys new.now) chunk.now) entries.now) }
 {
     for entry in entries {
@@ -72,7 +72,7 @@ fn put_pools<N: NewKeys, L: Ledger>(
     new: &N,
     steps: &mut Steps<L>,
 ) -> Result<(), NoMemory>
-    requires stand { AllByRecursion (EntryStands chunk.now.bytes chunk.now.classes) entries.now }
+    requires valid { AllByRecursion (IsEntryIn chunk.now.bytes chunk.now.classes) entries.now }
     ensures ok { OnOk result (out.new.items ≡ out.old.items ++ flat_map (group_bytes (N.keys new.now) chunk.now) (by_pool entries.now)) }
 {
     let mut rest = entries;
@@ -95,8 +95,8 @@ pub(crate) fn put_checkpoint<N: NewKeys, L: Ledger>(
     new: &N,
     steps: &mut Steps<L>,
 ) -> Result<(), NoMemory>
-    requires link { LinkStands chunk.now.bytes checkpoint.link }
-    requires stand { AllByRecursion (EntryStands chunk.now.bytes chunk.now.classes) checkpoint.entries.now }
+    requires link { IsLinkIn chunk.now.bytes checkpoint.link }
+    requires valid { AllByRecursion (IsEntryIn chunk.now.bytes chunk.now.classes) checkpoint.entries.now }
     requires room { (checkpoint.link.frame.type_at - checkpoint.link.frame.at) + length (checkpoint_tail (N.keys new.now) chunk.now checkpoint.link checkpoint.delta (by_pool checkpoint.entries.now)) ≤ checkpoint.link.frame.size }
     ensures ok { OnOk result (out.new.items ≡ out.old.items ++ sized (checkpoint.entry.link.frame.type_at - checkpoint.entry.link.frame.at) (checkpoint_tail (N.keys new.now) chunk.now checkpoint.entry.link checkpoint.entry.delta (by_pool checkpoint.entry.entries.now))) }
 {

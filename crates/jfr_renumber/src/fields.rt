@@ -3,7 +3,7 @@ ghost use Rattle.std.specs.Prelude.{◌≡◌, ℕ, ◌≤◌, ◌++◌, length,
 ghost use Rattle.std.specs.List.{AllByRecursion};
 ghost use Rattle.jfr_layout.specs.Classes.{IsFieldLayout, Sound, find_class};
 ghost use Rattle.jfr_layout.specs.declared.field_layout.FieldLayout.{FieldLayout};
-ghost use Rattle.jfr_value.specs.Nodes.{EndsAt, IsNode, IsRow, IsValue, node_at, node_of};
+ghost use Rattle.jfr_value.specs.Nodes.{EndsAt, IsNode, AreValues, IsValue, node_at, node_of};
 ghost use Rattle.jfr_value.specs.Values.{Value, Values};
 ghost use Rattle.jfr_renumber.specs.Fields.{IsNumber, rekeyed_first};
 ghost use Rattle.jfr_renumber.specs.Passed.{Adds, AddsValue};
@@ -67,7 +67,7 @@ pub(crate) fn pass_value<N: NewKeys, L: Ledger>(
     match layout.form {
         Form::Fields => {
             let layouts = context.classes.layouts(layout.class_index);
-            pass_row(out, context, layouts, start, steps)
+            pass_fields(out, context, layouts, start, steps)
         }
         Form::Array | Form::Key => pass_leaves(out, context, shape, start, steps),
         Form::Integer | Form::Raw(_) | Form::Text => {
@@ -126,7 +126,7 @@ fn pass_leaves<N: NewKeys, L: Ledger>(
 
 // Passes the fields with these layouts, as `pass_value` does. The first starts at `start.at`. Numbers at the end of
 // the list stay the same, and aren't walked.
-fn pass_row<N: NewKeys, L: Ledger>(
+fn pass_fields<N: NewKeys, L: Ledger>(
     out: &mut Vec<u8>,
     context: RekeyContext<'_, N>,
     layouts: &[FieldLayout],
@@ -137,8 +137,8 @@ fn pass_row<N: NewKeys, L: Ledger>(
     requires layouts { AllByRecursion (IsFieldLayout context.classes.now) layouts.now }
     requires from { start.from ≤ start.at }
     requires within { context.end ≤ length context.bytes.now }
-    requires row { (vs : Values) × IsRow context.classes.now context.bytes.now start.at context.end (map (λ s. s.shape) layouts.now) vs }
-    ensures ok { IfOk result (λ from. (vs : Values) → IsRow context.entry.classes.now context.entry.bytes.now start.at context.entry.end (map (λ s. s.shape) layouts.now) vs → Adds context.entry.bytes.now out.old.items start out.new.items from context.entry.end (rekeyed_first (N.keys context.entry.new.now) vs (length layouts.now))) }
+    requires row { (vs : Values) × AreValues context.classes.now context.bytes.now start.at context.end (map (λ s. s.shape) layouts.now) vs }
+    ensures ok { IfOk result (λ from. (vs : Values) → AreValues context.entry.classes.now context.entry.bytes.now start.at context.entry.end (map (λ s. s.shape) layouts.now) vs → Adds context.entry.bytes.now out.old.items start out.new.items from context.entry.end (rekeyed_first (N.keys context.entry.new.now) vs (length layouts.now))) }
 {
     let count = referring_len(layouts);
     let mut passed = start;

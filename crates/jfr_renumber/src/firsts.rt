@@ -31,7 +31,7 @@ pub(crate) fn first_entries(
     requires { length marks.now ≡ length chunk.now.entries }
     ensures { IfOk result (λ es. (flags : List Bool) → marks.now ≡ reached_marks chunk.now (kept_by chunk.now flags) → ((t : ℕ × ℕ) → number_of keys.now t ≡ new_key_of chunk.now (kept_by chunk.now flags) t) → es.items ≡ firsts chunk.now (kept_by chunk.now flags)) }
 {
-    chunk.parts_stand();
+    chunk.parts_are_valid();
     collected(alloc, chunk.pools(), marks, keys)
 }
 

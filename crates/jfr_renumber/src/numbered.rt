@@ -8,7 +8,7 @@ ghost use Rattle.jfr_renumber.specs.Renumber.{new_key_of, pair_of};
 use crate::finding::find;
 use crate::numbering::number_all;
 use crate::rewriting::NewKeys;
-use crate::used::{missing_keys, put_in_order};
+use crate::used::{missing_keys, sort_and_dedup};
 use crate::values::with_values;
 use jfr_base::NoMemory;
 use jfr_chunk::{Chunk, Kept};
@@ -49,10 +49,10 @@ impl NumberedKeys {
         requires size { length marks.now ≡ length chunk.now.entries }
         ensures { IfOk result (λ k. (t : ℕ × ℕ) → number_of k t ≡ new_key_of chunk.now (kept_by chunk.now kept.now) t) }
     {
-        chunk.parts_stand();
+        chunk.parts_are_valid();
         let mut pairs = missing_keys(alloc, chunk, kept, marks)?;
         push_reached(&mut pairs, chunk, marks)?;
-        put_in_order(&mut pairs);
+        sort_and_dedup(&mut pairs);
         let keys = with_values(alloc, chunk, &pairs)?;
         let numbers = number_all(alloc, &keys)?;
         Ok(NumberedKeys { pairs, numbers })

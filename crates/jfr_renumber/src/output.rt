@@ -5,7 +5,7 @@ ghost use Rattle.jfr_chunk.specs.Reach.{kept_by};
 ghost use Rattle.jfr_chunk.specs.Scrub.{groups_of, output_records};
 ghost use Rattle.jfr_chunk.specs.Written.{distance, sized};
 ghost use Rattle.jfr_output.specs.OutputRecords.{new_metadata, output_record_as};
-ghost use Rattle.jfr_output.specs.Positions.{IsBefore, place_seen};
+ghost use Rattle.jfr_output.specs.Positions.{IsBefore, offset_so_far};
 ghost use Rattle.jfr_output.specs.Remaining.{NotFalling};
 ghost use Rattle.jfr_renumber.specs.Numbers.{number_of, numbers_of};
 ghost use Rattle.jfr_renumber.specs.Renumber.{checkpoint_tail, firsts, new_bytes, new_key_of, renumber_of};
@@ -54,7 +54,7 @@ pub(crate) fn put_chunk<L: Ledger>(
     requires keys { (t : ℕ × ℕ) → number_of source.keys.now t ≡ new_key_of source.chunk.now (kept_by source.chunk.now kept.now) t }
     ensures { IfOk result (λ out. out.items ≡ renumber_of source.entry.chunk.now (kept_by source.entry.chunk.now kept.now)) }
 {
-    source.chunk.parts_stand();
+    source.chunk.parts_are_valid();
     out.clear();
     out.extend_from_slice(&[0; 68])?;
     let mut output = Output {
@@ -86,7 +86,7 @@ fn put_records<L: Ledger>(
     requires below { (t : ℕ × ℕ) → numbers_of source.keys.now t ≤ t.1 }
     ensures ok { OnOk result (IsBody source.entry.chunk.now (new_bytes (numbers_of source.entry.keys.now) source.entry.chunk.now (kept_by source.entry.chunk.now kept.now) source.entry.entries.now) (output_records source.entry.chunk.now (kept_by source.entry.chunk.now kept.now)) (progress_of output.new)) }
 {
-    source.chunk.parts_stand();
+    source.chunk.parts_are_valid();
     let mut cursor = Cursor {
         frame: 0,
         event: 0,
@@ -115,7 +115,7 @@ fn put_record<L: Ledger>(
     requires can { CanWrite (numbers_of source.keys.now) source.chunk.now source.entries.now (output_record_as (option_map (λ s. s.now) source.slim) output_record) (length output.old.bytes.items) output.old.newest }
     ensures ok { OnOk result ((flags : List Bool) → IsWritten (numbers_of source.entry.keys.now) source.entry.chunk.now flags source.entry.entries.now (option_map (λ s. s.now) source.entry.slim) output_record (progress_of output.old) (progress_of output.new)) }
 {
-    source.chunk.parts_stand();
+    source.chunk.parts_are_valid();
     match output_record {
         OutputRecord::Event(number, _) => {
             put_chunk_event(&mut output.bytes, source.chunk, number, source.keys, steps)
@@ -138,7 +138,7 @@ fn put_metadata(
     slim: Option<&[u8]>,
 ) -> Result<(), NoMemory>
     requires { IsRecord bytes.now frame }
-    ensures ok { OnOk result (progress_of output.new ≡ record { bytes = output.old.bytes.items ++ unwrap_or (option_map (λ s. s.now) slim.entry) (record_bytes bytes.now frame); newest = output.old.newest; metadata = place_seen output.old.metadata true (length output.old.bytes.items) }) }
+    ensures ok { OnOk result (progress_of output.new ≡ record { bytes = output.old.bytes.items ++ unwrap_or (option_map (λ s. s.now) slim.entry) (record_bytes bytes.now frame); newest = output.old.newest; metadata = offset_so_far output.old.metadata true (length output.old.bytes.items) }) }
 {
     let at = output.bytes.len();
     let record = slim.unwrap_or(&bytes[frame.at..frame.end()]);

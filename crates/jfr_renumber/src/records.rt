@@ -64,7 +64,7 @@ pub(crate) fn put_chunk_event<N: NewKeys, L: Ledger>(
     requires below { (t : ℕ × ℕ) → N.keys new.now t ≤ t.1 }
     ensures ok { OnOk result (IfSome (slice_get (events_of chunk.now) number) (λ e. out.new.items ≡ out.old.items ++ event_bytes (N.keys new.now) chunk.now e)) }
 {
-    chunk.parts_stand();
+    chunk.parts_are_valid();
     match chunk.event(number) {
         Some(event) => put_event(out, chunk.classes(), event, new, steps),
         None => Ok(()),

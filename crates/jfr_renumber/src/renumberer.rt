@@ -59,7 +59,7 @@ impl Renumberer {
     /// Makes the output as `prepare` does, in the memory of a vector, whose items are dropped.
     pub(crate) fn prepare_in(
         alloc: Global,
-        room: Vec<u8>,
+        memory: Vec<u8>,
         chunk: &Chunk<'_>,
         filter: &Filter,
     ) -> Result<Renumberer, NoMemory>
@@ -68,7 +68,7 @@ impl Renumberer {
         ensures renumbered { IfOk result (λ r. IsRenumbered chunk.now (kept_of filter.now chunk.now)) }
     {
         let kept = choose(alloc, chunk, filter)?;
-        renumbered::<Brand>(alloc, Blank::new(1), room, chunk, &kept)
+        renumbered::<Brand>(alloc, Blank::new(1), memory, chunk, &kept)
     }
 
     /// The output chunk. Allocates nothing.
@@ -98,7 +98,7 @@ impl Renumberer {
 fn renumbered<L: Ledger>(
     alloc: Global,
     blank: Blank,
-    room: Vec<u8>,
+    memory: Vec<u8>,
     chunk: &Chunk<'_>,
     kept: &Kept,
 ) -> Result<Renumberer, NoMemory>
@@ -121,7 +121,7 @@ fn renumbered<L: Ledger>(
         kept,
         marks: &marks,
     };
-    let bytes = put_output(alloc, room, chosen, &keys, &mut steps)?;
+    let bytes = put_output(alloc, memory, chosen, &keys, &mut steps)?;
     Ok(Renumberer { keys, bytes })
 }
 
@@ -136,7 +136,7 @@ struct Chosen<'c> {
 // Writes the output with these new keys.
 fn put_output<L: Ledger>(
     alloc: Global,
-    room: Vec<u8>,
+    memory: Vec<u8>,
     chosen: Chosen<'_>,
     keys: &NumberedKeys,
     steps: &mut Steps<L>,
@@ -157,5 +157,5 @@ fn put_output<L: Ledger>(
         entries: &entries,
         keys: &new,
     };
-    put_chunk(room, source, chosen.kept, steps)
+    put_chunk(memory, source, chosen.kept, steps)
 }

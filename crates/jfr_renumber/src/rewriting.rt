@@ -7,7 +7,7 @@ ghost use Rattle.jfr_value.specs.declared.leaf.LeafKind.TheVariants as leaf_kind
 ghost use Rattle.jfr_value.specs.Leaves.{leaf_of};
 ghost use Rattle.jfr_value.specs.Nodes.{IsValue, node_of};
 ghost use Rattle.jfr_renumber.specs.Rekeyed.{rekeyed_bytes};
-ghost use Rattle.jfr_renumber.specs.Rewriting.{KeyStands, leaf_with};
+ghost use Rattle.jfr_renumber.specs.Rewriting.{KeyFollowsKind, leaf_with};
 
 use jfr_base::{NoMemory, read_within, write_var};
 use jfr_layout::{Classes, Kind};
@@ -53,7 +53,7 @@ pub(crate) fn put_rekeyed<N: NewKeys, L: Ledger>(
 
 // Appends a leaf, with its new key if it has a key.
 fn put_leaf<N: NewKeys>(out: &mut Vec<u8>, leaf: Leaf<'_>, new: &N) -> Result<(), AllocError>
-    requires stands { KeyStands (leaf_of leaf) }
+    requires holds { KeyFollowsKind (leaf_of leaf) }
     ensures ok { OnOk result (out.new.items ≡ out.old.items ++ leaf_with (N.keys new.now) (leaf_of leaf.entry)) }
 {
     match leaf.kind {
@@ -67,7 +67,7 @@ fn put_leaf<N: NewKeys>(out: &mut Vec<u8>, leaf: Leaf<'_>, new: &N) -> Result<()
 #[tactic(auto, using(crate::proofs::RewritingLaws::string_with, crate::proofs::RewritingLaws::other_with))]
 fn put_string<N: NewKeys>(out: &mut Vec<u8>, leaf: Leaf<'_>, new: &N) -> Result<(), AllocError>
     requires text { leaf.kind ≡ leaf_kinds.Base kinds.Text }
-    requires stands { KeyStands (leaf_of leaf) }
+    requires holds { KeyFollowsKind (leaf_of leaf) }
     ensures ok { OnOk result (out.new.items ≡ out.old.items ++ leaf_with (N.keys new.now) (leaf_of leaf.entry)) }
 {
     if leaf.spelled.is_empty() || leaf.spelled[0] != KEY {

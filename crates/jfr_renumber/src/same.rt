@@ -1,6 +1,6 @@
 //! Fields whose bytes new keys don't change.
 ghost use Rattle.std.specs.Prelude.{◌≡◌, ◌↔◌, ◌<◌, ◌≤◌, length, IsOk, IsTrue, Ok, slice_index};
-ghost use Rattle.jfr_base.specs.Formats.{run, seen};
+ghost use Rattle.jfr_base.specs.Formats.{run, end_or_flaw};
 ghost use Rattle.jfr_layout.specs.declared.kind.Kind.TheVariants as kinds;
 ghost use Rattle.jfr_value.specs.Reading.{base_format};
 
@@ -20,8 +20,8 @@ pub(crate) fn is_zero(bytes: &[u8], at: usize, end: usize) -> bool
 pub(crate) fn text_end(bytes: &[u8], at: usize, end: usize) -> usize
     requires order { at ≤ end }
     requires within { end ≤ length bytes.now }
-    requires there { IsOk (seen (run (base_format kinds.Text) bytes.now end at)) }
-    ensures { seen (run (base_format kinds.Text) bytes.now end at) ≡ Ok result }
+    requires there { IsOk (end_or_flaw (run (base_format kinds.Text) bytes.now end at)) }
+    ensures { end_or_flaw (run (base_format kinds.Text) bytes.now end at) ≡ Ok result }
 {
     if is_bare(bytes, at, end) {
         return at + 1;
@@ -37,8 +37,8 @@ pub(crate) fn text_end(bytes: &[u8], at: usize, end: usize) -> usize
 fn long_text_end(bytes: &[u8], at: usize, end: usize) -> usize
     requires order { at ≤ end }
     requires within { end ≤ length bytes.now }
-    requires there { IsOk (seen (run (base_format kinds.Text) bytes.now end at)) }
-    ensures { seen (run (base_format kinds.Text) bytes.now end at) ≡ Ok result }
+    requires there { IsOk (end_or_flaw (run (base_format kinds.Text) bytes.now end at)) }
+    ensures { end_or_flaw (run (base_format kinds.Text) bytes.now end at) ≡ Ok result }
 {
     match read_string(bytes, at, end) {
         Ok(string) => string.end,

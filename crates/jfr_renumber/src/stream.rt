@@ -1,8 +1,8 @@
 //! The stream that scrubs a recording with new keys.
 ghost use Rattle.std.specs.Prelude.{◌≡◌, ◌≢◌, ℕ, List, None};
-ghost use Rattle.jfr_outside.specs.World.{Told};
+ghost use Rattle.jfr_outside.specs.World.{IfKnown};
 ghost use Rattle.jfr_header.specs.Fronts.{Whole};
-ghost use Rattle.jfr_plan.specs.Effects.{alone};
+ghost use Rattle.jfr_plan.specs.Effects.{without_sink};
 ghost use Rattle.jfr_plan.specs.Clauses.{over, Ran, CanCreate};
 ghost use Rattle.jfr_chunk.specs.Refusal.{refusal_of};
 ghost use Rattle.jfr_output.specs.Recordings.{IsByPlan};
@@ -11,7 +11,7 @@ ghost use Rattle.jfr_renumber.specs.Renumbers.{renumbered, renumbering};
 
 use crate::renumberer::Renumberer;
 use jfr_base::{NoMemory, ReadFault};
-use jfr_chunk::{Chunk, Room};
+use jfr_chunk::{Buffers, Chunk};
 use jfr_filter::Filter;
 use jfr_header::Ending;
 use jfr_outside::Place;
@@ -19,12 +19,12 @@ use jfr_plan::{Make, make_stream};
 use std::alloc::Global;
 use std::mem;
 
-/// Makes the output of each chunk with a filter and new keys. `room` and `bytes` hold the last chunk's memory,
+/// Makes the output of each chunk with a filter and new keys. `buffers` and `bytes` hold the last chunk's memory,
 /// which the next chunk uses again.
 #[derive(Drop)]
 struct Renumber<'f> {
     filter: &'f Filter,
-    room: Room,
+    buffers: Buffers,
     bytes: Vec<u8>,
 }
 
@@ -42,12 +42,12 @@ impl<'f> Make for Renumber<'f> {
     ghost last = { λ s chunk. s.bytes.items };
 
     fn make(&mut self, alloc: Global, chunk: &[u8]) -> Result<(), ReadFault> {
-        let room = mem::replace(&mut self.room, Room::new(alloc));
+        let buffers = mem::replace(&mut self.buffers, Buffers::new(alloc));
         let bytes = mem::replace(&mut self.bytes, Vec::new(alloc));
-        let chunk = Chunk::read_in(alloc, room, chunk)?;
+        let chunk = Chunk::read_in(alloc, buffers, chunk)?;
         let renumberer = Renumberer::prepare_in(alloc, bytes, &chunk, self.filter)?;
         self.bytes = renumberer.into_bytes();
-        self.room = chunk.into_room();
+        self.buffers = chunk.into_buffers();
         Ok(())
     }
 
@@ -70,11 +70,11 @@ pub fn renumber_stream<P: Place>(
     // The file holds the output of each chunk before the first refused one: a recording that is cut into just
     // these chunks, each of them accepted again, no longer than its scrub, and of the same meaning except for
     // the keys. `each` says this of the output of every accepted chunk, whatever the result is.
-    ensures headline { IsByPlan result → Told (P.state place.old).told (P.state place.new).told (Renumbers filter.now input.now output.now) }
+    ensures headline { IsByPlan result → IfKnown (P.state place.old).contents (P.state place.new).contents (Renumbers filter.now input.now output.now) }
     ensures each { (c : List ℕ) → Whole c → refusal_of c ≡ None → IsRenumberedOutput filter.now c (renumbered filter.now c) }
 
     ensures ran { Ran (over (renumbering filter.now output.now) input.now) result
-        (alone (P.state place.old)) (alone (P.state place.new)) }
+        (without_sink (P.state place.old)) (without_sink (P.state place.new)) }
 
     // If the output can be created, there is no write fault.
     ensures can_create { CanCreate output.now (P.state place.old)
@@ -85,7 +85,7 @@ pub fn renumber_stream<P: Place>(
         place,
         Renumber {
             filter,
-            room: Room::new(alloc),
+            buffers: Buffers::new(alloc),
             bytes: Vec::new(alloc),
         },
         input,

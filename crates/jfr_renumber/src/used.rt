@@ -99,7 +99,7 @@ fn list_event(list: &mut Missing, chunk: &Chunk<'_>, kept: &Kept, number: usize)
         Some(true) => {}
         _ => return,
     }
-    chunk.parts_stand();
+    chunk.parts_are_valid();
     if let Some(event) = chunk.event(number) {
         list_value(list, chunk.classes(), chunk.pools(), event.node);
     }
@@ -114,7 +114,7 @@ fn list_entry(list: &mut Missing, chunk: &Chunk<'_>, marks: &Marks, number: usiz
     if !marks.is_reached(number) {
         return;
     }
-    chunk.parts_stand();
+    chunk.parts_are_valid();
     if let Some(node) = chunk.entry_node(number) {
         list_value(list, chunk.classes(), chunk.pools(), node);
     }
@@ -158,7 +158,7 @@ fn list_single(list: &mut Missing, walk: Walk<'_, '_, Pools>, shape: Shape, at: 
 }
 
 /// Sorts the pairs, and removes repeated ones.
-pub(crate) fn put_in_order(pairs: &mut Vec<(u64, u64)>)
+pub(crate) fn sort_and_dedup(pairs: &mut Vec<(u64, u64)>)
     ensures rising { IsRising pairs.new.items }
     ensures kept { (t : ℕ × ℕ) → Contains pairs.old.items t → Contains pairs.new.items t }
     ensures none_added { (t : ℕ × ℕ) → Contains pairs.new.items t → Contains pairs.old.items t }

@@ -3,7 +3,7 @@ use Rattle.std.proofs.Common.{◌≡◌, ℕ, ◌+◌, refl, List, [], length, N
 use Rattle.std.specs.Prelude.{◌↔◌}
 use Rattle.jfr_base.specs.declared.flaw.Flaw.{Flaw}
 use Rattle.jfr_plan.specs.Ends.{Fine}
-use Rattle.jfr_plan.specs.Walks.{Stops, IsGoing, plan_after}
+use Rattle.jfr_plan.specs.Rules.{Stops, IsGoing, plan_after}
 use Rattle.jfr_plan.specs.Accepted.{AllAccepted}
 use Rattle.jfr_plan.proofs.EndsWell.{ends_well}
 use Rattle.jfr_chunk.specs.Parts.{Parts}

@@ -22,7 +22,7 @@ use Rattle.jfr_report.specs.Gathered.{Grew, IsGathered, TearsText, WritesSome, T
 
 -- Nothing is written or gathered yet.
 pub begins : (all : List (List ℕ)) (before : Option (List ℕ)) → IsGathered all before before [] all
-begins all before = record { written = []; waiting = []; parts = refl; stands = nothing before; gathers = refl }
+begins all before = record { written = []; waiting = []; parts = refl; holds = nothing before; gathers = refl }
   where
     nothing : (o : Option (List ℕ)) → o ≡ option_map (added []) o
     nothing None = refl
@@ -47,13 +47,13 @@ module _ (all : List (List ℕ)) (before now : Option (List ℕ)) (g : List ℕ)
     written = i.written ++ i.waiting;
     waiting = [];
     parts = so_far;
-    stands = subst (λ z. Grew z before next) (ap (λ z. concat i.written ++ z) i.gathers ∙ sym (concat-append i.written i.waiting)) (grew_on (concat i.written) g before now next i.stands w);
+    holds = subst (λ z. Grew z before next) (ap (λ z. concat i.written ++ z) i.gathers ∙ sym (concat-append i.written i.waiting)) (grew_on (concat i.written) g before now next i.holds w);
     gathers = refl;
   }
 
   -- The first of the texts are written.
   pub some_written : WritesSome all before now
-  some_written = record { first = i.written; rest = i.waiting ++ rest; parts = i.parts; stands = i.stands }
+  some_written = record { first = i.written; rest = i.waiting ++ rest; parts = i.parts; holds = i.holds }
 
 -- A text more is gathered.
 pub gathered_more : (all : List (List ℕ)) (before now : Option (List ℕ)) (g h text : List ℕ) (rest : List (List ℕ)) → h ≡ g ++ text → IsGathered all before now g (text ∷ rest) → IsGathered all before now h rest
@@ -61,13 +61,13 @@ gathered_more all before now g h text rest e i = record {
   written = i.written;
   waiting = i.waiting ++ text ∷ [];
   parts = i.parts ∙ ap (λ z. i.written ++ z) (sym (append_assoc i.waiting (text ∷ []) rest));
-  stands = i.stands;
+  holds = i.holds;
   gathers = e ∙ (ap (λ z. z ++ text) i.gathers ∙ (ap (λ z. concat i.waiting ++ z) (sym (append-nil text)) ∙ sym (concat-append i.waiting (text ∷ []))));
 }
 
 -- Nothing is left.
 pub all_written : (all : List (List ℕ)) (before now : Option (List ℕ)) → IsGathered all before now [] [] → Grew (concat all) before now
-all_written all before now i = subst (λ z. Grew z before now) joined i.stands
+all_written all before now i = subst (λ z. Grew z before now) joined i.holds
   where
     joined : concat i.written ≡ concat all
     joined = sym (append-nil (concat i.written)) ∙ (ap (λ z. concat i.written ++ z) (i.gathers ∙ ap concat (sym (append-nil i.waiting))) ∙ (sym (concat-append i.written (i.waiting ++ [])) ∙ ap concat (sym i.parts)))
@@ -115,7 +115,7 @@ torn_from all before now next g rest i k w t = record {
   rest = t.rest ++ rest;
   bytes = t.bytes;
   parts = i.parts ∙ (ap (λ z. i.written ++ (z ++ rest)) t.parts ∙ (ap (λ z. i.written ++ z) (append_assoc t.first (t.torn ∷ t.rest) rest) ∙ sym (append_assoc i.written t.first (t.torn ∷ (t.rest ++ rest)))));
-  stands = subst (λ z. Grew z before next) joined (grew_on (concat i.written) (take k g) before now next i.stands w);
+  holds = subst (λ z. Grew z before next) joined (grew_on (concat i.written) (take k g) before now next i.holds w);
 }
   where
     joined : concat i.written ++ take k g ≡ concat (i.written ++ t.first) ++ take t.bytes t.torn
@@ -143,7 +143,7 @@ some_list (x ∷ xs) e h = cc
 
 -- The one text is written in part.
 pub tears_one : (text : List ℕ) (before now : Option (List ℕ)) → ((k : ℕ) × (now ≡ option_map (added (take k text)) before)) → TearsText (text ∷ []) before now
-tears_one text before now t = record { first = []; torn = text; rest = []; bytes = t.0; parts = refl; stands = t.1 }
+tears_one text before now t = record { first = []; torn = text; rest = []; bytes = t.0; parts = refl; holds = t.1 }
 
 -- What is gathered is written, or a part of it.
 pub page_written : (all : List (List ℕ)) (before now next : Option (List ℕ)) (g bytes h : List ℕ) (rest : List (List ℕ)) → bytes ≡ g → h ≡ [] → next ≡ option_map (added bytes) now → IsGathered all before now g rest → IsGathered all before next h rest

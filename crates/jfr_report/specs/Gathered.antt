@@ -4,7 +4,7 @@ use Rattle.std.specs.List.{concat}
 use Rattle.jfr_header.specs.declared.ending.Ending.{Ending}
 use Rattle.jfr_header.specs.declared.ending.Ending.TheVariants.{Done, Refused, ReadFault, WriteFault, TooManyParts, Memory}
 use Rattle.jfr_outside.specs.World.{added}
-use Rattle.jfr_plan.specs.Outcomes.{Kept, Rises}
+use Rattle.jfr_plan.specs.Outcomes.{Unchanged, Rises}
 
 -- These bytes were added to the sink, if its bytes are known.
 abbrev pub Grew : List ℕ → Option (List ℕ) → Option (List ℕ) → Type 0
@@ -15,7 +15,7 @@ pub record IsGathered (all : List (List ℕ)) (before now : Option (List ℕ)) (
   pub written : List (List ℕ)
   pub waiting : List (List ℕ)
   pub parts : all ≡ written ++ (waiting ++ rest)
-  pub stands : Grew (concat written) before now
+  pub holds : Grew (concat written) before now
   pub gathers : gathered ≡ concat waiting
 
 -- The first of the texts have been written, and a prefix of the next.
@@ -25,14 +25,14 @@ pub record TearsText (all : List (List ℕ)) (before now : Option (List ℕ)) : 
   pub rest : List (List ℕ)
   pub bytes : ℕ
   pub parts : all ≡ first ++ torn ∷ rest
-  pub stands : Grew (concat first ++ take bytes torn) before now
+  pub holds : Grew (concat first ++ take bytes torn) before now
 
 -- The first of the texts have been written.
 pub record WritesSome (all : List (List ℕ)) (before now : Option (List ℕ)) : Type 0 where
   pub first : List (List ℕ)
   pub rest : List (List ℕ)
   pub parts : all ≡ first ++ rest
-  pub stands : Grew (concat first) before now
+  pub holds : Grew (concat first) before now
 
 -- What has been written after a call that writes these texts, for each result: all of them, or some and
 -- perhaps a prefix of one.
@@ -47,9 +47,9 @@ TextLeaves all (Err TooManyParts) before now = ⊥
 
 -- The sink's count of faults after such a call, for each result.
 abbrev pub TextCounted : Result (Unit {0}) Ending → ℕ → ℕ → Type 0
-TextCounted (Ok x) before now = Kept before now
+TextCounted (Ok x) before now = Unchanged before now
 TextCounted (Err WriteFault) before now = Rises before now
-TextCounted (Err Memory) before now = Kept before now
+TextCounted (Err Memory) before now = Unchanged before now
 TextCounted (Err Done) before now = ⊥
 TextCounted (Err (Refused r)) before now = ⊥
 TextCounted (Err ReadFault) before now = ⊥

@@ -5,7 +5,7 @@ use Rattle.jfr_filter.specs.Filters.{Given}
 use Rattle.jfr_value.specs.Nodes.{NodeAt}
 use Rattle.jfr_plan.specs.Ends.{refused}
 use Rattle.jfr_plan.specs.Effects.{Effect, Write}
-use Rattle.jfr_plan.specs.Walks.{Rule, Asked, Stops, Goes, Text}
+use Rattle.jfr_plan.specs.Rules.{Rule, Asked, Stops, Goes, Text}
 use Rattle.jfr_chunk.specs.Parts.{Parts, EventAt}
 use Rattle.jfr_chunk.specs.Chosen.{kept_of}
 use Rattle.jfr_chunk.specs.Refusal.{read_parts}

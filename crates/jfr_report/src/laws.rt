@@ -1,7 +1,7 @@
 //! A law of the commands that write text. This call does nothing.
 ghost use Rattle.std.specs.Prelude.{◌≡◌, ◌↔◌, [], ℕ, List, Some};
 ghost use Rattle.jfr_plan.specs.Ends.{Fine};
-ghost use Rattle.jfr_plan.specs.Walks.{plan_after};
+ghost use Rattle.jfr_plan.specs.Rules.{plan_after};
 ghost use Rattle.jfr_plan.specs.Accepted.{AllAccepted};
 ghost use Rattle.jfr_chunk.specs.Parts.{Parts};
 ghost use Rattle.jfr_chunk.specs.Refusal.{refusal_of};

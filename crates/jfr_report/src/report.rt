@@ -6,7 +6,7 @@ ghost use Rattle.jfr_chunk.specs.Parts.{Parts};
 ghost use Rattle.jfr_report.specs.Reports.{texting, all_parts};
 ghost use Rattle.jfr_report.specs.Gathered.{TextLeaves, TextCounted};
 
-use jfr_chunk::{Chunk, Room};
+use jfr_chunk::{Buffers, Chunk};
 use jfr_header::Ending;
 use jfr_outside::{Place, Sink};
 use jfr_plan::{Position, Stage, run_stage};
@@ -44,11 +44,11 @@ pub(crate) trait Report: Drop {
         ensures faults { TextCounted result (O.state out.old).faults (O.state out.new).faults };
 }
 
-/// The stage of a report. `room` holds the last chunk's memory, which the next chunk uses again.
+/// The stage of a report. `buffers` holds the last chunk's memory, which the next chunk uses again.
 #[derive(Drop)]
 struct Reporting<R: Report> {
     alloc: Global,
-    room: Room,
+    buffers: Buffers,
     report: R,
 }
 
@@ -70,13 +70,13 @@ impl<R: Report> Stage for Reporting<R> {
         chunk: &[u8],
         number: u64,
     ) -> Result<(), Ending> {
-        let room = mem::replace(&mut self.room, Room::new(self.alloc));
-        let chunk = match Chunk::read_in(self.alloc, room, chunk) {
+        let buffers = mem::replace(&mut self.buffers, Buffers::new(self.alloc));
+        let chunk = match Chunk::read_in(self.alloc, buffers, chunk) {
             Ok(chunk) => chunk,
             Err(fault) => return Err(Ending::of_chunk(number, fault)),
         };
         let written = self.report.chunk(self.alloc, out, &chunk, number);
-        self.room = chunk.into_room();
+        self.buffers = chunk.into_buffers();
         written
     }
 
@@ -100,7 +100,7 @@ pub(crate) fn report_stream<P: Place, O: Sink, R: Report>(
 {
     let mut stage = Reporting {
         alloc,
-        room: Room::new(alloc),
+        buffers: Buffers::new(alloc),
         report,
     };
     let mut at = Position::first(alloc);

@@ -10,7 +10,7 @@ use std::alloc::Global;
 
 /// The body of the checkpoint up to the pool's count: type 1, start 0, duration 0, delta 0, the type byte 0,
 /// and one pool, of class 7.
-const FRONT: [u8; 7] = [1, 0, 0, 0, 0, 1, 7];
+const FIRST_BYTES: [u8; 7] = [1, 0, 0, 0, 0, 1, 7];
 
 /// The length of the longest entry: two integers below 2^21, and a string of at most seven digits.
 const ENTRY_LEN: usize = 15;
@@ -23,8 +23,8 @@ pub fn push_checkpoint(into: &mut Vec<u8>, events: u32, entries: &[u8]) -> Resul
     ensures { OnOk result (into.new.items ≡ into.old.items ++ checkpoint events) }
 {
     let count = u64::from(events);
-    push_size(into, FRONT.len() + var_len(count) + entries.len())?;
-    into.extend_from_slice(&FRONT)?;
+    push_size(into, FIRST_BYTES.len() + var_len(count) + entries.len())?;
+    into.extend_from_slice(&FIRST_BYTES)?;
     push_var(into, count)?;
     into.extend_from_slice(entries)?;
     Ok(())

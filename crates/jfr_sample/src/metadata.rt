@@ -6,7 +6,7 @@ use crate::spelled::push_strings;
 use jfr_outside::NoMemory;
 
 /// The start of the record: the size 257, type 0, start 0, duration 0, id 1, and the count of 24 texts.
-const FRONT: [u8; 7] = [0x81, 0x02, 0, 0, 0, 1, 24];
+const FIRST_BYTES: [u8; 7] = [0x81, 0x02, 0, 0, 0, 1, 24];
 
 /// The texts, which the elements refer to by index, from 0.
 #[rattlefmt::skip]
@@ -37,7 +37,7 @@ const ELEMENTS: [u8; 86] = [
 pub fn push_metadata(into: &mut Vec<u8>) -> Result<(), NoMemory>
     ensures { OnOk result (into.new.items ≡ into.old.items ++ metadata) }
 {
-    into.extend_from_slice(&FRONT)?;
+    into.extend_from_slice(&FIRST_BYTES)?;
     push_strings(into, &TEXTS)?;
     into.extend_from_slice(&ELEMENTS)?;
     Ok(())

@@ -29,7 +29,7 @@ scrubbed_one g c (Ok p) w e n =
     record {
       parts = p;
       bytes = h.0;
-      stand = h.1;
+      valid = h.1;
       becomes = refl;
       settled = settled g p (subst Whole (sym h.0) w) h.1;
     }
@@ -44,7 +44,7 @@ is_scrubbed g c w n = scrubbed_one g c (read_parts c) w refl n
 one_scrubbed : (g : Given) (c b : List ℕ) → Whole c → IsScrubbed g c b → (refusal_of c ≡ None) × (b ≡ scrubbed g c)
 unfolding refusal_of scrubbed
 one_scrubbed g c b w s =
-    let e : read_parts c ≡ Ok s.parts = ((is_computed c w.long).parts s.parts).0 (s.bytes, s.stand) in
+    let e : read_parts c ≡ Ok s.parts = ((is_computed c w.long).parts s.parts).0 (s.bytes, s.valid) in
     (ap flaw_in e, s.becomes ∙ sym (ap (scrubbed_by g) e))
 
 -- What a chunk becomes is whole, and no longer than the chunk.
@@ -62,7 +62,7 @@ becomes_short g c b s =
 again_of : (g : Given) (c b : List ℕ) (s : IsScrubbed g c b) → read_parts b ≡ Ok s.settled.kept.parts
 again_of g c b s =
     let q = s.settled.kept in
-    ((is_computed b (becomes_whole g c b s).long).parts q.parts).0 (q.bytes ∙ sym s.becomes, q.stand)
+    ((is_computed b (becomes_whole g c b s).long).parts q.parts).0 (q.bytes ∙ sym s.becomes, q.valid)
 
 accepted_again : (g : Given) (c b : List ℕ) → IsScrubbed g c b → refusal_of b ≡ None
 unfolding refusal_of

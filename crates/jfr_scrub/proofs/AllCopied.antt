@@ -83,13 +83,13 @@ or_first b d e = ap (λ z. z || d) e
 
 module _ (p : Parts) (a : AreParts p) (ps : List Part) where
   -- Of what stays whole.
-  whole_copied : (kept : List EventAt) (left : List EntryAt) (r : Framed) → AllByRecursion (OutputRecordIsCopied left ps) (output_records p kept) → In p.records r → link_there p r ≡ None → output_records_whole p kept r ≡ true → written_anew p kept r ≡ None → RecordIsCopied ps r
-  whole_copied kept left r c i l w n =
-      all_in (OutputRecordIsCopied left ps) (output_records p kept) (Whole r) c (in_given (output_record_of p kept) p.records r (Whole r) i (λ j. output_record_by (l j) (w j) (n j) r))
+  whole_copied : (kept : List EventAt) (remaining : List EntryAt) (r : Framed) → AllByRecursion (OutputRecordIsCopied remaining ps) (output_records p kept) → In p.records r → link_there p r ≡ None → output_records_whole p kept r ≡ true → written_anew p kept r ≡ None → RecordIsCopied ps r
+  whole_copied kept remaining r c i l w n =
+      all_in (OutputRecordIsCopied remaining ps) (output_records p kept) (Whole r) c (in_given (output_record_of p kept) p.records r (Whole r) i (λ j. output_record_by (l j) (w j) (n j) r))
 
-  event_copied : (flags : List Bool) (left : List EntryAt) → AllByRecursion (OutputRecordIsCopied left ps) (output_records p (kept_by p flags)) → (e : EventAt) → In (kept_by p flags) e → EventIsCopied ps e
+  event_copied : (flags : List Bool) (remaining : List EntryAt) → AllByRecursion (OutputRecordIsCopied remaining ps) (output_records p (kept_by p flags)) → (e : EventAt) → In (kept_by p flags) e → EventIsCopied ps e
   unfolding events_of
-  event_copied flags left c e i =
+  event_copied flags remaining c e i =
       let there = in_filter_map (event_in p) p.records e (subst (λ z. In z e) (events_given p p.records) (in_marked flags (events_of p) e i)) in
       let r : Framed = there.0 in
       let recorded = event_recorded p r e there.2 in
@@ -98,22 +98,22 @@ module _ (p : Parts) (a : AreParts p) (ps : List Part) where
       let chosen : list_any (λ x. x.record_of.at == r.at) (kept_by p flags) ≡ true =
       in_any (λ (x : EventAt). x.record_of.at == r.at) (kept_by p flags) e i (is_eq e.record_of.at r.at (ap (λ (z : Framed). z.at) recorded.0)) in
       subst (RecordIsCopied ps) (sym recorded.0)
-      (whole_copied (kept_by p flags) left r c there.1 alone.1 (or_first (list_any (λ x. x.record_of.at == r.at) (kept_by p flags)) (r.at == metadata_at p.bytes) chosen)
+      (whole_copied (kept_by p flags) remaining r c there.1 alone.1 (or_first (list_any (λ x. x.record_of.at == r.at) (kept_by p flags)) (r.at == metadata_at p.bytes) chosen)
       (ap (λ t. if t then rebuilt p (kept_by p flags) r.size else None) alone.0))
 
-  pub events_are_copied : (flags : List Bool) (left : List EntryAt) → AllByRecursion (OutputRecordIsCopied left ps) (output_records p (kept_by p flags)) → AllByRecursion (EventIsCopied ps) (kept_by p flags)
-  events_are_copied flags left c = all_from (EventIsCopied ps) (kept_by p flags) (event_copied flags left c)
+  pub events_are_copied : (flags : List Bool) (remaining : List EntryAt) → AllByRecursion (OutputRecordIsCopied remaining ps) (output_records p (kept_by p flags)) → AllByRecursion (EventIsCopied ps) (kept_by p flags)
+  events_are_copied flags remaining c = all_from (EventIsCopied ps) (kept_by p flags) (event_copied flags remaining c)
 
   entry_copied : (kept : List EventAt) → AllByRecursion (OutputRecordIsCopied (remain p kept) ps) (output_records p kept) → (e : EntryAt) → In (remain p kept) e → In p.entries e → EntryIsCopied ps e
   entry_copied kept c e i j =
-      let left = remain p kept in
+      let remaining = remain p kept in
       let link = entry_link p.bytes p.classes 0 (reverse p.chain) p.entries e a.entries j in
       let there = in_filter_map (link_there p) p.records (e.checkpoint, link.0) (subst (λ z. In z (e.checkpoint, link.0)) ((cursor_first p [] a).links) link.1) in
       let r : Framed = there.0 in
-      let all : AllByRecursion (EntryIsCopied ps) (filter (λ x. x.checkpoint == e.checkpoint) left) =
-      all_in (OutputRecordIsCopied left ps) (output_records p kept) (Chained e.checkpoint link.0) c
+      let all : AllByRecursion (EntryIsCopied ps) (filter (λ x. x.checkpoint == e.checkpoint) remaining) =
+      all_in (OutputRecordIsCopied remaining ps) (output_records p kept) (Chained e.checkpoint link.0) c
       (in_given (output_record_of p kept) p.records r (Chained e.checkpoint link.0) there.1 (λ h. output_record_by (there.2 h) (output_records_whole p kept r) (written_anew p kept r) r)) in
-      all_in (EntryIsCopied ps) (filter (λ x. x.checkpoint == e.checkpoint) left) e all (in_filter (λ x. x.checkpoint == e.checkpoint) left e i (is_eq e.checkpoint e.checkpoint refl))
+      all_in (EntryIsCopied ps) (filter (λ x. x.checkpoint == e.checkpoint) remaining) e all (in_filter (λ x. x.checkpoint == e.checkpoint) remaining e i (is_eq e.checkpoint e.checkpoint refl))
 
   pub entries_are_copied : (kept : List EventAt) → AllByRecursion (OutputRecordIsCopied (remain p kept) ps) (output_records p kept) → AllByRecursion (EntryIsCopied ps) (remain p kept)
   unfolding remain
@@ -133,13 +133,13 @@ module _ (p : Parts) (a : AreParts p) (ps : List Part) where
           let m : a.metadata_record.type_id ≡ 0 = a.metadata_there.type_is in
           cc
 
-  pub metadata_is_copied : (kept : List EventAt) (left : List EntryAt) → AllByRecursion (OutputRecordIsCopied left ps) (output_records p kept) → rebuilt p kept (metadata_size p) ≡ None → MetadataIsCopied ps p
-  metadata_is_copied kept left c none =
+  pub metadata_is_copied : (kept : List EventAt) (remaining : List EntryAt) → AllByRecursion (OutputRecordIsCopied remaining ps) (output_records p kept) → rebuilt p kept (metadata_size p) ≡ None → MetadataIsCopied ps p
+  metadata_is_copied kept remaining c none =
       let r = a.metadata_record in
       record {
         frame = r;
         there = a.metadata_there;
-        copied = whole_copied kept left r c (contains_in p.records r a.metadata_there.listed) no_link
+        copied = whole_copied kept remaining r c (contains_in p.records r a.metadata_there.listed) no_link
             (or_true (list_any (λ e. e.record_of.at == r.at) kept) (r.at == metadata_at p.bytes) (is_eq r.at (metadata_at p.bytes) a.metadata_there.place))
             (sym (new_written p a kept r (metadata_stands p a)) ∙ (ap (λ t. if t then rebuilt p kept (metadata_size p) else None) (is_eq r.at (metadata_at p.bytes) a.metadata_there.place) ∙ none));
       }

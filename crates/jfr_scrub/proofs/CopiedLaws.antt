@@ -116,38 +116,38 @@ grows_settled ps qs from to g h = record { keeps = keeps_settled ps qs from to g
 pub record MakingParts (ps now : List Part) (rest all : List MadePart) : Type 0 where
   pub done : List MadePart
   pub grows : Grows ps now done
-  pub left : done ++ rest ≡ all
+  pub remaining : done ++ rest ≡ all
 
 pub making_none : (ps : List Part) (all : List MadePart) → MakingParts ps ps all all
-making_none ps all = record { done = []; grows = grows_same ps ps refl; left = refl }
+making_none ps all = record { done = []; grows = grows_same ps ps refl; remaining = refl }
 
 pub making_next : (ps now next : List Part) (here before rest all : List MadePart) → before ≡ here ++ rest → MakingParts ps now before all → Grows now next here → MakingParts ps next rest all
 making_next ps now next here before rest all e m g =
-    record { done = m.done ++ here; grows = grows_then ps now next m.done here m.grows g; left = append_assoc m.done here rest ∙ (ap (λ z. m.done ++ z) (sym e) ∙ m.left) }
+    record { done = m.done ++ here; grows = grows_then ps now next m.done here m.grows g; remaining = append_assoc m.done here rest ∙ (ap (λ z. m.done ++ z) (sym e) ∙ m.remaining) }
 
 pub making_all : (ps now : List Part) (rest all : List MadePart) → MakingParts ps now rest all → rest ≡ [] → Grows ps now all
-making_all ps now rest all m e = subst (Grows ps now) (sym (append-nil m.done) ∙ (ap (λ z. m.done ++ z) (sym e) ∙ m.left)) m.grows
+making_all ps now rest all m e = subst (Grows ps now) (sym (append-nil m.done) ∙ (ap (λ z. m.done ++ z) (sym e) ∙ m.remaining)) m.grows
 
 -- Nothing is made of a run.
-pub run_parts : (left : List EntryAt) (rs : List Framed) (before rest : List OutputRecord) → before ≡ map (λ r. Whole r) rs ++ rest → flat_map (output_record_parts left) before ≡ flat_map (output_record_parts left) rest
-run_parts left rs before rest e = ap (flat_map (output_record_parts left)) e ∙ none rs
+pub run_parts : (remaining : List EntryAt) (rs : List Framed) (before rest : List OutputRecord) → before ≡ map (λ r. Whole r) rs ++ rest → flat_map (output_record_parts remaining) before ≡ flat_map (output_record_parts remaining) rest
+run_parts remaining rs before rest e = ap (flat_map (output_record_parts remaining)) e ∙ none rs
   where
-    none : (rs : List Framed) → flat_map (output_record_parts left) (map (λ r. Whole r) rs ++ rest) ≡ flat_map (output_record_parts left) rest
+    none : (rs : List Framed) → flat_map (output_record_parts remaining) (map (λ r. Whole r) rs ++ rest) ≡ flat_map (output_record_parts remaining) rest
     none [] = refl
     none (r ∷ rs) = none rs
 
 -- The parts made so far and those left are all, after a run and one more output record.
-pub parts_next : (left : List EntryAt) (now mid next : List Part) (rs : List Framed) (before rest ss : List OutputRecord) (s : OutputRecord) (all : List MadePart) → before ≡ map (λ r. Whole r) rs ++ rest → rest ≡ s ∷ ss → Grows now mid [] → Grows mid next (output_record_parts left s) →
-    made_parts now ++ flat_map (output_record_parts left) before ≡ all → made_parts next ++ flat_map (output_record_parts left) ss ≡ all
-parts_next left now mid next rs before rest ss s all e q g h m =
-    let f = flat_map (output_record_parts left) in
-    ap (λ z. z ++ f ss) h.made ∙ (append_assoc (made_parts mid) (output_record_parts left s) (f ss)
-    ∙ (ap (λ z. z ++ f (s ∷ ss)) (g.made ∙ append-nil (made_parts now)) ∙ (ap (λ z. made_parts now ++ z) (ap f (sym q) ∙ sym (run_parts left rs before rest e)) ∙ m)))
+pub parts_next : (remaining : List EntryAt) (now mid next : List Part) (rs : List Framed) (before rest ss : List OutputRecord) (s : OutputRecord) (all : List MadePart) → before ≡ map (λ r. Whole r) rs ++ rest → rest ≡ s ∷ ss → Grows now mid [] → Grows mid next (output_record_parts remaining s) →
+    made_parts now ++ flat_map (output_record_parts remaining) before ≡ all → made_parts next ++ flat_map (output_record_parts remaining) ss ≡ all
+parts_next remaining now mid next rs before rest ss s all e q g h m =
+    let f = flat_map (output_record_parts remaining) in
+    ap (λ z. z ++ f ss) h.made ∙ (append_assoc (made_parts mid) (output_record_parts remaining s) (f ss)
+    ∙ (ap (λ z. z ++ f (s ∷ ss)) (g.made ∙ append-nil (made_parts now)) ∙ (ap (λ z. made_parts now ++ z) (ap f (sym q) ∙ sym (run_parts remaining rs before rest e)) ∙ m)))
 
-pub parts_all : (left : List EntryAt) (now mid : List Part) (rs : List Framed) (before rest : List OutputRecord) (all : List MadePart) → before ≡ map (λ r. Whole r) rs ++ rest → rest ≡ [] → Grows now mid [] → made_parts now ++ flat_map (output_record_parts left) before ≡ all → made_parts mid ≡ all
-parts_all left now mid rs before rest all e q g m =
-    let f = flat_map (output_record_parts left) in
-    g.made ∙ (ap (λ z. made_parts now ++ z) (sym (run_parts left rs before rest e ∙ ap f q)) ∙ m)
+pub parts_all : (remaining : List EntryAt) (now mid : List Part) (rs : List Framed) (before rest : List OutputRecord) (all : List MadePart) → before ≡ map (λ r. Whole r) rs ++ rest → rest ≡ [] → Grows now mid [] → made_parts now ++ flat_map (output_record_parts remaining) before ≡ all → made_parts mid ≡ all
+parts_all remaining now mid rs before rest all e q g m =
+    let f = flat_map (output_record_parts remaining) in
+    g.made ∙ (ap (λ z. made_parts now ++ z) (sym (run_parts remaining rs before rest e ∙ ap f q)) ∙ m)
 
 -- With the last range as a piece.
 pub settled_parts : (ps qs os : List Part) (from to : ℕ) → Grows ps qs [] → ps ++ parts.Copied from to ∷ [] ≡ os → made_parts qs ≡ made_parts os
@@ -158,11 +158,11 @@ pub entries_kept : (ps qs : List Part) → Keeps ps qs → (n : ℕ) (es : List 
 entries_kept ps qs k n [] a c = tt
 entries_kept ps qs k n (e ∷ es) a c = (k e.key_at e.end a.0.order c.0, entries_kept ps qs k n es a.1 c.1)
 
-output_record_kept : (ps qs : List Part) → Keeps ps qs → (b : List ℕ) (left : List EntryAt) → AllByRecursion (HasRange (length b)) left → (s : OutputRecord) (at : ℕ) (older : Option ℕ) → OutputRecordFits b left s at older → OutputRecordIsCopied left ps s → OutputRecordIsCopied left qs s
-output_record_kept ps qs k b left a (Whole r) at older f c = k r.at (record_end r) (some_bytes b r f) c
-output_record_kept ps qs k b left a (Rebuilt r x) at older f c = tt
-output_record_kept ps qs k b left a (Chained number l) at older f c =
-    entries_kept ps qs k (length b) (filter (λ e. e.checkpoint == number) left) (range_filter (length b) (λ e. e.checkpoint == number) left a) c
+output_record_kept : (ps qs : List Part) → Keeps ps qs → (b : List ℕ) (remaining : List EntryAt) → AllByRecursion (HasRange (length b)) remaining → (s : OutputRecord) (at : ℕ) (older : Option ℕ) → OutputRecordFits b remaining s at older → OutputRecordIsCopied remaining ps s → OutputRecordIsCopied remaining qs s
+output_record_kept ps qs k b remaining a (Whole r) at older f c = k r.at (record_end r) (some_bytes b r f) c
+output_record_kept ps qs k b remaining a (Rebuilt r x) at older f c = tt
+output_record_kept ps qs k b remaining a (Chained number l) at older f c =
+    entries_kept ps qs k (length b) (filter (λ e. e.checkpoint == number) remaining) (range_filter (length b) (λ e. e.checkpoint == number) remaining a) c
 
 -- All are copied, if those still to come are, in any pieces that keep the ranges copied so far.
 abbrev pub SoFar : {X : Type 0} → (List Part → X → Type 0) → List Part → List X → List X → Type 0
@@ -194,20 +194,20 @@ so_far_entry n i now next es all d h s k r c =
     λ ps m b. s ps (keeps_then now next ps k m) (subst (AllByRecursion (EntryIsCopied ps)) (sym g) (m e.key_at e.end r.order c, b))
 
 -- The output records after one.
-pub so_far_output_record : (b : List ℕ) (left : List EntryAt) (now next : List Part) (s : OutputRecord) (rest all : List OutputRecord) (at : ℕ) (older : Option ℕ) → AllByRecursion (HasRange (length b)) left → OutputRecordFits b left s at older → SoFar (OutputRecordIsCopied left) now (s ∷ rest) all → Keeps now next → OutputRecordIsCopied left next s →
-    SoFar (OutputRecordIsCopied left) next rest all
-so_far_output_record b left now next s rest all at older a f so k c = λ ps m d. so ps (keeps_then now next ps k m) (output_record_kept next ps m b left a s at older f c, d)
+pub so_far_output_record : (b : List ℕ) (remaining : List EntryAt) (now next : List Part) (s : OutputRecord) (rest all : List OutputRecord) (at : ℕ) (older : Option ℕ) → AllByRecursion (HasRange (length b)) remaining → OutputRecordFits b remaining s at older → SoFar (OutputRecordIsCopied remaining) now (s ∷ rest) all → Keeps now next → OutputRecordIsCopied remaining next s →
+    SoFar (OutputRecordIsCopied remaining) next rest all
+so_far_output_record b remaining now next s rest all at older a f so k c = λ ps m d. so ps (keeps_then now next ps k m) (output_record_kept next ps m b remaining a s at older f c, d)
 
 -- Records of a range that is copied.
-records_copied : (b : List ℕ) (left : List EntryAt) (now next : List Part) → Keeps now next → (p from to : ℕ) (rs : List Framed) → IsCopied now p to → p ≤ from → Tiles b from rs to → AllByRecursion (OutputRecordIsCopied left next) (map (λ r. Whole r) rs)
-records_copied b left now next k p from to [] c h t = tt
-records_copied b left now next k p from to (r ∷ rs) c h t =
+records_copied : (b : List ℕ) (remaining : List EntryAt) (now next : List Part) → Keeps now next → (p from to : ℕ) (rs : List Framed) → IsCopied now p to → p ≤ from → Tiles b from rs to → AllByRecursion (OutputRecordIsCopied remaining next) (map (λ r. Whole r) rs)
+records_copied b remaining now next k p from to [] c h t = tt
+records_copied b remaining now next k p from to (r ∷ rs) c h t =
     let l : r.at < record_end r = some_bytes b r t.1 in
     let e : r.at ≡ from = t.0 in
-    (k r.at (record_end r) l (narrower now p to r.at (record_end r) c (omega arith) (tiles_order b (record_end r) to rs t.2)), records_copied b left now next k p (record_end r) to rs c (omega arith) t.2)
+    (k r.at (record_end r) l (narrower now p to r.at (record_end r) c (omega arith) (tiles_order b (record_end r) to rs t.2)), records_copied b remaining now next k p (record_end r) to rs c (omega arith) t.2)
 
 -- The output records after a run.
-pub so_far_run : (b : List ℕ) (left : List EntryAt) (now next : List Part) (before rest all : List OutputRecord) (rs : List Framed) (from to : ℕ) → before ≡ map (λ r. Whole r) rs ++ rest → Tiles b from rs to → SoFar (OutputRecordIsCopied left) now before all → Keeps now next → IsCopied next from to →
-    SoFar (OutputRecordIsCopied left) next rest all
-so_far_run b left now next before rest all rs from to e t so k c = λ ps m d.
-    so ps (keeps_then now next ps k m) (subst (AllByRecursion (OutputRecordIsCopied left ps)) (sym e) (all_append (OutputRecordIsCopied left ps) (map (λ r. Whole r) rs) rest (records_copied b left next ps m from from to rs c (omega arith) t) d))
+pub so_far_run : (b : List ℕ) (remaining : List EntryAt) (now next : List Part) (before rest all : List OutputRecord) (rs : List Framed) (from to : ℕ) → before ≡ map (λ r. Whole r) rs ++ rest → Tiles b from rs to → SoFar (OutputRecordIsCopied remaining) now before all → Keeps now next → IsCopied next from to →
+    SoFar (OutputRecordIsCopied remaining) next rest all
+so_far_run b remaining now next before rest all rs from to e t so k c = λ ps m d.
+    so ps (keeps_then now next ps k m) (subst (AllByRecursion (OutputRecordIsCopied remaining ps)) (sym e) (all_append (OutputRecordIsCopied remaining ps) (map (λ r. Whole r) rs) rest (records_copied b remaining next ps m from from to rs c (omega arith) t) d))

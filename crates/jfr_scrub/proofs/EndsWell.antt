@@ -6,7 +6,7 @@ use Rattle.jfr_base.specs.declared.flaw.Flaw.{Flaw}
 use Rattle.jfr_header.specs.Cuts.{cut}
 use Rattle.jfr_filter.specs.Filters.{Given}
 use Rattle.jfr_plan.specs.Ends.{Fine}
-use Rattle.jfr_plan.specs.Walks.{plan_after}
+use Rattle.jfr_plan.specs.Rules.{plan_after}
 use Rattle.jfr_plan.specs.Accepted.{AllAccepted}
 use Rattle.jfr_plan.proofs.EndsWell.{making_ends_well}
 use Rattle.jfr_chunk.specs.Refusal.{refusal_of}

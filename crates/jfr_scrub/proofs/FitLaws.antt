@@ -20,11 +20,11 @@ use Rattle.jfr_chunk.specs.Parts.{Parts, EventAt, AreParts}
 use Rattle.jfr_chunk.specs.Reach.{reached_marks, remain}
 use Rattle.jfr_chunk.specs.Written.{distance}
 use Rattle.jfr_chunk.specs.Scrub.{OutputRecord, Whole, Chained, Rebuilt, groups_of, bytes_of, written_bytes, written, written_anew, output_records, output_records_whole}
-use Rattle.jfr_laws.specs.InChunk.{LinkStands, Constants, Pools}
-use Rattle.jfr_laws.proofs.Standing.{body_stands}
+use Rattle.jfr_laws.specs.InChunk.{IsLinkIn, Constants, Pools}
+use Rattle.jfr_laws.proofs.InChunk.{body_stands}
 use Rattle.jfr_laws.proofs.Marks.{all_marked}
 use Rattle.jfr_laws.proofs.Order.{Numbered}
-use Rattle.jfr_laws.proofs.OutputRecords.{Deltas, OutputRecordStands, own_frame}
+use Rattle.jfr_laws.proofs.OutputRecords.{Deltas, IsOutputRecordIn, own_frame}
 use Rattle.jfr_laws.proofs.ReadBack.{tail_small}
 use Rattle.jfr_laws.proofs.Premises.{all_links, IsCheckpoint, Ready, ready, chained_checkpoints}
 use Rattle.jfr_laws.proofs.Lengths.{length_back, sizes_within}
@@ -34,38 +34,38 @@ use Rattle.jfr_scrub.specs.Bodies.{OutputRecordFits}
 use Rattle.jfr_scrub.specs.Sizes.{HasRange}
 use Rattle.jfr_scrub.proofs.BodyLaws.{WrittenFits}
 
-module _ (c : List ℕ) (left : List EntryAt) (k : Classes) where
+module _ (c : List ℕ) (remaining : List EntryAt) (k : Classes) where
   -- Its delta takes no more bytes than before.
-  delta_room : (l : Link) → LinkStands c l → (at : ℕ) (older : Option ℕ) → (is_some older ≡ true → l.delta_end ≡ l.delta_at + 9) → l.delta_at + length (spell (distance at older)) ≤ l.delta_end
+  delta_room : (l : Link) → IsLinkIn c l → (at : ℕ) (older : Option ℕ) → (is_some older ≡ true → l.delta_end ≡ l.delta_at + 9) → l.delta_at + length (spell (distance at older)) ≤ l.delta_end
   unfolding spell
   delta_room l s at None d = let i : l.delta_at < l.delta_end = int_some c l.delta_at l.delta_end s.word s.delta_spelled in omega arith
   delta_room l s at (Some o) d = let e : l.delta_end ≡ l.delta_at + 9 = d refl in let i = spell_most (distance at (Some o)) in omega arith
 
   -- A checkpoint that can be written fits.
-  link_fits : (i : ℕ) (l : Link) (at : ℕ) (older : Option ℕ) → OutputRecordStands c left k (Chained i l) → (is_some older ≡ true → l.delta_end ≡ l.delta_at + 9) → LinkFits c l (distance at older) (groups_of left i)
+  link_fits : (i : ℕ) (l : Link) (at : ℕ) (older : Option ℕ) → IsOutputRecordIn c remaining k (Chained i l) → (is_some older ≡ true → l.delta_end ≡ l.delta_at + 9) → LinkFits c l (distance at older) (groups_of remaining i)
   link_fits i l at older s d =
       let b : l.frame.body ≤ s.0.middle = s.0.start_spelled.order in
       let m : s.0.middle ≤ l.delta_at = s.0.duration_spelled.order in
-      let t = tail_small c l (distance at older) (groups_of left i) s.0 (delta_room l s.0 at older d) s.2 in
+      let t = tail_small c l (distance at older) (groups_of remaining i) s.0 (delta_room l s.0 at older d) s.2 in
       record { framed = s.0.record_stands; behind = omega arith; order = s.0.delta_spelled.order; kind = s.0.kind_within; room = omega arith }
 
-  all_written : (ss : List OutputRecord) (at : ℕ) (older : Option ℕ) → AllByRecursion (OutputRecordStands c left k) ss → Deltas (is_some older) ss → AllByRecursion (WrittenFits c left) (written c left at older ss)
+  all_written : (ss : List OutputRecord) (at : ℕ) (older : Option ℕ) → AllByRecursion (IsOutputRecordIn c remaining k) ss → Deltas (is_some older) ss → AllByRecursion (WrittenFits c remaining) (written c remaining at older ss)
   all_written [] at older a d = tt
-  all_written (Whole r ∷ ss) at older a d = (a.0, all_written ss (at + length (bytes_of c left (Whole r) at older)) older a.1 d)
+  all_written (Whole r ∷ ss) at older a d = (a.0, all_written ss (at + length (bytes_of c remaining (Whole r) at older)) older a.1 d)
   all_written (Rebuilt r x ∷ ss) at older a d =
       let i : 0 < record_end (own_frame x) = some_bytes x (own_frame x) a.0.1 in
-      ((a.0.0, omega arith, a.0.2), all_written ss (at + length (bytes_of c left (Rebuilt r x) at older)) older a.1 d)
-  all_written (Chained i l ∷ ss) at older a d = (link_fits i l at older a.0 d.0, all_written ss (at + length (bytes_of c left (Chained i l) at older)) (Some at) a.1 d.1)
+      ((a.0.0, omega arith, a.0.2), all_written ss (at + length (bytes_of c remaining (Rebuilt r x) at older)) older a.1 d)
+  all_written (Chained i l ∷ ss) at older a d = (link_fits i l at older a.0 d.0, all_written ss (at + length (bytes_of c remaining (Chained i l) at older)) (Some at) a.1 d.1)
 
 -- What is written has a byte.
-pub some_written : (c : List ℕ) (left : List EntryAt) (s : OutputRecord) (at : ℕ) (older : Option ℕ) → OutputRecordFits c left s at older → 1 ≤ length (bytes_of c left s at older)
-some_written c left (Whole r) at older f =
+pub some_written : (c : List ℕ) (remaining : List EntryAt) (s : OutputRecord) (at : ℕ) (older : Option ℕ) → OutputRecordFits c remaining s at older → 1 ≤ length (bytes_of c remaining s at older)
+some_written c remaining (Whole r) at older f =
     let i = some_bytes c r f in
     let l : length (record_bytes c r) ≡ record_end r - r.at = range_length c r.at (record_end r) f.within in
     omega arith
-some_written c left (Rebuilt r x) at older f = f.1
-some_written c left (Chained i l) at older f =
-    let n = checkpoint_length c l (distance at older) (groups_of left i) f in
+some_written c remaining (Rebuilt r x) at older f = f.1
+some_written c remaining (Chained i l) at older f =
+    let n = checkpoint_length c l (distance at older) (groups_of remaining i) f in
     let w = size_width c l.frame f.framed in
     omega (arith, w.0)
 
@@ -79,11 +79,11 @@ module _ (p : Parts) (a : AreParts p) (kept : List EventAt) where
   is_ready = ready p a (output_records_whole p kept) (written_anew p kept) (good_anew p a kept) (reached_marks p kept)
 
   pub all_fit : AllByRecursion (WrittenFits p.bytes (remain p kept)) (written p.bytes (remain p kept) 68 None (output_records p kept))
-  all_fit = all_written p.bytes (remain p kept) p.classes (output_records p kept) 68 None is_ready.stand is_ready.deltas
+  all_fit = all_written p.bytes (remain p kept) p.classes (output_records p kept) 68 None is_ready.valid is_ready.deltas
 
   pub all_within : 68 + length (flat_map (written_bytes p.bytes (remain p kept)) (written p.bytes (remain p kept) 68 None (output_records p kept))) ≤ length p.bytes
   all_within =
-      let i = length_back p.bytes (remain p kept) p.classes (output_records p kept) 68 None is_ready.stand is_ready.deltas in
+      let i = length_back p.bytes (remain p kept) p.classes (output_records p kept) 68 None is_ready.valid is_ready.deltas in
       let j = sizes_within p.bytes (all_links p) (output_records_whole p kept) (written_anew p kept) (records_of (all_links p) (chained_checkpoints p a)) p.records 68 (length p.bytes) a.records in
       omega arith
 

@@ -16,7 +16,7 @@ use Rattle.jfr_pool.specs.Entries.{inline}
 use Rattle.jfr_chunk.specs.Parts.{Parts, EventAt, AreParts, event_by, event_of, events_of}
 use Rattle.jfr_chunk.proofs.CountLaws.{whole_small}
 use Rattle.jfr_output.specs.declared.output_records.Cursor.{Cursor}
-use Rattle.jfr_output.specs.OutputRecords.{IsCursor, event_behind, is_kept_at}
+use Rattle.jfr_output.specs.OutputRecords.{IsCursor, event_after, is_kept_at}
 use Rattle.jfr_output.proofs.CursorLaws.{drop_at, event_in, event_place, event_stands, events_given, rising_at}
 use Rattle.jfr_output.proofs.OutputRecordLaws.{Rises, Stands, at_head, rises_given}
 use Rattle.jfr_scrub.specs.Runs.{HasEventAt, HasRoom, IsAtEvents, is_in_run}
@@ -84,10 +84,10 @@ given_each place f s p (q ∷ rs) (suc k) r x a g h e (suc i) l =
     let n = given_each place f s (q.at + 1) rs k r x a.1 t h e i (omega (arith, l)) in
     record { framed = n.framed; value = n.value; record_there = n.record_there; value_there = ap (λ o. slice_get (cons_option o (filter_map f rs)) (suc i)) y.1 ∙ n.value_there; given = n.given }
 
-get_behind : {X : Type 0} (xs : List X) (n k : ℕ) → slice_get (drop n xs) k ≡ slice_get xs (n + k)
-get_behind xs zero k = let e : k ≡ 0 + k = omega arith in ap (slice_get xs) e
-get_behind [] (suc n) k = refl
-get_behind (x ∷ xs) (suc n) k = let e : suc (n + k) ≡ suc n + k = omega arith in get_behind xs n k ∙ ap (slice_get (x ∷ xs)) e
+get_after : {X : Type 0} (xs : List X) (n k : ℕ) → slice_get (drop n xs) k ≡ slice_get xs (n + k)
+get_after xs zero k = let e : k ≡ 0 + k = omega arith in ap (slice_get xs) e
+get_after [] (suc n) k = refl
+get_after (x ∷ xs) (suc n) k = let e : suc (n + k) ≡ suc n + k = omega arith in get_after xs n k ∙ ap (slice_get (x ∷ xs)) e
 
 rising_behind : (p : ℕ) (rs : List Framed) (n : ℕ) → Rising p rs → Rising p (drop n rs)
 rising_behind p rs zero a = a
@@ -120,12 +120,12 @@ events_before p c a k h i l =
     let e : drop c.event (events_of p) ≡ filter_map (event_in p) (drop c.frame p.records) = a.events ∙ events_given p (drop c.frame p.records) in
     let rs = drop c.frame p.records in
     let up : Rising 0 rs = rising_behind 0 p.records c.frame (rising_of p.bytes 0 68 (length p.bytes) p.records (omega arith) a.accepted.parts.records) in
-    let g : slice_get (filter_map (event_in p) rs) k ≡ Some h.event = sym (ap (λ z. slice_get z k) e) ∙ (get_behind (events_of p) c.event k ∙ h.there) in
-    let n = given_each event_place (event_in p) (event_stands p) 0 rs k h.event.record_of h.event up g (get_behind p.records c.frame k ∙ h.framed) refl i l in
+    let g : slice_get (filter_map (event_in p) rs) k ≡ Some h.event = sym (ap (λ z. slice_get z k) e) ∙ (get_after (events_of p) c.event k ∙ h.there) in
+    let n = given_each event_place (event_in p) (event_stands p) 0 rs k h.event.record_of h.event up g (get_after p.records c.frame k ∙ h.framed) refl i l in
     record {
       event = n.value;
-      there = sym (get_behind (events_of p) c.event i) ∙ (ap (λ z. slice_get z i) e ∙ n.value_there);
-      framed = sym (get_behind p.records c.frame i) ∙ (n.record_there ∙ ap (λ z. Some z) (sym ((event_recorded p n.framed n.value n.given).0)));
+      there = sym (get_after (events_of p) c.event i) ∙ (ap (λ z. slice_get z i) e ∙ n.value_there);
+      framed = sym (get_after p.records c.frame i) ∙ (n.record_there ∙ ap (λ z. Some z) (sym ((event_recorded p n.framed n.value n.given).0)));
     }
 
 behind_first : (p : ℕ) (s : Framed) (rs : List Framed) (j : ℕ) (r : Framed) → Rising p (s ∷ rs) → s ≡ r → slice_get rs j ≡ Some r → ⊥
@@ -217,7 +217,7 @@ pub record InRun (p : Parts) (flags : List Bool) (c : Cursor) : Type 0 where
   pub there : slice_get (events_of p) c.event ≡ Some event
   pub given : event_in p frame ≡ Some event
   pub keep : is_kept_at (events_of p) flags c.event frame.at ≡ true
-  pub behind : event_behind (events_of p) c.event frame.at ≡ c.event + 1
+  pub behind : event_after (events_of p) c.event frame.at ≡ c.event + 1
 
 pub in_run : (p : Parts) (flags : List Bool) (c : Cursor) → IsCursor p flags c → is_in_run p flags c ≡ true → InRun p flags c
 in_run p flags c i h = by_record (slice_get p.records c.frame) refl h

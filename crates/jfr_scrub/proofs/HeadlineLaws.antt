@@ -2,12 +2,12 @@
 use Rattle.std.specs.Prelude.{◌≡◌, ℕ, List, None, Result, Ok, Err, IfOk}
 use Rattle.std.proofs.Common.{ap, sym, ◌∙◌}
 use Rattle.jfr_base.specs.declared.flaw.Refusal.{Refusal}
-use Rattle.jfr_outside.specs.World.{State, Told}
+use Rattle.jfr_outside.specs.World.{State, IfKnown}
 use Rattle.jfr_header.specs.declared.ending.Ending.{Ending}
 use Rattle.jfr_header.specs.declared.ending.Ending.TheVariants as ending
 use Rattle.jfr_filter.specs.Filters.{Given}
 use Rattle.jfr_plan.specs.Ends.{Fine, Refused}
-use Rattle.jfr_plan.specs.Effects.{alone}
+use Rattle.jfr_plan.specs.Effects.{without_sink}
 use Rattle.jfr_plan.specs.Clauses.{over, Ended}
 use Rattle.jfr_chunk.specs.Scrub.{scrub_of}
 use Rattle.jfr_chunk.specs.Parts.{Parts}
@@ -28,8 +28,8 @@ pub is_scrub_of : (g : Given) (x : List ℕ) → IsScrubOf g x (recording_scrubb
 is_scrub_of g = is_output_of refusal_of (scrubbed g) (IsScrubbed g) (is_scrubbed g) (recording_chunks g)
 
 -- An answer that the plan ends with.
-pub headline : (g : Given) (input output : List ℕ) (e : Ending) (a b : State) → (e ≡ ending.Done → Ended (over (scrubbing g output) input) Fine (alone a) (alone b))
-    → ((r : Refusal) → e ≡ ending.Refused r → Ended (over (scrubbing g output) input) (Refused r) (alone a) (alone b)) → IsByPlan e → Told a.told b.told (Scrubs g input output)
+pub headline : (g : Given) (input output : List ℕ) (e : Ending) (a b : State) → (e ≡ ending.Done → Ended (over (scrubbing g output) input) Fine (without_sink a) (without_sink b))
+    → ((r : Refusal) → e ≡ ending.Refused r → Ended (over (scrubbing g output) input) (Refused r) (without_sink a) (without_sink b)) → IsByPlan e → IfKnown a.contents b.contents (Scrubs g input output)
 headline g input output = made_by_plan refusal_of (scrubbed g) input output (Scrubs g input output) (has_output refusal_of (scrubbed g) (IsScrubbed g) (is_scrubbed g) (recording_chunks g) input output)
 
 -- What a chunk is read as is scrubbed.

@@ -51,12 +51,12 @@ of_both [] ds flaw (z ∷ x) y s f h a b = let e : z ∷ x ≡ [] = subst (Begin
 of_both (c ∷ cs) ds flaw x y s f h a b =
     let w : Whole c × (take (length c) x ≡ c) = subst (Begins x) a.0 (front_begins x s f) in
     let n : (0 < length c) × (length c ≤ length x) = subst (Fits x) a.0 (front_fits x s f) in
-    let left : List ℕ = drop (length c) x in
-    let p : x ≡ c ++ left = sym (take-append-drop (length c) x) ∙ ap (λ (l : List ℕ). l ++ left) w.1 in
-    let d : length x ≡ length c + length left = ap length p ∙ length-append c left in
-    let at : s + length x ≡ s + length c + length left = omega (arith, d) in
-    let later = of_both cs ds flaw left y (s + length c) false (omega (arith, h, at)) a.1 (subst (λ (m : ℕ). AreCut ds flaw y m false) at b) in (
-      ap (λ (l : List ℕ). front (l ++ y) s f) p ∙ ap (λ (l : List ℕ). front l s f) (append_assoc c left y) ∙ whole_front c (left ++ y) s f w.0 (omega (arith, h, n)),
+    let remaining : List ℕ = drop (length c) x in
+    let p : x ≡ c ++ remaining = sym (take-append-drop (length c) x) ∙ ap (λ (l : List ℕ). l ++ remaining) w.1 in
+    let d : length x ≡ length c + length remaining = ap length p ∙ length-append c remaining in
+    let at : s + length x ≡ s + length c + length remaining = omega (arith, d) in
+    let later = of_both cs ds flaw remaining y (s + length c) false (omega (arith, h, at)) a.1 (subst (λ (m : ℕ). AreCut ds flaw y m false) at b) in (
+      ap (λ (l : List ℕ). front (l ++ y) s f) p ∙ ap (λ (l : List ℕ). front l s f) (append_assoc c remaining y) ∙ whole_front c (remaining ++ y) s f w.0 (omega (arith, h, n)),
       subst (λ (l : List ℕ). AreCut (cs ++ ds) flaw l (s + length c) false) (sym (drop-append-le (length c) x y n.1)) later,
     )
 

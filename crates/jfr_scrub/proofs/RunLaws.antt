@@ -20,8 +20,8 @@ use Rattle.jfr_chunk.specs.Metas.{rebuilt}
 use Rattle.jfr_chunk.proofs.AllLaws.{all_append, all_get}
 use Rattle.jfr_laws.proofs.Quiet.{IsQuiet, quiet_records}
 use Rattle.jfr_output.specs.declared.output_records.Cursor.{Cursor}
-use Rattle.jfr_output.specs.Positions.{place_seen}
-use Rattle.jfr_output.specs.OutputRecords.{IsCursor, is_kept_at, link_behind, link_there, linked_at, still_output_records}
+use Rattle.jfr_output.specs.Positions.{offset_so_far}
+use Rattle.jfr_output.specs.OutputRecords.{IsCursor, is_kept_at, link_after, link_there, linked_at, still_output_records}
 use Rattle.jfr_output.proofs.CursorLaws.{cursor_passed, output_records_at}
 use Rattle.jfr_scrub.specs.declared.run.Run.{Run}
 use Rattle.jfr_scrub.specs.Bodies.{Progress, body_with}
@@ -46,7 +46,7 @@ pub record AtRun (p : Parts) (flags : List Bool) (c : Cursor) : Type 0 where
   pub cursor : IsCursor p flags (next_event c)
   pub output_records : still_output_records p flags c ≡ Whole frame ∷ still_output_records p flags (next_event c)
 
-unlinked : (ls : List Link) (n at : ℕ) → linked_at ls n at ≡ None → link_behind ls n at ≡ n
+unlinked : (ls : List Link) (n at : ℕ) → linked_at ls n at ≡ None → link_after ls n at ≡ n
 unlinked ls n at e = by_link (slice_get ls n) e
   where
     there : Link → Option (ℕ × Link)
@@ -83,7 +83,7 @@ at_run p flags c i h =
     let x = in_run p flags c i h in
     let u = cursor_passed p flags c x.frame i x.framed in
     let w = event_alone p i.parts c.frame x.frame x.framed ((event_recorded p x.frame x.event x.given).1) in
-    let l : link_behind (reverse p.chain) c.link x.frame.at ≡ c.link = unlinked (reverse p.chain) c.link x.frame.at (u.2 ∙ w.1) in
+    let l : link_after (reverse p.chain) c.link x.frame.at ≡ c.link = unlinked (reverse p.chain) c.link x.frame.at (u.2 ∙ w.1) in
     let n : written_anew p (kept_by p flags) x.frame ≡ None = ap (λ t. if t then rebuilt p (kept_by p flags) x.frame.size else None) w.0 in
     let s : output_record_of p (kept_by p flags) x.frame ≡ Some (Whole x.frame) = λ j. output_record_by (w.1 j) ((sym u.1 ∙ x.keep) j || (x.frame.at == metadata_at p.bytes)) (n j) x.frame in
     record {
@@ -195,7 +195,7 @@ ends_events p flags c n i h = by_test (is_in_run p flags (behind c n)) refl
     by_test false t = refl
 
 -- A run is laid out as its records are, one after another.
-seen_before : (before : Option ℕ) (at : ℕ) → place_seen before false at ≡ before
+seen_before : (before : Option ℕ) (at : ℕ) → offset_so_far before false at ≡ before
 seen_before None at = refl
 seen_before (Some place) at = refl
 
@@ -209,39 +209,39 @@ no_range b from to e =
     let h : b.at + (to - from) ≡ b.at = omega arith in
     λ i. record { output = record { chunk = b.output.chunk; bytes = g i }; at = h i; older = b.older; metadata = b.metadata }
 
-first_of_range : (b : Progress) (r : Framed) (left : List EntryAt) (m to : ℕ) → (r.at == m) ≡ false → IsRecord b.output.chunk r → record_end r ≤ to → with_range (body_with left m b (Whole r)) (record_end r) to ≡ with_range b r.at to
-first_of_range b r left m to f s h =
+first_of_range : (b : Progress) (r : Framed) (remaining : List EntryAt) (m to : ℕ) → (r.at == m) ≡ false → IsRecord b.output.chunk r → record_end r ≤ to → with_range (body_with remaining m b (Whole r)) (record_end r) to ≡ with_range b r.at to
+first_of_range b r remaining m to f s h =
     let c = b.output.chunk in
     let i = some_bytes c r s in
     let l : length (record_bytes c r) ≡ record_end r - r.at = range_length c r.at (record_end r) s.within in
     let k : slice_range c r.at to ≡ record_bytes c r ++ slice_range c (record_end r) to = range_split c r.at (record_end r) to (omega arith) h in
     let o : more (more b.output (record_bytes c r)) (slice_range c (record_end r) to) ≡ more b.output (slice_range c r.at to) = more_more b.output (record_bytes c r) (slice_range c (record_end r) to) ∙ ap (more b.output) (sym k) in
     let a : (b.at + length (record_bytes c r)) + (to - record_end r) ≡ b.at + (to - r.at) = omega arith in
-    let d : place_seen b.metadata (r.at == m) b.at ≡ b.metadata = ap (λ t. place_seen b.metadata t b.at) f ∙ seen_before b.metadata b.at in
+    let d : offset_so_far b.metadata (r.at == m) b.at ≡ b.metadata = ap (λ t. offset_so_far b.metadata t b.at) f ∙ seen_before b.metadata b.at in
     λ j. record { output = o j; at = a j; older = b.older; metadata = d j }
 
-laid_run : (p : Parts) (left : List EntryAt) (all ss : List OutputRecord) (rs : List Framed) (from to : ℕ) (b : Progress) → Going p left all (map (λ r. Whole r) rs ++ ss) b → Tiles p.bytes from rs to →
-    AllByRecursion (λ r. (r.at == metadata_at p.bytes) ≡ false) rs → Going p left all ss (with_range b from to)
-laid_run p left all ss [] from to b g t o = subst (Going p left all ss) (sym (no_range b from to t)) g
-laid_run p left all ss (r ∷ rs) from to b g t o =
+laid_run : (p : Parts) (remaining : List EntryAt) (all ss : List OutputRecord) (rs : List Framed) (from to : ℕ) (b : Progress) → Going p remaining all (map (λ r. Whole r) rs ++ ss) b → Tiles p.bytes from rs to →
+    AllByRecursion (λ r. (r.at == metadata_at p.bytes) ≡ false) rs → Going p remaining all ss (with_range b from to)
+laid_run p remaining all ss [] from to b g t o = subst (Going p remaining all ss) (sym (no_range b from to t)) g
+laid_run p remaining all ss (r ∷ rs) from to b g t o =
     let m = metadata_at p.bytes in
-    let next = going_next p left all (map (λ s. Whole s) rs ++ ss) (Whole r) b (body_with left m b (Whole r)) m g refl refl (some_written p.bytes left (Whole r) b.at b.older t.1) in
-    let rest = laid_run p left all ss rs (record_end r) to (body_with left m b (Whole r)) next t.2 o.1 in
-    let e = first_of_range b r left m to o.0 (subst (λ c. IsRecord c r) (sym g.chunk) t.1) (tiles_order p.bytes (record_end r) to rs t.2) in
-    subst (Going p left all ss) (e ∙ ap (λ n. with_range b n to) t.0) rest
+    let next = going_next p remaining all (map (λ s. Whole s) rs ++ ss) (Whole r) b (body_with remaining m b (Whole r)) m g refl refl (some_written p.bytes remaining (Whole r) b.at b.older t.1) in
+    let rest = laid_run p remaining all ss rs (record_end r) to (body_with remaining m b (Whole r)) next t.2 o.1 in
+    let e = first_of_range b r remaining m to o.0 (subst (λ c. IsRecord c r) (sym g.chunk) t.1) (tiles_order p.bytes (record_end r) to rs t.2) in
+    subst (Going p remaining all ss) (e ∙ ap (λ n. with_range b n to) t.0) rest
 
 -- What is left to lay out after a run.
-pub going_run : (p : Parts) (flags : List Bool) (left : List EntryAt) (all rest : List OutputRecord) (c d : Cursor) (run : Run) (b next : Progress) → IsRun p flags c d run.from run.to → Going p left all (still_output_records p flags c) b → next ≡ body_with_run b run → still_output_records p flags d ≡ rest → Going p left all rest next
-going_run p flags left all rest c d run b next u g n e =
-    let laid = laid_run p left all (still_output_records p flags d) u.records run.from run.to b (subst (λ ss. Going p left all ss b) u.output_records g) u.tiles u.others in
-    subst (λ ss. Going p left all ss next) e (subst (Going p left all (still_output_records p flags d)) (sym n) laid)
+pub going_run : (p : Parts) (flags : List Bool) (remaining : List EntryAt) (all rest : List OutputRecord) (c d : Cursor) (run : Run) (b next : Progress) → IsRun p flags c d run.from run.to → Going p remaining all (still_output_records p flags c) b → next ≡ body_with_run b run → still_output_records p flags d ≡ rest → Going p remaining all rest next
+going_run p flags remaining all rest c d run b next u g n e =
+    let laid = laid_run p remaining all (still_output_records p flags d) u.records run.from run.to b (subst (λ ss. Going p remaining all ss b) u.output_records g) u.tiles u.others in
+    subst (λ ss. Going p remaining all ss next) e (subst (Going p remaining all (still_output_records p flags d)) (sym n) laid)
 
 -- What is laid out is no longer than the chunk.
-pub going_within : (p : Parts) (left : List EntryAt) (all ss : List OutputRecord) (b : Progress) → Going p left all ss b → b.at ≤ length p.bytes
-going_within p left all ss b g =
-    let y = flat_map (written_bytes p.bytes left) (written p.bytes left b.at b.older ss) in
-    let k : length (b.output.bytes ++ y) ≡ length (flat_map (written_bytes p.bytes left) (written p.bytes left 68 None all)) = ap (λ (z : Laying). length z.bytes) g.output in
+pub going_within : (p : Parts) (remaining : List EntryAt) (all ss : List OutputRecord) (b : Progress) → Going p remaining all ss b → b.at ≤ length p.bytes
+going_within p remaining all ss b g =
+    let y = flat_map (written_bytes p.bytes remaining) (written p.bytes remaining b.at b.older ss) in
+    let k : length (b.output.bytes ++ y) ≡ length (flat_map (written_bytes p.bytes remaining) (written p.bytes remaining 68 None all)) = ap (λ (z : Laying). length z.bytes) g.output in
     let l : length (b.output.bytes ++ y) ≡ length b.output.bytes + length y = length-append b.output.bytes y in
-    let w : 68 + length (flat_map (written_bytes p.bytes left) (written p.bytes left 68 None all)) ≤ length p.bytes = g.within in
+    let w : 68 + length (flat_map (written_bytes p.bytes remaining) (written p.bytes remaining 68 None all)) ≤ length p.bytes = g.within in
     let a : b.at ≡ 68 + length b.output.bytes = g.at in
     omega arith

@@ -7,7 +7,7 @@ use Rattle.jfr_chunk.specs.Parts.{Parts, EventAt, metadata_at}
 use Rattle.jfr_chunk.specs.Reach.{remain}
 use Rattle.jfr_chunk.specs.Written.{Group, distance}
 use Rattle.jfr_chunk.specs.Scrub.{OutputRecord, Whole, Chained, Rebuilt, output_records, groups_of, bytes_of, written_bytes, older_after, written, last_at, record_of, moved}
-use Rattle.jfr_output.specs.Positions.{place_seen}
+use Rattle.jfr_output.specs.Positions.{offset_so_far}
 use Rattle.jfr_scrub.specs.declared.body.Body.{Body}
 use Rattle.jfr_scrub.specs.declared.piece.MadePart.{MadePart}
 use Rattle.jfr_scrub.specs.declared.piece.MadePart.TheVariants.{ChunkHeader, CheckpointSize, CheckpointDelta, PoolCount, PoolClass, EntryCount, MetadataRecord}
@@ -28,35 +28,35 @@ progress_of b = record { output = laying_of b.output; at = b.at; older = b.older
 
 -- The output record takes no more bytes than the record of the chunk from which it is made.
 abbrev pub OutputRecordFits : List ℕ → List EntryAt → OutputRecord → ℕ → Option ℕ → Type 0
-OutputRecordFits c left (Whole r) at older = IsRecord c r
-OutputRecordFits c left (Rebuilt r x) at older = IsRecord c r × (1 ≤ length x) × (length x ≤ r.size)
-OutputRecordFits c left (Chained number l) at older = LinkFits c l (distance at older) (groups_of left number)
+OutputRecordFits c remaining (Whole r) at older = IsRecord c r
+OutputRecordFits c remaining (Rebuilt r x) at older = IsRecord c r × (1 ≤ length x) × (length x ≤ r.size)
+OutputRecordFits c remaining (Chained number l) at older = LinkFits c l (distance at older) (groups_of remaining number)
 
 -- The body with one output record more: its bytes, the offset after it, the offset of the last checkpoint,
 -- and that of the metadata record, which was at this offset in the chunk.
 abbrev pub body_with : List EntryAt → ℕ → Progress → OutputRecord → Progress
-body_with left metadata b s =
-    let bytes = bytes_of b.output.chunk left s b.at b.older in
-    record { output = more b.output bytes; at = b.at + length bytes; older = older_after s b.at b.older; metadata = place_seen b.metadata ((record_of s).at == metadata) b.at }
+body_with remaining metadata b s =
+    let bytes = bytes_of b.output.chunk remaining s b.at b.older in
+    record { output = more b.output bytes; at = b.at + length bytes; older = older_after s b.at b.older; metadata = offset_so_far b.metadata ((record_of s).at == metadata) b.at }
 
 -- The body with all output records.
-pub record IsBody (p : Parts) (left : List EntryAt) (ss : List OutputRecord) (b : Progress) : Type 0 where
-  pub output : b.output ≡ record { chunk = p.bytes; bytes = flat_map (written_bytes p.bytes left) (written p.bytes left 68 None ss) }
-  pub at : b.at ≡ 68 + length (flat_map (written_bytes p.bytes left) (written p.bytes left 68 None ss))
-  pub older : unwrap_or b.older 0 ≡ last_at None (written p.bytes left 68 None ss)
-  pub metadata : unwrap_or b.metadata 0 ≡ moved (written p.bytes left 68 None ss) (metadata_at p.bytes)
+pub record IsBody (p : Parts) (remaining : List EntryAt) (ss : List OutputRecord) (b : Progress) : Type 0 where
+  pub output : b.output ≡ record { chunk = p.bytes; bytes = flat_map (written_bytes p.bytes remaining) (written p.bytes remaining 68 None ss) }
+  pub at : b.at ≡ 68 + length (flat_map (written_bytes p.bytes remaining) (written p.bytes remaining 68 None ss))
+  pub older : unwrap_or b.older 0 ≡ last_at None (written p.bytes remaining 68 None ss)
+  pub metadata : unwrap_or b.metadata 0 ≡ moved (written p.bytes remaining 68 None ss) (metadata_at p.bytes)
   pub within : b.at ≤ length p.bytes
 
 -- What the pieces must copy of an output record: a whole record in one piece, or each entry of a chained
 -- checkpoint in one piece. A rebuilt metadata record is made, so nothing of it must be copied.
 abbrev pub OutputRecordIsCopied : List EntryAt → List Part → OutputRecord → Type 0
-OutputRecordIsCopied left ps (Whole r) = RecordIsCopied ps r
-OutputRecordIsCopied left ps (Rebuilt r x) = ⊤
-OutputRecordIsCopied left ps (Chained number l) = AllByRecursion (EntryIsCopied ps) (filter (λ e. e.checkpoint == number) left)
+OutputRecordIsCopied remaining ps (Whole r) = RecordIsCopied ps r
+OutputRecordIsCopied remaining ps (Rebuilt r x) = ⊤
+OutputRecordIsCopied remaining ps (Chained number l) = AllByRecursion (EntryIsCopied ps) (filter (λ e. e.checkpoint == number) remaining)
 
 -- The output records are copied in these pieces, and in any others that keep the copied ranges of these.
 abbrev pub OutputRecordsAreCopied : List EntryAt → List OutputRecord → List Part → Type 0
-OutputRecordsAreCopied left ss ps = (qs : List Part) → Keeps ps qs → AllByRecursion (OutputRecordIsCopied left qs) ss
+OutputRecordsAreCopied remaining ss ps = (qs : List Part) → Keeps ps qs → AllByRecursion (OutputRecordIsCopied remaining qs) ss
 
 -- The made parts of a pool: its class and its number of entries.
 abbrev pub pool_parts : Group → List MadePart
@@ -69,9 +69,9 @@ checkpoint_parts gs = CheckpointSize ∷ CheckpointDelta ∷ PoolCount ∷ flat_
 -- The made parts of an output record: none for a whole record, which is copied, and one for a metadata record
 -- that is built anew.
 abbrev pub output_record_parts : List EntryAt → OutputRecord → List MadePart
-output_record_parts left (Whole r) = []
-output_record_parts left (Rebuilt r x) = MetadataRecord ∷ []
-output_record_parts left (Chained number l) = checkpoint_parts (groups_of left number)
+output_record_parts remaining (Whole r) = []
+output_record_parts remaining (Rebuilt r x) = MetadataRecord ∷ []
+output_record_parts remaining (Chained number l) = checkpoint_parts (groups_of remaining number)
 
 -- All made parts of the output if these events are kept: the header, then those of each output record.
 abbrev pub all_made : Parts → List EventAt → List MadePart

@@ -16,7 +16,7 @@ use Rattle.jfr_scrub.specs.Scrubs.{scrubbed}
 pub record IsScrubbed (g : Given) (c b : List ℕ) : Type 0 where
   pub parts : Parts
   pub bytes : parts.bytes ≡ c
-  pub stand : AreParts parts
+  pub valid : AreParts parts
   pub becomes : b ≡ scrub_of parts (kept_of g parts)
   pub settled : IsSettled g parts
 

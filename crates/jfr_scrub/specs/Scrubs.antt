@@ -2,7 +2,7 @@
 use Rattle.std.specs.Prelude.{ℕ, List, [], Result, Ok, Err}
 use Rattle.jfr_base.specs.declared.flaw.Flaw.{Flaw}
 use Rattle.jfr_filter.specs.Filters.{Given}
-use Rattle.jfr_plan.specs.Walks.{Rule}
+use Rattle.jfr_plan.specs.Rules.{Rule}
 use Rattle.jfr_plan.specs.Makes.{making}
 use Rattle.jfr_chunk.specs.Parts.{Parts}
 use Rattle.jfr_chunk.specs.Chosen.{kept_of}

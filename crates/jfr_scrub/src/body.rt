@@ -37,15 +37,15 @@ pub(crate) fn lay_body<'a>(
     alloc: Global,
     chunk: &Chunk<'a>,
     kept: &Kept,
-    left: &[EntryAt],
+    remaining: &[EntryAt],
     slim: Option<&[u8]>,
 ) -> Result<Body<'a>, NoMemory>
-    requires left { left.now ≡ remain chunk.now (kept_by chunk.now kept.now) }
+    requires remaining { remaining.now ≡ remain chunk.now (kept_by chunk.now kept.now) }
     requires slim { option_map (λ s. s.now) slim ≡ new_metadata chunk.now kept.now }
     requires metadata { IfSome slim (λ s. IsMetadataRecord s.now) }
-    ensures ok { IfOk result (λ body. IsBody chunk.now left.now (output_records chunk.now (kept_by chunk.now kept.now)) (progress_of body)) }
-    ensures copied { IfOk result (λ body. OutputRecordsAreCopied left.now (output_records chunk.now (kept_by chunk.now kept.now)) body.output.pieces) }
-    ensures made { IfOk result (λ body. made_parts body.output.pieces ≡ flat_map (output_record_parts left.now) (output_records chunk.now (kept_by chunk.now kept.now))) }
+    ensures ok { IfOk result (λ body. IsBody chunk.now remaining.now (output_records chunk.now (kept_by chunk.now kept.now)) (progress_of body)) }
+    ensures copied { IfOk result (λ body. OutputRecordsAreCopied remaining.now (output_records chunk.now (kept_by chunk.now kept.now)) body.output.pieces) }
+    ensures made { IfOk result (λ body. made_parts body.output.pieces ≡ flat_map (output_record_parts remaining.now) (output_records chunk.now (kept_by chunk.now kept.now))) }
     ensures accepted { IsAccepted chunk.now }
 {
     let mut body = Body {
@@ -64,7 +64,7 @@ pub(crate) fn lay_body<'a>(
         let Some(output_record) = next_output_record(chunk, kept, &mut cursor) else {
             return Ok(body);
         };
-        lay_record(&mut body, left, slim, output_record)?;
+        lay_record(&mut body, remaining, slim, output_record)?;
     }
 }
 
@@ -86,20 +86,20 @@ fn lay_run(body: &mut Body, run: Run) -> Result<(), NoMemory>
 #[inline(always)]
 fn lay_record(
     body: &mut Body,
-    left: &[EntryAt],
+    remaining: &[EntryAt],
     slim: Option<&[u8]>,
     output_record: OutputRecord,
 ) -> Result<(), NoMemory>
-    requires fits { OutputRecordFits body.old.output.chunk left.now (output_record_as (option_map (λ s. s.now) slim) output_record) body.old.at body.old.older }
+    requires fits { OutputRecordFits body.old.output.chunk remaining.now (output_record_as (option_map (λ s. s.now) slim) output_record) body.old.at body.old.older }
     requires slim { IfSome slim (λ s. IsMetadataRecord s.now) }
-    requires order { NotFalling 0 left.now }
-    requires ranges { AllByRecursion (HasRange (length body.old.output.chunk)) left.now }
+    requires order { NotFalling 0 remaining.now }
+    requires ranges { AllByRecursion (HasRange (length body.old.output.chunk)) remaining.now }
     requires before { IsBefore body.old.older body.old.at }
-    requires room { body.old.at + length (bytes_of body.old.output.chunk left.now (output_record_as (option_map (λ s. s.now) slim) output_record) body.old.at body.old.older) ≤ length body.old.output.chunk }
+    requires room { body.old.at + length (bytes_of body.old.output.chunk remaining.now (output_record_as (option_map (λ s. s.now) slim) output_record) body.old.at body.old.older) ≤ length body.old.output.chunk }
     requires small { length body.old.output.chunk < 2 ^ 64 }
-    ensures ok { OnOk result ((metadata : ℕ) → ShowsMetadata metadata output_record → progress_of body.new ≡ body_with left.now metadata (progress_of body.old) (output_record_as (option_map (λ s. s.now) slim.entry) output_record)) }
-    ensures copied { OnOk result (OutputRecordIsCopied left.now body.new.output.pieces (output_record_as (option_map (λ s. s.now) slim.entry) output_record)) }
-    ensures grows { OnOk result (Grows body.old.output.pieces body.new.output.pieces (output_record_parts left.now (output_record_as (option_map (λ s. s.now) slim.entry) output_record))) }
+    ensures ok { OnOk result ((metadata : ℕ) → ShowsMetadata metadata output_record → progress_of body.new ≡ body_with remaining.now metadata (progress_of body.old) (output_record_as (option_map (λ s. s.now) slim.entry) output_record)) }
+    ensures copied { OnOk result (OutputRecordIsCopied remaining.now body.new.output.pieces (output_record_as (option_map (λ s. s.now) slim.entry) output_record)) }
+    ensures grows { OnOk result (Grows body.old.output.pieces body.new.output.pieces (output_record_parts remaining.now (output_record_as (option_map (λ s. s.now) slim.entry) output_record))) }
 {
     let at = body.at;
     match output_record {
@@ -122,7 +122,12 @@ fn lay_record(
         }
         OutputRecord::Chained(number, link) => {
             let delta = delta_to(body.older, at);
-            let size = lay_checkpoint(&mut body.output, &link, delta, entries_of(left, number))?;
+            let size = lay_checkpoint(
+                &mut body.output,
+                &link,
+                delta,
+                entries_of(remaining, number),
+            )?;
             body.older = Some(at);
             body.at = at + size;
         }

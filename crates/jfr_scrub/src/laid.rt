@@ -115,17 +115,17 @@ fn lay_out<'a>(
     ensures laid { IfOk result (λ s. LaysOut chunk.now (kept_by chunk.now kept.now) s.laid s.events s.entries) }
     ensures accepted { IfOk result (λ s. IsAccepted chunk.now) }
 {
-    let left = remaining_entries(alloc, chunk.pools(), marks)?;
-    let left = left.as_slice();
-    let body = lay_body(alloc, chunk, kept, left, slim)?;
+    let remaining = remaining_entries(alloc, chunk.pools(), marks)?;
+    let remaining = remaining.as_slice();
+    let body = lay_body(alloc, chunk, kept, remaining, slim)?;
     let size = body.at;
-    let front = output_header(chunk.header(), size, body.older, body.metadata);
-    let pieces = body.output.finish(&front)?;
+    let header = output_header(chunk.header(), size, body.older, body.metadata);
+    let pieces = body.output.finish(&header)?;
     Ok(LaidOut {
         pieces,
         size,
         kept_events: kept.kept_count(),
-        kept_entries: left.len(),
+        kept_entries: remaining.len(),
     })
 }
 

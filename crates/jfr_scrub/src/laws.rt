@@ -3,7 +3,7 @@ ghost use Rattle.std.specs.Prelude.{◌≡◌, ◌↔◌, ℕ, ◌+◌, ◌^◌,
 ghost use Rattle.jfr_filter.specs.Filters.{Given};
 ghost use Rattle.jfr_header.specs.Cuts.{cut, joined};
 ghost use Rattle.jfr_plan.specs.Ends.{Fine};
-ghost use Rattle.jfr_plan.specs.Walks.{plan_after};
+ghost use Rattle.jfr_plan.specs.Rules.{plan_after};
 ghost use Rattle.jfr_plan.specs.Accepted.{AllAccepted};
 ghost use Rattle.jfr_chunk.specs.Refusal.{refusal_of};
 ghost use Rattle.jfr_output.specs.Recordings.{before_refused};

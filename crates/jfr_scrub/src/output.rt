@@ -110,17 +110,17 @@ impl<'a> Output<'a> {
     }
 
     /// The pieces, with the header before them.
-    pub(crate) fn finish(self, front: &[u8]) -> Result<Pieces<'a>, NoMemory>
-        requires { IsHeader front.now }
+    pub(crate) fn finish(self, header: &[u8]) -> Result<Pieces<'a>, NoMemory>
+        requires { IsHeader header.now }
         ensures chunk { IfOk result (λ p. p.chunk ≡ self.entry.chunk) }
-        ensures ok { IfOk result (λ p. joined p ≡ front.now ++ joined self.entry) }
+        ensures ok { IfOk result (λ p. joined p ≡ header.now ++ joined self.entry) }
         ensures keeps { IfOk result (λ p. Keeps self.entry.pieces p.pieces) }
         ensures made { IfOk result (λ p. made_parts p.pieces ≡ ChunkHeader ∷ made_parts self.entry.pieces) }
         ensures headed { IfOk result (λ p. IsHeaded p) }
     {
         let mut pieces = self.pieces;
         pieces.copy(self.from, self.to)?;
-        pieces.put_front(front)?;
+        pieces.put_header(header)?;
         Ok(pieces)
     }
 }

@@ -76,7 +76,7 @@ impl<'a> Pieces<'a> {
     }
 
     /// Adds the header before all pieces.
-    pub(crate) fn put_front(&mut self, bytes: &[u8]) -> Result<(), NoMemory>
+    pub(crate) fn put_header(&mut self, bytes: &[u8]) -> Result<(), NoMemory>
         requires { IsHeader bytes.now }
         ensures chunk { self.new.chunk ≡ self.old.chunk }
         ensures ok { OnOk result (joined self.new ≡ bytes.now ++ joined self.old) }

@@ -1,8 +1,8 @@
 //! The stream that scrubs a recording.
 ghost use Rattle.std.specs.Prelude.{◌≡◌, ◌≢◌, ℕ, List, None};
-ghost use Rattle.jfr_plan.specs.Effects.{alone};
+ghost use Rattle.jfr_plan.specs.Effects.{without_sink};
 ghost use Rattle.jfr_plan.specs.Clauses.{over, Ran, CanCreate};
-ghost use Rattle.jfr_outside.specs.World.{Told};
+ghost use Rattle.jfr_outside.specs.World.{IfKnown};
 ghost use Rattle.jfr_header.specs.Fronts.{Whole};
 ghost use Rattle.jfr_chunk.specs.Refusal.{refusal_of};
 ghost use Rattle.jfr_output.specs.Recordings.{IsByPlan};
@@ -12,7 +12,7 @@ ghost use Rattle.jfr_scrub.specs.Scrubs.{scrubbed, scrubbing};
 use crate::laid::LaidOut;
 use crate::ranges::Ranges;
 use jfr_base::ReadFault;
-use jfr_chunk::{Chunk, Room};
+use jfr_chunk::{Buffers, Chunk};
 use jfr_filter::Filter;
 use jfr_header::Ending;
 use jfr_outside::{NoMemory, Place};
@@ -20,12 +20,12 @@ use jfr_plan::{Make, make_stream};
 use std::alloc::Global;
 use std::mem;
 
-/// Makes the output of each chunk with a filter. `room` holds the last chunk's memory, which the next chunk
+/// Makes the output of each chunk with a filter. `buffers` holds the last chunk's memory, which the next chunk
 /// uses again.
 #[derive(Drop)]
 struct Scrub<'f> {
     filter: &'f Filter,
-    room: Room,
+    buffers: Buffers,
     ranges: Ranges,
 }
 
@@ -44,11 +44,11 @@ impl<'f> Make for Scrub<'f> {
     ghost last = { λ s chunk. joined (laid_in chunk s.ranges) };
 
     fn make(&mut self, alloc: Global, chunk: &[u8]) -> Result<(), ReadFault> {
-        let room = mem::replace(&mut self.room, Room::new(alloc));
-        let chunk = Chunk::read_in(alloc, room, chunk)?;
+        let buffers = mem::replace(&mut self.buffers, Buffers::new(alloc));
+        let chunk = Chunk::read_in(alloc, buffers, chunk)?;
         let laid = LaidOut::make(alloc, &chunk, self.filter)?;
         self.ranges = laid.into_ranges();
-        self.room = chunk.into_room();
+        self.buffers = chunk.into_buffers();
         Ok(())
     }
 
@@ -70,11 +70,11 @@ pub fn scrub_stream<P: Place>(
     // just these chunks, each of them accepted again, with exactly the events that the filter keeps and
     // exactly the constants that they reach, and of the same meaning. `each` says this of the scrub of
     // every accepted chunk, whatever the result is.
-    ensures headline { IsByPlan result → Told (P.state place.old).told (P.state place.new).told (Scrubs filter.now input.now output.now) }
+    ensures headline { IsByPlan result → IfKnown (P.state place.old).contents (P.state place.new).contents (Scrubs filter.now input.now output.now) }
     ensures each { (c : List ℕ) → Whole c → refusal_of c ≡ None → IsScrubbed filter.now c (scrubbed filter.now c) }
 
     ensures ran { Ran (over (scrubbing filter.now output.now) input.now) result
-        (alone (P.state place.old)) (alone (P.state place.new)) }
+        (without_sink (P.state place.old)) (without_sink (P.state place.new)) }
 
     // If the output can be created, there is no write fault.
     ensures can_create { CanCreate output.now (P.state place.old)
@@ -85,7 +85,7 @@ pub fn scrub_stream<P: Place>(
         place,
         Scrub {
             filter,
-            room: Room::new(alloc),
+            buffers: Buffers::new(alloc),
             ranges: Ranges::new(alloc),
         },
         input,

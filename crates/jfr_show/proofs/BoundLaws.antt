@@ -13,7 +13,7 @@ use Rattle.jfr_chunk.specs.Parts.{AreParts, Parts, events_of, is_inert, pools_at
 use Rattle.jfr_chunk.proofs.AllLaws.{all_in}
 use Rattle.jfr_chunk.proofs.BoundLaws.{entries_few}
 use Rattle.jfr_worklist.proofs.Members.{contains_in}
-use Rattle.jfr_chunk.proofs.StandingLaws.{described_sound, tiles_each}
+use Rattle.jfr_chunk.proofs.HasNodesLaws.{described_sound, tiles_each}
 use Rattle.jfr_show.specs.Counting.{AreBelow}
 use Rattle.jfr_show.specs.Summing.{IsBounded}
 use Rattle.jfr_show.specs.Totals.{Tallies, Totals, occurrences}

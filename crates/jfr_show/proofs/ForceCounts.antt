@@ -16,7 +16,7 @@ use Rattle.jfr_show.specs.Totals.{count_in_force, is_in_force}
 module _ (es : List EntryAt) (n : ℕ) (e : EntryAt) (there : slice_get es n ≡ Some e) where
   in_force_true : IsInForce es n → is_in_force es (n, e) ≡ true
   in_force_true i =
-      let q : Some i.entry ≡ Some e = sym i.stands ∙ there in
+      let q : Some i.entry ≡ Some e = sym i.holds ∙ there in
       let same : i.entry ≡ e = cc in
       let last : number_in_force es (e.class, e.key) ≡ Some n = subst (λ (z : EntryAt). number_in_force es (z.class, z.key) ≡ Some n) same i.last in
       ap (λ o. option_map_or (λ m. m == n) o false) last ∙ (Decides-eqb n n).1 refl
@@ -26,7 +26,7 @@ module _ (es : List EntryAt) (n : ℕ) (e : EntryAt) (there : slice_get es n ≡
     where
       by_number : (o : Option ℕ) → number_in_force es (e.class, e.key) ≡ o → option_map_or (λ m. m == n) o false ≡ true → IsInForce es n
       by_number None f g = cc
-      by_number (Some m) f g = record { entry = e; stands = there; last = f ∙ ap Some (eqb-true m n g) }
+      by_number (Some m) f g = record { entry = e; holds = there; last = f ∙ ap Some (eqb-true m n g) }
 
   false_in_force : (IsInForce es n → ⊥) → is_in_force es (n, e) ≡ false
   false_in_force no_force = by_test (is_in_force es (n, e)) refl
@@ -59,7 +59,7 @@ module _ (es : List EntryAt) (n count : ℕ) (within : n < length es) (so : IsCo
       let l : n < length (enumerate_from 0 es) = let h = length-enumerate_from 0 es in omega arith in
       let m = so.most in
       record {
-        exact = ap (λ z. z + 1) so.exact ∙ sym (count_by_more_yes (is_in_force es) (enumerate_from 0 es) n (0, i.entry) l (ap (is_in_force es) (numbered es n i.entry i.stands) ∙ in_force_true es n i.entry i.stands i));
+        exact = ap (λ z. z + 1) so.exact ∙ sym (count_by_more_yes (is_in_force es) (enumerate_from 0 es) n (0, i.entry) l (ap (is_in_force es) (numbered es n i.entry i.holds) ∙ in_force_true es n i.entry i.holds i));
         most = omega arith;
       }
 

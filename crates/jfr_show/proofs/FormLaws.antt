@@ -17,7 +17,7 @@ use Rattle.jfr_layout.specs.declared.shape.Shape.{Shape}
 use Rattle.jfr_value.specs.declared.leaf.LeafKind.{LeafKind}
 use Rattle.jfr_value.specs.declared.leaf.LeafKind.TheVariants as leaf_kinds
 use Rattle.jfr_value.specs.Values.{Value, Values, Single, Group, shapes_of, bytes_of_all, key_of, IsBase, IsSingle, IsHead, AllFit}
-use Rattle.jfr_value.specs.Nodes.{node_at, IsNode, IsRow}
+use Rattle.jfr_value.specs.Nodes.{node_at, IsNode, AreValues}
 use Rattle.jfr_value.proofs.NodeLaws.{node_stands}
 use Rattle.jfr_value.proofs.StringLaws.{is_exact}
 use Rattle.jfr_chunk.specs.Paths.{content_in}
@@ -94,7 +94,7 @@ module _ (k : Classes) (c : List ℕ) (at to end : ℕ) (s : Shape) (l : to ≤ 
   record BaseForm (kind : Kind) (v : Value) : Type 0 where
     key : Option ℕ
     is : IsBase kind bytes_there key
-    stands : Stands c at to bytes_there
+    holds : Stands c at to bytes_there
     value : v ≡ Single s (leaf_kinds.Base kind) bytes_there key
 
   base_form : (v : Value) (d : Class) → IsNode k c (node_at s at to) v → s.array ≡ false → s.constant ≡ false → find_class k s.class ≡ Some d → kind_of d.name ≢ kinds.Composite → BaseForm (kind_of d.name) v
@@ -108,7 +108,7 @@ module _ (k : Classes) (c : List ℕ) (at to end : ℕ) (s : Shape) (l : to ≤ 
           record {
             key = key;
             is = subst (λ z. IsBase (kind_of d.name) z key) (sym i.bytes) f;
-            stands = record { order = i.order; within = i.within; bytes = refl };
+            holds = record { order = i.order; within = i.within; bytes = refl };
             value = ap (λ z. Single t z b key) p.4 ∙ (ap (λ (z : Class). Single t (leaf_kinds.Base (kind_of z.name)) b key) e ∙ (ap (λ z. Single t (leaf_kinds.Base (kind_of d.name)) z key) (sym i.bytes) ∙ ap (λ (z : Shape). Single z (leaf_kinds.Base (kind_of d.name)) bytes_there key) (sym i.shape)));
           }
   base_form (Group t h vs) d i a o q n = by_case i.fits.0
@@ -155,7 +155,7 @@ module _ (k : Classes) (c : List ℕ) (at to end : ℕ) (s : Shape) (l : to ≤ 
       let i = subst (λ z. IsBase z bytes_there n.key) x n.is in
       record {
         content = i.0;
-        reads = exact_run c end w (string_format true) at to bytes_there i.0 (is_exact bytes_there i.0 i.1) n.stands l;
+        reads = exact_run c end w (string_format true) at to bytes_there i.0 (is_exact bytes_there i.0 i.1) n.holds l;
         value = n.value ∙ (ap (λ z. Single s (leaf_kinds.Base z) bytes_there n.key) x ∙ ap (λ z. Single s (leaf_kinds.Base kinds.Text) bytes_there z) i.2);
         text = spelled_text bytes_there i.0 i.1;
       }
@@ -166,7 +166,7 @@ module _ (k : Classes) (c : List ℕ) (at to end : ℕ) (s : Shape) (l : to ≤ 
   -- A composite value: its fields are there.
   pub record FieldsForm (d : Class) (v : Value) : Type 0 where
     pub parts : Values
-    pub row : IsRow k c at to (map (λ f. f.shape) d.fields) parts
+    pub row : AreValues k c at to (map (λ f. f.shape) d.fields) parts
     pub value : v ≡ Group s [] parts
 
   pub fields_form : (v : Value) (d : Class) → IsNode k c (node_at s at to) v → s.array ≡ false → s.constant ≡ false → find_class k s.class ≡ Some d → kind_of d.name ≡ kinds.Composite → FieldsForm d v
@@ -196,7 +196,7 @@ module _ (k : Classes) (c : List ℕ) (at to end : ℕ) (s : Shape) (l : to ≤ 
     pub found : int_at c at end ≡ Some count
     pub head : List ℕ
     pub parts : Values
-    pub row : IsRow k c count.end to (replicate count.value (item_of s)) parts
+    pub row : AreValues k c count.end to (replicate count.value (item_of s)) parts
     pub value : v ≡ Group s head parts
 
   pub array_form : (v : Value) → IsNode k c (node_at s at to) v → s.array ≡ true → ArrayForm v

@@ -18,11 +18,11 @@ use Rattle.jfr_value.specs.declared.leaf.LeafKind.{LeafKind}
 use Rattle.jfr_value.specs.declared.leaf.LeafKind.TheVariants as leaf_kinds
 use Rattle.jfr_value.specs.Values.{Value, Values, Single, Group, key_of}
 use Rattle.jfr_value.specs.Visits.{field_shapes}
-use Rattle.jfr_value.specs.Nodes.{node_at, IsNode, IsRow}
-use Rattle.jfr_value.specs.Walks.{IsLayoutIfKnown, Room}
+use Rattle.jfr_value.specs.Nodes.{node_at, IsNode, AreValues}
+use Rattle.jfr_value.specs.Walks.{IsLayoutIfKnown, DepthBound}
 use Rattle.jfr_value.proofs.FormLaws.{IsInline, Inline, inline_there, key_there, text_kind, fields_kind}
-use Rattle.jfr_value.proofs.StackLaws.{inner_room}
-use Rattle.jfr_value.proofs.VisitLaws.{InlineNode, inline_node, room_within}
+use Rattle.jfr_value.proofs.StackLaws.{inner_depth}
+use Rattle.jfr_value.proofs.VisitLaws.{InlineNode, inline_node, depth_within}
 use Rattle.jfr_show.specs.Leaves.{text_spelled}
 use Rattle.jfr_show.proofs.FormLaws.{IntegerForm, RawForm, TextForm, array_form, key_form, integer_form, raw_form, text_form, fields_form}
 
@@ -140,7 +140,7 @@ module _ (k : Classes) (c : List ℕ) (at to : ℕ) (s : FieldLayout) (is : IsLa
     pub there : slice_get k s.class_index ≡ Some class
     pub placed : s.class_index < length k
     pub parts : Values
-    pub row : IsRow k c at to (field_shapes k s.class_index) parts
+    pub row : AreValues k c at to (field_shapes k s.class_index) parts
     pub value : v ≡ Group s.shape [] parts
 
   pub is_composite : s.form ≡ forms.Fields → IsComposite
@@ -155,17 +155,17 @@ module _ (k : Classes) (c : List ℕ) (at to : ℕ) (s : FieldLayout) (is : IsLa
         there = d.there;
         placed = d.within;
         parts = f.parts;
-        row = subst (λ z. IsRow k c at to z f.parts) (sym (shapes_at k s.class_index d.class d.there)) f.row;
+        row = subst (λ z. AreValues k c at to z f.parts) (sym (shapes_at k s.class_index d.class d.there)) f.row;
         value = f.value;
       }
 
   -- And the room for the fields.
-  pub composite_room : s.form ≡ forms.Fields → (levels : ℕ) → Room k levels s.shape → (1 ≤ levels) × AllByRecursion (Room k (levels - 1)) (field_shapes k s.class_index)
-  composite_room e levels r =
+  pub composite_depth : s.form ≡ forms.Fields → (levels : ℕ) → DepthBound k levels s.shape → (1 ≤ levels) × AllByRecursion (DepthBound k (levels - 1)) (field_shapes k s.class_index)
+  composite_depth e levels r =
       let m = inline forms.Fields e tt in
       let d = inline_layout forms.Fields e tt in
       let q = fields_kind s.kind m.form in
-      ((inner_room k levels s.shape d.class r m.constant d.found (sym d.kind_is ∙ q)).0, room_within k c at to end s.shape l w s.class_index s.kind levels d q m.constant r)
+      ((inner_depth k levels s.shape d.class r m.constant d.found (sym d.kind_is ∙ q)).0, depth_within k c at to end s.shape l w s.class_index s.kind levels d q m.constant r)
 
   -- An array: the items after its count.
   pub array_stands : s.shape.array ≡ true → IsSome (int_at c at end)
@@ -174,14 +174,14 @@ module _ (k : Classes) (c : List ℕ) (at to : ℕ) (s : FieldLayout) (is : IsLa
   pub record IsArray (n : Var) : Type 0 where
     pub head : List ℕ
     pub parts : Values
-    pub row : IsRow k c n.end to (replicate n.value (item_of s.shape)) parts
+    pub row : AreValues k c n.end to (replicate n.value (item_of s.shape)) parts
     pub value : v ≡ Group s.shape head parts
 
   pub is_array : s.shape.array ≡ true → (n : Var) → int_at c at end ≡ Some n → IsArray n
   is_array a n r =
       let f = array_form k c at to end s.shape l w v i a in
       let q : f.count ≡ n = (let x : int_at c at end ≡ Some f.count = f.found in cc) in
-      record { head = f.head; parts = f.parts; row = subst (λ (z : Var). IsRow k c z.end to (replicate z.value (item_of s.shape)) f.parts) q f.row; value = f.value }
+      record { head = f.head; parts = f.parts; row = subst (λ (z : Var). AreValues k c z.end to (replicate z.value (item_of s.shape)) f.parts) q f.row; value = f.value }
 
 -- The layout of an array's items is known if the array's is.
 pub item_known : (k : Classes) (s t : FieldLayout) → IsLayoutIfKnown k s → t ≡ layout_with (item_of s.shape) s.class_index s.kind → IsLayoutIfKnown k t

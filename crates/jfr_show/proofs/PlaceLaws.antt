@@ -15,8 +15,8 @@ stands_by : {X : Type 0} (p : X → Bool) (xs : List X) (n : ℕ) (b : Bool) →
 stands_by p xs n true e q = let s : position_or_len p xs ≡ n = cc in find_at p xs ∙ ap (slice_get xs) s
 stands_by p xs n false e q = cc
 
-stands : {X : Type 0} (p : X → Bool) (xs : List X) (n : ℕ) → position p xs ≡ Some n → find p xs ≡ slice_get xs n
-stands p xs n q = stands_by p xs n (nat_lt (position_or_len p xs) (length xs)) refl q
+holds : {X : Type 0} (p : X → Bool) (xs : List X) (n : ℕ) → position p xs ≡ Some n → find p xs ≡ slice_get xs n
+holds p xs n q = stands_by p xs n (nat_lt (position_or_len p xs) (length xs)) refl q
 
 -- What is found has a position.
 pub record HasPlace (k : Classes) (id : ℕ) : Type 0 where
@@ -43,7 +43,7 @@ event_has_place k id e = event_found k id (nat_lt 1 id) (find_class k id) refl e
 
 -- The name of a class by its place.
 name_by : (k : Classes) (id n : ℕ) (c : Class) (b : Bool) → cond b (class_index k id) None ≡ Some n → slice_get k n ≡ Some c → class_name k id ≡ c.name
-name_by k id n c true q g = ap (λ o. option_map_or (λ (c : Class). c.name) o []) (stands (λ (c : Class). c.id == id) k n q ∙ g)
+name_by k id n c true q g = ap (λ o. option_map_or (λ (c : Class). c.name) o []) (holds (λ (c : Class). c.id == id) k n q ∙ g)
 name_by k id n c false q g = cc
 
 pub name_at : (k : Classes) (id n : ℕ) (c : Class) → event_index k id ≡ Some n → slice_get k n ≡ Some c → class_name k id ≡ c.name

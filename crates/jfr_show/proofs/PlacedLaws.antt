@@ -9,7 +9,7 @@ use Rattle.jfr_layout.specs.Classes.{AreFieldLayouts, Class, Classes, Field}
 use Rattle.jfr_layout.specs.declared.shape.Shape.{Shape}
 use Rattle.jfr_layout.specs.declared.field_layout.FieldLayout.{FieldLayout}
 use Rattle.jfr_value.specs.Values.{Value, Values, Nil, Cons, bytes_of, shapes_of}
-use Rattle.jfr_value.specs.Nodes.{node_at, IsNode, IsRow}
+use Rattle.jfr_value.specs.Nodes.{node_at, IsNode, AreValues}
 use Rattle.jfr_value.specs.Visits.{field_shapes}
 use Rattle.jfr_value.proofs.PlaceLaws.{get_within}
 use Rattle.jfr_value.proofs.LayoutLaws.{layouts_of}
@@ -44,7 +44,7 @@ module _ (k : Classes) (c : List ℕ) where
     pub within : end ≤ to
     pub json : (refer : ℕ × ℕ → Data) → nth (json_of_all k refer vs) j ≡ json_of k refer value
 
-  pub placed : (at to : ℕ) (ss : List Shape) (vs : Values) (j : ℕ) (s : Shape) → IsRow k c at to ss vs → slice_get ss j ≡ Some s → Placed at to vs j s
+  pub placed : (at to : ℕ) (ss : List Shape) (vs : Values) (j : ℕ) (s : Shape) → AreValues k c at to ss vs → slice_get ss j ≡ Some s → Placed at to vs j s
   placed at to [] vs j s r e = cc
   placed at to (t ∷ ss) vs zero s r e =
       let h = first_of k c at to t ss vs r in
@@ -54,7 +54,7 @@ module _ (k : Classes) (c : List ℕ) where
         end = at + length (bytes_of h.value);
         value = h.value;
         begins = refl;
-        node = record { shape = sym (h.shape ∙ q); order = h.stands.order; within = h.stands.within; bytes = h.stands.bytes; fits = h.fits };
+        node = record { shape = sym (h.shape ∙ q); order = h.holds.order; within = h.holds.within; bytes = h.holds.bytes; fits = h.fits };
         within = h.row.order;
         json = λ refer. refl;
       })

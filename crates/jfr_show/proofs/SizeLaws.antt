@@ -17,7 +17,7 @@ use Rattle.jfr_value.specs.Reading.{value_format}
 use Rattle.jfr_pool.specs.Entries.{inline}
 use Rattle.jfr_chunk.specs.Parts.{AreParts, HasFields, Parts, event_by, event_of, event_records, events_of}
 use Rattle.jfr_chunk.proofs.AllLaws.{filter_all}
-use Rattle.jfr_chunk.proofs.StandingLaws.{tiles_each}
+use Rattle.jfr_chunk.proofs.HasNodesLaws.{tiles_each}
 use Rattle.jfr_show.specs.declared.tally.Tally.{Tally}
 use Rattle.jfr_show.specs.Counting.{AddsEvents, AreBelow, FitsUnder, added, both, no_tally}
 use Rattle.jfr_show.specs.Totals.{Occurrence, Tallies, occurrence, occurrences, of_name, tally_of}

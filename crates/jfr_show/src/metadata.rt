@@ -113,9 +113,9 @@ fn show_class_name(classes: &Classes, id: u64, out: &mut TextBuilder) -> Result<
 }
 
 // Adds a text if the flag is set.
-fn push_if(stands: bool, text: &str, out: &mut TextBuilder) -> Result<(), NoMemory>
+fn push_if(holds: bool, text: &str, out: &mut TextBuilder) -> Result<(), NoMemory>
     requires ascii { IsTrue (is_ascii text.now) }
-    ensures ok { OnOk result (out.new ≡ out.old ++ (if stands then text.now else [])) }
+    ensures ok { OnOk result (out.new ≡ out.old ++ (if holds then text.now else [])) }
 {
-    if stands { out.push_ascii(text) } else { Ok(()) }
+    if holds { out.push_ascii(text) } else { Ok(()) }
 }

@@ -15,7 +15,7 @@ use jfr_value::Node;
 #[inline(always)]
 pub(crate) fn integer_at(chunk: &Chunk<'_>, at: usize) -> Var
     requires within { at ≤ length chunk.now.bytes }
-    requires stands { IsSome (int_at chunk.now.bytes at (length chunk.now.bytes)) }
+    requires holds { IsSome (int_at chunk.now.bytes at (length chunk.now.bytes)) }
     ensures { int_at chunk.now.bytes at (length chunk.now.bytes) ≡ Some result }
 {
     let bytes = chunk.bytes();
@@ -29,7 +29,7 @@ pub(crate) fn integer_at(chunk: &Chunk<'_>, at: usize) -> Var
 #[inline(always)]
 pub(crate) fn string_at<'a>(chunk: &Chunk<'a>, at: usize) -> StringSpan<'a>
     requires within { at ≤ length chunk.now.bytes }
-    requires stands { IsOk (run (string_format true) chunk.now.bytes (length chunk.now.bytes) at) }
+    requires holds { IsOk (run (string_format true) chunk.now.bytes (length chunk.now.bytes) at) }
     ensures { run (string_format true) chunk.now.bytes (length chunk.now.bytes) at ≡ Ok (record { value = content_of result; place = result.end }) }
 {
     let bytes = chunk.bytes();

@@ -2,10 +2,10 @@
 ghost use Rattle.std.specs.Prelude.{◌≡◌, ℕ, ◌+◌, ◌≤◌, ◌<◌, ◌-◌, ◌*◌, ◌++◌, length, true, false, Some, IfOk, OnOk, slice_get};
 ghost use Rattle.std.specs.List.{AllByRecursion};
 ghost use Rattle.jfr_layout.specs.Classes.{Class};
-ghost use Rattle.jfr_value.specs.Nodes.{EndsAt, IsNode, IsRow, IsValue, node_at, node_of};
+ghost use Rattle.jfr_value.specs.Nodes.{EndsAt, IsNode, AreValues, IsValue, node_at, node_of};
 ghost use Rattle.jfr_value.specs.Values.{Value, Values};
 ghost use Rattle.jfr_value.specs.Visits.{field_shapes};
-ghost use Rattle.jfr_value.specs.Walks.{IsLayoutIfKnown, Room};
+ghost use Rattle.jfr_value.specs.Walks.{IsLayoutIfKnown, DepthBound};
 ghost use Rattle.jfr_show.specs.Cache.{AreCached};
 ghost use Rattle.jfr_show.specs.Depths.{deepest};
 ghost use Rattle.jfr_show.specs.Shown.{fields_shown, node_shown, referred, shown, shown_all};
@@ -53,8 +53,8 @@ fn show_value(
 ) -> Result<usize, NoMemory>
     requires cached { AreCached view.now.chunk.now cache.old }
     requires layout { IsLayoutIfKnown view.now.chunk.now.classes layout.now }
-    requires room { Room view.now.chunk.now.classes view.now.depth.reach.composites layout.now.shape }
-    requires stands { (to : ℕ) × EndsAt view.now.chunk.now.classes view.now.chunk.now.bytes layout.now.shape at to }
+    requires depth { DepthBound view.now.chunk.now.classes view.now.depth.reach.composites layout.now.shape }
+    requires holds { (to : ℕ) × EndsAt view.now.chunk.now.classes view.now.chunk.now.bytes layout.now.shape at to }
     requires composites { view.now.depth.reach.composites ≤ 33 }
     requires level { deepest view.now.depth layout.now.shape.array ≤ 1000 }
     ensures ok { IfOk result (λ end. (to : ℕ) (v : Value) → IsNode view.now.chunk.now.classes view.now.chunk.now.bytes (node_at layout.now.shape at to) v
@@ -105,11 +105,11 @@ fn show_fields(
     requires cached { AreCached view.now.chunk.now cache.old }
     requires placed { class_index < length view.now.chunk.now.classes }
     requires inner { 1 ≤ view.now.depth.reach.composites }
-    requires room { AllByRecursion (Room view.now.chunk.now.classes (view.now.depth.reach.composites - 1)) (field_shapes view.now.chunk.now.classes class_index) }
-    requires stand { (to : ℕ) × (vs : Values) × IsRow view.now.chunk.now.classes view.now.chunk.now.bytes at to (field_shapes view.now.chunk.now.classes class_index) vs }
+    requires depth { AllByRecursion (DepthBound view.now.chunk.now.classes (view.now.depth.reach.composites - 1)) (field_shapes view.now.chunk.now.classes class_index) }
+    requires valid { (to : ℕ) × (vs : Values) × AreValues view.now.chunk.now.classes view.now.chunk.now.bytes at to (field_shapes view.now.chunk.now.classes class_index) vs }
     requires composites { view.now.depth.reach.composites ≤ 33 }
     requires level { deepest view.now.depth false ≤ 1000 }
-    ensures ok { IfOk result (λ end. (to : ℕ) (vs : Values) (class : Class) → IsRow view.now.chunk.now.classes view.now.chunk.now.bytes at to (field_shapes view.now.chunk.now.classes class_index) vs
+    ensures ok { IfOk result (λ end. (to : ℕ) (vs : Values) (class : Class) → AreValues view.now.chunk.now.classes view.now.chunk.now.bytes at to (field_shapes view.now.chunk.now.classes class_index) vs
         → slice_get view.now.chunk.now.classes class_index ≡ Some class → (end ≡ to) × (out.new ≡ out.old ++ fields_shown view.now.depth.level class (shown_all view.now.chunk.now.classes (referred view.now.chunk.now view.now.depth.reach.references) (view.now.depth.level + 1) vs))) }
     ensures cached { AreCached view.now.chunk.now cache.new }
 {
@@ -149,8 +149,8 @@ fn show_items(
     requires cached { AreCached view.now.chunk.now cache.old }
     requires array { layout.now.shape.array ≡ true }
     requires layout { IsLayoutIfKnown view.now.chunk.now.classes layout.now }
-    requires room { Room view.now.chunk.now.classes view.now.depth.reach.composites layout.now.shape }
-    requires stands { (to : ℕ) × EndsAt view.now.chunk.now.classes view.now.chunk.now.bytes layout.now.shape at to }
+    requires depth { DepthBound view.now.chunk.now.classes view.now.depth.reach.composites layout.now.shape }
+    requires holds { (to : ℕ) × EndsAt view.now.chunk.now.classes view.now.chunk.now.bytes layout.now.shape at to }
     requires composites { view.now.depth.reach.composites ≤ 33 }
     requires level { deepest view.now.depth true ≤ 1000 }
     ensures ok { IfOk result (λ end. (to : ℕ) (v : Value) → IsNode view.now.chunk.now.classes view.now.chunk.now.bytes (node_at layout.now.shape at to) v

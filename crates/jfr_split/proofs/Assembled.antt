@@ -7,13 +7,13 @@ use Rattle.std.specs.FinMap.{is_sorted, entries_sorted, get-entries, get-retain_
 use Rattle.std.specs.FinMap.Entries.{find, below_all}
 use Rattle.std.specs.Cmp.Lexicographic.{nat_list_cmp_total}
 use Rattle.std.specs.List.{AllByRecursion}
-use Rattle.jfr_outside.specs.World.{World, Files, Told}
+use Rattle.jfr_outside.specs.World.{World, Files, IfKnown}
 use Rattle.jfr_header.specs.declared.ending.Ending.{Ending}
-use Rattle.jfr_header.proofs.Steps.{map_told}
-use Rattle.jfr_plan.specs.Ends.{Way, way_of}
-use Rattle.jfr_plan.specs.Effects.{Create, Stand, stand, done, effects}
-use Rattle.jfr_plan.specs.Walks.{Goes}
-use Rattle.jfr_plan.specs.Parts.{PartTold}
+use Rattle.jfr_header.proofs.Steps.{map_known}
+use Rattle.jfr_plan.specs.Ends.{CommandEnd, command_end}
+use Rattle.jfr_plan.specs.Effects.{Create, Snapshot, snapshot, done, effects}
+use Rattle.jfr_plan.specs.Rules.{Goes}
+use Rattle.jfr_plan.specs.Parts.{PartWorld}
 use Rattle.jfr_split.specs.Names.{is_joined}
 use Rattle.jfr_split.specs.Clauses.{FilesOutcome}
 use Rattle.jfr_split.specs.Joins.{joining_all, files_in, assembling, CanJoin}
@@ -78,35 +78,35 @@ was_new None p e = refl
 was_new (Some x) p e = cc
 
 -- The output is there beside the files that are joined.
-can_join : (folder out : List ℕ) (names : List (List ℕ)) (w v : World) → names ≡ fin.keys (files_in folder w.files) → stand v None ≡ done (Create out ∷ []) (stand w None) → CanJoin out names (fin.values (files_in folder w.files)) v
+can_join : (folder out : List ℕ) (names : List (List ℕ)) (w v : World) → names ≡ fin.keys (files_in folder w.files) → snapshot v None ≡ done (Create out ∷ []) (snapshot w None) → CanJoin out names (fin.values (files_in folder w.files)) v
 can_join folder out names w v are s =
     let es = fin.entries (files_in folder w.files) in
-    let new : fin.get w.files out ≡ None = was_new (fin.get w.files out) w.output (ap (λ (x : Stand). x.sound) s) in
+    let new : fin.get w.files out ≡ None = was_new (fin.get w.files out) w.output (ap (λ (x : Snapshot). x.sound) s) in
     let there = joined_there folder w.files in
-    let files : v.files ≡ fin.insert w.files out [] = ap (λ (x : Stand). x.files) s in
+    let files : v.files ≡ fin.insert w.files out [] = ap (λ (x : Snapshot). x.files) s in
     record {
-      opened = ap (λ (x : Stand). x.output) s;
+      opened = ap (λ (x : Snapshot). x.output) s;
       apart = subst (λ (ns : List (List ℕ)). AllByRecursion (λ q. q ≡ out → ⊥) ns) (sym are) (names_apart es out w.files new there);
       held = ap (λ (fs : Files). map (λ q. fin.get fs q) names) files ∙ ap (λ (ns : List (List ℕ)). map (λ q. fin.get (fin.insert w.files out []) q) ns) are ∙ held_all es out w.files new there;
     }
 
 -- The output was created, and then the files were joined.
-pub assembled : (steady : Bool) (folder out : List ℕ) (names : List (List ℕ)) (way : Way) (o : Unit {0}) (b a e : Option World) → IfSome b (λ w. names ≡ fin.keys (files_in folder w.files)) → Told b a (PartTold steady (Goes (Create out ∷ [])) (Ok o) None None)
-    → ((contents : List (List ℕ)) → IfSome a (CanJoin out names contents) → Told a e (λ v u. FilesOutcome steady (joining_all contents) way (stand v None) (stand u None)))
-    → Told b e (λ w u. FilesOutcome steady (assembling folder out w.files) way (stand w None) (stand u None))
-assembled steady folder out names way o None a e are c f = tt
-assembled steady folder out names way o (Some w) None e are c f = absurd c
-assembled steady folder out names way o (Some w) (Some v) None are c f = f (fin.values (files_in folder w.files)) (can_join folder out names w v are c.1.1)
-assembled steady folder out names way o (Some w) (Some v) (Some u) are c f =
+pub assembled : (steady : Bool) (folder out : List ℕ) (names : List (List ℕ)) (ended : CommandEnd) (o : Unit {0}) (b a e : Option World) → IfSome b (λ w. names ≡ fin.keys (files_in folder w.files)) → IfKnown b a (PartWorld steady (Goes (Create out ∷ [])) (Ok o) None None)
+    → ((contents : List (List ℕ)) → IfSome a (CanJoin out names contents) → IfKnown a e (λ v u. FilesOutcome steady (joining_all contents) ended (snapshot v None) (snapshot u None)))
+    → IfKnown b e (λ w u. FilesOutcome steady (assembling folder out w.files) ended (snapshot w None) (snapshot u None))
+assembled steady folder out names ended o None a e are c f = tt
+assembled steady folder out names ended o (Some w) None e are c f = absurd c
+assembled steady folder out names ended o (Some w) (Some v) None are c f = f (fin.values (files_in folder w.files)) (can_join folder out names w v are c.1.1)
+assembled steady folder out names ended o (Some w) (Some v) (Some u) are c f =
     let contents = fin.values (files_in folder w.files) in
-    outcome_after steady (Create out ∷ []) (assembling folder out w.files) (joining_all contents) way (stand w None) (stand v None) (stand u None) refl refl refl c.1.1 (f contents (can_join folder out names w v are c.1.1))
+    outcome_after steady (Create out ∷ []) (assembling folder out w.files) (joining_all contents) ended (snapshot w None) (snapshot v None) (snapshot u None) refl refl refl c.1.1 (f contents (can_join folder out names w v are c.1.1))
 
 -- The output could not be created.
-pub not_created : (steady : Bool) (folder out : List ℕ) (ending : Ending) (b a : Option World) → Told b a (PartTold steady (Goes (Create out ∷ [])) (Err ending) None None) → Told b a (λ w v. FilesOutcome steady (assembling folder out w.files) (way_of ending) (stand w None) (stand v None))
+pub not_created : (steady : Bool) (folder out : List ℕ) (ending : Ending) (b a : Option World) → IfKnown b a (PartWorld steady (Goes (Create out ∷ [])) (Err ending) None None) → IfKnown b a (λ w v. FilesOutcome steady (assembling folder out w.files) (command_end ending) (snapshot w None) (snapshot v None))
 not_created steady folder out ending b a h =
-    map_told b a (PartTold steady (Goes (Create out ∷ [])) (Err ending) None None) (λ w v. FilesOutcome steady (assembling folder out w.files) (way_of ending) (stand w None) (stand v None)) h
-    (λ w v k. part_ended steady (Create out ∷ []) (effects (joining_all (fin.values (files_in folder w.files))).steps) (assembling folder out w.files) (way_of ending) (stand w None) (stand v None) refl k.1)
+    map_known b a (PartWorld steady (Goes (Create out ∷ [])) (Err ending) None None) (λ w v. FilesOutcome steady (assembling folder out w.files) (command_end ending) (snapshot w None) (snapshot v None)) h
+    (λ w v k. part_ended steady (Create out ∷ []) (effects (joining_all (fin.values (files_in folder w.files))).steps) (assembling folder out w.files) (command_end ending) (snapshot w None) (snapshot v None) refl k.1)
 
 -- What holds for a place holds for another with the same known files.
-pub told_same : (P : Bool → World → World → Type 0) (st st' : Bool) (b b' a : Option World) → st' ≡ st → b' ≡ b → Told b' a (P st') → Told b a (P st)
-told_same P st st' b b' a e f h = subst (λ (y : Option World). Told y a (P st)) f (subst (λ (y : Bool). Told b' a (P y)) e h)
+pub told_same : (P : Bool → World → World → Type 0) (st st' : Bool) (b b' a : Option World) → st' ≡ st → b' ≡ b → IfKnown b' a (P st') → IfKnown b a (P st)
+told_same P st st' b b' a e f h = subst (λ (y : Option World). IfKnown y a (P st)) f (subst (λ (y : Bool). IfKnown b' a (P y)) e h)

@@ -1,7 +1,7 @@
 -- Small facts that several proofs share.
 use Rattle.std.proofs.Common.{IsSome, IfSome, ◌≡◌, ℕ, refl, subst, Bool, true, false, ◌&&◌, T, List, [], ◌∷◌, Option, None, Some}
 use Rattle.std.specs.List.{AllByRecursion}
-use Rattle.jfr_outside.specs.World.{World, Told}
+use Rattle.jfr_outside.specs.World.{World, IfKnown}
 use Rattle.jfr_plan.specs.Ends.{End}
 
 pub and_true : (x y : Bool) → x ≡ true → y ≡ true → (x && y) ≡ true
@@ -43,7 +43,7 @@ for_both P Q R [] f h k = tt
 for_both P Q R (x ∷ xs) f h k = (f x h.0 k.0, for_both P Q R xs f h.1 k.1)
 
 -- What is known before a call, from a claim on it and what is known after.
-pub told_before : (b a : Option World) (P : World → World → Type 0) (F : World → Type 0) → Told b a P → ((w v : World) → P w v → F w) → IfSome b F
+pub told_before : (b a : Option World) (P : World → World → Type 0) (F : World → Type 0) → IfKnown b a P → ((w v : World) → P w v → F w) → IfSome b F
 told_before None a P F t f = tt
 told_before (Some w) None P F t f = absurd t
 told_before (Some w) (Some v) P F t f = f w v t

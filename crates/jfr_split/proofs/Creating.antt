@@ -8,9 +8,9 @@ use Rattle.jfr_base.specs.declared.flaw.Flaw.{Flaw}
 use Rattle.jfr_outside.specs.World.{World, Files, grown, file as file_of}
 use Rattle.jfr_header.specs.declared.ending.Ending.{Ending}
 use Rattle.jfr_header.specs.declared.ending.Ending.TheVariants.{WriteFault}
-use Rattle.jfr_plan.specs.Ends.{TooMany, NotWritten, way_of}
-use Rattle.jfr_plan.specs.Effects.{Effect, Create, Append, Finish, Stand, Outside, AtEnd, Chunks, needing, apply, effects, stand}
-use Rattle.jfr_plan.specs.Walks.{Asked, Stops, Goes, Walk, Parts, walk, walk_on, cut_after, plan_after, plan_in}
+use Rattle.jfr_plan.specs.Ends.{TooMany, NotWritten, command_end}
+use Rattle.jfr_plan.specs.Effects.{Effect, Create, Append, Finish, Snapshot, Outside, AtEnd, Chunks, needing, apply, effects, snapshot}
+use Rattle.jfr_plan.specs.Rules.{Asked, Stops, Goes, Walk, Parts, walk, walk_on, cut_after, plan_after, plan_in}
 use Rattle.jfr_plan.specs.Outcomes.{After, Breaks, Tallied}
 use Rattle.jfr_plan.proofs.Clauses.{writes_clause, Cans, none_breaks}
 use Rattle.jfr_plan.proofs.Walking.{effects_needing, effects_append}
@@ -130,22 +130,22 @@ open_next name n = open_by (n + 1 == 0) refl
 
 -- What follows a part: it can be done wherever this part is open and the names of the later ones are new.
 abbrev CanFollow : (ℕ → List ℕ) → ℕ → List Effect → Type 0
-CanFollow name n es = (s : Stand) → s.output ≡ open_name name n → AllNew s.files es → Cans es s
+CanFollow name n es = (s : Snapshot) → s.output ≡ open_name name n → AllNew s.files es → Cans es s
 
 grown_new : (name : ℕ → List ℕ) (n top : ℕ) (files : Files) (o : Option (List ℕ)) (c : List ℕ) (es : List Effect) → o ≡ Some (name n) → Rises name top → AllLater name n top es → AllNew files es → AllNew (grown o c files) es
 grown_new name n top files o c es e r later new =
     subst (λ (y : Option (List ℕ)). AllNew (grown y c files) es) (sym e) (new_after name n top files (unwrap_or (fin.get files (name n)) [] ++ c) es r later new)
 
 -- The chunk goes to the open part.
-more_can : (name : ℕ → List ℕ) (n top : ℕ) (c : List ℕ) (later : List Effect) (s : Stand) → Rises name top → AllLater name n top later → CanFollow name n later → s.output ≡ Some (name n) → open_name name n ≡ Some (name n) → AllNew s.files later → Cans (Append c ∷ later) s
+more_can : (name : ℕ → List ℕ) (n top : ℕ) (c : List ℕ) (later : List Effect) (s : Snapshot) → Rises name top → AllLater name n top later → CanFollow name n later → s.output ≡ Some (name n) → open_name name n ≡ Some (name n) → AllNew s.files later → Cans (Append c ∷ later) s
 more_can name n top c later s r l f o here new = (some_none s.output (name n) o, f (apply (Append c) s) (o ∙ sym here) (grown_new name n top s.files s.output c later o r l new))
 
 -- A part is created, with no part open.
-create_can : (name : ℕ → List ℕ) (n top : ℕ) (c : List ℕ) (later : List Effect) (s : Stand) → Rises name top → AllLater name n top later → CanFollow name n later → s.output ≡ None → open_name name n ≡ Some (name n) → fin.get s.files (name n) ≡ None → AllNew s.files later → Cans (Create (name n) ∷ Append c ∷ later) s
+create_can : (name : ℕ → List ℕ) (n top : ℕ) (c : List ℕ) (later : List Effect) (s : Snapshot) → Rises name top → AllLater name n top later → CanFollow name n later → s.output ≡ None → open_name name n ≡ Some (name n) → fin.get s.files (name n) ≡ None → AllNew s.files later → Cans (Create (name n) ∷ Append c ∷ later) s
 create_can name n top c later s r l f o here free new =
     (λ can. none_is s.output o (can free), more_can name n top c later (apply (Create (name n)) s) r l f refl here (new_after name n top s.files [] later r l new))
 
-next_can : (z : Bool) (name : ℕ → List ℕ) (n top : ℕ) (c : List ℕ) (later : List Effect) (s : Stand) → Rises name top → AllLater name (n + 1) top later → CanFollow name (n + 1) later → s.output ≡ (if z then None else Some (name n)) → AllNew s.files (new_by z (name (n + 1)) c later) → Cans (new_by z (name (n + 1)) c later) s
+next_can : (z : Bool) (name : ℕ → List ℕ) (n top : ℕ) (c : List ℕ) (later : List Effect) (s : Snapshot) → Rises name top → AllLater name (n + 1) top later → CanFollow name (n + 1) later → s.output ≡ (if z then None else Some (name n)) → AllNew s.files (new_by z (name (n + 1)) c later) → Cans (new_by z (name (n + 1)) c later) s
 next_can true name n top c later s r l f o new = create_can name (n + 1) top c later s r l f o (sym (open_next name n)) new.0 new.1
 next_can false name n top c later s r l f o new = (some_none s.output (name n) o, create_can name (n + 1) top c later (apply Finish s) r l f refl (sym (open_next name n)) new.0 new.1)
 
@@ -165,7 +165,7 @@ part_can false rule name p c later e r l f s o new =
     open_by true y e = cc
     open_by false y e = refl
 
-end_can : (z : Bool) (n : List ℕ) (s : Stand) → s.output ≡ (if z then None else Some n) → Cans (if z then [] else Finish ∷ []) s
+end_can : (z : Bool) (n : List ℕ) (s : Snapshot) → s.output ≡ (if z then None else Some n) → Cans (if z then [] else Finish ∷ []) s
 end_can true n s o = tt
 end_can false n s o = (some_none s.output n o, tt)
 
@@ -179,7 +179,7 @@ follow rule name p (c ∷ cs) flaw r s o new =
 pub rises : (rule : SplitRule) (folder : Option (List ℕ)) (file : List ℕ) → IsUsable rule → Rises (part_name folder file) rule.max_parts
 rises rule folder file u a b h k = names_rise folder file a b h (omega (arith, k, u.numbered))
 
-plan_can : (rule : SplitRule) (file : List ℕ) (x : Option (List ℕ)) (s : Stand) → IsUsable rule → s.output ≡ None → AllNew s.files (effects (plan_after (splitting rule file) [] x).steps) → Cans (effects (plan_after (splitting rule file) [] x).steps) s
+plan_can : (rule : SplitRule) (file : List ℕ) (x : Option (List ℕ)) (s : Snapshot) → IsUsable rule → s.output ≡ None → AllNew s.files (effects (plan_after (splitting rule file) [] x).steps) → Cans (effects (plan_after (splitting rule file) [] x).steps) s
 plan_can rule file None s u o new = tt
 plan_can rule file (Some x) s u o new =
     let name = part_name (folder_of rule) file in
@@ -188,18 +188,18 @@ plan_can rule file (Some x) s u o new =
     let e : effects (walk (splitting_as rule name) [] cs flaw).steps ≡ parted rule name no_part cs flaw = walked rule name [] cs flaw ∙ ap (λ (p : Part). parted rule name p cs flaw) (of_none rule) in
     subst (λ (es : List Effect). Cans es s) (sym e) (follow rule name no_part cs flaw (rises rule (folder_of rule) file u) s o (subst (λ (es : List Effect). AllNew s.files es) e new))
 
-no_write_fault : (rule : SplitRule) (file : List ℕ) (e : Ending) (a b : Outside) → IsUsable rule → CanCreateAll (splitting rule file) file a.place → After (splitting rule file) [] file (way_of e) a b → e ≡ WriteFault → ⊥
+no_write_fault : (rule : SplitRule) (file : List ℕ) (e : Ending) (a b : Outside) → IsUsable rule → CanCreateAll (splitting rule file) file a.place → After (splitting rule file) [] file (command_end e) a b → e ≡ WriteFault → ⊥
 no_write_fault rule file e a b u c t is =
     let r = splitting rule file in
-    let h : After r [] file NotWritten a b = subst (λ (y : Ending). After r [] file (way_of y) a b) is t in
+    let h : After r [] file NotWritten a b = subst (λ (y : Ending). After r [] file (command_end y) a b) is t in
     let F : World → Type 0 = λ w. AllNew w.files (effects (plan_in r file w).steps) → w.output ≡ None → ⊥ in
-    told_at a.place.told c.world F c.told
-    (told_before a.place.told b.place.told (λ w v. Breaks a.place.steady (effects (plan_in r file w).steps) (stand w a.sink.written) (stand v b.sink.written)) F h
-    (λ w v z new closed. none_breaks (effects (plan_in r file w).steps) z.first z.rest z.failed (stand w a.sink.written) (plan_can rule file (file_of w file) (stand w a.sink.written) u closed new) z.parts (z.cause c.steady)))
+    told_at a.place.contents c.world F c.contents
+    (told_before a.place.contents b.place.contents (λ w v. Breaks a.place.steady (effects (plan_in r file w).steps) (snapshot w a.sink.written) (snapshot v b.sink.written)) F h
+    (λ w v z new closed. none_breaks (effects (plan_in r file w).steps) z.first z.rest z.failed (snapshot w a.sink.written) (plan_can rule file (file_of w file) (snapshot w a.sink.written) u closed new) z.parts (z.cause c.steady)))
     c.new c.closed
 
 -- A steady place without an open output gives no write fault where the names of the parts are new.
-pub can_create : (rule : SplitRule) (file : List ℕ) (e : Ending) (a b : Outside) → IsUsable rule → After (splitting rule file) [] file (way_of e) a b → Tallied Parts (way_of e) a b → CanCreateAll (splitting rule file) file a.place → (e ≢ WriteFault) × (b.place.write_faults ≡ a.place.write_faults)
+pub can_create : (rule : SplitRule) (file : List ℕ) (e : Ending) (a b : Outside) → IsUsable rule → After (splitting rule file) [] file (command_end e) a b → Tallied Parts (command_end e) a b → CanCreateAll (splitting rule file) file a.place → (e ≢ WriteFault) × (b.place.write_faults ≡ a.place.write_faults)
 can_create rule file e a b u t c can =
     let no = no_write_fault rule file e a b u can t in
     (no, writes_clause Parts e a b c no)

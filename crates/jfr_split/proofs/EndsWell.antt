@@ -6,7 +6,7 @@ use Rattle.std.specs.FinMap as fin
 use Rattle.jfr_outside.specs.World.{Files}
 use Rattle.jfr_plan.specs.Ends.{End, Fine, Refused, TooMany}
 use Rattle.jfr_plan.specs.Effects.{Effect, Create, Append, Plan}
-use Rattle.jfr_plan.specs.Walks.{Stops, Goes, IsGoing, AllGo, cut_after, plan_after}
+use Rattle.jfr_plan.specs.Rules.{Stops, Goes, IsGoing, AllGo, cut_after, plan_after}
 use Rattle.jfr_plan.proofs.EndsWell.{plan_ends_well}
 use Rattle.jfr_split.specs.Parts.{SplitRule, Part, no_part, begins, part_by, part_with, part_after, part_of, folder_of}
 use Rattle.jfr_split.specs.Names.{part_name}

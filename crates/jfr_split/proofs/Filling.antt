@@ -6,8 +6,8 @@ use Rattle.std.specs.Prelude.{is_some}
 use Rattle.std.specs.FinMap as fin
 use Rattle.jfr_outside.specs.World.{Files, grown}
 use Rattle.jfr_header.specs.Cuts.{joined}
-use Rattle.jfr_plan.specs.Effects.{Effect, Create, Append, Finish, Stand, apply, done}
-use Rattle.jfr_plan.specs.Walks.{Stops, Goes, asked, IsGoing, gone, AllGo}
+use Rattle.jfr_plan.specs.Effects.{Effect, Create, Append, Finish, Snapshot, apply, done}
+use Rattle.jfr_plan.specs.Rules.{Stops, Goes, asked, IsGoing, gone, AllGo}
 use Rattle.jfr_plan.specs.Ends.{TooMany}
 use Rattle.jfr_split.specs.Parts.{SplitRule, Part, no_part, begins, part_by, part_with, part_of}
 use Rattle.jfr_split.specs.Splits.{closing, asks_new, asks_part, splitting_as}
@@ -17,7 +17,7 @@ use Rattle.jfr_split.proofs.Over.{is, over, numbered, Rises, over_numbered, hide
 
 -- After these effects the open part, which held b, and the later parts hold their chunks.
 abbrev pub Fills : (ℕ → List ℕ) → ℕ → Groups → List Effect → Type 0
-Fills name n g es = (s : Stand) (b : List ℕ) → s.output ≡ Some (name n) → fin.get s.files (name n) ≡ Some b → (q : List ℕ)
+Fills name n g es = (s : Snapshot) (b : List ℕ) → s.output ≡ Some (name n) → fin.get s.files (name n) ≡ Some b → (q : List ℕ)
     → fin.get (done es s).files q ≡ over ((name n, b ++ joined g.here) ∷ numbered name (n + 1) g.later) q (fin.get s.files q)
 
 same_by : (b : Bool) (q k x : List ℕ) (o : Option (List ℕ)) → is q k ≡ b → (q ≡ k → o ≡ Some x) → o ≡ cond b (Some x) o
@@ -28,26 +28,26 @@ pub fills_none : (name : ℕ → List ℕ) (n : ℕ) → Fills name n (record { 
 fills_none name n s b o h q =
     same_by (is q (name n)) q (name n) (b ++ []) (fin.get s.files q) refl (λ e. ap (fin.get s.files) e ∙ h ∙ ap (λ (x : List ℕ). Some x) (sym (append-nil b)))
 
-abbrev pub stands : Files → Option (List ℕ) → Option (List ℕ) → Bool → Stand
-stands files output text sound = record { files = files; output = output; text = text; sound = sound }
+abbrev pub holds : Files → Option (List ℕ) → Option (List ℕ) → Bool → Snapshot
+holds files output text sound = record { files = files; output = output; text = text; sound = sound }
 
 -- The output grows.
-pub grown_at : (s : Stand) (n b c : List ℕ) → s.output ≡ Some n → fin.get s.files n ≡ Some b → apply (Append c) s ≡ stands (fin.insert s.files n (b ++ c)) (Some n) s.text (s.sound && is_some s.output)
-grown_at s n b c o h = ap (λ (y : Option (List ℕ)). stands (grown y c s.files) y s.text (s.sound && is_some s.output)) o ∙ ap (λ (z : Option (List ℕ)). stands (fin.insert s.files n (unwrap_or z [] ++ c)) (Some n) s.text (s.sound && is_some s.output)) h
+pub grown_at : (s : Snapshot) (n b c : List ℕ) → s.output ≡ Some n → fin.get s.files n ≡ Some b → apply (Append c) s ≡ holds (fin.insert s.files n (b ++ c)) (Some n) s.text (s.sound && is_some s.output)
+grown_at s n b c o h = ap (λ (y : Option (List ℕ)). holds (grown y c s.files) y s.text (s.sound && is_some s.output)) o ∙ ap (λ (z : Option (List ℕ)). holds (fin.insert s.files n (unwrap_or z [] ++ c)) (Some n) s.text (s.sound && is_some s.output)) h
 
 pub fills_more : (name : ℕ → List ℕ) (n : ℕ) (c : List ℕ) (g : Groups) (es : List Effect) → Fills name n g es → Fills name n (grouped false c g) (Append c ∷ es)
 fills_more name n c g es f s b o h q =
     let k = name n in
-    let t : Stand = stands (fin.insert s.files k (b ++ c)) (Some k) s.text (s.sound && is_some s.output) in
+    let t : Snapshot = holds (fin.insert s.files k (b ++ c)) (Some k) s.text (s.sound && is_some s.output) in
     let at : fin.get t.files k ≡ Some (b ++ c) = look s.files k (b ++ c) k ∙ ap (λ (x : Bool). cond x (Some (b ++ c)) (fin.get s.files k)) (is_self k) in
-    ap (λ (x : Stand). fin.get (done es x).files q) (grown_at s k b c o h)
+    ap (λ (x : Snapshot). fin.get (done es x).files q) (grown_at s k b c o h)
     ∙ f t (b ++ c) refl at q
     ∙ ap (λ (x : Option (List ℕ)). over ((k, (b ++ c) ++ joined g.here) ∷ numbered name (n + 1) g.later) q x) (look s.files k (b ++ c) q)
     ∙ hides (numbered name (n + 1) g.later) k ((b ++ c) ++ joined g.here) q (Some (b ++ c)) (fin.get s.files q)
     ∙ ap (λ (x : List ℕ). over ((k, x) ∷ numbered name (n + 1) g.later) q (fin.get s.files q)) (append_assoc b c (joined g.here))
 
 -- A part is created, and its first chunk appended.
-pub fills_first : (name : ℕ → List ℕ) (n : ℕ) (c : List ℕ) (g : Groups) (es : List Effect) → Fills name n g es → (s : Stand) (q : List ℕ)
+pub fills_first : (name : ℕ → List ℕ) (n : ℕ) (c : List ℕ) (g : Groups) (es : List Effect) → Fills name n g es → (s : Snapshot) (q : List ℕ)
     → fin.get (done (Create (name n) ∷ Append c ∷ es) s).files q ≡ over ((name n, c ++ joined g.here) ∷ numbered name (n + 1) g.later) q (fin.get s.files q)
 fills_first name n c g es f s q =
     let k = name n in
@@ -141,7 +141,7 @@ fills rule name p (c ∷ cs) r f h m =
     (fills rule name (part_with rule p c) cs r f.1 (some_number b p c h) n)
 
 -- The files of the parts, in place of those there before.
-pub filled : (rule : SplitRule) (name : ℕ → List ℕ) (cs : List (List ℕ)) → Rises name rule.max_parts → AllFit rule name no_part cs → (s : Stand) (q : List ℕ) → fin.get (done (filling rule name no_part cs) s).files q ≡ over (numbered name 1 (groups rule cs)) q (fin.get s.files q)
+pub filled : (rule : SplitRule) (name : ℕ → List ℕ) (cs : List (List ℕ)) → Rises name rule.max_parts → AllFit rule name no_part cs → (s : Snapshot) (q : List ℕ) → fin.get (done (filling rule name no_part cs) s).files q ≡ over (numbered name 1 (groups rule cs)) q (fin.get s.files q)
 filled rule name [] r f s q = refl
 filled rule name (c ∷ cs) r f s q =
     let k = may_begin rule name no_part c f.0 in

@@ -4,7 +4,7 @@ use Rattle.std.proofs.lemmas.Grind.{common_steps}
 use Rattle.jfr_header.specs.Cuts.{joined}
 use Rattle.jfr_plan.specs.Ends.{Fine}
 use Rattle.jfr_plan.specs.Effects.{Effect, Create, Append, Finish, AtEnd}
-use Rattle.jfr_plan.specs.Walks.{IsGoing, asked, gone, cut_after}
+use Rattle.jfr_plan.specs.Rules.{IsGoing, asked, gone, cut_after}
 use Rattle.jfr_plan.proofs.EndsWell.{plan_ends_well}
 use Rattle.jfr_plan.proofs.Walking.{from_here, effects_needing}
 use Rattle.jfr_split.specs.Parts.{SplitRule, Part, folder_of, no_part, is_full, begins, part_by, part_with, part_after, part_of}

@@ -6,7 +6,7 @@ use Rattle.jfr_header.proofs.Steps.{whole_front, front_end}
 use Rattle.jfr_header.proofs.CutLaws.{cut_is}
 use Rattle.jfr_plan.specs.Ends.{End, Fine}
 use Rattle.jfr_plan.specs.Effects.{Effect, Append, Finish, Plan, effects}
-use Rattle.jfr_plan.specs.Walks.{walk, cut_after, plan_by, plan_after}
+use Rattle.jfr_plan.specs.Rules.{walk, cut_after, plan_by, plan_after}
 use Rattle.jfr_split.specs.Joins.{adding, joining}
 use Rattle.jfr_split.proofs.Composing.{Follows, follows}
 use Rattle.jfr_split.proofs.Fold.{flat}

@@ -14,8 +14,8 @@ use Rattle.jfr_header.proofs.Steps.{front_end, front_long, front_none}
 use Rattle.jfr_header.proofs.CutLaws.{are_cut, all_whole, joined_all}
 use Rattle.std.specs.List.{AllByRecursion}
 use Rattle.jfr_plan.specs.Ends.{Fine, TooMany}
-use Rattle.jfr_plan.specs.Effects.{Effect, Create, Append, Finish, Stand, Plan, AtEnd, needing, apply, done, effects}
-use Rattle.jfr_plan.specs.Walks.{Stops, Goes, Asked, gone, cut_after, plan_after}
+use Rattle.jfr_plan.specs.Effects.{Effect, Create, Append, Finish, Snapshot, Plan, AtEnd, needing, apply, done, effects}
+use Rattle.jfr_plan.specs.Rules.{Stops, Goes, Asked, gone, cut_after, plan_after}
 use Rattle.jfr_plan.proofs.EndsWell.{NeverStopsWell, plan_ends_well}
 use Rattle.jfr_plan.proofs.Walking.{from_here, done_append}
 use Rattle.jfr_split.specs.Parts.{SplitRule, IsUsable, Part, folder_of, no_part, begins, part_of}
@@ -27,7 +27,7 @@ use Rattle.jfr_split.proofs.Fold.{groups_flat, groups, of_none}
 use Rattle.jfr_split.proofs.Ordered.{order}
 use Rattle.jfr_split.proofs.Naming.{part_joined}
 use Rattle.jfr_split.proofs.Over.{Entries, is, over, numbered, sorted_numbered, same_name, is_self, look}
-use Rattle.jfr_split.proofs.Filling.{filling, AllFit, gone_filling, all_fit, all_within, filled, all_full, stands, grown_at}
+use Rattle.jfr_split.proofs.Filling.{filling, AllFit, gone_filling, all_fit, all_within, filled, all_full, holds, grown_at}
 use Rattle.jfr_split.proofs.Creating.{rises}
 use Rattle.jfr_split.proofs.Assembled.{kept_at}
 use Rattle.jfr_split.proofs.Rejoin.{Early, appends, rejoins}
@@ -44,18 +44,18 @@ pub never : (rule : SplitRule) (name : ℕ → List ℕ) → NeverStopsWell (spl
 never rule name before c e = never_by rule name (begins rule (part_of rule before) c) (part_of rule before) c e
 
 -- The last part is finished, and no file changes.
-closed_files : (b : Bool) (s : Stand) → (done (effects (needing AtEnd (if b then [] else Finish ∷ []))) s).files ≡ s.files
+closed_files : (b : Bool) (s : Snapshot) → (done (effects (needing AtEnd (if b then [] else Finish ∷ []))) s).files ≡ s.files
 closed_files true s = refl
 closed_files false s = refl
 
-pub record WholeSplit (rule : SplitRule) (name : ℕ → List ℕ) (x : List ℕ) (s : Stand) : Type 0 where
+pub record WholeSplit (rule : SplitRule) (name : ℕ → List ℕ) (x : List ℕ) (s : Snapshot) : Type 0 where
   pub chunks : List (List ℕ)
   pub are : AreCut chunks None x 0 true
   pub fit : AllFit rule name no_part chunks
   pub files : (done (effects (plan_after (splitting_as rule name) [] (Some x)).steps) s).files ≡ (done (filling rule name no_part chunks) s).files
 
 -- Where the plan ends well, the parts are filled with all chunks.
-pub whole_parts : (rule : SplitRule) (name : ℕ → List ℕ) (x : List ℕ) (s : Stand) → (plan_after (splitting_as rule name) [] (Some x)).end ≡ Some Fine → WholeSplit rule name x s
+pub whole_parts : (rule : SplitRule) (name : ℕ → List ℕ) (x : List ℕ) (s : Snapshot) → (plan_after (splitting_as rule name) [] (Some x)).end ≡ Some Fine → WholeSplit rule name x s
 whole_parts rule name x s e =
     let r = splitting_as rule name in
     let all = cut_after [] x in
@@ -68,7 +68,7 @@ whole_parts rule name x s e =
       are = subst (λ (o : Option Flaw). AreCut all.chunks o x 0 true) g.0 (are_cut x 0 true);
       fit = subst (λ (p : Part). AllFit rule name p all.chunks) (of_none rule) (all_fit rule name [] all.chunks g.1);
       files = ap (λ (es : List Effect). (done es s).files) f.steps
-          ∙ ap (λ (y : Stand). y.files) (done_append (gone r [] all.chunks) (effects (needing AtEnd (closing (part_of rule all.chunks)))) s)
+          ∙ ap (λ (y : Snapshot). y.files) (done_append (gone r [] all.chunks) (effects (needing AtEnd (closing (part_of rule all.chunks)))) s)
           ∙ closed_files ((part_of rule all.chunks).number == 0) t ∙ ap (λ (es : List Effect). (done es s).files) k;
     }
 
@@ -105,7 +105,7 @@ held name n [] = refl
 held name n (g ∷ gs) = ap (λ (l : List (List ℕ)). joined g ∷ l) (held name (n + 1) gs)
 
 -- The folder then has the parts.
-values_are : (rule : SplitRule) (folder file : List ℕ) (cs : List (List ℕ)) (s : Stand) (files : Files) → IsUsable rule → files_in folder s.files ≡ fin.empty → AllFit rule (part_name (Some folder) file) no_part cs → files ≡ (done (filling rule (part_name (Some folder) file) no_part cs) s).files → fin.values (files_in folder files) ≡ map joined (groups rule cs)
+values_are : (rule : SplitRule) (folder file : List ℕ) (cs : List (List ℕ)) (s : Snapshot) (files : Files) → IsUsable rule → files_in folder s.files ≡ fin.empty → AllFit rule (part_name (Some folder) file) no_part cs → files ≡ (done (filling rule (part_name (Some folder) file) no_part cs) s).files → fin.values (files_in folder files) ≡ map joined (groups rule cs)
 values_are rule folder file cs s files m h f e =
     let name = part_name (Some folder) file in
     let rise = rises rule (Some folder) file m in
@@ -119,12 +119,12 @@ values_are rule folder file cs s files m h f e =
     ap (λ (x : Files). fin.values x) same ∙ ap (λ (x : Entries). map (λ (y : List ℕ × List ℕ). y.1) x) (entries-from_sorted order es sorted) ∙ held name 1 (groups rule cs)
 
 -- The chunks are appended to an output.
-all_appended : (cs : List (List ℕ)) (out b : List ℕ) (s : Stand) → s.output ≡ Some out → fin.get s.files out ≡ Some b → fin.get (done (appends cs ++ Finish ∷ []) s).files out ≡ Some (b ++ joined cs)
+all_appended : (cs : List (List ℕ)) (out b : List ℕ) (s : Snapshot) → s.output ≡ Some out → fin.get s.files out ≡ Some b → fin.get (done (appends cs ++ Finish ∷ []) s).files out ≡ Some (b ++ joined cs)
 all_appended [] out b s o h = h ∙ ap (λ (x : List ℕ). Some x) (sym (append-nil b))
 all_appended (c ∷ cs) out b s o h =
-    let t : Stand = stands (fin.insert s.files out (b ++ c)) (Some out) s.text (s.sound && is_some s.output) in
+    let t : Snapshot = holds (fin.insert s.files out (b ++ c)) (Some out) s.text (s.sound && is_some s.output) in
     let at : fin.get t.files out ≡ Some (b ++ c) = look s.files out (b ++ c) out ∙ ap (λ (x : Bool). cond x (Some (b ++ c)) (fin.get s.files out)) (is_self out) in
-    ap (λ (x : Stand). fin.get (done (appends cs ++ Finish ∷ []) x).files out) (grown_at s out b c o h) ∙ all_appended cs out (b ++ c) t refl at ∙ ap (λ (x : List ℕ). Some x) (append_assoc b c (joined cs))
+    ap (λ (x : Snapshot). fin.get (done (appends cs ++ Finish ∷ []) x).files out) (grown_at s out b c o h) ∙ all_appended cs out (b ++ c) t refl at ∙ ap (λ (x : List ℕ). Some x) (append_assoc b c (joined cs))
 
 record Joins (vs : List (List ℕ)) (cs : List (List ℕ)) : Type 0 where
   pub end : (joining_all vs).end ≡ Some Fine
@@ -138,7 +138,7 @@ joins_parts rule (c ∷ cs) x a =
     let r = rejoins [] (groups rule all) (all_full rule no_part all) (subst (λ (y : List (List ℕ)). Early 0 y) (sym (groups_flat rule all)) (early all x 0 true a whole)) in
     record { end = r.end; steps = r.steps ∙ ap (λ (y : List (List ℕ)). appends y ++ Finish ∷ []) (groups_flat rule all) }
 
-pub returns : (rule : SplitRule) (folder file out x : List ℕ) (s : Stand) → IsUsable rule → folder_of rule ≡ Some folder → files_in folder s.files ≡ fin.empty → (split_plan rule file x).end ≡ Some Fine → Returns folder out x (split rule file x s)
+pub returns : (rule : SplitRule) (folder file out x : List ℕ) (s : Snapshot) → IsUsable rule → folder_of rule ≡ Some folder → files_in folder s.files ≡ fin.empty → (split_plan rule file x).end ≡ Some Fine → Returns folder out x (split rule file x s)
 returns rule folder file out x s m into h e =
     let name = part_name (Some folder) file in
     let as_named : split_plan rule file x ≡ plan_after (splitting_as rule name) [] (Some x) = ap (λ (o : Option (List ℕ)). plan_after (splitting_as rule (part_name o file)) [] (Some x)) into in

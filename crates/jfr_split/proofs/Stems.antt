@@ -21,8 +21,8 @@ last_at bs j h p s =
     let k : length bs - suffix_len (λ x. not (is_slash x)) bs ≡ j = omega (arith, n, h) in
     ap (λ (i : ℕ). drop i bs) k
 
-none_behind : (bs : List ℕ) (j : ℕ) → NoCharPasses (λ d. d == 47) (drop j bs) → (k : ℕ) → j ≤ k → k < length bs → not (is_slash (get_or bs k 0)) ≡ true
-none_behind bs j none k h l =
+none_after : (bs : List ℕ) (j : ℕ) → NoCharPasses (λ d. d == 47) (drop j bs) → (k : ℕ) → j ≤ k → k < length bs → not (is_slash (get_or bs k 0)) ≡ true
+none_after bs j none k h l =
     let at : j + (k - j) ≡ k = omega arith in
     let short : k - j < length (drop j bs) = omega (arith, length-drop j bs) in
     let no = NoCharPasses-char 47 (drop j bs) (k - j) none (omega arith) short in
@@ -35,11 +35,11 @@ base_found bs ys i j h e l =
     let end : j ≡ i + 1 = h.1.ends in
     let at : j - 1 ≡ i = omega arith in
     let slash : get_or bs (j - 1) 0 ≡ 47 = ap (λ (k : ℕ). get_or bs k 0) at ∙ h.1.byte (omega arith) in
-    e ∙ sym (last_at bs j (omega (arith, l)) (none_behind bs j h.0) (λ k. ap not (eq-eqb (get_or bs (j - 1) 0) 47 slash)))
+    e ∙ sym (last_at bs j (omega (arith, l)) (none_after bs j h.0) (λ k. ap not (eq-eqb (get_or bs (j - 1) 0) 47 slash)))
 
 -- A name without a slash.
 pub base_whole : (bs : List ℕ) → NoCharPasses (λ d. d == 47) bs → bs ≡ base bs
-base_whole bs none = sym (last_at bs 0 (omega arith) (none_behind bs 0 none) (λ l. absurd (omega arith)))
+base_whole bs none = sym (last_at bs 0 (omega arith) (none_after bs 0 none) (λ l. absurd (omega arith)))
 
 -- What ends in `.jfr`.
 pub ends : (front : List ℕ) → is_recording (front ++ suffix) ≡ true

@@ -1,10 +1,10 @@
 -- What calls over many files promise of each of their answers.
 use Rattle.std.specs.Prelude.{◌≡◌, ℕ, Bool, true, false, IsTrue, IsSome, List, ◌++◌, Option, None, Some}
 use Rattle.std.specs.List.{filter_map, list_any, AllByRecursion}
-use Rattle.jfr_outside.specs.World.{World, State, Files, Told, file}
-use Rattle.jfr_plan.specs.Ends.{Way}
-use Rattle.jfr_plan.specs.Effects.{Effect, Create, Finish, Plan, Stand, Outside, stand, done, effects}
-use Rattle.jfr_plan.specs.Walks.{Rule, File, plan_in}
+use Rattle.jfr_outside.specs.World.{World, State, Files, IfKnown, file}
+use Rattle.jfr_plan.specs.Ends.{CommandEnd}
+use Rattle.jfr_plan.specs.Effects.{Effect, Create, Finish, Plan, Snapshot, Outside, snapshot, done, effects}
+use Rattle.jfr_plan.specs.Rules.{Rule, File, plan_in}
 use Rattle.jfr_plan.specs.Outcomes.{Outcome}
 use Rattle.jfr_plan.specs.Clauses.{Task}
 use Rattle.jfr_split.specs.Joins.{assembling}
@@ -22,7 +22,7 @@ created_names es = filter_map created_name es
 pub record CanCreateAll (r : Rule) (input : List ℕ) (s : State) : Type 0 where
   pub steady : IsTrue s.steady
   pub world : World
-  pub told : s.told ≡ Some world
+  pub contents : s.contents ≡ Some world
   pub new : AllByRecursion (λ name. file world name ≡ None) (created_names (effects (plan_in r input world).steps))
   pub closed : world.output ≡ None
 
@@ -33,27 +33,27 @@ is_finish _ = false
 
 -- A read failed, on a place that isn't steady. The first of these effects are done, and the output isn't
 -- finished.
-pub record Unfinished (steady : Bool) (all : List Effect) (s t : Stand) : Type 0 where
+pub record Unfinished (steady : Bool) (all : List Effect) (s t : Snapshot) : Type 0 where
   pub first : List Effect
   pub rest : List Effect
   pub parts : all ≡ first ++ rest
   pub unfinished : list_any is_finish first ≡ false
-  pub stands : t ≡ done first s
+  pub holds : t ≡ done first s
   pub cause : IsTrue steady → ⊥
 
 -- The state after a command over many files with this plan, for each end.
-abbrev pub FilesOutcome : Bool → Plan → Way → Stand → Stand → Type 0
-FilesOutcome steady plan way s t = Outcome steady plan (Unfinished steady (effects plan.steps)) way s t
+abbrev pub FilesOutcome : Bool → Plan → CommandEnd → Snapshot → Snapshot → Type 0
+FilesOutcome steady plan ended s t = Outcome steady plan (Unfinished steady (effects plan.steps)) ended s t
 
 -- The state after a command over many files, if they are known. They determine the plan.
-abbrev pub AfterFiles : (Files → Plan) → Way → Outside → Outside → Type 0
-AfterFiles plan way a b = Told a.place.told b.place.told (λ w v. FilesOutcome a.place.steady (plan w.files) way (stand w a.sink.written) (stand v b.sink.written))
+abbrev pub AfterFiles : (Files → Plan) → CommandEnd → Outside → Outside → Type 0
+AfterFiles plan ended a b = IfKnown a.place.contents b.place.contents (λ w v. FilesOutcome a.place.steady (plan w.files) ended (snapshot w a.sink.written) (snapshot v b.sink.written))
 
 -- A folder's files are joined to an output. Each file that is listed is there to be read.
 abbrev pub joins : List ℕ → List ℕ → Task
 joins folder output = record {
   plan = λ w. assembling folder output w.files;
   Halts = λ steady w v. Unfinished steady (effects (assembling folder output w.files).steps);
-  Readable = λ s. IsTrue s.steady × IsSome s.told;
+  Readable = λ s. IsTrue s.steady × IsSome s.contents;
   target = File;
 }

@@ -3,7 +3,7 @@ use Rattle.std.specs.Prelude.{◌≡◌, ℕ, ◌+◌, ◌≤◌, ◌||◌, Bool
 use Rattle.std.specs.List.{flat_map}
 use Rattle.jfr_header.specs.Cuts.{joined}
 use Rattle.jfr_plan.specs.Effects.{Effect, Create, Append, Finish, effects}
-use Rattle.jfr_plan.specs.Walks.{cut_after}
+use Rattle.jfr_plan.specs.Rules.{cut_after}
 use Rattle.jfr_split.specs.Parts.{SplitRule, folder_of}
 use Rattle.jfr_split.specs.Names.{part_name}
 use Rattle.jfr_split.specs.Laws.{split_plan}

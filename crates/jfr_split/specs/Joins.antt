@@ -7,7 +7,7 @@ use Rattle.jfr_outside.specs.World.{World, Files, file}
 use Rattle.jfr_header.specs.Fronts.{flaw_at}
 use Rattle.jfr_plan.specs.Ends.{End, Fine, refused}
 use Rattle.jfr_plan.specs.Effects.{Create, Append, Finish, Nothing, AtEnd, needing, Plan}
-use Rattle.jfr_plan.specs.Walks.{Rule, Goes, File, cut_after, plan_after}
+use Rattle.jfr_plan.specs.Rules.{Rule, Goes, File, cut_after, plan_after}
 use Rattle.jfr_split.specs.Names.{is_joined}
 
 -- The rule for one file: each of its chunks is appended.

@@ -2,8 +2,8 @@
 use Rattle.std.specs.Prelude.{◌≡◌, ◌≤◌, List, ℕ, None, Some, [], ◌∷◌, ◌++◌}
 use Rattle.std.specs.FinMap as fin
 use Rattle.jfr_plan.specs.Ends.{Fine}
-use Rattle.jfr_plan.specs.Effects.{Stand, Plan, done, effects}
-use Rattle.jfr_plan.specs.Walks.{cut_after, plan_after}
+use Rattle.jfr_plan.specs.Effects.{Snapshot, Plan, done, effects}
+use Rattle.jfr_plan.specs.Rules.{cut_after, plan_after}
 use Rattle.jfr_split.specs.Parts.{SplitRule, part_of}
 use Rattle.jfr_split.specs.Splits.{splitting}
 use Rattle.jfr_split.specs.Joins.{assembling}
@@ -13,11 +13,11 @@ abbrev pub split_plan : SplitRule → List ℕ → List ℕ → Plan
 split_plan rule file recording = plan_after (splitting rule file) [] (Some recording)
 
 -- The state after the recording is split.
-abbrev pub split : SplitRule → List ℕ → List ℕ → Stand → Stand
+abbrev pub split : SplitRule → List ℕ → List ℕ → Snapshot → Snapshot
 split rule file recording before = done (effects (split_plan rule file recording).steps) before
 
 -- The plan of joining a folder's files ends well, and its output holds this recording.
-pub record Returns (folder output recording : List ℕ) (s : Stand) : Type 0 where
+pub record Returns (folder output recording : List ℕ) (s : Snapshot) : Type 0 where
   pub end : (assembling folder output s.files).end ≡ Some Fine
   pub is : fin.get (done (effects (assembling folder output s.files).steps) s).files output ≡ Some recording
 

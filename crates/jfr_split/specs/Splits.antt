@@ -2,7 +2,7 @@
 use Rattle.std.specs.Prelude.{ℕ, ◌+◌, ◌==◌, Bool, true, false, nat_le, List, [], ◌∷◌, ◌++◌, if◌then◌else◌}
 use Rattle.jfr_plan.specs.Ends.{TooMany}
 use Rattle.jfr_plan.specs.Effects.{Effect, Create, Append, Finish}
-use Rattle.jfr_plan.specs.Walks.{Rule, Asked, Stops, Goes, Parts}
+use Rattle.jfr_plan.specs.Rules.{Rule, Asked, Stops, Goes, Parts}
 use Rattle.jfr_split.specs.Parts.{SplitRule, Part, folder_of, begins, part_of}
 use Rattle.jfr_split.specs.Names.{part_name}
 

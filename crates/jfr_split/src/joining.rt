@@ -2,10 +2,10 @@
 ghost use Rattle.std.specs.Prelude.{◌≡◌, ◌≢◌, ℕ, List, [], map, string_bytes, IfSome, OnOk, IfOk, IfErr, MatchResult};
 ghost use Rattle.std.specs.FinMap as fin;
 ghost use Rattle.jfr_outside.specs.World.{Files};
-ghost use Rattle.jfr_plan.specs.Ends.{way_of};
-ghost use Rattle.jfr_plan.specs.Effects.{Plan, alone};
-ghost use Rattle.jfr_plan.specs.Walks.{File};
-ghost use Rattle.jfr_plan.specs.Outcomes.{After, Tallied, Counted, Kept};
+ghost use Rattle.jfr_plan.specs.Ends.{command_end};
+ghost use Rattle.jfr_plan.specs.Effects.{Plan, without_sink};
+ghost use Rattle.jfr_plan.specs.Rules.{File};
+ghost use Rattle.jfr_plan.specs.Outcomes.{After, Tallied, Counted, Unchanged};
 ghost use Rattle.jfr_plan.specs.Goings.{IsAt, IsPast};
 ghost use Rattle.jfr_plan.specs.Clauses.{Ran, CanCreate};
 ghost use Rattle.jfr_split.specs.Joins.{adding, joining, joining_all, files_in, CanJoin};
@@ -50,26 +50,26 @@ impl Stage for Adding {
 
 // Appends the chunks of one file, which come after those of the files before.
 fn join_file<P: Place>(place: &mut P, file: &str, at: &mut Position) -> Ending
-    ensures told { (earlier : List (List ℕ)) → IsAt earlier at.old.start at.old.number
-        → After adding earlier file.now (way_of result)
-        (alone (P.state place.old)) (alone (P.state place.new)) }
+    ensures contents { (earlier : List (List ℕ)) → IsAt earlier at.old.start at.old.number
+        → After adding earlier file.now (command_end result)
+        (without_sink (P.state place.old)) (without_sink (P.state place.new)) }
     ensures later { (earlier : List (List ℕ)) → IsAt earlier at.old.start at.old.number
         → result ≡ Ending.Done
-        → IfSome (P.state place.old).told (IsPast (λ _. Unit {0}) earlier file.now at.new.start at.new.number) }
-    ensures counts { Tallied File (way_of result)
-        (alone (P.state place.old)) (alone (P.state place.new)) }
+        → IfSome (P.state place.old).contents (IsPast (λ _. Unit {0}) earlier file.now at.new.start at.new.number) }
+    ensures counts { Tallied File (command_end result)
+        (without_sink (P.state place.old)) (without_sink (P.state place.new)) }
 {
     run_stage(place, &mut Discard, &mut Adding, file, at)
 }
 
 // Appends the chunks of these files, one file after another, and finishes the output.
 fn join_files<P: Place>(alloc: Global, place: &mut P, files: &[String]) -> Ending
-    ensures told { (output : List ℕ) (contents : List (List ℕ))
-        → IfSome (P.state place.old).told (CanJoin output (map (λ f. string_bytes f) files.now) contents)
-        → AfterFiles (λ _. joining [] contents) (way_of result)
-        (alone (P.state place.old)) (alone (P.state place.new)) }
-    ensures counts { Tallied File (way_of result)
-        (alone (P.state place.old)) (alone (P.state place.new)) }
+    ensures contents { (output : List ℕ) (contents : List (List ℕ))
+        → IfSome (P.state place.old).contents (CanJoin output (map (λ f. string_bytes f) files.now) contents)
+        → AfterFiles (λ _. joining [] contents) (command_end result)
+        (without_sink (P.state place.old)) (without_sink (P.state place.new)) }
+    ensures counts { Tallied File (command_end result)
+        (without_sink (P.state place.old)) (without_sink (P.state place.new)) }
 {
     let mut at = Position::first(alloc);
     'files: for file in files {
@@ -86,12 +86,12 @@ fn join_files<P: Place>(alloc: Global, place: &mut P, files: &[String]) -> Endin
 
 // Joins the files. Refused as `NoChunk` if there are none.
 fn join_some<P: Place>(alloc: Global, place: &mut P, files: &[String]) -> Ending
-    ensures told { (output : List ℕ) (contents : List (List ℕ))
-        → IfSome (P.state place.old).told (CanJoin output (map (λ f. string_bytes f) files.now) contents)
-        → AfterFiles (λ _. joining_all contents) (way_of result)
-        (alone (P.state place.old)) (alone (P.state place.new)) }
-    ensures counts { Tallied File (way_of result)
-        (alone (P.state place.old)) (alone (P.state place.new)) }
+    ensures contents { (output : List ℕ) (contents : List (List ℕ))
+        → IfSome (P.state place.old).contents (CanJoin output (map (λ f. string_bytes f) files.now) contents)
+        → AfterFiles (λ _. joining_all contents) (command_end result)
+        (without_sink (P.state place.old)) (without_sink (P.state place.new)) }
+    ensures counts { Tallied File (command_end result)
+        (without_sink (P.state place.old)) (without_sink (P.state place.new)) }
 {
     if files.is_empty() {
         return Ending::Refused(Refusal {
@@ -105,14 +105,14 @@ fn join_some<P: Place>(alloc: Global, place: &mut P, files: &[String]) -> Ending
 
 // The names of the folder's files to join, in order.
 fn list_files<P: Place>(alloc: Global, place: &mut P, folder: &str) -> Result<Vec<String>, Ending>
-    ensures told { OnOk result ((P.state place.new).told ≡ (P.state place.old).told) }
-    ensures files { IfOk result (λ made. IfSome (P.state place.old).told
+    ensures contents { OnOk result ((P.state place.new).contents ≡ (P.state place.old).contents) }
+    ensures files { IfOk result (λ made. IfSome (P.state place.old).contents
         (λ w. map (λ f. string_bytes f) made.items ≡ fin.keys (files_in folder.now w.files))) }
-    ensures ended { IfErr result (λ e. (plan : Files → Plan) → AfterFiles plan (way_of e)
-        (alone (P.state place.old)) (alone (P.state place.new))) }
+    ensures ended { IfErr result (λ e. (plan : Files → Plan) → AfterFiles plan (command_end e)
+        (without_sink (P.state place.old)) (without_sink (P.state place.new))) }
     ensures counts { MatchResult result
-        (λ _. Counted Kept Kept Kept (alone (P.state place.old)) (alone (P.state place.new)))
-        (λ e. Tallied File (way_of e) (alone (P.state place.old)) (alone (P.state place.new))) }
+        (λ _. Counted Unchanged Unchanged Unchanged (without_sink (P.state place.old)) (without_sink (P.state place.new)))
+        (λ e. Tallied File (command_end e) (without_sink (P.state place.old)) (without_sink (P.state place.new))) }
 {
     let names = place.list(alloc, folder).map_err(Ending::of_read)?;
     Ok(joined_files(alloc, folder, &names)?)
@@ -123,7 +123,7 @@ fn list_files<P: Place>(alloc: Global, place: &mut P, folder: &str) -> Result<Ve
 /// finishes the output. Each file must have at least one chunk, and the folder at least one such file.
 pub fn assemble<P: Place>(alloc: Global, place: &mut P, folder: &str, out: &str) -> Ending
     ensures ran { Ran (joins folder.now out.now) result
-        (alone (P.state place.old)) (alone (P.state place.new)) }
+        (without_sink (P.state place.old)) (without_sink (P.state place.new)) }
 
     // If the output can be created, there is no write fault.
     ensures can_create { CanCreate out.now (P.state place.old)

@@ -3,7 +3,7 @@ ghost use Rattle.std.specs.Prelude.{◌≡◌, ◌↔◌, Some};
 ghost use Rattle.std.specs.FinMap.{empty, values};
 ghost use Rattle.jfr_outside.specs.World.{Files};
 ghost use Rattle.jfr_plan.specs.Ends.{Fine};
-ghost use Rattle.jfr_plan.specs.Effects.{Stand};
+ghost use Rattle.jfr_plan.specs.Effects.{Snapshot};
 ghost use Rattle.jfr_split.specs.Parts.{SplitRule, IsUsable, folder_of};
 ghost use Rattle.jfr_split.specs.Joins.{files_in, assembling};
 ghost use Rattle.jfr_split.specs.Laws.{split_plan, split, Returns, FitsParts, AreJoinable};
@@ -19,7 +19,7 @@ pub fn parts_are_written(file: &[u8], recording: &[u8])
 /// Joining gives the recording back: if it was split to its end, in a folder that had no files to join
 /// before, joining the folder's files gives an output with the recording's bytes.
 pub fn recording_returns(folder: &[u8], file: &[u8], output: &[u8], recording: &[u8])
-    ensures { (rule : SplitRule) (before : Stand) → IsUsable rule → folder_of rule ≡ Some folder.now
+    ensures { (rule : SplitRule) (before : Snapshot) → IsUsable rule → folder_of rule ≡ Some folder.now
         → files_in folder.now before.files ≡ empty
         → (split_plan rule file.now recording.now).end ≡ Some Fine
         → Returns folder.now output.now recording.now (split rule file.now recording.now before) }

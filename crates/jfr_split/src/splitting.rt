@@ -1,7 +1,7 @@
 // The command that cuts a recording into parts.
 ghost use Rattle.std.specs.Prelude.{◌≡◌, ◌≢◌};
 ghost use Rattle.jfr_plan.specs.Ends.{TooMany};
-ghost use Rattle.jfr_plan.specs.Effects.{alone};
+ghost use Rattle.jfr_plan.specs.Effects.{without_sink};
 ghost use Rattle.jfr_plan.specs.Clauses.{over, Ended, Ran};
 ghost use Rattle.jfr_split.specs.Parts.{IsUsable};
 ghost use Rattle.jfr_split.specs.Splits.{splitting};
@@ -60,10 +60,10 @@ pub fn disassemble<P: Place>(alloc: Global, place: &mut P, file: &str, rule: &Sp
     requires { IsUsable rule.now }
 
     ensures ran { Ran (over (splitting rule.now file.now) file.now) result
-        (alone (P.state place.old)) (alone (P.state place.new)) }
+        (without_sink (P.state place.old)) (without_sink (P.state place.new)) }
     ensures too_many { result ≡ Ending.TooManyParts
         → Ended (over (splitting rule.now file.now) file.now) TooMany
-        (alone (P.state place.old)) (alone (P.state place.new)) }
+        (without_sink (P.state place.old)) (without_sink (P.state place.new)) }
 
     // If the outputs can be created, there is no write fault.
     ensures can_create { CanCreateAll (splitting rule.now file.now) file.now (P.state place.old)

@@ -49,7 +49,7 @@ fn items_of<'a>(
     ensures values { IfOk result (λ items. AllByRecursion (IsOf chunk.now) items.items) }
 {
     children_are_parts();
-    chunk.parts_stand();
+    chunk.parts_are_valid();
     let count = integer_at(chunk, array.at, array.end);
     let shape = Shape {
         class: array.shape.class,
@@ -77,7 +77,7 @@ fn item_end(chunk: &Chunk<'_>, shape: Shape, at: usize, limit: usize) -> usize
     requires item { shape.array ≡ false }
     requires order { at ≤ limit }
     requires within { limit ≤ length chunk.now.bytes }
-    requires stands { (to : ℕ) × EndsAt chunk.now.classes chunk.now.bytes shape at to × (to ≤ limit) }
+    requires holds { (to : ℕ) × EndsAt chunk.now.classes chunk.now.bytes shape at to × (to ≤ limit) }
     ensures { (to : ℕ) → EndsAt chunk.now.classes chunk.now.bytes shape at to → to ≤ limit → result ≡ to }
 {
     if shape.constant {
@@ -95,7 +95,7 @@ fn key_end(chunk: &Chunk<'_>, shape: Shape, at: usize, limit: usize) -> usize
     requires reference { shape.constant ≡ true }
     requires order { at ≤ limit }
     requires within { limit ≤ length chunk.now.bytes }
-    requires stands { (to : ℕ) × EndsAt chunk.now.classes chunk.now.bytes shape at to × (to ≤ limit) }
+    requires holds { (to : ℕ) × EndsAt chunk.now.classes chunk.now.bytes shape at to × (to ≤ limit) }
     ensures { (to : ℕ) → EndsAt chunk.now.classes chunk.now.bytes shape at to → to ≤ limit → result ≡ to }
 {
     integer_at(chunk, at, limit).end
@@ -105,7 +105,7 @@ fn key_end(chunk: &Chunk<'_>, shape: Shape, at: usize, limit: usize) -> usize
 fn integer_at(chunk: &Chunk<'_>, at: usize, limit: usize) -> Var
     requires order { at ≤ limit }
     requires within { limit ≤ length chunk.now.bytes }
-    requires stands { IsSome (int_at chunk.now.bytes at limit) }
+    requires holds { IsSome (int_at chunk.now.bytes at limit) }
     ensures { int_at chunk.now.bytes at limit ≡ Some result }
 {
     match read_within(chunk.bytes(), at, limit) {

@@ -26,7 +26,7 @@ pub(crate) fn location_of(chunk: &Chunk<'_>, trace: &Node<'_>) -> TraceLocation
     requires of_chunk { trace.now.bytes.now ≡ chunk.now.bytes }
     ensures { IsLocation chunk.now (node_of trace.now) result }
 {
-    chunk.parts_stand();
+    chunk.parts_are_valid();
     if !is_reference(trace) {
         return TraceLocation::Inline;
     }

@@ -9,8 +9,6 @@ mod chains;
 #[cfg(test)]
 mod cuts;
 #[cfg(test)]
-mod left;
-#[cfg(test)]
 mod nested;
 #[cfg(test)]
 mod parts;
@@ -18,5 +16,7 @@ mod parts;
 mod runs;
 #[cfg(test)]
 mod scrub;
+#[cfg(test)]
+mod state_after;
 #[cfg(test)]
 mod sweep;

@@ -22,7 +22,7 @@ struct Chunks {
 impl Place for Chunks {
     ghost use Rattle.std.specs.Prelude.{None, false};
 
-    ghost state = { λ p. record { told = None; read_faults = 0; write_faults = 0; steady = false } };
+    ghost state = { λ p. record { contents = None; read_faults = 0; write_faults = 0; steady = false } };
 
     fn open_input(&mut self, _name: &str) -> Result<(), Fault> {
         Ok(())

@@ -1,6 +1,6 @@
 // Each call of each command fails in turn, keeping nothing or ten bytes.
-use crate::left::{Command, Left, is_left, leaves_same};
 use crate::runs::{BOTH, FIRST, Fault, Run, run_once};
+use crate::state_after::{Command, Left, is_left, leaves_same};
 use jfr_outside::Call;
 use std::alloc::Global;
 use std::process::Abort;
@@ -132,8 +132,8 @@ fn see_fault(
     let (status, line) = answer_to(fault);
     assert_eq!(rt; run.status, status);
     assert_eq!(rt; run.err.bytes(), line.as_bytes());
-    let stands = is_left(alloc, command, &run, left, keep)?;
-    assert!(rt; stands);
+    let holds = is_left(alloc, command, &run, left, keep)?;
+    assert!(rt; holds);
     let open = run.has_file() && !closes_output(fault);
     assert_eq!(rt; run.has_open_output(), open);
     Ok(run)

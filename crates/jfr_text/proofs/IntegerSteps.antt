@@ -3,8 +3,8 @@ use Rattle.std.specs.Prelude.{◌≡◌, ℕ, zero, suc, ◌+◌, ◌-◌, ◌�
 use Rattle.std.specs.Option.{option_map_or}
 use Rattle.std.proofs.Common.{ap, refl, sym, arith, ◌∙◌}
 use Rattle.jfr_base.specs.declared.integer.Var.{Var}
-use Rattle.jfr_base.specs.Formats.{Done, int_at, integer, times, run, seen}
-use Rattle.jfr_base.proofs.SeenLaws.{seen-times, then_at}
+use Rattle.jfr_base.specs.Formats.{Done, int_at, integer, times, run, end_or_flaw}
+use Rattle.jfr_base.proofs.FormatEnds.{end_or_flaw-times, then_at}
 use Rattle.jfr_base.proofs.Shorts.{one_byte}
 use Rattle.jfr_text.specs.Spans.{AreShort, first_integers}
 use Rattle.jfr_text.proofs.ReadSteps.{int_there, done_there}
@@ -28,19 +28,19 @@ one_stands (suc n) bytes v h e =
 
 -- So many integers of one byte, one after another.
 pub short_passed : (n count : ℕ) (x : List ℕ) (at to end : ℕ) → to ≡ at + n → n ≤ count → to ≤ end → end ≤ length x → AreShort x at to
-    → seen (run (times (count - n) integer) x end to) ≡ seen (run (times count integer) x end at)
+    → end_or_flaw (run (times (count - n) integer) x end to) ≡ end_or_flaw (run (times count integer) x end at)
 short_passed zero count x at to end e i j l short =
     let all : count - 0 ≡ count = omega arith in
     let here : to ≡ at = omega (arith, e) in
-    ap (λ m. seen (run (times m integer) x end to)) all ∙ ap (λ p. seen (run (times count integer) x end p)) here
+    ap (λ m. end_or_flaw (run (times m integer) x end to)) all ∙ ap (λ p. end_or_flaw (run (times count integer) x end p)) here
 short_passed (suc n) count x at to end e i j l short =
     let rest = count - 1 in
     let left : count - suc n ≡ rest - n = omega arith in
     let more : count ≡ suc rest = omega arith in
-    let later : seen (run (times (rest - n) integer) x end to) ≡ seen (run (times rest integer) x end (at + 1)) =
+    let later : end_or_flaw (run (times (rest - n) integer) x end to) ≡ end_or_flaw (run (times rest integer) x end (at + 1)) =
     short_passed n rest x (at + 1) to end (omega arith) (omega arith) j l (λ k from below. short k (omega arith) below) in
     let v = one_byte x at end (omega arith) l (short at (omega arith) (omega arith)) in
-    let ends : seen (run integer x end at) ≡ Ok (at + 1) = ap seen (int_there x end at (λ w s. Done w) _ v ∙ done_there x end (at + 1) _) in
-    let one : seen (run (times count integer) x end at) ≡ seen (run (times rest integer) x end (at + 1)) =
-    ap (λ m. seen (run (times m integer) x end at)) more ∙ (seen-times rest integer x end at ∙ ap (λ r. then_at r (λ p. seen (run (times rest integer) x end p))) ends) in
-    ap (λ m. seen (run (times m integer) x end to)) left ∙ (later ∙ sym one)
+    let ends : end_or_flaw (run integer x end at) ≡ Ok (at + 1) = ap end_or_flaw (int_there x end at (λ w s. Done w) _ v ∙ done_there x end (at + 1) _) in
+    let one : end_or_flaw (run (times count integer) x end at) ≡ end_or_flaw (run (times rest integer) x end (at + 1)) =
+    ap (λ m. end_or_flaw (run (times m integer) x end at)) more ∙ (end_or_flaw-times rest integer x end at ∙ ap (λ r. then_at r (λ p. end_or_flaw (run (times rest integer) x end p))) ends) in
+    ap (λ m. end_or_flaw (run (times m integer) x end to)) left ∙ (later ∙ sym one)

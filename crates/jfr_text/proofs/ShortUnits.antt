@@ -1,7 +1,7 @@
 -- Strings whose count and integers have one byte each.
 use Rattle.std.specs.Prelude.{◌≡◌, ℕ, ◌+◌, ◌-◌, ◌<◌, ◌≤◌, List, length, slice_index, Ok, Err, true}
 use Rattle.std.proofs.Common.{ap, refl, sym, arith, ◌∙◌}
-use Rattle.jfr_base.specs.Formats.{Answer, Done, checked, integer, times, run, seen}
+use Rattle.jfr_base.specs.Formats.{Answer, Done, checked, integer, times, run, end_or_flaw}
 use Rattle.jfr_text.specs.Spans.{AreShort}
 use Rattle.jfr_text.specs.Strings.{Units, after_kind, counted_integers, kind_fault, string_format}
 use Rattle.jfr_base.proofs.Shorts.{one_byte}
@@ -9,17 +9,17 @@ use Rattle.jfr_text.proofs.IntegerSteps.{short_passed}
 use Rattle.jfr_text.proofs.ReadSteps.{int_there, done_there, made_of_value, kind_there}
 
 -- An answer that ends at a place has a value.
-value_seen : {A : Type 0} (r : Answer A) (to : ℕ) → seen r ≡ Ok to → (v : A) × (r ≡ Ok (record { value = v; place = to }))
+value_seen : {A : Type 0} (r : Answer A) (to : ℕ) → end_or_flaw r ≡ Ok to → (v : A) × (r ≡ Ok (record { value = v; place = to }))
 value_seen (Ok got) to e = let p : got.place ≡ to = cc in (got.value, ap (λ t. Ok (record { value = got.value; place = t })) p)
 value_seen (Err flaw) to e = absurd cc
 
 -- Short integers end after the last of them.
 module _ (count : ℕ) (x : List ℕ) (from end : ℕ) (inside : from + count ≤ end) (within : end ≤ length x) (short : AreShort x from (from + count)) where
-  short_seen : seen (run (times count integer) x end from) ≡ Ok (from + count)
+  short_seen : end_or_flaw (run (times count integer) x end from) ≡ Ok (from + count)
   unfolding run
   short_seen =
       let none : count - count ≡ 0 = omega arith in
-      sym (short_passed count count x from (from + count) end refl (omega arith) inside within short) ∙ ap (λ n. seen (run (times n integer) x end (from + count))) none
+      sym (short_passed count count x from (from + count) end refl (omega arith) inside within short) ∙ ap (λ n. end_or_flaw (run (times n integer) x end (from + count))) none
 
   pub short_read : (units : List ℕ) × (run (times count integer) x end from ≡ Ok (record { value = units; place = from + count }))
   short_read = value_seen (run (times count integer) x end from) (from + count) short_seen

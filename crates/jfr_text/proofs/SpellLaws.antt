@@ -6,8 +6,8 @@ use Rattle.std.proofs.Common.{ap, refl, sym, subst, arith, ◌∙◌, append-nil
 use Rattle.jfr_base.specs.declared.integer.Var.{Var}
 use Rattle.jfr_base.specs.declared.flaw.Flaw.{Flaw}
 use Rattle.jfr_base.specs.Integer.{Spells, worth_within}
-use Rattle.jfr_base.specs.Formats.{Done, times, integer, ◌>>=◌, Exactly, Answer, run, seen, int_at, front_within}
-use Rattle.jfr_base.proofs.Exact.{found_within, run_says, Says}
+use Rattle.jfr_base.specs.Formats.{Done, times, integer, ◌>>=◌, Exactly, Answer, run, end_or_flaw, int_at, prefix_length}
+use Rattle.jfr_base.proofs.Exact.{found_within, run_reads_or_fails, ReadsOrFails}
 use Rattle.jfr_base.proofs.ExactLaws.{exact_bind, bind_exact}
 use Rattle.jfr_base.proofs.FreeLaws.{reads_exact, times_free}
 use Rattle.jfr_text.specs.Strings.{SpellAll}
@@ -51,7 +51,7 @@ front_is front rest v s =
     let bytes = front ++ rest in
     let var : ℕ → ℕ → Var = λ w q. record { value = w; end = q } in
     let all : slice_range bytes 0 (length bytes) ≡ bytes = take_all (length bytes - 0) bytes (omega arith) in
-    let found : front_within 8 (slice_range bytes 0 (length bytes)) ≡ Some (length front) = ap (front_within 8) all ∙ found_within 8 front rest s.form in
+    let found : prefix_length 8 (slice_range bytes 0 (length bytes)) ≡ Some (length front) = ap (prefix_length 8) all ∙ found_within 8 front rest s.form in
     let n : 0 + length front ≡ length front = omega arith in
     let m : 0 + length front - 0 ≡ length front = omega arith in
     let part : slice_range bytes 0 (0 + length front) ≡ front = ap (λ k. take k bytes) m ∙ take_at front rest (length front) refl in
@@ -85,19 +85,19 @@ module _ (n : ℕ) (x : List ℕ) (end at : ℕ) (order : at ≤ end) (within : 
       let got : List ℕ → Answer (List ℕ) = λ zs. Ok (record { value = zs; place = to }) in
       record { order = o; spelled = subst (SpellAll b) same s.0; count = ap length (sym same) ∙ s.1; gives = r ∙ ap got same }
 
-  of_answer : (r : Answer (List ℕ)) (to : ℕ) → run (times n integer) x end at ≡ r → Says (times n integer) x end at r → seen r ≡ Ok to → ReadsAll n x end at to
+  of_answer : (r : Answer (List ℕ)) (to : ℕ) → run (times n integer) x end at ≡ r → ReadsOrFails (times n integer) x end at r → end_or_flaw r ≡ Ok to → ReadsAll n x end at to
   of_answer (Err w) to e s h = cc
   of_answer (Ok g) to e s h =
       let place : g.place ≡ to = cc in
       let i = reads_exact (times n integer) x end at g.value g.place within order (times_free n integer (λ v s. tt)) s in
       subst (λ q. ReadsAll n x end at q) place (of_exact g.value g.place i.order i.exact e)
 
-  pub read_all : (to : ℕ) → seen (run (times n integer) x end at) ≡ Ok to → ReadsAll n x end at to
-  read_all to h = of_answer (run (times n integer) x end at) to refl (run_says (times n integer) x end at order within) h
+  pub read_all : (to : ℕ) → end_or_flaw (run (times n integer) x end at) ≡ Ok to → ReadsAll n x end at to
+  read_all to h = of_answer (run (times n integer) x end at) to refl (run_reads_or_fails (times n integer) x end at order within) h
 
-  of_fault : (r : Answer (List ℕ)) (e : Flaw) → seen r ≡ Err e → r ≡ Err e
+  of_fault : (r : Answer (List ℕ)) (e : Flaw) → end_or_flaw r ≡ Err e → r ≡ Err e
   of_fault (Ok g) e h = cc
   of_fault (Err w) e h = cc
 
-  pub read_fault : (e : Flaw) → seen (run (times n integer) x end at) ≡ Err e → run (times n integer) x end at ≡ Err e
+  pub read_fault : (e : Flaw) → end_or_flaw (run (times n integer) x end at) ≡ Err e → run (times n integer) x end at ≡ Err e
   read_fault e h = of_fault (run (times n integer) x end at) e h

@@ -5,7 +5,7 @@ use Rattle.jfr_base.specs.declared.reason.Reason.{Reason}
 use Rattle.jfr_base.specs.declared.reason.Reason.TheVariants.{StringKind}
 use Rattle.jfr_base.specs.Integer.{Spells}
 use Rattle.jfr_base.specs.Formats.{Done, times, integer, Exactly, Answer, Fails, Reads, run}
-use Rattle.jfr_base.proofs.Exact.{Says, run_says}
+use Rattle.jfr_base.proofs.Exact.{ReadsOrFails, run_reads_or_fails}
 use Rattle.jfr_base.proofs.ExactLaws.{exact_bind, bind_exact}
 use Rattle.jfr_base.proofs.FreeLaws.{PlaceFree, bind_free, times_free, if_free}
 use Rattle.jfr_base.proofs.OneAnswer.{has_one_answer}
@@ -147,7 +147,7 @@ module _ (x : List ℕ) (at to end : ℕ) (s : Content) (order : at ≤ to) (wit
   string_read =
       let all : Stands x at to (slice_range x at to) = record { order = order; within = omega arith; bytes = refl } in
       let e = exact_run x end bound (string_format true) at to (slice_range x at to) s (format_of_string true (slice_range x at to) s is (always s)) all within in
-      subst (λ (a : Answer Content). Says (string_format true) x end at a) e (run_says (string_format true) x end at (omega arith) bound)
+      subst (λ (a : Answer Content). ReadsOrFails (string_format true) x end at a) e (run_reads_or_fails (string_format true) x end at (omega arith) bound)
 
   pub not_refused : (o : ℕ) (why : Reason) → Fails (string_format true) x end at o why → ⊥
   not_refused o why f = (has_one_answer (string_format true) x end at (omega arith) bound).not_both (s, to, string_read) (o, why, f)

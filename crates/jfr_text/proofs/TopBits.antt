@@ -40,7 +40,7 @@ module _ (byte : ℕ → ℕ) (small : (k : ℕ) → byte k < 256) where
       ]
 
 -- Eight bytes at an offset of a list are short exactly if their word has none of their top bits.
-module _ (x y : List ℕ) (at w : ℕ) (small : (k : ℕ) → slice_index x k < 256) (stands : y ≡ take 8 (slice_range x at (at + 8))) (is : w ≡ from_le_bytes w64 y) where
+module _ (x y : List ℕ) (at w : ℕ) (small : (k : ℕ) → slice_index x k < 256) (holds : y ≡ take 8 (slice_range x at (at + 8))) (is : w ≡ from_le_bytes w64 y) where
   abbrev byte : ℕ → ℕ
   byte k = slice_index x (at + k)
 
@@ -48,7 +48,7 @@ module _ (x y : List ℕ) (at w : ℕ) (small : (k : ℕ) → slice_index x k < 
   small_byte k = small (at + k)
 
   byte_is : (k : ℕ) → k < 8 → slice_index y k ≡ byte k
-  byte_is k h = ap (λ l. slice_index l k) stands ∙ (get_or-take 8 _ k 0 h ∙ (get_or-take (at + 8 - at) (drop at x) k 0 (omega arith) ∙ get_or-drop at x k 0))
+  byte_is k h = ap (λ l. slice_index l k) holds ∙ (get_or-take 8 _ k 0 h ∙ (get_or-take (at + 8 - at) (drop at x) k 0 (omega arith) ∙ get_or-drop at x k 0))
 
   word_is : w ≡ word byte small_byte 0 8
   word_is = omega (arith, is, byte_is 0 (omega arith), byte_is 1 (omega arith), byte_is 2 (omega arith), byte_is 3 (omega arith), byte_is 4 (omega arith), byte_is 5 (omega arith), byte_is 6 (omega arith), byte_is 7 (omega arith))

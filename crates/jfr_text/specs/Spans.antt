@@ -53,7 +53,7 @@ CountsPayload kinds.Latin span = (length span.payload.now ≡ span.count) × (sp
 pub record IsSpanAt (bytes : List ℕ) (at : ℕ) (span : StringSpan) : Type 0 where
   pub begins : span.at ≡ at
   pub counted : CountsPayload span.kind span
-  pub stands : span.payload.now ≡ slice_range bytes (span.end - length span.payload.now) span.end
+  pub holds : span.payload.now ≡ slice_range bytes (span.end - length span.payload.now) span.end
 
 -- The answer of reading a string, as an answer of the string format.
 abbrev pub answer_of : Result StringSpan Flaw → Answer Content

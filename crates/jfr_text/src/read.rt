@@ -1,7 +1,7 @@
 //! Reading a string in place.
 ghost use Rattle.std.specs.Prelude.{◌≡◌, ◌↔◌, ℕ, ◌+◌, ◌-◌, ◌<◌, ◌≤◌, ◌^◌, List, [], length, IfOk, IfErr, IfSome, IsTrue, MatchOption, MatchResult, Ok, Err, slice_index, slice_range, true};
 ghost use Rattle.jfr_base.specs.Integer.{IntAt};
-ghost use Rattle.jfr_base.specs.Formats.{Reads, Fails, times, integer, checked, run, seen};
+ghost use Rattle.jfr_base.specs.Formats.{Reads, Fails, times, integer, checked, run, end_or_flaw};
 ghost use Rattle.jfr_text.specs.Spans.{content_of, first_integers, answer_of, AreShort, IsShortUnits, IsSpanAt};
 ghost use Rattle.jfr_text.specs.Strings.{Key, Units, SpellAll, IsString, kind_fault, counted_bytes, counted_integers, after_kind, bare_content, key_format, string_format};
 
@@ -171,7 +171,7 @@ fn read_bytes<'a>(bytes: &'a [u8], at: usize, end: usize) -> Result<Counted<'a>,
     requires order { at ≤ end }
     requires within { end ≤ length bytes.now }
     ensures counted { IfOk result (λ c. length c.payload.now ≡ c.count) }
-    ensures stands { IfOk result (λ c. c.payload.now ≡ slice_range bytes.now (c.end - length c.payload.now) c.end) }
+    ensures holds { IfOk result (λ c. c.payload.now ≡ slice_range bytes.now (c.end - length c.payload.now) c.end) }
     ensures exact { MatchResult result (λ c. run counted_bytes bytes.now end at ≡ Ok (record { value = c.payload.now; place = c.end })) (λ e. run counted_bytes bytes.now end at ≡ Err e) }
 {
     let count = read_within(bytes, at, end)?;
@@ -193,7 +193,7 @@ fn read_integers<'a>(bytes: &'a [u8], at: usize, end: usize) -> Result<Counted<'
     requires order { at ≤ end }
     requires within { end ≤ length bytes.now }
     ensures counted { IfOk result (λ c. SpellAll c.payload.now (first_integers c.count c.payload.now) × (length (first_integers c.count c.payload.now) ≡ c.count)) }
-    ensures stands { IfOk result (λ c. c.payload.now ≡ slice_range bytes.now (c.end - length c.payload.now) c.end) }
+    ensures holds { IfOk result (λ c. c.payload.now ≡ slice_range bytes.now (c.end - length c.payload.now) c.end) }
     ensures exact { MatchResult result (λ c. run counted_integers bytes.now end at ≡ Ok (record { value = first_integers c.count c.payload.now; place = c.end })) (λ e. run counted_integers bytes.now end at ≡ Err e) }
 {
     let count = read_within(bytes, at, end)?;
@@ -211,7 +211,7 @@ fn skip_integers(count: u64, bytes: &[u8], at: usize, end: usize) -> Result<usiz
     requires order { at ≤ end }
     requires within { end ≤ length bytes.now }
     ensures range { IfOk result (λ to. (at ≤ to) × (to ≤ end)) }
-    ensures exact { result ≡ seen (run (times count integer) bytes.now end at) }
+    ensures exact { result ≡ end_or_flaw (run (times count integer) bytes.now end at) }
 {
     let from = skip_short_integers(count, bytes, at, end);
     skip_each_integer(count - (from - at) as u64, bytes, from, end)
@@ -294,12 +294,12 @@ fn skip_short_bytes(bytes: &[u8], at: usize, end: usize) -> usize
 }
 
 /// The offset after `count` integers, read one by one.
-#[tactic(auto, using(jfr_base::proofs::SeenLaws::ends), unfolding(jfr_base::specs::Formats::run))]
+#[tactic(auto, using(jfr_base::proofs::FormatEnds::ends), unfolding(jfr_base::specs::Formats::run))]
 fn skip_each_integer(count: u64, bytes: &[u8], at: usize, end: usize) -> Result<usize, Flaw>
     requires order { at ≤ end }
     requires within { end ≤ length bytes.now }
     ensures range { IfOk result (λ to. (at ≤ to) × (to ≤ end)) }
-    ensures exact { result ≡ seen (run (times count integer) bytes.now end at) }
+    ensures exact { result ≡ end_or_flaw (run (times count integer) bytes.now end at) }
 {
     let mut place = at;
     for _ in 0..count {

@@ -12,7 +12,7 @@ use std::marker::Model;
 #[derive(Drop)]
 pub(crate) struct Units<'a> {
     rest: &'a [u8],
-    left: u64,
+    unread: u64,
 }
 
 impl<'a> Model for Units<'a> {
@@ -22,7 +22,7 @@ impl<'a> Model for Units<'a> {
 
     ghost Value = { List ℕ };
 
-    ghost view = { λ units. low_units (first_integers units.left units.rest.now) };
+    ghost view = { λ units. low_units (first_integers units.unread units.rest.now) };
 }
 
 impl<'a> Units<'a> {
@@ -32,7 +32,7 @@ impl<'a> Units<'a> {
     {
         Units {
             rest: payload,
-            left: count,
+            unread: count,
         }
     }
 }
@@ -45,7 +45,7 @@ impl<'a> Iterator for Units<'a> {
     ghost remaining = { item_count (λ units. units) };
 
     fn next(&mut self) -> Option<u16> {
-        if self.left == 0 {
+        if self.unread == 0 {
             return None;
         }
         let Ok(Var { value, end }) = read_within(self.rest, 0, self.rest.len()) else {
@@ -53,7 +53,7 @@ impl<'a> Iterator for Units<'a> {
         };
         let (_, rest) = self.rest.split_at(end);
         self.rest = rest;
-        self.left -= 1;
+        self.unread -= 1;
         Some((value & 0xffff) as u16)
     }
 }

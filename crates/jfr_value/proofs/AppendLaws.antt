@@ -2,9 +2,9 @@
 use Rattle.std.specs.Prelude.{◌≡◌, ℕ, List, [], ◌∷◌, ◌++◌, Result, Ok, Err}
 use Rattle.std.proofs.Common.{ap, refl, subst, sym, ◌∙◌}
 use Rattle.jfr_base.specs.declared.flaw.Flaw.{Flaw}
-use Rattle.jfr_base.specs.Formats.{Answer, Format, Done, ◌>>=◌, for_each, on, run, seen}
+use Rattle.jfr_base.specs.Formats.{Answer, Format, Done, ◌>>=◌, for_each, on, run, end_or_flaw}
 use Rattle.jfr_base.proofs.FormatLaws.{run-bind}
-use Rattle.jfr_base.proofs.SeenLaws.{then_at, seen-for_each}
+use Rattle.jfr_base.proofs.FormatEnds.{then_at, end_or_flaw-for_each}
 use Rattle.jfr_value.specs.Values.{Value, targets_of, targets_of_all, values_of}
 use Rattle.jfr_value.specs.Visits.{TakesAll, TakesRead, TakesReadAll}
 use Rattle.jfr_value.proofs.TakingLaws.{cons_taken}
@@ -25,14 +25,14 @@ module _ {X : Type 0} (f : X → Format Value) (x : List ℕ) (end : ℕ) where
   abbrev each : List X → ℕ → Answer (List Value)
   each xs at = run (for_each xs f) x end at
 
-  pub both_seen : (xs ys : List X) (at : ℕ) → seen (each (xs ++ ys) at) ≡ then_at (seen (each xs at)) (λ p. seen (each ys p))
+  pub both_seen : (xs ys : List X) (at : ℕ) → end_or_flaw (each (xs ++ ys) at) ≡ then_at (end_or_flaw (each xs at)) (λ p. end_or_flaw (each ys p))
   unfolding run
   both_seen [] ys at = refl
   both_seen (z ∷ xs) ys at =
-      seen-for_each z (xs ++ ys) f x end at
-      ∙ (then_same (seen (run (f z) x end at)) (seen (run (f z) x end at)) (λ p. seen (each (xs ++ ys) p)) (λ p. then_at (seen (each xs p)) (λ q. seen (each ys q))) refl (λ p. both_seen xs ys p)
-      ∙ (then_then (seen (run (f z) x end at)) (λ p. seen (each xs p)) (λ q. seen (each ys q))
-      ∙ ap (λ r. then_at r (λ q. seen (each ys q))) (sym (seen-for_each z xs f x end at))))
+      end_or_flaw-for_each z (xs ++ ys) f x end at
+      ∙ (then_same (end_or_flaw (run (f z) x end at)) (end_or_flaw (run (f z) x end at)) (λ p. end_or_flaw (each (xs ++ ys) p)) (λ p. then_at (end_or_flaw (each xs p)) (λ q. end_or_flaw (each ys q))) refl (λ p. both_seen xs ys p)
+      ∙ (then_then (end_or_flaw (run (f z) x end at)) (λ p. end_or_flaw (each xs p)) (λ q. end_or_flaw (each ys q))
+      ∙ ap (λ r. then_at r (λ q. end_or_flaw (each ys q))) (sym (end_or_flaw-for_each z xs f x end at))))
 
   module _ {A : Type 0} (takes : ℕ × ℕ → A → A → Type 0) where
     takes_parts : (ts us : List (ℕ × ℕ)) (old new : A) → TakesAll takes (ts ++ us) old new → (now : A) × TakesAll takes ts old now × TakesAll takes us now new
@@ -43,37 +43,37 @@ module _ {X : Type 0} (f : X → Format Value) (x : List ℕ) (end : ℕ) where
     record Parted (z : X) (xs : List X) (at to : ℕ) (old new : A) : Type 0 where
       place : ℕ
       now : A
-      first_ends : seen (run (f z) x end at) ≡ Ok place
+      first_ends : end_or_flaw (run (f z) x end at) ≡ Ok place
       first_taken : TakesRead takes (run (f z) x end at) old now
-      others_end : Ok to ≡ seen (each xs place)
+      others_end : Ok to ≡ end_or_flaw (each xs place)
       others_taken : TakesReadAll takes (each xs place) now new
 
-    parted : (z : X) (xs : List X) (at to : ℕ) (old new : A) → Ok to ≡ seen (each (z ∷ xs) at) → TakesReadAll takes (each (z ∷ xs) at) old new → Parted z xs at to old new
+    parted : (z : X) (xs : List X) (at to : ℕ) (old new : A) → Ok to ≡ end_or_flaw (each (z ∷ xs) at) → TakesReadAll takes (each (z ∷ xs) at) old new → Parted z xs at to old new
     unfolding run
     parted z xs at to old new e h =
         let b = run-bind (f z) (λ v. for_each xs f >>= λ vs. Done (v ∷ vs)) x end at in
-        by_first (run (f z) x end at) refl (e ∙ ap seen b) (subst (λ (r : Answer (List Value)). TakesReadAll takes r old new) b h)
+        by_first (run (f z) x end at) refl (e ∙ ap end_or_flaw b) (subst (λ (r : Answer (List Value)). TakesReadAll takes r old new) b h)
       where
-        by_first : (r : Answer Value) → run (f z) x end at ≡ r → Ok to ≡ seen (on r (λ v p. run (for_each xs f >>= λ vs. Done (v ∷ vs)) x end p)) → TakesReadAll takes (on r (λ v p. run (for_each xs f >>= λ vs. Done (v ∷ vs)) x end p)) old new → Parted z xs at to old new
+        by_first : (r : Answer Value) → run (f z) x end at ≡ r → Ok to ≡ end_or_flaw (on r (λ v p. run (for_each xs f >>= λ vs. Done (v ∷ vs)) x end p)) → TakesReadAll takes (on r (λ v p. run (for_each xs f >>= λ vs. Done (v ∷ vs)) x end p)) old new → Parted z xs at to old new
         by_first (Err w) q e h = cc
         by_first (Ok g) q e h =
             let b = run-bind (for_each xs f) (λ vs. Done (g.value ∷ vs)) x end g.place in
-            by_others (each xs g.place) refl (e ∙ ap seen b) (subst (λ (r : Answer (List Value)). TakesReadAll takes r old new) b h)
+            by_others (each xs g.place) refl (e ∙ ap end_or_flaw b) (subst (λ (r : Answer (List Value)). TakesReadAll takes r old new) b h)
           where
-            by_others : (s : Answer (List Value)) → each xs g.place ≡ s → Ok to ≡ seen (on s (λ vs p. run (Done (g.value ∷ vs)) x end p)) → TakesReadAll takes (on s (λ vs p. run (Done (g.value ∷ vs)) x end p)) old new → Parted z xs at to old new
+            by_others : (s : Answer (List Value)) → each xs g.place ≡ s → Ok to ≡ end_or_flaw (on s (λ vs p. run (Done (g.value ∷ vs)) x end p)) → TakesReadAll takes (on s (λ vs p. run (Done (g.value ∷ vs)) x end p)) old new → Parted z xs at to old new
             by_others (Err w) t e h = cc
             by_others (Ok more) t e h =
                 let p = takes_parts (targets_of g.value) (targets_of_all (values_of more.value)) old new h in
                 record {
                   place = g.place;
                   now = p.0;
-                  first_ends = ap seen q;
+                  first_ends = ap end_or_flaw q;
                   first_taken = subst (λ (r : Answer Value). TakesRead takes r old p.0) (sym q) p.1;
-                  others_end = e ∙ ap seen (sym t);
+                  others_end = e ∙ ap end_or_flaw (sym t);
                   others_taken = subst (λ (r : Answer (List Value)). TakesReadAll takes r p.0 new) (sym t) p.2;
                 }
 
-    pub both_taken : (xs ys : List X) (at to : ℕ) (old now new : A) → Ok to ≡ seen (each xs at) → TakesReadAll takes (each xs at) old now → TakesReadAll takes (each ys to) now new → TakesReadAll takes (each (xs ++ ys) at) old new
+    pub both_taken : (xs ys : List X) (at to : ℕ) (old now new : A) → Ok to ≡ end_or_flaw (each xs at) → TakesReadAll takes (each xs at) old now → TakesReadAll takes (each ys to) now new → TakesReadAll takes (each (xs ++ ys) at) old new
     unfolding run
     both_taken [] ys at to old now new e h t =
         let p : to ≡ at = cc in

@@ -16,7 +16,7 @@ use Rattle.jfr_value.specs.declared.node.Node.{Node}
 use Rattle.jfr_value.specs.declared.node.Step.{Step}
 use Rattle.jfr_value.specs.declared.node.Step.TheVariants as steps
 use Rattle.jfr_value.specs.Values.{Value, Values, Single, Group, Nil, Cons, list_of, shape_of, shapes_of, head_of, parts_of, bytes_of, bytes_of_all, IsBase, IsSingle, IsHead, Fits}
-use Rattle.jfr_value.specs.Nodes.{NodeAt, IsNode, IsValue, IsRow, Both, node_of, laid, laid_in, children, picked, child}
+use Rattle.jfr_value.specs.Nodes.{NodeAt, IsNode, IsValue, AreValues, Both, node_of, laid, laid_in, children, picked, child}
 use Rattle.jfr_value.proofs.PlaceLaws.{get_within, kind_there}
 use Rattle.jfr_value.proofs.NodeLaws.{part, child_is, children_are, node_stands}
 use Rattle.jfr_value.proofs.LayoutLaws.{layouts_of}
@@ -54,7 +54,7 @@ base_alone k (Group s h vs) c a q n f = by_case f.0
 -- The values of the fields of a composite node lie one after another, from its start to its end.
 pub record FieldsIn (k : Classes) (c : List ℕ) (n : NodeAt) (v : Value) (fs : List Field) : Type 0 where
   pub parts : Values
-  pub row : IsRow k c n.at n.end (map (λ f. f.shape) fs) parts
+  pub row : AreValues k c n.at n.end (map (λ f. f.shape) fs) parts
   pub is : laid_in n.at v ≡ laid n.at (list_of parts)
 
 pub fields_in : (k : Classes) (c : List ℕ) (n : NodeAt) (v : Value) (d : Class) → IsNode k c n v → n.shape.array ≡ false → n.shape.constant ≡ false → find_class k n.shape.class ≡ Some d → kind_of d.name ≡ kinds.Composite → FieldsIn k c n v d.fields
@@ -90,7 +90,7 @@ pub record ItemsIn (k : Classes) (c : List ℕ) (n : NodeAt) (v : Value) : Type 
   pub counted : int_at c n.at n.end ≡ Some (record { value = count; end = place })
   pub within : place ≤ n.end
   pub parts : Values
-  pub row : IsRow k c place n.end (replicate count (item_of n.shape)) parts
+  pub row : AreValues k c place n.end (replicate count (item_of n.shape)) parts
   pub is : laid_in n.at v ≡ laid place (list_of parts)
 
 pub items_in : (k : Classes) (c : List ℕ) (n : NodeAt) (v : Value) → IsNode k c n v → n.shape.array ≡ true → ItemsIn k c n v
@@ -167,18 +167,18 @@ module _ (k : Classes) (c : List ℕ) (n : NodeAt) (v : Value) (sound : Sound k)
       by_array false a = by_constant n.shape.constant a refl
 
   pub field_is : (j : ℕ) (d : Class) → n.shape.array ≡ false → n.shape.constant ≡ false → find_class k n.shape.class ≡ Some d → kind_of d.name ≡ kinds.Composite
-      → (vs : Values) × IsRow k c n.at n.end (map (λ f. f.shape) d.fields) vs × (child k c n (steps.Field j) ≡ slice_get (laid n.at (list_of vs)) j)
+      → (vs : Values) × AreValues k c n.at n.end (map (λ f. f.shape) d.fields) vs × (child k c n (steps.Field j) ≡ slice_get (laid n.at (list_of vs)) j)
   field_is j d a o q m =
       let f = fields_in k c n v d i a o q m in
       (f.parts, f.row, field_picked n.shape (children k c n) j a ∙ ap (λ z. slice_get z j) (children_are k c n v sound i ∙ f.is))
 
   -- The field with a number, by the layouts of the class.
   pub field_row : (j place : ℕ) (kind : Kind) (ss : List FieldLayout) → n.shape.array ≡ false → n.shape.constant ≡ false → slice_get k place ≡ find_class k n.shape.class → place < length k → IfSome (slice_get k place) (λ c. kind ≡ kind_of c.name) → kind ≡ kinds.Composite → IfSome (slice_get k place) (λ c. AreFieldLayouts k c.fields ss)
-      → (vs : Values) × IsRow k c n.at n.end (map (λ s. s.shape) ss) vs × (child k c n (steps.Field j) ≡ slice_get (laid n.at (list_of vs)) j)
+      → (vs : Values) × AreValues k c n.at n.end (map (λ s. s.shape) ss) vs × (child k c n (steps.Field j) ≡ slice_get (laid n.at (list_of vs)) j)
   field_row j place kind ss a o q l e m h =
       let d = layouts_of k place ss l h in
       let f = field_is j d.class a o (sym q ∙ d.there) (sym (kind_there k place d.class kind e d.there) ∙ m) in
-      (f.0, subst (λ z. IsRow k c n.at n.end z f.0) (sym d.layouts.shapes) f.1, f.2)
+      (f.0, subst (λ z. AreValues k c n.at n.end z f.0) (sym d.layouts.shapes) f.1, f.2)
 
   pub no_field_past : (j place : ℕ) (kind : Kind) (ss : List FieldLayout) → n.shape.array ≡ false → n.shape.constant ≡ false → slice_get k place ≡ find_class k n.shape.class → place < length k → IfSome (slice_get k place) (λ c. kind ≡ kind_of c.name) → kind ≡ kinds.Composite → IfSome (slice_get k place) (λ c. AreFieldLayouts k c.fields ss)
       → length ss ≤ j → child k c n (steps.Field j) ≡ None
@@ -187,11 +187,11 @@ module _ (k : Classes) (c : List ℕ) (n : NodeAt) (v : Value) (sound : Sound k)
       f.2 ∙ past_end n.at f.0 (map (λ s. s.shape) ss) j f.1.of_shapes (let z = length-map ss (λ (s : FieldLayout). s.shape) in omega arith)
 
   pub item_is : (j : ℕ) (w : Var) → n.shape.array ≡ true → int_at c n.at n.end ≡ Some w
-      → (w.end ≤ n.end) × ((vs : Values) × IsRow k c w.end n.end (replicate w.value (item_of n.shape)) vs × (child k c n (steps.Item j) ≡ slice_get (laid w.end (list_of vs)) j))
+      → (w.end ≤ n.end) × ((vs : Values) × AreValues k c w.end n.end (replicate w.value (item_of n.shape)) vs × (child k c n (steps.Item j) ≡ slice_get (laid w.end (list_of vs)) j))
   item_is j w a e =
       let f = items_in k c n v i a in
       let q : record { value = f.count; end = f.place } ≡ w = (let x = f.counted in cc) in
-      subst (λ (w : Var). (w.end ≤ n.end) × ((vs : Values) × IsRow k c w.end n.end (replicate w.value (item_of n.shape)) vs × (child k c n (steps.Item j) ≡ slice_get (laid w.end (list_of vs)) j))) q
+      subst (λ (w : Var). (w.end ≤ n.end) × ((vs : Values) × AreValues k c w.end n.end (replicate w.value (item_of n.shape)) vs × (child k c n (steps.Item j) ≡ slice_get (laid w.end (list_of vs)) j))) q
       (f.within, (f.parts, f.row, item_picked n.shape (children k c n) j a ∙ ap (λ z. slice_get z j) (children_are k c n v sound i ∙ f.is)))
 
   pub no_item_past : (j : ℕ) (w : Var) → n.shape.array ≡ true → int_at c n.at n.end ≡ Some w → length (replicate w.value (item_of n.shape)) ≤ j → child k c n (steps.Item j) ≡ None
@@ -204,7 +204,7 @@ module _ (k : Classes) (c : List ℕ) (n : NodeAt) (v : Value) (sound : Sound k)
   pub items_known : (j : ℕ) (w : Var) → n.shape.array ≡ true → int_at c n.at n.end ≡ Some w → j < w.value → n.shape.constant ≡ false → IsSome (find_class k n.shape.class)
   items_known j w a e l o = by_row w.value (item_is j w a e).1.0 l (item_is j w a e).1.1
     where
-      by_row : (m : ℕ) (vs : Values) → j < m → IsRow k c w.end n.end (replicate m (item_of n.shape)) vs → IsSome (find_class k n.shape.class)
+      by_row : (m : ℕ) (vs : Values) → j < m → AreValues k c w.end n.end (replicate m (item_of n.shape)) vs → IsSome (find_class k n.shape.class)
       by_row zero vs l r = absurd (omega arith)
       by_row (suc m) Nil l r = let x = r.of_shapes in cc
       by_row (suc m) (Cons u vs) l r =

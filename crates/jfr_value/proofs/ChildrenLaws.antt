@@ -3,7 +3,7 @@ use Rattle.std.specs.Prelude.{◌≡◌, ◌↔◌, ℕ, ◌+◌, ◌≤◌, fal
 use Rattle.std.proofs.Common.{ap, arith, refl, sym, ◌∙◌, subst}
 use Rattle.jfr_base.specs.Formats.{Answer, Reads}
 use Rattle.jfr_base.specs.Integer.{worth_within}
-use Rattle.jfr_base.proofs.Exact.{Says, run_says}
+use Rattle.jfr_base.proofs.Exact.{ReadsOrFails, run_reads_or_fails}
 use Rattle.jfr_base.proofs.Ranges.{range_length}
 use Rattle.jfr_base.proofs.RunLaws.{Stands, stands_split}
 use Rattle.jfr_layout.specs.Classes.{Class, Classes, Sound, find_class, kind_of}
@@ -12,7 +12,7 @@ use Rattle.jfr_layout.specs.declared.shape.Shape.{Shape}
 use Rattle.jfr_value.specs.declared.leaf.LeafKind.TheVariants as leaf_kinds
 use Rattle.jfr_value.specs.Laws.{Cover, ItemsCover, LeavesInOrder}
 use Rattle.jfr_value.specs.Leaves.{LeafAt, leaves, leaves_at, leaves_from}
-use Rattle.jfr_value.specs.Nodes.{NodeAt, IsNode, IsRow, Both, children, laid, laid_in, node_at, target, targets}
+use Rattle.jfr_value.specs.Nodes.{NodeAt, IsNode, AreValues, Both, children, laid, laid_in, node_at, target, targets}
 use Rattle.jfr_value.specs.Reading.{value_format}
 use Rattle.jfr_value.specs.Values.{Value, Values, Single, Group, Nil, Cons, list_of, shape_of, shapes_of, parts_of, bytes_of, bytes_of_all, own_target, targets_of, targets_of_all, AllFit}
 use Rattle.jfr_value.proofs.ChildLaws.{fields_in, items_in}
@@ -23,10 +23,10 @@ use Rattle.jfr_value.proofs.TargetLaws.{leaves_are, targets_are}
 -- What is read is a node, and a node is read.
 pub node_reads : (k : Classes) (c : List ℕ) (s : Shape) (at to end : ℕ) (v : Value) → Sound k → at ≤ end → end ≤ length c → Reads (value_format k s) c end at v to ↔ (IsNode k c (node_at s at to) v × (to ≤ end))
 node_reads k c s at to end v sound o l =
-    (λ r. read_node k s c end at to v l o r, λ (i, w). subst (λ (a : Answer Value). Says (value_format k s) c end at a) (node_read k c (node_at s at to) v end sound i w l) (run_says (value_format k s) c end at o l))
+    (λ r. read_node k s c end at to v l o r, λ (i, w). subst (λ (a : Answer Value). ReadsOrFails (value_format k s) c end at a) (node_read k c (node_at s at to) v end sound i w l) (run_reads_or_fails (value_format k s) c end at o l))
 
 module _ (k : Classes) (c : List ℕ) where
-  row_covers : (at to : ℕ) (ss : List Shape) (vs : Values) → IsRow k c at to ss vs → Cover k c at to ss (laid at (list_of vs))
+  row_covers : (at to : ℕ) (ss : List Shape) (vs : Values) → AreValues k c at to ss vs → Cover k c at to ss (laid at (list_of vs))
   row_covers at to [] Nil r =
       let o : at ≤ to = r.order in
       let e : length (slice_range c at to) ≡ 0 = ap length r.bytes in
@@ -56,8 +56,8 @@ module _ (k : Classes) (c : List ℕ) where
         ap (λ z. z ++ flat_map (leaves k c) (laid (at + length (bytes_of v)) (list_of vs))) (leaves_are k sound c (node_at (shape_of v) at (at + length (bytes_of v))) v i) ∙ ap (λ z. leaves_at at v ++ z) (laid_leaves (at + length (bytes_of v)) to vs h.second g.1)
 
     module _ (n : NodeAt) where
-      pub parts_stand : (v : Value) → IsNode k c n v → (i : ℕ) → Both (IsNode k c) (slice_get (children k c n) i) (slice_get (parts_of v) i)
-      parts_stand v i j = subst (λ z. Both (IsNode k c) (slice_get z j) (slice_get (parts_of v) j)) (sym (children_are k c n v sound i)) (inner_is k c n.at n.end v (node_stands k c n v i) i.fits j)
+      pub parts_are_valid : (v : Value) → IsNode k c n v → (i : ℕ) → Both (IsNode k c) (slice_get (children k c n) i) (slice_get (parts_of v) i)
+      parts_are_valid v i j = subst (λ z. Both (IsNode k c) (slice_get z j) (slice_get (parts_of v) j)) (sym (children_are k c n v sound i)) (inner_is k c n.at n.end v (node_stands k c n v i) i.fits j)
 
       pub fields_cover : (v : Value) (d : Class) → IsNode k c n v → n.shape.array ≡ false → n.shape.constant ≡ false → find_class k n.shape.class ≡ Some d → kind_of d.name ≡ kinds.Composite → Cover k c n.at n.end (map (λ f. f.shape) d.fields) (children k c n)
       fields_cover v d i a o q m =

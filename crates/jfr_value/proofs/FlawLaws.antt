@@ -13,7 +13,7 @@ use Rattle.jfr_layout.specs.declared.shape.Shape.{Shape}
 use Rattle.jfr_text.specs.Strings.{Key, Utf8, Units, Latin, kind_fault, string_format}
 use Rattle.jfr_value.specs.declared.leaf.LeafKind.TheVariants as leaf_kinds
 use Rattle.jfr_value.specs.Values.{Value, Single, Group, values_of, key_of}
-use Rattle.jfr_value.specs.Walks.{Room}
+use Rattle.jfr_value.specs.Walks.{DepthBound}
 use Rattle.jfr_value.specs.Reading.{base_format, item_format, array_format, shape_format, fields_format, kind_format, inline_format, class_format, value_format}
 use Rattle.jfr_value.specs.Nodes.{IsValueReason}
 use Rattle.jfr_value.proofs.DepthLaws.{IsKnown, sound_inline, sound_known, any_none, steps_to}
@@ -145,13 +145,13 @@ shape_plain f s r q = if_only IsValueReason s.array (array_format (item_format f
 
 module _ (k : Classes) (sound : Sound k) where
   fields_plain : (m : ℕ) (fs : List Field) → AllByRecursion (λ f. IsKnown k f.shape) fs → AllByRecursion (λ f. option_map_or (λ d. goes_inline m k d) (step_class k f) false ≡ false) fs
-      → ((s : Shape) → s.constant ≡ false → Room k m s → IsKnown k s → Plain (class_format (suc m) k s)) → AllByRecursion (λ f. Plain (shape_format (class_format (suc m) k) f.shape)) fs
+      → ((s : Shape) → s.constant ≡ false → DepthBound k m s → IsKnown k s → Plain (class_format (suc m) k s)) → AllByRecursion (λ f. Plain (shape_format (class_format (suc m) k) f.shape)) fs
   fields_plain m [] known a g = tt
   fields_plain m (f ∷ fs) known a g =
-      let room : Room k m f.shape = λ o d q c. ap (λ z. option_map_or (λ d. goes_inline m k d) z false) (sym (steps_to k f d o q c)) ∙ a.0 in
-      (shape_plain (class_format (suc m) k) f.shape (λ o. g (item_of f.shape) o room known.0) (λ o. g f.shape o room known.0), fields_plain m fs known.1 a.1 g)
+      let depth : DepthBound k m f.shape = λ o d q c. ap (λ z. option_map_or (λ d. goes_inline m k d) z false) (sym (steps_to k f d o q c)) ∙ a.0 in
+      (shape_plain (class_format (suc m) k) f.shape (λ o. g (item_of f.shape) o depth known.0) (λ o. g f.shape o depth known.0), fields_plain m fs known.1 a.1 g)
 
-  class_plain : (n : ℕ) (s : Shape) → s.constant ≡ false → Room k n s → IsKnown k s → Plain (class_format (suc n) k s)
+  class_plain : (n : ℕ) (s : Shape) → s.constant ≡ false → DepthBound k n s → IsKnown k s → Plain (class_format (suc n) k s)
   unfolding class_format
   class_plain zero s o r c =
       subst (λ z. Plain (inline_format (class_format zero k) s z)) (sym c.1)
@@ -169,5 +169,5 @@ module _ (k : Classes) (sound : Sound k) where
 pub value_plain : (k : Classes) (s : Shape) (x : List ℕ) (end at o : ℕ) (why : Reason) → Sound k → IsKnown k s → Fails (value_format k s) x end at o why → IsValueReason why
 unfolding value_format
 value_plain k s x end at o why sound known e =
-    let room : Room k 33 s = λ c d q i. sound_inline k s.class d sound q in
-    fails_so IsValueReason (shape_format (class_format 34 k) s) x end at o why (shape_plain (class_format 34 k) s (λ c. class_plain k sound 33 (item_of s) c room known) (λ c. class_plain k sound 33 s c room known)) e
+    let depth : DepthBound k 33 s = λ c d q i. sound_inline k s.class d sound q in
+    fails_so IsValueReason (shape_format (class_format 34 k) s) x end at o why (shape_plain (class_format 34 k) s (λ c. class_plain k sound 33 (item_of s) c depth known) (λ c. class_plain k sound 33 s c depth known)) e

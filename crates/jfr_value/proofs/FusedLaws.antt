@@ -5,9 +5,9 @@ use Rattle.std.proofs.Common.{ap, arith, get_or, inl, inr, refl, subst, sym, ◌
 use Rattle.std.proofs.lemmas.List.{drop_all, drop_more}
 use Rattle.jfr_base.specs.declared.flaw.Flaw.{Flaw}
 use Rattle.jfr_base.specs.declared.integer.Var.{Var}
-use Rattle.jfr_base.specs.Formats.{Answer, Format, Done, Int, int_at, after_int, integer, unchecked, refused, run, seen, times}
+use Rattle.jfr_base.specs.Formats.{Answer, Format, Done, Int, int_at, after_int, integer, unchecked, refused, run, end_or_flaw, times}
 use Rattle.jfr_base.specs.declared.reason.Reason.TheVariants.{Short}
-use Rattle.jfr_base.proofs.SeenLaws.{then_at, then_at_ok, seen-for_each, seen-times}
+use Rattle.jfr_base.proofs.FormatEnds.{then_at, then_at_ok, end_or_flaw-for_each, end_or_flaw-times}
 use Rattle.jfr_layout.specs.Classes.{AreFieldLayouts, Class, Classes, IsFieldLayout, inline_form, item_of}
 use Rattle.jfr_layout.specs.Fused.{AreIntegers, AreFused, AreRaw, IsEventPrelude, IsFused, IsOf, passed_by}
 use Rattle.jfr_layout.specs.Resolved.{IsClassLayout}
@@ -21,7 +21,7 @@ use Rattle.jfr_layout.specs.declared.field_layout.FieldLayout.{FieldLayout}
 use Rattle.jfr_text.specs.Strings.{string_format}
 use Rattle.jfr_value.specs.declared.leaf.LeafKind.TheVariants as leaf_kinds
 use Rattle.jfr_value.specs.Values.{IsPlaced, Value, Single, key_of, targets_of}
-use Rattle.jfr_value.specs.Reading.{base_format, class_format, item_format, row_format, shape_format}
+use Rattle.jfr_value.specs.Reading.{base_format, class_format, item_format, values_format, shape_format}
 use Rattle.jfr_value.specs.Visits.{TakesAll, TakesRead, TakesReadAll}
 use Rattle.jfr_value.proofs.AppendLaws.{both_seen, both_taken, then_same}
 use Rattle.jfr_value.proofs.EndLaws.{key_ends, shape_item}
@@ -29,7 +29,7 @@ use Rattle.jfr_value.proofs.FormLaws.{inline_there, key_there, plain_there}
 use Rattle.jfr_value.proofs.PlaceLaws.{get_within}
 use Rattle.jfr_value.proofs.SkipLaws.{base_skipped}
 use Rattle.jfr_value.proofs.LayoutEnds.{base_ends, inline_taken, text_ends, text_taken}
-use Rattle.jfr_value.proofs.TakingLaws.{TakesLeft, cons_taken, item_taken, no_value, plain_taken}
+use Rattle.jfr_value.proofs.TakingLaws.{TakesRemaining, cons_taken, item_taken, no_value, plain_taken}
 
 all_take : {X : Type 0} (P : X → Type 0) (n : ℕ) (xs : List X) → AllByRecursion P xs → AllByRecursion P (take n xs)
 all_take P zero xs a = tt
@@ -59,14 +59,14 @@ integer_kind kinds.Composite e = cc
 abbrev nothing : Format (Option ℕ)
 nothing = Done None
 
-raw_ends : (kind : Kind) (count : ℕ) (x : List ℕ) (end at : ℕ) → forms.Raw count ≡ inline_form kind → at + count ≤ end → Ok (at + count) ≡ seen (run (base_format kind) x end at)
+raw_ends : (kind : Kind) (count : ℕ) (x : List ℕ) (end at : ℕ) → forms.Raw count ≡ inline_form kind → at + count ≤ end → Ok (at + count) ≡ end_or_flaw (run (base_format kind) x end at)
 unfolding run
 raw_ends kind count x end at e l = by_kind kind e
   where
-    fits : (n : ℕ) → count ≡ n → Ok (at + count) ≡ seen (if nat_le (at + n) end then run nothing x end (at + n) else refused at Short)
-    fits n h = let t : nat_le (at + count) end ≡ true = grind arith in subst (λ m. Ok (at + count) ≡ seen (if nat_le (at + m) end then run nothing x end (at + m) else refused at Short)) h (rw t refl)
+    fits : (n : ℕ) → count ≡ n → Ok (at + count) ≡ end_or_flaw (if nat_le (at + n) end then run nothing x end (at + n) else refused at Short)
+    fits n h = let t : nat_le (at + count) end ≡ true = grind arith in subst (λ m. Ok (at + count) ≡ end_or_flaw (if nat_le (at + m) end then run nothing x end (at + m) else refused at Short)) h (rw t refl)
 
-    by_kind : (kind : Kind) → forms.Raw count ≡ inline_form kind → Ok (at + count) ≡ seen (run (base_format kind) x end at)
+    by_kind : (kind : Kind) → forms.Raw count ≡ inline_form kind → Ok (at + count) ≡ end_or_flaw (run (base_format kind) x end at)
     by_kind kinds.Boolean e = fits 1 (let h : forms.Raw count ≡ forms.Raw 1 = e in cc)
     by_kind kinds.Byte e = fits 1 (let h : forms.Raw count ≡ forms.Raw 1 = e in cc)
     by_kind kinds.Float e = fits 4 (let h : forms.Raw count ≡ forms.Raw 4 = e in cc)
@@ -86,42 +86,42 @@ module _ (k : Classes) (levels : ℕ) (x : List ℕ) (end : ℕ) where
   one s = shape_format inline s.shape
 
   abbrev row : List FieldLayout → ℕ → Answer (List Value)
-  row ss at = run (row_format (levels + 1) k ss) x end at
+  row ss at = run (values_format (levels + 1) k ss) x end at
 
   placed : (s : FieldLayout) → IsFieldLayout k s → IsPlaced k s
   placed s i = record { form = i.form; of_class = λ o. i }
 
   -- One field.
-  alone_seen : (s : FieldLayout) (at : ℕ) → seen (row (s ∷ []) at) ≡ seen (run (one s) x end at)
+  alone_seen : (s : FieldLayout) (at : ℕ) → end_or_flaw (row (s ∷ []) at) ≡ end_or_flaw (run (one s) x end at)
   unfolding run
-  alone_seen s at = seen-for_each s [] one x end at ∙ then_at_ok (seen (run (one s) x end at))
+  alone_seen s at = end_or_flaw-for_each s [] one x end at ∙ then_at_ok (end_or_flaw (run (one s) x end at))
 
-  integer_seen : (s : FieldLayout) (at : ℕ) → IsFieldLayout k s → s.form ≡ forms.Integer → seen (run integer x end at) ≡ seen (run (one s) x end at)
+  integer_seen : (s : FieldLayout) (at : ℕ) → IsFieldLayout k s → s.form ≡ forms.Integer → end_or_flaw (run integer x end at) ≡ end_or_flaw (run (one s) x end at)
   integer_seen s at i e =
       let m = inline_there s i.form forms.Integer e tt in
       base_skipped s.kind x end at (integer_kind s.kind m.form) ∙ base_ends k s levels x end at (placed s i) forms.Integer m (λ q. cc)
 
-  each_integer_seen : (ss : List FieldLayout) (at : ℕ) → AllByRecursion (IsFieldLayout k) ss → AllByRecursion (λ s. s.form ≡ forms.Integer) ss → seen (run (times (length ss) integer) x end at) ≡ seen (row ss at)
+  each_integer_seen : (ss : List FieldLayout) (at : ℕ) → AllByRecursion (IsFieldLayout k) ss → AllByRecursion (λ s. s.form ≡ forms.Integer) ss → end_or_flaw (run (times (length ss) integer) x end at) ≡ end_or_flaw (row ss at)
   unfolding run
   each_integer_seen [] at i e = refl
   each_integer_seen (s ∷ ss) at i e =
-      seen-times (length ss) integer x end at
-      ∙ (then_same (seen (run integer x end at)) (seen (run (one s) x end at)) (λ p. seen (run (times (length ss) integer) x end p)) (λ p. seen (row ss p)) (integer_seen s at i.0 e.0) (λ p. each_integer_seen ss p i.1 e.1)
-      ∙ sym (seen-for_each s ss one x end at))
+      end_or_flaw-times (length ss) integer x end at
+      ∙ (then_same (end_or_flaw (run integer x end at)) (end_or_flaw (run (one s) x end at)) (λ p. end_or_flaw (run (times (length ss) integer) x end p)) (λ p. end_or_flaw (row ss p)) (integer_seen s at i.0 e.0) (λ p. each_integer_seen ss p i.1 e.1)
+      ∙ sym (end_or_flaw-for_each s ss one x end at))
 
-  pub integers_seen : (count : ℕ) (ss : List FieldLayout) (at : ℕ) → AllByRecursion (IsFieldLayout k) ss → AreIntegers count ss → seen (run (times count integer) x end at) ≡ seen (row ss at)
-  integers_seen count ss at i e = ap (λ n. seen (run (times n integer) x end at)) (sym e.0) ∙ each_integer_seen ss at i e.1
+  pub integers_seen : (count : ℕ) (ss : List FieldLayout) (at : ℕ) → AllByRecursion (IsFieldLayout k) ss → AreIntegers count ss → end_or_flaw (run (times count integer) x end at) ≡ end_or_flaw (row ss at)
+  integers_seen count ss at i e = ap (λ n. end_or_flaw (run (times n integer) x end at)) (sym e.0) ∙ each_integer_seen ss at i e.1
 
-  pub integer_alone : (ss : List FieldLayout) (at : ℕ) → AllByRecursion (IsFieldLayout k) ss → AreIntegers 1 ss → seen (run integer x end at) ≡ seen (row ss at)
+  pub integer_alone : (ss : List FieldLayout) (at : ℕ) → AllByRecursion (IsFieldLayout k) ss → AreIntegers 1 ss → end_or_flaw (run integer x end at) ≡ end_or_flaw (row ss at)
   unfolding run
-  integer_alone ss at i e = sym (seen-times 0 integer x end at ∙ then_at_ok (seen (run integer x end at))) ∙ integers_seen 1 ss at i e
+  integer_alone ss at i e = sym (end_or_flaw-times 0 integer x end at ∙ then_at_ok (end_or_flaw (run integer x end at))) ∙ integers_seen 1 ss at i e
 
-  raw_one : (s : FieldLayout) (count at : ℕ) → IsFieldLayout k s → s.form ≡ forms.Raw count → at + count ≤ end → Ok (at + count) ≡ seen (run (one s) x end at)
+  raw_one : (s : FieldLayout) (count at : ℕ) → IsFieldLayout k s → s.form ≡ forms.Raw count → at + count ≤ end → Ok (at + count) ≡ end_or_flaw (run (one s) x end at)
   raw_one s count at i e l =
       let m = inline_there s i.form (forms.Raw count) e tt in
       raw_ends s.kind count x end at m.form l ∙ base_ends k s levels x end at (placed s i) (forms.Raw count) m (λ q. cc)
 
-  pub raw_seen : (ss : List FieldLayout) (count at : ℕ) → AllByRecursion (IsFieldLayout k) ss → AreRaw count ss → at + count ≤ end → Ok (at + count) ≡ seen (row ss at)
+  pub raw_seen : (ss : List FieldLayout) (count at : ℕ) → AllByRecursion (IsFieldLayout k) ss → AreRaw count ss → at + count ≤ end → Ok (at + count) ≡ end_or_flaw (row ss at)
   unfolding run
   raw_seen [] count at i a l = let z : at + count ≡ at = omega (arith, a) in ap (λ n. Ok n) z
   raw_seen (s ∷ ss) count at i a l =
@@ -130,32 +130,32 @@ module _ (k : Classes) (levels : ℕ) (x : List ℕ) (end : ℕ) where
       let z : at + count ≡ at + bytes + rest = omega (arith, a.3) in
       ap (λ n. Ok n) z
       ∙ (raw_seen ss rest (at + bytes) i.1 a.4 (omega (arith, l, a.3))
-      ∙ (ap (λ r. then_at r (λ p. seen (row ss p))) (raw_one s bytes at i.0 a.2 (omega (arith, l, a.3)))
-      ∙ sym (seen-for_each s ss one x end at)))
+      ∙ (ap (λ r. then_at r (λ p. end_or_flaw (row ss p))) (raw_one s bytes at i.0 a.2 (omega (arith, l, a.3)))
+      ∙ sym (end_or_flaw-for_each s ss one x end at)))
 
-  key_one : (class : ℕ) (s : FieldLayout) (at : ℕ) → IsFieldLayout k s → IsOf forms.Key class s → seen (run integer x end at) ≡ seen (run (one s) x end at)
+  key_one : (class : ℕ) (s : FieldLayout) (at : ℕ) → IsFieldLayout k s → IsOf forms.Key class s → end_or_flaw (run integer x end at) ≡ end_or_flaw (run (one s) x end at)
   key_one class s at i o =
       let m = key_there s i.form o.0 in
       key_ends inline s.shape x end at m.1 ∙ sym (shape_item inline s.shape x end at m.0)
 
-  pub key_seen : (class : ℕ) (ss : List FieldLayout) (at : ℕ) → AllByRecursion (IsFieldLayout k) ss → (s : FieldLayout) × (ss ≡ s ∷ []) × IsOf forms.Key class s → seen (run integer x end at) ≡ seen (row ss at)
+  pub key_seen : (class : ℕ) (ss : List FieldLayout) (at : ℕ) → AllByRecursion (IsFieldLayout k) ss → (s : FieldLayout) × (ss ≡ s ∷ []) × IsOf forms.Key class s → end_or_flaw (run integer x end at) ≡ end_or_flaw (row ss at)
   key_seen class ss at i h =
       let j = subst (AllByRecursion (IsFieldLayout k)) h.1 i in
-      key_one class h.0 at j.0 h.2 ∙ (sym (alone_seen h.0 at) ∙ ap (λ z. seen (row z at)) (sym h.1))
+      key_one class h.0 at j.0 h.2 ∙ (sym (alone_seen h.0 at) ∙ ap (λ z. end_or_flaw (row z at)) (sym h.1))
 
-  pub text_seen : (class : ℕ) (ss : List FieldLayout) (at : ℕ) → AllByRecursion (IsFieldLayout k) ss → (s : FieldLayout) × (ss ≡ s ∷ []) × IsOf forms.Text class s → seen (run (base_format kinds.Text) x end at) ≡ seen (row ss at)
+  pub text_seen : (class : ℕ) (ss : List FieldLayout) (at : ℕ) → AllByRecursion (IsFieldLayout k) ss → (s : FieldLayout) × (ss ≡ s ∷ []) × IsOf forms.Text class s → end_or_flaw (run (base_format kinds.Text) x end at) ≡ end_or_flaw (row ss at)
   text_seen class ss at i h =
       let j = subst (AllByRecursion (IsFieldLayout k)) h.1 i in
-      text_ends k h.0 levels x end at (placed h.0 j.0) h.2.0 ∙ (sym (alone_seen h.0 at) ∙ ap (λ z. seen (row z at)) (sym h.1))
+      text_ends k h.0 levels x end at (placed h.0 j.0) h.2.0 ∙ (sym (alone_seen h.0 at) ∙ ap (λ z. end_or_flaw (row z at)) (sym h.1))
 
   -- What is taken of them.
   module _ {A : Type 0} (takes : ℕ × ℕ → A → A → Type 0) where
-    cons_ends : (s : FieldLayout) (ss : List FieldLayout) (at : ℕ) (old now new : A) → TakesRead takes (run (one s) x end at) old now → ((to : ℕ) → Ok to ≡ seen (run (one s) x end at) → TakesReadAll takes (row ss to) now new) → TakesReadAll takes (row (s ∷ ss) at) old new
-    cons_ends s ss at old now new h t = by_end (seen (run (one s) x end at)) refl
+    cons_ends : (s : FieldLayout) (ss : List FieldLayout) (at : ℕ) (old now new : A) → TakesRead takes (run (one s) x end at) old now → ((to : ℕ) → Ok to ≡ end_or_flaw (run (one s) x end at) → TakesReadAll takes (row ss to) now new) → TakesReadAll takes (row (s ∷ ss) at) old new
+    cons_ends s ss at old now new h t = by_end (end_or_flaw (run (one s) x end at)) refl
       where
-        by_end : (r : Result ℕ Flaw) → seen (run (one s) x end at) ≡ r → TakesReadAll takes (row (s ∷ ss) at) old new
-        by_end (Ok to) e = cons_taken takes x end at (one s) (row_format (levels + 1) k ss) to old now new e h (t to (sym e))
-        by_end (Err w) e = no_value (row (s ∷ ss) at) w (λ got. _) (sym (seen-for_each s ss one x end at ∙ ap (λ r. then_at r (λ p. seen (row ss p))) e))
+        by_end : (r : Result ℕ Flaw) → end_or_flaw (run (one s) x end at) ≡ r → TakesReadAll takes (row (s ∷ ss) at) old new
+        by_end (Ok to) e = cons_taken takes x end at (one s) (values_format (levels + 1) k ss) to old now new e h (t to (sym e))
+        by_end (Err w) e = no_value (row (s ∷ ss) at) w (λ got. _) (sym (end_or_flaw-for_each s ss one x end at ∙ ap (λ r. then_at r (λ p. end_or_flaw (row ss p))) e))
 
     alone_taken : (s : FieldLayout) (at : ℕ) (old new : A) → TakesRead takes (run (one s) x end at) old new → TakesReadAll takes (row (s ∷ []) at) old new
     unfolding run
@@ -223,44 +223,44 @@ module _ (k : Classes) (levels : ℕ) (x : List ℕ) (end : ℕ) where
     each : AllByRecursion (IsFieldLayout k) (f.start ∷ f.duration ∷ f.threads ∷ f.traces ∷ [])
     each = subst (AllByRecursion (IsFieldLayout k)) f.all i
 
-    begun_seen : (at : ℕ) → seen (run (times 2 integer) x end at) ≡ seen (row begun at)
+    begun_seen : (at : ℕ) → end_or_flaw (run (times 2 integer) x end at) ≡ end_or_flaw (row begun at)
     begun_seen at = integers_seen 2 begun at (each.0, (each.1.0, tt)) (refl, (f.start_is, (f.duration_is, tt)))
 
-    thread_seen : (at : ℕ) → seen (run integer x end at) ≡ seen (row (f.threads ∷ []) at)
+    thread_seen : (at : ℕ) → end_or_flaw (run integer x end at) ≡ end_or_flaw (row (f.threads ∷ []) at)
     thread_seen at = key_seen thread (f.threads ∷ []) at (each.1.1.0, tt) (f.threads, refl, f.thread_is)
 
-    trace_seen : (at : ℕ) → seen (run integer x end at) ≡ seen (row (f.traces ∷ []) at)
+    trace_seen : (at : ℕ) → end_or_flaw (run integer x end at) ≡ end_or_flaw (row (f.traces ∷ []) at)
     trace_seen at = key_seen trace (f.traces ∷ []) at (each.1.1.1.0, tt) (f.traces, refl, f.trace_is)
 
     -- The keys after the integers, and the trace after the thread.
-    behind : (at : ℕ) → seen (row ss at) ≡ then_at (seen (run (times 2 integer) x end at)) (λ p. seen (row (f.threads ∷ f.traces ∷ []) p))
+    behind : (at : ℕ) → end_or_flaw (row ss at) ≡ then_at (end_or_flaw (run (times 2 integer) x end at)) (λ p. end_or_flaw (row (f.threads ∷ f.traces ∷ []) p))
     behind at =
-        ap (λ z. seen (row z at)) f.all
+        ap (λ z. end_or_flaw (row z at)) f.all
         ∙ (both_seen one x end begun (f.threads ∷ f.traces ∷ []) at
-        ∙ ap (λ r. then_at r (λ p. seen (row (f.threads ∷ f.traces ∷ []) p))) (sym (begun_seen at)))
+        ∙ ap (λ r. then_at r (λ p. end_or_flaw (row (f.threads ∷ f.traces ∷ []) p))) (sym (begun_seen at)))
 
-    keys_seen : (at : ℕ) → seen (row (f.threads ∷ f.traces ∷ []) at) ≡ then_at (seen (run integer x end at)) (λ p. seen (run integer x end p))
+    keys_seen : (at : ℕ) → end_or_flaw (row (f.threads ∷ f.traces ∷ []) at) ≡ then_at (end_or_flaw (run integer x end at)) (λ p. end_or_flaw (run integer x end p))
     keys_seen at =
         both_seen one x end (f.threads ∷ []) (f.traces ∷ []) at
-        ∙ then_same (seen (row (f.threads ∷ []) at)) (seen (run integer x end at)) (λ p. seen (row (f.traces ∷ []) p)) (λ p. seen (run integer x end p)) (sym (thread_seen at)) (λ p. sym (trace_seen p))
+        ∙ then_same (end_or_flaw (row (f.threads ∷ []) at)) (end_or_flaw (run integer x end at)) (λ p. end_or_flaw (row (f.traces ∷ []) p)) (λ p. end_or_flaw (run integer x end p)) (sym (thread_seen at)) (λ p. sym (trace_seen p))
 
     -- Where its parts end.
     abbrev then_keys : ℕ → Result ℕ Flaw
-    then_keys p = then_at (seen (run integer x end p)) (λ q. seen (run integer x end q))
+    then_keys p = then_at (end_or_flaw (run integer x end p)) (λ q. end_or_flaw (run integer x end q))
 
-    front_seen : (at : ℕ) → seen (row ss at) ≡ then_at (seen (run (times 2 integer) x end at)) then_keys
-    front_seen at = behind at ∙ then_same (seen (run (times 2 integer) x end at)) (seen (run (times 2 integer) x end at)) (λ p. seen (row (f.threads ∷ f.traces ∷ []) p)) then_keys refl (λ p. keys_seen p)
+    front_seen : (at : ℕ) → end_or_flaw (row ss at) ≡ then_at (end_or_flaw (run (times 2 integer) x end at)) then_keys
+    front_seen at = behind at ∙ then_same (end_or_flaw (run (times 2 integer) x end at)) (end_or_flaw (run (times 2 integer) x end at)) (λ p. end_or_flaw (row (f.threads ∷ f.traces ∷ []) p)) then_keys refl (λ p. keys_seen p)
 
-    pub begun_fails : (at : ℕ) (w : Flaw) → Err w ≡ seen (run (times 2 integer) x end at) → Err w ≡ seen (row ss at)
+    pub begun_fails : (at : ℕ) (w : Flaw) → Err w ≡ end_or_flaw (run (times 2 integer) x end at) → Err w ≡ end_or_flaw (row ss at)
     begun_fails at w e = ap (λ r. then_at r then_keys) e ∙ sym (front_seen at)
 
-    pub thread_fails : (at threads : ℕ) (w : Flaw) → Ok threads ≡ seen (run (times 2 integer) x end at) → Err w ≡ seen (run integer x end threads) → Err w ≡ seen (row ss at)
-    thread_fails at threads w p e = ap (λ r. then_at r (λ q. seen (run integer x end q))) e ∙ (ap (λ r. then_at r then_keys) p ∙ sym (front_seen at))
+    pub thread_fails : (at threads : ℕ) (w : Flaw) → Ok threads ≡ end_or_flaw (run (times 2 integer) x end at) → Err w ≡ end_or_flaw (run integer x end threads) → Err w ≡ end_or_flaw (row ss at)
+    thread_fails at threads w p e = ap (λ r. then_at r (λ q. end_or_flaw (run integer x end q))) e ∙ (ap (λ r. then_at r then_keys) p ∙ sym (front_seen at))
 
-    pub front_ends : (at threads traces : ℕ) (r : Result ℕ Flaw) → Ok threads ≡ seen (run (times 2 integer) x end at) → Ok traces ≡ seen (run integer x end threads) → r ≡ seen (run integer x end traces) → r ≡ seen (row ss at)
-    front_ends at threads traces r p q e = e ∙ (ap (λ r. then_at r (λ q. seen (run integer x end q))) q ∙ (ap (λ r. then_at r then_keys) p ∙ sym (front_seen at)))
+    pub front_ends : (at threads traces : ℕ) (r : Result ℕ Flaw) → Ok threads ≡ end_or_flaw (run (times 2 integer) x end at) → Ok traces ≡ end_or_flaw (run integer x end threads) → r ≡ end_or_flaw (run integer x end traces) → r ≡ end_or_flaw (row ss at)
+    front_ends at threads traces r p q e = e ∙ (ap (λ r. then_at r (λ q. end_or_flaw (run integer x end q))) q ∙ (ap (λ r. then_at r then_keys) p ∙ sym (front_seen at)))
 
-    pub front_taken : {A : Type 0} (takes : ℕ × ℕ → A → A → Type 0) (at threads traces : ℕ) (old now new : A) → Ok threads ≡ seen (run (times 2 integer) x end at) → Ok traces ≡ seen (run integer x end threads)
+    pub front_taken : {A : Type 0} (takes : ℕ × ℕ → A → A → Type 0) (at threads traces : ℕ) (old now new : A) → Ok threads ≡ end_or_flaw (run (times 2 integer) x end at) → Ok traces ≡ end_or_flaw (run integer x end threads)
         → IfOk (run integer x end threads) (λ key. takes (thread, key.value) old now) → IfOk (run integer x end traces) (λ key. takes (trace, key.value) now new) → TakesReadAll takes (row ss at) old new
     front_taken takes at threads traces old now new p q h t =
         subst (λ z. TakesReadAll takes (row z at) old new) (sym f.all)
@@ -295,29 +295,29 @@ module _ (ss : List FieldLayout) (fused_fields : List FusedFields) where
 
   module _ (k : Classes) (levels : ℕ) (x : List ℕ) (end : ℕ) where
     abbrev by_fused : ℕ → ℕ → Answer (List Value)
-    by_fused i at = run (row_format (levels + 1) k (left_by i)) x end at
+    by_fused i at = run (values_format (levels + 1) k (left_by i)) x end at
 
     left_none : (i : ℕ) → length fused_fields ≤ i → left_by i ≡ []
     left_none i h = ap (flat_map (passed_by ss)) (drop_all i fused_fields h)
 
-    pub fused_end : (i at : ℕ) → length fused_fields ≤ i → seen (by_fused i at) ≡ Ok at
+    pub fused_end : (i at : ℕ) → length fused_fields ≤ i → end_or_flaw (by_fused i at) ≡ Ok at
     unfolding run
-    fused_end i at h = ap (λ z. seen (run (row_format (levels + 1) k z) x end at)) (left_none i h)
+    fused_end i at h = ap (λ z. end_or_flaw (run (values_format (levels + 1) k z) x end at)) (left_none i h)
 
-    pub fused_taken : {A : Type 0} (takes : ℕ × ℕ → A → A → Type 0) (all : Answer (List Value)) (i at : ℕ) (old now : A) → length fused_fields ≤ i → TakesLeft takes all (by_fused i at) old now → TakesReadAll takes all old now
+    pub fused_taken : {A : Type 0} (takes : ℕ × ℕ → A → A → Type 0) (all : Answer (List Value)) (i at : ℕ) (old now : A) → length fused_fields ≤ i → TakesRemaining takes all (by_fused i at) old now → TakesReadAll takes all old now
     unfolding run
-    fused_taken takes all i at old now h l = l.then_all now (subst (λ z. TakesReadAll takes (run (row_format (levels + 1) k z) x end at) now now) (sym (left_none i h)) refl)
+    fused_taken takes all i at old now h l = l.then_all now (subst (λ z. TakesReadAll takes (run (values_format (levels + 1) k z) x end at) now now) (sym (left_none i h)) refl)
 
-    pub fused_step : (i at : ℕ) (d : FusedFields) → i < length fused_fields → seen (by_fused i at) ≡ then_at (seen (run (row_format (levels + 1) k (passed_by ss (get_or fused_fields i d))) x end at)) (λ p. seen (by_fused (i + 1) p))
+    pub fused_step : (i at : ℕ) (d : FusedFields) → i < length fused_fields → end_or_flaw (by_fused i at) ≡ then_at (end_or_flaw (run (values_format (levels + 1) k (passed_by ss (get_or fused_fields i d))) x end at)) (λ p. end_or_flaw (by_fused (i + 1) p))
     fused_step i at d h =
-        ap (λ z. seen (run (row_format (levels + 1) k z) x end at)) (left_next i d h)
+        ap (λ z. end_or_flaw (run (values_format (levels + 1) k z) x end at)) (left_next i d h)
         ∙ both_seen (λ (s : FieldLayout). shape_format (class_format (levels + 1) k) s.shape) x end (passed_by ss (get_or fused_fields i d)) (left_by (i + 1)) at
 
-    pub fused_goes : {A : Type 0} (takes : ℕ × ℕ → A → A → Type 0) (all : Answer (List Value)) (i at to : ℕ) (d : FusedFields) (old now new : A) → i < length fused_fields → TakesLeft takes all (by_fused i at) old now
-        → Ok to ≡ seen (run (row_format (levels + 1) k (passed_by ss (get_or fused_fields i d))) x end at) → TakesReadAll takes (run (row_format (levels + 1) k (passed_by ss (get_or fused_fields i d))) x end at) now new
-        → TakesLeft takes all (by_fused (i + 1) to) old new
+    pub fused_goes : {A : Type 0} (takes : ℕ × ℕ → A → A → Type 0) (all : Answer (List Value)) (i at to : ℕ) (d : FusedFields) (old now new : A) → i < length fused_fields → TakesRemaining takes all (by_fused i at) old now
+        → Ok to ≡ end_or_flaw (run (values_format (levels + 1) k (passed_by ss (get_or fused_fields i d))) x end at) → TakesReadAll takes (run (values_format (levels + 1) k (passed_by ss (get_or fused_fields i d))) x end at) now new
+        → TakesRemaining takes all (by_fused (i + 1) to) old new
     fused_goes takes all i at to d old now new h l e t = record {
       then_all = λ last u. l.then_all last
-          (subst (λ z. TakesReadAll takes (run (row_format (levels + 1) k z) x end at) now last) (sym (left_next i d h))
+          (subst (λ z. TakesReadAll takes (run (values_format (levels + 1) k z) x end at) now last) (sym (left_next i d h))
           (both_taken (λ (s : FieldLayout). shape_format (class_format (levels + 1) k) s.shape) x end takes (passed_by ss (get_or fused_fields i d)) (left_by (i + 1)) at to now new last e t u));
     }

@@ -9,7 +9,7 @@ use Rattle.std.proofs.lemmas.Bool.{cases_lt, ltb-true, ltb-false}
 use Rattle.std.proofs.lemmas.List.{get_or-take, get_or-drop, get_or-map, length-take, length-drop}
 use Rattle.std.proofs.lemmas.Nat.Bits.{bit_at_or, bit_at-zero, bit_at-lt, bit_at-pow_same, bit_at-pow_other, bit_at-trailing_zeros}
 use Rattle.std.proofs.lemmas.Simd.{bit_mask_l}
-use Rattle.jfr_base.specs.Formats.{integer, run, seen}
+use Rattle.jfr_base.specs.Formats.{integer, run, end_or_flaw}
 use Rattle.jfr_value.specs.Groups.{AreLastGroups}
 use Rattle.jfr_value.proofs.SkipLaws.{skip_all, skip_end}
 use lib.Lanes.{mask_l}
@@ -78,7 +78,7 @@ module _ (lasts from : ℕ) (small : lasts < 2 ^ 64) where
 
 -- An integer of the bytes whose last group is one of the sixteen.
 pub last_there : (x : List ℕ) (at end lasts from count : ℕ) → AreLastGroups x at lasts → AreWithMore lasts from count → from + count < 16 → at + from + count < end → end ≤ length x
-    → Ok (at + from + count + 1) ≡ seen (run integer x end (at + from))
+    → Ok (at + from + count + 1) ≡ end_or_flaw (run integer x end (at + from))
 last_there x at end lasts from count bits w inside upto within =
     skip_end x (at + from) end count (skip_all x (at + from) end count w.range (omega (arith, upto)) within more) upto within
     (elim (cases_lt count 8) [

@@ -2,7 +2,7 @@
 use Rattle.std.specs.Prelude.{◌≡◌, ◌≢◌, ℕ, ◌+◌, ◌-◌, ◌≤◌, Bool, true, false, List, [], ◌∷◌, map, slice_get, Some, IfOk, IfSome, option_map, option_to_list, if◌then◌else◌}
 use Rattle.std.specs.List.{AllByRecursion}
 use Rattle.std.proofs.Common.{ap, arith, subst, sym, ◌∙◌}
-use Rattle.jfr_base.specs.Formats.{Answer, Format, Done, Int, for_each, run, seen, unchecked}
+use Rattle.jfr_base.specs.Formats.{Answer, Format, Done, Int, for_each, run, end_or_flaw, unchecked}
 use Rattle.jfr_layout.specs.Classes.{AreFieldLayouts, Classes, Field, IsFieldLayout, item_of}
 use Rattle.jfr_layout.specs.declared.form.Form.{Form}
 use Rattle.jfr_layout.specs.declared.form.Form.TheVariants as forms
@@ -14,33 +14,33 @@ use Rattle.jfr_value.specs.declared.leaf.LeafKind.TheVariants as leaf_kinds
 use Rattle.jfr_value.specs.Values.{IsPlaced, Value, Single, key_of}
 use Rattle.jfr_value.specs.Reading.{base_format, class_format, shape_format}
 use Rattle.jfr_value.specs.Visits.{TakesAll, TakesRead, TakesReadAll}
-use Rattle.jfr_value.specs.Walks.{Room}
+use Rattle.jfr_value.specs.Walks.{DepthBound}
 use Rattle.jfr_value.proofs.EndLaws.{shape_item, layout_base, layout_fields}
 use Rattle.jfr_value.proofs.FormLaws.{Inline, fields_kind, inline_there, other_kind, text_kind}
 use Rattle.jfr_value.proofs.LayoutLaws.{layout_class}
-use Rattle.jfr_value.proofs.StackLaws.{inner_room}
+use Rattle.jfr_value.proofs.StackLaws.{inner_depth}
 use Rattle.jfr_value.proofs.TakingLaws.{fields_taken, item_taken, string_taken}
 
 -- An inline value by its class.
 abbrev item : (Shape → Format Value) → Shape → Bool → Format Value
 item inline s t = if t then Int unchecked (λ key b. Done (Single (item_of s) (leaf_kinds.Key key) b (Some key))) else inline (item_of s)
 
-inline_ends : (inline : Shape → Format Value) (s : Shape) (x : List ℕ) (end at : ℕ) → s.array ≡ false → s.constant ≡ false → seen (run (inline (item_of s)) x end at) ≡ seen (run (shape_format inline s) x end at)
-inline_ends inline s x end at a o = ap (λ t. seen (run (item inline s t) x end at)) (sym o) ∙ sym (shape_item inline s x end at a)
+inline_ends : (inline : Shape → Format Value) (s : Shape) (x : List ℕ) (end at : ℕ) → s.array ≡ false → s.constant ≡ false → end_or_flaw (run (inline (item_of s)) x end at) ≡ end_or_flaw (run (shape_format inline s) x end at)
+inline_ends inline s x end at a o = ap (λ t. end_or_flaw (run (item inline s t) x end at)) (sym o) ∙ sym (shape_item inline s x end at a)
 
 module _ (k : Classes) (s : FieldLayout) (levels : ℕ) (x : List ℕ) (end at : ℕ) (p : IsPlaced k s) where
   abbrev reading : Answer Value
   reading = run (shape_format (class_format (levels + 1) k) s.shape) x end at
 
-  pub base_ends : (f : Form) → Inline s f → f ≢ forms.Fields → seen (run (base_format s.kind) x end at) ≡ seen reading
+  pub base_ends : (f : Form) → Inline s f → f ≢ forms.Fields → end_or_flaw (run (base_format s.kind) x end at) ≡ end_or_flaw reading
   base_ends f i n =
       sym (layout_base (levels + 1) k s x end at (omega arith) (p.of_class i.constant) (other_kind f s.kind kinds.Composite i.form n))
       ∙ inline_ends (class_format (levels + 1) k) s.shape x end at i.array i.constant
 
-  pub text_ends : s.form ≡ forms.Text → seen (run (base_format kinds.Text) x end at) ≡ seen reading
+  pub text_ends : s.form ≡ forms.Text → end_or_flaw (run (base_format kinds.Text) x end at) ≡ end_or_flaw reading
   text_ends e =
       let i = inline_there s p.form forms.Text e tt in
-      ap (λ kind. seen (run (base_format kind) x end at)) (sym (text_kind s.kind i.form)) ∙ base_ends forms.Text i (λ q. cc)
+      ap (λ kind. end_or_flaw (run (base_format kind) x end at)) (sym (text_kind s.kind i.form)) ∙ base_ends forms.Text i (λ q. cc)
 
   -- The class of a layout of inline fields.
   pub record FieldsThere : Type 0 where
@@ -55,19 +55,19 @@ module _ (k : Classes) (s : FieldLayout) (levels : ℕ) (x : List ℕ) (end at :
       record { of_class = p.of_class i.constant; array = i.array; constant = i.constant; composite = fields_kind s.kind i.form }
 
   -- There is an inline step less for its fields.
-  pub room_left : s.form ≡ forms.Fields → Room k levels s.shape → 1 ≤ levels
-  room_left e r =
+  pub depth_remains : s.form ≡ forms.Fields → DepthBound k levels s.shape → 1 ≤ levels
+  depth_remains e r =
       let f = fields_there e in
       let c = layout_class k s f.of_class in
-      (inner_room k levels s.shape c.class r f.constant c.found (sym c.kind ∙ f.composite)).0
+      (inner_depth k levels s.shape c.class r f.constant c.found (sym c.kind ∙ f.composite)).0
 
-  pub fields_end : (ss : List FieldLayout) → s.form ≡ forms.Fields → Room k levels s.shape → IfSome (slice_get k s.class_index) (λ c. AreFieldLayouts k c.fields ss)
-      → seen (run (for_each ss (λ z. shape_format (class_format (levels - 1 + 1) k) z.shape)) x end at) ≡ seen reading
+  pub fields_end : (ss : List FieldLayout) → s.form ≡ forms.Fields → DepthBound k levels s.shape → IfSome (slice_get k s.class_index) (λ c. AreFieldLayouts k c.fields ss)
+      → end_or_flaw (run (for_each ss (λ z. shape_format (class_format (levels - 1 + 1) k) z.shape)) x end at) ≡ end_or_flaw reading
   fields_end ss e r a =
       let f = fields_there e in
-      let l : 1 ≤ levels = room_left e r in
+      let l : 1 ≤ levels = depth_remains e r in
       let m : levels - 1 + 1 ≡ levels + 1 - 1 = omega arith in
-      ap (λ n. seen (run (for_each ss (λ z. shape_format (class_format n k) z.shape)) x end at)) m
+      ap (λ n. end_or_flaw (run (for_each ss (λ z. shape_format (class_format n k) z.shape)) x end at)) m
       ∙ (sym (layout_fields (levels + 1) k s ss x end at (omega arith) f.of_class f.composite a)
       ∙ inline_ends (class_format (levels + 1) k) s.shape x end at f.array f.constant)
 
@@ -82,28 +82,28 @@ module _ (k : Classes) (s : FieldLayout) (levels : ℕ) (x : List ℕ) (end at :
         let i = inline_there s p.form forms.Text e tt in
         inline_taken i.array i.constant (string_taken takes x end at (levels + 1) k s old new (omega arith) (p.of_class i.constant) (text_kind s.kind i.form) h)
 
-    pub fields_go : (ss : List FieldLayout) → s.form ≡ forms.Fields → Room k levels s.shape → IfSome (slice_get k s.class_index) (λ c. AreFieldLayouts k c.fields ss)
+    pub fields_go : (ss : List FieldLayout) → s.form ≡ forms.Fields → DepthBound k levels s.shape → IfSome (slice_get k s.class_index) (λ c. AreFieldLayouts k c.fields ss)
         → TakesReadAll takes (run (for_each ss (λ z. shape_format (class_format (levels - 1 + 1) k) z.shape)) x end at) old new → TakesRead takes reading old new
     fields_go ss e r a h =
         let f = fields_there e in
-        let l : 1 ≤ levels = room_left e r in
+        let l : 1 ≤ levels = depth_remains e r in
         let m : levels - 1 + 1 ≡ levels + 1 - 1 = omega arith in
         inline_taken f.array f.constant (fields_taken takes x end at (levels + 1) k s ss old new (omega arith) f.of_class f.composite a
         (subst (λ n. TakesReadAll takes (run (for_each ss (λ z. shape_format (class_format n k) z.shape)) x end at) old new) m h))
 
 -- The room for each field of a layout's class.
-room_each : (k : Classes) (levels : ℕ) (fs : List Field) (ss : List FieldLayout) → map (λ s. s.shape) ss ≡ map (λ f. f.shape) fs → AllByRecursion (λ f. Room k levels f.shape) fs → AllByRecursion (λ s. Room k levels s.shape) ss
-room_each k levels fs [] e a = tt
-room_each k levels [] (s ∷ ss) e a = cc
-room_each k levels (f ∷ fs) (s ∷ ss) e a =
+depth_of_each : (k : Classes) (levels : ℕ) (fs : List Field) (ss : List FieldLayout) → map (λ s. s.shape) ss ≡ map (λ f. f.shape) fs → AllByRecursion (λ f. DepthBound k levels f.shape) fs → AllByRecursion (λ s. DepthBound k levels s.shape) ss
+depth_of_each k levels fs [] e a = tt
+depth_of_each k levels [] (s ∷ ss) e a = cc
+depth_of_each k levels (f ∷ fs) (s ∷ ss) e a =
     let q : f.shape ≡ s.shape = (let z : s.shape ∷ map (λ s. s.shape) ss ≡ f.shape ∷ map (λ f. f.shape) fs = e in cc) in
     let r : map (λ s. s.shape) ss ≡ map (λ f. f.shape) fs = (let z : s.shape ∷ map (λ s. s.shape) ss ≡ f.shape ∷ map (λ f. f.shape) fs = e in cc) in
-    (subst (Room k levels) q a.0, room_each k levels fs ss r a.1)
+    (subst (DepthBound k levels) q a.0, depth_of_each k levels fs ss r a.1)
 
-pub room_within : (k : Classes) (s : FieldLayout) (levels : ℕ) (ss : List FieldLayout) → IsPlaced k s → s.form ≡ forms.Fields → Room k levels s.shape → IfSome (slice_get k s.class_index) (λ c. AreFieldLayouts k c.fields ss)
-    → AllByRecursion (λ z. Room k (levels - 1) z.shape) ss
-room_within k s levels ss p e r a =
+pub depth_within : (k : Classes) (s : FieldLayout) (levels : ℕ) (ss : List FieldLayout) → IsPlaced k s → s.form ≡ forms.Fields → DepthBound k levels s.shape → IfSome (slice_get k s.class_index) (λ c. AreFieldLayouts k c.fields ss)
+    → AllByRecursion (λ z. DepthBound k (levels - 1) z.shape) ss
+depth_within k s levels ss p e r a =
     let i = inline_there s p.form forms.Fields e tt in
     let c = layout_class k s (p.of_class i.constant) in
-    room_each k (levels - 1) c.class.fields ss (subst (λ o. IfSome o (λ c. AreFieldLayouts k c.fields ss)) c.there a).shapes
-    (inner_room k levels s.shape c.class r i.constant c.found (sym c.kind ∙ fields_kind s.kind i.form)).1
+    depth_of_each k (levels - 1) c.class.fields ss (subst (λ o. IfSome o (λ c. AreFieldLayouts k c.fields ss)) c.there a).shapes
+    (inner_depth k levels s.shape c.class r i.constant c.found (sym c.kind ∙ fields_kind s.kind i.form)).1

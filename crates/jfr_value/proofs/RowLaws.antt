@@ -6,9 +6,9 @@ use Rattle.jfr_layout.specs.Classes.{Class, Classes, find_class, kind_of}
 use Rattle.jfr_layout.specs.declared.shape.Shape.{Shape}
 use Rattle.jfr_layout.specs.declared.field_layout.FieldLayout.{FieldLayout}
 use Rattle.jfr_value.specs.Values.{Value, Values, Single, Group, Nil, Cons, list_of, shape_of, shapes_of, bytes_of, bytes_of_all, IsBase, IsSingle, IsHead, Fits, AllFit, IsHollow}
-use Rattle.jfr_value.specs.Nodes.{node_at, IsNode, IsRow, laid}
+use Rattle.jfr_value.specs.Nodes.{node_at, IsNode, AreValues, laid}
 
-pub row_stands : (k : Classes) (c : List ℕ) (at to : ℕ) (ss : List Shape) (vs : Values) → IsRow k c at to ss vs → Stands c at to (bytes_of_all vs)
+pub row_stands : (k : Classes) (c : List ℕ) (at to : ℕ) (ss : List Shape) (vs : Values) → AreValues k c at to ss vs → Stands c at to (bytes_of_all vs)
 row_stands k c at to ss vs r = record { order = r.order; within = r.within; bytes = r.bytes }
 
 -- The offset of the value with this number.
@@ -23,7 +23,7 @@ pub record PartAt (k : Classes) (c : List ℕ) (at to : ℕ) (vs : Values) (i : 
   pub within : start_of at vs (i + 1) ≤ to
   pub is : slice_get (laid at (list_of vs)) i ≡ Some (node_at s (start_of at vs i) (start_of at vs (i + 1)))
 
-pub row_at : (k : Classes) (c : List ℕ) (at to : ℕ) (ss : List Shape) (vs : Values) (i : ℕ) (s : Shape) → IsRow k c at to ss vs → slice_get ss i ≡ Some s → PartAt k c at to vs i s
+pub row_at : (k : Classes) (c : List ℕ) (at to : ℕ) (ss : List Shape) (vs : Values) (i : ℕ) (s : Shape) → AreValues k c at to ss vs → slice_get ss i ≡ Some s → PartAt k c at to vs i s
 row_at k c at to [] vs i s r e = cc
 row_at k c at to (t ∷ ss) Nil i s r e = let h = r.of_shapes in cc
 row_at k c at to (t ∷ ss) (Cons v vs) zero s r e =

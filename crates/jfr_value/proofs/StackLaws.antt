@@ -9,13 +9,13 @@ use Rattle.jfr_layout.specs.declared.kind.Kind.TheVariants as kinds
 use Rattle.jfr_layout.specs.declared.shape.Shape.{Shape}
 use Rattle.jfr_value.specs.declared.stack.Frame.{Frame}
 use Rattle.jfr_value.specs.declared.stack.Frame.TheVariants.{Fields, Items}
-use Rattle.jfr_value.specs.Walks.{Room, IsFrame, AreFrames, frame_shapes, shapes_left}
+use Rattle.jfr_value.specs.Walks.{DepthBound, IsFrame, AreFrames, frame_shapes, remaining_shapes}
 use Rattle.jfr_value.proofs.DepthLaws.{any_none, steps_to}
 
 -- What a pushed frame has comes first.
-pub shapes_push : (k : Classes) (fs : List Frame) (f : Frame) → shapes_left k (fs ++ f ∷ []) ≡ frame_shapes k f ++ shapes_left k fs
+pub shapes_push : (k : Classes) (fs : List Frame) (f : Frame) → remaining_shapes k (fs ++ f ∷ []) ≡ frame_shapes k f ++ remaining_shapes k fs
 shapes_push k [] f = sym (append-nil (frame_shapes k f))
-shapes_push k (g ∷ fs) f = ap (λ z. z ++ frame_shapes k g) (shapes_push k fs f) ∙ append_assoc (frame_shapes k f) (shapes_left k fs) (frame_shapes k g)
+shapes_push k (g ∷ fs) f = ap (λ z. z ++ frame_shapes k g) (shapes_push k fs f) ∙ append_assoc (frame_shapes k f) (remaining_shapes k fs) (frame_shapes k g)
 
 pub frames_push : (k : Classes) (h n : ℕ) (fs : List Frame) (f : Frame) → n ≡ suc (h + length fs) → AreFrames k h fs → IsFrame k n f → AreFrames k h (fs ++ f ∷ [])
 frames_push k h n [] f e a i = (subst (λ z. IsFrame k z f) (let q : n ≡ suc h = omega arith in q) i, tt)
@@ -58,11 +58,11 @@ no_fields k place number levels h = by_class (slice_get k place) h
     by_class None h = refl
     by_class (Some c) h = ap (map (λ f. f.shape)) (drop_past c.fields number h)
 
-pub next_item : (k : Classes) (s : Shape) (place left n levels : ℕ) → left ≡ suc n → frame_shapes k (Items s place left levels) ≡ s ∷ frame_shapes k (Items s place n levels)
-next_item k s place left n levels e = ap (λ z. replicate z s) e
+pub next_item : (k : Classes) (s : Shape) (place remaining n levels : ℕ) → remaining ≡ suc n → frame_shapes k (Items s place remaining levels) ≡ s ∷ frame_shapes k (Items s place n levels)
+next_item k s place remaining n levels e = ap (λ z. replicate z s) e
 
-pub no_items : (k : Classes) (s : Shape) (place left levels : ℕ) → left ≡ 0 → frame_shapes k (Items s place left levels) ≡ []
-no_items k s place left levels e = ap (λ z. replicate z s) e
+pub no_items : (k : Classes) (s : Shape) (place remaining levels : ℕ) → remaining ≡ 0 → frame_shapes k (Items s place remaining levels) ≡ []
+no_items k s place remaining levels e = ap (λ z. replicate z s) e
 
 -- The room for a field.
 all_get : {X : Type 0} (P : X → Type 0) (xs : List X) (i : ℕ) (x : X) → AllByRecursion P xs → slice_get xs i ≡ Some x → P x
@@ -70,32 +70,32 @@ all_get P [] i x a e = cc
 all_get P (y ∷ xs) zero x a e = let h : y ≡ x = cc in subst P h a.0
 all_get P (y ∷ xs) (suc i) x a e = all_get P xs i x a.1 e
 
-pub field_room : (k : Classes) (height place number levels : ℕ) (f : Field) → IsFrame k height (Fields place number levels) → field_at k place number ≡ Some f → Room k levels f.shape
-field_room k height place number levels f i e = let t = field_there k place number f e in all_get (λ f. Room k levels f.shape) t.0.fields number f (i.2 t.0 t.1) t.2
+pub field_depth : (k : Classes) (height place number levels : ℕ) (f : Field) → IsFrame k height (Fields place number levels) → field_at k place number ≡ Some f → DepthBound k levels f.shape
+field_depth k height place number levels f i e = let t = field_there k place number f e in all_get (λ f. DepthBound k levels f.shape) t.0.fields number f (i.2 t.0 t.1) t.2
 
 -- Into a composite class there is an inline step less.
-rooms : (k : Classes) (n : ℕ) (fs : List Field) → AllByRecursion (λ f. option_map_or (λ d. goes_inline n k d) (step_class k f) false ≡ false) fs → AllByRecursion (λ f. Room k n f.shape) fs
+rooms : (k : Classes) (n : ℕ) (fs : List Field) → AllByRecursion (λ f. option_map_or (λ d. goes_inline n k d) (step_class k f) false ≡ false) fs → AllByRecursion (λ f. DepthBound k n f.shape) fs
 rooms k n [] a = tt
 rooms k n (f ∷ fs) a = (λ o d q c. ap (λ z. option_map_or (λ d. goes_inline n k d) z false) (sym (steps_to k f d o q c)) ∙ a.0, rooms k n fs a.1)
 
-pub inner_room : (k : Classes) (levels : ℕ) (s : Shape) (d : Class) → Room k levels s → s.constant ≡ false → find_class k s.class ≡ Some d → kind_of d.name ≡ kinds.Composite → (1 ≤ levels) × AllByRecursion (λ f. Room k (levels - 1) f.shape) d.fields
-inner_room k zero s d r o q m = let z : true ≡ false = r o d q (ap is_composite m) in cc
-inner_room k (suc n) s d r o q m =
+pub inner_depth : (k : Classes) (levels : ℕ) (s : Shape) (d : Class) → DepthBound k levels s → s.constant ≡ false → find_class k s.class ≡ Some d → kind_of d.name ≡ kinds.Composite → (1 ≤ levels) × AllByRecursion (λ f. DepthBound k (levels - 1) f.shape) d.fields
+inner_depth k zero s d r o q m = let z : true ≡ false = r o d q (ap is_composite m) in cc
+inner_depth k (suc n) s d r o q m =
     let g = r o d q (ap is_composite m) in
     let i : inline_fields d ≡ d.fields = ap (λ t. if is_composite t then d.fields else []) m in
     let e : suc n - 1 ≡ n = omega arith in (
       omega arith,
-      subst (λ z. AllByRecursion (λ f. Room k z f.shape) d.fields) (sym e)
+      subst (λ z. AllByRecursion (λ f. DepthBound k z f.shape) d.fields) (sym e)
           (rooms k n d.fields (subst (AllByRecursion (λ f. option_map_or (λ d. goes_inline n k d) (step_class k f) false ≡ false)) i (any_none (λ f. option_map_or (λ d. goes_inline n k d) (step_class k f) false) (inline_fields d) g))),
     )
 
 -- The frame of the fields of a composite value.
-pub fields_frame : (k : Classes) (height levels place : ℕ) (s : Shape) (d : Class) → Room k levels s → s.constant ≡ false → find_class k s.class ≡ Some d → slice_get k place ≡ Some d → place < length k → kind_of d.name ≡ kinds.Composite → height + 2 * levels ≤ 68
+pub fields_frame : (k : Classes) (height levels place : ℕ) (s : Shape) (d : Class) → DepthBound k levels s → s.constant ≡ false → find_class k s.class ≡ Some d → slice_get k place ≡ Some d → place < length k → kind_of d.name ≡ kinds.Composite → height + 2 * levels ≤ 68
     → IsFrame k (suc height) (Fields place 0 (levels - 1))
 fields_frame k height levels place s d r o q p l m b =
-    let i = inner_room k levels s d r o q m in
+    let i = inner_depth k levels s d r o q m in
     let z : 1 ≤ levels = i.0 in
-    (omega arith, l, λ c e. (let h : d ≡ c = cc in subst (λ (y : Class). AllByRecursion (λ f. Room k (levels - 1) f.shape) y.fields) h i.1))
+    (omega arith, l, λ c e. (let h : d ≡ c = cc in subst (λ (y : Class). AllByRecursion (λ f. DepthBound k (levels - 1) f.shape) y.fields) h i.1))
 
 pub either_height : (b : Bool) (n : ℕ) → n ≤ 67 → n ≤ (if b then 67 else 68)
 either_height true n h = h
@@ -114,29 +114,29 @@ fields_from_start k place levels d q = ap (λ o. option_map_or (λ c. map (λ f.
 
 -- A frame that goes on with its next value.
 pub pushed_field : (k : Classes) (fs new : List Frame) (place number levels : ℕ) (f : Field) (s : Shape) → field_at k place number ≡ Some f → s ≡ f.shape → new ≡ fs ++ Fields place (number + 1) levels ∷ []
-    → frame_shapes k (Fields place number levels) ++ shapes_left k fs ≡ s ∷ shapes_left k new
+    → frame_shapes k (Fields place number levels) ++ remaining_shapes k fs ≡ s ∷ remaining_shapes k new
 pushed_field k fs new place number levels f s e q n =
-    ap (λ z. z ++ shapes_left k fs) (next_field k place number levels f e)
-    ∙ (ap (λ z. z ∷ (frame_shapes k (Fields place (number + 1) levels) ++ shapes_left k fs)) (sym q)
-    ∙ ap (λ z. s ∷ z) (sym (ap (shapes_left k) n ∙ shapes_push k fs (Fields place (number + 1) levels))))
+    ap (λ z. z ++ remaining_shapes k fs) (next_field k place number levels f e)
+    ∙ (ap (λ z. z ∷ (frame_shapes k (Fields place (number + 1) levels) ++ remaining_shapes k fs)) (sym q)
+    ∙ ap (λ z. s ∷ z) (sym (ap (remaining_shapes k) n ∙ shapes_push k fs (Fields place (number + 1) levels))))
 
-pub pushed_item : (k : Classes) (fs new : List Frame) (s : Shape) (place left levels : ℕ) → 0 < left → new ≡ fs ++ Items s place (left - 1) levels ∷ [] → frame_shapes k (Items s place left levels) ++ shapes_left k fs ≡ s ∷ shapes_left k new
-pushed_item k fs new s place left levels l n =
-    ap (λ z. z ++ shapes_left k fs) (next_item k s place left (left - 1) levels (omega arith))
-    ∙ ap (λ z. s ∷ z) (sym (ap (shapes_left k) n ∙ shapes_push k fs (Items s place (left - 1) levels)))
+pub pushed_item : (k : Classes) (fs new : List Frame) (s : Shape) (place remaining levels : ℕ) → 0 < remaining → new ≡ fs ++ Items s place (remaining - 1) levels ∷ [] → frame_shapes k (Items s place remaining levels) ++ remaining_shapes k fs ≡ s ∷ remaining_shapes k new
+pushed_item k fs new s place remaining levels l n =
+    ap (λ z. z ++ remaining_shapes k fs) (next_item k s place remaining (remaining - 1) levels (omega arith))
+    ∙ ap (λ z. s ∷ z) (sym (ap (remaining_shapes k) n ∙ shapes_push k fs (Items s place (remaining - 1) levels)))
 
 -- What a stack has before a frame is taken from it.
 pub record Popped (k : Classes) (fs gs : List Frame) (f : Frame) : Type 0 where
   pub frames : AreFrames k 0 gs
   pub frame : IsFrame k (length gs + 1) f
-  pub shapes : shapes_left k fs ≡ frame_shapes k f ++ shapes_left k gs
+  pub shapes : remaining_shapes k fs ≡ frame_shapes k f ++ remaining_shapes k gs
   pub height : length fs ≡ length gs + 1
 
 pub popped : (k : Classes) (fs gs : List Frame) (g f : Frame) → fs ≡ gs ++ g ∷ [] → g ≡ f → AreFrames k 0 fs → Popped k fs gs f
 popped k fs gs g f e q a =
     let h : fs ≡ gs ++ f ∷ [] = e ∙ ap (λ (z : Frame). gs ++ z ∷ []) q in
     let p = frames_pop k 0 (length gs + 1) gs f (omega arith) (subst (λ (z : List Frame). AreFrames k 0 z) h a) in
-    record { frames = p.0; frame = p.1; shapes = ap (shapes_left k) h ∙ shapes_push k gs f; height = ap length h ∙ length-append gs (f ∷ []) }
+    record { frames = p.0; frame = p.1; shapes = ap (remaining_shapes k) h ∙ shapes_push k gs f; height = ap length h ∙ length-append gs (f ∷ []) }
 
 pub nothing_left : (fs : List Frame) → IsSome {T = Frame} None ↔ (0 < length fs) → fs ≡ []
 nothing_left [] h = refl

@@ -5,8 +5,8 @@ use Rattle.jfr_base.specs.declared.flaw.Flaw.{Flaw}
 use Rattle.jfr_base.specs.declared.integer.Var.{Var}
 use Rattle.jfr_base.specs.declared.reason.Reason.{Reason}
 use Rattle.jfr_base.specs.declared.reason.Reason.TheVariants.{Short, Trailing}
-use Rattle.jfr_base.specs.Formats.{Answer, Format, Got, Done, Stop, Int, Byte, Run, Here, Refuse, ◌>>=◌, on, checked, refused, int_at, for_each, unchecked, after_int, run, seen, times, with_bytes}
-use Rattle.jfr_base.proofs.Exact.{Says, run_says}
+use Rattle.jfr_base.specs.Formats.{Answer, Format, Got, Done, Stop, Int, Byte, Run, Here, Refuse, ◌>>=◌, on, checked, refused, int_at, for_each, unchecked, after_int, run, end_or_flaw, times, with_bytes}
+use Rattle.jfr_base.proofs.Exact.{ReadsOrFails, run_reads_or_fails}
 use Rattle.jfr_base.proofs.FormatLaws.{run-bind}
 use Rattle.jfr_layout.specs.Classes.{AreFieldLayouts, Class, Classes, IsFieldLayout, Sound, find_class, kind_of, item_of}
 use Rattle.jfr_layout.specs.declared.kind.Kind.{Kind}
@@ -26,7 +26,7 @@ use Rattle.jfr_value.proofs.TargetLaws.{targets_are}
 use Rattle.jfr_value.proofs.VisitLaws.{takes_append}
 
 -- Of an answer that is a flaw nothing is said.
-pub no_value : {A : Type 0} (r : Answer A) (e : Flaw) (P : Got A → Type 0) → Err e ≡ seen r → IfOk r P
+pub no_value : {A : Type 0} (r : Answer A) (e : Flaw) (P : Got A → Type 0) → Err e ≡ end_or_flaw r → IfOk r P
 no_value (Ok g) e P h = cc
 no_value (Err f) e P h = tt
 
@@ -178,12 +178,12 @@ module _ {A : Type 0} (takes : ℕ × ℕ → A → A → Type 0) (x : List ℕ)
       (if_made (times v.value (item_format inline (item_of s))) (λ vs. Group s (slice_range x at v.end) (values_of vs)) (λ vs. TakesAll takes (targets_of_all (values_of vs)) old new) (λ v. TakesAll takes (targets_of v) old new) x end v.end (λ vs p. p) h))
 
   -- A value and those after it.
-  pub cons_taken : (f : Format Value) (g : Format (List Value)) (to : ℕ) (old now new : A) → seen (run f x end at) ≡ Ok to → TakesRead takes (run f x end at) old now → TakesReadAll takes (run g x end to) now new
+  pub cons_taken : (f : Format Value) (g : Format (List Value)) (to : ℕ) (old now new : A) → end_or_flaw (run f x end at) ≡ Ok to → TakesRead takes (run f x end at) old now → TakesReadAll takes (run g x end to) now new
       → TakesReadAll takes (run (f >>= λ v. g >>= λ vs. Done (v ∷ vs)) x end at) old new
   cons_taken f g to old now new e h t =
       subst (λ (r : Answer (List Value)). TakesReadAll takes r old new) (sym (run-bind f (λ v. g >>= λ vs. Done (v ∷ vs)) x end at)) (by_answer (run f x end at) e h)
     where
-      by_answer : (r : Answer Value) → seen r ≡ Ok to → TakesRead takes r old now → TakesReadAll takes (on r (λ v p. run (g >>= λ vs. Done (v ∷ vs)) x end p)) old new
+      by_answer : (r : Answer Value) → end_or_flaw r ≡ Ok to → TakesRead takes r old now → TakesReadAll takes (on r (λ v p. run (g >>= λ vs. Done (v ∷ vs)) x end p)) old new
       by_answer (Ok got) e h =
           let p : got.place ≡ to = cc in
           if_made g (λ vs. got.value ∷ vs) (λ vs. TakesAll takes (targets_of_all (values_of vs)) now new) (λ vs. TakesAll takes (targets_of_all (values_of vs)) old new) x end got.place
@@ -191,30 +191,30 @@ module _ {A : Type 0} (takes : ℕ × ℕ → A → A → Type 0) (x : List ℕ)
       by_answer (Err f) e h = tt
 
 -- The targets of the values that are left, after those that were taken, are all targets.
-pub record TakesLeft {A : Type 0} (takes : ℕ × ℕ → A → A → Type 0) (all left : Answer (List Value)) (old now : A) : Type 0 where
-  pub then_all : (new : A) → TakesReadAll takes left now new → TakesReadAll takes all old new
+pub record TakesRemaining {A : Type 0} (takes : ℕ × ℕ → A → A → Type 0) (all remaining : Answer (List Value)) (old now : A) : Type 0 where
+  pub then_all : (new : A) → TakesReadAll takes remaining now new → TakesReadAll takes all old new
 
 module _ {A : Type 0} (takes : ℕ × ℕ → A → A → Type 0) (all : Answer (List Value)) (x : List ℕ) (end : ℕ) (old : A) where
-  left_goes : (f : Format Value) (g : Format (List Value)) (at to : ℕ) (now new : A) → TakesLeft takes all (run (f >>= λ v. g >>= λ vs. Done (v ∷ vs)) x end at) old now → seen (run f x end at) ≡ Ok to → TakesRead takes (run f x end at) now new
-      → TakesLeft takes all (run g x end to) old new
+  left_goes : (f : Format Value) (g : Format (List Value)) (at to : ℕ) (now new : A) → TakesRemaining takes all (run (f >>= λ v. g >>= λ vs. Done (v ∷ vs)) x end at) old now → end_or_flaw (run f x end at) ≡ Ok to → TakesRead takes (run f x end at) now new
+      → TakesRemaining takes all (run g x end to) old new
   left_goes f g at to now new l e h = record { then_all = λ last t. l.then_all last (cons_taken takes x end at f g to now new last e h t) }
 
-  pub items_go : (n i : ℕ) (f : Format Value) (at to : ℕ) (now new : A) → i < n → TakesLeft takes all (run (times (n - i) f) x end at) old now → seen (run f x end at) ≡ Ok to → TakesRead takes (run f x end at) now new
-      → TakesLeft takes all (run (times (n - (i + 1)) f) x end to) old new
+  pub items_go : (n i : ℕ) (f : Format Value) (at to : ℕ) (now new : A) → i < n → TakesRemaining takes all (run (times (n - i) f) x end at) old now → end_or_flaw (run f x end at) ≡ Ok to → TakesRead takes (run f x end at) now new
+      → TakesRemaining takes all (run (times (n - (i + 1)) f) x end to) old new
   items_go n i f at to now new h l e t =
       let d : n - i ≡ suc (n - (i + 1)) = omega arith in
-      left_goes f (times (n - (i + 1)) f) at to now new (subst (λ m. TakesLeft takes all (run (times m f) x end at) old now) d l) e t
+      left_goes f (times (n - (i + 1)) f) at to now new (subst (λ m. TakesRemaining takes all (run (times m f) x end at) old now) d l) e t
 
-  pub items_end : (n i : ℕ) (f : Format Value) (at : ℕ) (now : A) → n ≤ i → TakesLeft takes all (run (times (n - i) f) x end at) old now → TakesReadAll takes all old now
+  pub items_end : (n i : ℕ) (f : Format Value) (at : ℕ) (now : A) → n ≤ i → TakesRemaining takes all (run (times (n - i) f) x end at) old now → TakesReadAll takes all old now
   unfolding run
   items_end n i f at now h l = let d : n - i ≡ 0 = omega arith in l.then_all now (subst (λ m. TakesReadAll takes (run (times m f) x end at) now now) (sym d) refl)
 
-  pub each_goes : {X : Type 0} (f : X → Format Value) (xs : List X) (i : ℕ) (y : X) (at to : ℕ) (now new : A) → slice_get xs i ≡ Some y → TakesLeft takes all (run (for_each (drop i xs) f) x end at) old now
-      → seen (run (f y) x end at) ≡ Ok to → TakesRead takes (run (f y) x end at) now new → TakesLeft takes all (run (for_each (drop (i + 1) xs) f) x end to) old new
+  pub each_goes : {X : Type 0} (f : X → Format Value) (xs : List X) (i : ℕ) (y : X) (at to : ℕ) (now new : A) → slice_get xs i ≡ Some y → TakesRemaining takes all (run (for_each (drop i xs) f) x end at) old now
+      → end_or_flaw (run (f y) x end at) ≡ Ok to → TakesRead takes (run (f y) x end at) now new → TakesRemaining takes all (run (for_each (drop (i + 1) xs) f) x end to) old new
   each_goes f [] i y at to now new q l e h = cc
   each_goes f (z ∷ xs) zero y at to now new q l e h =
       let p : z ≡ y = cc in
-      left_goes (f y) (for_each xs f) at to now new (subst (λ w. TakesLeft takes all (run (for_each (w ∷ xs) f) x end at) old now) p l) e h
+      left_goes (f y) (for_each xs f) at to now new (subst (λ w. TakesRemaining takes all (run (for_each (w ∷ xs) f) x end at) old now) p l) e h
   each_goes f (z ∷ xs) (suc i) y at to now new q l e h = let p : suc i + 1 ≡ suc (i + 1) = omega arith in rw p (each_goes f xs i y at to now new q l e h)
 
 -- An array of items without bytes refers to nothing.
@@ -224,7 +224,7 @@ module _ {A : Type 0} (takes : ℕ × ℕ → A → A → Type 0) (k : Classes) 
   hollow_items_taken s c q e z o zero to = refl
   hollow_items_taken s c q e z o (suc n) to =
       let i = hollow_item k s c q e z o x end to in
-      cons_taken takes x end to (item_format (class_format 34 k) (item_of s)) (times n (item_format (class_format 34 k) (item_of s))) to a a a (ap seen i)
+      cons_taken takes x end to (item_format (class_format 34 k) (item_of s)) (times n (item_format (class_format 34 k) (item_of s))) to a a a (ap end_or_flaw i)
       (subst (λ (r : Answer Value). TakesRead takes r a a) (sym i) refl) (hollow_items_taken s c q e z o n to)
 
   pub hollow_taken : (s : FieldLayout) (b : Bool) → IsFieldLayout k s → IfSome (slice_get k s.class_index) (λ c. IsTrue b ↔ IsHollowArray s.shape c) → b ≡ true → TakesRead takes (run (value_format k s.shape) x end at) a a
@@ -238,11 +238,11 @@ module _ {A : Type 0} (takes : ℕ × ℕ → A → A → Type 0) (k : Classes) 
           items_taken takes x end at (class_format 34 k) s.shape v a a w.0 e (hollow_items_taken s.shape c.class c.found w.2.0 w.2.1 w.1 v.value v.end)
 
 -- If a value was read, its targets are those of the node.
-pub node_taken : {A : Type 0} (takes : ℕ × ℕ → A → A → Type 0) (k : Classes) (s : Shape) (x : List ℕ) (end at : ℕ) (old new : A) → Sound k → at ≤ end → end ≤ length x → (r : Result ℕ Flaw) → r ≡ seen (run (value_format k s) x end at)
+pub node_taken : {A : Type 0} (takes : ℕ × ℕ → A → A → Type 0) (k : Classes) (s : Shape) (x : List ℕ) (end at : ℕ) (old new : A) → Sound k → at ≤ end → end ≤ length x → (r : Result ℕ Flaw) → r ≡ end_or_flaw (run (value_format k s) x end at)
     → TakesRead takes (run (value_format k s) x end at) old new → IfOk r (λ to. TakesAll takes (targets k x (node_at s at to)) old new)
-node_taken takes k s x end at old new sound o h r e t = subst (λ z. IfOk z (λ to. TakesAll takes (targets k x (node_at s at to)) old new)) (sym e) (by_answer (run (value_format k s) x end at) (run_says (value_format k s) x end at o h) t)
+node_taken takes k s x end at old new sound o h r e t = subst (λ z. IfOk z (λ to. TakesAll takes (targets k x (node_at s at to)) old new)) (sym e) (by_answer (run (value_format k s) x end at) (run_reads_or_fails (value_format k s) x end at o h) t)
   where
-    by_answer : (a : Answer Value) → Says (value_format k s) x end at a → TakesRead takes a old new → IfOk (seen a) (λ to. TakesAll takes (targets k x (node_at s at to)) old new)
+    by_answer : (a : Answer Value) → ReadsOrFails (value_format k s) x end at a → TakesRead takes a old new → IfOk (end_or_flaw a) (λ to. TakesAll takes (targets k x (node_at s at to)) old new)
     by_answer (Ok g) q t =
         let n = read_node k s x end at g.place g.value h o q in
         subst (λ ts. TakesAll takes ts old new) (sym (targets_are k sound x (node_at s at g.place) g.value n.0)) t

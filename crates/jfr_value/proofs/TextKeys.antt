@@ -1,9 +1,9 @@
 -- Strings that are keys, by the integer after their kind byte, and those that aren't.
 use Rattle.std.specs.Prelude.{◌≡◌, ℕ, ◌+◌, ◌==◌, List, Ok, Err, None, IfOk, option_map, option_to_list, true, false, if◌then◌else◌}
 use Rattle.std.proofs.Common.{ap, refl, sym, ◌∙◌, subst}
-use Rattle.jfr_base.specs.Formats.{Answer, Done, integer, on, run, seen}
+use Rattle.jfr_base.specs.Formats.{Answer, Done, integer, on, run, end_or_flaw}
 use Rattle.jfr_base.proofs.FormatLaws.{run-bind}
-use Rattle.jfr_base.proofs.SeenLaws.{seen-made}
+use Rattle.jfr_base.proofs.FormatEnds.{end_or_flaw-made}
 use Rattle.jfr_layout.specs.declared.kind.Kind.TheVariants as kinds
 use Rattle.jfr_text.specs.Strings.{Content, Null, Empty, Key, bare_content, key_format, string_format}
 use Rattle.jfr_value.specs.Values.{key_of}
@@ -12,8 +12,8 @@ use Rattle.jfr_value.specs.Visits.{TakesAll}
 
 module _ (x : List ℕ) (end at : ℕ) (is_key : run (string_format true) x end at ≡ run key_format x end (at + 1)) where
   -- It ends where the integer does.
-  pub key_ends : seen (run integer x end (at + 1)) ≡ seen (run (base_format kinds.Text) x end at)
-  key_ends = sym (seen-made (string_format true) key_of x end at ∙ (ap seen is_key ∙ seen-made integer (λ key. Key key) x end (at + 1)))
+  pub key_ends : end_or_flaw (run integer x end (at + 1)) ≡ end_or_flaw (run (base_format kinds.Text) x end at)
+  key_ends = sym (end_or_flaw-made (string_format true) key_of x end at ∙ (ap end_or_flaw is_key ∙ end_or_flaw-made integer (λ key. Key key) x end (at + 1)))
 
   -- The key that it gives is the integer.
   module _ {A : Type 0} (takes : ℕ × ℕ → A → A → Type 0) (class : ℕ) (old new : A) where
@@ -30,8 +30,8 @@ module _ (x : List ℕ) (end at : ℕ) (is_key : run (string_format true) x end 
 
 -- A string that isn't a key ends where its content does, and gives no key.
 module _ (x : List ℕ) (end at to : ℕ) (content : Content) (reads : run (string_format true) x end at ≡ Ok (record { value = content; place = to })) where
-  pub keyless_ends : Ok to ≡ seen (run (base_format kinds.Text) x end at)
-  keyless_ends = sym (seen-made (string_format true) key_of x end at ∙ ap seen reads)
+  pub keyless_ends : Ok to ≡ end_or_flaw (run (base_format kinds.Text) x end at)
+  keyless_ends = sym (end_or_flaw-made (string_format true) key_of x end at ∙ ap end_or_flaw reads)
 
   module _ {A : Type 0} (takes : ℕ × ℕ → A → A → Type 0) (class : ℕ) (state : A) (no_key : key_of content ≡ None) where
     abbrev AllTaken : Answer Content → Type 0

@@ -6,7 +6,7 @@ use Rattle.std.proofs.Common.{ap, arith, refl, sym, ◌∙◌, subst, inl, inr}
 use Rattle.std.proofs.lemmas.List.{drop_all, length-append, length-map, nil_from_length}
 use Rattle.jfr_base.specs.declared.integer.Var.{Var}
 use Rattle.jfr_base.specs.Integer.{IntAt, Spells, worth_within}
-use Rattle.jfr_base.specs.Formats.{int_at, run, seen}
+use Rattle.jfr_base.specs.Formats.{int_at, run, end_or_flaw}
 use Rattle.jfr_base.proofs.OneAnswer.{int_computed}
 use Rattle.jfr_base.proofs.Ranges.{range_length}
 use Rattle.jfr_base.proofs.RunLaws.{Stands, stands_split, exact_run}
@@ -19,10 +19,10 @@ use Rattle.jfr_layout.specs.declared.shape.Shape.{Shape}
 use Rattle.jfr_value.specs.declared.leaf.LeafKind.TheVariants as leaf_kinds
 use Rattle.jfr_value.specs.Values.{Value, Values, Single, Group, Nil, Cons, shape_of, shapes_of, bytes_of, bytes_of_all, targets_of, targets_of_all, key_of, IsBase, IsSingle, IsHead, IsHollow, AllFit}
 use Rattle.jfr_value.specs.Reading.{base_format}
-use Rattle.jfr_value.specs.Nodes.{node_at, IsNode, IsRow}
+use Rattle.jfr_value.specs.Nodes.{node_at, IsNode, AreValues}
 use Rattle.jfr_value.specs.Leaves.{LeafAt, leaf_target, leaves_at, leaves_from}
 use Rattle.jfr_value.specs.Visits.{TakesAll, field_shapes}
-use Rattle.jfr_value.specs.Walks.{IsLayoutIfKnown, Room}
+use Rattle.jfr_value.specs.Walks.{IsLayoutIfKnown, DepthBound}
 use Rattle.jfr_value.proofs.ChildLaws.{inline_known}
 use Rattle.jfr_value.proofs.FitLaws.{is_base}
 use Rattle.jfr_value.proofs.LeafLaws.{all_within, leaf_targets_from}
@@ -30,7 +30,7 @@ use Rattle.jfr_value.proofs.NodeLaws.{node_stands}
 use Rattle.jfr_value.proofs.PlaceLaws.{get_within, placed_class, placed_some, placed_within}
 use Rattle.jfr_value.proofs.RowLaws.{hollow_bytes}
 use Rattle.jfr_value.proofs.LayoutLaws.{layout_class}
-use Rattle.jfr_value.proofs.StackLaws.{field_there, inner_room}
+use Rattle.jfr_value.proofs.StackLaws.{field_there, inner_depth}
 use Rattle.jfr_value.proofs.StringLaws.{is_exact}
 use Rattle.jfr_value.proofs.WalkLaws.{first_of}
 
@@ -91,7 +91,7 @@ module _ (k : Classes) (c : List ℕ) (at to end : ℕ) (s : Shape) (l : to ≤ 
   record BaseNode (kind : Kind) (v : Value) : Type 0 where
     key : Option ℕ
     is : IsBase kind (slice_range c at to) key
-    stands : Stands c at to (slice_range c at to)
+    holds : Stands c at to (slice_range c at to)
     leaves : length (leaves_at at v) ≡ 1
     targets : targets_of v ≡ option_to_list (option_map (λ key. (s.class, key)) key)
 
@@ -110,7 +110,7 @@ module _ (k : Classes) (c : List ℕ) (at to end : ℕ) (s : Shape) (l : to ≤ 
           record {
             key = key;
             is = subst (λ z. IsBase (kind_of d.name) z key) (sym i.bytes) f;
-            stands = record { order = i.order; within = i.within; bytes = refl };
+            holds = record { order = i.order; within = i.within; bytes = refl };
             leaves = refl;
             targets = by_key key ∙ ap (λ (z : Shape). option_to_list (option_map (λ key. (z.class, key)) key)) (sym i.shape);
           }
@@ -126,17 +126,17 @@ module _ (k : Classes) (c : List ℕ) (at to end : ℕ) (s : Shape) (l : to ≤ 
   base_node v place kind i a o d n = subst (λ z. BaseNode z v) (sym d.kind_is) (base_of v d.class i a o d.found (λ z. n (d.kind_is ∙ z)))
 
   base_runs : (kind : Kind) (v : Value) (n : BaseNode kind v) → run (base_format kind) c end at ≡ Ok (record { value = n.key; place = to })
-  base_runs kind v n = exact_run c end w (base_format kind) at to (slice_range c at to) n.key (is_base kind (slice_range c at to) n.key n.is) n.stands l
+  base_runs kind v n = exact_run c end w (base_format kind) at to (slice_range c at to) n.key (is_base kind (slice_range c at to) n.key n.is) n.holds l
 
   -- One that is no string refers to nothing.
   pub record PlainNode (kind : Kind) (v : Value) : Type 0 where
-    pub ends : seen (run (base_format kind) c end at) ≡ Ok to
+    pub ends : end_or_flaw (run (base_format kind) c end at) ≡ Ok to
     pub leaves : length (leaves_at at v) ≡ 1
     pub targets : targets_of v ≡ []
 
   plain_node : (kind : Kind) (v : Value) → BaseNode kind v → kind ≢ kinds.Text → PlainNode kind v
   plain_node kind v n x = record {
-    ends = ap seen (base_runs kind v n);
+    ends = ap end_or_flaw (base_runs kind v n);
     leaves = n.leaves;
     targets = n.targets ∙ ap (λ z. option_to_list (option_map (λ key. (s.class, key)) z)) (no_key kind (slice_range c at to) n.key x n.is);
   }
@@ -165,7 +165,7 @@ module _ (k : Classes) (c : List ℕ) (at to end : ℕ) (s : Shape) (l : to ≤ 
       let i = subst (λ z. IsBase z (slice_range c at to) n.key) x n.is in
       record {
         content = i.0;
-        reads = exact_run c end w (string_format true) at to (slice_range c at to) i.0 (is_exact (slice_range c at to) i.0 i.1) n.stands l;
+        reads = exact_run c end w (string_format true) at to (slice_range c at to) i.0 (is_exact (slice_range c at to) i.0 i.1) n.holds l;
         leaves = n.leaves;
         targets = n.targets ∙ ap (λ z. option_to_list (option_map (λ key. (s.class, key)) z)) i.2;
       }
@@ -179,7 +179,7 @@ module _ (k : Classes) (c : List ℕ) (at to end : ℕ) (s : Shape) (l : to ≤ 
   -- Parts that lie from an offset on, after `more` leaves.
   pub record PartsNode (from more : ℕ) (ss : List Shape) (v : Value) : Type 0 where
     pub parts : Values
-    pub row : IsRow k c from to ss parts
+    pub row : AreValues k c from to ss parts
     pub leaves : length (leaves_at at v) ≡ more + length (leaves_from from parts)
     pub targets : targets_of v ≡ targets_of_all parts
 
@@ -219,9 +219,9 @@ module _ (k : Classes) (c : List ℕ) (at to end : ℕ) (s : Shape) (l : to ≤ 
   rooms P (f ∷ fs) a = (a.0, rooms P fs a.1)
 
   -- And the room for them.
-  pub room_within : (place : ℕ) (kind : Kind) (levels : ℕ) → InlineNode place kind → kind ≡ kinds.Composite → s.constant ≡ false → Room k levels s → AllByRecursion (Room k (levels - 1)) (field_shapes k place)
-  room_within place kind levels d m o r =
-      subst (AllByRecursion (Room k (levels - 1))) (sym (shapes_there place d.class d.there)) (rooms (Room k (levels - 1)) d.class.fields (inner_room k levels s d.class r o d.found (sym d.kind_is ∙ m)).1)
+  pub depth_within : (place : ℕ) (kind : Kind) (levels : ℕ) → InlineNode place kind → kind ≡ kinds.Composite → s.constant ≡ false → DepthBound k levels s → AllByRecursion (DepthBound k (levels - 1)) (field_shapes k place)
+  depth_within place kind levels d m o r =
+      subst (AllByRecursion (DepthBound k (levels - 1))) (sym (shapes_there place d.class d.there)) (rooms (DepthBound k (levels - 1)) d.class.fields (inner_depth k levels s d.class r o d.found (sym d.kind_is ∙ m)).1)
 
   -- An array: its count, and the items after it.
   record ArrayNode (v : Value) : Type 0 where
@@ -272,7 +272,7 @@ pub record Nothing (at to : ℕ) (vs : Values) : Type 0 where
   pub targets : targets_of_all vs ≡ []
 
 module _ (k : Classes) (c : List ℕ) (at to : ℕ) where
-  nothing : (ss : List Shape) (vs : Values) → IsRow k c at to ss vs → bytes_of_all vs ≡ [] → Nothing at to vs
+  nothing : (ss : List Shape) (vs : Values) → AreValues k c at to ss vs → bytes_of_all vs ≡ [] → Nothing at to vs
   nothing ss vs r b =
       let x : length (slice_range c at to) ≡ to - at = range_length c at to r.within in
       let y : length (slice_range c at to) ≡ 0 = ap length (r.bytes ∙ b) in
@@ -281,14 +281,14 @@ module _ (k : Classes) (c : List ℕ) (at to : ℕ) where
       let m : leaves_from at vs ≡ [] = nil_from_length (leaves_from at vs) (omega arith) in
       record { ends = (let p = r.order in omega arith); leaves = ap length m; targets = sym (leaf_targets_from k at vs r.fit) ∙ ap (filter_map leaf_target) m }
 
-  pub none_left : (ss : List Shape) (vs : Values) → IsRow k c at to ss vs → ss ≡ [] → Nothing at to vs
+  pub none_left : (ss : List Shape) (vs : Values) → AreValues k c at to ss vs → ss ≡ [] → Nothing at to vs
   none_left ss vs r e = nothing ss vs r (none vs (r.of_shapes ∙ e))
     where
       none : (vs : Values) → shapes_of vs ≡ [] → bytes_of_all vs ≡ []
       none Nil e = refl
       none (Cons v vs) e = cc
 
-  no_bytes : (n : ℕ) (s : Shape) (d : Class) (vs : Values) → IsRow k c at to (replicate n s) vs → s.array ≡ false → s.constant ≡ false → find_class k s.class ≡ Some d → IsHollow d → Nothing at to vs
+  no_bytes : (n : ℕ) (s : Shape) (d : Class) (vs : Values) → AreValues k c at to (replicate n s) vs → s.array ≡ false → s.constant ≡ false → find_class k s.class ≡ Some d → IsHollow d → Nothing at to vs
   no_bytes n s d vs r a o q h = nothing (replicate n s) vs r (none n vs r.of_shapes r.fit)
     where
       none : (n : ℕ) (vs : Values) → shapes_of vs ≡ replicate n s → AllFit k vs → bytes_of_all vs ≡ []
@@ -301,14 +301,14 @@ module _ (k : Classes) (c : List ℕ) (at to : ℕ) where
           ap (λ z. z ++ bytes_of_all vs) b ∙ none n vs g f.1
 
   -- The class of an array's items is known if there are items.
-  pub items_known : (n : ℕ) (s : Shape) (vs : Values) → IsRow k c at to (replicate n (item_of s)) vs → n ≢ 0 → s.constant ≡ false → IsSome (find_class k s.class)
+  pub items_known : (n : ℕ) (s : Shape) (vs : Values) → AreValues k c at to (replicate n (item_of s)) vs → n ≢ 0 → s.constant ≡ false → IsSome (find_class k s.class)
   items_known zero s vs r n o = absurd (n refl)
   items_known (suc n) s Nil r m o = let h = r.of_shapes in cc
   items_known (suc n) s (Cons v vs) r m o =
       let p : shape_of v ≡ item_of s = (let x : shape_of v ∷ shapes_of vs ≡ item_of s ∷ replicate n (item_of s) = r.of_shapes in cc) in
       subst (λ (z : Shape). IsSome (find_class k z.class)) p (inline_known k v (ap (λ (z : Shape). z.array) p) (ap (λ (z : Shape). z.constant) p ∙ o) r.fit.0)
 
-  pub hollow_items : (n place : ℕ) (kind : Kind) (form : Form) (s : Shape) (vs : Values) → IsRow k c at to (replicate n (item_of s)) vs → n ≢ 0 → IsLayoutIfKnown k (record { shape = s; class_index = place; kind = kind; form = form }) → s.constant ≡ false → IfSome (slice_get k place) IsHollow → Nothing at to vs
+  pub hollow_items : (n place : ℕ) (kind : Kind) (form : Form) (s : Shape) (vs : Values) → AreValues k c at to (replicate n (item_of s)) vs → n ≢ 0 → IsLayoutIfKnown k (record { shape = s; class_index = place; kind = kind; form = form }) → s.constant ≡ false → IfSome (slice_get k place) IsHollow → Nothing at to vs
   hollow_items n place kind form s vs r m p o h =
       let q = (p.of_class o (items_known n s vs r m o)).class_index in
       let d = placed_some k s.class place q in
@@ -316,45 +316,45 @@ module _ (k : Classes) (c : List ℕ) (at to : ℕ) where
 
 -- A loop over values one after another: those that are left lie from an offset on, and what they refer to
 -- still has to be taken, with a step for each of their leaves.
-pub record Left {A : Type 0} (takes : ℕ × ℕ → A → A → Type 0) (k : Classes) (c : List ℕ) (at to : ℕ) (vs : Values) (old : A) (before : ℕ) (ss : List Shape) (from : ℕ) (now : A) (after : ℕ) : Type 0 where
+pub record StillToVisit {A : Type 0} (takes : ℕ × ℕ → A → A → Type 0) (k : Classes) (c : List ℕ) (at to : ℕ) (vs : Values) (old : A) (before : ℕ) (ss : List Shape) (from : ℕ) (now : A) (after : ℕ) : Type 0 where
   pub others : Values
-  pub row : IsRow k c from to ss others
+  pub row : AreValues k c from to ss others
   pub taken : (new : A) → TakesAll takes (targets_of_all others) now new → TakesAll takes (targets_of_all vs) old new
   pub steps : after + length (leaves_from from others) ≡ before + length (leaves_from at vs)
 
 module _ {A : Type 0} (takes : ℕ × ℕ → A → A → Type 0) (k : Classes) (c : List ℕ) (at to : ℕ) (vs : Values) (old : A) (before : ℕ) where
-  pub left_ends : (ss : List Shape) (from : ℕ) (now : A) (after : ℕ) → Left takes k c at to vs old before ss from now after → ss ≡ [] → (from ≡ to) × TakesAll takes (targets_of_all vs) old now × (after ≡ before + length (leaves_from at vs))
+  pub left_ends : (ss : List Shape) (from : ℕ) (now : A) (after : ℕ) → StillToVisit takes k c at to vs old before ss from now after → ss ≡ [] → (from ≡ to) × TakesAll takes (targets_of_all vs) old now × (after ≡ before + length (leaves_from at vs))
   left_ends ss from now after f e =
       let n = none_left k c from to ss f.others f.row e in
       (n.ends, f.taken now (takes_none takes (targets_of_all f.others) now n.targets), (let x = n.leaves in let y = f.steps in omega arith))
 
   -- The first value.
-  pub record FirstLeft (s : Shape) (from : ℕ) : Type 0 where
+  pub record FirstRemaining (s : Shape) (from : ℕ) : Type 0 where
     pub place : ℕ
     pub value : Value
     pub node : IsNode k c (node_at s from place) value
     pub within : place ≤ to
 
-  pub left_there : (s : Shape) (ss us : List Shape) (from : ℕ) (now : A) (after : ℕ) → Left takes k c at to vs old before us from now after → us ≡ s ∷ ss → FirstLeft s from
+  pub left_there : (s : Shape) (ss us : List Shape) (from : ℕ) (now : A) (after : ℕ) → StillToVisit takes k c at to vs old before us from now after → us ≡ s ∷ ss → FirstRemaining s from
   left_there s ss us from now after f e =
-      let g = first_of k c from to s ss f.others (subst (λ z. IsRow k c from to z f.others) e f.row) in
-      record { place = from + length (bytes_of g.value); value = g.value; node = record { shape = sym g.shape; order = g.stands.order; within = g.stands.within; bytes = g.stands.bytes; fits = g.fits }; within = g.row.order }
+      let g = first_of k c from to s ss f.others (subst (λ z. AreValues k c from to z f.others) e f.row) in
+      record { place = from + length (bytes_of g.value); value = g.value; node = record { shape = sym g.shape; order = g.holds.order; within = g.holds.within; bytes = g.holds.bytes; fits = g.fits }; within = g.row.order }
 
   -- What is left after it.
-  pub left_goes : (s : Shape) (ss us : List Shape) (from : ℕ) (now : A) (after end result : ℕ) (new : A) (next : ℕ) → Left takes k c at to vs old before us from now after → us ≡ s ∷ ss → to ≤ end
+  pub left_goes : (s : Shape) (ss us : List Shape) (from : ℕ) (now : A) (after end result : ℕ) (new : A) (next : ℕ) → StillToVisit takes k c at to vs old before us from now after → us ≡ s ∷ ss → to ≤ end
       → ((p : ℕ) (v : Value) → IsNode k c (node_at s from p) v → p ≤ end → (result ≡ p) × TakesAll takes (targets_of v) now new × (next ≡ after + length (leaves_at from v)))
-      → Left takes k c at to vs old before ss result new next
+      → StillToVisit takes k c at to vs old before ss result new next
   left_goes s ss us from now after end result new next f d l x =
-      let g = first_of k c from to s ss f.others (subst (λ z. IsRow k c from to z f.others) d f.row) in
+      let g = first_of k c from to s ss f.others (subst (λ z. AreValues k c from to z f.others) d f.row) in
       let p = from + length (bytes_of g.value) in
-      let n : IsNode k c (node_at s from p) g.value = record { shape = sym g.shape; order = g.stands.order; within = g.stands.within; bytes = g.stands.bytes; fits = g.fits } in
+      let n : IsNode k c (node_at s from p) g.value = record { shape = sym g.shape; order = g.holds.order; within = g.holds.within; bytes = g.holds.bytes; fits = g.fits } in
       let m : p ≤ end = (let q = g.row.order in omega arith) in
       let (e, t, u) = x p g.value n m in
       let y : length (leaves_from from f.others) ≡ length (leaves_at from g.value) + length (leaves_from p g.others) = ap (λ q. length (leaves_from from q)) g.are ∙ length-append (leaves_at from g.value) (leaves_from p g.others) in
       let z : length (leaves_from result g.others) ≡ length (leaves_from p g.others) = ap (λ q. length (leaves_from q g.others)) e in
       record {
         others = g.others;
-        row = subst (λ q. IsRow k c q to ss g.others) (sym e) g.row;
+        row = subst (λ q. AreValues k c q to ss g.others) (sym e) g.row;
         taken = λ last h. f.taken last (subst (λ q. TakesAll takes (targets_of_all q) now last) (sym g.are) (takes_append takes (targets_of g.value) (targets_of_all g.others) now new last t h));
         steps = (let i = f.steps in omega arith);
       }
@@ -384,8 +384,8 @@ fields_past k place number l h =
     let m : length (map (λ f. f.shape) d.0.fields) ≡ length d.0.fields = length-map d.0.fields (λ f. f.shape) in
     ap (λ o. drop number (option_map_or (λ c. map (λ f. f.shape) c.fields) o [])) d.1 ∙ drop_all number (map (λ f. f.shape) d.0.fields) (omega arith)
 
-pub room_first : (P : Shape → Type 0) (ss : List Shape) (i : ℕ) (s : Shape) (us : List Shape) → AllByRecursion P ss → drop i ss ≡ s ∷ us → P s
-room_first P [] zero s us a e = cc
-room_first P [] (suc i) s us a e = cc
-room_first P (t ∷ ss) zero s us a e = let h : t ≡ s = cc in subst P h a.0
-room_first P (t ∷ ss) (suc i) s us a e = room_first P ss i s us a.1 e
+pub bound_of_first : (P : Shape → Type 0) (ss : List Shape) (i : ℕ) (s : Shape) (us : List Shape) → AllByRecursion P ss → drop i ss ≡ s ∷ us → P s
+bound_of_first P [] zero s us a e = cc
+bound_of_first P [] (suc i) s us a e = cc
+bound_of_first P (t ∷ ss) zero s us a e = let h : t ≡ s = cc in subst P h a.0
+bound_of_first P (t ∷ ss) (suc i) s us a e = bound_of_first P ss i s us a.1 e

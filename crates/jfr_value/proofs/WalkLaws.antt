@@ -4,7 +4,7 @@ use Rattle.std.proofs.Common.{ap, arith, refl, sym, ◌∙◌, subst, inl, inr}
 use Rattle.std.proofs.lemmas.List.{append_assoc, append-nil, length-append}
 use Rattle.jfr_base.specs.declared.integer.Var.{Var}
 use Rattle.jfr_base.specs.Integer.{IntAt, Spells, worth_within}
-use Rattle.jfr_base.specs.Formats.{int_at, run, seen}
+use Rattle.jfr_base.specs.Formats.{int_at, run, end_or_flaw}
 use Rattle.jfr_base.proofs.OneAnswer.{int_computed}
 use Rattle.jfr_base.proofs.RunLaws.{Stands, stands_split, exact_run}
 use Rattle.jfr_layout.specs.Classes.{Class, Classes, find_class, kind_of, item_of}
@@ -15,7 +15,7 @@ use Rattle.jfr_value.specs.declared.leaf.LeafKind.{LeafKind}
 use Rattle.jfr_value.specs.declared.leaf.LeafKind.TheVariants as leaf_kinds
 use Rattle.jfr_value.specs.Values.{Value, Values, Single, Group, Nil, Cons, list_of, shape_of, shapes_of, bytes_of, bytes_of_all, IsBase, IsSingle, IsHead, Fits, AllFit, IsHollow}
 use Rattle.jfr_value.specs.Reading.{base_format}
-use Rattle.jfr_value.specs.Nodes.{IsRow}
+use Rattle.jfr_value.specs.Nodes.{AreValues}
 use Rattle.jfr_value.specs.Leaves.{LeafAt, leaves_at, leaves_from}
 use Rattle.jfr_base.specs.Formats.{Done, for_each, Exactly, ◌>>=◌}
 use Rattle.jfr_base.proofs.ExactLaws.{bind_exact}
@@ -31,7 +31,7 @@ use Rattle.jfr_value.specs.Leaves.{leaves}
 use Rattle.jfr_value.proofs.DepthLaws.{sound_inline}
 use Rattle.jfr_value.proofs.NodeLaws.{value_is}
 use Rattle.jfr_value.proofs.StackLaws.{either_height}
-use Rattle.jfr_value.specs.Walks.{AreFrames, IsWalk, leaves_left, IsLeft, got_values, shapes_left, values_left, size_of_all, IsPlacedIfKnown}
+use Rattle.jfr_value.specs.Walks.{AreFrames, IsWalk, remaining_leaves, AreRemaining, got_values, remaining_shapes, remaining_values, size_of_all, IsPlacedIfKnown}
 use Rattle.jfr_base.proofs.Ranges.{range_split}
 use Rattle.jfr_value.proofs.ChildLaws.{inline_known}
 use Rattle.jfr_value.proofs.LeafLaws.{all_within}
@@ -75,10 +75,10 @@ pub record First (k : Classes) (c : List ℕ) (at end : ℕ) (s : Shape) (ss : L
   pub are : vs ≡ Cons value others
   pub shape : shape_of value ≡ s
   pub fits : Fits k value
-  pub stands : Stands c at (at + length (bytes_of value)) (bytes_of value)
-  pub row : IsRow k c (at + length (bytes_of value)) end ss others
+  pub holds : Stands c at (at + length (bytes_of value)) (bytes_of value)
+  pub row : AreValues k c (at + length (bytes_of value)) end ss others
 
-pub first_of : (k : Classes) (c : List ℕ) (at end : ℕ) (s : Shape) (ss : List Shape) (vs : Values) → IsRow k c at end (s ∷ ss) vs → First k c at end s ss vs
+pub first_of : (k : Classes) (c : List ℕ) (at end : ℕ) (s : Shape) (ss : List Shape) (vs : Values) → AreValues k c at end (s ∷ ss) vs → First k c at end s ss vs
 first_of k c at end s ss Nil r = let h = r.of_shapes in cc
 first_of k c at end s ss (Cons v vs) r =
     let h = stands_split c at end (bytes_of v ++ bytes_of_all vs) (bytes_of v) (bytes_of_all vs) (row_stands k c at end (s ∷ ss) (Cons v vs) r) refl in
@@ -88,14 +88,14 @@ first_of k c at end s ss (Cons v vs) r =
       are = refl;
       shape = (let x : shape_of v ∷ shapes_of vs ≡ s ∷ ss = r.of_shapes in cc);
       fits = r.fit.0;
-      stands = h.first;
+      holds = h.first;
       row = record { order = h.second.order; within = h.second.within; bytes = h.second.bytes; fit = r.fit.1; of_shapes = (let x : shape_of v ∷ shapes_of vs ≡ s ∷ ss = r.of_shapes in cc) };
     }
 
 -- The first leaf is returned, and these values are left.
 pub record Taken (k : Classes) (c : List ℕ) (at end to : ℕ) (kind : LeafKind) (class : ℕ) (ss : List Shape) (vs : Values) : Type 0 where
   pub others : Values
-  pub row : IsRow k c to end ss others
+  pub row : AreValues k c to end ss others
   pub leaves : leaves_from at vs ≡ record { kind = kind; class = class; at = at; spelled = slice_range c at to } ∷ leaves_from to others
 
 int_there : (c : List ℕ) (at end n : ℕ) (b : List ℕ) (w : Var) → Stands c at (at + length b) b → Spells b n → at + length b ≤ end → end ≤ length c → int_at c at end ≡ Some w → (n ≡ w.value) × (at + length b ≡ w.end)
@@ -115,13 +115,13 @@ int_not_none c at end n b s p l h e =
 
 -- A single value, up to the place where it ends.
 single_taken : (k : Classes) (c : List ℕ) (at end to : ℕ) (s t : Shape) (kind other : LeafKind) (b : List ℕ) (key : Option ℕ) (ss : List Shape) (vs us : Values) → vs ≡ Cons (Single t kind b key) us → t ≡ s → kind ≡ other → at + length b ≡ to
-    → Stands c at (at + length b) b → IsRow k c (at + length b) end ss us → Taken k c at end to other s.class ss vs
+    → Stands c at (at + length b) b → AreValues k c (at + length b) end ss us → Taken k c at end to other s.class ss vs
 single_taken k c at end to s t kind other b key ss vs us e q h z p r =
     let leaf : LeafKind → ℕ → List ℕ → LeafAt = λ kind class b. record { kind = kind; class = class; at = at; spelled = b } in
     let x : slice_range c at to ≡ b = ap (slice_range c at) (sym z) ∙ p.bytes in
     record {
       others = us;
-      row = subst (λ y. IsRow k c y end ss us) z r;
+      row = subst (λ y. AreValues k c y end ss us) z r;
       leaves = ap (leaves_from at) e
           ∙ (ap (λ y. leaf kind t.class b ∷ leaves_from y us) z
           ∙ (ap (λ y. leaf y t.class b ∷ leaves_from to us) h
@@ -143,7 +143,7 @@ no_base k d e b key q m i = subst (λ z. IsBase z b key) (ap (λ (z : Class). ki
 
 module _ (k : Classes) (c : List ℕ) (at end : ℕ) (s : Shape) (ss : List Shape) where
   -- A reference.
-  pub key_taken : (vs : Values) (w : Var) → IsRow k c at end (s ∷ ss) vs → s.array ≡ false → s.constant ≡ true → int_at c at end ≡ Some w → Taken k c at end w.end (leaf_kinds.Key w.value) s.class ss vs
+  pub key_taken : (vs : Values) (w : Var) → AreValues k c at end (s ∷ ss) vs → s.array ≡ false → s.constant ≡ true → int_at c at end ≡ Some w → Taken k c at end w.end (leaf_kinds.Key w.value) s.class ss vs
   unfolding first_of
   key_taken Nil w r a o e = let h = r.of_shapes in cc
   key_taken (Cons (Single t kind b key) us) w r a o e = by_case f.fits
@@ -153,8 +153,8 @@ module _ (k : Classes) (c : List ℕ) (at end : ℕ) (s : Shape) (ss : List Shap
 
       by_case : IsSingle k t kind b key → Taken k c at end w.end (leaf_kinds.Key w.value) s.class ss (Cons (Single t kind b key) us)
       by_case (inl p) =
-          let x = int_there c at end p.2 b w f.stands p.3 f.row.order r.within e in
-          single_taken k c at end w.end s t kind (leaf_kinds.Key w.value) b key ss (Cons (Single t kind b key) us) us refl f.shape (p.4 ∙ ap (λ z. leaf_kinds.Key z) x.0) x.1 f.stands f.row
+          let x = int_there c at end p.2 b w f.holds p.3 f.row.order r.within e in
+          single_taken k c at end w.end s t kind (leaf_kinds.Key w.value) b key ss (Cons (Single t kind b key) us) us refl f.shape (p.4 ∙ ap (λ z. leaf_kinds.Key z) x.0) x.1 f.holds f.row
       by_case (inr p) = let z : t.constant ≡ true = constant_is t s true f.shape o in let y = p.1 in cc
   key_taken (Cons (Group t h ps) us) w r a o e = by_case f.fits.0
     where
@@ -165,7 +165,7 @@ module _ (k : Classes) (c : List ℕ) (at end : ℕ) (s : Shape) (ss : List Shap
       by_case (inl p) = let z : t.array ≡ false = array_is t s false f.shape a in let y = p.0 in cc
       by_case (inr p) = let z : t.constant ≡ true = constant_is t s true f.shape o in let y = p.1 in cc
 
-  pub key_there : (vs : Values) → IsRow k c at end (s ∷ ss) vs → s.array ≡ false → s.constant ≡ true → int_at c at end ≡ None → ⊥
+  pub key_there : (vs : Values) → AreValues k c at end (s ∷ ss) vs → s.array ≡ false → s.constant ≡ true → int_at c at end ≡ None → ⊥
   unfolding first_of
   key_there Nil r a o e = let h = r.of_shapes in cc
   key_there (Cons (Single t kind b key) us) r a o e = by_case f.fits
@@ -174,7 +174,7 @@ module _ (k : Classes) (c : List ℕ) (at end : ℕ) (s : Shape) (ss : List Shap
       f = first_of k c at end s ss (Cons (Single t kind b key) us) r
 
       by_case : IsSingle k t kind b key → ⊥
-      by_case (inl p) = int_not_none c at end p.2 b f.stands p.3 f.row.order r.within e
+      by_case (inl p) = int_not_none c at end p.2 b f.holds p.3 f.row.order r.within e
       by_case (inr p) = let z : t.constant ≡ true = constant_is t s true f.shape o in let y = p.1 in cc
   key_there (Cons (Group t h ps) us) r a o e = by_case f.fits.0
     where
@@ -186,8 +186,8 @@ module _ (k : Classes) (c : List ℕ) (at end : ℕ) (s : Shape) (ss : List Shap
       by_case (inr p) = let z : t.constant ≡ true = constant_is t s true f.shape o in let y = p.1 in cc
 
   -- A value of a base name.
-  pub base_ends : (vs : Values) (d : Class) → IsRow k c at end (s ∷ ss) vs → s.array ≡ false → s.constant ≡ false → find_class k s.class ≡ Some d → kind_of d.name ≢ kinds.Composite
-      → (to : ℕ) × (seen (run (base_format (kind_of d.name)) c end at) ≡ Ok to) × Taken k c at end to (leaf_kinds.Base (kind_of d.name)) s.class ss vs
+  pub base_ends : (vs : Values) (d : Class) → AreValues k c at end (s ∷ ss) vs → s.array ≡ false → s.constant ≡ false → find_class k s.class ≡ Some d → kind_of d.name ≢ kinds.Composite
+      → (to : ℕ) × (end_or_flaw (run (base_format (kind_of d.name)) c end at) ≡ Ok to) × Taken k c at end to (leaf_kinds.Base (kind_of d.name)) s.class ss vs
   unfolding first_of
   base_ends Nil d r a o q m = let h = r.of_shapes in cc
   base_ends (Cons (Single t kind b key) us) d r a o q m = by_case f.fits
@@ -195,28 +195,28 @@ module _ (k : Classes) (c : List ℕ) (at end : ℕ) (s : Shape) (ss : List Shap
       f : First k c at end s ss (Cons (Single t kind b key) us)
       f = first_of k c at end s ss (Cons (Single t kind b key) us) r
 
-      by_case : IsSingle k t kind b key → (to : ℕ) × (seen (run (base_format (kind_of d.name)) c end at) ≡ Ok to) × Taken k c at end to (leaf_kinds.Base (kind_of d.name)) s.class ss (Cons (Single t kind b key) us)
+      by_case : IsSingle k t kind b key → (to : ℕ) × (end_or_flaw (run (base_format (kind_of d.name)) c end at) ≡ Ok to) × Taken k c at end to (leaf_kinds.Base (kind_of d.name)) s.class ss (Cons (Single t kind b key) us)
       by_case (inl p) = let z : t.constant ≡ false = constant_is t s false f.shape o in let y = p.1 in cc
       by_case (inr p) =
           let e : p.2 ≡ d = found_is k t s p.2 d f.shape p.3 q in
           let i : IsBase (kind_of d.name) b key = subst (λ (z : Class). IsBase (kind_of z.name) b key) e p.5 in
-          let x = exact_run c end r.within (base_format (kind_of d.name)) at (at + length b) b key (is_base (kind_of d.name) b key i) f.stands f.row.order in (
+          let x = exact_run c end r.within (base_format (kind_of d.name)) at (at + length b) b key (is_base (kind_of d.name) b key i) f.holds f.row.order in (
             at + length b,
-            ap seen x,
-            single_taken k c at end (at + length b) s t kind (leaf_kinds.Base (kind_of d.name)) b key ss (Cons (Single t kind b key) us) us refl f.shape (p.4 ∙ ap (λ (z : Class). leaf_kinds.Base (kind_of z.name)) e) refl f.stands f.row,
+            ap end_or_flaw x,
+            single_taken k c at end (at + length b) s t kind (leaf_kinds.Base (kind_of d.name)) b key ss (Cons (Single t kind b key) us) us refl f.shape (p.4 ∙ ap (λ (z : Class). leaf_kinds.Base (kind_of z.name)) e) refl f.holds f.row,
           )
   base_ends (Cons (Group t h ps) us) d r a o q m = by_case f.fits.0
     where
       f : First k c at end s ss (Cons (Group t h ps) us)
       f = first_of k c at end s ss (Cons (Group t h ps) us) r
 
-      by_case : IsHead k t h (shapes_of ps) → (to : ℕ) × (seen (run (base_format (kind_of d.name)) c end at) ≡ Ok to) × Taken k c at end to (leaf_kinds.Base (kind_of d.name)) s.class ss (Cons (Group t h ps) us)
+      by_case : IsHead k t h (shapes_of ps) → (to : ℕ) × (end_or_flaw (run (base_format (kind_of d.name)) c end at) ≡ Ok to) × Taken k c at end to (leaf_kinds.Base (kind_of d.name)) s.class ss (Cons (Group t h ps) us)
       by_case (inl p) = let z : t.array ≡ false = array_is t s false f.shape a in let y = p.0 in cc
       by_case (inr p) = let e : p.2 ≡ d = found_is k t s p.2 d f.shape p.3 q in absurd (m (ap (λ (z : Class). kind_of z.name) (sym e) ∙ p.4))
 
   -- A composite value: its fields are what comes next.
-  pub fields_next : (vs : Values) (d : Class) → IsRow k c at end (s ∷ ss) vs → s.array ≡ false → s.constant ≡ false → find_class k s.class ≡ Some d → kind_of d.name ≡ kinds.Composite
-      → (ws : Values) × IsRow k c at end (map (λ f. f.shape) d.fields ++ ss) ws × (leaves_from at vs ≡ leaves_from at ws) × (size_of_all vs ≡ 2 + size_of_all ws)
+  pub fields_next : (vs : Values) (d : Class) → AreValues k c at end (s ∷ ss) vs → s.array ≡ false → s.constant ≡ false → find_class k s.class ≡ Some d → kind_of d.name ≡ kinds.Composite
+      → (ws : Values) × AreValues k c at end (map (λ f. f.shape) d.fields ++ ss) ws × (leaves_from at vs ≡ leaves_from at ws) × (size_of_all vs ≡ 2 + size_of_all ws)
   unfolding first_of
   fields_next Nil d r a o q m = let h = r.of_shapes in cc
   fields_next (Cons (Single t kind b key) us) d r a o q m = by_case f.fits
@@ -224,7 +224,7 @@ module _ (k : Classes) (c : List ℕ) (at end : ℕ) (s : Shape) (ss : List Shap
       f : First k c at end s ss (Cons (Single t kind b key) us)
       f = first_of k c at end s ss (Cons (Single t kind b key) us) r
 
-      by_case : IsSingle k t kind b key → (ws : Values) × IsRow k c at end (map (λ f. f.shape) d.fields ++ ss) ws × (leaves_from at (Cons (Single t kind b key) us) ≡ leaves_from at ws) × (size_of_all (Cons (Single t kind b key) us) ≡ 2 + size_of_all ws)
+      by_case : IsSingle k t kind b key → (ws : Values) × AreValues k c at end (map (λ f. f.shape) d.fields ++ ss) ws × (leaves_from at (Cons (Single t kind b key) us) ≡ leaves_from at ws) × (size_of_all (Cons (Single t kind b key) us) ≡ 2 + size_of_all ws)
       by_case (inl p) = let z : t.constant ≡ false = constant_is t s false f.shape o in let y = p.1 in cc
       by_case (inr p) = absurd (no_base k p.2 d b key (found_is k t s p.2 d f.shape p.3 q) m p.5)
   fields_next (Cons (Group t h ps) us) d r a o q m = by_case f.fits
@@ -232,7 +232,7 @@ module _ (k : Classes) (c : List ℕ) (at end : ℕ) (s : Shape) (ss : List Shap
       f : First k c at end s ss (Cons (Group t h ps) us)
       f = first_of k c at end s ss (Cons (Group t h ps) us) r
 
-      by_case : IsHead k t h (shapes_of ps) × AllFit k ps → (ws : Values) × IsRow k c at end (map (λ f. f.shape) d.fields ++ ss) ws × (leaves_from at (Cons (Group t h ps) us) ≡ leaves_from at ws) × (size_of_all (Cons (Group t h ps) us) ≡ 2 + size_of_all ws)
+      by_case : IsHead k t h (shapes_of ps) × AllFit k ps → (ws : Values) × AreValues k c at end (map (λ f. f.shape) d.fields ++ ss) ws × (leaves_from at (Cons (Group t h ps) us) ≡ leaves_from at ws) × (size_of_all (Cons (Group t h ps) us) ≡ 2 + size_of_all ws)
       by_case (inl p, g) = let z : t.array ≡ false = array_is t s false f.shape a in let y = p.0 in cc
       by_case (inr p, g) =
           let e : p.2 ≡ d = found_is k t s p.2 d f.shape p.3 q in
@@ -260,11 +260,11 @@ module _ (k : Classes) (c : List ℕ) (at end : ℕ) (s : Shape) (ss : List Shap
     others : Values
     shapes : shapes_of items ≡ replicate w.value (item_of s)
     fit : AllFit k items
-    row : IsRow k c w.end end (replicate w.value (item_of s) ++ ss) (behind items others)
-    rest : IsRow k c (w.end + length (bytes_of_all items)) end ss others
+    row : AreValues k c w.end end (replicate w.value (item_of s) ++ ss) (behind items others)
+    rest : AreValues k c (w.end + length (bytes_of_all items)) end ss others
     leaves : leaves_from at vs ≡ record { kind = leaf_kinds.Count w.value; class = s.class; at = at; spelled = slice_range c at w.end } ∷ leaves_from w.end (behind items others)
 
-  counted : (vs : Values) (w : Var) → IsRow k c at end (s ∷ ss) vs → s.array ≡ true → int_at c at end ≡ Some w → Counted vs w
+  counted : (vs : Values) (w : Var) → AreValues k c at end (s ∷ ss) vs → s.array ≡ true → int_at c at end ≡ Some w → Counted vs w
   unfolding first_of
   counted Nil w r a e = let h = r.of_shapes in cc
   counted (Cons (Single t kind b key) us) w r a e = by_case f.fits
@@ -281,7 +281,7 @@ module _ (k : Classes) (c : List ℕ) (at end : ℕ) (s : Shape) (ss : List Shap
       f = first_of k c at end s ss (Cons (Group t h ps) us) r
 
       g : Stands c at (at + length h) h × Stands c (at + length h) (at + length (h ++ bytes_of_all ps)) (bytes_of_all ps)
-      g = let y = stands_split c at (at + length (h ++ bytes_of_all ps)) (h ++ bytes_of_all ps) h (bytes_of_all ps) f.stands refl in (y.first, y.second)
+      g = let y = stands_split c at (at + length (h ++ bytes_of_all ps)) (h ++ bytes_of_all ps) h (bytes_of_all ps) f.holds refl in (y.first, y.second)
 
       by_case : IsHead k t h (shapes_of ps) × AllFit k ps → Counted (Cons (Group t h ps) us) w
       by_case (inr p, i) = let z : t.array ≡ true = array_is t s true f.shape a in let y = p.0 in cc
@@ -305,7 +305,7 @@ module _ (k : Classes) (c : List ℕ) (at end : ℕ) (s : Shape) (ss : List Shap
             shapes = n;
             fit = i;
             row = record { order = omega arith; within = r.within; bytes = b; fit = fit_behind k ps us i r.fit.1; of_shapes = shapes_behind ps us ∙ (ap (λ z. z ++ shapes_of us) n ∙ ap (λ z. replicate w.value (item_of s) ++ z) f.row.of_shapes) };
-            rest = subst (λ z. IsRow k c z end ss us) q f.row;
+            rest = subst (λ z. AreValues k c z end ss us) q f.row;
             leaves =
                 ap (λ z. ((if z then leaf (worth_within 8 h) t.class h ∷ [] else []) ++ leaves_from (at + length h) ps) ++ leaves_from (at + length (h ++ bytes_of_all ps)) us) p.0
                 ∙ (ap (λ z. (leaf z t.class h ∷ leaves_from (at + length h) ps) ++ leaves_from (at + length (h ++ bytes_of_all ps)) us) worth
@@ -316,10 +316,10 @@ module _ (k : Classes) (c : List ℕ) (at end : ℕ) (s : Shape) (ss : List Shap
                 ∙ ap (λ z. leaf w.value s.class (slice_range c at w.end) ∷ z) (sym (leaves_behind w.end ps us)))))));
           }
 
-  pub array_taken : (vs : Values) (w : Var) → IsRow k c at end (s ∷ ss) vs → s.array ≡ true → int_at c at end ≡ Some w → Taken k c at end w.end (leaf_kinds.Count w.value) s.class (replicate w.value (item_of s) ++ ss) vs
+  pub array_taken : (vs : Values) (w : Var) → AreValues k c at end (s ∷ ss) vs → s.array ≡ true → int_at c at end ≡ Some w → Taken k c at end w.end (leaf_kinds.Count w.value) s.class (replicate w.value (item_of s) ++ ss) vs
   array_taken vs w r a e = let x = counted vs w r a e in record { others = behind x.items x.others; row = x.row; leaves = x.leaves }
 
-  pub array_there : (vs : Values) → IsRow k c at end (s ∷ ss) vs → s.array ≡ true → int_at c at end ≡ None → ⊥
+  pub array_there : (vs : Values) → AreValues k c at end (s ∷ ss) vs → s.array ≡ true → int_at c at end ≡ None → ⊥
   unfolding first_of
   array_there Nil r a e = let h = r.of_shapes in cc
   array_there (Cons (Single t kind b key) us) r a e = by_case f.fits
@@ -338,7 +338,7 @@ module _ (k : Classes) (c : List ℕ) (at end : ℕ) (s : Shape) (ss : List Shap
       by_case : IsHead k t h (shapes_of ps) → ⊥
       by_case (inr p) = let z : t.array ≡ true = array_is t s true f.shape a in let y = p.0 in cc
       by_case (inl p) =
-          let y = stands_split c at (at + length (h ++ bytes_of_all ps)) (h ++ bytes_of_all ps) h (bytes_of_all ps) f.stands refl in
+          let y = stands_split c at (at + length (h ++ bytes_of_all ps)) (h ++ bytes_of_all ps) h (bytes_of_all ps) f.holds refl in
           let l = length-append h (bytes_of_all ps) in
           let m : at + length h ≤ end = (let o = f.row.order in omega arith) in
           int_not_none c at end p.1 h y.first p.2 m r.within e
@@ -362,7 +362,7 @@ module _ (k : Classes) (c : List ℕ) (at end : ℕ) (s : Shape) (ss : List Shap
       let d = get_within k place l in
       hollow_all d.0 o (placed_class k s.class place (p o known) ∙ d.1) (subst (λ z. IfSome z IsHollow) d.1 h) (suc n) (Cons v ps) e f
 
-  pub hollow_taken : (vs : Values) (w : Var) (place : ℕ) → IsRow k c at end (s ∷ ss) vs → s.array ≡ true → int_at c at end ≡ Some w → IsPlacedIfKnown k s place → s.constant ≡ false → place < length k → IfSome (slice_get k place) IsHollow
+  pub hollow_taken : (vs : Values) (w : Var) (place : ℕ) → AreValues k c at end (s ∷ ss) vs → s.array ≡ true → int_at c at end ≡ Some w → IsPlacedIfKnown k s place → s.constant ≡ false → place < length k → IfSome (slice_get k place) IsHollow
       → Taken k c at end w.end (leaf_kinds.Count w.value) s.class ss vs
   hollow_taken vs w place r a e p o l h =
       let x = counted vs w r a e in
@@ -371,7 +371,7 @@ module _ (k : Classes) (c : List ℕ) (at end : ℕ) (s : Shape) (ss : List Shap
       let n : leaves_from w.end x.items ≡ [] = (let y : length (leaves_from w.end x.items) ≤ length (bytes_of_all x.items) = all_within k w.end x.items x.fit in let u : length (bytes_of_all x.items) ≡ 0 = ap length b in none_of (leaves_from w.end x.items) (omega arith)) in
       record {
         others = x.others;
-        row = subst (λ y. IsRow k c y end ss x.others) z x.rest;
+        row = subst (λ y. AreValues k c y end ss x.others) z x.rest;
         leaves = x.leaves ∙ ap (λ y. record { kind = leaf_kinds.Count w.value; class = s.class; at = at; spelled = slice_range c at w.end } ∷ y) (leaves_behind w.end x.items x.others ∙ (ap (λ y. y ++ leaves_from (w.end + length (bytes_of_all x.items)) x.others) n ∙ ap (λ y. leaves_from y x.others) z));
       }
     where
@@ -386,7 +386,7 @@ pub record Placed (k : Classes) (s : Shape) (place : ℕ) : Type 0 where
   pub there : slice_get k place ≡ Some class
   pub within : place < length k
 
-pub inline_placed : (k : Classes) (c : List ℕ) (at end : ℕ) (s : Shape) (ss : List Shape) (vs : Values) (place : ℕ) → IsRow k c at end (s ∷ ss) vs → s.array ≡ false → s.constant ≡ false → IsPlacedIfKnown k s place → Placed k s place
+pub inline_placed : (k : Classes) (c : List ℕ) (at end : ℕ) (s : Shape) (ss : List Shape) (vs : Values) (place : ℕ) → AreValues k c at end (s ∷ ss) vs → s.array ≡ false → s.constant ≡ false → IsPlacedIfKnown k s place → Placed k s place
 inline_placed k c at end s ss vs place r a o p =
     let f = first_of k c at end s ss vs r in
     let known : IsSome (find_class k s.class) = subst (λ (z : Shape). IsSome (find_class k z.class)) f.shape (inline_known k f.value (array_is (shape_of f.value) s false f.shape a) (constant_is (shape_of f.value) s false f.shape o) f.fits) in
@@ -394,19 +394,19 @@ inline_placed k c at end s ss vs place r a o p =
     let d = placed_some k s.class place q in
     record { class = d.0; found = placed_class k s.class place q ∙ d.1; there = d.1; within = placed_within k s.class place q }
 
-pub base_found : (k : Classes) (c : List ℕ) (at end : ℕ) (s : Shape) (ss : List Shape) (vs : Values) (d : Class) (kind : Kind) → IsRow k c at end (s ∷ ss) vs → s.array ≡ false → s.constant ≡ false → find_class k s.class ≡ Some d → kind ≡ kind_of d.name → kind ≢ kinds.Composite
-    → (to : ℕ) × (seen (run (base_format kind) c end at) ≡ Ok to) × Taken k c at end to (leaf_kinds.Base kind) s.class ss vs
+pub base_found : (k : Classes) (c : List ℕ) (at end : ℕ) (s : Shape) (ss : List Shape) (vs : Values) (d : Class) (kind : Kind) → AreValues k c at end (s ∷ ss) vs → s.array ≡ false → s.constant ≡ false → find_class k s.class ≡ Some d → kind ≡ kind_of d.name → kind ≢ kinds.Composite
+    → (to : ℕ) × (end_or_flaw (run (base_format kind) c end at) ≡ Ok to) × Taken k c at end to (leaf_kinds.Base kind) s.class ss vs
 base_found k c at end s ss vs d kind r a o q e m =
-    subst (λ z. (to : ℕ) × (seen (run (base_format z) c end at) ≡ Ok to) × Taken k c at end to (leaf_kinds.Base z) s.class ss vs) (sym e) (base_ends k c at end s ss vs d r a o q (λ z. m (e ∙ z)))
+    subst (λ z. (to : ℕ) × (end_or_flaw (run (base_format z) c end at) ≡ Ok to) × Taken k c at end to (leaf_kinds.Base z) s.class ss vs) (sym e) (base_ends k c at end s ss vs d r a o q (λ z. m (e ∙ z)))
 
 -- An array whose items are walked over, or have no bytes.
-pub array_found : (k : Classes) (c : List ℕ) (at end : ℕ) (s : Shape) (ss : List Shape) (vs : Values) (w : Var) (place left : ℕ) → IsRow k c at end (s ∷ ss) vs → s.array ≡ true → int_at c at end ≡ Some w → IsPlacedIfKnown k s place
-    → (left ≡ w.value) ⊎ ((left ≡ 0) × (s.constant ≡ false) × (place < length k) × IfSome (slice_get k place) IsHollow) → Taken k c at end w.end (leaf_kinds.Count w.value) s.class (replicate left (item_of s) ++ ss) vs
-array_found k c at end s ss vs w place left r a e p (inl q) = subst (λ z. Taken k c at end w.end (leaf_kinds.Count w.value) s.class (replicate z (item_of s) ++ ss) vs) (sym q) (array_taken k c at end s ss vs w r a e)
-array_found k c at end s ss vs w place left r a e p (inr q) = subst (λ z. Taken k c at end w.end (leaf_kinds.Count w.value) s.class (replicate z (item_of s) ++ ss) vs) (sym q.0) (hollow_taken k c at end s ss vs w place r a e p q.1 q.2 q.3)
+pub array_found : (k : Classes) (c : List ℕ) (at end : ℕ) (s : Shape) (ss : List Shape) (vs : Values) (w : Var) (place remaining : ℕ) → AreValues k c at end (s ∷ ss) vs → s.array ≡ true → int_at c at end ≡ Some w → IsPlacedIfKnown k s place
+    → (remaining ≡ w.value) ⊎ ((remaining ≡ 0) × (s.constant ≡ false) × (place < length k) × IfSome (slice_get k place) IsHollow) → Taken k c at end w.end (leaf_kinds.Count w.value) s.class (replicate remaining (item_of s) ++ ss) vs
+array_found k c at end s ss vs w place remaining r a e p (inl q) = subst (λ z. Taken k c at end w.end (leaf_kinds.Count w.value) s.class (replicate z (item_of s) ++ ss) vs) (sym q) (array_taken k c at end s ss vs w r a e)
+array_found k c at end s ss vs w place remaining r a e p (inr q) = subst (λ z. Taken k c at end w.end (leaf_kinds.Count w.value) s.class (replicate z (item_of s) ++ ss) vs) (sym q.0) (hollow_taken k c at end s ss vs w place r a e p q.1 q.2 q.3)
 
 -- If no shapes are left, no leaves are.
-pub no_leaves : (k : Classes) (c : List ℕ) (at end : ℕ) (vs : Values) → IsRow k c at end [] vs → leaves_from at vs ≡ []
+pub no_leaves : (k : Classes) (c : List ℕ) (at end : ℕ) (vs : Values) → AreValues k c at end [] vs → leaves_from at vs ≡ []
 no_leaves k c at end Nil r = refl
 no_leaves k c at end (Cons v vs) r = let h = r.of_shapes in cc
 
@@ -421,26 +421,26 @@ rows_exact k (t ∷ ss) (Cons v vs) s f e =
     bind_exact (value_format k t) (λ a. for_each ss (value_format k) >>= λ rest. Done (a ∷ rest)) (bytes_of v) (bytes_of_all vs) (bytes_of v ++ bytes_of_all vs) v (v ∷ list_of vs) refl (subst (λ z. Exactly (value_format k z) (bytes_of v) v) q (fits_good k v s f.0))
     (bind_exact (for_each ss (value_format k)) (λ rest. Done (v ∷ rest)) (bytes_of_all vs) [] (bytes_of_all vs) (list_of vs) (v ∷ list_of vs) (sym (append-nil (bytes_of_all vs))) (rows_exact k ss vs s f.1 r) (refl, refl))
 
-pub left_is : (k : Classes) (c : List ℕ) (end : ℕ) (cursor : Cursor) (vs : Values) → Sound k → IsLeft k c end cursor vs → values_left k c end cursor ≡ vs
-unfolding values_left
-left_is k c end cursor vs s r =
-    ap got_values (exact_run c end r.within (for_each (shapes_left k cursor.stack) (value_format k)) cursor.at end (bytes_of_all vs) (list_of vs) (rows_exact k (shapes_left k cursor.stack) vs s r.fit r.of_shapes) (record { order = r.order; within = r.within; bytes = r.bytes }) (omega arith))
+pub remaining_is : (k : Classes) (c : List ℕ) (end : ℕ) (cursor : Cursor) (vs : Values) → Sound k → AreRemaining k c end cursor vs → remaining_values k c end cursor ≡ vs
+unfolding remaining_values
+remaining_is k c end cursor vs s r =
+    ap got_values (exact_run c end r.within (for_each (remaining_shapes k cursor.stack) (value_format k)) cursor.at end (bytes_of_all vs) (list_of vs) (rows_exact k (remaining_shapes k cursor.stack) vs s r.fit r.of_shapes) (record { order = r.order; within = r.within; bytes = r.bytes }) (omega arith))
     ∙ values_again vs
 
 -- A walk that goes on.
-pub walk_on : (k : Classes) (c : List ℕ) (end : ℕ) (cursor : Cursor) (ws : Values) → Sound k → AreFrames k 0 cursor.stack → IsLeft k c end cursor ws → IsWalk k c end cursor
-walk_on k c end cursor ws s f l = record { sound = s; frames = f; left = subst (IsLeft k c end cursor) (sym (left_is k c end cursor ws s l)) l }
+pub walk_on : (k : Classes) (c : List ℕ) (end : ℕ) (cursor : Cursor) (ws : Values) → Sound k → AreFrames k 0 cursor.stack → AreRemaining k c end cursor ws → IsWalk k c end cursor
+walk_on k c end cursor ws s f l = record { sound = s; frames = f; remaining = subst (AreRemaining k c end cursor) (sym (remaining_is k c end cursor ws s l)) l }
 
-pub leaves_are_left : (k : Classes) (c : List ℕ) (end : ℕ) (cursor : Cursor) (ws : Values) → Sound k → IsLeft k c end cursor ws → leaves_left k c end cursor ≡ leaves_from cursor.at ws
-leaves_are_left k c end cursor ws s l = ap (leaves_from cursor.at) (left_is k c end cursor ws s l)
+pub leaves_are_remaining : (k : Classes) (c : List ℕ) (end : ℕ) (cursor : Cursor) (ws : Values) → Sound k → AreRemaining k c end cursor ws → remaining_leaves k c end cursor ≡ leaves_from cursor.at ws
+leaves_are_remaining k c end cursor ws s l = ap (leaves_from cursor.at) (remaining_is k c end cursor ws s l)
 
 -- A walk that begins at a node.
 pub walk_begins : (k : Classes) (c : List ℕ) (n : NodeAt) (v : Value) (place : ℕ) (cursor : Cursor) → Sound k → IsNode k c n v → IsPlacedIfKnown k n.shape place → cursor.at ≡ n.at → cursor.stack ≡ Items n.shape place 1 33 ∷ []
-    → AreFrames k 0 cursor.stack × IsLeft k c n.end cursor (Cons v Nil)
+    → AreFrames k 0 cursor.stack × AreRemaining k c n.end cursor (Cons v Nil)
 walk_begins k c n v place cursor s i p a e =
-    let r : IsRow k c n.at n.end (n.shape ∷ []) (Cons v Nil) = record { order = i.order; within = i.within; bytes = i.bytes ∙ sym (append-nil (bytes_of v)); fit = (i.fits, tt); of_shapes = ap (λ z. z ∷ []) (sym i.shape) } in (
+    let r : AreValues k c n.at n.end (n.shape ∷ []) (Cons v Nil) = record { order = i.order; within = i.within; bytes = i.bytes ∙ sym (append-nil (bytes_of v)); fit = (i.fits, tt); of_shapes = ap (λ z. z ∷ []) (sym i.shape) } in (
       subst (λ (z : List Frame). AreFrames k 0 z) (sym e) ((either_height n.shape.array 67 (omega arith), p, λ o d q m. sound_inline k n.shape.class d s q), tt),
-      subst (λ (z : List Frame). IsRow k c cursor.at n.end (shapes_left k z) (Cons v Nil)) (sym e) (subst (λ z. IsRow k c z n.end (n.shape ∷ []) (Cons v Nil)) (sym a) r),
+      subst (λ (z : List Frame). AreValues k c cursor.at n.end (remaining_shapes k z) (Cons v Nil)) (sym e) (subst (λ z. AreValues k c z n.end (n.shape ∷ []) (Cons v Nil)) (sym a) r),
     )
 
 pub first_leaves : (k : Classes) (c : List ℕ) (n : NodeAt) (v : Value) → Sound k → IsNode k c n v → leaves_from n.at (Cons v Nil) ≡ leaves k c n

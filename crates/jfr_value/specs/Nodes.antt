@@ -48,7 +48,7 @@ abbrev pub EndsAt : Classes → List ℕ → Shape → ℕ → ℕ → Type 0
 EndsAt k c s at to = (v : Value) × IsNode k c (node_at s at to) v
 
 -- There are values of these shapes, one after another, from one offset up to the other.
-pub record IsRow (k : Classes) (c : List ℕ) (at to : ℕ) (shapes : List Shape) (vs : Values) : Type 0 where
+pub record AreValues (k : Classes) (c : List ℕ) (at to : ℕ) (shapes : List Shape) (vs : Values) : Type 0 where
   pub order : at ≤ to
   pub within : to ≤ length c
   pub bytes : slice_range c at to ≡ bytes_of_all vs

@@ -56,8 +56,8 @@ class_format zero k s = Refuse InlineDeep
 class_format (suc n) k s = inline_format (class_format n k) s (find_class k s.class)
 
 -- The values of these layouts, one after another, each with at most `depth` classes nested.
-abbrev pub row_format : ℕ → Classes → List FieldLayout → Format (List Value)
-row_format depth k layouts = for_each layouts (λ s. shape_format (class_format depth k) s.shape)
+abbrev pub values_format : ℕ → Classes → List FieldLayout → Format (List Value)
+values_format depth k layouts = for_each layouts (λ s. shape_format (class_format depth k) s.shape)
 
 -- A value of a shape: 33 composite classes and one of a base name can be nested.
 unfoldable pub value_format : Classes → Shape → Format Value

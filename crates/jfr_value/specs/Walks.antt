@@ -13,22 +13,22 @@ use Rattle.jfr_value.specs.declared.cursor.Progress.TheVariants.{Ended, Onward, 
 use Rattle.jfr_value.specs.declared.cursor.Cursor.{Cursor}
 use Rattle.jfr_value.specs.Values.{Value, Values, Single, Group, Nil, Cons, values_of}
 use Rattle.jfr_value.specs.Reading.{value_format}
-use Rattle.jfr_value.specs.Nodes.{IsRow}
+use Rattle.jfr_value.specs.Nodes.{AreValues}
 use Rattle.jfr_value.specs.Leaves.{LeafAt, leaf_of, leaves_from}
 
 -- No chain of n inline steps begins with an inline value of the shape.
-abbrev pub Room : Classes → ℕ → Shape → Type 0
-Room k n s = s.constant ≡ false → (c : Class) → find_class k s.class ≡ Some c → is_composite (kind_of c.name) ≡ true → goes_inline n k c ≡ false
+abbrev pub DepthBound : Classes → ℕ → Shape → Type 0
+DepthBound k n s = s.constant ≡ false → (c : Class) → find_class k s.class ≡ Some c → is_composite (kind_of c.name) ≡ true → goes_inline n k c ≡ false
 
 -- The shapes of the values that a frame still has.
 abbrev pub frame_shapes : Classes → Frame → List Shape
 frame_shapes k (Fields place number levels) = option_map_or (λ c. map (λ f. f.shape) (drop number c.fields)) (slice_get k place) []
-frame_shapes k (Items shape place left levels) = replicate left shape
+frame_shapes k (Items shape place remaining levels) = replicate remaining shape
 
 -- The shapes of the values that a stack still has; those of its last frame come first.
-abbrev pub shapes_left : Classes → List Frame → List Shape
-shapes_left k [] = []
-shapes_left k (f ∷ fs) = shapes_left k fs ++ frame_shapes k f
+abbrev pub remaining_shapes : Classes → List Frame → List Shape
+remaining_shapes k [] = []
+remaining_shapes k (f ∷ fs) = remaining_shapes k fs ++ frame_shapes k f
 
 -- This is the index of the class of the shape, if the class is known.
 abbrev pub IsPlacedIfKnown : Classes → Shape → ℕ → Type 0
@@ -41,8 +41,8 @@ pub record IsLayoutIfKnown (k : Classes) (s : FieldLayout) : Type 0 where
 
 -- A frame at a height of the stack: at most `levels` inline steps can follow, each with at most two frames.
 abbrev pub IsFrame : Classes → ℕ → Frame → Type 0
-IsFrame k height (Fields place number levels) = (height + 2 * levels ≤ 67) × (place < length k) × ((c : Class) → slice_get k place ≡ Some c → AllByRecursion (λ f. Room k levels f.shape) c.fields)
-IsFrame k height (Items shape place left levels) = (height + 2 * levels ≤ (if shape.array then 67 else 68)) × IsPlacedIfKnown k shape place × Room k levels shape
+IsFrame k height (Fields place number levels) = (height + 2 * levels ≤ 67) × (place < length k) × ((c : Class) → slice_get k place ≡ Some c → AllByRecursion (λ f. DepthBound k levels f.shape) c.fields)
+IsFrame k height (Items shape place remaining levels) = (height + 2 * levels ≤ (if shape.array then 67 else 68)) × IsPlacedIfKnown k shape place × DepthBound k levels shape
 
 -- Each frame of a stack is a frame at its height, counted from the bottom.
 abbrev pub AreFrames : Classes → ℕ → List Frame → Type 0
@@ -50,8 +50,8 @@ AreFrames k height [] = ⊤
 AreFrames k height (f ∷ fs) = IsFrame k (suc height) f × AreFrames k (suc height) fs
 
 -- These values are left, up to `end`.
-abbrev pub IsLeft : Classes → List ℕ → ℕ → Cursor → Values → Type 0
-IsLeft k c end cursor vs = IsRow k c cursor.at end (shapes_left k cursor.stack) vs
+abbrev pub AreRemaining : Classes → List ℕ → ℕ → Cursor → Values → Type 0
+AreRemaining k c end cursor vs = AreValues k c cursor.at end (remaining_shapes k cursor.stack) vs
 
 -- The values that were read; none if one was refused.
 abbrev pub got_values : Answer (List Value) → Values
@@ -59,12 +59,12 @@ got_values (Ok g) = values_of g.value
 got_values (Err e) = Nil
 
 -- The values that are left, by computing.
-unfoldable pub values_left : Classes → List ℕ → ℕ → Cursor → Values
-values_left k c end cursor = got_values (run (for_each (shapes_left k cursor.stack) (value_format k)) c end cursor.at)
+unfoldable pub remaining_values : Classes → List ℕ → ℕ → Cursor → Values
+remaining_values k c end cursor = got_values (run (for_each (remaining_shapes k cursor.stack) (value_format k)) c end cursor.at)
 
 -- The leaves that are left.
-abbrev pub leaves_left : Classes → List ℕ → ℕ → Cursor → List LeafAt
-leaves_left k c end cursor = leaves_from cursor.at (values_left k c end cursor)
+abbrev pub remaining_leaves : Classes → List ℕ → ℕ → Cursor → List LeafAt
+remaining_leaves k c end cursor = leaves_from cursor.at (remaining_values k c end cursor)
 
 -- The number of values, where each with parts counts twice, so that every step of a walk makes the number
 -- smaller.
@@ -79,12 +79,12 @@ abbrev mutual
 
 -- What one step of a walk does: it ends, gives the first leaf, or comes closer to it.
 abbrev pub GoesOn : Classes → List ℕ → ℕ → ℕ → Values → ℕ → Cursor → Progress → Type 0
-GoesOn k c end at vs size cursor Ended = (ws : Values) × IsLeft k c end cursor ws × (leaves_from at vs ≡ []) × (leaves_from cursor.at ws ≡ [])
-GoesOn k c end at vs size cursor (Found leaf) = (ws : Values) × IsLeft k c end cursor ws × (leaves_from at vs ≡ leaf_of leaf ∷ leaves_from cursor.at ws)
-GoesOn k c end at vs size cursor Onward = (ws : Values) × IsLeft k c end cursor ws × (leaves_from at vs ≡ leaves_from cursor.at ws) × (size_of_all ws + length cursor.stack < size)
+GoesOn k c end at vs size cursor Ended = (ws : Values) × AreRemaining k c end cursor ws × (leaves_from at vs ≡ []) × (leaves_from cursor.at ws ≡ [])
+GoesOn k c end at vs size cursor (Found leaf) = (ws : Values) × AreRemaining k c end cursor ws × (leaves_from at vs ≡ leaf_of leaf ∷ leaves_from cursor.at ws)
+GoesOn k c end at vs size cursor Onward = (ws : Values) × AreRemaining k c end cursor ws × (leaves_from at vs ≡ leaves_from cursor.at ws) × (size_of_all ws + length cursor.stack < size)
 
 -- A walk over values, which are there.
 pub record IsWalk (k : Classes) (c : List ℕ) (end : ℕ) (cursor : Cursor) : Type 0 where
   pub sound : Sound k
   pub frames : AreFrames k 0 cursor.stack
-  pub left : IsLeft k c end cursor (values_left k c end cursor)
+  pub remaining : AreRemaining k c end cursor (remaining_values k c end cursor)

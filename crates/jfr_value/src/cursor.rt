@@ -5,10 +5,10 @@ ghost use Rattle.jfr_layout.specs.Classes.{Sound, find_class, kind_of};
 ghost use Rattle.jfr_layout.specs.declared.class.ClassInfo.{ClassInfo};
 ghost use Rattle.jfr_layout.specs.declared.kind.Kind.TheVariants as kinds;
 ghost use Rattle.jfr_value.specs.Leaves.{leaf_of, leaves_from};
-ghost use Rattle.jfr_value.specs.Nodes.{IsRow};
+ghost use Rattle.jfr_value.specs.Nodes.{AreValues};
 ghost use Rattle.jfr_value.specs.Values.{IsHollow, Values};
 ghost use Rattle.jfr_value.specs.declared.stack.Frame.TheVariants.{Fields, Items};
-ghost use Rattle.jfr_value.specs.Walks.{AreFrames, GoesOn, IsFrame, IsLeft, IsPlacedIfKnown, Room, frame_shapes, shapes_left, size_of_all};
+ghost use Rattle.jfr_value.specs.Walks.{AreFrames, GoesOn, IsFrame, AreRemaining, IsPlacedIfKnown, DepthBound, frame_shapes, remaining_shapes, size_of_all};
 
 use crate::extent::{base_end, is_hollow};
 use crate::part::item_of;
@@ -42,7 +42,7 @@ pub(crate) enum Progress<'a> {
 struct RemainingItems {
     shape: Shape,
     place: usize,
-    left: u64,
+    remaining: u64,
     levels: u32,
 }
 
@@ -50,9 +50,9 @@ struct RemainingItems {
 pub(crate) fn next_in<'a>(cursor: &mut Cursor, walk: &Walk<'_, 'a, ()>) -> Option<Leaf<'a>>
     requires sound { Sound walk.now.classes.now }
     requires frames { AreFrames walk.now.classes.now 0 cursor.old.stack }
-    requires left { (vs : Values) × IsLeft walk.now.classes.now walk.now.bytes.now walk.now.end cursor.old vs }
+    requires remaining { (vs : Values) × AreRemaining walk.now.classes.now walk.now.bytes.now walk.now.end cursor.old vs }
     ensures frames { AreFrames walk.now.classes.now 0 cursor.new.stack }
-    ensures left { (vs : Values) → IsLeft walk.now.classes.now walk.now.bytes.now walk.now.end cursor.old vs → MatchOption result ((ws : Values) × IsLeft walk.now.classes.now walk.now.bytes.now walk.now.end cursor.new ws × (leaves_from cursor.old.at vs ≡ []) × (leaves_from cursor.new.at ws ≡ [])) (λ leaf. (ws : Values) × IsLeft walk.now.classes.now walk.now.bytes.now walk.now.end cursor.new ws × (leaves_from cursor.old.at vs ≡ leaf_of leaf ∷ leaves_from cursor.new.at ws)) }
+    ensures remaining { (vs : Values) → AreRemaining walk.now.classes.now walk.now.bytes.now walk.now.end cursor.old vs → MatchOption result ((ws : Values) × AreRemaining walk.now.classes.now walk.now.bytes.now walk.now.end cursor.new ws × (leaves_from cursor.old.at vs ≡ []) × (leaves_from cursor.new.at ws ≡ [])) (λ leaf. (ws : Values) × AreRemaining walk.now.classes.now walk.now.bytes.now walk.now.end cursor.new ws × (leaves_from cursor.old.at vs ≡ leaf_of leaf ∷ leaves_from cursor.new.at ws)) }
 {
     loop {
         match advance(cursor, walk) {
@@ -67,9 +67,9 @@ pub(crate) fn next_in<'a>(cursor: &mut Cursor, walk: &Walk<'_, 'a, ()>) -> Optio
 fn advance<'a>(cursor: &mut Cursor, walk: &Walk<'_, 'a, ()>) -> Progress<'a>
     requires sound { Sound walk.now.classes.now }
     requires frames { AreFrames walk.now.classes.now 0 cursor.old.stack }
-    requires left { (vs : Values) × IsLeft walk.now.classes.now walk.now.bytes.now walk.now.end cursor.old vs }
+    requires remaining { (vs : Values) × AreRemaining walk.now.classes.now walk.now.bytes.now walk.now.end cursor.old vs }
     ensures frames { AreFrames walk.now.classes.now 0 cursor.new.stack }
-    ensures left { (vs : Values) → IsLeft walk.now.classes.now walk.now.bytes.now walk.now.end cursor.old vs → GoesOn walk.now.classes.now walk.now.bytes.now walk.now.end cursor.old.at vs (size_of_all vs + length cursor.old.stack) cursor.new result }
+    ensures remaining { (vs : Values) → AreRemaining walk.now.classes.now walk.now.bytes.now walk.now.end cursor.old vs → GoesOn walk.now.classes.now walk.now.bytes.now walk.now.end cursor.old.at vs (size_of_all vs + length cursor.old.stack) cursor.new result }
 {
     match cursor.stack.pop() {
         None => Progress::Ended,
@@ -84,7 +84,7 @@ fn advance<'a>(cursor: &mut Cursor, walk: &Walk<'_, 'a, ()>) -> Progress<'a>
             Frame::Items {
                 shape,
                 place,
-                left,
+                remaining,
                 levels,
             },
         ) => next_item(
@@ -93,7 +93,7 @@ fn advance<'a>(cursor: &mut Cursor, walk: &Walk<'_, 'a, ()>) -> Progress<'a>
             RemainingItems {
                 shape,
                 place,
-                left,
+                remaining,
                 levels,
             },
         ),
@@ -111,9 +111,9 @@ fn next_field<'a>(
     requires sound { Sound walk.now.classes.now }
     requires frames { AreFrames walk.now.classes.now 0 cursor.old.stack }
     requires frame { IsFrame walk.now.classes.now (length cursor.old.stack + 1) (Fields place number levels) }
-    requires left { (vs : Values) × IsRow walk.now.classes.now walk.now.bytes.now cursor.old.at walk.now.end (frame_shapes walk.now.classes.now (Fields place number levels) ++ shapes_left walk.now.classes.now cursor.old.stack) vs }
+    requires remaining { (vs : Values) × AreValues walk.now.classes.now walk.now.bytes.now cursor.old.at walk.now.end (frame_shapes walk.now.classes.now (Fields place number levels) ++ remaining_shapes walk.now.classes.now cursor.old.stack) vs }
     ensures frames { AreFrames walk.now.classes.now 0 cursor.new.stack }
-    ensures left { (vs : Values) → IsRow walk.now.classes.now walk.now.bytes.now cursor.old.at walk.now.end (frame_shapes walk.now.classes.now (Fields place number levels) ++ shapes_left walk.now.classes.now cursor.old.stack) vs → GoesOn walk.now.classes.now walk.now.bytes.now walk.now.end cursor.old.at vs (size_of_all vs + (length cursor.old.stack + 1)) cursor.new result }
+    ensures remaining { (vs : Values) → AreValues walk.now.classes.now walk.now.bytes.now cursor.old.at walk.now.end (frame_shapes walk.now.classes.now (Fields place number levels) ++ remaining_shapes walk.now.classes.now cursor.old.stack) vs → GoesOn walk.now.classes.now walk.now.bytes.now walk.now.end cursor.old.at vs (size_of_all vs + (length cursor.old.stack + 1)) cursor.new result }
 {
     let layouts = walk.classes.layouts(place);
     if number >= layouts.len() {
@@ -136,18 +136,18 @@ fn next_item<'a>(
 ) -> Progress<'a>
     requires sound { Sound walk.now.classes.now }
     requires frames { AreFrames walk.now.classes.now 0 cursor.old.stack }
-    requires frame { IsFrame walk.now.classes.now (length cursor.old.stack + 1) (Items items.shape items.place items.left items.levels) }
-    requires left { (vs : Values) × IsRow walk.now.classes.now walk.now.bytes.now cursor.old.at walk.now.end (frame_shapes walk.now.classes.now (Items items.shape items.place items.left items.levels) ++ shapes_left walk.now.classes.now cursor.old.stack) vs }
+    requires frame { IsFrame walk.now.classes.now (length cursor.old.stack + 1) (Items items.shape items.place items.remaining items.levels) }
+    requires remaining { (vs : Values) × AreValues walk.now.classes.now walk.now.bytes.now cursor.old.at walk.now.end (frame_shapes walk.now.classes.now (Items items.shape items.place items.remaining items.levels) ++ remaining_shapes walk.now.classes.now cursor.old.stack) vs }
     ensures frames { AreFrames walk.now.classes.now 0 cursor.new.stack }
-    ensures left { (vs : Values) → IsRow walk.now.classes.now walk.now.bytes.now cursor.old.at walk.now.end (frame_shapes walk.now.classes.now (Items items.shape items.place items.left items.levels) ++ shapes_left walk.now.classes.now cursor.old.stack) vs → GoesOn walk.now.classes.now walk.now.bytes.now walk.now.end cursor.old.at vs (size_of_all vs + (length cursor.old.stack + 1)) cursor.new result }
+    ensures remaining { (vs : Values) → AreValues walk.now.classes.now walk.now.bytes.now cursor.old.at walk.now.end (frame_shapes walk.now.classes.now (Items items.shape items.place items.remaining items.levels) ++ remaining_shapes walk.now.classes.now cursor.old.stack) vs → GoesOn walk.now.classes.now walk.now.bytes.now walk.now.end cursor.old.at vs (size_of_all vs + (length cursor.old.stack + 1)) cursor.new result }
 {
-    if items.left == 0 {
+    if items.remaining == 0 {
         return Progress::Onward;
     }
     cursor.stack.push(Frame::Items {
         shape: items.shape,
         place: items.place,
-        left: items.left - 1,
+        remaining: items.remaining - 1,
         levels: items.levels,
     });
     enter(cursor, walk, items.shape, items.place, items.levels)
@@ -165,10 +165,10 @@ fn enter<'a>(
     requires frames { AreFrames walk.now.classes.now 0 cursor.old.stack }
     requires height { length cursor.old.stack + 2 * levels ≤ (if shape.array then 67 else 68) }
     requires placed { IsPlacedIfKnown walk.now.classes.now shape place }
-    requires room { Room walk.now.classes.now levels shape }
-    requires left { (vs : Values) × IsRow walk.now.classes.now walk.now.bytes.now cursor.old.at walk.now.end (shape ∷ shapes_left walk.now.classes.now cursor.old.stack) vs }
+    requires depth { DepthBound walk.now.classes.now levels shape }
+    requires remaining { (vs : Values) × AreValues walk.now.classes.now walk.now.bytes.now cursor.old.at walk.now.end (shape ∷ remaining_shapes walk.now.classes.now cursor.old.stack) vs }
     ensures frames { AreFrames walk.now.classes.now 0 cursor.new.stack }
-    ensures left { (vs : Values) → IsRow walk.now.classes.now walk.now.bytes.now cursor.old.at walk.now.end (shape ∷ shapes_left walk.now.classes.now cursor.old.stack) vs → GoesOn walk.now.classes.now walk.now.bytes.now walk.now.end cursor.old.at vs (size_of_all vs + length cursor.old.stack) cursor.new result }
+    ensures remaining { (vs : Values) → AreValues walk.now.classes.now walk.now.bytes.now cursor.old.at walk.now.end (shape ∷ remaining_shapes walk.now.classes.now cursor.old.stack) vs → GoesOn walk.now.classes.now walk.now.bytes.now walk.now.end cursor.old.at vs (size_of_all vs + length cursor.old.stack) cursor.new result }
 {
     if shape.array {
         return enter_array(cursor, walk, shape, place, levels);
@@ -201,10 +201,10 @@ fn enter_array<'a>(
     requires frames { AreFrames walk.now.classes.now 0 cursor.old.stack }
     requires height { length cursor.old.stack + 2 * levels ≤ 67 }
     requires placed { IsPlacedIfKnown walk.now.classes.now shape place }
-    requires room { Room walk.now.classes.now levels shape }
-    requires left { (vs : Values) × IsRow walk.now.classes.now walk.now.bytes.now cursor.old.at walk.now.end (shape ∷ shapes_left walk.now.classes.now cursor.old.stack) vs }
+    requires depth { DepthBound walk.now.classes.now levels shape }
+    requires remaining { (vs : Values) × AreValues walk.now.classes.now walk.now.bytes.now cursor.old.at walk.now.end (shape ∷ remaining_shapes walk.now.classes.now cursor.old.stack) vs }
     ensures frames { AreFrames walk.now.classes.now 0 cursor.new.stack }
-    ensures left { (vs : Values) → IsRow walk.now.classes.now walk.now.bytes.now cursor.old.at walk.now.end (shape ∷ shapes_left walk.now.classes.now cursor.old.stack) vs → GoesOn walk.now.classes.now walk.now.bytes.now walk.now.end cursor.old.at vs (size_of_all vs + length cursor.old.stack) cursor.new result }
+    ensures remaining { (vs : Values) → AreValues walk.now.classes.now walk.now.bytes.now cursor.old.at walk.now.end (shape ∷ remaining_shapes walk.now.classes.now cursor.old.stack) vs → GoesOn walk.now.classes.now walk.now.bytes.now walk.now.end cursor.old.at vs (size_of_all vs + length cursor.old.stack) cursor.new result }
 {
     let Ok(count) = read_within(walk.bytes, cursor.at, walk.end) else {
         unreachable!()
@@ -220,7 +220,7 @@ fn enter_array<'a>(
     cursor.stack.push(Frame::Items {
         shape: item_of(shape),
         place,
-        left: items_to_walk(walk.classes, shape, place, count.value),
+        remaining: items_to_walk(walk.classes, shape, place, count.value),
         levels,
     });
     Progress::Found(leaf)
@@ -243,9 +243,9 @@ fn items_to_walk(classes: &Classes, shape: Shape, place: usize, count: u64) -> u
 fn enter_key<'a>(cursor: &mut Cursor, walk: &Walk<'_, 'a, ()>, shape: Shape) -> Progress<'a>
     requires array { shape.array ≡ false }
     requires constant { shape.constant ≡ true }
-    requires left { (vs : Values) × IsRow walk.now.classes.now walk.now.bytes.now cursor.old.at walk.now.end (shape ∷ shapes_left walk.now.classes.now cursor.old.stack) vs }
+    requires remaining { (vs : Values) × AreValues walk.now.classes.now walk.now.bytes.now cursor.old.at walk.now.end (shape ∷ remaining_shapes walk.now.classes.now cursor.old.stack) vs }
     ensures stack { cursor.new.stack ≡ cursor.old.stack }
-    ensures left { (vs : Values) → IsRow walk.now.classes.now walk.now.bytes.now cursor.old.at walk.now.end (shape ∷ shapes_left walk.now.classes.now cursor.old.stack) vs → GoesOn walk.now.classes.now walk.now.bytes.now walk.now.end cursor.old.at vs (size_of_all vs + length cursor.old.stack) cursor.new result }
+    ensures remaining { (vs : Values) → AreValues walk.now.classes.now walk.now.bytes.now cursor.old.at walk.now.end (shape ∷ remaining_shapes walk.now.classes.now cursor.old.stack) vs → GoesOn walk.now.classes.now walk.now.bytes.now walk.now.end cursor.old.at vs (size_of_all vs + length cursor.old.stack) cursor.new result }
 {
     let Ok(key) = read_within(walk.bytes, cursor.at, walk.end) else {
         unreachable!()
@@ -272,9 +272,9 @@ fn enter_base<'a>(
     requires constant { shape.constant ≡ false }
     requires class { (c : ClassInfo) × (find_class walk.now.classes.now shape.class ≡ Some c) × (kind ≡ kind_of c.name) }
     requires base { kind ≢ kinds.Composite }
-    requires left { (vs : Values) × IsRow walk.now.classes.now walk.now.bytes.now cursor.old.at walk.now.end (shape ∷ shapes_left walk.now.classes.now cursor.old.stack) vs }
+    requires remaining { (vs : Values) × AreValues walk.now.classes.now walk.now.bytes.now cursor.old.at walk.now.end (shape ∷ remaining_shapes walk.now.classes.now cursor.old.stack) vs }
     ensures stack { cursor.new.stack ≡ cursor.old.stack }
-    ensures left { (vs : Values) → IsRow walk.now.classes.now walk.now.bytes.now cursor.old.at walk.now.end (shape ∷ shapes_left walk.now.classes.now cursor.old.stack) vs → GoesOn walk.now.classes.now walk.now.bytes.now walk.now.end cursor.old.at vs (size_of_all vs + length cursor.old.stack) cursor.new result }
+    ensures remaining { (vs : Values) → AreValues walk.now.classes.now walk.now.bytes.now cursor.old.at walk.now.end (shape ∷ remaining_shapes walk.now.classes.now cursor.old.stack) vs → GoesOn walk.now.classes.now walk.now.bytes.now walk.now.end cursor.old.at vs (size_of_all vs + length cursor.old.stack) cursor.new result }
 {
     let Ok(to) = base_end(kind, walk.bytes, cursor.at, walk.end) else {
         unreachable!()

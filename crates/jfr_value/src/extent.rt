@@ -3,16 +3,16 @@
 //! jfr_pool for each constant (`end_by_layout`), and jfr_show to find an object's fields (`end_of`).
 ghost use Rattle.std.specs.Prelude.{◌≡◌, ◌⊎◌, ℕ, ◌+◌, ◌≤◌, ◌<◌, length, IfOk, IfErr, Ok, IfSome, IsSome, IsTrue, ◌↔◌, slice_get, true};
 ghost use Rattle.std.specs.List.{AllByRecursion};
-ghost use Rattle.jfr_base.specs.Formats.{run, seen};
+ghost use Rattle.jfr_base.specs.Formats.{run, end_or_flaw};
 ghost use Rattle.jfr_layout.specs.Classes.{IsFieldLayout, Sound, find_class, form_of, item_of, layout_with};
 ghost use Rattle.jfr_layout.specs.Fused.{AreFused};
 ghost use Rattle.jfr_layout.specs.declared.form.Form.TheVariants as forms;
 ghost use Rattle.jfr_layout.specs.declared.kind.Kind.TheVariants as kinds;
 ghost use Rattle.jfr_value.specs.Nodes.{EndsAt, IsRefused, IsValueReason, node_at, targets};
 ghost use Rattle.jfr_value.specs.Values.{IsHollow, IsHollowArray, IsPlaced};
-ghost use Rattle.jfr_value.specs.Reading.{base_format, class_format, row_format, shape_format, value_format};
+ghost use Rattle.jfr_value.specs.Reading.{base_format, class_format, values_format, shape_format, value_format};
 ghost use Rattle.jfr_value.specs.Visits.{TakesAll, TakesRead, TakesReadAll};
-ghost use Rattle.jfr_value.specs.Walks.{Room};
+ghost use Rattle.jfr_value.specs.Walks.{DepthBound};
 ghost use Rattle.jfr_value.specs.declared.walk.TheConstants.{INNER_LEVELS};
 
 use crate::Visit;
@@ -42,7 +42,7 @@ pub fn end_of(
     ensures ok { IfOk result (λ to. EndsAt classes.now bytes.now shape at to × (to ≤ end)) }
     ensures refused { IfErr result (IsRefused classes.now bytes.now shape at end) }
     ensures reason { IfErr result (λ flaw. IsValueReason flaw.reason) }
-    ensures exact { result ≡ seen (run (value_format classes.now shape) bytes.now end at) }
+    ensures exact { result ≡ end_or_flaw (run (value_format classes.now shape) bytes.now end at) }
 {
     let layout = layout_of(classes, shape);
     end_by_layout(classes, &layout, bytes, at, end)
@@ -65,7 +65,7 @@ pub fn end_by_layout(
     ensures ok { IfOk result (λ to. EndsAt classes.now bytes.now layout.now.shape at to × (to ≤ end)) }
     ensures refused { IfErr result (IsRefused classes.now bytes.now layout.now.shape at end) }
     ensures reason { IfErr result (λ flaw. IsValueReason flaw.reason) }
-    ensures exact { result ≡ seen (run (value_format classes.now layout.now.shape) bytes.now end at) }
+    ensures exact { result ≡ end_or_flaw (run (value_format classes.now layout.now.shape) bytes.now end at) }
 {
     let walk = Walk {
         classes,
@@ -92,7 +92,7 @@ pub fn end_visiting<C, V: Visit<C>>(
     requires ready { V.ready visitor.old walk.with.now }
     ensures ok { IfOk result (λ to. EndsAt walk.entry.classes.now walk.entry.bytes.now layout.now.shape at to × (to ≤ walk.entry.end)) }
     ensures refused { IfErr result (IsRefused walk.entry.classes.now walk.entry.bytes.now layout.now.shape at walk.entry.end) }
-    ensures exact { result ≡ seen (run (value_format walk.entry.classes.now layout.now.shape) walk.entry.bytes.now walk.entry.end at) }
+    ensures exact { result ≡ end_or_flaw (run (value_format walk.entry.classes.now layout.now.shape) walk.entry.bytes.now walk.entry.end at) }
     ensures reason { IfErr result (λ flaw. IsValueReason flaw.reason) }
     ensures visited { IfOk result (λ to. TakesAll (V.takes walk.entry.with.now) (targets walk.entry.classes.now walk.entry.bytes.now (node_at layout.now.shape at to)) visitor.old visitor.new) }
     ensures ready { V.ready visitor.new walk.entry.with.now }
@@ -112,14 +112,14 @@ fn value_end<C, V: Visit<C>>(
     requires layout { IsFieldLayout walk.classes.now layout.now }
     requires order { at ≤ walk.end }
     requires ready { V.ready visitor.old walk.with.now }
-    ensures exact { result ≡ seen (run (value_format walk.entry.classes.now layout.now.shape) walk.entry.bytes.now walk.entry.end at) }
+    ensures exact { result ≡ end_or_flaw (run (value_format walk.entry.classes.now layout.now.shape) walk.entry.bytes.now walk.entry.end at) }
     ensures visited { TakesRead (V.takes walk.entry.with.now) (run (value_format walk.entry.classes.now layout.now.shape) walk.entry.bytes.now walk.entry.end at) visitor.old visitor.new }
     ensures ready { V.ready visitor.new walk.entry.with.now }
 {
     match layout.form {
         Form::Fields => {
             let class_layout = walk.classes.class_layout(layout.class_index);
-            whole_row_end(walk, class_layout, at, visitor)
+            all_fields_end(walk, class_layout, at, visitor)
         }
         _ => other_end(walk, layout, at, visitor),
     }
@@ -137,7 +137,7 @@ fn other_end<C, V: Visit<C>>(
     requires layout { IsFieldLayout walk.classes.now layout.now }
     requires order { at ≤ walk.end }
     requires ready { V.ready visitor.old walk.with.now }
-    ensures exact { result ≡ seen (run (value_format walk.entry.classes.now layout.now.shape) walk.entry.bytes.now walk.entry.end at) }
+    ensures exact { result ≡ end_or_flaw (run (value_format walk.entry.classes.now layout.now.shape) walk.entry.bytes.now walk.entry.end at) }
     ensures visited { TakesRead (V.takes walk.entry.with.now) (run (value_format walk.entry.classes.now layout.now.shape) walk.entry.bytes.now walk.entry.end at) visitor.old visitor.new }
     ensures ready { V.ready visitor.new walk.entry.with.now }
 {
@@ -216,7 +216,7 @@ fn run_end(count: usize, at: usize, end: usize) -> Result<usize, Flaw>
 fn string_end(bytes: &[u8], at: usize, end: usize) -> Result<usize, Flaw>
     requires order { at ≤ end }
     requires within { end ≤ length bytes.now }
-    ensures exact { result ≡ seen (run (base_format kinds.Text) bytes.now end at) }
+    ensures exact { result ≡ end_or_flaw (run (base_format kinds.Text) bytes.now end at) }
     ensures range { IfOk result (λ to. (at ≤ to) × (to ≤ end)) }
 {
     Ok(read_string(bytes, at, end)?.end)
@@ -227,7 +227,7 @@ fn string_end(bytes: &[u8], at: usize, end: usize) -> Result<usize, Flaw>
 pub(crate) fn base_end(kind: Kind, bytes: &[u8], at: usize, end: usize) -> Result<usize, Flaw>
     requires order { at ≤ end }
     requires within { end ≤ length bytes.now }
-    ensures exact { result ≡ seen (run (base_format kind) bytes.now end at) }
+    ensures exact { result ≡ end_or_flaw (run (base_format kind) bytes.now end at) }
     ensures range { IfOk result (λ to. (at ≤ to) × (to ≤ end)) }
 {
     match kind {
@@ -242,7 +242,7 @@ pub(crate) fn base_end(kind: Kind, bytes: &[u8], at: usize, end: usize) -> Resul
 
 /// The offset after a value with this layout.
 #[cycle(ends)]
-#[tactic(auto, using(jfr_base::proofs::SeenLaws::ends), unfolding(jfr_base::specs::Formats::run, crate::specs::Reading::class_format))]
+#[tactic(auto, using(jfr_base::proofs::FormatEnds::ends), unfolding(jfr_base::specs::Formats::run, crate::specs::Reading::class_format))]
 #[inline(always)]
 pub(crate) fn layout_end<C, V: Visit<C>>(
     walk: &Walk<'_, '_, C>,
@@ -252,10 +252,10 @@ pub(crate) fn layout_end<C, V: Visit<C>>(
     visitor: &mut V,
 ) -> Result<usize, Flaw>
     requires placed { IsPlaced walk.now.classes.now layout.now }
-    requires room { Room walk.now.classes.now levels layout.now.shape }
+    requires depth { DepthBound walk.now.classes.now levels layout.now.shape }
     requires order { at ≤ walk.now.end }
     requires ready { V.ready visitor.old walk.now.with.now }
-    ensures exact { result ≡ seen (run (shape_format (class_format (levels + 1) walk.now.classes.now) layout.now.shape) walk.now.bytes.now walk.now.end at) }
+    ensures exact { result ≡ end_or_flaw (run (shape_format (class_format (levels + 1) walk.now.classes.now) layout.now.shape) walk.now.bytes.now walk.now.end at) }
     ensures range { IfOk result (λ to. (at ≤ to) × (to ≤ walk.now.end)) }
     ensures visited { TakesRead (V.takes walk.now.with.now) (run (shape_format (class_format (levels + 1) walk.now.classes.now) layout.now.shape) walk.now.bytes.now walk.now.end at) visitor.old visitor.new }
     ensures ready { V.ready visitor.new walk.now.with.now }
@@ -273,7 +273,7 @@ pub(crate) fn layout_end<C, V: Visit<C>>(
 /// unpacked by `?` and wrapped again by `Ok`: returned as they are, they would make `layout_end` return every
 /// result through memory.
 #[cycle(ends)]
-#[tactic(auto, using(jfr_base::proofs::SeenLaws::ends), unfolding(jfr_base::specs::Formats::run, crate::specs::Reading::class_format))]
+#[tactic(auto, using(jfr_base::proofs::FormatEnds::ends), unfolding(jfr_base::specs::Formats::run, crate::specs::Reading::class_format))]
 #[inline(always)]
 fn compound_end<C, V: Visit<C>>(
     walk: &Walk<'_, '_, C>,
@@ -284,10 +284,10 @@ fn compound_end<C, V: Visit<C>>(
 ) -> Result<usize, Flaw>
     requires compound { (layout.now.form ≡ forms.Fields) ⊎ (layout.now.form ≡ forms.Array) }
     requires placed { IsPlaced walk.now.classes.now layout.now }
-    requires room { Room walk.now.classes.now levels layout.now.shape }
+    requires depth { DepthBound walk.now.classes.now levels layout.now.shape }
     requires order { at ≤ walk.now.end }
     requires ready { V.ready visitor.old walk.now.with.now }
-    ensures exact { result ≡ seen (run (shape_format (class_format (levels + 1) walk.now.classes.now) layout.now.shape) walk.now.bytes.now walk.now.end at) }
+    ensures exact { result ≡ end_or_flaw (run (shape_format (class_format (levels + 1) walk.now.classes.now) layout.now.shape) walk.now.bytes.now walk.now.end at) }
     ensures range { IfOk result (λ to. (at ≤ to) × (to ≤ walk.now.end)) }
     ensures visited { TakesRead (V.takes walk.now.with.now) (run (shape_format (class_format (levels + 1) walk.now.classes.now) layout.now.shape) walk.now.bytes.now walk.now.end at) visitor.old visitor.new }
     ensures ready { V.ready visitor.new walk.now.with.now }
@@ -308,7 +308,7 @@ fn compound_end<C, V: Visit<C>>(
 /// The offset after values with these layouts, one after another. This is never inlined, which keeps the walk
 /// over a single value small.
 #[cycle(ends)]
-#[tactic(auto, using(jfr_base::proofs::SeenLaws::ends), unfolding(jfr_base::specs::Formats::run, crate::specs::Reading::class_format))]
+#[tactic(auto, using(jfr_base::proofs::FormatEnds::ends), unfolding(jfr_base::specs::Formats::run, crate::specs::Reading::class_format))]
 #[inline(never)]
 pub(crate) fn fields_end<C, V: Visit<C>>(
     walk: &Walk<'_, '_, C>,
@@ -318,12 +318,12 @@ pub(crate) fn fields_end<C, V: Visit<C>>(
     visitor: &mut V,
 ) -> Result<usize, Flaw>
     requires layouts { AllByRecursion (IsFieldLayout walk.now.classes.now) layouts.now }
-    requires room { AllByRecursion (λ s. Room walk.now.classes.now levels s.shape) layouts.now }
+    requires depth { AllByRecursion (λ s. DepthBound walk.now.classes.now levels s.shape) layouts.now }
     requires order { at ≤ walk.now.end }
     requires ready { V.ready visitor.old walk.now.with.now }
-    ensures exact { result ≡ seen (run (row_format (levels + 1) walk.now.classes.now layouts.now) walk.now.bytes.now walk.now.end at) }
+    ensures exact { result ≡ end_or_flaw (run (values_format (levels + 1) walk.now.classes.now layouts.now) walk.now.bytes.now walk.now.end at) }
     ensures range { IfOk result (λ to. (at ≤ to) × (to ≤ walk.now.end)) }
-    ensures visited { TakesReadAll (V.takes walk.now.with.now) (run (row_format (levels + 1) walk.now.classes.now layouts.now) walk.now.bytes.now walk.now.end at) visitor.old visitor.new }
+    ensures visited { TakesReadAll (V.takes walk.now.with.now) (run (values_format (levels + 1) walk.now.classes.now layouts.now) walk.now.bytes.now walk.now.end at) visitor.old visitor.new }
     ensures ready { V.ready visitor.new walk.now.with.now }
 {
     let mut to = at;
@@ -336,20 +336,20 @@ pub(crate) fn fields_end<C, V: Visit<C>>(
 /// The offset after the fields of an event, or of another value that isn't part of one. Each group of fused
 /// fields is passed at once.
 #[inline(always)]
-fn whole_row_end<C, V: Visit<C>>(
+fn all_fields_end<C, V: Visit<C>>(
     walk: Walk<'_, '_, C>,
     class_layout: &ClassLayout,
     at: usize,
     visitor: &mut V,
 ) -> Result<usize, Flaw>
     requires layouts { AllByRecursion (IsFieldLayout walk.classes.now) class_layout.now.layouts.items }
-    requires room { AllByRecursion (λ s. Room walk.classes.now INNER_LEVELS s.shape) class_layout.now.layouts.items }
+    requires depth { AllByRecursion (λ s. DepthBound walk.classes.now INNER_LEVELS s.shape) class_layout.now.layouts.items }
     requires fused_fields { AreFused class_layout.now.layouts.items class_layout.now.fused_fields.items }
     requires order { at ≤ walk.end }
     requires ready { V.ready visitor.old walk.with.now }
-    ensures exact { result ≡ seen (run (row_format (INNER_LEVELS + 1) walk.entry.classes.now class_layout.now.layouts.items) walk.entry.bytes.now walk.entry.end at) }
+    ensures exact { result ≡ end_or_flaw (run (values_format (INNER_LEVELS + 1) walk.entry.classes.now class_layout.now.layouts.items) walk.entry.bytes.now walk.entry.end at) }
     ensures range { IfOk result (λ to. (at ≤ to) × (to ≤ walk.entry.end)) }
-    ensures visited { TakesReadAll (V.takes walk.entry.with.now) (run (row_format (INNER_LEVELS + 1) walk.entry.classes.now class_layout.now.layouts.items) walk.entry.bytes.now walk.entry.end at) visitor.old visitor.new }
+    ensures visited { TakesReadAll (V.takes walk.entry.with.now) (run (values_format (INNER_LEVELS + 1) walk.entry.classes.now class_layout.now.layouts.items) walk.entry.bytes.now walk.entry.end at) visitor.old visitor.new }
     ensures ready { V.ready visitor.new walk.entry.with.now }
 {
     let mut to = at;
@@ -361,7 +361,7 @@ fn whole_row_end<C, V: Visit<C>>(
 
 /// The offset after an array: a count, and this many items.
 #[cycle(ends)]
-#[tactic(auto, using(jfr_base::proofs::SeenLaws::ends), unfolding(jfr_base::specs::Formats::run, crate::specs::Reading::class_format))]
+#[tactic(auto, using(jfr_base::proofs::FormatEnds::ends), unfolding(jfr_base::specs::Formats::run, crate::specs::Reading::class_format))]
 #[inline(never)]
 fn array_end<C, V: Visit<C>>(
     walk: &Walk<'_, '_, C>,
@@ -372,10 +372,10 @@ fn array_end<C, V: Visit<C>>(
 ) -> Result<usize, Flaw>
     requires array { layout.now.shape.array ≡ true }
     requires placed { IsPlaced walk.now.classes.now layout.now }
-    requires room { Room walk.now.classes.now levels layout.now.shape }
+    requires depth { DepthBound walk.now.classes.now levels layout.now.shape }
     requires order { at ≤ walk.now.end }
     requires ready { V.ready visitor.old walk.now.with.now }
-    ensures exact { result ≡ seen (run (shape_format (class_format (levels + 1) walk.now.classes.now) layout.now.shape) walk.now.bytes.now walk.now.end at) }
+    ensures exact { result ≡ end_or_flaw (run (shape_format (class_format (levels + 1) walk.now.classes.now) layout.now.shape) walk.now.bytes.now walk.now.end at) }
     ensures range { IfOk result (λ to. (at ≤ to) × (to ≤ walk.now.end)) }
     ensures visited { TakesRead (V.takes walk.now.with.now) (run (shape_format (class_format (levels + 1) walk.now.classes.now) layout.now.shape) walk.now.bytes.now walk.now.end at) visitor.old visitor.new }
     ensures ready { V.ready visitor.new walk.now.with.now }

@@ -1,13 +1,13 @@
 //! The walk to a value's end over fused fields. All fields of an event are passed here.
 ghost use Rattle.std.specs.Prelude.{◌≡◌, ℕ, ◌+◌, ◌≤◌, List, IfOk};
 ghost use Rattle.std.specs.List.{AllByRecursion};
-ghost use Rattle.jfr_base.specs.Formats.{run, seen};
+ghost use Rattle.jfr_base.specs.Formats.{run, end_or_flaw};
 ghost use Rattle.jfr_layout.specs.Classes.{Classes, IsFieldLayout};
 ghost use Rattle.jfr_layout.specs.declared.field_layout.FieldLayout.{FieldLayout};
 ghost use Rattle.jfr_layout.specs.Fused.{IsEventPrelude, IsFused, passed_by};
-ghost use Rattle.jfr_value.specs.Reading.{row_format};
+ghost use Rattle.jfr_value.specs.Reading.{values_format};
 ghost use Rattle.jfr_value.specs.Visits.{TakesReadAll};
-ghost use Rattle.jfr_value.specs.Walks.{Room};
+ghost use Rattle.jfr_value.specs.Walks.{DepthBound};
 ghost use Rattle.jfr_value.specs.declared.walk.TheConstants.{INNER_LEVELS};
 
 use crate::Visit;
@@ -28,13 +28,13 @@ pub(crate) fn fused_end<C, V: Visit<C>>(
     visitor: &mut V,
 ) -> Result<usize, Flaw>
     requires layouts { AllByRecursion (IsFieldLayout walk.classes.now) class_layout.now.layouts.items }
-    requires room { AllByRecursion (λ s. Room walk.classes.now INNER_LEVELS s.shape) class_layout.now.layouts.items }
+    requires depth { AllByRecursion (λ s. DepthBound walk.classes.now INNER_LEVELS s.shape) class_layout.now.layouts.items }
     requires fused { IsFused class_layout.now.layouts.items fused.now }
     requires order { at ≤ walk.end }
     requires ready { V.ready visitor.old walk.with.now }
-    ensures exact { result ≡ seen (run (row_format (INNER_LEVELS + 1) walk.entry.classes.now (passed_by class_layout.now.layouts.items fused.now)) walk.entry.bytes.now walk.entry.end at) }
+    ensures exact { result ≡ end_or_flaw (run (values_format (INNER_LEVELS + 1) walk.entry.classes.now (passed_by class_layout.now.layouts.items fused.now)) walk.entry.bytes.now walk.entry.end at) }
     ensures range { IfOk result (λ to. (at ≤ to) × (to ≤ walk.entry.end)) }
-    ensures visited { TakesReadAll (V.takes walk.entry.with.now) (run (row_format (INNER_LEVELS + 1) walk.entry.classes.now (passed_by class_layout.now.layouts.items fused.now)) walk.entry.bytes.now walk.entry.end at) visitor.old visitor.new }
+    ensures visited { TakesReadAll (V.takes walk.entry.with.now) (run (values_format (INNER_LEVELS + 1) walk.entry.classes.now (passed_by class_layout.now.layouts.items fused.now)) walk.entry.bytes.now walk.entry.end at) visitor.old visitor.new }
     ensures ready { V.ready visitor.new walk.entry.with.now }
 {
     match fused.kind {
@@ -63,13 +63,13 @@ fn each_end<C, V: Visit<C>>(
     visitor: &mut V,
 ) -> Result<usize, Flaw>
     requires layouts { AllByRecursion (IsFieldLayout walk.classes.now) class_layout.now.layouts.items }
-    requires room { AllByRecursion (λ s. Room walk.classes.now INNER_LEVELS s.shape) class_layout.now.layouts.items }
+    requires depth { AllByRecursion (λ s. DepthBound walk.classes.now INNER_LEVELS s.shape) class_layout.now.layouts.items }
     requires fused { IsFused class_layout.now.layouts.items fused.now }
     requires order { at ≤ walk.end }
     requires ready { V.ready visitor.old walk.with.now }
-    ensures exact { result ≡ seen (run (row_format (INNER_LEVELS + 1) walk.entry.classes.now (passed_by class_layout.now.layouts.items fused.now)) walk.entry.bytes.now walk.entry.end at) }
+    ensures exact { result ≡ end_or_flaw (run (values_format (INNER_LEVELS + 1) walk.entry.classes.now (passed_by class_layout.now.layouts.items fused.now)) walk.entry.bytes.now walk.entry.end at) }
     ensures range { IfOk result (λ to. (at ≤ to) × (to ≤ walk.entry.end)) }
-    ensures visited { TakesReadAll (V.takes walk.entry.with.now) (run (row_format (INNER_LEVELS + 1) walk.entry.classes.now (passed_by class_layout.now.layouts.items fused.now)) walk.entry.bytes.now walk.entry.end at) visitor.old visitor.new }
+    ensures visited { TakesReadAll (V.takes walk.entry.with.now) (run (values_format (INNER_LEVELS + 1) walk.entry.classes.now (passed_by class_layout.now.layouts.items fused.now)) walk.entry.bytes.now walk.entry.end at) visitor.old visitor.new }
     ensures ready { V.ready visitor.new walk.entry.with.now }
 {
     let fields = &class_layout.layouts[fused.first..fused.first + fused.fields];
@@ -88,9 +88,9 @@ fn prelude_end<C, V: Visit<C>>(
 ) -> Result<usize, Flaw>
     requires order { at ≤ walk.end }
     requires ready { V.ready visitor.old walk.with.now }
-    ensures exact { (k : Classes) (levels : ℕ) (layouts : List FieldLayout) → AllByRecursion (IsFieldLayout k) layouts → IsEventPrelude thread trace layouts → result ≡ seen (run (row_format (levels + 1) k layouts) walk.entry.bytes.now walk.entry.end at) }
+    ensures exact { (k : Classes) (levels : ℕ) (layouts : List FieldLayout) → AllByRecursion (IsFieldLayout k) layouts → IsEventPrelude thread trace layouts → result ≡ end_or_flaw (run (values_format (levels + 1) k layouts) walk.entry.bytes.now walk.entry.end at) }
     ensures range { IfOk result (λ to. (at ≤ to) × (to ≤ walk.entry.end)) }
-    ensures visited { (k : Classes) (levels : ℕ) (layouts : List FieldLayout) → AllByRecursion (IsFieldLayout k) layouts → IsEventPrelude thread trace layouts → TakesReadAll (V.takes walk.entry.with.now) (run (row_format (levels + 1) k layouts) walk.entry.bytes.now walk.entry.end at) visitor.old visitor.new }
+    ensures visited { (k : Classes) (levels : ℕ) (layouts : List FieldLayout) → AllByRecursion (IsFieldLayout k) layouts → IsEventPrelude thread trace layouts → TakesReadAll (V.takes walk.entry.with.now) (run (values_format (levels + 1) k layouts) walk.entry.bytes.now walk.entry.end at) visitor.old visitor.new }
     ensures ready { V.ready visitor.new walk.entry.with.now }
 {
     let times = integers_end(walk.bytes, at, walk.end, 2)?;

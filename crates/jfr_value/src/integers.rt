@@ -1,7 +1,7 @@
 //! The walk to a value's end over integers, whose values don't matter, only their ends.
 ghost use Rattle.std.specs.Prelude.{◌≡◌, ℕ, ◌+◌, ◌≤◌, ◌<◌, length, IfOk, IfSome, Ok};
 ghost use Rattle.std.specs.Int.{bit_at};
-ghost use Rattle.jfr_base.specs.Formats.{integer, run, seen, times};
+ghost use Rattle.jfr_base.specs.Formats.{integer, run, end_or_flaw, times};
 ghost use Rattle.jfr_value.specs.Groups.{AreLastGroups};
 
 use jfr_base::{Flaw, SHORT_GROUPS};
@@ -18,7 +18,7 @@ const VECTOR: usize = 16;
 pub(crate) fn integer_end(bytes: &[u8], at: usize, end: usize) -> Result<usize, Flaw>
     requires order { at ≤ end }
     requires within { end ≤ length bytes.now }
-    ensures exact { result ≡ seen (run integer bytes.now end at) }
+    ensures exact { result ≡ end_or_flaw (run integer bytes.now end at) }
     ensures range { IfOk result (λ to. (at ≤ to) × (to ≤ end)) }
 {
     if at >= bytes.len().saturating_sub(VECTOR - 1) {
@@ -35,7 +35,7 @@ pub(crate) fn integer_end(bytes: &[u8], at: usize, end: usize) -> Result<usize, 
 #[inline(always)]
 fn groups_end(bytes: &[u8], at: usize) -> usize
     requires room { at + 16 ≤ length bytes.now }
-    ensures exact { Ok result ≡ seen (run integer bytes.now (length bytes.now) at) }
+    ensures exact { Ok result ≡ end_or_flaw (run integer bytes.now (length bytes.now) at) }
     ensures range { at ≤ result }
 {
     at + groups_with_more(last_groups(bytes, at), 0) + 1
@@ -47,7 +47,7 @@ pub(crate) fn integers_end(bytes: &[u8], at: usize, end: usize, count: usize) ->
     requires order { at ≤ end }
     requires within { end ≤ length bytes.now }
     requires few { count ≤ 4 }
-    ensures exact { result ≡ seen (run (times count integer) bytes.now end at) }
+    ensures exact { result ≡ end_or_flaw (run (times count integer) bytes.now end at) }
     ensures range { IfOk result (λ to. (at ≤ to) × (to ≤ end)) }
 {
     match integers_at_once(bytes, at, end, count) {
@@ -64,7 +64,7 @@ fn integers_at_once(bytes: &[u8], at: usize, end: usize, count: usize) -> Option
     requires order { at ≤ end }
     requires within { end ≤ length bytes.now }
     requires few { count ≤ 4 }
-    ensures exact { IfSome result (λ to. Ok to ≡ seen (run (times count integer) bytes.now end at)) }
+    ensures exact { IfSome result (λ to. Ok to ≡ end_or_flaw (run (times count integer) bytes.now end at)) }
     ensures range { IfSome result (λ to. (at ≤ to) × (to ≤ end)) }
 {
     if at >= bytes.len().saturating_sub(VECTOR - 1) {
@@ -88,7 +88,7 @@ fn integers_at_once(bytes: &[u8], at: usize, end: usize, count: usize) -> Option
 fn far_integers_end(bytes: &[u8], at: usize, end: usize, count: usize) -> Result<usize, Flaw>
     requires order { at ≤ end }
     requires within { end ≤ length bytes.now }
-    ensures exact { result ≡ seen (run (times count integer) bytes.now end at) }
+    ensures exact { result ≡ end_or_flaw (run (times count integer) bytes.now end at) }
     ensures range { IfOk result (λ to. (at ≤ to) × (to ≤ end)) }
 {
     let to = each_integer_end(bytes, at, end, count)?;
@@ -100,7 +100,7 @@ fn far_integers_end(bytes: &[u8], at: usize, end: usize, count: usize) -> Result
 fn each_integer_end(bytes: &[u8], at: usize, end: usize, count: usize) -> Result<usize, Flaw>
     requires order { at ≤ end }
     requires within { end ≤ length bytes.now }
-    ensures exact { result ≡ seen (run (times count integer) bytes.now end at) }
+    ensures exact { result ≡ end_or_flaw (run (times count integer) bytes.now end at) }
     ensures range { IfOk result (λ to. (at ≤ to) × (to ≤ end)) }
 {
     let mut to = at;
@@ -139,7 +139,7 @@ fn groups_with_more(lasts: u64, from: usize) -> usize
 fn near_end(bytes: &[u8], at: usize, end: usize) -> Result<usize, Flaw>
     requires order { at ≤ end }
     requires within { end ≤ length bytes.now }
-    ensures exact { result ≡ seen (run integer bytes.now end at) }
+    ensures exact { result ≡ end_or_flaw (run integer bytes.now end at) }
     ensures range { IfOk result (λ to. (at ≤ to) × (to ≤ end)) }
 {
     let to = last_integer_end(bytes, at, end)?;
@@ -152,7 +152,7 @@ fn near_end(bytes: &[u8], at: usize, end: usize) -> Result<usize, Flaw>
 fn last_integer_end(bytes: &[u8], at: usize, end: usize) -> Result<usize, Flaw>
     requires order { at ≤ end }
     requires within { end ≤ length bytes.now }
-    ensures exact { result ≡ seen (run integer bytes.now end at) }
+    ensures exact { result ≡ end_or_flaw (run integer bytes.now end at) }
     ensures range { IfOk result (λ to. (at ≤ to) × (to ≤ end)) }
 {
     let groups = (end - at).min(SHORT_GROUPS);

@@ -1,6 +1,6 @@
 //! The walk to a value's end over keys and strings, which passes the keys to a visitor.
 ghost use Rattle.std.specs.Prelude.{◌≡◌, ◌≤◌, IfOk, option_map, option_to_list, true};
-ghost use Rattle.jfr_base.specs.Formats.{integer, run, seen};
+ghost use Rattle.jfr_base.specs.Formats.{integer, run, end_or_flaw};
 ghost use Rattle.jfr_text.specs.Strings.{string_format};
 ghost use Rattle.jfr_layout.specs.declared.kind.Kind.TheVariants as kinds;
 ghost use Rattle.jfr_value.specs.Values.{key_of};
@@ -23,7 +23,7 @@ pub(crate) fn key_end<C, V: Visit<C>>(
 ) -> Result<usize, Flaw>
     requires order { at ≤ walk.end }
     requires ready { V.ready visitor.old walk.with.now }
-    ensures exact { result ≡ seen (run integer walk.entry.bytes.now walk.entry.end at) }
+    ensures exact { result ≡ end_or_flaw (run integer walk.entry.bytes.now walk.entry.end at) }
     ensures range { IfOk result (λ to. (at ≤ to) × (to ≤ walk.entry.end)) }
     ensures visited { IfOk (run integer walk.entry.bytes.now walk.entry.end at) (λ key. V.takes walk.entry.with.now (class, key.value) visitor.old visitor.new) }
     ensures ready { V.ready visitor.new walk.entry.with.now }
@@ -48,7 +48,7 @@ fn far_key_end<C, V: Visit<C>>(
 ) -> Result<usize, Flaw>
     requires order { at ≤ walk.end }
     requires ready { V.ready visitor.old walk.with.now }
-    ensures exact { result ≡ seen (run integer walk.entry.bytes.now walk.entry.end at) }
+    ensures exact { result ≡ end_or_flaw (run integer walk.entry.bytes.now walk.entry.end at) }
     ensures range { IfOk result (λ to. (at ≤ to) × (to ≤ walk.entry.end)) }
     ensures visited { IfOk (run integer walk.entry.bytes.now walk.entry.end at) (λ key. V.takes walk.entry.with.now (class, key.value) visitor.old visitor.new) }
     ensures ready { V.ready visitor.new walk.entry.with.now }
@@ -68,7 +68,7 @@ fn long_key_end<C, V: Visit<C>>(
 ) -> Result<usize, Flaw>
     requires order { at ≤ walk.end }
     requires ready { V.ready visitor.old walk.with.now }
-    ensures exact { result ≡ seen (run integer walk.entry.bytes.now walk.entry.end at) }
+    ensures exact { result ≡ end_or_flaw (run integer walk.entry.bytes.now walk.entry.end at) }
     ensures range { IfOk result (λ to. (at ≤ to) × (to ≤ walk.entry.end)) }
     ensures visited { IfOk (run integer walk.entry.bytes.now walk.entry.end at) (λ key. V.takes walk.entry.with.now (class, key.value) visitor.old visitor.new) }
     ensures ready { V.ready visitor.new walk.entry.with.now }
@@ -93,7 +93,7 @@ pub(crate) fn text_end<C, V: Visit<C>>(
 ) -> Result<usize, Flaw>
     requires order { at ≤ walk.end }
     requires ready { V.ready visitor.old walk.with.now }
-    ensures exact { result ≡ seen (run (base_format kinds.Text) walk.entry.bytes.now walk.entry.end at) }
+    ensures exact { result ≡ end_or_flaw (run (base_format kinds.Text) walk.entry.bytes.now walk.entry.end at) }
     ensures range { IfOk result (λ to. (at ≤ to) × (to ≤ walk.entry.end)) }
     ensures visited { IfOk (run (string_format true) walk.entry.bytes.now walk.entry.end at) (λ got.
         TakesAll (V.takes walk.entry.with.now) (option_to_list (option_map (λ key. (class, key)) (key_of got.value))) visitor.old visitor.new) }
@@ -122,7 +122,7 @@ fn far_text_end<C, V: Visit<C>>(
 ) -> Result<usize, Flaw>
     requires order { at ≤ walk.end }
     requires ready { V.ready visitor.old walk.with.now }
-    ensures exact { result ≡ seen (run (base_format kinds.Text) walk.entry.bytes.now walk.entry.end at) }
+    ensures exact { result ≡ end_or_flaw (run (base_format kinds.Text) walk.entry.bytes.now walk.entry.end at) }
     ensures range { IfOk result (λ to. (at ≤ to) × (to ≤ walk.entry.end)) }
     ensures visited { IfOk (run (string_format true) walk.entry.bytes.now walk.entry.end at) (λ got.
         TakesAll (V.takes walk.entry.with.now) (option_to_list (option_map (λ key. (class, key)) (key_of got.value))) visitor.old visitor.new) }
@@ -142,7 +142,7 @@ fn long_text_end<C, V: Visit<C>>(
 ) -> Result<usize, Flaw>
     requires order { at ≤ walk.end }
     requires ready { V.ready visitor.old walk.with.now }
-    ensures exact { result ≡ seen (run (base_format kinds.Text) walk.entry.bytes.now walk.entry.end at) }
+    ensures exact { result ≡ end_or_flaw (run (base_format kinds.Text) walk.entry.bytes.now walk.entry.end at) }
     ensures range { IfOk result (λ to. (at ≤ to) × (to ≤ walk.entry.end)) }
     ensures visited { IfOk (run (string_format true) walk.entry.bytes.now walk.entry.end at) (λ got.
         TakesAll (V.takes walk.entry.with.now) (option_to_list (option_map (λ key. (class, key)) (key_of got.value))) visitor.old visitor.new) }

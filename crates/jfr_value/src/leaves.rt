@@ -24,9 +24,9 @@ impl<'c, 'a> Model for Leaves<'c, 'a> {
 
     ghost Value = { List LeafAt };
 
-    ghost use Rattle.jfr_value.specs.Walks.{IsWalk, leaves_left};
+    ghost use Rattle.jfr_value.specs.Walks.{IsWalk, remaining_leaves};
 
-    ghost view = { λ l. leaves_left l.walk.classes.now l.walk.bytes.now l.walk.end l.cursor };
+    ghost view = { λ l. remaining_leaves l.walk.classes.now l.walk.bytes.now l.walk.end l.cursor };
 
     ghost invariant = { λ l. IsWalk l.walk.classes.now l.walk.bytes.now l.walk.end l.cursor };
 }
@@ -42,7 +42,7 @@ impl<'c, 'a> Leaves<'c, 'a> {
         stack.push(Frame::Items {
             shape: node.shape,
             place,
-            left: 1,
+            remaining: 1,
             levels: LEVELS,
         });
         let walk = Walk {

@@ -2,7 +2,7 @@
 ghost use Rattle.std.specs.Prelude.{◌≡◌, ℕ, ◌≤◌, ◌<◌, length, replicate, map, Some, IfSome, false, option_map, slice_get};
 ghost use Rattle.std.specs.List.{AllByRecursion};
 ghost use Rattle.jfr_layout.specs.Classes.{IsFieldLayout, Sound, item_of};
-ghost use Rattle.jfr_value.specs.Nodes.{EndsAt, IsRow, IsValue, child, laid, node_of};
+ghost use Rattle.jfr_value.specs.Nodes.{EndsAt, AreValues, IsValue, child, laid, node_of};
 ghost use Rattle.jfr_value.specs.Values.{IsPlaced, Values, list_of};
 
 use crate::extent::{NoVisit, is_hollow, layout_end, layout_of};
@@ -85,7 +85,7 @@ fn part_end(classes: &Classes, layout: &FieldLayout, bytes: &[u8], at: usize, en
     requires placed { IsPlaced classes.now layout.now }
     requires order { at ≤ end }
     requires within { end ≤ length bytes.now }
-    requires stands { (to : ℕ) × EndsAt classes.now bytes.now layout.now.shape at to × (to ≤ end) }
+    requires holds { (to : ℕ) × EndsAt classes.now bytes.now layout.now.shape at to × (to ≤ end) }
     ensures { (to : ℕ) → EndsAt classes.now bytes.now layout.now.shape at to → to ≤ end → result ≡ to }
 {
     let walk = Walk {
@@ -110,9 +110,9 @@ fn nth_field<'a>(
     requires sound { Sound classes.now }
     requires layouts { AllByRecursion (IsFieldLayout classes.now) layouts.now }
     requires within { node.now.end ≤ length node.now.bytes.now }
-    requires row { (vs : Values) × IsRow classes.now node.now.bytes.now node.now.at node.now.end (map (λ s. s.shape) layouts.now) vs }
+    requires row { (vs : Values) × AreValues classes.now node.now.bytes.now node.now.at node.now.end (map (λ s. s.shape) layouts.now) vs }
     requires is_field { number < length layouts.now }
-    ensures exact { (vs : Values) → IsRow classes.now node.now.bytes.now node.now.at node.now.end (map (λ s. s.shape) layouts.now) vs → slice_get (laid node.now.at (list_of vs)) number ≡ Some (node_of result) }
+    ensures exact { (vs : Values) → AreValues classes.now node.now.bytes.now node.now.at node.now.end (map (λ s. s.shape) layouts.now) vs → slice_get (laid node.now.at (list_of vs)) number ≡ Some (node_of result) }
     ensures bytes { result.bytes.now ≡ node.now.bytes.now }
 {
     let mut at = node.at;
@@ -140,9 +140,9 @@ fn nth_item<'a>(
     requires placed { IsPlaced classes.now layout.now }
     requires order { count.end ≤ node.now.end }
     requires within { node.now.end ≤ length node.now.bytes.now }
-    requires row { (vs : Values) × IsRow classes.now node.now.bytes.now count.end node.now.end (replicate count.value layout.now.shape) vs }
+    requires row { (vs : Values) × AreValues classes.now node.now.bytes.now count.end node.now.end (replicate count.value layout.now.shape) vs }
     requires is_item { number < count.value }
-    ensures exact { (vs : Values) → IsRow classes.now node.now.bytes.now count.end node.now.end (replicate count.value layout.now.shape) vs → slice_get (laid count.end (list_of vs)) number ≡ Some (node_of result) }
+    ensures exact { (vs : Values) → AreValues classes.now node.now.bytes.now count.end node.now.end (replicate count.value layout.now.shape) vs → slice_get (laid count.end (list_of vs)) number ≡ Some (node_of result) }
     ensures bytes { result.bytes.now ≡ node.now.bytes.now }
 {
     let shape = layout.shape;

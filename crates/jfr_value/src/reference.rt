@@ -32,7 +32,7 @@ pub fn target(classes: &Classes, node: &Node<'_>) -> Option<(u64, u64)>
 fn reference_key(node: &Node<'_>) -> u64
     requires order { node.now.at ≤ node.now.end }
     requires within { node.now.end ≤ length node.now.bytes.now }
-    requires stands { IsSome (int_at node.now.bytes.now node.now.at node.now.end) }
+    requires holds { IsSome (int_at node.now.bytes.now node.now.at node.now.end) }
     ensures { IfSome (int_at node.now.bytes.now node.now.at node.now.end) (λ key. result ≡ key.value) }
 {
     match read_within(node.bytes, node.at, node.end) {
@@ -45,7 +45,7 @@ fn reference_key(node: &Node<'_>) -> u64
 fn string_key(node: &Node<'_>) -> Option<u64>
     requires order { node.now.at ≤ node.now.end }
     requires within { node.now.end ≤ length node.now.bytes.now }
-    requires stands { IsOk (run (string_format true) node.now.bytes.now node.now.end node.now.at) }
+    requires holds { IsOk (run (string_format true) node.now.bytes.now node.now.end node.now.at) }
     ensures { IfOk (run (string_format true) node.now.bytes.now node.now.end node.now.at) (λ got. result ≡ key_of got.value) }
 {
     match read_string(node.bytes, node.at, node.end) {

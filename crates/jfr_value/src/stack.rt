@@ -26,11 +26,11 @@ pub(crate) enum Frame {
         number: usize,
         levels: u32,
     },
-    /// Values of a shape whose class has the index `place`: `left` of them.
+    /// Values of a shape whose class has the index `place`: `remaining` of them.
     Items {
         shape: Shape,
         place: usize,
-        left: u64,
+        remaining: u64,
         levels: u32,
     },
 }

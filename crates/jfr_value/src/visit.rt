@@ -2,15 +2,15 @@
 //! leaf. jfr_reach uses it for each constant that it marks (`visit_targets`).
 ghost use Rattle.std.specs.Prelude.{◌≡◌, ◌≢◌, ℕ, ◌+◌, ◌≤◌, ◌<◌, length, true, false, IsOk, IfOk, IsSome, IfSome, option_map, option_to_list, slice_get};
 ghost use Rattle.std.specs.List.{AllByRecursion};
-ghost use Rattle.jfr_base.specs.Formats.{int_at, run, seen};
+ghost use Rattle.jfr_base.specs.Formats.{int_at, run, end_or_flaw};
 ghost use Rattle.jfr_text.specs.Strings.{string_format};
 ghost use Rattle.jfr_layout.specs.Classes.{Sound};
 ghost use Rattle.jfr_value.specs.Leaves.{leaves, leaves_at, leaves_from};
-ghost use Rattle.jfr_value.specs.Nodes.{EndsAt, IsNode, IsRow, IsValue, node_at, node_of, targets};
+ghost use Rattle.jfr_value.specs.Nodes.{EndsAt, IsNode, AreValues, IsValue, node_at, node_of, targets};
 ghost use Rattle.jfr_value.specs.Reading.{base_format};
 ghost use Rattle.jfr_value.specs.Values.{IsHollow, Value, Values, key_of, targets_of, targets_of_all};
 ghost use Rattle.jfr_value.specs.Visits.{TakesAll, field_shapes};
-ghost use Rattle.jfr_value.specs.Walks.{IsLayoutIfKnown, Room};
+ghost use Rattle.jfr_value.specs.Walks.{IsLayoutIfKnown, DepthBound};
 
 use crate::extent::{base_end, is_hollow, item_layout, layout_of};
 use crate::walk::{LEVELS, Walk};
@@ -84,8 +84,8 @@ fn visit_value<C, V: Visit<C>, L: Ledger>(
 ) -> usize
     requires sound { Sound walk.now.classes.now }
     requires layout { IsLayoutIfKnown walk.now.classes.now layout.now }
-    requires room { Room walk.now.classes.now start.levels layout.now.shape }
-    requires stands { (to : ℕ) × EndsAt walk.now.classes.now walk.now.bytes.now layout.now.shape start.at to × (to ≤ walk.now.end) }
+    requires depth { DepthBound walk.now.classes.now start.levels layout.now.shape }
+    requires holds { (to : ℕ) × EndsAt walk.now.classes.now walk.now.bytes.now layout.now.shape start.at to × (to ≤ walk.now.end) }
     requires ready { V.ready visitor.old walk.now.with.now }
     ensures visited { (to : ℕ) (v : Value) → IsNode walk.now.classes.now walk.now.bytes.now (node_at layout.now.shape start.at to) v → to ≤ walk.now.end
         → (result ≡ to) × TakesAll (V.takes walk.now.with.now) (targets_of v) visitor.old visitor.new × (steps.new ≡ steps.old + length (leaves_at start.at v)) }
@@ -117,10 +117,10 @@ fn visit_fields<C, V: Visit<C>, L: Ledger>(
 ) -> usize
     requires sound { Sound walk.now.classes.now }
     requires placed { place < length walk.now.classes.now }
-    requires room { AllByRecursion (Room walk.now.classes.now start.levels) (field_shapes walk.now.classes.now place) }
-    requires stand { (to : ℕ) × (vs : Values) × IsRow walk.now.classes.now walk.now.bytes.now start.at to (field_shapes walk.now.classes.now place) vs × (to ≤ walk.now.end) }
+    requires depth { AllByRecursion (DepthBound walk.now.classes.now start.levels) (field_shapes walk.now.classes.now place) }
+    requires valid { (to : ℕ) × (vs : Values) × AreValues walk.now.classes.now walk.now.bytes.now start.at to (field_shapes walk.now.classes.now place) vs × (to ≤ walk.now.end) }
     requires ready { V.ready visitor.old walk.now.with.now }
-    ensures visited { (to : ℕ) (vs : Values) → IsRow walk.now.classes.now walk.now.bytes.now start.at to (field_shapes walk.now.classes.now place) vs → to ≤ walk.now.end
+    ensures visited { (to : ℕ) (vs : Values) → AreValues walk.now.classes.now walk.now.bytes.now start.at to (field_shapes walk.now.classes.now place) vs → to ≤ walk.now.end
         → (result ≡ to) × TakesAll (V.takes walk.now.with.now) (targets_of_all vs) visitor.old visitor.new × (steps.new ≡ steps.old + length (leaves_from start.at vs)) }
     ensures ready { V.ready visitor.new walk.now.with.now }
 {
@@ -147,8 +147,8 @@ fn visit_array<C, V: Visit<C>, L: Ledger>(
     requires sound { Sound walk.now.classes.now }
     requires array { layout.now.shape.array ≡ true }
     requires layout { IsLayoutIfKnown walk.now.classes.now layout.now }
-    requires room { Room walk.now.classes.now start.levels layout.now.shape }
-    requires stands { (to : ℕ) × EndsAt walk.now.classes.now walk.now.bytes.now layout.now.shape start.at to × (to ≤ walk.now.end) }
+    requires depth { DepthBound walk.now.classes.now start.levels layout.now.shape }
+    requires holds { (to : ℕ) × EndsAt walk.now.classes.now walk.now.bytes.now layout.now.shape start.at to × (to ≤ walk.now.end) }
     requires ready { V.ready visitor.old walk.now.with.now }
     ensures visited { (to : ℕ) (v : Value) → IsNode walk.now.classes.now walk.now.bytes.now (node_at layout.now.shape start.at to) v → to ≤ walk.now.end
         → (result ≡ to) × TakesAll (V.takes walk.now.with.now) (targets_of v) visitor.old visitor.new × (steps.new ≡ steps.old + length (leaves_at start.at v)) }
@@ -197,7 +197,7 @@ fn visit_key<C, V: Visit<C>, L: Ledger>(
     steps: &mut Steps<L>,
 ) -> usize
     requires order { at ≤ walk.now.end }
-    requires stands { IsSome (int_at walk.now.bytes.now at walk.now.end) }
+    requires holds { IsSome (int_at walk.now.bytes.now at walk.now.end) }
     requires ready { V.ready visitor.old walk.now.with.now }
     ensures visited { IfSome (int_at walk.now.bytes.now at walk.now.end) (λ key.
         (result ≡ key.end) × V.takes walk.now.with.now (class, key.value) visitor.old visitor.new) }
@@ -222,7 +222,7 @@ fn visit_string<C, V: Visit<C>, L: Ledger>(
     steps: &mut Steps<L>,
 ) -> usize
     requires order { at ≤ walk.now.end }
-    requires stands { IsOk (run (string_format true) walk.now.bytes.now walk.now.end at) }
+    requires holds { IsOk (run (string_format true) walk.now.bytes.now walk.now.end at) }
     requires ready { V.ready visitor.old walk.now.with.now }
     ensures visited { IfOk (run (string_format true) walk.now.bytes.now walk.now.end at) (λ got.
         (result ≡ got.place) × TakesAll (V.takes walk.now.with.now) (option_to_list (option_map (λ key. (class, key)) (key_of got.value))) visitor.old visitor.new) }
@@ -249,8 +249,8 @@ fn visit_plain<C, L: Ledger>(
     steps: &mut Steps<L>,
 ) -> usize
     requires order { at ≤ walk.now.end }
-    requires stands { IsOk (seen (run (base_format kind) walk.now.bytes.now walk.now.end at)) }
-    ensures ends { IfOk (seen (run (base_format kind) walk.now.bytes.now walk.now.end at)) (λ to. result ≡ to) }
+    requires holds { IsOk (end_or_flaw (run (base_format kind) walk.now.bytes.now walk.now.end at)) }
+    ensures ends { IfOk (end_or_flaw (run (base_format kind) walk.now.bytes.now walk.now.end at)) (λ to. result ≡ to) }
     ensures cost { steps.new ≡ steps.old + 1 }
 {
     let Ok(to) = base_end(kind, walk.bytes, at, walk.end) else {

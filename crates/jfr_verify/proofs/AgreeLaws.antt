@@ -4,7 +4,7 @@ use Rattle.std.proofs.Common.{ap, arith, refl, sym, ◌∙◌, subst, inl, inr}
 use Rattle.std.proofs.lemmas.List.Elements.{All-contains}
 use Rattle.jfr_layout.specs.Classes.{Class, Classes, Sound, Agree, find_class}
 use Rattle.jfr_layout.specs.declared.shape.Shape.{Shape}
-use Rattle.jfr_layout.proofs.SoundLaws.{stand_once}
+use Rattle.jfr_layout.proofs.SoundLaws.{are_found}
 use Rattle.jfr_value.specs.Values.{Value, Single, Group, Fits, shape_of}
 use Rattle.jfr_value.specs.Nodes.{NodeAt, IsNode}
 use Rattle.jfr_pool.specs.Entries.{inline}
@@ -31,7 +31,7 @@ module _ (k m : Classes) (s : Sound k) (r : Sound m) (has : HasClasses k m) wher
       let there = in_get k d (contains_in k d here) in
       let t : (d.id == id) ≡ true = found_passes (λ (c : Class). c.id == id) m d e in
       let q : d.id ≡ id = grind (arith, t) in
-      subst (λ z. find_class k z ≡ Some d) q ((stand_once k s).id there.0 d there.1).1
+      subst (λ z. find_class k z ≡ Some d) q ((are_found k s).id there.0 d there.1).1
 
   -- The lists agree on the class of each inline value of the second chunk.
   pub agree_on_node : (d : List ℕ) (id : ℕ) (n : NodeAt) (v : Value) → n.shape ≡ inline id → IsNode m d n v → Agree k m id

@@ -29,7 +29,7 @@ module _ (p : Parts) where
   -- The node of a parent, or that it has none.
   record Node (before : List ℕ) (par : Parent) : Type 0 where
     node : NodeAt
-    stands : IsParent p before par node
+    holds : IsParent p before par node
     one : (m : NodeAt) → IsParent p before par m → node ≡ m
 
   node_of : (before : List ℕ) (par : Parent) → Node before par ⊎ ((m : NodeAt) → IsParent p before par m → ⊥)
@@ -37,12 +37,12 @@ module _ (p : Parts) where
     where
       by_event : (o : Option EventAt) → slice_get (events_of p) i ≡ o → Node before (OfEvent i) ⊎ ((m : NodeAt) → IsParent p before (OfEvent i) m → ⊥)
       by_event None e = inr (λ m s. (let z : None ≡ Some s.0 = sym e ∙ s.1 in cc))
-      by_event (Some x) e = inl (record { node = x.node; stands = (x, e, refl); one = λ m s. (let z : x ≡ s.0 = (let a : slice_get (events_of p) i ≡ Some s.0 = s.1 in cc) in ap (λ (w : EventAt). w.node) z ∙ s.2) })
+      by_event (Some x) e = inl (record { node = x.node; holds = (x, e, refl); one = λ m s. (let z : x ≡ s.0 = (let a : slice_get (events_of p) i ≡ Some s.0 = s.1 in cc) in ap (λ (w : EventAt). w.node) z ∙ s.2) })
   node_of before (OfEntry i) = by_before (dec_contains dec_nat before i)
     where
       by_entry : Contains before i → (o : Option EntryAt) → slice_get p.entries i ≡ o → Node before (OfEntry i) ⊎ ((m : NodeAt) → IsParent p before (OfEntry i) m → ⊥)
       by_entry c None e = inr (λ m s. (let z : None ≡ Some s.0 = sym e ∙ s.2 in cc))
-      by_entry c (Some x) e = inl (record { node = entry_node x; stands = (x, c, e, refl); one = λ m s. (let z : x ≡ s.0 = (let a : slice_get p.entries i ≡ Some s.0 = s.2 in cc) in ap entry_node z ∙ s.3) })
+      by_entry c (Some x) e = inl (record { node = entry_node x; holds = (x, c, e, refl); one = λ m s. (let z : x ≡ s.0 = (let a : slice_get p.entries i ≡ Some s.0 = s.2 in cc) in ap entry_node z ∙ s.3) })
 
       by_before : Dec (Contains before i) → Node before (OfEntry i) ⊎ ((m : NodeAt) → IsParent p before (OfEntry i) m → ⊥)
       by_before (inl c) = by_entry c (slice_get p.entries i) refl
@@ -52,7 +52,7 @@ module _ (p : Parts) where
   dec_valid before l = by_fresh (dec_contains dec_nat before l.entry)
     where
       by_target : (Contains before l.entry → ⊥) → (e : EntryAt) → slice_get p.entries l.entry ≡ Some e → (n : Node before l.parent) → Dec (Contains (targets p.classes p.bytes n.node) (e.class, e.key)) → Dec (IsValidLine p before l)
-      by_target f e g n (inl c) = inl (record { fresh = f; entry = e; there = g; node = n.node; parent = n.stands; refers = c })
+      by_target f e g n (inl c) = inl (record { fresh = f; entry = e; there = g; node = n.node; parent = n.holds; refers = c })
       by_target f e g n (inr f') = inr (λ h.
           let z : h.entry ≡ e = (let a : slice_get p.entries l.entry ≡ Some h.entry = h.there in cc) in
           let w : h.node ≡ n.node = sym (n.one h.node h.parent) in

@@ -4,7 +4,7 @@ use Rattle.std.proofs.Common.{ap, arith, refl, sym, ◌∙◌, subst}
 use Rattle.std.proofs.lemmas.Option.{slice_get_within}
 use Rattle.std.proofs.lemmas.List.Elements.{All-from_recursion, All-contains}
 use Rattle.jfr_layout.specs.Classes.{Class, Classes, Sound, find_class}
-use Rattle.jfr_layout.proofs.SoundLaws.{stand_once}
+use Rattle.jfr_layout.proofs.SoundLaws.{are_found}
 use Rattle.jfr_worklist.proofs.Members.{contains_in, in_contains, get_in, found_get, all_from_get}
 use Rattle.jfr_verify.specs.Checks.{HasClasses}
 use Rattle.jfr_verify.specs.Decided.{Decided}
@@ -34,7 +34,7 @@ module _ (k m : Classes) where
   found_in w n d e has =
       let here : Contains k d = All-contains (Contains k) m d has (in_contains m d (get_in m n d e)) in
       let there = in_get k d (contains_in k d here) in
-      ((stand_once k w).id there.0 d there.1).1
+      ((are_found k w).id there.0 d there.1).1
 
   pub not_found : Sound k → (n : ℕ) (d : Class) → slice_get m n ≡ Some d → find_class k d.id ≡ None → Decided (HasClasses k m) false
   not_found w n d e g has = let h = found_in w n d e has in (let z : None ≡ Some d = sym g ∙ h in cc)

@@ -5,19 +5,19 @@ use Rattle.std.proofs.Common.{ap, arith, refl, sym, ◌∙◌, subst}
 use Rattle.jfr_base.specs.declared.flaw.Flaw.{Flaw}
 use Rattle.jfr_base.specs.declared.flaw.Refusal.{Refusal}
 use Rattle.jfr_filter.specs.Filters.{Given}
-use Rattle.jfr_outside.specs.World.{World, State, Told, file}
+use Rattle.jfr_outside.specs.World.{World, State, IfKnown, file}
 use Rattle.jfr_header.specs.Cutters.{Cutter}
 use Rattle.jfr_header.specs.Fronts as fronts
 use Rattle.jfr_header.specs.Nexts.{Found, GaveChunk, Refuses}
 use Rattle.jfr_chunk.specs.Chosen.{kept_of}
 use Rattle.jfr_chunk.specs.Parts.{Parts}
 use Rattle.jfr_chunk.specs.Refusal.{read_parts}
-use Rattle.jfr_chunk.specs.declared.room.Room.{Room}
+use Rattle.jfr_chunk.specs.declared.buffers.Buffers.{Buffers}
 use Rattle.jfr_verify.specs.Checked.{Answered, Checked}
 use Rattle.jfr_verify.specs.Comparing.{HasOutputs, IfStopped, InputRead, Steps}
 use Rattle.jfr_verify.specs.Faults.{AreSame, Counted, Counts, after_check}
 use Rattle.jfr_verify.specs.Outputs.{AreOutputs, OpenedIn}
-use Rattle.jfr_verify.specs.Recordings.{Recording, read_on, recording_of, recording_left, HasLeft}
+use Rattle.jfr_verify.specs.Recordings.{Recording, read_on, recording_of, unread_recording, HasUnread}
 use Rattle.jfr_verify.specs.Verdicts.{ComparedWith, IfDecided}
 use Rattle.jfr_verify.specs.declared.comparer.Comparer.{Comparer}
 use Rattle.jfr_verify.specs.declared.doubt.CheckFault.{CheckFault}
@@ -65,9 +65,9 @@ pair_fails g p q b bs qs r n number (checks.Doubt d) bytes at s t e c = λ k.
 pair_fails g p q b bs qs r n number checks.Memory bytes at s t e c = tt
 
 -- The rooms don't matter.
-pub steps_in : (r : Result (Unit {0}) Verdict) (n : ℕ) (next other : Result Parts Flaw) (qs : List Parts) (a b : Comparer) (i j : Room) → other ≡ next → Steps r n next qs (record a { input_room = i }) b → Steps r n other qs a (record b { input_room = j })
-steps_in (Ok x) n next other qs a b i j e h = subst (λ z. Steps (Ok x) n z qs a (record b { input_room = j })) (sym e) h
-steps_in (Err x) n next other qs a b i j e h = subst (λ z. Steps (Err x) n z qs a (record b { input_room = j })) (sym e) h
+pub steps_in : (r : Result (Unit {0}) Verdict) (n : ℕ) (next other : Result Parts Flaw) (qs : List Parts) (a b : Comparer) (i j : Buffers) → other ≡ next → Steps r n next qs (record a { input_buffers = i }) b → Steps r n other qs a (record b { input_buffers = j })
+steps_in (Ok x) n next other qs a b i j e h = subst (λ z. Steps (Ok x) n z qs a (record b { input_buffers = j })) (sym e) h
+steps_in (Err x) n next other qs a b i j e h = subst (λ z. Steps (Err x) n z qs a (record b { input_buffers = j })) (sym e) h
 
 -- ---- the input
 
@@ -80,11 +80,11 @@ pub record Going (name : List ℕ) (g : Given) (qs : List Parts) (r : List ℕ) 
   pub number : c.number ≡ count + 1
   pub later : List Parts
   pub outputs : HasOutputs s later
-  pub left : HasLeft c (λ k. (y : Verdict) → ComparedWith g k later s.receipts.now count y → ComparedWith g (recording_of bytes) qs r 0 y) w v
+  pub left : HasUnread c (λ k. (y : Verdict) → ComparedWith g k later s.receipts.now count y → ComparedWith g (recording_of bytes) qs r 0 y) w v
 
 pub start : (name : List ℕ) (g : Given) (qs : List Parts) (r : List ℕ) (s : Comparer) (c : Cutter) (w v : World) → s.receipts.now ≡ r → HasOutputs s qs → c.number ≡ 1 → OpenedIn name (Ok c) w v → Going name g qs r s c w v
 start name g qs r s c w v same h n o =
-    let x = from_some (file w name) (λ y. HasLeft c (λ k. recording_of y ≡ k) w v) o in
+    let x = from_some (file w name) (λ y. HasUnread c (λ k. recording_of y ≡ k) w v) o in
     record {
       bytes = x.0;
       file_is = x.1;
@@ -133,7 +133,7 @@ module _ (name : List ℕ) (qs : List Parts) (r : List ℕ) (s : Comparer) (c d 
       → ((n : ℕ) (qs : List Parts) → number ≡ n + 1 → HasOutputs s qs → Steps (Err x) n (read_parts bytes) qs s z) → Going name s.filter.now qs r s c w v → InputRead s.filter.now name qs r x w u
   go_stopped z x bytes number same at gave n steps k =
       let h = next_left c d _ w v u k.left gave n in
-      let rest : Recording = recording_left d h.left in
+      let rest : Recording = unread_recording d h.left in
       let here : c.number ≡ k.count + 1 = k.number in
       let more : d.number ≡ c.number + 1 = gave.number in
       let t = subst (λ b. Steps (Err x) k.count (read_parts b) k.later s z) same (steps k.count k.later (omega (arith, at, here, more)) k.outputs) in
@@ -171,13 +171,13 @@ module _ (name : List ℕ) (qs : List Parts) (r : List ℕ) (s : Comparer) (c d 
     on_refused f e n k = subst (λ y. Going name y qs r s c w v → InputRead y name qs r (Refused f) w u) same_filter (go_refused f e n) k
 
 -- The input is open.
-pub open_left : (name : List ℕ) (c : Cutter) (w v : World) → OpenedIn name (Ok c) w v → HasLeft c (λ k. Unit {0}) w v
+pub open_left : (name : List ℕ) (c : Cutter) (w v : World) → OpenedIn name (Ok c) w v → HasUnread c (λ k. Unit {0}) w v
 open_left name c w v o =
-    let x = from_some (file w name) (λ y. HasLeft c (λ k. recording_of y ≡ k) w v) o in
+    let x = from_some (file w name) (λ y. HasUnread c (λ k. recording_of y ≡ k) w v) o in
     map_left c _ _ w v (λ k e. tt) x.2
 
 -- A read doesn't fail.
-pub never_fails : (b a : Option World) (c : Cutter) (P : World → Type 0) → Told b a (HasLeft c (λ k. Unit {0})) → IfSome a (λ v. v.input ≡ None) → IfSome b P
+pub never_fails : (b a : Option World) (c : Cutter) (P : World → Type 0) → IfKnown b a (HasUnread c (λ k. Unit {0})) → IfSome a (λ v. v.input ≡ None) → IfSome b P
 never_fails None a c P t h = tt
 never_fails (Some w) None c P t h = absurd t
 never_fails (Some w) (Some v) c P t h = let e : Some t.left ≡ None = sym t.input ∙ h in cc

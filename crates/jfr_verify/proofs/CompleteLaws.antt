@@ -20,7 +20,7 @@ use Rattle.jfr_worklist.proofs.Members.{get_in, in_contains, all_from_get}
 use Rattle.jfr_chunk.specs.Metas.{metadata_size, rebuilt, stays_in}
 use Rattle.jfr_worklist.proofs.SweepLaws.{root, more}
 use Rattle.jfr_chunk.proofs.ReachedLaws.{reached_marked, path_reach, reach_path}
-use Rattle.jfr_chunk.proofs.StandingLaws.{standing}
+use Rattle.jfr_chunk.proofs.HasNodesLaws.{has_nodes}
 use Rattle.jfr_laws.specs.Laws.{IsKept}
 use Rattle.jfr_laws.proofs.Same.{chosen_events, event_of_chunk}
 use Rattle.jfr_verify.specs.Receipts.{IsReceiptOf, receipt_of}
@@ -67,20 +67,20 @@ module _ (p : Parts) (a : AreParts p) (flags : List Bool) where
   kept_node e i = let v = event_of_chunk p a kept (chosen_events p flags) e i in (v.value, v.node)
 
   marked_is : (i : ℕ) → Reached p kept i ↔ IsMarked marks i
-  marked_is i = reached_marked p (standing p a) kept kept_node i
+  marked_is i = reached_marked p (has_nodes p a) kept kept_node i
 
   -- What is marked is in force.
   marked_in_force : (i : ℕ) → IsMarked marks i → IsInForce p.entries i
   marked_in_force i m =
       let r = (marked_is i).1 m in
       let l : IsLast p.entries r.key i = (last_is p.entries r.key i).0 r.in_force in
-      record { entry = l.entry; stands = l.stands; last = ap (number_in_force p.entries) l.has ∙ r.in_force }
+      record { entry = l.entry; holds = l.holds; last = ap (number_in_force p.entries) l.has ∙ r.in_force }
 
   -- The marks are closed.
   marks_closed : AreClosed p kept marks
   marks_closed = record {
-    events = all_of_members (IsMarked marks) (roots p kept) (λ i h. (marked_is i).0 (reach_path p (standing p a) kept kept_node (root h)));
-    entries = λ n m. all_of_members (IsMarked marks) (next_entries p n) (λ i h. (marked_is i).0 (reach_path p (standing p a) kept kept_node (more (path_reach p (standing p a) kept kept_node n ((marked_is n).1 m)) h)));
+    events = all_of_members (IsMarked marks) (roots p kept) (λ i h. (marked_is i).0 (reach_path p (has_nodes p a) kept kept_node (root h)));
+    entries = λ n m. all_of_members (IsMarked marks) (next_entries p n) (λ i h. (marked_is i).0 (reach_path p (has_nodes p a) kept kept_node (more (path_reach p (has_nodes p a) kept kept_node n ((marked_is n).1 m)) h)));
   }
 
   pub kept_passes : (k : IsKept p kept) → (AllReached k.parts → IsReceiptOf (receipt_of k.parts) k.parts) → Passes p k.parts kept (receipt_of k.parts)

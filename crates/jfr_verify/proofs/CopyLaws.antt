@@ -64,7 +64,7 @@ module _ (p q : Parts) where
   -- What a number that is found satisfies.
   pub record Next (number from place : ℕ) : Type 0 where
     pub copy : EntryAt
-    pub stands : slice_get q.entries number ≡ Some copy
+    pub holds : slice_get q.entries number ≡ Some copy
     pub entry : EntryAt
     pub here : slice_get p.entries place ≡ Some entry
     pub force : number_in_force p.entries (copy.class, copy.key) ≡ Some place
@@ -77,7 +77,7 @@ module _ (p q : Parts) where
       by_same : (f : EntryAt) (n : ℕ) (x : EntryAt) (b : Bool) → slice_get q.entries number ≡ Some f → number_in_force p.entries (f.class, f.key) ≡ Some n → nat_lt n from ≡ false → slice_get p.entries n ≡ Some x → is_copy p q x f ≡ b → (if b then Some n else None) ≡ Some place → Next number from place
       by_same f n x true g h l i c e =
           let k : n ≡ place = cc in
-          record { copy = f; stands = g; entry = x; here = subst (λ z. slice_get p.entries z ≡ Some x) k i; force = h ∙ ap (λ z. Some z) k; order = (let o : from ≤ n = grind (arith, l) in omega arith); same = c }
+          record { copy = f; holds = g; entry = x; here = subst (λ z. slice_get p.entries z ≡ Some x) k i; force = h ∙ ap (λ z. Some z) k; order = (let o : from ≤ n = grind (arith, l) in omega arith); same = c }
       by_same f n x false g h l i c e = cc
 
       by_entry : (f : EntryAt) (n : ℕ) (o : Option EntryAt) → slice_get q.entries number ≡ Some f → number_in_force p.entries (f.class, f.key) ≡ Some n → nat_lt n from ≡ false → slice_get p.entries n ≡ o → option_and_then (λ e. if is_copy p q e f then Some n else None) o ≡ Some place → Next number from place
@@ -99,7 +99,7 @@ module _ (p q : Parts) where
   is_next : (number from place : ℕ) → Next number from place → next_copy p q number from ≡ Some place
   is_next number from place n =
       let l : nat_lt place from ≡ false = (let o : from ≤ place = n.order in grind (arith, o)) in
-      ap (option_and_then (λ f. option_and_then (copy_if p q from f) (number_in_force p.entries (f.class, f.key)))) n.stands
+      ap (option_and_then (λ f. option_and_then (copy_if p q from f) (number_in_force p.entries (f.class, f.key)))) n.holds
       ∙ (ap (option_and_then (copy_if p q from n.copy)) n.force
       ∙ (ap (λ z. if z then None else option_and_then (λ e. if is_copy p q e n.copy then Some place else None) (slice_get p.entries place)) l
       ∙ (ap (option_and_then (λ e. if is_copy p q e n.copy then Some place else None)) n.here ∙ ap (λ z. if z then Some place else None) n.same)))
@@ -155,19 +155,19 @@ module _ (p q : Parts) where
       let n : Next k from place = next_is k from place e in
       let w = next_within k from place n in
       let i : IsLast p.entries (n.copy.class, n.copy.key) place = (last_is p.entries (n.copy.class, n.copy.key) place).0 n.force in
-      let x : i.entry ≡ n.entry = (let a : slice_get p.entries place ≡ Some i.entry = i.stands in let b = n.here in cc) in
+      let x : i.entry ≡ n.entry = (let a : slice_get p.entries place ≡ Some i.entry = i.holds in let b = n.here in cc) in
       let t : target_of n.entry ≡ target_of n.copy = subst (λ (z : EntryAt). target_of z ≡ target_of n.copy) x i.has in
       let c : IsCopied p q n.entry n.copy = copy_of n.entry n.copy (ap (λ (z : ℕ × ℕ). z.0) t) (ap (λ (z : ℕ × ℕ). z.1) t) n.same in
       let o : from ≤ place = n.order in
       let here : place < length marks = omega (arith, h.size, w) in
       let l = set_last marks p.entries place n.entry (λ i m. (let b : i < from = h.below i m in omega arith)) here n.here in
-      let force : IsInForce p.entries place = record { entry = n.entry; stands = n.here; last = ap (number_in_force p.entries) t ∙ n.force } in
+      let force : IsInForce p.entries place = record { entry = n.entry; holds = n.here; last = ap (number_in_force p.entries) t ∙ n.force } in
       record {
         size = length-set marks place true ∙ h.size;
         below = λ i m. by_below i (set_only marks place i m);
         in_force = λ i m. by_force force i (set_only marks place i m);
-        copied = subst (λ z. AreCopied p q z (take (k + 1) q.entries)) (sym l) (subst (AreCopied p q (marked marks p.entries ++ n.entry ∷ [])) (sym (take_next q.entries k n.copy n.stands)) (copied_one p q (marked marks p.entries) (take k q.entries) n.entry n.copy h.copied c));
-        from_is = subst (λ z. IsFrom z (place + 1)) (let z : suc k ≡ k + 1 = omega arith in z) (n.copy, place, n.stands, n.force, refl);
+        copied = subst (λ z. AreCopied p q z (take (k + 1) q.entries)) (sym l) (subst (AreCopied p q (marked marks p.entries ++ n.entry ∷ [])) (sym (take_next q.entries k n.copy n.holds)) (copied_one p q (marked marks p.entries) (take k q.entries) n.entry n.copy h.copied c));
+        from_is = subst (λ z. IsFrom z (place + 1)) (let z : suc k ≡ k + 1 = omega arith in z) (n.copy, place, n.holds, n.force, refl);
       }
     where
       by_below : (i : ℕ) → IsMarked marks i ⊎ (place ≡ i) → i < place + 1
@@ -194,7 +194,7 @@ module _ (p q : Parts) where
       let k : Ranked marks p.entries number = ranked marks p.entries number (slice_get_within (marked marks p.entries) number c.0 c.1) in
       let g : slice_get p.entries k.place ≡ Some c.0 = sym (rank_get marks p.entries k.place k.is_marked) ∙ (ap (slice_get (marked marks p.entries)) k.number_is ∙ c.1) in
       let i : IsInForce p.entries k.place = a.in_force k.place k.is_marked in
-      let w : i.entry ≡ c.0 = (let x : slice_get p.entries k.place ≡ Some i.entry = i.stands in cc) in
+      let w : i.entry ≡ c.0 = (let x : slice_get p.entries k.place ≡ Some i.entry = i.holds in cc) in
       let l : number_in_force p.entries (c.0.class, c.0.key) ≡ Some k.place = subst (λ (z : EntryAt). number_in_force p.entries (z.class, z.key) ≡ Some k.place) w i.last in
       let l' : number_in_force p.entries (f.class, f.key) ≡ Some k.place = subst (λ z. number_in_force p.entries (z, f.key) ≡ Some k.place) c.2.class (subst (λ z. number_in_force p.entries (c.0.class, z) ≡ Some k.place) c.2.key l) in
       record { place = k.place; entry = c.0; here = g; is_marked = k.is_marked; number_is = k.number_is; copied = c.2; force = l' }
@@ -217,7 +217,7 @@ module _ (p q : Parts) where
   none_copied k from marks h i e other a =
       let f = present q.entries k h in
       let x = placed other a k f.0 f.1 in
-      let n = is_next k from x.place (record { copy = f.0; stands = f.1; entry = x.entry; here = x.here; force = x.force; order = in_order other k from f.0 a x i.from_is; same = of_copy x.entry f.0 x.copied }) in
+      let n = is_next k from x.place (record { copy = f.0; holds = f.1; entry = x.entry; here = x.here; force = x.force; order = in_order other k from f.0 a x i.from_is; same = of_copy x.entry f.0 x.copied }) in
       (let z : None ≡ Some x.place = sym e ∙ n in cc)
 
   all_of : {X : Type 0} (xs : List X) (n : ℕ) → length xs ≤ n → take n xs ≡ xs

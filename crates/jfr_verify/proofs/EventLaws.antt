@@ -13,7 +13,7 @@ use Rattle.jfr_chunk.specs.Reach.{marked, kept_by}
 use Rattle.jfr_chunk.proofs.AllLaws.{all_in}
 use Rattle.jfr_chunk.proofs.CountLaws.{whole_small}
 use Rattle.jfr_worklist.proofs.Members.{get_in}
-use Rattle.jfr_chunk.proofs.StandingLaws.{event_is, tiles_each}
+use Rattle.jfr_chunk.proofs.HasNodesLaws.{event_is, tiles_each}
 use Rattle.jfr_verify.specs.Checks.{contents}
 use Rattle.jfr_verify.specs.SameEvents.{content, is_same, both_same, same_event, next_event, SameEvents}
 use Rattle.jfr_layout.proofs.Lists.{present, take_next}
@@ -88,24 +88,24 @@ module _ (p q : Parts) (flags : List Bool) where
   take_size (x ∷ xs) (suc n) h = ap suc (take_size xs n (omega arith))
 
   -- What follows the first ones.
-  get_behind : {X : Type 0} (ws : List X) (at : ℕ) (y : X) (rest : List X) → at ≤ length ws → slice_get (take at ws ++ y ∷ rest) at ≡ Some y
-  get_behind [] zero y rest h = refl
-  get_behind [] (suc n) y rest h = absurd (omega arith)
-  get_behind (w ∷ ws) zero y rest h = refl
-  get_behind (w ∷ ws) (suc n) y rest h = get_behind ws n y rest (omega arith)
+  get_after : {X : Type 0} (ws : List X) (at : ℕ) (y : X) (rest : List X) → at ≤ length ws → slice_get (take at ws ++ y ∷ rest) at ≡ Some y
+  get_after [] zero y rest h = refl
+  get_after [] (suc n) y rest h = absurd (omega arith)
+  get_after (w ∷ ws) zero y rest h = refl
+  get_after (w ∷ ws) (suc n) y rest h = get_after ws n y rest (omega arith)
 
   contents_more : (xs : List EventAt) (e : EventAt) (rest : List EventAt) → contents p (xs ++ e ∷ rest) ≡ contents p xs ++ content p e ∷ contents p rest
   contents_more [] e rest = refl
   contents_more (x ∷ xs) e rest = ap (λ z. content p x ∷ z) (contents_more xs e rest)
 
   -- One more kept event, with all that follow.
-  marked_behind : (ms : List Bool) (xs : List EventAt) (n : ℕ) (e : EventAt) → slice_get ms n ≡ Some true → slice_get xs n ≡ Some e → (rest : List EventAt) × (marked ms xs ≡ marked (take n ms) (take n xs) ++ e ∷ rest)
-  marked_behind [] xs n e m g = cc
-  marked_behind (m ∷ ms) [] n e t g = cc
-  marked_behind (true ∷ ms) (x ∷ xs) zero e m g = let h : x ≡ e = cc in (marked ms xs, ap (λ z. z ∷ marked ms xs) h)
-  marked_behind (false ∷ ms) (x ∷ xs) zero e m g = cc
-  marked_behind (true ∷ ms) (x ∷ xs) (suc n) e m g = let r = marked_behind ms xs n e m g in (r.0, ap (λ z. x ∷ z) r.1)
-  marked_behind (false ∷ ms) (x ∷ xs) (suc n) e m g = marked_behind ms xs n e m g
+  marked_after : (ms : List Bool) (xs : List EventAt) (n : ℕ) (e : EventAt) → slice_get ms n ≡ Some true → slice_get xs n ≡ Some e → (rest : List EventAt) × (marked ms xs ≡ marked (take n ms) (take n xs) ++ e ∷ rest)
+  marked_after [] xs n e m g = cc
+  marked_after (m ∷ ms) [] n e t g = cc
+  marked_after (true ∷ ms) (x ∷ xs) zero e m g = let h : x ≡ e = cc in (marked ms xs, ap (λ z. z ∷ marked ms xs) h)
+  marked_after (false ∷ ms) (x ∷ xs) zero e m g = cc
+  marked_after (true ∷ ms) (x ∷ xs) (suc n) e m g = let r = marked_after ms xs n e m g in (r.0, ap (λ z. x ∷ z) r.1)
+  marked_after (false ∷ ms) (x ∷ xs) (suc n) e m g = marked_after ms xs n e m g
 
   marked_one : (ms : List Bool) (xs : List EventAt) (n : ℕ) (e : EventAt) → slice_get ms n ≡ Some true → slice_get xs n ≡ Some e → marked (take (suc n) ms) (take (suc n) xs) ≡ marked (take n ms) (take n xs) ++ e ∷ []
   marked_one [] xs n e m g = cc
@@ -166,9 +166,9 @@ module _ (p q : Parts) (flags : List Bool) where
       by_same : (x : EventAt) (b : Bool) → slice_get (events_of p) n ≡ Some x → slice_get flags n ≡ Some true → same_event p q n at ≡ b → (if b then Some (at + 1) else None) ≡ None → ⊥
       by_same x true g f b e = cc
       by_same x false g f b e =
-          let r = marked_behind flags (events_of p) n x f g in
+          let r = marked_after flags (events_of p) n x f g in
           let k : take at wanted ++ content p x ∷ contents p r.0 ≡ wanted = ap (λ z. z ++ content p x ∷ contents p r.0) (sym i.same) ∙ (sym (contents_more (first n) x r.0) ∙ (sym (ap (contents p) r.1) ∙ all)) in
-          let o : slice_get wanted at ≡ Some (content p x) = ap (λ z. slice_get z at) (sym k) ∙ get_behind wanted at (content p x) (contents p r.0) i.within in
+          let o : slice_get wanted at ≡ Some (content p x) = ap (λ z. slice_get z at) (sym k) ∙ get_after wanted at (content p x) (contents p r.0) i.within in
           let t : same_event p q n at ≡ true = ap (λ z. both_same (option_map (content p) z) (option_map (content q) (slice_get (events_of q) at))) g ∙ (ap (both_same (Some (content p x))) (sym (wanted_at at) ∙ o) ∙ is_self (content p x)) in
           (let z : false ≡ true = sym b ∙ t in cc)
 

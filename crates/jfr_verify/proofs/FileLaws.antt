@@ -5,7 +5,7 @@ use Rattle.std.specs.declared.alloc.Global.{Global}
 use Rattle.std.proofs.Common.{ap, refl, sym, ◌∙◌, subst}
 use Rattle.jfr_filter.specs.Filters.{Given}
 use Rattle.jfr_outside.specs.Counts.{Rose}
-use Rattle.jfr_outside.specs.World.{Files, World, State, Told, file, shut}
+use Rattle.jfr_outside.specs.World.{Files, World, State, IfKnown, file, shut}
 use Rattle.jfr_header.specs.Taking.{IsKept}
 use Rattle.jfr_file.specs.Files.{FileRead}
 use Rattle.jfr_file.specs.declared.file.FileFault.{FileFault}
@@ -41,7 +41,7 @@ module _ (g : Given) (input output receipt : List ℕ) where
   receipts_failed files.Failed x w v e h = subst (λ z. VerdictIn g input output receipt z w v) (sym e) (h.1, tt)
   receipts_failed files.Memory x w v e h = subst (λ z. VerdictIn g input output receipt z w v) (sym e) (h, tt)
 
-  pub no_receipts : (fault : FileFault) (x : Verdict) (b a : Option World) → x ≡ after_receipts fault → Told b a (FileRead receipt (2 ^ 40) (Err fault)) → Told b a (VerdictIn g input output receipt x)
+  pub no_receipts : (fault : FileFault) (x : Verdict) (b a : Option World) → x ≡ after_receipts fault → IfKnown b a (FileRead receipt (2 ^ 40) (Err fault)) → IfKnown b a (VerdictIn g input output receipt x)
   no_receipts fault x None a e t = tt
   no_receipts fault x (Some w) None e t = absurd t
   no_receipts fault x (Some w) (Some v) e t = receipts_failed fault x w v e t
@@ -65,7 +65,7 @@ module _ (g : Given) (input output receipt : List ℕ) where
   output_failed r ReadFault w v u s h k o = (kept_on w v u (shut_kept w v h.1) k, tt)
   output_failed r Memory w v u s h k o = (kept_on w v u (shut_kept w v h.1) k, tt)
 
-  pub no_output : (r : Vec ℕ Global) (x : Verdict) (b a d : Option World) → length r.items < 2 ^ 40 → Told b a (FileRead receipt (2 ^ 40) (Ok r)) → Told a d (OutputRead output (Err x)) → Told b d (VerdictIn g input output receipt x)
+  pub no_output : (r : Vec ℕ Global) (x : Verdict) (b a d : Option World) → length r.items < 2 ^ 40 → IfKnown b a (FileRead receipt (2 ^ 40) (Ok r)) → IfKnown a d (OutputRead output (Err x)) → IfKnown b d (VerdictIn g input output receipt x)
   no_output r x None a d s t o = tt
   no_output r x (Some w) None d s t o = absurd t
   no_output r x (Some w) (Some v) None s t o = absurd o
@@ -79,8 +79,8 @@ module _ (g : Given) (input output receipt : List ℕ) where
   decided Memory P Q f h = tt
 
   -- The input was compared.
-  pub input_compared : (r : Vec ℕ Global) (bs : Vec (Vec ℕ Global) Global) (x : Verdict) (b a d e : Option World) → length r.items < 2 ^ 40 → Told b a (FileRead receipt (2 ^ 40) (Ok r)) → Told a d (OutputRead output (Ok bs))
-      → ((qs : List Parts) → AreOutputs bs.items qs → Told d e (InputRead g input qs r.items x)) → Told b e (VerdictIn g input output receipt x)
+  pub input_compared : (r : Vec ℕ Global) (bs : Vec (Vec ℕ Global) Global) (x : Verdict) (b a d e : Option World) → length r.items < 2 ^ 40 → IfKnown b a (FileRead receipt (2 ^ 40) (Ok r)) → IfKnown a d (OutputRead output (Ok bs))
+      → ((qs : List Parts) → AreOutputs bs.items qs → IfKnown d e (InputRead g input qs r.items x)) → IfKnown b e (VerdictIn g input output receipt x)
   input_compared r bs x None a d e s t o i = tt
   input_compared r bs x (Some w) None d e s t o i = absurd t
   input_compared r bs x (Some w) (Some v) None e s t o i = absurd o
@@ -90,7 +90,7 @@ module _ (g : Given) (input output receipt : List ℕ) where
       first : IsKept w v
       first = shut_kept w v t.1
 
-      by_input : (y : List ℕ) → file v output ≡ Some y → (recording_of y).refusal ≡ None → (e : Option World) → Told (Some u) e (InputRead g input (recording_of y).parts r.items x) → Told (Some w) e (VerdictIn g input output receipt x)
+      by_input : (y : List ℕ) → file v output ≡ Some y → (recording_of y).refusal ≡ None → (e : Option World) → IfKnown (Some u) e (InputRead g input (recording_of y).parts r.items x) → IfKnown (Some w) e (VerdictIn g input output receipt x)
       by_input y is whole None i = absurd i
       by_input y is whole (Some z) i = (
         kept_on w u z (kept_on w v u first o.0) i.0,
@@ -99,11 +99,11 @@ module _ (g : Given) (input output receipt : List ℕ) where
             compared (record { bytes = r.items; is = t.0; short = s }) (record { bytes = y; is = sym (same_file output w v first.0) ∙ is }) whole a.0 (sym (same_file input w u (o.0.0 ∙ first.0)) ∙ a.1) a.2) i.1,
       )
 
-      by_output : (y : List ℕ) × (file v output ≡ Some y) × (((recording_of y).refusal ≡ None) × AreOutputs bs.items (recording_of y).parts) → Told (Some w) e (VerdictIn g input output receipt x)
+      by_output : (y : List ℕ) × (file v output ≡ Some y) × (((recording_of y).refusal ≡ None) × AreOutputs bs.items (recording_of y).parts) → IfKnown (Some w) e (VerdictIn g input output receipt x)
       by_output y = by_input y.0 y.1 y.2.0 e (i (recording_of y.0).parts y.2.1)
 
   -- All chunks are verified.
-  pub told_verified : (x : Verdict) (b a : Option World) → Told b a (VerdictIn g input output receipt x) → IfVerified x (λ n. IfSome b (λ w. AllVerified g (three input output receipt w) n))
+  pub told_verified : (x : Verdict) (b a : Option World) → IfKnown b a (VerdictIn g input output receipt x) → IfVerified x (λ n. IfSome b (λ w. AllVerified g (three input output receipt w) n))
   told_verified (Verified n) None a t = tt
   told_verified (Verified n) (Some w) None t = absurd t
   told_verified (Verified n) (Some w) (Some v) t = verified_all g (three input output receipt w) n t.1
@@ -120,10 +120,10 @@ module _ (g : Given) (input output receipt : List ℕ) where
   fine_of ReadFault m n w v c t s r = absurd (r c.1)
   fine_of Memory m n w v c t s r = tt
 
-  pub told_fine : (x : Verdict) (a b : State) → Counts x a b → Told a.told b.told (VerdictIn g input output receipt x) → IfSome a.told (λ w. AreScrubs g (three input output receipt w) → (Rose a.read_faults b.read_faults → ⊥) → IsFine x)
-  told_fine x a b c t = by_told a.told b.told t
+  pub told_fine : (x : Verdict) (a b : State) → Counts x a b → IfKnown a.contents b.contents (VerdictIn g input output receipt x) → IfSome a.contents (λ w. AreScrubs g (three input output receipt w) → (Rose a.read_faults b.read_faults → ⊥) → IsFine x)
+  told_fine x a b c t = by_told a.contents b.contents t
     where
-      by_told : (s z : Option World) → Told s z (VerdictIn g input output receipt x) → IfSome s (λ w. AreScrubs g (three input output receipt w) → (Rose a.read_faults b.read_faults → ⊥) → IsFine x)
+      by_told : (s z : Option World) → IfKnown s z (VerdictIn g input output receipt x) → IfSome s (λ w. AreScrubs g (three input output receipt w) → (Rose a.read_faults b.read_faults → ⊥) → IsFine x)
       by_told None z t = tt
       by_told (Some w) None t = absurd t
       by_told (Some w) (Some v) t = fine_of x a.read_faults b.read_faults w v c.reads t

@@ -25,11 +25,11 @@ all_in_force p q marks a number l =
     let k : Ranked marks p.entries number = ranked marks p.entries number (slice_get_within (marked marks p.entries) number c.0 c.1) in
     let g : slice_get p.entries k.place ≡ Some c.0 = sym (rank_get marks p.entries k.place k.is_marked) ∙ (ap (slice_get (marked marks p.entries)) k.number_is ∙ c.1) in
     let i : IsInForce p.entries k.place = a.in_force k.place k.is_marked in
-    let w : i.entry ≡ c.0 = (let x : slice_get p.entries k.place ≡ Some i.entry = i.stands in cc) in
+    let w : i.entry ≡ c.0 = (let x : slice_get p.entries k.place ≡ Some i.entry = i.holds in cc) in
     let t : number_in_force p.entries (c.0.class, c.0.key) ≡ Some k.place = subst (λ (z : EntryAt). number_in_force p.entries (z.class, z.key) ≡ Some k.place) w i.last in
     let h : number_in_force q.entries (c.0.class, c.0.key) ≡ Some number = sym (copied_force p q (marked marks p.entries) q.entries (c.0.class, c.0.key) a.copied) ∙ (marked_force marks p.entries (c.0.class, c.0.key) k.place t k.is_marked ∙ ap (λ z. Some z) k.number_is) in
     let u : number_in_force q.entries (f.0.class, c.0.key) ≡ Some number = subst (λ z. number_in_force q.entries (z, c.0.key) ≡ Some number) c.2.class h in
-    record { entry = f.0; stands = f.1; last = subst (λ z. number_in_force q.entries (f.0.class, z) ≡ Some number) c.2.key u }
+    record { entry = f.0; holds = f.1; last = subst (λ z. number_in_force q.entries (f.0.class, z) ≡ Some number) c.2.key u }
 
 pub not_closed : (p : Parts) (kept : List EventAt) (ms : List Bool) → (events_closed p ms kept && entries_closed p ms (length p.entries)) ≡ false → AreClosed p kept ms → ⊥
 not_closed p kept ms e c = let h = closed.is_closed p kept ms c in (let z : false ≡ true = sym e ∙ h in cc)

@@ -70,7 +70,7 @@ module _ (p : Parts) where
       line e =
           let t = in_those (number_in_force p.entries) (targets p.classes p.bytes n) i (f i (inl refl)) in
           let l : IsLast p.entries t.0 i = (last_is p.entries t.0 i).0 t.2 in
-          record { fresh = λ k. clash (is_marked marks i) (b i (contains_in before i k)) e; entry = l.entry; there = l.stands; node = n; parent = r before (λ j k. k); refers = subst (Contains (targets p.classes p.bytes n)) (sym l.has) (in_contains (targets p.classes p.bytes n) t.0 t.1) }
+          record { fresh = λ k. clash (is_marked marks i) (b i (contains_in before i k)) e; entry = l.entry; there = l.holds; node = n; parent = r before (λ j k. k); refers = subst (Contains (targets p.classes p.bytes n)) (sym l.has) (in_contains (targets p.classes p.bytes n) t.0 t.1) }
 
       by_mark : (b : Bool) → is_marked marks i ≡ b → Rest before → Rest (i ∷ before) → AreValidLines p before (new_lines marks parent (i ∷ is))
       by_mark true e x y = rw e x

@@ -8,7 +8,7 @@ use Rattle.jfr_base.specs.declared.flaw.ReadFault as readings
 use Rattle.jfr_base.specs.declared.flaw.ReadFault.TheVariants as faults
 use Rattle.jfr_pool.specs.Faults.{TellsFlaw}
 use Rattle.jfr_verify.specs.Faults.{AreSame, after_output}
-use Rattle.jfr_outside.specs.World.{World, State, Told, file, opened}
+use Rattle.jfr_outside.specs.World.{World, State, IfKnown, file, opened}
 use Rattle.jfr_header.specs.Cutters.{Cutter}
 use Rattle.jfr_header.specs.Fronts as fronts
 use Rattle.jfr_header.specs.Fronts.{Whole}
@@ -16,7 +16,7 @@ use Rattle.jfr_header.specs.Nexts.{Found, GaveChunk, Refuses, at_chunk}
 use Rattle.jfr_chunk.specs.Parts.{Parts}
 use Rattle.jfr_chunk.specs.Refusal.{read_parts}
 use Rattle.jfr_verify.specs.Outputs.{AllWhole, AreOutputs, IsAdded, OpenedIn, OutputRead}
-use Rattle.jfr_verify.specs.Recordings.{Recording, read_on, recording_of, recording_left, after_parts, HasLeft}
+use Rattle.jfr_verify.specs.Recordings.{Recording, read_on, recording_of, unread_recording, after_parts, HasUnread}
 use Rattle.jfr_verify.specs.declared.doubt.Doubt.TheVariants.{OutRefused}
 use Rattle.jfr_verify.specs.declared.verdict.Verdict.{Verdict}
 use Rattle.jfr_verify.specs.declared.verdict.Verdict.TheVariants.{Verified, Doubted, Refused, ReadFault, Memory}
@@ -41,7 +41,7 @@ pub record Keeping (name : List ℕ) (bs : List (Vec ℕ Global)) (c : Cutter) (
   pub file_is : file w name ≡ Some bytes
   pub parts : List Parts
   pub outputs : AreOutputs bs parts
-  pub left : HasLeft c (λ k. recording_of bytes ≡ after_parts parts k) w v
+  pub left : HasUnread c (λ k. recording_of bytes ≡ after_parts parts k) w v
 
 there : (o : Option (List ℕ)) → IsSome o → (x : List ℕ) × (o ≡ Some x)
 there None h = cc
@@ -51,12 +51,12 @@ there (Some x) h = (x, refl)
 pub opened_at : (name : List ℕ) (c : Cutter) (w : World) → c.start ≡ 0 → c.number ≡ 1 → c.given ≡ false → IsSome (file w name) → OpenedIn name (Ok c) w (opened name w)
 opened_at name c w s n g h =
     let x = there (file w name) h in
-    some_at (file w name) x.0 (λ y. HasLeft c (λ k. recording_of y ≡ k) w (opened name w)) x.1 (opened_left c x.0 name w s n g x.1)
+    some_at (file w name) x.0 (λ y. HasUnread c (λ k. recording_of y ≡ k) w (opened name w)) x.1 (opened_left c x.0 name w s n g x.1)
 
 -- So it is on a place whose files contracts may see.
-pub open_told : (name : List ℕ) (c : Cutter) (b a : Option World) → c.start ≡ 0 → c.number ≡ 1 → c.given ≡ false → IfSome b (λ w. IsSome (file w name)) → a ≡ option_map (opened name) b → Told b a (OpenedIn name (Ok c))
+pub open_told : (name : List ℕ) (c : Cutter) (b a : Option World) → c.start ≡ 0 → c.number ≡ 1 → c.given ≡ false → IfSome b (λ w. IsSome (file w name)) → a ≡ option_map (opened name) b → IfKnown b a (OpenedIn name (Ok c))
 open_told name c None a s n g h e = tt
-open_told name c (Some w) a s n g h e = subst (λ (o : Option World). Told (Some w) o (OpenedIn name (Ok c))) (sym e) (opened_at name c w s n g h)
+open_told name c (Some w) a s n g h e = subst (λ (o : Option World). IfKnown (Some w) o (OpenedIn name (Ok c))) (sym e) (opened_at name c w s n g h)
 
 -- A file that could not be opened.
 pub not_opened : (name : List ℕ) (e : Verdict) (w v : World) → OpenedIn name (Err e) w v → OutputRead name (Err e) w v
@@ -68,7 +68,7 @@ not_opened name Memory w v h = (h, tt)
 
 pub keep_start : (name : List ℕ) (bs : List (Vec ℕ Global)) (c : Cutter) (w v : World) → bs ≡ [] → OpenedIn name (Ok c) w v → Keeping name bs c w v
 keep_start name bs c w v e o =
-    let x = from_some (file w name) (λ y. HasLeft c (λ k. recording_of y ≡ k) w v) o in
+    let x = from_some (file w name) (λ y. HasUnread c (λ k. recording_of y ≡ k) w v) o in
     record { bytes = x.0; file_is = x.1; parts = []; outputs = subst (λ z. AreOutputs z []) (sym e) tt; left = x.2 }
 
 module _ (name : List ℕ) (bs : List (Vec ℕ Global)) (c d : Cutter) (w v u : World) (k : Keeping name bs c w v) where
@@ -100,7 +100,7 @@ module _ (name : List ℕ) (bs : List (Vec ℕ Global)) (c d : Cutter) (w v u : 
       let h = next_left c d (λ z. recording_of k.bytes ≡ after_parts k.parts z) w v u k.left gave n in
       let fails : read_parts d.bytes ≡ Err flaw = ap read_parts (sym same) ∙ read in
       let at : number ≡ c.number = let f : d.number ≡ c.number + 1 = gave.number in omega (arith, e, f) in
-      let refusal : (recording_of k.bytes).refusal ≡ Some (at_chunk c.number flaw) = ap (λ (z : Recording). z.refusal) (h.claim ∙ ap (λ r. after_parts k.parts (read_on c.number r (recording_left d h.left))) fails) in
+      let refusal : (recording_of k.bytes).refusal ≡ Some (at_chunk c.number flaw) = ap (λ (z : Recording). z.refusal) (h.claim ∙ ap (λ r. after_parts k.parts (read_on c.number r (unread_recording d h.left))) fails) in
       (h.same, some_at (file w name) k.bytes _ k.file_is (some_at (recording_of k.bytes).refusal (at_chunk c.number flaw) (λ z. z.chunk ≡ number) refusal (sym at)))
 
   -- The chunk isn't kept.

@@ -5,7 +5,7 @@ use Rattle.std.proofs.Common.{ap, arith, refl, sym, ◌∙◌, subst, inl, inr}
 use Rattle.std.proofs.lemmas.Option.{slice_get_within}
 use Rattle.std.proofs.lemmas.List.{length-set, length-replicate}
 use Rattle.jfr_base.specs.Formats.{Got, Answer, Reads, Exactly, run}
-use Rattle.jfr_base.proofs.Exact.{Says, run_says}
+use Rattle.jfr_base.proofs.Exact.{ReadsOrFails, run_reads_or_fails}
 use Rattle.jfr_base.proofs.FreeLaws.{PlaceFree, reads_exact, times_free}
 use Rattle.jfr_base.proofs.RunLaws as running
 use Rattle.jfr_value.specs.Nodes.{NodeAt, targets}
@@ -55,7 +55,7 @@ pub record WasRead (r : List ℕ) (count : ℕ) (g : Got (List Line)) : Type 0 w
   pub many : length g.value ≡ count
 
 pub was_read : (r : List ℕ) (count : ℕ) (g : Got (List Line)) → lines_of_count r count ≡ Some g → WasRead r count g
-was_read r count g e = by_answer (run receipt_format r (length r) 0) (run_says receipt_format r (length r) 0 (omega arith) (omega arith)) e
+was_read r count g e = by_answer (run receipt_format r (length r) 0) (run_reads_or_fails receipt_format r (length r) 0 (omega arith) (omega arith)) e
   where
     by_read : (h : Got (List Line)) → Reads receipt_format r (length r) 0 h.value h.place → length h.value ≡ count → WasRead r count h
     by_read h s l =
@@ -66,7 +66,7 @@ was_read r count g e = by_answer (run receipt_format r (length r) 0) (run_says r
     by_count true h q s e = let k : h ≡ g = cc in subst (WasRead r count) k (by_read h s (grind (arith, q)))
     by_count false h q s e = cc
 
-    by_answer : (a : Answer (List Line)) → Says receipt_format r (length r) 0 a → if_count count (got_in a) ≡ Some g → WasRead r count g
+    by_answer : (a : Answer (List Line)) → ReadsOrFails receipt_format r (length r) 0 a → if_count count (got_in a) ≡ Some g → WasRead r count g
     by_answer (Err f) s e = cc
     by_answer (Ok h) s e = by_count (length h.value == count) h refl s e
 
@@ -137,14 +137,14 @@ module _ (p : Parts) where
   refers_key n t e g k =
       let u = in_those (number_in_force p.entries) (targets p.classes p.bytes n) t k in
       let l : IsLast p.entries u.0 t = (last_is p.entries u.0 t).0 u.2 in
-      let q : l.entry ≡ e = (let z : slice_get p.entries t ≡ Some l.entry = l.stands in cc) in
+      let q : l.entry ≡ e = (let z : slice_get p.entries t ≡ Some l.entry = l.holds in cc) in
       in_contains (targets p.classes p.bytes n) (e.class, e.key) (subst (In (targets p.classes p.bytes n)) (sym l.has ∙ ap (λ (z : EntryAt). (z.class, z.key)) q) u.1)
 
   -- The other way round, if the entry is in force.
   key_refers : AllInForce p → (n : NodeAt) (t : ℕ) (e : EntryAt) → slice_get p.entries t ≡ Some e → Contains (targets p.classes p.bytes n) (e.class, e.key) → In (node_entries p.entries p.classes p.bytes n) t
   key_refers f n t e g k =
       let i : IsInForce p.entries t = f t (slice_get_within p.entries t e g) in
-      let q : i.entry ≡ e = (let z : slice_get p.entries t ≡ Some i.entry = i.stands in cc) in
+      let q : i.entry ≡ e = (let z : slice_get p.entries t ≡ Some i.entry = i.holds in cc) in
       those_in (number_in_force p.entries) (targets p.classes p.bytes n) (e.class, e.key) t (contains_in (targets p.classes p.bytes n) (e.class, e.key) k) (subst (λ (z : EntryAt). number_in_force p.entries (z.class, z.key) ≡ Some t) q i.last)
 
   next_is : (i : ℕ) (e : EntryAt) → slice_get p.entries i ≡ Some e → next_entries p i ≡ node_entries p.entries p.classes p.bytes (entry_node e)

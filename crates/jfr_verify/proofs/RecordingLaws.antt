@@ -17,21 +17,21 @@ use Rattle.jfr_header.proofs.Steps.{some_ahead, same_some, split}
 use Rattle.jfr_chunk.specs.Parts.{Parts, AreParts}
 use Rattle.jfr_chunk.specs.Refusal.{read_parts}
 use Rattle.jfr_chunk.proofs.ChainAnswers.{is_computed}
-use Rattle.jfr_verify.specs.Recordings.{Recording, read_on, recording_from, recording_in, recording_of, recording_left, after_parts, HasLeft, IsRead}
+use Rattle.jfr_verify.specs.Recordings.{Recording, read_on, recording_from, recording_in, recording_of, unread_recording, after_parts, HasUnread, IsRead}
 
 same_left : (later : List ℕ) (n m s t : ℕ) (b : Bool) → m ≡ n → t ≡ s → b ≡ false → recording_in n (cut later s false) ≡ recording_in m (cut later t b)
 same_left later n m s t b e f h =
     sym (ap (λ k. recording_in k (cut later t b)) e ∙ ap (λ k. recording_in n (cut later k b)) f ∙ ap (λ k. recording_in n (cut later s k)) h)
 
 -- A chunk at the front is read, and then what follows it.
-chunk_left : (c d : Cutter) (left later : List ℕ) → front left c.start (not c.given) ≡ fronts.Chunk d.bytes → left ≡ d.bytes ++ later → GaveChunk c d → recording_left c left ≡ read_on c.number (read_parts d.bytes) (recording_left d later)
+chunk_left : (c d : Cutter) (left later : List ℕ) → front left c.start (not c.given) ≡ fronts.Chunk d.bytes → left ≡ d.bytes ++ later → GaveChunk c d → unread_recording c left ≡ read_on c.number (read_parts d.bytes) (unread_recording d later)
 chunk_left c d left later f p gave =
     ap (recording_in c.number) (cut_chunk left d.bytes later c.start (not c.given) f p)
     ∙ ap (read_on c.number (read_parts d.bytes)) (same_left later (c.number + 1) d.number (c.start + length d.bytes) d.start (not d.given) gave.number gave.start (ap not gave.given))
 
-module _ (c d : Cutter) (Claim : Recording → Type 0) (w v u : World) (h : HasLeft c Claim w v) where
+module _ (c d : Cutter) (Claim : Recording → Type 0) (w v u : World) (h : HasUnread c Claim w v) where
   -- The cutter gave a chunk.
-  pub next_left : GaveChunk c d → Found c (fronts.Chunk d.bytes) d.bytes v u → HasLeft d (λ k. Claim (read_on c.number (read_parts d.bytes) k)) w u
+  pub next_left : GaveChunk c d → Found c (fronts.Chunk d.bytes) d.bytes v u → HasUnread d (λ k. Claim (read_on c.number (read_parts d.bytes) k)) w u
   next_left gave n =
       let o = some_ahead (λ (l : List ℕ). d.bytes ++ l) u.input v.input n.rest n.took.input n.input in
       let p = split d.bytes v u o n.took in
@@ -65,8 +65,8 @@ module _ (c d : Cutter) (Claim : Recording → Type 0) (w v u : World) (h : HasL
   taken_left Fits n = (n.1.files ∙ h.same.0, n.1.output ∙ h.same.1)
 
 -- One claim about the chunks that are left from another.
-pub map_left : (c : Cutter) (Claim More : Recording → Type 0) (w v : World) → ((k : Recording) → Claim k → More k) → HasLeft c Claim w v → HasLeft c More w v
-map_left c Claim More w v f h = record { same = h.same; left = h.left; input = h.input; claim = f (recording_left c h.left) h.claim }
+pub map_left : (c : Cutter) (Claim More : Recording → Type 0) (w v : World) → ((k : Recording) → Claim k → More k) → HasUnread c Claim w v → HasUnread c More w v
+map_left c Claim More w v f h = record { same = h.same; left = h.left; input = h.input; claim = f (unread_recording c h.left) h.claim }
 
 -- A claim about what is there, and what is there.
 pub from_some : {X : Type 0} (o : Option X) (P : X → Type 0) → IsSomeAnd o P → (x : X) × (o ≡ Some x) × P x
@@ -85,7 +85,7 @@ one_more n ps p x k e = e ∙ ap (λ (z : List Parts). record { parts = z; refus
     shift (q ∷ ps) = ap (λ z. q ∷ z) (shift ps)
 
 -- A file that was opened has all its chunks left.
-pub opened_left : (c : Cutter) (x : List ℕ) (name : List ℕ) (w : World) → c.start ≡ 0 → c.number ≡ 1 → c.given ≡ false → file w name ≡ Some x → HasLeft c (λ k. recording_of x ≡ k) w (opened name w)
+pub opened_left : (c : Cutter) (x : List ℕ) (name : List ℕ) (w : World) → c.start ≡ 0 → c.number ≡ 1 → c.given ≡ false → file w name ≡ Some x → HasUnread c (λ k. recording_of x ≡ k) w (opened name w)
 unfolding recording_of
 opened_left c x name w s n g e = record {
   same = (refl, refl);

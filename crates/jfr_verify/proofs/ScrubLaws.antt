@@ -66,7 +66,7 @@ record Made (g : Given) (ps : List Parts) : Type 0 where
   cuts : (rest : List ℕ) (start later : ℕ) (first : Bool) → start ≤ later → AreCut (bytes_of ps) None rest later first → AreCut (bytes_of outputs) None (joined (bytes_of outputs)) start false
 
 read_output : (g : Given) (p : Parts) (k : IsKept p (kept_of g p)) → read_parts (output_of g p) ≡ Ok k.parts
-read_output g p k = ((is_computed (output_of g p) k.whole.long).parts k.parts).0 (k.bytes, k.stand)
+read_output g p k = ((is_computed (output_of g p) k.whole.long).parts k.parts).0 (k.bytes, k.valid)
 
 make_one : (g : Given) (p : Parts) (ps : List Parts) → Whole p.bytes → AreParts p → IsKept p (kept_of g p) → Made g ps → Made g (p ∷ ps)
 make_one g p ps w a k m =

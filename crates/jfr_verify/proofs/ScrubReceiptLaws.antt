@@ -23,7 +23,7 @@ use Rattle.jfr_chunk.specs.Reach.{kept_by, marked, next_entries, node_entries, r
 use Rattle.jfr_chunk.proofs.AllLaws.{all_append}
 use Rattle.jfr_worklist.proofs.MarkLaws.{all_here, all_only, none_marked, set_here, set_old, set_only, set_stays}
 use Rattle.jfr_chunk.proofs.ReachedLaws.{path_reach}
-use Rattle.jfr_chunk.proofs.StandingLaws.{event_is, standing}
+use Rattle.jfr_chunk.proofs.HasNodesLaws.{event_is, has_nodes}
 use Rattle.jfr_laws.specs.Laws.{IsKept}
 use Rattle.jfr_laws.proofs.Entries.{copied_force, in_force_same, marked_force}
 use Rattle.jfr_laws.proofs.Marks.{rank}
@@ -112,12 +112,12 @@ module _ (p q : Parts) (a : AreParts p) (b : AreParts q) (flags : List Bool) (re
   refers r e = node_entries r.entries r.classes r.bytes e.node
 
   below : (i : ℕ) → IsMarked marks i → i < length p.entries
-  below i m = let g = h.among.in_force i m in slice_get_within p.entries i g.entry g.stands
+  below i m = let g = h.among.in_force i m in slice_get_within p.entries i g.entry g.holds
 
   to_below : (i : ℕ) → IsMarked marks i → to i < length q.entries
   to_below i m =
       let g = h.among.in_force i m in
-      let w : to i < length (marked marks p.entries) = rank_within marks p.entries i g.entry m g.stands in
+      let w : to i < length (marked marks p.entries) = rank_within marks p.entries i g.entry m g.holds in
       let n : length (marked marks p.entries) ≡ length q.entries = copied_length p q (marked marks p.entries) q.entries h.among.copied in
       omega arith
 
@@ -168,7 +168,7 @@ module _ (p q : Parts) (a : AreParts p) (b : AreParts q) (flags : List Bool) (re
       let f = present q.entries (to i) (to_below i m) in
       let c = copy_of p q a b flags receipt h (to i) f.0 f.1 in
       let place : c.place ≡ i = rank_once marks c.place i c.is_marked m c.number_is in
-      let there : slice_get p.entries i ≡ Some c.entry = ap (slice_get p.entries) (sym place) ∙ c.stands in
+      let there : slice_get p.entries i ≡ Some c.entry = ap (slice_get p.entries) (sym place) ∙ c.holds in
       let same = copy_targets p q a b flags receipt h (to i) f.0 f.1 c in
       let x : next_entries p i ≡ those (number_in_force p.entries) (targets p.classes p.bytes (entry_node c.entry)) = ap (λ o. those (number_in_force p.entries) (option_map_or (λ e. targets p.classes p.bytes (entry_node e)) o [])) there in
       let y : next_entries q (to i) ≡ those (number_in_force q.entries) (targets q.classes q.bytes (entry_node f.0)) = ap (λ o. those (number_in_force q.entries) (option_map_or (λ e. targets q.classes q.bytes (entry_node e)) o [])) f.1 in
@@ -375,7 +375,7 @@ pub scrub_receipt_is : (p : Parts) (a : AreParts p) (flags : List Bool) (k : IsK
     → f ≡ marked_at (replicate (length f) false) (entries lines) → AreRanks f ranks → head ≡ spell (length lines) → all ≡ head ++ flat_map (ranked_bytes ranks) lines → all ≡ receipt_of k.parts
 scrub_receipt_is p a flags k f ranks lines head all e size listed are c d =
     let q : Parts = k.parts in
-    let reach = λ (i : ℕ) (l : i < length q.entries). path_reach q (standing q k.stand) (events_of q) (λ x m. (let v = event_is q k.stand x m in (v.value, v.node))) i (k.reached i l) in
+    let reach = λ (i : ℕ) (l : i < length q.entries). path_reach q (has_nodes q k.valid) (events_of q) (λ x m. (let v = event_is q k.valid x m in (v.value, v.node))) i (k.reached i l) in
     let h : Passes p q (kept_by p flags) (receipt_of q) = kept_passes p a flags k (λ r. receipt_of_is_receipt q reach (receipt_exact q)) in
     d ∙ (ap (λ z. z ++ flat_map (ranked_bytes ranks) lines) c ∙ (ap (λ z. spell (length z) ++ flat_map (ranked_bytes ranks) z) e
-    ∙ bytes_same p q a k.stand flags (receipt_of q) h (each_has_line q reach) f size (subst (λ z. f ≡ marked_at (replicate (length f) false) (entries z)) e listed) ranks are))
+    ∙ bytes_same p q a k.valid flags (receipt_of q) h (each_has_line q reach) f size (subst (λ z. f ≡ marked_at (replicate (length f) false) (entries z)) e listed) ranks are))

@@ -5,7 +5,7 @@ use Rattle.jfr_header.specs.Fronts.{Whole}
 use Rattle.jfr_chunk.specs.Parts.{AreParts, Parts, events_of, pools_at}
 use Rattle.jfr_chunk.proofs.BoundLaws.{entries_few}
 use Rattle.jfr_chunk.proofs.CountLaws.{events_few, whole_small}
-use Rattle.jfr_chunk.proofs.StandingLaws.{described_sound}
+use Rattle.jfr_chunk.proofs.HasNodesLaws.{described_sound}
 
 pub few_entries : (p : Parts) → Whole p.bytes → AreParts p → length p.entries < 2 ^ 30
 few_entries p w a =

@@ -7,7 +7,7 @@ use Rattle.jfr_filter.specs.Filters.{Given}
 use Rattle.jfr_chunk.specs.Parts.{Parts, AreParts, events_of}
 use Rattle.jfr_chunk.specs.Chosen.{chosen, kept_of}
 use Rattle.jfr_chunk.proofs.ReachedLaws.{path_reach}
-use Rattle.jfr_chunk.proofs.StandingLaws.{standing, event_is}
+use Rattle.jfr_chunk.proofs.HasNodesLaws.{has_nodes, event_is}
 use Rattle.jfr_laws.specs.Laws.{IsKept}
 use Rattle.jfr_verify.specs.Receipts.{receipt_of}
 use Rattle.jfr_verify.specs.Laws.{Passes}
@@ -92,7 +92,7 @@ module _ (g : Given) where
       k = l.1.0
 
       passes : Passes p k.parts (kept_of g p) (receipt_of k.parts)
-      passes = kept_passes p l.0 (chosen g p) k (λ all. receipt_of_is_receipt k.parts (λ i h. path_reach k.parts (standing k.parts k.stand) (events_of k.parts) (λ e m. (let v = event_is k.parts k.stand e m in (v.value, v.node))) i (all i h)) (receipt_exact k.parts))
+      passes = kept_passes p l.0 (chosen g p) k (λ all. receipt_of_is_receipt k.parts (λ i h. path_reach k.parts (has_nodes k.parts k.valid) (events_of k.parts) (λ e m. (let v = event_is k.parts k.valid e m in (v.value, v.node))) i (all i h)) (receipt_exact k.parts))
 
       checked : Checked p q (kept_of g p) (receipts (q ∷ qs)) (Ok (length (receipt_of q)))
       checked = (front_within (receipt_of q) (receipts qs), subst (Passes p q (kept_of g p)) (sym (take_front (receipt_of q) (receipts qs))) (subst (λ z. Passes p z (kept_of g p) (receipt_of z)) l.1.1 passes))

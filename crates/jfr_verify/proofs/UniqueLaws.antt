@@ -45,7 +45,7 @@ module _ (p q : Parts) (kept : List EventAt) (r : List ℕ) where
   marks_one : (a b : List Bool) → AreAmong p q a → AreAmong p q b → (i : ℕ) → IsMarked a i → IsMarked b i
   marks_one a b u v i m =
       let f : IsInForce p.entries i = u.in_force i m in
-      let g : slice_get (marked a p.entries) (rank a i) ≡ Some f.entry = rank_get a p.entries i m ∙ f.stands in
+      let g : slice_get (marked a p.entries) (rank a i) ≡ Some f.entry = rank_get a p.entries i m ∙ f.holds in
       let c = beside_left (IsCopied p q) (slice_get (marked a p.entries) (rank a i)) (slice_get q.entries (rank a i)) f.entry (copied_get p q (marked a p.entries) q.entries (rank a i) u.copied) g in
       let x : Placed p q b (rank a i) c.0 = placed p q b v (rank a i) c.0 c.1 in
       let l : number_in_force p.entries (f.entry.class, f.entry.key) ≡ Some i = f.last in

@@ -19,8 +19,8 @@ use Rattle.jfr_chunk.specs.Meaning.{SameMeaning}
 use Rattle.jfr_chunk.specs.Laws.{SameRecords, SameOnPaths}
 use Rattle.jfr_worklist.specs.Members.{In}
 use Rattle.jfr_worklist.proofs.Members.{contains_in, in_contains, in_left, in_right, get_in, those_in}
-use Rattle.jfr_chunk.proofs.PathLaws.{Standing}
-use Rattle.jfr_chunk.proofs.StandingLaws.{standing, event_is}
+use Rattle.jfr_chunk.proofs.PathLaws.{HasNodes}
+use Rattle.jfr_chunk.proofs.HasNodesLaws.{has_nodes, event_is}
 use Rattle.jfr_pool.proofs.ForceLaws.{Forced, forced}
 use Rattle.jfr_chunk.proofs.MeaningLaws.{same_meaning}
 use Rattle.jfr_chunk.proofs.ReachedLaws.{path_reach, reach_path, reached_marked}
@@ -49,11 +49,11 @@ module _ (p q : Parts) (a : AreParts p) (b : AreParts q) (flags : List Bool) (re
   abbrev kept : List EventAt
   kept = kept_by p flags
 
-  abbrev s : Standing p
-  s = standing p a
+  abbrev s : HasNodes p
+  s = has_nodes p a
 
-  abbrev r : Standing q
-  r = standing q b
+  abbrev r : HasNodes q
+  r = has_nodes q b
 
   abbrev marks : List Bool
   marks = h.marks
@@ -92,7 +92,7 @@ module _ (p q : Parts) (a : AreParts p) (b : AreParts q) (flags : List Bool) (re
   pub record Copy (number : ℕ) (f : EntryAt) : Type 0 where
     pub place : ℕ
     pub entry : EntryAt
-    pub stands : slice_get p.entries place ≡ Some entry
+    pub holds : slice_get p.entries place ≡ Some entry
     pub is_marked : IsMarked marks place
     pub number_is : rank marks place ≡ number
     pub copied : IsCopied p q entry f
@@ -105,12 +105,12 @@ module _ (p q : Parts) (a : AreParts p) (b : AreParts q) (flags : List Bool) (re
       let k : Ranked marks p.entries number = ranked marks p.entries number (slice_get_within (marked marks p.entries) number c.0 c.1) in
       let g : slice_get p.entries k.place ≡ Some c.0 = sym (rank_get marks p.entries k.place k.is_marked) ∙ (ap (slice_get (marked marks p.entries)) k.number_is ∙ c.1) in
       let i : IsInForce p.entries k.place = h.among.in_force k.place k.is_marked in
-      let w : i.entry ≡ c.0 = (let x : slice_get p.entries k.place ≡ Some i.entry = i.stands in cc) in
+      let w : i.entry ≡ c.0 = (let x : slice_get p.entries k.place ≡ Some i.entry = i.holds in cc) in
       let l : number_in_force p.entries (c.0.class, c.0.key) ≡ Some k.place = subst (λ (z : EntryAt). number_in_force p.entries (z.class, z.key) ≡ Some k.place) w i.last in
       record {
         place = k.place;
         entry = c.0;
-        stands = g;
+        holds = g;
         is_marked = k.is_marked;
         number_is = k.number_is;
         copied = c.2;
@@ -124,7 +124,7 @@ module _ (p q : Parts) (a : AreParts p) (b : AreParts q) (flags : List Bool) (re
       let t : ℕ × ℕ = (c.entry.class, c.entry.key) in
       let i : Forced p.entries t c.place = forced p.entries t c.place c.force in
       let j : Forced q.entries t number = forced q.entries t number c.copy_force in
-      let x : i.entry ≡ c.entry = (let z : slice_get p.entries c.place ≡ Some i.entry = i.there in let y = c.stands in cc) in
+      let x : i.entry ≡ c.entry = (let z : slice_get p.entries c.place ≡ Some i.entry = i.there in let y = c.holds in cc) in
       let y : j.entry ≡ f = (let z : slice_get q.entries number ≡ Some j.entry = j.there in cc) in
       let v = s.entries t i.entry i.is in
       let w = r.entries t j.entry j.is in
@@ -157,7 +157,7 @@ module _ (p q : Parts) (a : AreParts p) (b : AreParts q) (flags : List Bool) (re
       let same = copy_targets i x.0 x.2 k in
       let d : Contains (targets p.classes p.bytes (entry_node k.entry)) t = subst (λ z. Contains z t) (sym same) (subst (λ z. Contains (targets q.classes q.bytes z) t) (sym x.3) c) in
       let w : l.place ≡ k.place = rank_once marks l.place k.place l.is_marked k.is_marked (l.number_is ∙ sym k.number_is) in
-      let e : slice_get p.entries l.place ≡ Some k.entry = ap (slice_get p.entries) w ∙ k.stands in
+      let e : slice_get p.entries l.place ≡ Some k.entry = ap (slice_get p.entries) w ∙ k.holds in
       let m : In (option_map_or (λ e. targets p.classes p.bytes (entry_node e)) (slice_get p.entries l.place) []) t = subst (λ o. In (option_map_or (λ e. targets p.classes p.bytes (entry_node e)) o []) t) (sym e) (contains_in (targets p.classes p.bytes (entry_node k.entry)) t d) in
       more l.reached (those_in (number_in_force p.entries) (option_map_or (λ e. targets p.classes p.bytes (entry_node e)) (slice_get p.entries l.place) []) t place m f)
 
@@ -180,7 +180,7 @@ module _ (p q : Parts) (a : AreParts p) (b : AreParts q) (flags : List Bool) (re
   marked_is_reached : (i : ℕ) → i < length p.entries → IsMarked marks i → Reached p kept i
   marked_is_reached i l m =
       let f : IsInForce p.entries i = h.among.in_force i m in
-      let w : rank marks i < length (marked marks p.entries) = rank_within marks p.entries i f.entry m f.stands in
+      let w : rank marks i < length (marked marks p.entries) = rank_within marks p.entries i f.entry m f.holds in
       let n : length (marked marks p.entries) ≡ length q.entries = copied_length p q (marked marks p.entries) q.entries h.among.copied in
       let c : Contains (map (λ l. l.entry) h.shown.lines) (rank marks i) = h.shown.each (rank marks i) (omega arith) in
       let g : Good (rank marks i) = lines_good [] h.shown.lines (λ m j. absurd j) h.shown.valid (rank marks i) (contains_in (map (λ l. l.entry) h.shown.lines) (rank marks i) c) in

@@ -8,7 +8,7 @@ use Rattle.jfr_header.specs.Fronts.{Whole}
 use Rattle.jfr_header.specs.Taking.{IsKept}
 use Rattle.jfr_chunk.specs.Parts.{Parts}
 use Rattle.jfr_chunk.specs.Refusal.{read_parts}
-use Rattle.jfr_verify.specs.Recordings.{recording_of, HasLeft}
+use Rattle.jfr_verify.specs.Recordings.{recording_of, HasUnread}
 use Rattle.jfr_verify.specs.declared.doubt.Doubt.TheVariants.{OutRefused}
 use Rattle.jfr_verify.specs.declared.verdict.Verdict.{Verdict}
 use Rattle.jfr_verify.specs.declared.verdict.Verdict.TheVariants.{Doubted, ReadFault, Memory}
@@ -34,7 +34,7 @@ pub record IsAdded (bytes : List ℕ) (old new : List (Vec ℕ Global)) : Type 0
 
 -- A file was opened, and a cutter is at its start; or it could not be opened.
 abbrev pub OpenedIn : List ℕ → Result Cutter Verdict → World → World → Type 0
-OpenedIn name (Ok c) w v = IsSomeAnd (file w name) (λ x. HasLeft c (λ k. recording_of x ≡ k) w v)
+OpenedIn name (Ok c) w v = IsSomeAnd (file w name) (λ x. HasUnread c (λ k. recording_of x ≡ k) w v)
 OpenedIn name (Err ReadFault) w v = IsKept w v
 OpenedIn name (Err Memory) w v = IsKept w v
 OpenedIn name (Err e) w v = ⊥

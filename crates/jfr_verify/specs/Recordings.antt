@@ -47,12 +47,12 @@ abbrev pub after_parts : List Parts → Recording → Recording
 after_parts ps later = record { parts = ps ++ later.parts; refusal = later.refusal }
 
 -- The chunks of the bytes that a cutter has left.
-abbrev pub recording_left : Cutter → List ℕ → Recording
-recording_left c left = recording_in c.number (cut left c.start (not c.given))
+abbrev pub unread_recording : Cutter → List ℕ → Recording
+unread_recording c left = recording_in c.number (cut left c.start (not c.given))
 
 -- A claim about the chunks that a cutter has left of the open input. The files and the output are unchanged.
-pub record HasLeft (c : Cutter) (Claim : Recording → Type 0) (w v : World) : Type 0 where
+pub record HasUnread (c : Cutter) (Claim : Recording → Type 0) (w v : World) : Type 0 where
   pub same : IsKept w v
   pub left : List ℕ
   pub input : v.input ≡ Some left
-  pub claim : Claim (recording_left c left)
+  pub claim : Claim (unread_recording c left)

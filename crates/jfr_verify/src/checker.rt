@@ -31,8 +31,8 @@ pub fn check(
     ensures exact { Answered a.now b.now (kept_of filter.now a.now) receipt.now result }
     ensures verified { IfOk result (λ len. IsVerified a.now b.now (kept_of filter.now a.now)) }
 {
-    a.parts_stand();
-    b.parts_stand();
+    a.parts_are_valid();
+    b.parts_are_valid();
     match choose(alloc, a, filter) {
         Ok(kept) => answer(check_kept(alloc, a, &kept, b, receipt)),
         Err(NoMemory) => Err(CheckFault::Memory),

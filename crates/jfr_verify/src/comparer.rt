@@ -4,22 +4,22 @@ ghost use Rattle.jfr_header.specs.Fronts.{Whole};
 ghost use Rattle.jfr_chunk.specs.Parts.{Parts};
 
 use crate::{Doubt, Verdict, check};
-use jfr_chunk::{Chunk, Room};
+use jfr_chunk::{Buffers, Chunk};
 use jfr_filter::Filter;
 use std::alloc::Global;
 use std::mem;
 use std::slice::Iter;
 
 /// Compares chunks of an input with those of an output. `outputs` are the chunks of the output that
-/// are left, and `receipts` the receipts. The rooms hold the last chunks' memory, which the next chunks use again.
+/// are left, and `receipts` the receipts. The buffers hold the last chunks' memory, which the next chunks use again.
 #[derive(Drop)]
 pub(crate) struct Comparer<'r> {
     alloc: Global,
     filter: &'r Filter,
     outputs: Iter<'r, Vec<u8>>,
     receipts: &'r [u8],
-    input_room: Room,
-    output_room: Room,
+    input_buffers: Buffers,
+    output_buffers: Buffers,
 }
 
 impl<'r> Comparer<'r> {
@@ -30,13 +30,13 @@ impl<'r> Comparer<'r> {
     ghost use Rattle.jfr_verify.specs.Outputs.{AllWhole};
     ghost use Rattle.jfr_verify.specs.Verdicts.{ComparedWith};
 
-    /// A comparer with these outputs and receipts. `room`, the memory of an earlier chunk, is used for the outputs.
+    /// A comparer with these outputs and receipts. `buffers`, the memory of an earlier chunk, is used for the outputs.
     pub(crate) fn new(
         alloc: Global,
         filter: &'r Filter,
         outputs: &'r [Vec<u8>],
         receipts: &'r [u8],
-        room: Room,
+        buffers: Buffers,
     ) -> Comparer<'r>
         ensures filter { result.filter.now ≡ filter.now }
         ensures outputs { iter_rest result.outputs ≡ outputs.now }
@@ -47,8 +47,8 @@ impl<'r> Comparer<'r> {
             filter,
             outputs: outputs.iter(),
             receipts,
-            input_room: Room::new(alloc),
-            output_room: room,
+            input_buffers: Buffers::new(alloc),
+            output_buffers: buffers,
         }
     }
 
@@ -61,13 +61,13 @@ impl<'r> Comparer<'r> {
         ensures whole { AllWhole (iter_rest self.new.outputs) }
         ensures quiet { IsErrOf result Verdict.ReadFault → ⊥ }
     {
-        let room = mem::replace(&mut self.input_room, Room::new(self.alloc));
-        let input = match Chunk::read_in(self.alloc, room, chunk) {
+        let buffers = mem::replace(&mut self.input_buffers, Buffers::new(self.alloc));
+        let input = match Chunk::read_in(self.alloc, buffers, chunk) {
             Ok(input) => input,
             Err(fault) => return Err(Verdict::of_chunk(number, fault)),
         };
         let compared = self.compare_next(&input, number);
-        self.input_room = input.into_room();
+        self.input_buffers = input.into_buffers();
         compared
     }
 
@@ -85,13 +85,13 @@ impl<'r> Comparer<'r> {
                 doubt: Doubt::ChunksDiffer,
             });
         };
-        let room = mem::replace(&mut self.output_room, Room::new(self.alloc));
-        let output = match Chunk::read_in(self.alloc, room, output) {
+        let buffers = mem::replace(&mut self.output_buffers, Buffers::new(self.alloc));
+        let output = match Chunk::read_in(self.alloc, buffers, output) {
             Ok(output) => output,
             Err(fault) => return Err(Verdict::of_output(number, fault)),
         };
         let checked = check(self.alloc, input, &output, self.filter, self.receipts);
-        self.output_room = output.into_room();
+        self.output_buffers = output.into_buffers();
         match checked {
             Ok(len) => {
                 let (_, left) = self.receipts.split_at(len);

@@ -16,11 +16,11 @@ pub(crate) fn open<P: Place>(
     place: &mut P,
     name: &str,
 ) -> Result<ChunkCutter, Verdict>
-    ensures told { Tells (P.state place.old) (P.state place.new) (OpenedIn name.now result) }
+    ensures contents { Tells (P.state place.old) (P.state place.new) (OpenedIn name.now result) }
     ensures number { IfOk result (λ cutter. cutter.number ≡ 1) }
     ensures live { IfOk result (λ cutter. cutter.live ≡ true) }
     ensures counts { CountsOf result (P.state place.old) (P.state place.new) }
-    ensures steady { IsTrue (P.state place.old).steady → IsErrOf result Verdict.ReadFault → IfSome (P.state place.old).told (λ w. file w name.now ≡ None) }
+    ensures steady { IsTrue (P.state place.old).steady → IsErrOf result Verdict.ReadFault → IfSome (P.state place.old).contents (λ w. file w name.now ≡ None) }
 {
     match place.open_input(name) {
         Ok(()) => Ok(ChunkCutter::new(alloc, 0, 1)),

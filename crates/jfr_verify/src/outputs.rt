@@ -11,17 +11,17 @@ ghost use Rattle.jfr_verify.specs.Outputs.{AllWhole, IsAdded, OutputRead};
 use crate::opening::open;
 use crate::{Doubt, Verdict};
 use jfr_base::ReadFault;
-use jfr_chunk::{Chunk, Room};
+use jfr_chunk::{Buffers, Chunk};
 use jfr_header::Cut;
 use jfr_outside::Place;
 use std::alloc::Global;
 use std::mem;
 
-/// The bytes of accepted chunks. `room` holds the last chunk's memory, which the next chunk uses again.
+/// The bytes of accepted chunks. `buffers` holds the last chunk's memory, which the next chunk uses again.
 #[derive(Drop)]
 struct Outputs {
     alloc: Global,
-    room: Room,
+    buffers: Buffers,
     chunks: Vec<Vec<u8>>,
 }
 
@@ -32,7 +32,7 @@ impl Outputs {
     {
         Outputs {
             alloc,
-            room: Room::new(alloc),
+            buffers: Buffers::new(alloc),
             chunks: Vec::new(alloc),
         }
     }
@@ -43,26 +43,26 @@ impl Outputs {
         ensures ok { OnOk result (IsAdded bytes.now self.old.chunks.items self.new.chunks.items) }
         ensures refused { IfErr result (TellsFlaw (read_parts bytes.now)) }
     {
-        let room = mem::replace(&mut self.room, Room::new(self.alloc));
-        let chunk = Chunk::read_in(self.alloc, room, bytes)?;
-        self.room = chunk.into_room();
+        let buffers = mem::replace(&mut self.buffers, Buffers::new(self.alloc));
+        let chunk = Chunk::read_in(self.alloc, buffers, bytes)?;
+        self.buffers = chunk.into_buffers();
         self.chunks.push(Vec::from_slice(self.alloc, bytes)?)?;
         Ok(())
     }
 }
 
-/// Reads the output, and returns the bytes of its chunks; `room` then holds the last chunk's memory. Otherwise
+/// Reads the output, and returns the bytes of its chunks; `buffers` then holds the last chunk's memory. Otherwise
 /// the verdict: the output is refused, or can't be read.
 pub(crate) fn read_outputs<P: Place>(
     alloc: Global,
     place: &mut P,
     name: &str,
-    room: &mut Room,
+    buffers: &mut Buffers,
 ) -> Result<Vec<Vec<u8>>, Verdict>
-    ensures told { Tells (P.state place.old) (P.state place.new) (OutputRead name.now result) }
+    ensures contents { Tells (P.state place.old) (P.state place.new) (OutputRead name.now result) }
     ensures whole { IfOk result (λ chunks. AllWhole chunks.items) }
     ensures counts { CountsOf result (P.state place.old) (P.state place.new) }
-    ensures steady { IsTrue (P.state place.old).steady → IsErrOf result Verdict.ReadFault → IfSome (P.state place.old).told (λ w. file w name.now ≡ None) }
+    ensures steady { IsTrue (P.state place.old).steady → IsErrOf result Verdict.ReadFault → IfSome (P.state place.old).contents (λ w. file w name.now ≡ None) }
 {
     let mut cutter = open(alloc, place, name)?;
     let mut outputs = Outputs::new(alloc);
@@ -70,7 +70,7 @@ pub(crate) fn read_outputs<P: Place>(
         match cutter.next(place) {
             Cut::Chunk => {}
             Cut::End => {
-                *room = outputs.room;
+                *buffers = outputs.buffers;
                 return Ok(outputs.chunks);
             }
             Cut::Refused(refusal) => {

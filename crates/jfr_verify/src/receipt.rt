@@ -56,7 +56,7 @@ pub fn receipt_of(alloc: Global, chunk: &Chunk<'_>) -> Result<Receipt, NoMemory>
 pub fn receipt_of_scrub(alloc: Global, chunk: &Chunk<'_>, kept: &Kept) -> Result<Receipt, NoMemory>
     ensures ok { IfOk result (λ receipt. (scrub : IsKept chunk.now (kept_by chunk.now kept.now)) → receipt ≡ receipt_of scrub.parts) }
 {
-    chunk.parts_stand();
+    chunk.parts_are_valid();
     let lines = kept_lines_in::<Brand>(alloc, chunk, kept, Blank::new(1))?;
     let ranks = ranks_of(alloc, &lines.flags)?;
     let mut bytes = Vec::new(alloc);

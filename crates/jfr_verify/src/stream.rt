@@ -14,7 +14,7 @@ use crate::Verdict;
 use crate::comparer::Comparer;
 use crate::opening::open;
 use crate::outputs::read_outputs;
-use jfr_chunk::Room;
+use jfr_chunk::Buffers;
 use jfr_file::read_file;
 use jfr_filter::Filter;
 use jfr_header::Cut;
@@ -40,11 +40,11 @@ fn compare_input<P: Place>(
     comparer: &mut Comparer<'_>,
 ) -> Verdict
     requires { AllWhole (iter_rest comparer.old.outputs) }
-    ensures told { (qs : List Parts) → HasOutputs comparer.old qs → Tells (P.state place.old) (P.state place.new)
+    ensures contents { (qs : List Parts) → HasOutputs comparer.old qs → Tells (P.state place.old) (P.state place.new)
         (InputRead comparer.old.filter.now name.now qs comparer.old.receipts.now result) }
     ensures unchanged { Tells (P.state place.old) (P.state place.new) IsKept }
     ensures counts { Counts result (P.state place.old) (P.state place.new) }
-    ensures steady { IsTrue (P.state place.old).steady → result ≡ Verdict.ReadFault → IfSome (P.state place.old).told (λ w. file w name.now ≡ None) }
+    ensures steady { IsTrue (P.state place.old).steady → result ≡ Verdict.ReadFault → IfSome (P.state place.old).contents (λ w. file w name.now ≡ None) }
 {
     let mut cutter = match open(alloc, place, name) {
         Ok(cutter) => cutter,
@@ -72,20 +72,20 @@ fn verify_files<P: Place>(
     names: Names<'_>,
     filter: &Filter,
 ) -> Verdict
-    ensures told { Tells (P.state place.old) (P.state place.new) (VerdictIn filter.now names.entry.input.now names.entry.output.now names.entry.receipt.now result) }
+    ensures contents { Tells (P.state place.old) (P.state place.new) (VerdictIn filter.now names.entry.input.now names.entry.output.now names.entry.receipt.now result) }
     ensures counts { Counts result (P.state place.old) (P.state place.new) }
-    ensures steady { IsTrue (P.state place.old).steady → result ≡ Verdict.ReadFault → IfSome (P.state place.old).told (λ w. LacksOne (three names.entry.input.now names.entry.output.now names.entry.receipt.now w)) }
+    ensures steady { IsTrue (P.state place.old).steady → result ≡ Verdict.ReadFault → IfSome (P.state place.old).contents (λ w. LacksOne (three names.entry.input.now names.entry.output.now names.entry.receipt.now w)) }
 {
     let receipts = match read_file(alloc, place, names.receipt, RECEIPT_LIMIT) {
         Ok(receipts) => receipts,
         Err(fault) => return Verdict::of_receipts(fault),
     };
-    let mut room = Room::new(alloc);
-    let outputs = match read_outputs(alloc, place, names.output, &mut room) {
+    let mut buffers = Buffers::new(alloc);
+    let outputs = match read_outputs(alloc, place, names.output, &mut buffers) {
         Ok(outputs) => outputs,
         Err(verdict) => return verdict,
     };
-    let mut comparer = Comparer::new(alloc, filter, &outputs, &receipts, room);
+    let mut comparer = Comparer::new(alloc, filter, &outputs, &receipts, buffers);
     compare_input(alloc, place, names.input, &mut comparer)
 }
 
@@ -101,13 +101,13 @@ pub fn verify_stream<P: Place>(
     filter: &Filter,
 ) -> Verdict
     // The verdict is the right one, unless a read failed or memory ran out.
-    ensures exact { IfDecided result (IfSome (P.state place.old).told (λ w. VerdictOf filter.now (three input.now output.now receipt.now w) result)) }
+    ensures exact { IfDecided result (IfSome (P.state place.old).contents (λ w. VerdictOf filter.now (three input.now output.now receipt.now w) result)) }
 
     // If it is Verified, each chunk of the output means the same as one of the input, whoever made it.
-    ensures verified { IfVerified result (λ count. IfSome (P.state place.old).told (λ w. AllVerified filter.now (three input.now output.now receipt.now w) count)) }
+    ensures verified { IfVerified result (λ count. IfSome (P.state place.old).contents (λ w. AllVerified filter.now (three input.now output.now receipt.now w) count)) }
 
     // The output of a scrub is verified with its own receipts.
-    ensures complete { IfSome (P.state place.old).told (λ w. AreScrubs filter.now (three input.now output.now receipt.now w)
+    ensures complete { IfSome (P.state place.old).contents (λ w. AreScrubs filter.now (three input.now output.now receipt.now w)
         → (Rose (P.state place.old).read_faults (P.state place.new).read_faults → ⊥) → IsFine result) }
 
     // Only the input of the place changes, and after a read fault the count of failed reads.
@@ -115,7 +115,7 @@ pub fn verify_stream<P: Place>(
     ensures counts { Counts result (P.state place.old) (P.state place.new) }
 
     // On a steady place no read fails if the three files exist.
-    ensures steady { IsTrue (P.state place.old).steady → result ≡ Verdict.ReadFault → IfSome (P.state place.old).told (λ w. LacksOne (three input.now output.now receipt.now w)) }
+    ensures steady { IsTrue (P.state place.old).steady → result ≡ Verdict.ReadFault → IfSome (P.state place.old).contents (λ w. LacksOne (three input.now output.now receipt.now w)) }
 {
     let names = Names {
         input,

@@ -10,17 +10,17 @@ use Rattle.jfr_filter.specs.Filters.{Given, nothing_given, with_patterns}
 use Rattle.jfr_words.specs.declared.order.Order.{Order}
 use Rattle.jfr_words.specs.declared.print.PrintOption.{PrintOption}
 use Rattle.jfr_words.specs.declared.print.PrintOption.TheVariants.{Patterns, Depth, Json}
-use Rattle.jfr_words.specs.declared.print.PrintGiven.{PrintGiven}
+use Rattle.jfr_words.specs.declared.print.PrintSettings.{PrintSettings}
 use Rattle.jfr_words.specs.declared.split.SplitOption.{SplitOption}
 use Rattle.jfr_words.specs.declared.split.SplitOption.TheVariants.{Output, MaxChunks, MaxSize}
-use Rattle.jfr_words.specs.declared.split.SplitGiven.{SplitGiven}
+use Rattle.jfr_words.specs.declared.split.SplitSettings.{SplitSettings}
 use Rattle.jfr_words.specs.Laws.{filter_options, valued_options, bare_options, is_option, is_same_option, AreOptions, line}
 use Rattle.jfr_words.specs.Names.{name_in}
 use Rattle.jfr_words.specs.Numbers.{number_in}
 use Rattle.jfr_words.specs.Patterns.{given_with}
 use Rattle.jfr_words.specs.Prints.{no_print_option, print_option_of, print_with, print_from}
 use Rattle.jfr_words.specs.Filtered.{side_of, filtered_from}
-use Rattle.jfr_words.specs.Scrubs.{ScrubGiven, ScrubOption, no_scrub_option, scrub_option_of, scrub_with, scrub_from, yes_or_no}
+use Rattle.jfr_words.specs.Scrubs.{ScrubSettings, ScrubOption, no_scrub_option, scrub_option_of, scrub_with, scrub_from, yes_or_no}
 use Rattle.jfr_words.specs.declared.scrub.ScrubOption.TheVariants as scrubs
 use Rattle.jfr_words.specs.Splits.{no_split_option, split_option_of, is_split_given, split_with, split_from}
 use Rattle.jfr_words.specs.Stacks.{StacksOption, stacks_option_of, stacks_side, stacks_with, stacks_from}
@@ -36,12 +36,12 @@ PrintValue (Patterns side) = List (List ℕ)
 PrintValue Depth = ℕ
 PrintValue Json = Unit {0}
 
-abbrev has_print : PrintOption → PrintGiven → Bool
+abbrev has_print : PrintOption → PrintSettings → Bool
 has_print (Patterns side) g = has_side side g.filter
 has_print Depth g = is_some g.depth
 has_print Json g = g.json
 
-abbrev put_print : (o : PrintOption) → PrintValue o → PrintGiven → PrintGiven
+abbrev put_print : (o : PrintOption) → PrintValue o → PrintSettings → PrintSettings
 put_print (Patterns side) patterns g = record g { filter = with_patterns side patterns g.filter }
 put_print Depth depth g = record g { depth = Some depth }
 put_print Json _ g = record g { json = true }
@@ -51,7 +51,7 @@ print_value (Patterns side) list = patterns_of list
 print_value Depth word = number_in 0 8 word
 print_value Json word = Some tt
 
-print_set : (o : PrintOption) (v : List ℕ) (g : PrintGiven) → print_with o v g ≡ set (has_print o) (put_print o) (print_value o v) g
+print_set : (o : PrintOption) (v : List ℕ) (g : PrintSettings) → print_with o v g ≡ set (has_print o) (put_print o) (print_value o v) g
 print_set (Patterns side) v g = ap (option_map (λ h. record g { filter = h })) (side_set side v g.filter) ∙ by_tests (has_side side g.filter) (patterns_of v)
   where
     by_tests : (t : Bool) (o : Option (List (List ℕ))) → option_map (λ h. record g { filter = h }) (if t then None else option_map (λ x. with_patterns side x g.filter) o) ≡ (if t then None else option_map (λ x. record g { filter = with_patterns side x g.filter }) o)
@@ -61,7 +61,7 @@ print_set (Patterns side) v g = ap (option_map (λ h. record g { filter = h })) 
 print_set Depth v g = refl
 print_set Json v g = refl
 
-print_is : (o : PrintOption) (x : PrintValue o) (g : PrintGiven) → has_print o (put_print o x g) ≡ true
+print_is : (o : PrintOption) (x : PrintValue o) (g : PrintSettings) → has_print o (put_print o x g) ≡ true
 print_is (Patterns side) x g = side_is side x g.filter
 print_is Depth x g = refl
 print_is Json x g = refl
@@ -89,11 +89,11 @@ abbrev ScrubValue : ScrubOption → Type 0
 ScrubValue (scrubs.Patterns side) = List (List ℕ)
 ScrubValue scrubs.Renumber = Bool
 
-abbrev has_scrub : ScrubOption → ScrubGiven → Bool
+abbrev has_scrub : ScrubOption → ScrubSettings → Bool
 has_scrub (scrubs.Patterns side) g = has_side side g.filter
 has_scrub scrubs.Renumber g = is_some g.renumber
 
-abbrev put_scrub : (o : ScrubOption) → ScrubValue o → ScrubGiven → ScrubGiven
+abbrev put_scrub : (o : ScrubOption) → ScrubValue o → ScrubSettings → ScrubSettings
 put_scrub (scrubs.Patterns side) patterns g = record g { filter = with_patterns side patterns g.filter }
 put_scrub scrubs.Renumber b g = record g { renumber = Some b }
 
@@ -101,7 +101,7 @@ abbrev scrub_value : (o : ScrubOption) → List ℕ → Option (ScrubValue o)
 scrub_value (scrubs.Patterns side) list = patterns_of list
 scrub_value scrubs.Renumber word = yes_or_no word
 
-scrub_set : (o : ScrubOption) (v : List ℕ) (g : ScrubGiven) → scrub_with o v g ≡ set (has_scrub o) (put_scrub o) (scrub_value o v) g
+scrub_set : (o : ScrubOption) (v : List ℕ) (g : ScrubSettings) → scrub_with o v g ≡ set (has_scrub o) (put_scrub o) (scrub_value o v) g
 scrub_set (scrubs.Patterns side) v g = ap (option_map (λ h. record g { filter = h })) (side_set side v g.filter) ∙ by_tests (has_side side g.filter) (patterns_of v)
   where
     by_tests : (t : Bool) (o : Option (List (List ℕ))) → option_map (λ h. record g { filter = h }) (if t then None else option_map (λ x. with_patterns side x g.filter) o) ≡ (if t then None else option_map (λ x. record g { filter = with_patterns side x g.filter }) o)
@@ -110,7 +110,7 @@ scrub_set (scrubs.Patterns side) v g = ap (option_map (λ h. record g { filter =
     by_tests false (Some x) = refl
 scrub_set scrubs.Renumber v g = refl
 
-scrub_is : (o : ScrubOption) (x : ScrubValue o) (g : ScrubGiven) → has_scrub o (put_scrub o x g) ≡ true
+scrub_is : (o : ScrubOption) (x : ScrubValue o) (g : ScrubSettings) → has_scrub o (put_scrub o x g) ≡ true
 scrub_is (scrubs.Patterns side) x g = side_is side x g.filter
 scrub_is scrubs.Renumber x g = refl
 
@@ -133,7 +133,7 @@ SplitValue Output = List ℕ
 SplitValue MaxChunks = ℕ
 SplitValue MaxSize = ℕ
 
-abbrev put_split : (o : SplitOption) → SplitValue o → SplitGiven → SplitGiven
+abbrev put_split : (o : SplitOption) → SplitValue o → SplitSettings → SplitSettings
 put_split Output folder g = record g { folder = Some folder }
 put_split MaxChunks n g = record g { max_chunks = Some n }
 put_split MaxSize n g = record g { max_size = Some n }
@@ -143,12 +143,12 @@ split_value Output word = name_in word
 split_value MaxChunks word = number_in 1 4294967295 word
 split_value MaxSize word = number_in 1 (2 ^ 40) word
 
-split_is_set : (o : SplitOption) (v : List ℕ) (g : SplitGiven) → split_with o v g ≡ set (is_split_given o) (put_split o) (split_value o v) g
+split_is_set : (o : SplitOption) (v : List ℕ) (g : SplitSettings) → split_with o v g ≡ set (is_split_given o) (put_split o) (split_value o v) g
 split_is_set Output v g = refl
 split_is_set MaxChunks v g = refl
 split_is_set MaxSize v g = refl
 
-split_is : (o : SplitOption) (x : SplitValue o) (g : SplitGiven) → is_split_given o (put_split o x g) ≡ true
+split_is : (o : SplitOption) (x : SplitValue o) (g : SplitSettings) → is_split_given o (put_split o x g) ≡ true
 split_is Output x g = refl
 split_is MaxChunks x g = refl
 split_is MaxSize x g = refl
@@ -216,7 +216,7 @@ print_bare word e = of_each (λ w. Takes print_option_of print_with print_from (
         by_test false = refl
     json (next ∷ rest) g = refl
 
-print_read : (g : PrintGiven) (option : List (List ℕ)) (rest : List (List ℕ)) → IsTrue (is_option (codes "print") option) → print_from g (option ++ rest) ≡ option_and_then (λ h. print_from h rest) (give print_option_of print_with option g)
+print_read : (g : PrintSettings) (option : List (List ℕ)) (rest : List (List ℕ)) → IsTrue (is_option (codes "print") option) → print_from g (option ++ rest) ≡ option_and_then (λ h. print_from h rest) (give print_option_of print_with option g)
 print_read g [] rest e = cc
 print_read g (word ∷ []) rest e = print_bare word e rest g
 print_read g (word ∷ value ∷ []) rest e = print_valued word e value rest g
@@ -225,7 +225,7 @@ print_read g (word ∷ value ∷ more ∷ others) rest e = cc
 scrub_valued : (word : List ℕ) → list_any (bytes_eq word) (valued_options (codes "scrub")) ≡ true → (value : List ℕ) → Takes scrub_option_of scrub_with scrub_from (word ∷ value ∷ [])
 scrub_valued word e value = of_each (λ w. Takes scrub_option_of scrub_with scrub_from (w ∷ value ∷ [])) (valued_options (codes "scrub")) (λ rest g. refl, (λ rest g. refl, (λ rest g. refl, (λ rest g. refl, (λ rest g. refl, (λ rest g. refl, (λ rest g. refl, tt))))))) word e
 
-scrub_read : (g : ScrubGiven) (option : List (List ℕ)) (rest : List (List ℕ)) → IsTrue (is_option (codes "scrub") option) → scrub_from g (option ++ rest) ≡ option_and_then (λ h. scrub_from h rest) (give scrub_option_of scrub_with option g)
+scrub_read : (g : ScrubSettings) (option : List (List ℕ)) (rest : List (List ℕ)) → IsTrue (is_option (codes "scrub") option) → scrub_from g (option ++ rest) ≡ option_and_then (λ h. scrub_from h rest) (give scrub_option_of scrub_with option g)
 scrub_read g [] rest e = cc
 scrub_read g (word ∷ []) rest e = cc
 scrub_read g (word ∷ value ∷ []) rest e = scrub_valued word e value rest g
@@ -251,7 +251,7 @@ module _ (named : Given → List (List ℕ) → Option Order) where
 split_valued : (word : List ℕ) → list_any (bytes_eq word) (valued_options (codes "disassemble")) ≡ true → (value : List ℕ) → Takes split_option_of split_with split_from (word ∷ value ∷ [])
 split_valued word e value = of_each (λ w. Takes split_option_of split_with split_from (w ∷ value ∷ [])) (valued_options (codes "disassemble")) (λ rest g. refl, (λ rest g. refl, (λ rest g. refl, tt))) word e
 
-split_read : (g : SplitGiven) (option : List (List ℕ)) (rest : List (List ℕ)) → IsTrue (is_option (codes "disassemble") option) → split_from g (option ++ rest) ≡ option_and_then (λ h. split_from h rest) (give split_option_of split_with option g)
+split_read : (g : SplitSettings) (option : List (List ℕ)) (rest : List (List ℕ)) → IsTrue (is_option (codes "disassemble") option) → split_from g (option ++ rest) ≡ option_and_then (λ h. split_from h rest) (give split_option_of split_with option g)
 split_read g [] rest e = cc
 split_read g (word ∷ []) rest e = cc
 split_read g (word ∷ value ∷ []) rest e = split_valued word e value rest g

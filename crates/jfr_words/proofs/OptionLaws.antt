@@ -17,10 +17,10 @@ pub record Reads {G O X : Type 0} (from : G → List (List ℕ) → Option X) (o
 
 -- Where an option took the next word, the words after it give what all gave.
 pub option_taken : {G O X : Type 0} (from : G → List (List ℕ) → Option X) (option : List ℕ → Option O) (given : O → List ℕ → G → Option G) (named : G → List (List ℕ) → Option X) → Reads from option given named
-    → (g h : G) (o : O) (next : List ℕ) (before left rest : List (List ℕ)) → Some o ≡ option_and_then option (slice_get before 0) → left ≡ drop 1 before → left ≡ next ∷ rest → given o next g ≡ Some h → from h rest ≡ from g before
-option_taken from option given named reads g h o next [] left rest e l m f = cc
-option_taken from option given named reads g h o next (word ∷ []) left rest e l m f = cc
-option_taken {G = G} from option given named reads g h o next (word ∷ second ∷ others) left rest e l m f =
+    → (g h : G) (o : O) (next : List ℕ) (before unread rest : List (List ℕ)) → Some o ≡ option_and_then option (slice_get before 0) → unread ≡ drop 1 before → unread ≡ next ∷ rest → given o next g ≡ Some h → from h rest ≡ from g before
+option_taken from option given named reads g h o next [] unread rest e l m f = cc
+option_taken from option given named reads g h o next (word ∷ []) unread rest e l m f = cc
+option_taken {G = G} from option given named reads g h o next (word ∷ second ∷ others) unread rest e l m f =
     let s : second ≡ next = cc in
     let r : others ≡ rest = cc in
     sym
@@ -41,11 +41,11 @@ module _ (named : Given → List (List ℕ) → Option Order) where
   reads_filter = record { on = λ g word next rest. refl }
 
   -- A side took the next word as its patterns.
-  pub side_taken : (g h : Given) (side : Side) (next : List ℕ) (before left rest : List (List ℕ)) → Some side ≡ option_and_then side_of (slice_get before 0) → left ≡ drop 1 before → left ≡ next ∷ rest → given_with side next g ≡ Some h → filtered_from named h rest ≡ filtered_from named g before
+  pub side_taken : (g h : Given) (side : Side) (next : List ℕ) (before unread rest : List (List ℕ)) → Some side ≡ option_and_then side_of (slice_get before 0) → unread ≡ drop 1 before → unread ≡ next ∷ rest → given_with side next g ≡ Some h → filtered_from named h rest ≡ filtered_from named g before
   side_taken = option_taken (filtered_from named) side_of given_with named reads_filter
 
   -- The first word left is no option.
-  pub no_side_left : (g : Given) (left : List (List ℕ)) → None ≡ option_and_then side_of (slice_get left 0) → filtered_from named g left ≡ named g left
+  pub no_side_left : (g : Given) (unread : List (List ℕ)) → None ≡ option_and_then side_of (slice_get unread 0) → filtered_from named g unread ≡ named g unread
   no_side_left g [] e = refl
   no_side_left g (word ∷ []) e = ap (λ z. option_map_or (λ side. None) z (named g (word ∷ []))) (sym e)
   no_side_left g (word ∷ next ∷ rest) e = ap (λ z. option_map_or (λ side. option_and_then (λ h. filtered_from named h rest) (given_with side next g)) z (named g (word ∷ next ∷ rest))) (sym e)
@@ -57,10 +57,10 @@ module _ (named : Given → List (List ℕ) → Option Order) where
   no_value_left g side (word ∷ next ∷ rest) e l = cc
 
   -- The value of an option isn't valid, or the option was given before.
-  pub not_given : (g : Given) (side : Side) (next : List ℕ) (before left rest : List (List ℕ)) → Some side ≡ option_and_then side_of (slice_get before 0) → left ≡ drop 1 before → left ≡ next ∷ rest → given_with side next g ≡ None → filtered_from named g before ≡ None
-  not_given g side next [] left rest e l m f = cc
-  not_given g side next (word ∷ []) left rest e l m f = cc
-  not_given g side next (word ∷ second ∷ others) left rest e l m f =
+  pub not_given : (g : Given) (side : Side) (next : List ℕ) (before unread rest : List (List ℕ)) → Some side ≡ option_and_then side_of (slice_get before 0) → unread ≡ drop 1 before → unread ≡ next ∷ rest → given_with side next g ≡ None → filtered_from named g before ≡ None
+  not_given g side next [] unread rest e l m f = cc
+  not_given g side next (word ∷ []) unread rest e l m f = cc
+  not_given g side next (word ∷ second ∷ others) unread rest e l m f =
       let s : second ≡ next = cc in
       ap (λ z. option_map_or (λ p. option_and_then (λ h. filtered_from named h others) (given_with p second g)) z (named g (word ∷ second ∷ others))) (sym e)
       ∙ ap (λ z. option_and_then (λ h. filtered_from named h others) (given_with side z g)) s

@@ -11,10 +11,10 @@ use Rattle.jfr_words.specs.declared.order.Order.TheVariants as orders
 use Rattle.jfr_words.specs.declared.order.WordsFault.{WordsFault}
 use Rattle.jfr_words.specs.declared.print.PrintOption.{PrintOption}
 use Rattle.jfr_words.specs.declared.print.PrintOption.TheVariants.{Patterns, Depth, Json}
-use Rattle.jfr_words.specs.declared.print.PrintGiven.{PrintGiven}
+use Rattle.jfr_words.specs.declared.print.PrintSettings.{PrintSettings}
 use Rattle.jfr_words.specs.declared.split.SplitOption.{SplitOption}
 use Rattle.jfr_words.specs.declared.split.SplitOption.TheVariants.{Output, MaxChunks, MaxSize}
-use Rattle.jfr_words.specs.declared.split.SplitGiven.{SplitGiven}
+use Rattle.jfr_words.specs.declared.split.SplitSettings.{SplitSettings}
 use Rattle.jfr_filter.specs.Filters.{Given, nothing_given}
 use Rattle.jfr_filter.specs.declared.side.Side.{Side}
 use Rattle.jfr_words.specs.Filtered.{side_of, filtered_from}
@@ -23,7 +23,7 @@ use Rattle.jfr_base.specs.Decimal.{decimal_number}
 use Rattle.jfr_words.specs.Numbers.{within, number_in}
 use Rattle.jfr_words.specs.Patterns.{given_with}
 use Rattle.jfr_words.specs.Prints.{no_print_option, print_option_of, print_with, print_goes_on, print_named, print_from}
-use Rattle.jfr_words.specs.Scrubs.{ScrubOption, ScrubGiven, no_scrub_option, scrub_option_of, scrub_with, scrub_named, scrub_from}
+use Rattle.jfr_words.specs.Scrubs.{ScrubOption, ScrubSettings, no_scrub_option, scrub_option_of, scrub_with, scrub_named, scrub_from}
 use Rattle.jfr_words.specs.Splits.{no_split_option, split_option_of, is_split_given, split_set, split_with, split_named, split_from}
 use Rattle.jfr_words.specs.Stacks.{StacksOption, stacks_option_of, stacks_with, stacks_named, stacks_from}
 use Rattle.jfr_words.specs.Words.{order_of, receipt_named, sample_of, verification_named, IsRead, IsUsableOrder}
@@ -71,22 +71,22 @@ gives_number P f low high word h = by_number (number_in low high word) (number_w
     by_number (Some n) r = h n r.0 r.1
 
 -- The depth of a print.
-abbrev IsShallow : PrintGiven → Type 0
+abbrev IsShallow : PrintSettings → Type 0
 IsShallow g = Gives (λ d. d ≤ 8) g.depth
 
-shallow_with : (option : PrintOption) (next : List ℕ) (g : PrintGiven) → IsShallow g → Gives IsShallow (print_with option next g)
+shallow_with : (option : PrintOption) (next : List ℕ) (g : PrintSettings) → IsShallow g → Gives IsShallow (print_with option next g)
 shallow_with (Patterns side) next g s = gives_map IsShallow _ (given_with side next g.filter) (λ k. s)
 shallow_with Depth next g s = gives_if IsShallow (is_some g.depth) None _ tt (gives_number IsShallow _ 0 8 next (λ n l h. h))
 shallow_with Json next g s = gives_if IsShallow g.json None _ tt s
 
-print_named_usable : (g : PrintGiven) (words : List (List ℕ)) → IsShallow g → Gives IsUsableOrder (print_named g words)
+print_named_usable : (g : PrintSettings) (words : List (List ℕ)) → IsShallow g → Gives IsUsableOrder (print_named g words)
 print_named_usable g words s = gives_map IsUsableOrder _ (only_name words) (λ file. by_depth g.depth s)
   where
     by_depth : (d : Option ℕ) → Gives (λ d. d ≤ 8) d → unwrap_or d 2 ≤ 8
     by_depth None h = omega arith
     by_depth (Some d) h = h
 
-print_usable : (g : PrintGiven) (words : List (List ℕ)) → IsShallow g → Gives IsUsableOrder (print_from g words)
+print_usable : (g : PrintSettings) (words : List (List ℕ)) → IsShallow g → Gives IsUsableOrder (print_from g words)
 print_usable g [] s = print_named_usable g [] s
 print_usable g (word ∷ []) s = print_named_usable g (word ∷ []) s
 print_usable g (word ∷ next ∷ rest) s = by_option (print_option_of word) (λ h. print_usable h (next ∷ rest)) (λ h. print_usable h rest)
@@ -96,16 +96,16 @@ print_usable g (word ∷ next ∷ rest) s = by_option (print_option_of word) (λ
     goes_on Depth a b u v = v
     goes_on Json a b u v = u
 
-    by_option : (z : Option PrintOption) → ((h : PrintGiven) → IsShallow h → Gives IsUsableOrder (print_from h (next ∷ rest))) → ((h : PrintGiven) → IsShallow h → Gives IsUsableOrder (print_from h rest))
+    by_option : (z : Option PrintOption) → ((h : PrintSettings) → IsShallow h → Gives IsUsableOrder (print_from h (next ∷ rest))) → ((h : PrintSettings) → IsShallow h → Gives IsUsableOrder (print_from h rest))
         → Gives IsUsableOrder (option_map_or (λ o. option_and_then (λ h. print_goes_on o (print_from h (next ∷ rest)) (print_from h rest)) (print_with o next g)) z (print_named g (word ∷ next ∷ rest)))
     by_option None u v = print_named_usable g (word ∷ next ∷ rest) s
     by_option (Some o) u v = gives_then IsShallow IsUsableOrder _ (print_with o next g) (shallow_with o next g s) (λ h t. goes_on o _ _ (u h t) (v h t))
 
 -- The numbers of a disassembly.
-abbrev IsPositive : SplitGiven → Type 0
+abbrev IsPositive : SplitSettings → Type 0
 IsPositive g = Gives (λ n. 1 ≤ n) g.max_chunks × Gives (λ n. 1 ≤ n) g.max_size
 
-positive_with : (option : SplitOption) (value : List ℕ) (g : SplitGiven) → IsPositive g → Gives IsPositive (split_with option value g)
+positive_with : (option : SplitOption) (value : List ℕ) (g : SplitSettings) → IsPositive g → Gives IsPositive (split_with option value g)
 positive_with option value g p = gives_if IsPositive (is_split_given option g) None (split_set option value g) tt (by_kind option)
   where
     by_kind : (o : SplitOption) → Gives IsPositive (split_set o value g)
@@ -113,29 +113,29 @@ positive_with option value g p = gives_if IsPositive (is_split_given option g) N
     by_kind MaxChunks = gives_number IsPositive _ 1 4294967295 value (λ n l h. (l, p.1))
     by_kind MaxSize = gives_number IsPositive _ 1 (2 ^ 40) value (λ n l h. (p.0, l))
 
-split_named_usable : (g : SplitGiven) (words : List (List ℕ)) → IsPositive g → Gives IsUsableOrder (split_named g words)
+split_named_usable : (g : SplitSettings) (words : List (List ℕ)) → IsPositive g → Gives IsUsableOrder (split_named g words)
 split_named_usable g words p = gives_map IsUsableOrder _ (only_name words) (λ file. record { chunks = or_usual g.max_chunks 5 p.0 (omega arith); size = or_usual g.max_size (2 ^ 40) p.1 (omega arith); some = omega arith; numbered = omega arith })
   where
     or_usual : (o : Option ℕ) (d : ℕ) → Gives (λ n. 1 ≤ n) o → 1 ≤ d → 1 ≤ unwrap_or o d
     or_usual None d h k = k
     or_usual (Some n) d h k = h
 
-split_usable : (g : SplitGiven) (words : List (List ℕ)) → IsPositive g → Gives IsUsableOrder (split_from g words)
+split_usable : (g : SplitSettings) (words : List (List ℕ)) → IsPositive g → Gives IsUsableOrder (split_from g words)
 split_usable g [] p = split_named_usable g [] p
 split_usable g (word ∷ []) p = split_named_usable g (word ∷ []) p
 split_usable g (word ∷ next ∷ rest) p = by_option (split_option_of word) (λ h. split_usable h rest)
   where
-    by_option : (z : Option SplitOption) → ((h : SplitGiven) → IsPositive h → Gives IsUsableOrder (split_from h rest))
+    by_option : (z : Option SplitOption) → ((h : SplitSettings) → IsPositive h → Gives IsUsableOrder (split_from h rest))
         → Gives IsUsableOrder (option_map_or (λ o. option_and_then (λ h. split_from h rest) (split_with o next g)) z (split_named g (word ∷ next ∷ rest)))
     by_option None u = split_named_usable g (word ∷ next ∷ rest) p
     by_option (Some o) u = gives_then IsPositive IsUsableOrder _ (split_with o next g) (positive_with o next g p) u
 
-scrub_usable : (g : ScrubGiven) (words : List (List ℕ)) → Gives IsUsableOrder (scrub_from g words)
+scrub_usable : (g : ScrubSettings) (words : List (List ℕ)) → Gives IsUsableOrder (scrub_from g words)
 scrub_usable g [] = tt
 scrub_usable g (word ∷ []) = tt
 scrub_usable g (word ∷ next ∷ rest) = by_option (scrub_option_of word) (λ h. scrub_usable h rest)
   where
-    by_option : (z : Option ScrubOption) → ((h : ScrubGiven) → Gives IsUsableOrder (scrub_from h rest))
+    by_option : (z : Option ScrubOption) → ((h : ScrubSettings) → Gives IsUsableOrder (scrub_from h rest))
         → Gives IsUsableOrder (option_map_or (λ o. option_and_then (λ h. scrub_from h rest) (scrub_with o next g)) z (scrub_named g (word ∷ next ∷ rest)))
     by_option None u = gives_map IsUsableOrder _ (two_names (word ∷ next ∷ rest)) (λ names. tt)
     by_option (Some o) u = gives_after IsUsableOrder _ (scrub_with o next g) u

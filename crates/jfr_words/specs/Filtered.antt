@@ -31,6 +31,6 @@ filtered_from named g (word ∷ next ∷ rest) = option_map_or (λ side. option_
 -- After a success the words give what the filter and the words left give as names; a usage fault means that
 -- they give nothing; running out of memory says nothing.
 abbrev pub IsFiltered : List (List ℕ) → Result Given WordsFault → List (List ℕ) → Type 0
-IsFiltered before (Ok filter) left = (named : Given → List (List ℕ) → Option Order) → filtered_from named nothing_given before ≡ named filter left
-IsFiltered before (Err Usage) left = (named : Given → List (List ℕ) → Option Order) → filtered_from named nothing_given before ≡ None
-IsFiltered before (Err Memory) left = ⊤
+IsFiltered before (Ok filter) unread = (named : Given → List (List ℕ) → Option Order) → filtered_from named nothing_given before ≡ named filter unread
+IsFiltered before (Err Usage) unread = (named : Given → List (List ℕ) → Option Order) → filtered_from named nothing_given before ≡ None
+IsFiltered before (Err Memory) unread = ⊤

@@ -8,7 +8,7 @@ use Rattle.jfr_words.specs.declared.order.Order.{Order}
 use Rattle.jfr_words.specs.declared.order.Order.TheVariants.{Print}
 pub use Rattle.jfr_words.specs.declared.print.PrintOption.{PrintOption}
 use Rattle.jfr_words.specs.declared.print.PrintOption.TheVariants.{Patterns, Depth, Json}
-pub use Rattle.jfr_words.specs.declared.print.PrintGiven.{PrintGiven}
+pub use Rattle.jfr_words.specs.declared.print.PrintSettings.{PrintSettings}
 use Rattle.jfr_words.specs.Names.{only_name}
 use Rattle.jfr_words.specs.Numbers.{number_in}
 use Rattle.jfr_words.specs.Patterns.{given_with}
@@ -23,12 +23,12 @@ print_option_of word =
     None
 
 -- No options given.
-abbrev pub no_print_option : PrintGiven
+abbrev pub no_print_option : PrintSettings
 no_print_option = record { filter = nothing_given; depth = None; json = false }
 
 -- The options with this one set to the next word; none if it was given before or the word is not a value of
 -- it. `--json` doesn't look at the word.
-abbrev pub print_with : PrintOption → List ℕ → PrintGiven → Option PrintGiven
+abbrev pub print_with : PrintOption → List ℕ → PrintSettings → Option PrintSettings
 print_with (Patterns side) next g = option_map (λ h. record g { filter = h }) (given_with side next g.filter)
 print_with Depth next g = if is_some g.depth then None else option_map (λ d. record g { depth = Some d }) (number_in 0 8 next)
 print_with Json next g = if g.json then None else Some (record g { json = true })
@@ -36,16 +36,16 @@ print_with Json next g = if g.json then None else Some (record g { json = true }
 -- Reading continues at the next word after `--json`, and after the next word for every other option, which
 -- takes it as its value.
 abbrev pub print_goes_on : {X : Type 0} → PrintOption → X → X → X
-print_goes_on Json at_next behind_it = at_next
-print_goes_on _ at_next behind_it = behind_it
+print_goes_on Json at_next after_it = at_next
+print_goes_on _ at_next after_it = after_it
 
 -- The order with these options, if the file is the only word left. Without `--depth` the depth is 2.
-abbrev pub print_named : PrintGiven → List (List ℕ) → Option Order
+abbrev pub print_named : PrintSettings → List (List ℕ) → Option Order
 print_named g words = option_map (λ file. Print g.filter (unwrap_or g.depth 2) g.json file) (only_name words)
 
 -- The order of the words after `print`, with these options given so far: options come first, whose values may
 -- be any words, then the name.
-abbrev pub print_from : PrintGiven → List (List ℕ) → Option Order
+abbrev pub print_from : PrintSettings → List (List ℕ) → Option Order
 print_from g (word ∷ next ∷ rest) =
     option_map_or (λ option. option_and_then (λ h. print_goes_on option (print_from h (next ∷ rest)) (print_from h rest)) (print_with option next g))
     (print_option_of word)

@@ -7,7 +7,7 @@ use Rattle.jfr_words.specs.declared.order.Order.{Order}
 use Rattle.jfr_words.specs.declared.order.Order.TheVariants.{Scrub}
 pub use Rattle.jfr_words.specs.declared.scrub.ScrubOption.{ScrubOption}
 use Rattle.jfr_words.specs.declared.scrub.ScrubOption.TheVariants.{Patterns, Renumber}
-pub use Rattle.jfr_words.specs.declared.scrub.ScrubGiven.{ScrubGiven}
+pub use Rattle.jfr_words.specs.declared.scrub.ScrubSettings.{ScrubSettings}
 use Rattle.jfr_words.specs.Filtered.{side_of}
 use Rattle.jfr_words.specs.Names.{two_names}
 use Rattle.jfr_words.specs.Patterns.{given_with}
@@ -17,7 +17,7 @@ abbrev pub scrub_option_of : List ℕ → Option ScrubOption
 scrub_option_of word = if bytes_eq word (codes "--renumber") then Some Renumber else option_map (λ side. Patterns side) (side_of word)
 
 -- No options given.
-abbrev pub no_scrub_option : ScrubGiven
+abbrev pub no_scrub_option : ScrubSettings
 no_scrub_option = record { filter = nothing_given; renumber = None }
 
 -- The answer that a word gives.
@@ -29,17 +29,17 @@ yes_or_no word =
 
 -- The options with this one set to the next word; none if it was given before or the word is not a value of
 -- it.
-abbrev pub scrub_with : ScrubOption → List ℕ → ScrubGiven → Option ScrubGiven
+abbrev pub scrub_with : ScrubOption → List ℕ → ScrubSettings → Option ScrubSettings
 scrub_with (Patterns side) next g = option_map (λ h. record g { filter = h }) (given_with side next g.filter)
 scrub_with Renumber next g = if is_some g.renumber then None else option_map (λ b. record g { renumber = Some b }) (yes_or_no next)
 
 -- The order with these options, if the input and the output are the only words left. Without `--renumber` the
 -- keys of constants stay.
-abbrev pub scrub_named : ScrubGiven → List (List ℕ) → Option Order
+abbrev pub scrub_named : ScrubSettings → List (List ℕ) → Option Order
 scrub_named g words = option_map (λ names. Scrub g.filter (unwrap_or g.renumber false) names.0 names.1) (two_names words)
 
 -- The order of the words after `scrub`, with these options given so far: an option takes the next word,
 -- whatever it is, as its value; after the options come the names.
-abbrev pub scrub_from : ScrubGiven → List (List ℕ) → Option Order
+abbrev pub scrub_from : ScrubSettings → List (List ℕ) → Option Order
 scrub_from g (word ∷ next ∷ rest) = option_map_or (λ option. option_and_then (λ h. scrub_from h rest) (scrub_with option next g)) (scrub_option_of word) (scrub_named g (word ∷ next ∷ rest))
 scrub_from g words = scrub_named g words

@@ -4,18 +4,18 @@ ghost use Rattle.std.specs.Str.{chars};
 ghost use Rattle.jfr_words.specs.Filtered.{IsFiltered, side_of};
 
 use crate::WordsFault;
-use crate::left::{Left, Named};
 use crate::patterns::give_patterns;
+use crate::unread::{Named, UnreadWords};
 use jfr_filter::{Filter, Side};
 use std::alloc::Global;
 
 /// Reads the options of a filter.
-pub(crate) fn read_filter(alloc: Global, left: &mut Left<'_>) -> Result<Filter, WordsFault>
-    ensures { IsFiltered left.old result left.new }
+pub(crate) fn read_filter(alloc: Global, unread: &mut UnreadWords<'_>) -> Result<Filter, WordsFault>
+    ensures { IsFiltered unread.old result unread.new }
 {
     let mut filter = Filter::new(alloc);
-    'options: while let Some(side) = left.take_option() {
-        let list = left.next_word()?;
+    'options: while let Some(side) = unread.take_option() {
+        let list = unread.next_word()?;
         give_patterns(&mut filter, side, list)?;
     }
     Ok(filter)

@@ -5,7 +5,6 @@
 
 mod filter;
 pub mod laws;
-mod left;
 mod name;
 mod number;
 mod order;
@@ -15,6 +14,7 @@ mod sample;
 mod scrub;
 mod split;
 mod stacks;
+mod unread;
 mod words;
 
 pub use order::{Order, WordsFault};

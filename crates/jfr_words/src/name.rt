@@ -5,7 +5,7 @@ ghost use Rattle.jfr_words.specs.Names.{is_name, name_in, only_name, three_names
 ghost use Rattle.jfr_words.specs.Words.{IsRead};
 
 use crate::WordsFault;
-use crate::left::Left;
+use crate::unread::UnreadWords;
 use jfr_outside::Text;
 use std::alloc::Global;
 
@@ -30,21 +30,27 @@ pub(crate) fn read_name(alloc: Global, word: &str) -> Result<Text, WordsFault>
 }
 
 /// The name that is the only word left.
-pub(crate) fn read_only_name(alloc: Global, left: &mut Left<'_>) -> Result<Text, WordsFault>
-    ensures { IsRead (only_name left.old) result (λ name. name) }
+pub(crate) fn read_only_name(
+    alloc: Global,
+    unread: &mut UnreadWords<'_>,
+) -> Result<Text, WordsFault>
+    ensures { IsRead (only_name unread.old) result (λ name. name) }
 {
-    let word = left.next_word()?;
-    left.end()?;
+    let word = unread.next_word()?;
+    unread.end()?;
     read_name(alloc, word)
 }
 
 /// The two names that are the only words left.
-pub(crate) fn read_two_names(alloc: Global, left: &mut Left<'_>) -> Result<(Text, Text), WordsFault>
-    ensures { IsRead (two_names left.old) result (λ names. names) }
+pub(crate) fn read_two_names(
+    alloc: Global,
+    unread: &mut UnreadWords<'_>,
+) -> Result<(Text, Text), WordsFault>
+    ensures { IsRead (two_names unread.old) result (λ names. names) }
 {
-    let first = left.next_word()?;
-    let second = left.next_word()?;
-    left.end()?;
+    let first = unread.next_word()?;
+    let second = unread.next_word()?;
+    unread.end()?;
     let first = read_name(alloc, first)?;
     let second = read_name(alloc, second)?;
     Ok((first, second))
@@ -53,14 +59,14 @@ pub(crate) fn read_two_names(alloc: Global, left: &mut Left<'_>) -> Result<(Text
 /// The three names that are the only words left.
 pub(crate) fn read_three_names(
     alloc: Global,
-    left: &mut Left<'_>,
+    unread: &mut UnreadWords<'_>,
 ) -> Result<(Text, Text, Text), WordsFault>
-    ensures { IsRead (three_names left.old) result (λ names. names) }
+    ensures { IsRead (three_names unread.old) result (λ names. names) }
 {
-    let first = left.next_word()?;
-    let second = left.next_word()?;
-    let third = left.next_word()?;
-    left.end()?;
+    let first = unread.next_word()?;
+    let second = unread.next_word()?;
+    let third = unread.next_word()?;
+    unread.end()?;
     let first = read_name(alloc, first)?;
     let second = read_name(alloc, second)?;
     let third = read_name(alloc, third)?;

@@ -4,10 +4,10 @@ ghost use Rattle.std.specs.Str.{chars};
 ghost use Rattle.jfr_words.specs.Prints.{no_print_option, print_option_of, print_from, print_with};
 ghost use Rattle.jfr_words.specs.Words.{IsRead, StillGives};
 
-use crate::left::{Left, Named};
 use crate::name::read_only_name;
 use crate::number::read_number;
 use crate::patterns::give_patterns;
+use crate::unread::{Named, UnreadWords};
 use crate::{Order, WordsFault};
 use jfr_filter::{Filter, Side};
 use std::alloc::Global;
@@ -25,7 +25,7 @@ pub enum PrintOption {
 
 /// The options of `print` given so far.
 #[derive(Drop)]
-pub struct PrintGiven {
+pub struct PrintSettings {
     pub filter: Filter,
     pub depth: Option<u8>,
     pub json: bool,
@@ -38,14 +38,14 @@ const DEEPEST: u64 = 8;
 const USUAL_DEPTH: u8 = 2;
 
 /// Reads the options of `print` and the name after them.
-pub(crate) fn read_print(alloc: Global, left: &mut Left<'_>) -> Result<Order, WordsFault>
-    ensures { IsRead (print_from no_print_option left.old) result (λ order. order) }
+pub(crate) fn read_print(alloc: Global, unread: &mut UnreadWords<'_>) -> Result<Order, WordsFault>
+    ensures { IsRead (print_from no_print_option unread.old) result (λ order. order) }
 {
-    let mut given = PrintGiven::none(alloc);
-    'options: while let Some(option) = left.take_option() {
-        given.give(option, left)?;
+    let mut given = PrintSettings::none(alloc);
+    'options: while let Some(option) = unread.take_option() {
+        given.give(option, unread)?;
     }
-    let file = read_only_name(alloc, left)?;
+    let file = read_only_name(alloc, unread)?;
     Ok(Order::Print {
         filter: given.filter,
         depth: given.depth.unwrap_or(USUAL_DEPTH),
@@ -54,12 +54,12 @@ pub(crate) fn read_print(alloc: Global, left: &mut Left<'_>) -> Result<Order, Wo
     })
 }
 
-impl PrintGiven {
+impl PrintSettings {
     /// No options given.
-    fn none(alloc: Global) -> PrintGiven
+    fn none(alloc: Global) -> PrintSettings
         ensures { result ≡ no_print_option }
     {
-        PrintGiven {
+        PrintSettings {
             filter: Filter::new(alloc),
             depth: None,
             json: false,
@@ -67,13 +67,17 @@ impl PrintGiven {
     }
 
     /// Sets an option. Its value is the first word that is left; only `--json` has no value.
-    fn give(&mut self, option: PrintOption, left: &mut Left<'_>) -> Result<(), WordsFault>
-        ensures given { (word : List ℕ) → print_option_of word ≡ Some option → StillGives (print_from self.old (word ∷ left.old)) (print_from self.new left.new) result }
-        ensures fewer { OnOk result (length left.new ≤ length left.old) }
+    fn give(&mut self, option: PrintOption, unread: &mut UnreadWords<'_>) -> Result<(), WordsFault>
+        ensures given { (word : List ℕ) → print_option_of word ≡ Some option → StillGives (print_from self.old (word ∷ unread.old)) (print_from self.new unread.new) result }
+        ensures fewer { OnOk result (length unread.new ≤ length unread.old) }
     {
         match option {
-            PrintOption::Patterns(side) => give_patterns(&mut self.filter, side, left.next_word()?),
-            PrintOption::Depth => self.give_depth(left.next_word()?),
+            PrintOption::Patterns(side) => give_patterns(
+                &mut self.filter,
+                side,
+                unread.next_word()?,
+            ),
+            PrintOption::Depth => self.give_depth(unread.next_word()?),
             PrintOption::Json => self.give_json(),
         }
     }

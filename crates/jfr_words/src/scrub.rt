@@ -5,9 +5,9 @@ ghost use Rattle.jfr_words.specs.Scrubs.{no_scrub_option, scrub_from, scrub_with
 ghost use Rattle.jfr_words.specs.Words.{IsRead};
 
 use crate::filter::side_of;
-use crate::left::{Left, Named};
 use crate::name::read_two_names;
 use crate::patterns::give_patterns;
+use crate::unread::{Named, UnreadWords};
 use crate::{Order, WordsFault};
 use jfr_filter::{Filter, Side};
 use std::alloc::Global;
@@ -23,21 +23,21 @@ pub enum ScrubOption {
 
 /// The options of `scrub` given so far.
 #[derive(Drop)]
-pub struct ScrubGiven {
+pub struct ScrubSettings {
     pub filter: Filter,
     pub renumber: Option<bool>,
 }
 
 /// Reads the options of `scrub` and the names after them.
-pub(crate) fn read_scrub(alloc: Global, left: &mut Left<'_>) -> Result<Order, WordsFault>
-    ensures { IsRead (scrub_from no_scrub_option left.old) result (λ order. order) }
+pub(crate) fn read_scrub(alloc: Global, unread: &mut UnreadWords<'_>) -> Result<Order, WordsFault>
+    ensures { IsRead (scrub_from no_scrub_option unread.old) result (λ order. order) }
 {
-    let mut given = ScrubGiven::none(alloc);
-    'options: while let Some(option) = left.take_option() {
-        let value = left.next_word()?;
+    let mut given = ScrubSettings::none(alloc);
+    'options: while let Some(option) = unread.take_option() {
+        let value = unread.next_word()?;
         given.give(option, value)?;
     }
-    let (input, output) = read_two_names(alloc, left)?;
+    let (input, output) = read_two_names(alloc, unread)?;
     Ok(Order::Scrub {
         filter: given.filter,
         renumber: given.renumber.unwrap_or(false),
@@ -46,12 +46,12 @@ pub(crate) fn read_scrub(alloc: Global, left: &mut Left<'_>) -> Result<Order, Wo
     })
 }
 
-impl ScrubGiven {
+impl ScrubSettings {
     /// No options given.
-    fn none(alloc: Global) -> ScrubGiven
+    fn none(alloc: Global) -> ScrubSettings
         ensures { result ≡ no_scrub_option }
     {
-        ScrubGiven {
+        ScrubSettings {
             filter: Filter::new(alloc),
             renumber: None,
         }

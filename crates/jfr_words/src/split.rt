@@ -4,9 +4,9 @@ ghost use Rattle.std.specs.Str.{chars};
 ghost use Rattle.jfr_words.specs.Splits.{no_split_option, split_with, split_from, split_rule, is_split_given};
 ghost use Rattle.jfr_words.specs.Words.{IsRead};
 
-use crate::left::{Left, Named};
 use crate::name::{read_name, read_only_name};
 use crate::number::read_number;
+use crate::unread::{Named, UnreadWords};
 use crate::{Order, WordsFault};
 use jfr_outside::Text;
 use jfr_split::SplitRule;
@@ -25,7 +25,7 @@ pub enum SplitOption {
 
 /// The options of `disassemble` given so far.
 #[derive(Drop)]
-pub struct SplitGiven {
+pub struct SplitSettings {
     pub folder: Option<Text>,
     pub max_chunks: Option<u64>,
     pub max_size: Option<u64>,
@@ -44,27 +44,27 @@ const MOST_BYTES: u64 = 1 << 40;
 const MOST_PARTS: u64 = 999_999;
 
 /// Reads the options of `disassemble` and the name after them.
-pub(crate) fn read_split(alloc: Global, left: &mut Left<'_>) -> Result<Order, WordsFault>
-    ensures { IsRead (split_from no_split_option left.old) result (λ order. order) }
+pub(crate) fn read_split(alloc: Global, unread: &mut UnreadWords<'_>) -> Result<Order, WordsFault>
+    ensures { IsRead (split_from no_split_option unread.old) result (λ order. order) }
 {
-    let mut given = SplitGiven::none();
-    'options: while let Some(option) = left.take_option() {
-        let value = left.next_word()?;
+    let mut given = SplitSettings::none();
+    'options: while let Some(option) = unread.take_option() {
+        let value = unread.next_word()?;
         given.give(alloc, option, value)?;
     }
-    let file = read_only_name(alloc, left)?;
+    let file = read_only_name(alloc, unread)?;
     Ok(Order::Disassemble {
         file,
         rule: given.rule(),
     })
 }
 
-impl SplitGiven {
+impl SplitSettings {
     /// No options given.
-    fn none() -> SplitGiven
+    fn none() -> SplitSettings
         ensures { result ≡ no_split_option }
     {
-        SplitGiven {
+        SplitSettings {
             folder: None,
             max_chunks: None,
             max_size: None,

@@ -4,9 +4,9 @@ ghost use Rattle.jfr_filter.specs.Filters.{nothing_given};
 ghost use Rattle.jfr_words.specs.Stacks.{stacks_from, stacks_side};
 ghost use Rattle.jfr_words.specs.Words.{IsRead};
 
-use crate::left::{Left, Named};
 use crate::name::read_only_name;
 use crate::patterns::give_patterns;
+use crate::unread::{Named, UnreadWords};
 use crate::{Order, WordsFault};
 use jfr_filter::{Filter, Side};
 use std::alloc::Global;
@@ -33,15 +33,15 @@ impl StacksOption {
 }
 
 /// Reads the options of `stacks` and the name after them.
-pub(crate) fn read_stacks(alloc: Global, left: &mut Left<'_>) -> Result<Order, WordsFault>
-    ensures { IsRead (stacks_from nothing_given left.old) result (λ order. order) }
+pub(crate) fn read_stacks(alloc: Global, unread: &mut UnreadWords<'_>) -> Result<Order, WordsFault>
+    ensures { IsRead (stacks_from nothing_given unread.old) result (λ order. order) }
 {
     let mut filter = Filter::new(alloc);
-    'options: while let Some(option) = left.take_option::<StacksOption>() {
-        let list = left.next_word()?;
+    'options: while let Some(option) = unread.take_option::<StacksOption>() {
+        let list = unread.next_word()?;
         give_patterns(&mut filter, option.side(), list)?;
     }
-    let file = read_only_name(alloc, left)?;
+    let file = read_only_name(alloc, unread)?;
     Ok(Order::Stacks { filter, file })
 }
 

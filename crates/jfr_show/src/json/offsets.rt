@@ -1,7 +1,7 @@
 //! Where the fields of a value start.
 ghost use Rattle.std.specs.Prelude.{◌≡◌, ℕ, ◌≤◌, ◌<◌, length, IfOk};
 ghost use Rattle.jfr_layout.specs.Classes.{IsFieldLayout, Sound};
-ghost use Rattle.jfr_value.specs.Nodes.{EndsAt, IsRow};
+ghost use Rattle.jfr_value.specs.Nodes.{EndsAt, AreValues};
 ghost use Rattle.jfr_value.specs.Values.{Values};
 ghost use Rattle.jfr_value.specs.Visits.{field_shapes};
 ghost use Rattle.jfr_show.specs.Orders.{AreOffsets};
@@ -30,9 +30,9 @@ pub(crate) fn field_offsets(
 ) -> Result<FieldOffsets, NoMemory>
     requires sound { Sound chunk.now.classes }
     requires placed { class_index < length chunk.now.classes }
-    requires stand { (to : ℕ) × (vs : Values) × IsRow chunk.now.classes chunk.now.bytes at to (field_shapes chunk.now.classes class_index) vs }
+    requires valid { (to : ℕ) × (vs : Values) × AreValues chunk.now.classes chunk.now.bytes at to (field_shapes chunk.now.classes class_index) vs }
     ensures class { IfOk result (λ offsets. offsets.class_index ≡ class_index) }
-    ensures ok { IfOk result (λ offsets. (to : ℕ) (vs : Values) → IsRow chunk.now.classes chunk.now.bytes at to (field_shapes chunk.now.classes class_index) vs → AreOffsets offsets at to vs) }
+    ensures ok { IfOk result (λ offsets. (to : ℕ) (vs : Values) → AreValues chunk.now.classes chunk.now.bytes at to (field_shapes chunk.now.classes class_index) vs → AreOffsets offsets at to vs) }
 {
     let layouts = chunk.classes().layouts(class_index);
     let mut starts = Vec::with_capacity(alloc, layouts.len())?;
@@ -55,7 +55,7 @@ fn end_at(chunk: &Chunk<'_>, layout: &FieldLayout, at: usize, limit: usize) -> u
     requires sound { Sound chunk.now.classes }
     requires layout { IsFieldLayout chunk.now.classes layout.now }
     requires within { at ≤ length chunk.now.bytes }
-    requires stands { (to : ℕ) × EndsAt chunk.now.classes chunk.now.bytes layout.now.shape at to }
+    requires holds { (to : ℕ) × EndsAt chunk.now.classes chunk.now.bytes layout.now.shape at to }
     ensures { (to : ℕ) → EndsAt chunk.now.classes chunk.now.bytes layout.now.shape at to → result ≡ to }
 {
     match layout.form {
@@ -77,7 +77,7 @@ fn other_end(chunk: &Chunk<'_>, layout: &FieldLayout, at: usize) -> usize
     requires sound { Sound chunk.now.classes }
     requires layout { IsFieldLayout chunk.now.classes layout.now }
     requires within { at ≤ length chunk.now.bytes }
-    requires stands { (to : ℕ) × EndsAt chunk.now.classes chunk.now.bytes layout.now.shape at to }
+    requires holds { (to : ℕ) × EndsAt chunk.now.classes chunk.now.bytes layout.now.shape at to }
     ensures { (to : ℕ) → EndsAt chunk.now.classes chunk.now.bytes layout.now.shape at to → result ≡ to }
 {
     let bytes = chunk.bytes();

@@ -4,10 +4,10 @@ ghost use Rattle.std.specs.List.{AllByRecursion};
 ghost use Rattle.serde_json.specs.Data.{no_members, object};
 ghost use Rattle.serde_json.specs.Written.{comma_if, compact_text};
 ghost use Rattle.jfr_layout.specs.Classes.{Class};
-ghost use Rattle.jfr_value.specs.Nodes.{EndsAt, IsNode, IsRow, IsValue, node_at, node_of};
+ghost use Rattle.jfr_value.specs.Nodes.{EndsAt, IsNode, AreValues, IsValue, node_at, node_of};
 ghost use Rattle.jfr_value.specs.Values as tree;
 ghost use Rattle.jfr_value.specs.Visits.{field_shapes};
-ghost use Rattle.jfr_value.specs.Walks.{IsLayoutIfKnown, Room};
+ghost use Rattle.jfr_value.specs.Walks.{IsLayoutIfKnown, DepthBound};
 ghost use Rattle.jfr_show.specs.CachedJson.{AreCachedJson};
 ghost use Rattle.jfr_show.specs.Json.{json_of, json_of_all, members_with, node_json, referred_json};
 ghost use Rattle.jfr_show.specs.Orders.{AreOffsets, IsOrderAt, IsSource};
@@ -57,8 +57,8 @@ fn push_value(
     requires source { IsSource source.now }
     requires cached { AreCachedJson source.now.chunk.now cache.old }
     requires layout { IsLayoutIfKnown source.now.chunk.now.classes layout.now }
-    requires room { Room source.now.chunk.now.classes source.now.reach.composites layout.now.shape }
-    requires stands { (to : ℕ) × EndsAt source.now.chunk.now.classes source.now.chunk.now.bytes layout.now.shape at to }
+    requires depth { DepthBound source.now.chunk.now.classes source.now.reach.composites layout.now.shape }
+    requires holds { (to : ℕ) × EndsAt source.now.chunk.now.classes source.now.chunk.now.bytes layout.now.shape at to }
     requires composites { source.now.reach.composites ≤ 33 }
     ensures ok { IfOk result (λ end. (to : ℕ) (v : tree.Value) → IsNode source.now.chunk.now.classes source.now.chunk.now.bytes (node_at layout.now.shape at to) v
         → (end ≡ to) × (string_bytes out.new ≡ string_bytes out.old ++ compact_text (json_of source.now.chunk.now.classes (referred_json source.now.chunk.now source.now.reach.references) v))) }
@@ -109,10 +109,10 @@ fn push_fields(
     requires cached { AreCachedJson source.now.chunk.now cache.old }
     requires placed { class_index < length source.now.chunk.now.classes }
     requires inner { 1 ≤ source.now.reach.composites }
-    requires room { AllByRecursion (Room source.now.chunk.now.classes (source.now.reach.composites - 1)) (field_shapes source.now.chunk.now.classes class_index) }
-    requires stand { (to : ℕ) × (vs : tree.Values) × IsRow source.now.chunk.now.classes source.now.chunk.now.bytes at to (field_shapes source.now.chunk.now.classes class_index) vs }
+    requires depth { AllByRecursion (DepthBound source.now.chunk.now.classes (source.now.reach.composites - 1)) (field_shapes source.now.chunk.now.classes class_index) }
+    requires valid { (to : ℕ) × (vs : tree.Values) × AreValues source.now.chunk.now.classes source.now.chunk.now.bytes at to (field_shapes source.now.chunk.now.classes class_index) vs }
     requires composites { source.now.reach.composites ≤ 33 }
-    ensures ok { IfOk result (λ end. (to : ℕ) (vs : tree.Values) (class : Class) → IsRow source.now.chunk.now.classes source.now.chunk.now.bytes at to (field_shapes source.now.chunk.now.classes class_index) vs
+    ensures ok { IfOk result (λ end. (to : ℕ) (vs : tree.Values) (class : Class) → AreValues source.now.chunk.now.classes source.now.chunk.now.bytes at to (field_shapes source.now.chunk.now.classes class_index) vs
         → slice_get source.now.chunk.now.classes class_index ≡ Some class → (end ≡ to) × (string_bytes out.new ≡ string_bytes out.old ++ compact_text (object (members_with no_members class.fields (json_of_all source.now.chunk.now.classes (referred_json source.now.chunk.now source.now.reach.references) vs))))) }
     ensures cached { AreCachedJson source.now.chunk.now cache.new }
 {
@@ -132,10 +132,10 @@ fn push_object(
     requires cached { AreCachedJson source.now.chunk.now cache.old }
     requires placed { offsets.now.class_index < length source.now.chunk.now.classes }
     requires inner { 1 ≤ source.now.reach.composites }
-    requires room { AllByRecursion (Room source.now.chunk.now.classes (source.now.reach.composites - 1)) (field_shapes source.now.chunk.now.classes offsets.now.class_index) }
-    requires stand { (at : ℕ) × (to : ℕ) × (vs : tree.Values) × IsRow source.now.chunk.now.classes source.now.chunk.now.bytes at to (field_shapes source.now.chunk.now.classes offsets.now.class_index) vs × AreOffsets offsets.now at to vs }
+    requires depth { AllByRecursion (DepthBound source.now.chunk.now.classes (source.now.reach.composites - 1)) (field_shapes source.now.chunk.now.classes offsets.now.class_index) }
+    requires valid { (at : ℕ) × (to : ℕ) × (vs : tree.Values) × AreValues source.now.chunk.now.classes source.now.chunk.now.bytes at to (field_shapes source.now.chunk.now.classes offsets.now.class_index) vs × AreOffsets offsets.now at to vs }
     requires composites { source.now.reach.composites ≤ 33 }
-    ensures ok { IfOk result (λ end. (at to : ℕ) (vs : tree.Values) (class : Class) → IsRow source.now.chunk.now.classes source.now.chunk.now.bytes at to (field_shapes source.now.chunk.now.classes offsets.now.class_index) vs → AreOffsets offsets.now at to vs
+    ensures ok { IfOk result (λ end. (at to : ℕ) (vs : tree.Values) (class : Class) → AreValues source.now.chunk.now.classes source.now.chunk.now.bytes at to (field_shapes source.now.chunk.now.classes offsets.now.class_index) vs → AreOffsets offsets.now at to vs
         → slice_get source.now.chunk.now.classes offsets.now.class_index ≡ Some class → (end ≡ to) × (string_bytes out.new ≡ string_bytes out.old ++ compact_text (object (members_with no_members class.fields (json_of_all source.now.chunk.now.classes (referred_json source.now.chunk.now source.now.reach.references) vs))))) }
     ensures cached { AreCachedJson source.now.chunk.now cache.new }
 {
@@ -163,10 +163,10 @@ fn push_members(
     requires order { IsOrderAt source.now.chunk.now.classes offsets.now.class_index order.now }
     requires placed { offsets.now.class_index < length source.now.chunk.now.classes }
     requires inner { 1 ≤ source.now.reach.composites }
-    requires room { AllByRecursion (Room source.now.chunk.now.classes (source.now.reach.composites - 1)) (field_shapes source.now.chunk.now.classes offsets.now.class_index) }
-    requires stand { (at : ℕ) × (to : ℕ) × (vs : tree.Values) × IsRow source.now.chunk.now.classes source.now.chunk.now.bytes at to (field_shapes source.now.chunk.now.classes offsets.now.class_index) vs × AreOffsets offsets.now at to vs }
+    requires depth { AllByRecursion (DepthBound source.now.chunk.now.classes (source.now.reach.composites - 1)) (field_shapes source.now.chunk.now.classes offsets.now.class_index) }
+    requires valid { (at : ℕ) × (to : ℕ) × (vs : tree.Values) × AreValues source.now.chunk.now.classes source.now.chunk.now.bytes at to (field_shapes source.now.chunk.now.classes offsets.now.class_index) vs × AreOffsets offsets.now at to vs }
     requires composites { source.now.reach.composites ≤ 33 }
-    ensures ok { IfOk result (λ end. (at to : ℕ) (vs : tree.Values) (class : Class) → IsRow source.now.chunk.now.classes source.now.chunk.now.bytes at to (field_shapes source.now.chunk.now.classes offsets.now.class_index) vs → AreOffsets offsets.now at to vs
+    ensures ok { IfOk result (λ end. (at to : ℕ) (vs : tree.Values) (class : Class) → AreValues source.now.chunk.now.classes source.now.chunk.now.bytes at to (field_shapes source.now.chunk.now.classes offsets.now.class_index) vs → AreOffsets offsets.now at to vs
         → slice_get source.now.chunk.now.classes offsets.now.class_index ≡ Some class → (end ≡ to) × (string_bytes out.new ≡ string_bytes out.old ++ compact_text (object (members_with no_members class.fields (json_of_all source.now.chunk.now.classes (referred_json source.now.chunk.now source.now.reach.references) vs))))) }
     ensures cached { AreCachedJson source.now.chunk.now cache.new }
 {
@@ -199,8 +199,8 @@ fn push_items(
     requires cached { AreCachedJson source.now.chunk.now cache.old }
     requires array { layout.now.shape.array ≡ true }
     requires layout { IsLayoutIfKnown source.now.chunk.now.classes layout.now }
-    requires room { Room source.now.chunk.now.classes source.now.reach.composites layout.now.shape }
-    requires stands { (to : ℕ) × EndsAt source.now.chunk.now.classes source.now.chunk.now.bytes layout.now.shape at to }
+    requires depth { DepthBound source.now.chunk.now.classes source.now.reach.composites layout.now.shape }
+    requires holds { (to : ℕ) × EndsAt source.now.chunk.now.classes source.now.chunk.now.bytes layout.now.shape at to }
     requires composites { source.now.reach.composites ≤ 33 }
     ensures ok { IfOk result (λ end. (to : ℕ) (v : tree.Value) → IsNode source.now.chunk.now.classes source.now.chunk.now.bytes (node_at layout.now.shape at to) v
         → (end ≡ to) × (string_bytes out.new ≡ string_bytes out.old ++ compact_text (json_of source.now.chunk.now.classes (referred_json source.now.chunk.now source.now.reach.references) v))) }

@@ -13,8 +13,8 @@ returns-in-Ok-clause-built g c =
     let d = g.P.Place.state c.write_file.new.place in
     let out = c.args.out.now in
     let r = c.write_file.result in
-    let wrote = subst (λ (x : List ℕ). PlaceLeaves (writes out x) r b d) c.deref.ensures.value c.write_file.ensures.told in
-    λ e. chunk_built c.args.text.now out a c.in-Ok.chunk r b d c.in-Ok.ensures.told c.in-Ok.ensures.counts wrote c.write_file.ensures.counts built_accepted (sym c.of_write.ensures ∙ e)
+    let wrote = subst (λ (x : List ℕ). PlaceLeaves (writes out x) r b d) c.deref.ensures.value c.write_file.ensures.contents in
+    λ e. chunk_built c.args.text.now out a c.in-Ok.chunk r b d c.in-Ok.ensures.contents c.in-Ok.ensures.counts wrote c.write_file.ensures.counts built_accepted (sym c.of_write.ensures ∙ e)
 
 pub returns-in-Ok-clause-each : goal.returns-in-Ok-clause-each
 returns-in-Ok-clause-each g c = built_accepted
@@ -26,8 +26,8 @@ returns-in-Ok-clause-ran g c =
     let d = g.P.Place.state c.write_file.new.place in
     let out = c.args.out.now in
     let r = c.write_file.result in
-    let wrote = subst (λ (x : List ℕ). PlaceLeaves (writes out x) r b d) c.deref.ensures.value c.write_file.ensures.told in
-    rw c.of_write.ensures (chunk_ran c.args.text.now out a c.in-Ok.chunk r b d c.in-Ok.ensures.told c.in-Ok.ensures.counts wrote c.write_file.ensures.counts)
+    let wrote = subst (λ (x : List ℕ). PlaceLeaves (writes out x) r b d) c.deref.ensures.value c.write_file.ensures.contents in
+    rw c.of_write.ensures (chunk_ran c.args.text.now out a c.in-Ok.chunk r b d c.in-Ok.ensures.contents c.in-Ok.ensures.counts wrote c.write_file.ensures.counts)
 
 pub returns-in-Ok-clause-complete : goal.returns-in-Ok-clause-complete
 returns-in-Ok-clause-complete g c =
@@ -36,8 +36,8 @@ returns-in-Ok-clause-complete g c =
     let d = g.P.Place.state c.write_file.new.place in
     let out = c.args.out.now in
     let r = c.write_file.result in
-    let wrote = subst (λ (x : List ℕ). PlaceLeaves (writes out x) r b d) c.deref.ensures.value c.write_file.ensures.told in
-    λ no_read no_write. rw c.of_write.ensures (chunk_decided c.args.text.now out a c.in-Ok.chunk r b d c.in-Ok.ensures.told c.in-Ok.ensures.counts wrote c.write_file.ensures.counts no_write)
+    let wrote = subst (λ (x : List ℕ). PlaceLeaves (writes out x) r b d) c.deref.ensures.value c.write_file.ensures.contents in
+    λ no_read no_write. rw c.of_write.ensures (chunk_decided c.args.text.now out a c.in-Ok.chunk r b d c.in-Ok.ensures.contents c.in-Ok.ensures.counts wrote c.write_file.ensures.counts no_write)
 
 pub returns-in-Ok-clause-can_read : goal.returns-in-Ok-clause-can_read
 returns-in-Ok-clause-can_read g c =
@@ -46,8 +46,8 @@ returns-in-Ok-clause-can_read g c =
     let d = g.P.Place.state c.write_file.new.place in
     let out = c.args.out.now in
     let r = c.write_file.result in
-    let wrote = subst (λ (x : List ℕ). PlaceLeaves (writes out x) r b d) c.deref.ensures.value c.write_file.ensures.told in
-    λ can. rw c.of_write.ensures (chunk_reads c.args.text.now out a c.in-Ok.chunk r b d c.in-Ok.ensures.told c.in-Ok.ensures.counts wrote c.write_file.ensures.counts)
+    let wrote = subst (λ (x : List ℕ). PlaceLeaves (writes out x) r b d) c.deref.ensures.value c.write_file.ensures.contents in
+    λ can. rw c.of_write.ensures (chunk_reads c.args.text.now out a c.in-Ok.chunk r b d c.in-Ok.ensures.contents c.in-Ok.ensures.counts wrote c.write_file.ensures.counts)
 
 pub returns-in-Ok-clause-can_create : goal.returns-in-Ok-clause-can_create
 returns-in-Ok-clause-can_create g c =
@@ -56,12 +56,12 @@ returns-in-Ok-clause-can_create g c =
     let d = g.P.Place.state c.write_file.new.place in
     let out = c.args.out.now in
     let r = c.write_file.result in
-    let wrote = subst (λ (x : List ℕ). PlaceLeaves (writes out x) r b d) c.deref.ensures.value c.write_file.ensures.told in
-    λ can. rw c.of_write.ensures (chunk_writes c.args.text.now out a c.in-Ok.chunk r b d c.in-Ok.ensures.told c.in-Ok.ensures.counts wrote c.write_file.ensures.counts can)
+    let wrote = subst (λ (x : List ℕ). PlaceLeaves (writes out x) r b d) c.deref.ensures.value c.write_file.ensures.contents in
+    λ can. rw c.of_write.ensures (chunk_writes c.args.text.now out a c.in-Ok.chunk r b d c.in-Ok.ensures.contents c.in-Ok.ensures.counts wrote c.write_file.ensures.counts can)
 
 pub returns-in-Err-clause-each : goal.returns-in-Err-clause-each
 returns-in-Err-clause-each g c = built_accepted
 
 pub returns-in-Err-clause-complete : goal.returns-in-Err-clause-complete
 returns-in-Err-clause-complete g c = λ no_read no_write.
-    text_decided c.args.text.now c.args.out.now (g.P.Place.state c.args.place.now) (g.P.Place.state c.build_file.new.place) c.in-Err.ending c.in-Err.ensures.told c.in-Err.ensures.counts no_read
+    text_decided c.args.text.now c.args.out.now (g.P.Place.state c.args.place.now) (g.P.Place.state c.build_file.new.place) c.in-Err.ending c.in-Err.ensures.contents c.in-Err.ensures.counts no_read

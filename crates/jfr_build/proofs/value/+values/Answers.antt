@@ -5,9 +5,9 @@ use Rattle.std.specs.List.{AllByRecursion}
 use Rattle.jfr_layout.specs.Classes.{IsFieldLayout, item_of}
 use Rattle.jfr_layout.specs.declared.field_layout.FieldLayout.{FieldLayout}
 use Rattle.jfr_value.specs.Values.{Value}
-use Rattle.jfr_value.specs.Walks.{Room}
+use Rattle.jfr_value.specs.Walks.{DepthBound}
 use Rattle.jfr_value.proofs.EndLaws.{layouts_there}
-use Rattle.jfr_value.proofs.LayoutEnds.{fields_there, room_left, room_within}
+use Rattle.jfr_value.proofs.LayoutEnds.{fields_there, depth_remains, depth_within}
 use Rattle.jfr_value.proofs.LayoutLaws.{no_layout, layout_there}
 use Rattle.jfr_build.specs.Taking.{Taker, class_taken, shape_taken, times_taken}
 use Rattle.jfr_build.specs.Writing.{Writes, wrote, wrote_all}
@@ -48,15 +48,15 @@ push_fields-loop-layout-preserved t c =
 
 pub push_layout-push_fields-requires : goal.push_layout-push_fields-requires
 push_layout-push_fields-requires t c =
-    let left = room_left c.args.classes.now c.args.layout.now c.args.levels [] 0 0 c.requires.placed c.in-Fields.is c.requires.room in
+    let left = depth_remains c.args.classes.now c.args.layout.now c.args.levels [] 0 0 c.requires.placed c.in-Fields.is c.requires.depth in
     let there = fields_there c.args.classes.now c.args.layout.now c.args.levels [] 0 0 c.requires.placed c.in-Fields.is in
     let layouts : AllByRecursion (IsFieldLayout c.args.classes.now) c.layouts-fields.result.now = layouts_there c.args.classes.now c.args.layout.now c.layouts-fields.result.now there.of_class c.layouts-fields.ensures.exact in
-    let room : AllByRecursion (λ s. Room c.args.classes.now (c.args.levels - 1) s.shape) c.layouts-fields.result.now = room_within c.args.classes.now c.args.layout.now c.args.levels c.layouts-fields.result.now c.requires.placed c.in-Fields.is c.requires.room c.layouts-fields.ensures.exact in
-    search (rules, layouts, room, left)
+    let depth : AllByRecursion (λ s. DepthBound c.args.classes.now (c.args.levels - 1) s.shape) c.layouts-fields.result.now = depth_within c.args.classes.now c.args.layout.now c.args.levels c.layouts-fields.result.now c.requires.placed c.in-Fields.is c.requires.depth c.layouts-fields.ensures.exact in
+    search (rules, layouts, depth, left)
 
 pub push_layout-returns-in-Fields : goal.push_layout-returns-in-Fields
 push_layout-returns-in-Fields t c =
-    let e = fields_written c.args.classes.now c.args.layout.now c.args.levels c.args.words.now c.args.out.now c.requires.placed c.layouts-fields.result.now c.in-Fields.is c.requires.room c.layouts-fields.ensures.exact in
+    let e = fields_written c.args.classes.now c.args.layout.now c.args.levels c.args.words.now c.args.out.now c.requires.placed c.layouts-fields.result.now c.in-Fields.is c.requires.depth c.layouts-fields.ensures.exact in
     record { exact = subst (λ z. Writes z c.push_fields.result c.push_fields.new.out c.push_fields.new.words) e c.push_fields.ensures.exact }
 
 pub push_layout-returns-in-Integer : goal.push_layout-returns-in-Integer

@@ -2,8 +2,8 @@ use Rattle.jfr_value.proofs.DepthLaws.{sound_inline}
 use Rattle.jfr_build.specs.Taking.{value_taken}
 use Rattle.jfr_build.proofs.value.push_value.Goals as goal
 
-pub push_layout-requires-clause-room : goal.push_layout-requires-clause-room
-push_layout-requires-clause-room c = λ o d q m. sound_inline c.args.classes.now c.args.layout.now.shape.class d c.len-count.ensures.sound q
+pub push_layout-requires-clause-depth : goal.push_layout-requires-clause-depth
+push_layout-requires-clause-depth c = λ o d q m. sound_inline c.args.classes.now c.args.layout.now.shape.class d c.len-count.ensures.sound q
 
 pub returns : goal.returns
 unfolding value_taken

@@ -1,6 +1,6 @@
 use Rattle.std.proofs.Common.{◌∙◌, ap, subst}
 use Rattle.std.specs.Prelude.{IfOk}
-use Rattle.jfr_base.specs.Formats.{run, seen}
+use Rattle.jfr_base.specs.Formats.{run, end_or_flaw}
 use Rattle.jfr_frame.specs.Records.{record_end}
 use Rattle.jfr_value.specs.Nodes.{node_at, targets}
 use Rattle.jfr_value.specs.Reading.{value_format}
@@ -10,7 +10,7 @@ use Rattle.jfr_chunk.proofs.RefLaws.{all_refs}
 use Rattle.jfr_chunk.proofs.read.fields_end.Goals as goal
 
 pub returns-clause-exact : goal.returns-clause-exact
-returns-clause-exact c = (rw c.end.ensures at c.end_visiting.ensures.exact) ∙ ap (λ s. seen (run (value_format c.args.reader.classes.now s) c.args.reader.chunk.now (record_end c.args.frame) c.args.frame.body)) c.requires.event.shape
+returns-clause-exact c = (rw c.end.ensures at c.end_visiting.ensures.exact) ∙ ap (λ s. end_or_flaw (run (value_format c.args.reader.classes.now s) c.args.reader.chunk.now (record_end c.args.frame) c.args.frame.body)) c.requires.event.shape
 
 pub returns-clause-refs_end : goal.returns-clause-refs_end
 returns-clause-refs_end c =

@@ -3,12 +3,12 @@ use Rattle.jfr_plan.specs.Effects.{Outside, outside}
 use Rattle.jfr_scrub.proofs.AgainLaws.{is_scrubbed}
 use Rattle.jfr_renumber.proofs.HeadlineLaws.{is_output}
 use Rattle.jfr_receipt.proofs.ReceiptLaws.{is_receipted}
-use Rattle.jfr_cli.proofs.Clauses.{Answers, answers_by, only_parts, text_writes, usage_told, usage_only, untouched, headline_told, done_told, refused_told, halted_told, broken_told, parts_told, memory_told, memory_said, statuses, no_read_passed, no_write_passed, no_text_passed, one_count, complete, can_read, can_create, sink_told, place_told, same_told, doubted_told, renumbered_told, verified_told, scrubs_told, built_told, unbuilt_told}
+use Rattle.jfr_cli.proofs.Clauses.{Answers, answers_by, only_parts, text_writes, usage_told, usage_only, untouched, headline_told, done_told, refused_told, halted_told, broken_told, parts_told, memory_told, memory_line_written, statuses, no_read_passed, no_write_passed, no_text_passed, one_count, complete, can_read, can_create, sink_told, place_told, same_told, doubted_told, renumbered_told, verified_told, scrubs_told, built_told, unbuilt_told}
 use Rattle.jfr_cli.proofs.top.run.Given.{Over}
 use Rattle.jfr_cli.proofs.top.run.Goals as goal
 
-answered : (g : Over) (c : goal.After-say_answer g) → Answers c.args.words.now c.say_answer.result (outside (g.P.Place.state c.args.place.now) (g.O.Sink.state c.args.out.now)) (outside (g.P.Place.state c.obey-answer.new.place) (g.O.Sink.state c.obey-answer.new.out)) (g.E.Sink.state c.args.err.now) (g.E.Sink.state c.say_answer.new.err)
-answered g c = answers_by c.args.words.now c.obey-answer.result c.say_answer.result _ _ _ _ c.obey-answer.ensures c.say_answer.ensures
+answered : (g : Over) (c : goal.After-write_answer g) → Answers c.args.words.now c.write_answer.result (outside (g.P.Place.state c.args.place.now) (g.O.Sink.state c.args.out.now)) (outside (g.P.Place.state c.obey-answer.new.place) (g.O.Sink.state c.obey-answer.new.out)) (g.E.Sink.state c.args.err.now) (g.E.Sink.state c.write_answer.new.err)
+answered g c = answers_by c.args.words.now c.obey-answer.result c.write_answer.result _ _ _ _ c.obey-answer.ensures c.write_answer.ensures
 
 pub returns-clause-usage : goal.returns-clause-usage
 returns-clause-usage g c = usage_told (answered g c)
@@ -64,20 +64,20 @@ returns-clause-refused g c = refused_told (answered g c)
 pub returns-clause-halted : goal.returns-clause-halted
 returns-clause-halted g c = λ h. (halted_told (answered g c) h).0
 
-pub returns-clause-halted_said : goal.returns-clause-halted_said
-returns-clause-halted_said g c = λ h. (halted_told (answered g c) h).1
+pub returns-clause-halted_line_written : goal.returns-clause-halted_line_written
+returns-clause-halted_line_written g c = λ h. (halted_told (answered g c) h).1
 
 pub returns-clause-broken : goal.returns-clause-broken
 returns-clause-broken g c = λ h. (broken_told (answered g c) h).0
 
-pub returns-clause-broken_said : goal.returns-clause-broken_said
-returns-clause-broken_said g c = λ h. (broken_told (answered g c) h).1
+pub returns-clause-broken_line_written : goal.returns-clause-broken_line_written
+returns-clause-broken_line_written g c = λ h. (broken_told (answered g c) h).1
 
 pub returns-clause-too_many : goal.returns-clause-too_many
 returns-clause-too_many g c = λ h. (parts_told (answered g c) h).0
 
-pub returns-clause-too_many_said : goal.returns-clause-too_many_said
-returns-clause-too_many_said g c = λ h. (parts_told (answered g c) h).1
+pub returns-clause-too_many_line_written : goal.returns-clause-too_many_line_written
+returns-clause-too_many_line_written g c = λ h. (parts_told (answered g c) h).1
 
 pub returns-clause-parts : goal.returns-clause-parts
 returns-clause-parts g c = only_parts (answered g c)
@@ -85,8 +85,8 @@ returns-clause-parts g c = only_parts (answered g c)
 pub returns-clause-memory : goal.returns-clause-memory
 returns-clause-memory g c = memory_told (answered g c)
 
-pub returns-clause-memory_said : goal.returns-clause-memory_said
-returns-clause-memory_said g c = memory_said (answered g c)
+pub returns-clause-memory_line_written : goal.returns-clause-memory_line_written
+returns-clause-memory_line_written g c = memory_line_written (answered g c)
 
 pub returns-clause-statuses : goal.returns-clause-statuses
 returns-clause-statuses g c = statuses (answered g c)

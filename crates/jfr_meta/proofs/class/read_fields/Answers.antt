@@ -2,7 +2,7 @@ use Rattle.std.proofs.Common.{arith}
 use Rattle.std.proofs.lemmas.Result.{err_from_is_err_and}
 use Rattle.jfr_meta.specs.Described.{field_of, field_flaws, field_elements}
 use Rattle.jfr_meta.proofs.NameLaws.{numbered, numbers_push}
-use Rattle.jfr_meta.proofs.Judging.{behind_ref, judging_next, judging_err, judging_end, refs_end}
+use Rattle.jfr_meta.proofs.Judging.{after_ref, judging_next, judging_err, judging_end, refs_end}
 use Rattle.jfr_meta.proofs.class.read_fields.Goals as goal
 
 pub read_field-requires : goal.read_field-requires
@@ -13,7 +13,7 @@ returns-in_err-field-clause-judged c =
     let p = err_from_is_err_and c.from_residual-in_err-field.result c.from_residual-in_err-field.ensures.1 in
     let fields = field_elements c.args.strings.now c.args.element.now in
     rw (p.1, p.2) (judging_err (field_flaws c.args.strings.now) (field_of c.args.strings.now) fields c.loop-at.at c.loop-at.fields c.index.result.now.now c.in_err-field.field-0.0 c.loop-at.invariant.0
-    (behind_ref c.in_ok-elements.elements.items fields c.loop-at.at c.index.result.now c.in_ok-elements.ensures.ok (omega arith) c.index.ensures) c.in_err-field.ensures.judged)
+    (after_ref c.in_ok-elements.elements.items fields c.loop-at.at c.index.result.now c.in_ok-elements.ensures.ok (omega arith) c.index.ensures) c.in_err-field.ensures.judged)
 
 pub loop-at-preserved : goal.loop-at-preserved
 loop-at-preserved c =
@@ -24,7 +24,7 @@ loop-at-preserved c =
     let read = c.in_ok-field in
     rw (c.in_ok-push.ensures.ok, c.in_ok-push-2.ensures.items) (
       judging_next (field_flaws texts) (field_of texts) fields l.at l.fields c.index.result.now.now read.field l.invariant.0
-          (behind_ref c.in_ok-elements.elements.items fields l.at c.index.result.now c.in_ok-elements.ensures.ok (omega arith) c.index.ensures) read.ensures.judged read.ensures.ok,
+          (after_ref c.in_ok-elements.elements.items fields l.at c.index.result.now c.in_ok-elements.ensures.ok (omega arith) c.index.ensures) read.ensures.judged read.ensures.ok,
       read.ensures.grow.numbers,
       numbers_push texts l.names later l.fields l.numbers.items read.field read.number l.invariant.2 read.ensures.grow read.ensures.number,
     )

@@ -18,7 +18,7 @@ returns-clause-exact c =
     let kept = kept_by p c.args.kept.now in
     let b = c.metadata.ensures.body in
     let s : is_in c.in_ok-stay.stay ≡ stays_in p kept = λ i id. c.in_ok-stay.ensures.exact id i in
-    let z = frame_size p c.parts_stand.ensures.parts c.metadata_frame.result c.metadata_frame.ensures in
+    let z = frame_size p c.parts_are_valid.ensures.parts c.metadata_frame.result c.metadata_frame.ensures in
     slim_found items p kept (metadata_size p) c.slim.result
     (subst (λ w. IfOk c.slim.result (λ found. option_map items found ≡ w)) (λ i. slim_in (b i) (s i) (z i)) c.slim.ensures.exact)
     (subst (λ w. IfOk c.slim.result (λ found. IfSome found (λ v. AllByRecursion IsText w))) (λ i. (slim_body (b i) (s i)).strings) c.slim.ensures.texts)

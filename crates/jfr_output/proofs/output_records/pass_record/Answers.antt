@@ -6,7 +6,7 @@ use Rattle.jfr_chunk.specs.Reach.{kept_by}
 use Rattle.jfr_chunk.specs.Scrub.{output_record_by, output_record_of, output_records_whole}
 use Rattle.jfr_chunk.specs.Parts.{events_of}
 use Rattle.jfr_output.specs.declared.output_records.Cursor.{Cursor}
-use Rattle.jfr_output.specs.OutputRecords.{IsChosen, IsCursor, is_kept_at, link_behind, link_there, linked_at, new_metadata, output_record_in}
+use Rattle.jfr_output.specs.OutputRecords.{IsChosen, IsCursor, is_kept_at, link_after, link_there, linked_at, new_metadata, output_record_in}
 use Rattle.jfr_output.proofs.NewLaws.{new_written, record_there}
 use Rattle.jfr_output.proofs.CursorLaws.{chosen_event, chosen_metadata, place_passed, some_if}
 use Rattle.jfr_output.proofs.output_records.pass_record.Goals as goal
@@ -16,7 +16,7 @@ returns-clause-cursor c =
     let p = place_passed c.args.chunk.now c.args.kept.now c.args.cursor.now c.args.at c.requires.cursor c.requires.there in
     let chain = sym (reverse-reverse c.chain.result.now) ∙ ap reverse c.chain.ensures in
     subst (λ (z : Cursor). IsCursor c.args.chunk.now c.args.kept.now z)
-    (λ i. record { frame = c.args.cursor.now.frame + 1; event = sym c.pass_event-event.ensures.number i; link = sym (c.pass_link-link.ensures.number ∙ ap (λ ls. link_behind ls c.args.cursor.now.link c.args.at) chain) i }) p.behind.0
+    (λ i. record { frame = c.args.cursor.now.frame + 1; event = sym c.pass_event-event.ensures.number i; link = sym (c.pass_link-link.ensures.number ∙ ap (λ ls. link_after ls c.args.cursor.now.link c.args.at) chain) i }) p.behind.0
 
 pub returns-clause-exact : goal.returns-clause-exact
 returns-clause-exact c =

@@ -36,4 +36,4 @@ returns-clause-exact g c =
 pub returns-clause-cost : goal.returns-clause-cost
 returns-clause-cost g c =
     let h : length c.loop-next.list.order.items ≤ c.loop-next.next = omega arith in
-    going_cost c.args.chunk.now c.args.kept.now c.parts_stand.ensures.parts c.args.steps.now c.loop-next.list.flags.items c.loop-next.list.order.items c.loop-next.next c.loop-next.steps h c.loop-next.invariant
+    going_cost c.args.chunk.now c.args.kept.now c.parts_are_valid.ensures.parts c.args.steps.now c.loop-next.list.flags.items c.loop-next.list.order.items c.loop-next.next c.loop-next.steps h c.loop-next.invariant

@@ -9,8 +9,8 @@ use Rattle.jfr_renumber.proofs.BaseLaws.{base_layout}
 use Rattle.jfr_renumber.proofs.FieldLaws.{fields_shape, inline_layout, layouts_row}
 use Rattle.jfr_renumber.proofs.fields.pass_value.Goals as goal
 
-pub pass_row-requires-clause-row : goal.pass_row-requires-clause-row
-pass_row-requires-clause-row g c =
+pub pass_fields-requires-clause-row : goal.pass_fields-requires-clause-row
+pass_fields-requires-clause-row g c =
     let k = c.args.context.classes.now in
     let x = c.args.context.bytes.now in
     let n = node_at c.args.shape c.args.start.at c.args.context.end in
@@ -32,9 +32,9 @@ returns-in-Fields g c =
     let m = fields_shape l.shape l.kind (sym c.in-Fields.is ∙ y.form) in
     let r = layouts_row (g.N.NewKeys.keys c.args.context.new.now) k x n v.0 l c.layouts-layouts.result.now c.requires.sound v.1 y.shape (inline_layout k x n v.0 l v.1 y.shape (m.0, m.1) y.known) (sym c.in-Fields.is) c.layouts-layouts.ensures.exact in
     record {
-      ok = IfOk-weaker c.pass_row.result _ _ (λ from w.
+      ok = IfOk-weaker c.pass_fields.result _ _ (λ from w.
           (let q = w r.0 r.1 in
-          (q.0, q.1 ∙ ap (λ z. (c.args.out.now.items ++ slice_range x c.args.start.from c.args.start.at) ++ z) (sym r.2)))) c.pass_row.ensures.ok;
+          (q.0, q.1 ∙ ap (λ z. (c.args.out.now.items ++ slice_range x c.args.start.from c.args.start.at) ++ z) (sym r.2)))) c.pass_fields.ensures.ok;
     }
 
 pub pass_single-requires-clause-known : goal.pass_single-requires-clause-known

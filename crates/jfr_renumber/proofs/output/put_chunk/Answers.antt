@@ -10,7 +10,7 @@ use Rattle.jfr_renumber.proofs.WritingLaws.{all_assembled, all_renumbered, numbe
 use Rattle.jfr_renumber.proofs.output.put_chunk.Goals as goal
 
 pub put_records-requires-clause-below : goal.put_records-requires-clause-below
-put_records-requires-clause-below g c = numbers_below c.args.source.chunk.now c.parts_stand.ensures.parts c.args.kept.now c.args.source.keys.now c.requires.keys
+put_records-requires-clause-below g c = numbers_below c.args.source.chunk.now c.parts_are_valid.ensures.parts c.args.kept.now c.args.source.keys.now c.requires.keys
 
 pub returns : goal.returns
 returns g c =
@@ -21,6 +21,6 @@ returns g c =
     let output = c.put_records.new.output in
     let size = c.len.ensures ∙ output.bytes.ok.0 in
     let header = c.output_header-header.ensures ∙ ap (λ n. header_bytes (record (c.header.result.now) { size = n; pools = unwrap_or output.newest 0; metadata = unwrap_or output.metadata 0 })) size in
-    all_renumbered p c.parts_stand.ensures.parts flags keys entries c.put_header.new.out.items c.requires.keys c.requires.entries
+    all_renumbered p c.parts_are_valid.ensures.parts flags keys entries c.put_header.new.out.items c.requires.keys c.requires.entries
     (all_assembled p (new_bytes (numbers_of keys) p (kept_by p flags) entries) (output_records p (kept_by p flags)) (progress_of output) c.header.result.now c.put_header.new.out.items c.in_ok-put_records.ensures.ok c.header.ensures
     (c.put_header.ensures ∙ ap (λ z. z ++ drop 68 output.bytes.items) header))

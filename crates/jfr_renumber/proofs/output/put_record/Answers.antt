@@ -21,7 +21,7 @@ returns-in-Event g c = record {
 
 pub returns-in-Metadata : goal.returns-in-Metadata
 returns-in-Metadata g c = record {
-  ok = on_ok_weaker c.put_metadata.result (λ e flags. metadata_is c.args.source.chunk.now flags (numbers_of c.args.source.keys.now) c.args.source.entries.now c.parts_stand.ensures.parts (option_map (λ s. s.now) c.args.source.slim) c.args.output_record c.in-Metadata.frame (progress_of c.args.output.now) (progress_of c.put_metadata.new.output) c.in-Metadata.is
+  ok = on_ok_weaker c.put_metadata.result (λ e flags. metadata_is c.args.source.chunk.now flags (numbers_of c.args.source.keys.now) c.args.source.entries.now c.parts_are_valid.ensures.parts (option_map (λ s. s.now) c.args.source.slim) c.args.output_record c.in-Metadata.frame (progress_of c.args.output.now) (progress_of c.put_metadata.new.output) c.in-Metadata.is
       (record_written c.args.source.chunk.now flags (numbers_of c.args.source.keys.now) c.args.source.entries.now (option_map (λ s. s.now) c.args.source.slim) c.args.output_record c.in-Metadata.frame (length c.args.output.now.bytes.items) c.args.output.now.newest c.in-Metadata.is c.requires.can) (rw c.bytes.ensures.exact at e)) c.put_metadata.ensures.ok;
 }
 

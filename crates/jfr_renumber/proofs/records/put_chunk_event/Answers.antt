@@ -5,13 +5,13 @@ use Rattle.jfr_renumber.proofs.EventWriting.{event_facts, event_written}
 use Rattle.jfr_renumber.proofs.records.put_chunk_event.Goals as goal
 
 pub put_event-requires-clause-record : goal.put_event-requires-clause-record
-put_event-requires-clause-record g c = (event_facts c.args.chunk.now c.parts_stand.ensures.parts c.args.number (event_at c.in-Some.event) c.in-Some.event.node.bytes.now c.in-Some.ensures.exact c.in-Some.ensures.of_chunk.bytes).is_record
+put_event-requires-clause-record g c = (event_facts c.args.chunk.now c.parts_are_valid.ensures.parts c.args.number (event_at c.in-Some.event) c.in-Some.event.node.bytes.now c.in-Some.ensures.exact c.in-Some.ensures.of_chunk.bytes).is_record
 
 pub put_event-requires-clause-place : goal.put_event-requires-clause-place
-put_event-requires-clause-place g c = (event_facts c.args.chunk.now c.parts_stand.ensures.parts c.args.number (event_at c.in-Some.event) c.in-Some.event.node.bytes.now c.in-Some.ensures.exact c.in-Some.ensures.of_chunk.bytes).place
+put_event-requires-clause-place g c = (event_facts c.args.chunk.now c.parts_are_valid.ensures.parts c.args.number (event_at c.in-Some.event) c.in-Some.event.node.bytes.now c.in-Some.ensures.exact c.in-Some.ensures.of_chunk.bytes).place
 
 pub put_event-requires-clause-within : goal.put_event-requires-clause-within
-put_event-requires-clause-within g c = (event_facts c.args.chunk.now c.parts_stand.ensures.parts c.args.number (event_at c.in-Some.event) c.in-Some.event.node.bytes.now c.in-Some.ensures.exact c.in-Some.ensures.of_chunk.bytes).within
+put_event-requires-clause-within g c = (event_facts c.args.chunk.now c.parts_are_valid.ensures.parts c.args.number (event_at c.in-Some.event) c.in-Some.event.node.bytes.now c.in-Some.ensures.exact c.in-Some.ensures.of_chunk.bytes).within
 
 pub returns-in-Some : goal.returns-in-Some
 returns-in-Some g c = record { ok = on_ok_weaker c.put_event.result (λ e. event_written c.args.chunk.now (g.N.NewKeys.keys c.args.new.now) c.args.number (event_at c.in-Some.event) c.args.out.now.items c.put_event.new.out.items c.in-Some.ensures.exact (e c.args.chunk.now (sym c.classes.ensures) (sym c.in-Some.ensures.of_chunk.bytes))) c.put_event.ensures.ok }

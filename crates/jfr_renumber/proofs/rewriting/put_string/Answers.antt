@@ -8,7 +8,7 @@ use Rattle.jfr_renumber.proofs.rewriting.put_string.Goals as goal
 
 pub returns : goal.returns
 returns g c =
-    let written = string_with (g.N.NewKeys.keys c.args.new.now) (leaf_of c.args.leaf) c.in-Ok.key.end c.in-Ok.key.value c.requires.stands c.requires.text (omega (arith, c.in-Ok.ensures.range)) c.if-leaf-ne-KEY.false c.in-Ok.ensures.ok in
+    let written = string_with (g.N.NewKeys.keys c.args.new.now) (leaf_of c.args.leaf) c.in-Ok.key.end c.in-Ok.key.value c.requires.holds c.requires.text (omega (arith, c.in-Ok.ensures.range)) c.if-leaf-ne-KEY.false c.in-Ok.ensures.ok in
     record {
       ok = on_ok_weaker c.put_integer.result (λ e.
           e ∙ (ap (λ z. z ++ spell c.new_key.result) c.in_ok-push.ensures.items

@@ -26,11 +26,11 @@ output_records-init c =
     let start = new ∙ ap (λ (z : List _). record { chunk = z; bytes = [] }) c.bytes.ensures.exact in
     record {
       cursor = cursor_first p c.args.kept.now a;
-      body = going_none p c.args.left.now (output_records p kept) _ (λ i. record { output = start i; at = 68; older = None; metadata = None })
-          (subst (λ (z : List EntryAt). AllByRecursion (WrittenFits p.bytes z) (written p.bytes z 68 None (output_records p kept))) (sym c.requires.left) (all_fit p a kept))
-          (subst (λ (z : List EntryAt). 68 + length (flat_map (written_bytes p.bytes z) (written p.bytes z 68 None (output_records p kept))) ≤ length p.bytes) (sym c.requires.left) (all_within p a kept));
+      body = going_none p c.args.remaining.now (output_records p kept) _ (λ i. record { output = start i; at = 68; older = None; metadata = None })
+          (subst (λ (z : List EntryAt). AllByRecursion (WrittenFits p.bytes z) (written p.bytes z 68 None (output_records p kept))) (sym c.requires.remaining) (all_fit p a kept))
+          (subst (λ (z : List EntryAt). 68 + length (flat_map (written_bytes p.bytes z) (written p.bytes z 68 None (output_records p kept))) ≤ length p.bytes) (sym c.requires.remaining) (all_within p a kept));
       copied = so_far_none _ _ _;
-      made = ap (λ z. z ++ flat_map (output_record_parts c.args.left.now) (output_records p kept)) c.new.ensures.made;
+      made = ap (λ z. z ++ flat_map (output_record_parts c.args.remaining.now) (output_records p kept)) c.new.ensures.made;
     }
 
 pub lay_run-requires-clause-order : goal.lay_run-requires-clause-order
@@ -50,37 +50,37 @@ returns-in_default-clause-ok c = going_all _ _ _ _ _ (going_run _ _ _ _ _ _ _ _ 
 pub returns-in_default-clause-copied : goal.returns-in_default-clause-copied
 returns-in_default-clause-copied c =
     let u = c.pass_run.ensures.run in
-    let s = so_far_done _ _ _ _ (so_far_run c.args.chunk.now.bytes c.args.left.now _ _ _ _ _ u.records _ _ u.output_records u.tiles c.output_records.invariant.copied c.in_ok-lay_run.ensures.grows.keeps c.in_ok-lay_run.ensures.copied) c.in_default.ensures.exact in
+    let s = so_far_done _ _ _ _ (so_far_run c.args.chunk.now.bytes c.args.remaining.now _ _ _ _ _ u.records _ _ u.output_records u.tiles c.output_records.invariant.copied c.in_ok-lay_run.ensures.grows.keeps c.in_ok-lay_run.ensures.copied) c.in_default.ensures.exact in
     λ qs k. s qs k tt
 
 pub returns-in_default-clause-made : goal.returns-in_default-clause-made
 returns-in_default-clause-made c =
     let u = c.pass_run.ensures.run in
-    parts_all c.args.left.now _ _ u.records _ _ _ u.output_records c.in_default.ensures.exact c.in_ok-lay_run.ensures.grows c.output_records.invariant.made
+    parts_all c.args.remaining.now _ _ u.records _ _ _ u.output_records c.in_default.ensures.exact c.in_ok-lay_run.ensures.grows c.output_records.invariant.made
 
 pub lay_record-requires-clause-fits : goal.lay_record-requires-clause-fits
 lay_record-requires-clause-fits c =
     let g = going_run _ _ _ _ _ _ _ _ _ _ c.pass_run.ensures.run c.output_records.invariant.body c.in_ok-lay_run.ensures.ok c.in-Some.ensures.exact in
     let e = ap (λ new. output_record_as new c.in-Some.output_record) c.requires.slim in
-    subst (λ r. OutputRecordFits c.lay_run.new.body.output.chunk c.args.left.now r c.lay_run.new.body.at c.lay_run.new.body.older) (sym e)
-    (subst (λ (z : List _). OutputRecordFits z c.args.left.now (output_record_in c.args.chunk.now c.args.kept.now c.in-Some.output_record) c.lay_run.new.body.at c.lay_run.new.body.older) (sym g.chunk) g.fits.0)
+    subst (λ r. OutputRecordFits c.lay_run.new.body.output.chunk c.args.remaining.now r c.lay_run.new.body.at c.lay_run.new.body.older) (sym e)
+    (subst (λ (z : List _). OutputRecordFits z c.args.remaining.now (output_record_in c.args.chunk.now c.args.kept.now c.in-Some.output_record) c.lay_run.new.body.at c.lay_run.new.body.older) (sym g.chunk) g.fits.0)
 
 pub lay_record-requires-clause-order : goal.lay_record-requires-clause-order
-lay_record-requires-clause-order c = subst (NotFalling 0) (sym c.requires.left) (left_order c.args.chunk.now c.bytes.ensures.parts (kept_by c.args.chunk.now c.args.kept.now))
+lay_record-requires-clause-order c = subst (NotFalling 0) (sym c.requires.remaining) (left_order c.args.chunk.now c.bytes.ensures.parts (kept_by c.args.chunk.now c.args.kept.now))
 
 pub lay_record-requires-clause-ranges : goal.lay_record-requires-clause-ranges
 lay_record-requires-clause-ranges c =
     let p = c.args.chunk.now in
     let g = going_run _ _ _ _ _ _ _ _ _ _ c.pass_run.ensures.run c.output_records.invariant.body c.in_ok-lay_run.ensures.ok c.in-Some.ensures.exact in
-    subst (λ (z : List _). AllByRecursion (HasRange (length z)) c.args.left.now) (sym g.chunk)
-    (subst (AllByRecursion (HasRange (length p.bytes))) (sym c.requires.left) (left_ranges p c.bytes.ensures.parts (kept_by p c.args.kept.now)))
+    subst (λ (z : List _). AllByRecursion (HasRange (length z)) c.args.remaining.now) (sym g.chunk)
+    (subst (AllByRecursion (HasRange (length p.bytes))) (sym c.requires.remaining) (left_ranges p c.bytes.ensures.parts (kept_by p c.args.kept.now)))
 
 pub lay_record-requires-clause-room : goal.lay_record-requires-clause-room
 lay_record-requires-clause-room c =
     let g = going_run _ _ _ _ _ _ _ _ _ _ c.pass_run.ensures.run c.output_records.invariant.body c.in_ok-lay_run.ensures.ok c.in-Some.ensures.exact in
     let e = ap (λ new. output_record_as new c.in-Some.output_record) c.requires.slim in
-    subst (λ r. c.lay_run.new.body.at + length (bytes_of c.lay_run.new.body.output.chunk c.args.left.now r c.lay_run.new.body.at c.lay_run.new.body.older) ≤ length c.lay_run.new.body.output.chunk) (sym e)
-    (subst (λ (z : List _). c.lay_run.new.body.at + length (bytes_of z c.args.left.now (output_record_in c.args.chunk.now c.args.kept.now c.in-Some.output_record) c.lay_run.new.body.at c.lay_run.new.body.older) ≤ length z) (sym g.chunk) (going_room _ _ _ _ _ _ g))
+    subst (λ r. c.lay_run.new.body.at + length (bytes_of c.lay_run.new.body.output.chunk c.args.remaining.now r c.lay_run.new.body.at c.lay_run.new.body.older) ≤ length c.lay_run.new.body.output.chunk) (sym e)
+    (subst (λ (z : List _). c.lay_run.new.body.at + length (bytes_of z c.args.remaining.now (output_record_in c.args.chunk.now c.args.kept.now c.in-Some.output_record) c.lay_run.new.body.at c.lay_run.new.body.older) ≤ length z) (sym g.chunk) (going_room _ _ _ _ _ _ g))
 
 pub output_records-preserved : goal.output_records-preserved
 output_records-preserved c =
@@ -88,15 +88,15 @@ output_records-preserved c =
     let e = ap (λ new. output_record_as new c.in-Some.output_record) c.requires.slim in
     record {
       cursor = c.in-Some.ensures.cursor;
-      body = going_next _ _ _ _ _ _ _ _ g refl (c.in_ok-lay_record.ensures.ok (metadata_at c.args.chunk.now.bytes) c.in-Some.ensures.metadata ∙ ap (body_with c.args.left.now (metadata_at c.args.chunk.now.bytes) (progress_of c.lay_run.new.body)) e) (some_written c.args.chunk.now.bytes c.args.left.now (output_record_in c.args.chunk.now c.args.kept.now c.in-Some.output_record) c.lay_run.new.body.at c.lay_run.new.body.older g.fits.0);
+      body = going_next _ _ _ _ _ _ _ _ g refl (c.in_ok-lay_record.ensures.ok (metadata_at c.args.chunk.now.bytes) c.in-Some.ensures.metadata ∙ ap (body_with c.args.remaining.now (metadata_at c.args.chunk.now.bytes) (progress_of c.lay_run.new.body)) e) (some_written c.args.chunk.now.bytes c.args.remaining.now (output_record_in c.args.chunk.now c.args.kept.now c.in-Some.output_record) c.lay_run.new.body.at c.lay_run.new.body.older g.fits.0);
       copied =
           let p = c.args.chunk.now in
           let u = c.pass_run.ensures.run in
-          let ranges : AllByRecursion (HasRange (length p.bytes)) c.args.left.now = subst (AllByRecursion (HasRange (length p.bytes))) (sym c.requires.left) (left_ranges p c.bytes.ensures.parts (kept_by p c.args.kept.now)) in
-          so_far_output_record p.bytes c.args.left.now _ _ _ _ _ _ _ ranges g.fits.0
-          (so_far_run p.bytes c.args.left.now _ _ _ _ _ u.records _ _ (u.output_records ∙ ap (λ ss. map (λ r. Whole r) u.records ++ ss) c.in-Some.ensures.exact) u.tiles c.output_records.invariant.copied c.in_ok-lay_run.ensures.grows.keeps c.in_ok-lay_run.ensures.copied)
-          c.in_ok-lay_record.ensures.grows.keeps (subst (OutputRecordIsCopied c.args.left.now c.lay_record.new.body.output.pieces) e c.in_ok-lay_record.ensures.copied);
+          let ranges : AllByRecursion (HasRange (length p.bytes)) c.args.remaining.now = subst (AllByRecursion (HasRange (length p.bytes))) (sym c.requires.remaining) (left_ranges p c.bytes.ensures.parts (kept_by p c.args.kept.now)) in
+          so_far_output_record p.bytes c.args.remaining.now _ _ _ _ _ _ _ ranges g.fits.0
+          (so_far_run p.bytes c.args.remaining.now _ _ _ _ _ u.records _ _ (u.output_records ∙ ap (λ ss. map (λ r. Whole r) u.records ++ ss) c.in-Some.ensures.exact) u.tiles c.output_records.invariant.copied c.in_ok-lay_run.ensures.grows.keeps c.in_ok-lay_run.ensures.copied)
+          c.in_ok-lay_record.ensures.grows.keeps (subst (OutputRecordIsCopied c.args.remaining.now c.lay_record.new.body.output.pieces) e c.in_ok-lay_record.ensures.copied);
       made =
           let u = c.pass_run.ensures.run in
-          parts_next c.args.left.now _ _ _ u.records _ _ _ _ _ u.output_records c.in-Some.ensures.exact c.in_ok-lay_run.ensures.grows (subst (λ r. Grows c.lay_run.new.body.output.pieces c.lay_record.new.body.output.pieces (output_record_parts c.args.left.now r)) e c.in_ok-lay_record.ensures.grows) c.output_records.invariant.made;
+          parts_next c.args.remaining.now _ _ _ u.records _ _ _ _ _ u.output_records c.in-Some.ensures.exact c.in_ok-lay_run.ensures.grows (subst (λ r. Grows c.lay_run.new.body.output.pieces c.lay_record.new.body.output.pieces (output_record_parts c.args.remaining.now r)) e c.in_ok-lay_record.ensures.grows) c.output_records.invariant.made;
     }

@@ -12,9 +12,9 @@ use Rattle.jfr_scrub.proofs.body.lay_body.Given as goal
 abbrev pub invariant-output_records : goal.invariant-output_records
 invariant-output_records l = record {
   cursor : IsCursor l.chunk l.kept l.cursor;
-  body : Going l.chunk l.left (output_records l.chunk (kept_by l.chunk l.kept)) (still_output_records l.chunk l.kept l.cursor) (progress_of l.body);
-  copied : SoFar (OutputRecordIsCopied l.left) l.body.output.pieces (still_output_records l.chunk l.kept l.cursor) (output_records l.chunk (kept_by l.chunk l.kept));
-  made : made_parts l.body.output.pieces ++ flat_map (output_record_parts l.left) (still_output_records l.chunk l.kept l.cursor) ≡ flat_map (output_record_parts l.left) (output_records l.chunk (kept_by l.chunk l.kept));
+  body : Going l.chunk l.remaining (output_records l.chunk (kept_by l.chunk l.kept)) (still_output_records l.chunk l.kept l.cursor) (progress_of l.body);
+  copied : SoFar (OutputRecordIsCopied l.remaining) l.body.output.pieces (still_output_records l.chunk l.kept l.cursor) (output_records l.chunk (kept_by l.chunk l.kept));
+  made : made_parts l.body.output.pieces ++ flat_map (output_record_parts l.remaining) (still_output_records l.chunk l.kept l.cursor) ≡ flat_map (output_record_parts l.remaining) (output_records l.chunk (kept_by l.chunk l.kept));
 }
 
 abbrev pub decreases-output_records : goal.decreases-output_records

@@ -15,24 +15,24 @@ use Rattle.jfr_scrub.proofs.laid.lay_out.Goals as goal
 pub remaining_entries-requires : goal.remaining_entries-requires
 remaining_entries-requires c = ap length c.requires.marks ∙ (marks_length c.args.chunk.now (kept_by c.args.chunk.now c.args.kept.now) ∙ ap (λ (z : List EntryAt). length z) (sym c.pools.ensures))
 
-pub lay_body-requires-clause-left : goal.lay_body-requires-clause-left
-lay_body-requires-clause-left c = c.as_slice-left.ensures ∙ left_is _ _ _ _ _ c.requires.marks c.pools.ensures c.in_ok-left.ensures
+pub lay_body-requires-clause-remaining : goal.lay_body-requires-clause-remaining
+lay_body-requires-clause-remaining c = c.as_slice-remaining.ensures ∙ left_is _ _ _ _ _ c.requires.marks c.pools.ensures c.in_ok-remaining.ensures
 
 pub returns-clause-laid : goal.returns-clause-laid
 returns-clause-laid c =
     let p = c.args.chunk.now in
     let kept = kept_by p c.args.kept.now in
     let qs = c.in_ok-pieces.pieces.pieces in
-    let left = c.as_slice-left.ensures ∙ left_is _ _ _ _ _ c.requires.marks c.pools.ensures c.in_ok-left.ensures in
+    let remaining = c.as_slice-remaining.ensures ∙ left_is _ _ _ _ _ c.requires.marks c.pools.ensures c.in_ok-remaining.ensures in
     let copied = c.in_ok-body.ensures.copied qs c.in_ok-pieces.ensures.keeps in
     record {
-      becomes = laid_all p kept _ _ _ _ _ left c.in_ok-body.ensures.ok c.header.ensures c.output_header-front.ensures c.in_ok-pieces.ensures.ok;
+      becomes = laid_all p kept _ _ _ _ _ remaining c.in_ok-body.ensures.ok c.header.ensures c.output_header-header.ensures c.in_ok-pieces.ensures.ok;
       of_chunk = search rules;
       made = search rules;
-      kinds = c.in_ok-pieces.ensures.made ∙ ap (λ z. ChunkHeader ∷ z) (c.in_ok-body.ensures.made ∙ ap (λ (z : List EntryAt). flat_map (output_record_parts z) (output_records p kept)) left);
+      kinds = c.in_ok-pieces.ensures.made ∙ ap (λ z. ChunkHeader ∷ z) (c.in_ok-body.ensures.made ∙ ap (λ (z : List EntryAt). flat_map (output_record_parts z) (output_records p kept)) remaining);
       events_copied = events_are_copied p c.lay_body.ensures.accepted.parts qs c.args.kept.now _ copied;
-      entries_copied = entries_are_copied p c.lay_body.ensures.accepted.parts qs kept (subst (λ (z : List EntryAt). AllByRecursion (OutputRecordIsCopied z qs) (output_records p kept)) left copied);
+      entries_copied = entries_are_copied p c.lay_body.ensures.accepted.parts qs kept (subst (λ (z : List EntryAt). AllByRecursion (OutputRecordIsCopied z qs) (output_records p kept)) remaining copied);
       metadata_copied = metadata_is_copied p c.lay_body.ensures.accepted.parts qs kept _ copied;
       events = c.kept_count.ensures ∙ marked_count c.args.kept.now (events_of p) c.requires.kept;
-      entries = ap (λ (z : List EntryAt). length z) left;
+      entries = ap (λ (z : List EntryAt). length z) remaining;
     }

@@ -8,11 +8,11 @@ use Rattle.jfr_layout.specs.declared.form.Form.TheVariants as forms
 use Rattle.jfr_layout.specs.declared.shape.Shape.{Shape}
 use Rattle.jfr_layout.specs.declared.field_layout.FieldLayout.{FieldLayout}
 use Rattle.jfr_layout.specs.Classes.{Class, AreFieldLayouts, Sound, find_class, item_of}
-use Rattle.jfr_value.specs.Nodes.{EndsAt, IsNode, IsRow, node_at, node_of}
+use Rattle.jfr_value.specs.Nodes.{EndsAt, IsNode, AreValues, node_at, node_of}
 use Rattle.jfr_value.specs.Values.{Values}
 use Rattle.jfr_value.specs.Visits.{field_shapes}
-use Rattle.jfr_value.specs.Walks.{IsLayoutIfKnown, Room}
-use Rattle.jfr_value.proofs.VisitLaws.{field_next, item_next, items_past, fields_past, room_first}
+use Rattle.jfr_value.specs.Walks.{IsLayoutIfKnown, DepthBound}
+use Rattle.jfr_value.proofs.VisitLaws.{field_next, item_next, items_past, fields_past, bound_of_first}
 use Rattle.jfr_value.proofs.LayoutLaws.{few_fields, field_of, no_layout}
 use Rattle.jfr_value.proofs.DepthLaws.{sound_inline}
 use Rattle.jfr_pool.specs.Entries.{in_force}
@@ -20,7 +20,7 @@ use Rattle.jfr_show.specs.declared.depth.Depth.{Depth}
 use Rattle.jfr_show.specs.Depths.{deepest}
 use Rattle.jfr_show.specs.Shown.{node_shown, referred, shown, shown_all}
 use Rattle.jfr_show.specs.Texts.{indent}
-use Rattle.jfr_show.proofs.LayoutForms.{composite_room, integer_stands, key_stands, text_stands, array_stands, is_composite, is_array, item_known}
+use Rattle.jfr_show.proofs.LayoutForms.{composite_depth, integer_stands, key_stands, text_stands, array_stands, is_composite, is_array, item_known}
 use Rattle.jfr_show.proofs.ShownLaws.{integer_shown, raw_shown, reference_shown, key_shown, string_shown, composite_shown, array_shown}
 use Rattle.jfr_show.proofs.ReferLaws.{by_answer, no_entry, entry_found, refer_missing, refer_name, refer_value, node_is}
 use Rattle.jfr_show.proofs.LineLaws.{onto_items, onto_fields, item_line, field_line, no_items, no_fields, fields_from, items_close, fields_close}
@@ -38,13 +38,13 @@ show_fields-show_value-requires t c =
     let references : c.of_fields-inner.result.reach.references ≡ c.args.view.now.depth.reach.references = ap (λ (z : Depth). z.reach.references) c.of_fields-inner.ensures in
     let composites : c.of_fields-inner.result.reach.composites ≡ c.args.view.now.depth.reach.composites - 1 = ap (λ (z : Depth). z.reach.composites) c.of_fields-inner.ensures in
     let deeper : c.of_fields-inner.result.level ≡ c.args.view.now.depth.level + 1 = ap (λ (z : Depth). z.level) c.of_fields-inner.ensures in
-    let r = c.requires.stand in
+    let r = c.requires.valid in
     let h = left_there c.args.view.now.chunk.now.classes c.args.view.now.chunk.now.bytes r.0 _ _ layout.shape _ _ c.loop-layout.to c.loop-layout.out (c.loop-layout.invariant.left r.0 r.1 c.class_at-info.result.now r.2 there) x in
-    let stands : (to : ℕ) × EndsAt c.args.view.now.chunk.now.classes c.args.view.now.chunk.now.bytes layout.shape c.loop-layout.to to = (h.place, (h.value, h.node)) in
+    let holds : (to : ℕ) × EndsAt c.args.view.now.chunk.now.classes c.args.view.now.chunk.now.bytes layout.shape c.loop-layout.to to = (h.place, (h.value, h.node)) in
     let known : IsLayoutIfKnown c.args.view.now.chunk.now.classes layout = (let s = f.of_class in record { form = s.form; of_class = λ o h. s }) in
-    let room : Room c.args.view.now.chunk.now.classes c.of_fields-inner.result.reach.composites layout.shape = subst (λ z. Room c.args.view.now.chunk.now.classes z layout.shape) (sym composites) (room_first (Room c.args.view.now.chunk.now.classes (c.args.view.now.depth.reach.composites - 1)) (field_shapes c.args.view.now.chunk.now.classes c.args.class_index) c.loop-layout.layout-index layout.shape _ c.requires.room x) in
+    let depth : DepthBound c.args.view.now.chunk.now.classes c.of_fields-inner.result.reach.composites layout.shape = subst (λ z. DepthBound c.args.view.now.chunk.now.classes z layout.shape) (sym composites) (bound_of_first (DepthBound c.args.view.now.chunk.now.classes (c.args.view.now.depth.reach.composites - 1)) (field_shapes c.args.view.now.chunk.now.classes c.args.class_index) c.loop-layout.layout-index layout.shape _ c.requires.depth x) in
     let cached = c.loop-layout.invariant.cached in
-    search (rules, cached, stands, known, room, references, composites, deeper)
+    search (rules, cached, holds, known, depth, references, composites, deeper)
 
 pub show_fields-loop-layout-preserved : goal.show_fields-loop-layout-preserved
 show_fields-loop-layout-preserved t c =
@@ -88,9 +88,9 @@ show_fields-returns t c =
           (e.0, fields_close c.args.view.now.depth.level class (shown_all c.args.view.now.chunk.now.classes (referred c.args.view.now.chunk.now c.args.view.now.depth.reach.references) (c.args.view.now.depth.level + 1) vs) c.args.out.now c.push_str.new.self c.push_ascii.new.self c.loop-layout.out c.push_indent-2.new.self c.push_ascii-2.new.self name c.in_ok-push_ascii.ensures.ok e.1 c.in_ok-push_indent-2.ensures.ok c.in_ok-push_ascii-4.ensures.ok);
     }
 
-pub show_items-integer_at-count-requires-clause-stands : goal.show_items-integer_at-count-requires-clause-stands
-show_items-integer_at-count-requires-clause-stands t c =
-    let r = c.requires.stands in
+pub show_items-integer_at-count-requires-clause-holds : goal.show_items-integer_at-count-requires-clause-holds
+show_items-integer_at-count-requires-clause-holds t c =
+    let r = c.requires.holds in
     array_stands c.args.view.now.chunk.now.classes c.args.view.now.chunk.now.bytes c.args.at r.0 c.args.layout.now c.requires.layout r.1.0 r.1.1 c.requires.array
 
 pub show_items-show_value-requires : goal.show_items-show_value-requires
@@ -100,15 +100,15 @@ show_items-show_value-requires t c =
     let references : c.of_items-inner.result.reach.references ≡ c.args.view.now.depth.reach.references = ap (λ (z : Depth). z.reach.references) c.of_items-inner.ensures in
     let composites : c.of_items-inner.result.reach.composites ≡ c.args.view.now.depth.reach.composites = ap (λ (z : Depth). z.reach.composites) c.of_items-inner.ensures in
     let deeper : c.of_items-inner.result.level ≡ c.args.view.now.depth.level + 1 = ap (λ (z : Depth). z.level) c.of_items-inner.ensures in
-    let r = c.requires.stands in
+    let r = c.requires.holds in
     let f = is_array c.args.view.now.chunk.now.classes c.args.view.now.chunk.now.bytes c.args.at r.0 c.args.layout.now c.requires.layout r.1.0 r.1.1 c.requires.array c.integer_at-count.result c.integer_at-count.ensures in
     let h = left_there c.args.view.now.chunk.now.classes c.args.view.now.chunk.now.bytes r.0 _ _ (item_of c.args.layout.now.shape) _ _ c.items.to c.items.out (c.items.invariant.left r.0 f.parts f.row) next in
-    let stands : (to : ℕ) × EndsAt c.args.view.now.chunk.now.classes c.args.view.now.chunk.now.bytes c.item_layout-item.result.shape c.items.to to = (h.place, subst (λ (z : Shape). EndsAt c.args.view.now.chunk.now.classes c.args.view.now.chunk.now.bytes z c.items.to h.place) (sym flat) (h.value, h.node)) in
+    let holds : (to : ℕ) × EndsAt c.args.view.now.chunk.now.classes c.args.view.now.chunk.now.bytes c.item_layout-item.result.shape c.items.to to = (h.place, subst (λ (z : Shape). EndsAt c.args.view.now.chunk.now.classes c.args.view.now.chunk.now.bytes z c.items.to h.place) (sym flat) (h.value, h.node)) in
     let known : IsLayoutIfKnown c.args.view.now.chunk.now.classes c.item_layout-item.result = item_known c.args.view.now.chunk.now.classes c.args.layout.now c.item_layout-item.result c.requires.layout c.item_layout-item.ensures in
-    let room : Room c.args.view.now.chunk.now.classes c.of_items-inner.result.reach.composites c.item_layout-item.result.shape = subst (λ z. Room c.args.view.now.chunk.now.classes z c.item_layout-item.result.shape) (sym composites) (subst (λ (z : Shape). Room c.args.view.now.chunk.now.classes c.args.view.now.depth.reach.composites z) (sym flat) c.requires.room) in
+    let depth : DepthBound c.args.view.now.chunk.now.classes c.of_items-inner.result.reach.composites c.item_layout-item.result.shape = subst (λ z. DepthBound c.args.view.now.chunk.now.classes z c.item_layout-item.result.shape) (sym composites) (subst (λ (z : Shape). DepthBound c.args.view.now.chunk.now.classes c.args.view.now.depth.reach.composites z) (sym flat) c.requires.depth) in
     let single : c.item_layout-item.result.shape.array ≡ false = ap (λ (z : Shape). z.array) flat in
     let cached = c.items.invariant.cached in
-    search (rules, cached, stands, known, room, single, references, composites, deeper)
+    search (rules, cached, holds, known, depth, single, references, composites, deeper)
 
 pub show_items-items-preserved : goal.show_items-items-preserved
 show_items-items-preserved t c =
@@ -146,14 +146,14 @@ show_node-show_value-requires t c =
     let v = c.requires.value in
     let n : IsNode c.args.view.now.chunk.now.classes c.args.view.now.chunk.now.bytes (node_of c.args.node.now) v.0 = subst (λ z. IsNode c.args.view.now.chunk.now.classes z (node_of c.args.node.now) v.0) c.requires.of_chunk v.1 in
     let there : IsNode c.args.view.now.chunk.now.classes c.args.view.now.chunk.now.bytes (node_at c.layout_of-layout.result.shape c.args.node.now.at c.args.node.now.end) v.0 = subst (λ (z : Shape). IsNode c.args.view.now.chunk.now.classes c.args.view.now.chunk.now.bytes (node_at z c.args.node.now.at c.args.node.now.end) v.0) (sym c.layout_of-layout.ensures.shape) n in
-    let stands : (to : ℕ) × EndsAt c.args.view.now.chunk.now.classes c.args.view.now.chunk.now.bytes c.layout_of-layout.result.shape c.args.node.now.at to = (c.args.node.now.end, (v.0, there)) in
+    let holds : (to : ℕ) × EndsAt c.args.view.now.chunk.now.classes c.args.view.now.chunk.now.bytes c.layout_of-layout.result.shape c.args.node.now.at to = (c.args.node.now.end, (v.0, there)) in
     let known : IsLayoutIfKnown c.args.view.now.chunk.now.classes c.layout_of-layout.result = subst (λ z. IsLayoutIfKnown z c.layout_of-layout.result) c.classes.ensures (record { form = c.layout_of-layout.ensures.form; of_class = λ o h. c.layout_of-layout.ensures.known (subst (λ (z : Shape). IsSome (find_class c.classes.result.now z.class)) c.layout_of-layout.ensures.shape h) }) in
-    let all : Room c.args.view.now.chunk.now.classes 33 c.layout_of-layout.result.shape = λ o d q m. sound_inline c.args.view.now.chunk.now.classes c.layout_of-layout.result.shape.class d (subst Sound c.classes.ensures c.layout_of-layout.ensures.sound) q in
-    let room : Room c.args.view.now.chunk.now.classes c.args.view.now.depth.reach.composites c.layout_of-layout.result.shape = subst (λ z. Room c.args.view.now.chunk.now.classes z c.layout_of-layout.result.shape) (sym c.requires.composites) all in
+    let all : DepthBound c.args.view.now.chunk.now.classes 33 c.layout_of-layout.result.shape = λ o d q m. sound_inline c.args.view.now.chunk.now.classes c.layout_of-layout.result.shape.class d (subst Sound c.classes.ensures c.layout_of-layout.ensures.sound) q in
+    let depth : DepthBound c.args.view.now.chunk.now.classes c.args.view.now.depth.reach.composites c.layout_of-layout.result.shape = subst (λ z. DepthBound c.args.view.now.chunk.now.classes z c.layout_of-layout.result.shape) (sym c.requires.composites) all in
     let level : deepest c.args.view.now.depth c.layout_of-layout.result.shape.array ≤ 1000 = subst (λ (z : Shape). deepest c.args.view.now.depth z.array ≤ 1000) (sym c.layout_of-layout.ensures.shape) c.requires.level in
     let composites = c.requires.composites in
     let cached = c.requires.cached in
-    search (rules, cached, stands, known, room, level, composites)
+    search (rules, cached, holds, known, depth, level, composites)
 
 pub show_node-returns : goal.show_node-returns
 show_node-returns t c =
@@ -182,33 +182,33 @@ show_constant-returns t c =
     ∙ (sym (refer_value c.args.view.now.chunk.now (c.args.view.now.depth.reach.references - 1) c.args.view.now.depth.level (c.args.class, c.args.key) e.entry e.there) ∙ ap (λ z. referred c.args.view.now.chunk.now z c.args.view.now.depth.level (c.args.class, c.args.key)) deep)) in
     record { cached = c.show_node.ensures.cached; ok = subst (λ z. OnOk c.show_node.result (c.show_node.new.out ≡ c.args.out.now ++ z)) text c.show_node.ensures.ok }
 
-pub show_value-integer_at-number-requires-clause-stands : goal.show_value-integer_at-number-requires-clause-stands
-show_value-integer_at-number-requires-clause-stands t c =
-    let r = c.requires.stands in
+pub show_value-integer_at-number-requires-clause-holds : goal.show_value-integer_at-number-requires-clause-holds
+show_value-integer_at-number-requires-clause-holds t c =
+    let r = c.requires.holds in
     integer_stands c.args.view.now.chunk.now.classes c.args.view.now.chunk.now.bytes c.args.at r.0 c.args.layout.now c.requires.layout r.1.0 r.1.1 c.in-Integer.is
 
-pub show_value-integer_at-key-requires-clause-stands : goal.show_value-integer_at-key-requires-clause-stands
-show_value-integer_at-key-requires-clause-stands t c =
-    let r = c.requires.stands in
+pub show_value-integer_at-key-requires-clause-holds : goal.show_value-integer_at-key-requires-clause-holds
+show_value-integer_at-key-requires-clause-holds t c =
+    let r = c.requires.holds in
     key_stands c.args.view.now.chunk.now.classes c.args.view.now.chunk.now.bytes c.args.at r.0 c.args.layout.now c.requires.layout r.1.0 r.1.1 c.in-Key.is
 
-pub show_value-string_at-string-requires-clause-stands : goal.show_value-string_at-string-requires-clause-stands
-show_value-string_at-string-requires-clause-stands t c =
-    let r = c.requires.stands in
+pub show_value-string_at-string-requires-clause-holds : goal.show_value-string_at-string-requires-clause-holds
+show_value-string_at-string-requires-clause-holds t c =
+    let r = c.requires.holds in
     text_stands c.args.view.now.chunk.now.classes c.args.view.now.chunk.now.bytes c.args.at r.0 c.args.layout.now c.requires.layout r.1.0 r.1.1 c.in-Text.is
 
 pub show_value-show_fields-requires : goal.show_value-show_fields-requires
 show_value-show_fields-requires t c =
-    let r = c.requires.stands in
+    let r = c.requires.holds in
     let f = is_composite c.args.view.now.chunk.now.classes c.args.view.now.chunk.now.bytes c.args.at r.0 c.args.layout.now c.requires.layout r.1.0 r.1.1 c.in-Fields.is in
-    let x = composite_room c.args.view.now.chunk.now.classes c.args.view.now.chunk.now.bytes c.args.at r.0 c.args.layout.now c.requires.layout r.1.0 r.1.1 c.in-Fields.is c.args.view.now.depth.reach.composites c.requires.room in
+    let x = composite_depth c.args.view.now.chunk.now.classes c.args.view.now.chunk.now.bytes c.args.at r.0 c.args.layout.now c.requires.layout r.1.0 r.1.1 c.in-Fields.is c.args.view.now.depth.reach.composites c.requires.depth in
     let inner : 1 ≤ c.args.view.now.depth.reach.composites = x.0 in
-    let room : AllByRecursion (Room c.args.view.now.chunk.now.classes (c.args.view.now.depth.reach.composites - 1)) (field_shapes c.args.view.now.chunk.now.classes c.args.layout.now.class_index) = x.1 in
+    let depth : AllByRecursion (DepthBound c.args.view.now.chunk.now.classes (c.args.view.now.depth.reach.composites - 1)) (field_shapes c.args.view.now.chunk.now.classes c.args.layout.now.class_index) = x.1 in
     let within : c.args.layout.now.class_index < length c.args.view.now.chunk.now.classes = f.placed in
-    let stand : (to : ℕ) × (vs : Values) × IsRow c.args.view.now.chunk.now.classes c.args.view.now.chunk.now.bytes c.args.at to (field_shapes c.args.view.now.chunk.now.classes c.args.layout.now.class_index) vs = (r.0, f.parts, f.row) in
+    let valid : (to : ℕ) × (vs : Values) × AreValues c.args.view.now.chunk.now.classes c.args.view.now.chunk.now.bytes c.args.at to (field_shapes c.args.view.now.chunk.now.classes c.args.layout.now.class_index) vs = (r.0, f.parts, f.row) in
     let flat = f.array in
     let cached = c.requires.cached in
-    search (rules, cached, room, within, stand, inner, flat)
+    search (rules, cached, depth, within, valid, inner, flat)
 
 pub show_value-returns-in_ok-show_integer-in-Integer : goal.show_value-returns-in_ok-show_integer-in-Integer
 show_value-returns-in_ok-show_integer-in-Integer t c =

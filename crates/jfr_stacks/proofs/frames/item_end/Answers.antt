@@ -1,6 +1,6 @@
 use Rattle.std.proofs.Common.{ap, subst, sym, ◌∙◌}
 use Rattle.std.specs.Prelude.{IsSome}
-use Rattle.jfr_base.specs.Formats.{run, seen}
+use Rattle.jfr_base.specs.Formats.{run, end_or_flaw}
 use Rattle.jfr_layout.specs.Classes.{find_class}
 use Rattle.jfr_layout.specs.declared.shape.Shape.{Shape}
 use Rattle.jfr_value.specs.Reading.{value_format}
@@ -10,7 +10,7 @@ use Rattle.jfr_stacks.proofs.frames.item_end.Goals as goal
 
 pub end_of-requires-clause-known : goal.end_of-requires-clause-known
 end_of-requires-clause-known c =
-    let t = c.requires.stands in
+    let t = c.requires.holds in
     let i = t.1.1 in
     subst (λ k. IsSome (find_class k c.args.shape.class)) (sym c.classes.ensures)
     (subst (λ (s : Shape). IsSome (find_class c.args.chunk.now.classes s.class)) (sym i.shape)
@@ -20,9 +20,9 @@ pub unreachable-requires : goal.unreachable-requires
 unreachable-requires c =
     let p = c.args.chunk.now in
     let s = c.args.shape in
-    let t = c.requires.stands in
+    let t = c.requires.holds in
     let r = end_seen p.classes p.bytes s c.args.at c.args.limit t.0 c.requires.sound t.1 t.2 c.requires.within in
-    let e = c.end_of.ensures.exact ∙ (ap (λ z. seen (run (value_format z s) c.bytes.result.now c.args.limit c.args.at)) c.classes.ensures ∙ (ap (λ z. seen (run (value_format p.classes s) z c.args.limit c.args.at)) c.bytes.ensures.exact ∙ r)) in
+    let e = c.end_of.ensures.exact ∙ (ap (λ z. end_or_flaw (run (value_format z s) c.bytes.result.now c.args.limit c.args.at)) c.classes.ensures ∙ (ap (λ z. end_or_flaw (run (value_format p.classes s) z c.args.limit c.args.at)) c.bytes.ensures.exact ∙ r)) in
     cc (sym c.in-Err.is ∙ e)
 
 pub returns : goal.returns
@@ -30,5 +30,5 @@ returns c = λ to t l.
     (let p = c.args.chunk.now in
     let s = c.args.shape in
     let r = end_seen p.classes p.bytes s c.args.at c.args.limit to c.requires.sound t l c.requires.within in
-    let e = c.end_of.ensures.exact ∙ (ap (λ z. seen (run (value_format z s) c.bytes.result.now c.args.limit c.args.at)) c.classes.ensures ∙ (ap (λ z. seen (run (value_format p.classes s) z c.args.limit c.args.at)) c.bytes.ensures.exact ∙ r)) in
+    let e = c.end_of.ensures.exact ∙ (ap (λ z. end_or_flaw (run (value_format z s) c.bytes.result.now c.args.limit c.args.at)) c.classes.ensures ∙ (ap (λ z. end_or_flaw (run (value_format p.classes s) z c.args.limit c.args.at)) c.bytes.ensures.exact ∙ r)) in
     cc (sym c.in-Ok.is ∙ e))

@@ -9,13 +9,13 @@ use Rattle.jfr_value.specs.Nodes.{IsNode, children, node_of}
 use Rattle.jfr_stacks.proofs.ItemLaws.{Going, first_left, item_next, items_first, more_left}
 use Rattle.jfr_stacks.proofs.frames.items_of.Goals as goal
 
-pub integer_at-count-requires-clause-stands : goal.integer_at-count-requires-clause-stands
-integer_at-count-requires-clause-stands c =
+pub integer_at-count-requires-clause-holds : goal.integer_at-count-requires-clause-holds
+integer_at-count-requires-clause-holds c =
     let p = c.args.chunk.now in
     let n = node_of c.args.array.now in
     let v = c.requires.value in
     let i : IsNode p.classes p.bytes n v.0 = subst (λ z. IsNode p.classes z n v.0) c.requires.of_chunk v.1 in
-    let k : ItemsCover p.classes p.bytes n = c.children_are_parts.ensures.items p.classes p.bytes n v.0 c.parts_stand.ensures.sound i c.requires.array in
+    let k : ItemsCover p.classes p.bytes n = c.children_are_parts.ensures.items p.classes p.bytes n v.0 c.parts_are_valid.ensures.sound i c.requires.array in
     subst (λ z. IsSome {T = Var} z) (sym k.counted) refl
 
 pub items-init : goal.items-init
@@ -24,7 +24,7 @@ items-init c =
     let n = node_of c.args.array.now in
     let v = c.requires.value in
     let i : IsNode p.classes p.bytes n v.0 = subst (λ z. IsNode p.classes z n v.0) c.requires.of_chunk v.1 in
-    let k : ItemsCover p.classes p.bytes n = c.children_are_parts.ensures.items p.classes p.bytes n v.0 c.parts_stand.ensures.sound i c.requires.array in
+    let k : ItemsCover p.classes p.bytes n = c.children_are_parts.ensures.items p.classes p.bytes n v.0 c.parts_are_valid.ensures.sound i c.requires.array in
     let s : Shape = item_of n.shape in
     let count = c.integer_at-count.result in
     let z : count.value - 0 ≡ count.value = omega arith in
@@ -43,8 +43,8 @@ item_end-end-requires-clause-order c =
     let b = f.within in
     omega arith
 
-pub item_end-end-requires-clause-stands : goal.item_end-end-requires-clause-stands
-item_end-end-requires-clause-stands c =
+pub item_end-end-requires-clause-holds : goal.item_end-end-requires-clause-holds
+item_end-end-requires-clause-holds c =
     let p = c.args.chunk.now in
     let n = node_of c.args.array.now in
     let s : Shape = item_of n.shape in

@@ -13,4 +13,4 @@ returns-in-None c =
     let n = node_of c.args.trace.now in
     let v = c.requires.value in
     let i : IsNode p.classes p.bytes n v.0 = subst (λ z. IsNode p.classes z n v.0) c.requires.of_chunk v.1 in
-    no_trace p n v.0 c.parts_stand.ensures.sound i (sym c.is_reference.ensures ∙ c.if-not-is_reference.false) (sym c.in-None.ensures)
+    no_trace p n v.0 c.parts_are_valid.ensures.sound i (sym c.is_reference.ensures ∙ c.if-not-is_reference.false) (sym c.in-None.ensures)

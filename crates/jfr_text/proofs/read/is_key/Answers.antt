@@ -10,6 +10,6 @@ pub returns-then-at-end-clause-key : goal.returns-then-at-end-clause-key
 returns-then-at-end-clause-key c = λ is. key_there c.args.bytes.now c.args.end c.args.at c.if-at-end.true (eqb-true _ 2 is)
 
 pub returns-then-at-end-clause-spelled : goal.returns-then-at-end-clause-spelled
-returns-then-at-end-clause-spelled c = λ is to key stands within.
-    let k = key_computed c.args.bytes.now c.args.end (c.args.at + 1) to key (omega (arith, c.if-at-end.true)) c.requires.within stands within in
+returns-then-at-end-clause-spelled c = λ is to key holds within.
+    let k = key_computed c.args.bytes.now c.args.end (c.args.at + 1) to key (omega (arith, c.if-at-end.true)) c.requires.within holds within in
     computed c.args.bytes.now c.args.end c.args.at c.requires.order c.requires.within (Key key) to (returns-then-at-end-clause-key c is ∙ k)

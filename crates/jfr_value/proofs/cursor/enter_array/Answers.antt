@@ -6,25 +6,25 @@ use Rattle.jfr_layout.specs.declared.shape.Shape.{Shape}
 use Rattle.jfr_value.specs.declared.stack.Frame.{Frame}
 use Rattle.jfr_value.specs.declared.stack.Frame.TheVariants.{Items}
 use Rattle.jfr_value.specs.Leaves.{leaves_from}
-use Rattle.jfr_value.specs.Nodes.{IsRow}
-use Rattle.jfr_value.specs.Walks.{AreFrames, shapes_left}
+use Rattle.jfr_value.specs.Nodes.{AreValues}
+use Rattle.jfr_value.specs.Walks.{AreFrames, remaining_shapes}
 use Rattle.jfr_value.proofs.StackLaws.{shapes_push, frames_push}
 use Rattle.jfr_value.proofs.WalkLaws.{array_found, array_there}
 use Rattle.jfr_value.proofs.cursor.enter_array.Goals as goal
 
 pub unreachable-requires : goal.unreachable-requires
-unreachable-requires c = array_there c.args.walk.now.classes.now c.args.walk.now.bytes.now c.args.cursor.now.at c.args.walk.now.end c.args.shape (shapes_left c.args.walk.now.classes.now c.args.cursor.now.stack) c.requires.left.0 c.requires.left.1 c.requires.array c.in_default.ensures.exact.0
+unreachable-requires c = array_there c.args.walk.now.classes.now c.args.walk.now.bytes.now c.args.cursor.now.at c.args.walk.now.end c.args.shape (remaining_shapes c.args.walk.now.classes.now c.args.cursor.now.stack) c.requires.remaining.0 c.requires.remaining.1 c.requires.array c.in_default.ensures.exact.0
 
 pub returns-clause-frames : goal.returns-clause-frames
 returns-clause-frames c =
     subst (λ (z : List Frame). AreFrames c.args.walk.now.classes.now 0 z) (sym (rw c.item_of.ensures at c.push.ensures.items))
-    (frames_push c.args.walk.now.classes.now 0 (suc (length c.args.cursor.now.stack)) c.args.cursor.now.stack (Items (item_of c.args.shape) c.args.place c.items_to_walk.result c.args.levels) (omega arith) c.requires.frames (omega (arith, c.requires.height), c.requires.placed, c.requires.room))
+    (frames_push c.args.walk.now.classes.now 0 (suc (length c.args.cursor.now.stack)) c.args.cursor.now.stack (Items (item_of c.args.shape) c.args.place c.items_to_walk.result c.args.levels) (omega arith) c.requires.frames (omega (arith, c.requires.height), c.requires.placed, c.requires.depth))
 
-pub returns-clause-left : goal.returns-clause-left
-returns-clause-left c = λ vs r.
-    (let t = array_found c.args.walk.now.classes.now c.args.walk.now.bytes.now c.args.cursor.now.at c.args.walk.now.end c.args.shape (shapes_left c.args.walk.now.classes.now c.args.cursor.now.stack) vs c.in-Ok.count c.args.place c.items_to_walk.result r c.requires.array c.in-Ok.ensures.exact c.requires.placed c.items_to_walk.ensures in
-    let e = ap (shapes_left c.args.walk.now.classes.now) (rw c.item_of.ensures at c.push.ensures.items) ∙ shapes_push c.args.walk.now.classes.now c.args.cursor.now.stack (Items (item_of c.args.shape) c.args.place c.items_to_walk.result c.args.levels) in (
+pub returns-clause-remaining : goal.returns-clause-remaining
+returns-clause-remaining c = λ vs r.
+    (let t = array_found c.args.walk.now.classes.now c.args.walk.now.bytes.now c.args.cursor.now.at c.args.walk.now.end c.args.shape (remaining_shapes c.args.walk.now.classes.now c.args.cursor.now.stack) vs c.in-Ok.count c.args.place c.items_to_walk.result r c.requires.array c.in-Ok.ensures.exact c.requires.placed c.items_to_walk.ensures in
+    let e = ap (remaining_shapes c.args.walk.now.classes.now) (rw c.item_of.ensures at c.push.ensures.items) ∙ shapes_push c.args.walk.now.classes.now c.args.cursor.now.stack (Items (item_of c.args.shape) c.args.place c.items_to_walk.result c.args.levels) in (
       t.others,
-      subst (λ (z : List Shape). IsRow c.args.walk.now.classes.now c.args.walk.now.bytes.now c.in-Ok.count.end c.args.walk.now.end z t.others) (sym e) t.row,
+      subst (λ (z : List Shape). AreValues c.args.walk.now.classes.now c.args.walk.now.bytes.now c.in-Ok.count.end c.args.walk.now.end z t.others) (sym e) t.row,
       t.leaves ∙ ap (λ z. z ∷ leaves_from c.in-Ok.count.end t.others) (sym c.leaf_to-leaf.ensures),
     ))

@@ -4,19 +4,19 @@ use Rattle.std.specs.Prelude.{◌+◌, ◌*◌, ◌++◌, ℕ, length, List}
 use Rattle.jfr_layout.specs.declared.shape.Shape.{Shape}
 use Rattle.jfr_value.specs.declared.stack.Frame.{Frame}
 use Rattle.jfr_value.specs.declared.stack.Frame.TheVariants.{Fields}
-use Rattle.jfr_value.specs.Nodes.{IsRow}
-use Rattle.jfr_value.specs.Walks.{AreFrames, GoesOn, Room, shapes_left, size_of_all}
+use Rattle.jfr_value.specs.Nodes.{AreValues}
+use Rattle.jfr_value.specs.Walks.{AreFrames, GoesOn, DepthBound, remaining_shapes, size_of_all}
 use Rattle.jfr_value.proofs.LayoutLaws.{few_fields, field_of, no_layout}
-use Rattle.jfr_value.proofs.StackLaws.{either_height, field_room, frames_push, no_fields, pushed_field}
+use Rattle.jfr_value.proofs.StackLaws.{either_height, field_depth, frames_push, no_fields, pushed_field}
 use Rattle.jfr_value.proofs.cursor.next_field.Goals as goal
 
 pub layouts-layouts-requires : goal.layouts-layouts-requires
 layouts-layouts-requires c = c.requires.frame.1
 
-pub returns-then-number-layouts-clause-left : goal.returns-then-number-layouts-clause-left
-returns-then-number-layouts-clause-left c = λ vs r.
+pub returns-then-number-layouts-clause-remaining : goal.returns-then-number-layouts-clause-remaining
+returns-then-number-layouts-clause-remaining c = λ vs r.
     (let e = no_fields c.args.walk.now.classes.now c.args.place c.args.number c.args.levels (few_fields c.args.walk.now.classes.now c.args.place c.args.number c.layouts-layouts.result.now c.requires.frame.1 c.layouts-layouts.ensures.exact c.if-number-layouts.true) in
-    (vs, subst (λ (z : List Shape). IsRow c.args.walk.now.classes.now c.args.walk.now.bytes.now c.args.cursor.now.at c.args.walk.now.end (z ++ shapes_left c.args.walk.now.classes.now c.args.cursor.now.stack) vs) e r, refl, omega arith))
+    (vs, subst (λ (z : List Shape). AreValues c.args.walk.now.classes.now c.args.walk.now.bytes.now c.args.cursor.now.at c.args.walk.now.end (z ++ remaining_shapes c.args.walk.now.classes.now c.args.cursor.now.stack) vs) e r, refl, omega arith))
 
 pub push-requires : goal.push-requires
 push-requires c = let h = c.requires.frame.0 in omega arith
@@ -32,19 +32,19 @@ enter-requires-clause-height c = either_height (get_or c.layouts-layouts.result.
 pub enter-requires-clause-placed : goal.enter-requires-clause-placed
 enter-requires-clause-placed c = λ o h. (field_of c.args.walk.now.classes.now c.args.place c.args.number c.layouts-layouts.result.now c.requires.frame.1 c.layouts-layouts.ensures.exact c.if-number-layouts.false).of_class.class_index
 
-pub enter-requires-clause-room : goal.enter-requires-clause-room
-enter-requires-clause-room c =
+pub enter-requires-clause-depth : goal.enter-requires-clause-depth
+enter-requires-clause-depth c =
     let f = field_of c.args.walk.now.classes.now c.args.place c.args.number c.layouts-layouts.result.now c.requires.frame.1 c.layouts-layouts.ensures.exact c.if-number-layouts.false in
-    subst (λ (z : Shape). Room c.args.walk.now.classes.now c.args.levels z) (sym f.shape) (field_room c.args.walk.now.classes.now (length c.args.cursor.now.stack + 1) c.args.place c.args.number c.args.levels f.field c.requires.frame f.there)
+    subst (λ (z : Shape). DepthBound c.args.walk.now.classes.now c.args.levels z) (sym f.shape) (field_depth c.args.walk.now.classes.now (length c.args.cursor.now.stack + 1) c.args.place c.args.number c.args.levels f.field c.requires.frame f.there)
 
-pub enter-requires-clause-left : goal.enter-requires-clause-left
-enter-requires-clause-left c =
+pub enter-requires-clause-remaining : goal.enter-requires-clause-remaining
+enter-requires-clause-remaining c =
     let f = field_of c.args.walk.now.classes.now c.args.place c.args.number c.layouts-layouts.result.now c.requires.frame.1 c.layouts-layouts.ensures.exact c.if-number-layouts.false in
     let q = pushed_field c.args.walk.now.classes.now c.args.cursor.now.stack c.push.new.self c.args.place c.args.number c.args.levels f.field (get_or c.layouts-layouts.result.now c.args.number no_layout).shape f.there f.shape c.push.ensures.items in
-    (c.requires.left.0, subst (λ (z : List Shape). IsRow c.args.walk.now.classes.now c.args.walk.now.bytes.now c.args.cursor.now.at c.args.walk.now.end z c.requires.left.0) q c.requires.left.1)
+    (c.requires.remaining.0, subst (λ (z : List Shape). AreValues c.args.walk.now.classes.now c.args.walk.now.bytes.now c.args.cursor.now.at c.args.walk.now.end z c.requires.remaining.0) q c.requires.remaining.1)
 
-pub returns-clause-left : goal.returns-clause-left
-returns-clause-left c = λ vs r.
+pub returns-clause-remaining : goal.returns-clause-remaining
+returns-clause-remaining c = λ vs r.
     (let f = field_of c.args.walk.now.classes.now c.args.place c.args.number c.layouts-layouts.result.now c.requires.frame.1 c.layouts-layouts.ensures.exact c.if-number-layouts.false in
     let q = pushed_field c.args.walk.now.classes.now c.args.cursor.now.stack c.push.new.self c.args.place c.args.number c.args.levels f.field (get_or c.layouts-layouts.result.now c.args.number no_layout).shape f.there f.shape c.push.ensures.items in
-    subst (λ (z : ℕ). GoesOn c.args.walk.now.classes.now c.args.walk.now.bytes.now c.args.walk.now.end c.args.cursor.now.at vs (size_of_all vs + z) c.enter.new.cursor c.enter.result) c.push.ensures.len (c.enter.ensures.left vs (subst (λ (z : List Shape). IsRow c.args.walk.now.classes.now c.args.walk.now.bytes.now c.args.cursor.now.at c.args.walk.now.end z vs) q r)))
+    subst (λ (z : ℕ). GoesOn c.args.walk.now.classes.now c.args.walk.now.bytes.now c.args.walk.now.end c.args.cursor.now.at vs (size_of_all vs + z) c.enter.new.cursor c.enter.result) c.push.ensures.len (c.enter.ensures.remaining vs (subst (λ (z : List Shape). AreValues c.args.walk.now.classes.now c.args.walk.now.bytes.now c.args.cursor.now.at c.args.walk.now.end z vs) q r)))

@@ -1,8 +1,8 @@
 use Rattle.std.proofs.Common.{◌≡◌, ◌+◌, ◌*◌, ◌≤◌, ◌-◌, drop, if◌then◌else◌}
-use Rattle.jfr_base.specs.Formats.{for_each, run, times, seen}
+use Rattle.jfr_base.specs.Formats.{for_each, run, times, end_or_flaw}
 use Rattle.jfr_layout.specs.Classes.{item_of}
 use Rattle.jfr_value.specs.Reading.{class_format, item_format, shape_format}
-use Rattle.jfr_value.proofs.TakingLaws.{TakesLeft}
+use Rattle.jfr_value.proofs.TakingLaws.{TakesRemaining}
 use Rattle.jfr_value.proofs.extent.+ends.Given as goal
 
 abbrev pub decreases-layout_end : goal.decreases-layout_end
@@ -21,10 +21,10 @@ abbrev pub invariant-fields_end-loop-layout : goal.invariant-fields_end-loop-lay
 invariant-fields_end-loop-layout g l = record {
   from : l.at ≤ l.to;
   upto : l.to ≤ l.walk.end;
-  same : seen (run (for_each (drop l.layout-index l.layouts) (λ s. shape_format (class_format (l.levels + 1) l.walk.classes.now) s.shape)) l.walk.bytes.now l.walk.end l.to)
-      ≡ seen (run (for_each l.layouts (λ s. shape_format (class_format (l.levels + 1) l.walk.classes.now) s.shape)) l.walk.bytes.now l.walk.end l.at);
+  same : end_or_flaw (run (for_each (drop l.layout-index l.layouts) (λ s. shape_format (class_format (l.levels + 1) l.walk.classes.now) s.shape)) l.walk.bytes.now l.walk.end l.to)
+      ≡ end_or_flaw (run (for_each l.layouts (λ s. shape_format (class_format (l.levels + 1) l.walk.classes.now) s.shape)) l.walk.bytes.now l.walk.end l.at);
   ready : g.V.Visit.ready l.visitor l.walk.with.now;
-  left : TakesLeft (g.V.Visit.takes l.walk.with.now) (run (for_each l.layouts (λ s. shape_format (class_format (l.levels + 1) l.walk.classes.now) s.shape)) l.walk.bytes.now l.walk.end l.at)
+  remaining : TakesRemaining (g.V.Visit.takes l.walk.with.now) (run (for_each l.layouts (λ s. shape_format (class_format (l.levels + 1) l.walk.classes.now) s.shape)) l.walk.bytes.now l.walk.end l.at)
       (run (for_each (drop l.layout-index l.layouts) (λ s. shape_format (class_format (l.levels + 1) l.walk.classes.now) s.shape)) l.walk.bytes.now l.walk.end l.to) l.initial.visitor l.visitor;
 }
 
@@ -32,9 +32,9 @@ abbrev pub invariant-array_end-loop : goal.invariant-array_end-loop
 invariant-array_end-loop g l = record {
   from : l.at ≤ l.to;
   upto : l.to ≤ l.walk.end;
-  same : seen (run (times (l.end - l.counter) (item_format (class_format (l.levels + 1) l.walk.classes.now) (item_of l.layout.shape))) l.walk.bytes.now l.walk.end l.to)
-      ≡ seen (run (times l.end (item_format (class_format (l.levels + 1) l.walk.classes.now) (item_of l.layout.shape))) l.walk.bytes.now l.walk.end l.initial.to);
+  same : end_or_flaw (run (times (l.end - l.counter) (item_format (class_format (l.levels + 1) l.walk.classes.now) (item_of l.layout.shape))) l.walk.bytes.now l.walk.end l.to)
+      ≡ end_or_flaw (run (times l.end (item_format (class_format (l.levels + 1) l.walk.classes.now) (item_of l.layout.shape))) l.walk.bytes.now l.walk.end l.initial.to);
   ready : g.V.Visit.ready l.visitor l.walk.with.now;
-  left : TakesLeft (g.V.Visit.takes l.walk.with.now) (run (times l.end (item_format (class_format (l.levels + 1) l.walk.classes.now) (item_of l.layout.shape))) l.walk.bytes.now l.walk.end l.initial.to)
+  remaining : TakesRemaining (g.V.Visit.takes l.walk.with.now) (run (times l.end (item_format (class_format (l.levels + 1) l.walk.classes.now) (item_of l.layout.shape))) l.walk.bytes.now l.walk.end l.initial.to)
       (run (times (l.end - l.counter) (item_format (class_format (l.levels + 1) l.walk.classes.now) (item_of l.layout.shape))) l.walk.bytes.now l.walk.end l.to) l.initial.visitor l.visitor;
 }

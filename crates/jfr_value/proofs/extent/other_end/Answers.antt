@@ -19,8 +19,8 @@ returns-then-is_hollow_array g c = record {
 pub layout_end-requires-clause-placed : goal.layout_end-requires-clause-placed
 layout_end-requires-clause-placed g c = record { form = c.requires.layout.form; of_class = λ o. c.requires.layout }
 
-pub layout_end-requires-clause-room : goal.layout_end-requires-clause-room
-layout_end-requires-clause-room g c = λ o d q m. sound_inline c.args.walk.classes.now c.args.layout.now.shape.class d c.requires.sound q
+pub layout_end-requires-clause-depth : goal.layout_end-requires-clause-depth
+layout_end-requires-clause-depth g c = λ o d q m. sound_inline c.args.walk.classes.now c.args.layout.now.shape.class d c.requires.sound q
 
 pub returns : goal.returns
 unfolding value_format

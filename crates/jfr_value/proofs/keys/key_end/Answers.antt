@@ -1,10 +1,10 @@
 use Rattle.std.proofs.Common.{IfOk, ap, sym, subst}
-use Rattle.jfr_base.specs.Formats.{seen}
+use Rattle.jfr_base.specs.Formats.{end_or_flaw}
 use Rattle.jfr_value.proofs.SkipLaws.{key_is}
 use Rattle.jfr_value.proofs.keys.key_end.Goals as goal
 
 pub returns-in-Some-clause-exact : goal.returns-in-Some-clause-exact
-returns-in-Some-clause-exact g c = sym (ap seen (key_is c.args.walk.bytes.now c.args.at c.args.walk.end c.in-Some.key c.in-Some.ensures.exact))
+returns-in-Some-clause-exact g c = sym (ap end_or_flaw (key_is c.args.walk.bytes.now c.args.at c.args.walk.end c.in-Some.key c.in-Some.ensures.exact))
 
 pub returns-in-Some-clause-visited : goal.returns-in-Some-clause-visited
 returns-in-Some-clause-visited g c =

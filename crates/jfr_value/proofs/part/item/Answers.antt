@@ -5,7 +5,7 @@ use Rattle.std.proofs.lemmas.List.{length-replicate}
 use Rattle.jfr_layout.specs.Classes.{find_class, item_of}
 use Rattle.jfr_layout.specs.declared.shape.Shape.{Shape}
 use Rattle.jfr_value.specs.declared.node.Step.TheVariants as steps
-use Rattle.jfr_value.specs.Nodes.{IsRow, node_of}
+use Rattle.jfr_value.specs.Nodes.{AreValues, node_of}
 use Rattle.jfr_value.proofs.ChildLaws.{child_value, has_count, item_is, items_known, no_item_past}
 use Rattle.jfr_value.proofs.part.item.Goals as goal
 
@@ -32,12 +32,12 @@ nth_item-requires-clause-placed c = record {
 pub nth_item-requires-clause-row : goal.nth_item-requires-clause-row
 nth_item-requires-clause-row c =
     let f = (item_is c.args.classes.now c.args.node.now.bytes.now (node_of c.args.node.now) c.requires.0 c.layout_of-layout.ensures.sound c.requires.1 c.args.number c.in-Ok.count c.if-not-node.false c.in-Ok.ensures.exact).1 in
-    (f.0, subst (λ (z : Shape). IsRow c.args.classes.now c.args.node.now.bytes.now c.in-Ok.count.end c.args.node.now.end (replicate c.in-Ok.count.value z) f.0) (sym (c.layout_of-layout.ensures.shape ∙ c.item_of.ensures)) f.1)
+    (f.0, subst (λ (z : Shape). AreValues c.args.classes.now c.args.node.now.bytes.now c.in-Ok.count.end c.args.node.now.end (replicate c.in-Ok.count.value z) f.0) (sym (c.layout_of-layout.ensures.shape ∙ c.item_of.ensures)) f.1)
 
 pub returns-clause-exact : goal.returns-clause-exact
 returns-clause-exact c =
     let f = (item_is c.args.classes.now c.args.node.now.bytes.now (node_of c.args.node.now) c.requires.0 c.layout_of-layout.ensures.sound c.requires.1 c.args.number c.in-Ok.count c.if-not-node.false c.in-Ok.ensures.exact).1 in
-    sym (f.2 ∙ c.nth_item.ensures.exact f.0 (subst (λ (z : Shape). IsRow c.args.classes.now c.args.node.now.bytes.now c.in-Ok.count.end c.args.node.now.end (replicate c.in-Ok.count.value z) f.0) (sym (c.layout_of-layout.ensures.shape ∙ c.item_of.ensures)) f.1))
+    sym (f.2 ∙ c.nth_item.ensures.exact f.0 (subst (λ (z : Shape). AreValues c.args.classes.now c.args.node.now.bytes.now c.in-Ok.count.end c.args.node.now.end (replicate c.in-Ok.count.value z) f.0) (sym (c.layout_of-layout.ensures.shape ∙ c.item_of.ensures)) f.1))
 
 pub returns-clause-value : goal.returns-clause-value
 returns-clause-value c = child_value c.args.classes.now c.args.node.now c.nth_item.result (steps.Item c.args.number) c.layout_of-layout.ensures.sound c.requires c.nth_item.ensures.bytes (sym (returns-clause-exact c))

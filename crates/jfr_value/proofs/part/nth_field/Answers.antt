@@ -15,8 +15,8 @@ part_end-at-requires-clause-order c =
     let t = part_there c.args.classes.now c.args.node.now.bytes.now c.args.node.now.at c.args.node.now.end (map (λ s. s.shape) c.args.layouts.now) c.requires.row.0 c.loop-i.i (get_or c.args.layouts.now c.loop-i.i no_layout).shape c.loop-i.at c.requires.row.1 (shapes_get c.args.layouts.now c.loop-i.i (get_or c.args.layouts.now c.loop-i.i no_layout) (layout_there c.args.layouts.now c.loop-i.i (omega arith))) (c.loop-i.invariant c.requires.row.0 c.requires.row.1) in
     omega (arith, t.order, t.within)
 
-pub part_end-at-requires-clause-stands : goal.part_end-at-requires-clause-stands
-part_end-at-requires-clause-stands c =
+pub part_end-at-requires-clause-holds : goal.part_end-at-requires-clause-holds
+part_end-at-requires-clause-holds c =
     let t = part_there c.args.classes.now c.args.node.now.bytes.now c.args.node.now.at c.args.node.now.end (map (λ s. s.shape) c.args.layouts.now) c.requires.row.0 c.loop-i.i (get_or c.args.layouts.now c.loop-i.i no_layout).shape c.loop-i.at c.requires.row.1 (shapes_get c.args.layouts.now c.loop-i.i (get_or c.args.layouts.now c.loop-i.i no_layout) (layout_there c.args.layouts.now c.loop-i.i (omega arith))) (c.loop-i.invariant c.requires.row.0 c.requires.row.1) in
     (t.to, t.ends, t.within)
 
@@ -35,8 +35,8 @@ part_end-requires-clause-order c =
     (c.loop-i.invariant c.requires.row.0 c.requires.row.1 ∙ ap (start_of c.args.node.now.at c.requires.row.0) e) in
     omega (arith, t.order, t.within)
 
-pub part_end-requires-clause-stands : goal.part_end-requires-clause-stands
-part_end-requires-clause-stands c =
+pub part_end-requires-clause-holds : goal.part_end-requires-clause-holds
+part_end-requires-clause-holds c =
     let e : c.loop-i.i ≡ c.args.number = omega arith in
     let t = part_there c.args.classes.now c.args.node.now.bytes.now c.args.node.now.at c.args.node.now.end (map (λ s. s.shape) c.args.layouts.now) c.requires.row.0 c.args.number (get_or c.args.layouts.now c.args.number no_layout).shape c.loop-i.at c.requires.row.1 (shapes_get c.args.layouts.now c.args.number (get_or c.args.layouts.now c.args.number no_layout) (layout_there c.args.layouts.now c.args.number (omega arith)))
     (c.loop-i.invariant c.requires.row.0 c.requires.row.1 ∙ ap (start_of c.args.node.now.at c.requires.row.0) e) in

@@ -20,8 +20,8 @@ part_end-at-requires-clause-order c =
     let t = part_there c.args.classes.now c.args.node.now.bytes.now c.args.count.end c.args.node.now.end (replicate c.args.count.value c.args.layout.now.shape) c.requires.row.0 c.loop.counter c.args.layout.now.shape c.loop.at c.requires.row.1 (replicate_get c.args.count.value c.loop.counter c.args.layout.now.shape l) (c.loop.invariant c.requires.row.0 c.requires.row.1) in
     omega (arith, t.order, t.within)
 
-pub part_end-at-requires-clause-stands : goal.part_end-at-requires-clause-stands
-part_end-at-requires-clause-stands c =
+pub part_end-at-requires-clause-holds : goal.part_end-at-requires-clause-holds
+part_end-at-requires-clause-holds c =
     let l : c.loop.counter < c.args.count.value = omega arith in
     let t = part_there c.args.classes.now c.args.node.now.bytes.now c.args.count.end c.args.node.now.end (replicate c.args.count.value c.args.layout.now.shape) c.requires.row.0 c.loop.counter c.args.layout.now.shape c.loop.at c.requires.row.1 (replicate_get c.args.count.value c.loop.counter c.args.layout.now.shape l) (c.loop.invariant c.requires.row.0 c.requires.row.1) in
     (t.to, t.ends, t.within)
@@ -39,8 +39,8 @@ part_end-requires-clause-order c =
     (c.loop.invariant c.requires.row.0 c.requires.row.1 ∙ ap (start_of c.args.count.end c.requires.row.0) e) in
     omega (arith, t.order, t.within)
 
-pub part_end-requires-clause-stands : goal.part_end-requires-clause-stands
-part_end-requires-clause-stands c =
+pub part_end-requires-clause-holds : goal.part_end-requires-clause-holds
+part_end-requires-clause-holds c =
     let e : c.loop.counter ≡ c.args.number = omega arith in
     let t = part_there c.args.classes.now c.args.node.now.bytes.now c.args.count.end c.args.node.now.end (replicate c.args.count.value c.args.layout.now.shape) c.requires.row.0 c.args.number c.args.layout.now.shape c.loop.at c.requires.row.1 (replicate_get c.args.count.value c.args.number c.args.layout.now.shape c.requires.is_item)
     (c.loop.invariant c.requires.row.0 c.requires.row.1 ∙ ap (start_of c.args.count.end c.requires.row.0) e) in

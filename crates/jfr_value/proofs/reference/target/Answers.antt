@@ -5,8 +5,8 @@ use Rattle.jfr_value.specs.Values.{key_of}
 use Rattle.jfr_value.proofs.ReferenceLaws.{key_refers, none_refers, text_refers}
 use Rattle.jfr_value.proofs.reference.target.Goals as goal
 
-pub reference_key-requires-clause-stands : goal.reference_key-requires-clause-stands
-reference_key-requires-clause-stands c =
+pub reference_key-requires-clause-holds : goal.reference_key-requires-clause-holds
+reference_key-requires-clause-holds c =
     let r = key_refers c.args.classes.now c.args.node.now.bytes.now c.args.node.now.at c.args.node.now.end c.layout_of-layout.result c.args.node.now.shape c.requires.0 c.layout_of-layout.ensures.sound c.layout_of-layout.ensures.shape c.requires.1 c.layout_of-layout.ensures.form c.layout_of-layout.ensures.known c.in-Key.is in
     subst IsSome (sym r.1) refl
 
@@ -16,8 +16,8 @@ returns-in-Key c =
     let e : c.reference_key.result ≡ r.0 = subst (λ z. IfSome z (λ (key : Var). c.reference_key.result ≡ key.value)) r.1 c.reference_key.ensures in
     ap (λ z. Some (c.args.node.now.shape.class, z)) e ∙ sym r.2
 
-pub string_key-requires-clause-stands : goal.string_key-requires-clause-stands
-string_key-requires-clause-stands c =
+pub string_key-requires-clause-holds : goal.string_key-requires-clause-holds
+string_key-requires-clause-holds c =
     let r = text_refers c.args.classes.now c.args.node.now.bytes.now c.args.node.now.at c.args.node.now.end c.layout_of-layout.result c.args.node.now.shape c.requires.0 c.layout_of-layout.ensures.sound c.layout_of-layout.ensures.shape c.requires.1 c.layout_of-layout.ensures.form c.layout_of-layout.ensures.known c.in-Text.is in
     subst IsOk (sym r.1) refl
 

@@ -1,5 +1,5 @@
 use Rattle.std.proofs.Common.{◌≡◌, ◌-◌, ◌^◌, true}
-use Rattle.jfr_outside.specs.World.{Told}
+use Rattle.jfr_outside.specs.World.{IfKnown}
 use Rattle.jfr_verify.specs.Faults.{AreSame}
 use Rattle.jfr_verify.specs.Outputs.{AllWhole}
 use Rattle.jfr_verify.proofs.OutputLaws.{Keeping}
@@ -7,7 +7,7 @@ use Rattle.jfr_verify.proofs.outputs.read_outputs.Given as goal
 
 abbrev pub invariant-chunks : goal.invariant-chunks
 invariant-chunks g l = record {
-  keeping : Told (g.P.Place.state l.fn.place).told (g.P.Place.state l.place).told (Keeping l.name l.outputs.chunks.items l.cutter);
+  keeping : IfKnown (g.P.Place.state l.fn.place).contents (g.P.Place.state l.place).contents (Keeping l.name l.outputs.chunks.items l.cutter);
   whole : AllWhole l.outputs.chunks.items;
   live : l.cutter.live ≡ true;
   counts : AreSame (g.P.Place.state l.fn.place) (g.P.Place.state l.place);

@@ -1,27 +1,27 @@
 use Rattle.std.proofs.Common.{◌∙◌, subst, sym}
-use Rattle.jfr_outside.specs.World.{Told}
+use Rattle.jfr_outside.specs.World.{IfKnown}
 use Rattle.jfr_verify.specs.Comparing.{InputRead}
 use Rattle.jfr_verify.specs.Outputs.{AreOutputs}
 use Rattle.jfr_verify.proofs.FileLaws.{no_receipts, no_output, input_compared}
 use Rattle.jfr_verify.proofs.stream.verify_files.Goals as goal
 
-pub returns-in-Err-clause-told : goal.returns-in-Err-clause-told
-returns-in-Err-clause-told g c =
-    no_receipts c.args.filter.now c.args.names.input.now c.args.names.output.now c.args.names.receipt.now c.in-Err.fault c.of_receipts.result (g.P.Place.state c.args.place.now).told (g.P.Place.state c.read_file.new.place).told c.of_receipts.ensures c.in-Err.ensures.told
+pub returns-in-Err-clause-contents : goal.returns-in-Err-clause-contents
+returns-in-Err-clause-contents g c =
+    no_receipts c.args.filter.now c.args.names.input.now c.args.names.output.now c.args.names.receipt.now c.in-Err.fault c.of_receipts.result (g.P.Place.state c.args.place.now).contents (g.P.Place.state c.read_file.new.place).contents c.of_receipts.ensures c.in-Err.ensures.contents
 
-pub returns-in-Err-read_outputs-clause-told : goal.returns-in-Err-read_outputs-clause-told
-returns-in-Err-read_outputs-clause-told g c =
-    no_output c.args.filter.now c.args.names.input.now c.args.names.output.now c.args.names.receipt.now c.in-Ok.receipts c.in-Err-read_outputs.verdict (g.P.Place.state c.args.place.now).told (g.P.Place.state c.read_file.new.place).told (g.P.Place.state c.read_outputs.new.place).told c.in-Ok.ensures.bound c.in-Ok.ensures.told c.in-Err-read_outputs.ensures.told
+pub returns-in-Err-read_outputs-clause-contents : goal.returns-in-Err-read_outputs-clause-contents
+returns-in-Err-read_outputs-clause-contents g c =
+    no_output c.args.filter.now c.args.names.input.now c.args.names.output.now c.args.names.receipt.now c.in-Ok.receipts c.in-Err-read_outputs.verdict (g.P.Place.state c.args.place.now).contents (g.P.Place.state c.read_file.new.place).contents (g.P.Place.state c.read_outputs.new.place).contents c.in-Ok.ensures.bound c.in-Ok.ensures.contents c.in-Err-read_outputs.ensures.contents
 
-pub returns-clause-told : goal.returns-clause-told
-returns-clause-told g c =
+pub returns-clause-contents : goal.returns-clause-contents
+returns-clause-contents g c =
     let s = c.new-comparer.result in
     let x = c.compare_input.result in
     let filter = c.new-comparer.ensures.filter in
     let outputs = c.new-comparer.ensures.outputs ∙ c.deref.ensures.value in
     let receipts = c.new-comparer.ensures.receipts ∙ c.deref-2.ensures.value in
-    input_compared c.args.filter.now c.args.names.input.now c.args.names.output.now c.args.names.receipt.now c.in-Ok.receipts c.in-Ok-read_outputs.outputs x (g.P.Place.state c.args.place.now).told (g.P.Place.state c.read_file.new.place).told (g.P.Place.state c.read_outputs.new.place).told (g.P.Place.state c.compare_input.new.place).told c.in-Ok.ensures.bound c.in-Ok.ensures.told c.in-Ok-read_outputs.ensures.told
+    input_compared c.args.filter.now c.args.names.input.now c.args.names.output.now c.args.names.receipt.now c.in-Ok.receipts c.in-Ok-read_outputs.outputs x (g.P.Place.state c.args.place.now).contents (g.P.Place.state c.read_file.new.place).contents (g.P.Place.state c.read_outputs.new.place).contents (g.P.Place.state c.compare_input.new.place).contents c.in-Ok.ensures.bound c.in-Ok.ensures.contents c.in-Ok-read_outputs.ensures.contents
     (λ qs h.
-    subst (λ f. Told (g.P.Place.state c.read_outputs.new.place).told (g.P.Place.state c.compare_input.new.place).told (InputRead f c.args.names.input.now qs c.in-Ok.receipts.items x)) filter
-    (subst (λ z. Told (g.P.Place.state c.read_outputs.new.place).told (g.P.Place.state c.compare_input.new.place).told (InputRead s.filter.now c.args.names.input.now qs z x)) receipts
-    (c.compare_input.ensures.told qs (subst (λ z. AreOutputs z qs) (sym outputs) h))))
+    subst (λ f. IfKnown (g.P.Place.state c.read_outputs.new.place).contents (g.P.Place.state c.compare_input.new.place).contents (InputRead f c.args.names.input.now qs c.in-Ok.receipts.items x)) filter
+    (subst (λ z. IfKnown (g.P.Place.state c.read_outputs.new.place).contents (g.P.Place.state c.compare_input.new.place).contents (InputRead s.filter.now c.args.names.input.now qs z x)) receipts
+    (c.compare_input.ensures.contents qs (subst (λ z. AreOutputs z qs) (sym outputs) h))))

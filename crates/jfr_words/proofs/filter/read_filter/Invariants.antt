@@ -7,7 +7,7 @@ use Rattle.jfr_words.proofs.filter.read_filter.Given as goal
 
 -- What is left gives what all the words after the command give.
 abbrev pub invariant-options : goal.invariant-options
-invariant-options l = (named : Given → List (List ℕ) → Option Order) → filtered_from named l.filter l.left ≡ filtered_from named nothing_given l.fn.left
+invariant-options l = (named : Given → List (List ℕ) → Option Order) → filtered_from named l.filter l.unread ≡ filtered_from named nothing_given l.fn.unread
 
 abbrev pub decreases-options : goal.decreases-options
-decreases-options l = length l.left
+decreases-options l = length l.unread

@@ -7,6 +7,6 @@ use Rattle.jfr_words.proofs.stacks.read_stacks.Goals as goal
 
 pub options-preserved : goal.options-preserved
 options-preserved c =
-    option_taken stacks_from stacks_option_of stacks_with stacks_named (record { on = λ g word next rest. refl }) c.options.filter c.give_patterns.new.filter c.in-Some.option _ c.options.left c.take_option.new.self _ c.in-Some.ensures.option c.in-Some.ensures.taken c.in_ok-list.ensures
+    option_taken stacks_from stacks_option_of stacks_with stacks_named (record { on = λ g word next rest. refl }) c.options.filter c.give_patterns.new.filter c.in-Some.option _ c.options.unread c.take_option.new.self _ c.in-Some.ensures.option c.in-Some.ensures.taken c.in_ok-list.ensures
     (ap (λ side. given_with side (chars c.in_ok-list.list.now) c.options.filter) (sym c.side.ensures) ∙ c.in_ok-give_patterns.ensures)
     ∙ c.options.invariant

@@ -7,47 +7,47 @@ use Rattle.jfr_words.proofs.words.read_command.Goals as goal
 
 pub returns-in-print : goal.returns-in-print
 unfolding order_of
-returns-in-print c = subst (λ o. IsRead o c.read_print.result (λ order. order)) (sym (order_at c.args.left.now _ (codes "print") refl c.in-print.is)) c.read_print.ensures
+returns-in-print c = subst (λ o. IsRead o c.read_print.result (λ order. order)) (sym (order_at c.args.unread.now _ (codes "print") refl c.in-print.is)) c.read_print.ensures
 
 pub returns-in-summary : goal.returns-in-summary
 unfolding order_of
-returns-in-summary c = subst (λ o. IsRead o c.read_summary.result (λ order. order)) (sym (order_at c.args.left.now _ (codes "summary") refl c.in-summary.is)) c.read_summary.ensures
+returns-in-summary c = subst (λ o. IsRead o c.read_summary.result (λ order. order)) (sym (order_at c.args.unread.now _ (codes "summary") refl c.in-summary.is)) c.read_summary.ensures
 
 pub returns-in-metadata : goal.returns-in-metadata
 unfolding order_of
-returns-in-metadata c = subst (λ o. IsRead o c.read_metadata.result (λ order. order)) (sym (order_at c.args.left.now _ (codes "metadata") refl c.in-metadata.is)) c.read_metadata.ensures
+returns-in-metadata c = subst (λ o. IsRead o c.read_metadata.result (λ order. order)) (sym (order_at c.args.unread.now _ (codes "metadata") refl c.in-metadata.is)) c.read_metadata.ensures
 
 pub returns-in-scrub : goal.returns-in-scrub
 unfolding order_of
-returns-in-scrub c = subst (λ o. IsRead o c.read_scrub.result (λ order. order)) (sym (order_at c.args.left.now _ (codes "scrub") refl c.in-scrub.is)) c.read_scrub.ensures
+returns-in-scrub c = subst (λ o. IsRead o c.read_scrub.result (λ order. order)) (sym (order_at c.args.unread.now _ (codes "scrub") refl c.in-scrub.is)) c.read_scrub.ensures
 
 pub returns-in-disassemble : goal.returns-in-disassemble
 unfolding order_of
-returns-in-disassemble c = subst (λ o. IsRead o c.read_split.result (λ order. order)) (sym (order_at c.args.left.now _ (codes "disassemble") refl c.in-disassemble.is)) c.read_split.ensures
+returns-in-disassemble c = subst (λ o. IsRead o c.read_split.result (λ order. order)) (sym (order_at c.args.unread.now _ (codes "disassemble") refl c.in-disassemble.is)) c.read_split.ensures
 
 pub returns-in-assemble : goal.returns-in-assemble
 unfolding order_of
-returns-in-assemble c = subst (λ o. IsRead o c.read_assembly.result (λ order. order)) (sym (order_at c.args.left.now _ (codes "assemble") refl c.in-assemble.is)) c.read_assembly.ensures
+returns-in-assemble c = subst (λ o. IsRead o c.read_assembly.result (λ order. order)) (sym (order_at c.args.unread.now _ (codes "assemble") refl c.in-assemble.is)) c.read_assembly.ensures
 
 pub returns-in-sample : goal.returns-in-sample
 unfolding order_of
-returns-in-sample c = subst (λ o. IsRead o c.read_sample.result (λ order. order)) (sym (order_at c.args.left.now _ (codes "sample") refl c.in-sample.is)) c.read_sample.ensures
+returns-in-sample c = subst (λ o. IsRead o c.read_sample.result (λ order. order)) (sym (order_at c.args.unread.now _ (codes "sample") refl c.in-sample.is)) c.read_sample.ensures
 
 pub returns-in-receipt : goal.returns-in-receipt
 unfolding order_of
-returns-in-receipt c = subst (λ o. IsRead o c.read_receipt.result (λ order. order)) (sym (order_at c.args.left.now _ (codes "receipt") refl c.in-receipt.is)) c.read_receipt.ensures
+returns-in-receipt c = subst (λ o. IsRead o c.read_receipt.result (λ order. order)) (sym (order_at c.args.unread.now _ (codes "receipt") refl c.in-receipt.is)) c.read_receipt.ensures
 
 pub returns-in-verify : goal.returns-in-verify
 unfolding order_of
-returns-in-verify c = subst (λ o. IsRead o c.read_verification.result (λ order. order)) (sym (order_at c.args.left.now _ (codes "verify") refl c.in-verify.is)) c.read_verification.ensures
+returns-in-verify c = subst (λ o. IsRead o c.read_verification.result (λ order. order)) (sym (order_at c.args.unread.now _ (codes "verify") refl c.in-verify.is)) c.read_verification.ensures
 
 pub returns-in-stacks : goal.returns-in-stacks
 unfolding order_of
-returns-in-stacks c = subst (λ o. IsRead o c.read_stacks.result (λ order. order)) (sym (order_at c.args.left.now _ (codes "stacks") refl c.in-stacks.is)) c.read_stacks.ensures
+returns-in-stacks c = subst (λ o. IsRead o c.read_stacks.result (λ order. order)) (sym (order_at c.args.unread.now _ (codes "stacks") refl c.in-stacks.is)) c.read_stacks.ensures
 
 pub returns-in-build : goal.returns-in-build
 unfolding order_of
-returns-in-build c = subst (λ o. IsRead o c.read_building.result (λ order. order)) (sym (order_at c.args.left.now _ (codes "build") refl c.in-build.is)) c.read_building.ensures
+returns-in-build c = subst (λ o. IsRead o c.read_building.result (λ order. order)) (sym (order_at c.args.unread.now _ (codes "build") refl c.in-build.is)) c.read_building.ensures
 
 pub returns-in_default : goal.returns-in_default
 unfolding order_of

@@ -8,4 +8,4 @@ returns-in-Some-clause-usable c = usable_read _ c.read_command.result c.read_com
 
 pub returns-in-None-clause-read : goal.returns-in-None-clause-read
 unfolding order_of
-returns-in-None-clause-read c = ap order_of (sym c.all-left.ensures ∙ c.in-None.ensures.0)
+returns-in-None-clause-read c = ap order_of (sym c.all-unread.ensures ∙ c.in-None.ensures.0)

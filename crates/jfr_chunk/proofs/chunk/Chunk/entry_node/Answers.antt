@@ -3,7 +3,7 @@ use Rattle.std.proofs.Common.{◌≡◌, ap, sym, ◌∙◌, subst}
 use Rattle.std.specs.Prelude.{Some, slice_get, option_copied}
 use Rattle.jfr_value.specs.Nodes.{node_at}
 use Rattle.jfr_chunk.specs.Parts.{AreParts, Parts}
-use Rattle.jfr_chunk.proofs.StandingLaws.{entry_value}
+use Rattle.jfr_chunk.proofs.HasNodesLaws.{entry_value}
 use Rattle.jfr_chunk.proofs.chunk.Chunk.entry_node.Goals as goal
 
 pub returns-clause-value : goal.returns-clause-value

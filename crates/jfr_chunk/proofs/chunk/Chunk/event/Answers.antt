@@ -6,7 +6,7 @@ use Rattle.jfr_chunk.specs.Seen.{event_kept, event_at, event_with}
 use Rattle.jfr_chunk.proofs.CountLaws.{whole_small}
 use Rattle.jfr_chunk.proofs.EventReading.{record_of}
 use Rattle.jfr_chunk.proofs.SeenLaws.{event_found, event_missed}
-use Rattle.jfr_chunk.proofs.StandingLaws.{event_value}
+use Rattle.jfr_chunk.proofs.HasNodesLaws.{event_value}
 use Rattle.jfr_chunk.proofs.chunk.Chunk.event.Goals as goal
 
 pub returns-in_err-frame-clause-exact : goal.returns-in_err-frame-clause-exact

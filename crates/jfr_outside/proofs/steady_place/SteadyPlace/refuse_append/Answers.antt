@@ -4,8 +4,8 @@ use Rattle.jfr_outside.specs.SteadyPlace.{world_of}
 use Rattle.jfr_outside.proofs.HeldLaws.{append_kept}
 use Rattle.jfr_outside.proofs.steady_place.SteadyPlace.refuse_append.Goals as goal
 
-pub returns-in-Some-clause-told : goal.returns-in-Some-clause-told
-returns-in-Some-clause-told c =
+pub returns-in-Some-clause-contents : goal.returns-in-Some-clause-contents
+returns-in-Some-clause-contents c =
     let P : List ℕ → Type 0 = λ name. IsHeld (files_of c.args.self.now.files) name in
     let few : c.min.result ≤ c.args.keep = omega (arith, c.min.ensures) in
     let held : P c.as_str.result.now = subst P (sym c.as_str.ensures.value) (c.args.self.now.output_is_there c.in-Some.name c.in-Some.is) in

@@ -9,5 +9,5 @@ returns-then-class-len c = λ es h n. passed c.args.self.now c.args.entry.now es
 pub returns : goal.returns
 returns c =
     let by_class = c.args.self.now.by_class in
-    let stands = slice_get_read by_class.items by_class.len c.args.entry.now.class c.index_mut.result.now by_class.ok.0 (omega (arith, c.len.ensures, c.if-class-len.false)) c.index_mut.ensures.value in
-    placed c.args.self.now _ c.index_mut.result.now c.put.new.self c.args.entry.now c.args.number stands refl c.put.ensures.here c.put.ensures.others
+    let holds = slice_get_read by_class.items by_class.len c.args.entry.now.class c.index_mut.result.now by_class.ok.0 (omega (arith, c.len.ensures, c.if-class-len.false)) c.index_mut.ensures.value in
+    placed c.args.self.now _ c.index_mut.result.now c.put.new.self c.args.entry.now c.args.number holds refl c.put.ensures.here c.put.ensures.others

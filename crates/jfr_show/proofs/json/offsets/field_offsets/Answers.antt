@@ -23,18 +23,18 @@ end_at-end-requires-clause-within c =
     let layouts : IfSome (slice_get k c.args.class_index) (λ d. AreFieldLayouts k d.fields c.layouts-layouts.result.now) = subst (λ z. IfSome (slice_get z c.args.class_index) (λ d. AreFieldLayouts z d.fields c.layouts-layouts.result.now)) c.classes.ensures c.layouts-layouts.ensures.exact in
     let layout = get_or c.layouts-layouts.result.now c.loop-layout.layout-index no_layout in
     let f = field_of k c.args.class_index c.loop-layout.layout-index c.layouts-layouts.result.now c.requires.placed layouts c.loop-layout-test.true in
-    let r = c.requires.stand in
+    let r = c.requires.valid in
     let h = left_there k b r.0 _ _ layout.shape _ _ c.loop-layout.end c.loop-layout.starts.items (c.loop-layout.invariant r.0 r.1 r.2) (field_next k c.args.class_index c.loop-layout.layout-index f.field layout.shape f.there f.shape) in
     (let o = h.node.order in let w = h.node.within in omega arith)
 
-pub end_at-end-requires-clause-stands : goal.end_at-end-requires-clause-stands
-end_at-end-requires-clause-stands c =
+pub end_at-end-requires-clause-holds : goal.end_at-end-requires-clause-holds
+end_at-end-requires-clause-holds c =
     let k = c.args.chunk.now.classes in
     let b = c.args.chunk.now.bytes in
     let layouts : IfSome (slice_get k c.args.class_index) (λ d. AreFieldLayouts k d.fields c.layouts-layouts.result.now) = subst (λ z. IfSome (slice_get z c.args.class_index) (λ d. AreFieldLayouts z d.fields c.layouts-layouts.result.now)) c.classes.ensures c.layouts-layouts.ensures.exact in
     let layout = get_or c.layouts-layouts.result.now c.loop-layout.layout-index no_layout in
     let f = field_of k c.args.class_index c.loop-layout.layout-index c.layouts-layouts.result.now c.requires.placed layouts c.loop-layout-test.true in
-    let r = c.requires.stand in
+    let r = c.requires.valid in
     let h = left_there k b r.0 _ _ layout.shape _ _ c.loop-layout.end c.loop-layout.starts.items (c.loop-layout.invariant r.0 r.1 r.2) (field_next k c.args.class_index c.loop-layout.layout-index f.field layout.shape f.there f.shape) in
     (h.place, (h.value, h.node))
 

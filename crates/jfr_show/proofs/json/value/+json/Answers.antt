@@ -9,44 +9,44 @@ use Rattle.jfr_layout.specs.declared.form.Form.TheVariants as forms
 use Rattle.jfr_layout.specs.declared.shape.Shape.{Shape}
 use Rattle.jfr_layout.specs.declared.field_layout.FieldLayout.{FieldLayout}
 use Rattle.jfr_layout.specs.Classes.{Class, AreFieldLayouts, Sound, find_class, item_of}
-use Rattle.jfr_value.specs.Nodes.{EndsAt, IsNode, IsRow, node_at, node_of}
+use Rattle.jfr_value.specs.Nodes.{EndsAt, IsNode, AreValues, node_at, node_of}
 use Rattle.jfr_value.specs.Values.{Values}
 use Rattle.jfr_value.specs.Visits.{field_shapes}
-use Rattle.jfr_value.specs.Walks.{IsLayoutIfKnown, Room}
+use Rattle.jfr_value.specs.Walks.{IsLayoutIfKnown, DepthBound}
 use Rattle.jfr_value.proofs.FormLaws.{fields_kind, inline_there}
-use Rattle.jfr_value.proofs.StackLaws.{inner_room}
-use Rattle.jfr_value.proofs.VisitLaws.{room_within, field_next, item_next, items_past, room_first}
+use Rattle.jfr_value.proofs.StackLaws.{inner_depth}
+use Rattle.jfr_value.proofs.VisitLaws.{depth_within, field_next, item_next, items_past, bound_of_first}
 use Rattle.jfr_value.proofs.LayoutLaws.{field_of, no_layout}
 use Rattle.jfr_value.proofs.DepthLaws.{sound_inline}
 use Rattle.jfr_pool.specs.Entries.{in_force}
 use Rattle.jfr_show.specs.declared.depth.Reach.{Reach}
 use Rattle.jfr_show.specs.Json.{json_of, json_of_all, node_json, referred_json}
 use Rattle.jfr_show.specs.Orders.{AreOffsets, IsOrder, laid_out, lead_of, starts}
-use Rattle.jfr_show.proofs.LayoutForms.{composite_room, integer_stands, key_stands, text_stands, array_stands, is_composite, is_array, item_known}
+use Rattle.jfr_show.proofs.LayoutForms.{composite_depth, integer_stands, key_stands, text_stands, array_stands, is_composite, is_array, item_known}
 use Rattle.jfr_show.proofs.JsonLaws.{onto_items, one_item, items_between, integer_made, raw_made, reference_made, key_made, string_made, composite_json, array_json, missing_is, name_is, constant_is, node_json_is}
 use Rattle.jfr_show.proofs.ReferLaws.{by_answer, no_entry, entry_found}
 use Rattle.jfr_show.proofs.LeftLaws.{left_there, left_goes, left_closes}
 use Rattle.jfr_show.proofs.PlacedLaws.{ordered, got, got_is, drop_get, below_layouts, below_fields, placed, count_starts, count_json, shapes_count, leads_from, lay_one, lay_all}
 use Rattle.jfr_show.proofs.json.value.+json.Goals as goal
 
-pub push_items-integer_at-count-requires-clause-stands : goal.push_items-integer_at-count-requires-clause-stands
-push_items-integer_at-count-requires-clause-stands t c =
-    let r = c.requires.stands in
+pub push_items-integer_at-count-requires-clause-holds : goal.push_items-integer_at-count-requires-clause-holds
+push_items-integer_at-count-requires-clause-holds t c =
+    let r = c.requires.holds in
     array_stands c.args.source.now.chunk.now.classes c.args.source.now.chunk.now.bytes c.args.at r.0 c.args.layout.now c.requires.layout r.1.0 r.1.1 c.requires.array
 
 pub push_items-push_value-requires : goal.push_items-push_value-requires
 push_items-push_value-requires t c =
     let flat : c.item_layout-item.result.shape ≡ item_of c.args.layout.now.shape = ap (λ (z : FieldLayout). z.shape) c.item_layout-item.ensures in
     let next = item_next c.integer_at-count.result.value c.items.counter (item_of c.args.layout.now.shape) c.items-test.true in
-    let r = c.requires.stands in
+    let r = c.requires.holds in
     let f = is_array c.args.source.now.chunk.now.classes c.args.source.now.chunk.now.bytes c.args.at r.0 c.args.layout.now c.requires.layout r.1.0 r.1.1 c.requires.array c.integer_at-count.result c.integer_at-count.ensures in
     let h = left_there c.args.source.now.chunk.now.classes c.args.source.now.chunk.now.bytes r.0 _ _ (item_of c.args.layout.now.shape) _ _ c.items.to (string_bytes c.items.out) (c.items.invariant.left r.0 f.parts f.row) next in
-    let stands : (to : ℕ) × EndsAt c.args.source.now.chunk.now.classes c.args.source.now.chunk.now.bytes c.item_layout-item.result.shape c.items.to to = (h.place, subst (λ (z : Shape). EndsAt c.args.source.now.chunk.now.classes c.args.source.now.chunk.now.bytes z c.items.to h.place) (sym flat) (h.value, h.node)) in
+    let holds : (to : ℕ) × EndsAt c.args.source.now.chunk.now.classes c.args.source.now.chunk.now.bytes c.item_layout-item.result.shape c.items.to to = (h.place, subst (λ (z : Shape). EndsAt c.args.source.now.chunk.now.classes c.args.source.now.chunk.now.bytes z c.items.to h.place) (sym flat) (h.value, h.node)) in
     let known : IsLayoutIfKnown c.args.source.now.chunk.now.classes c.item_layout-item.result = item_known c.args.source.now.chunk.now.classes c.args.layout.now c.item_layout-item.result c.requires.layout c.item_layout-item.ensures in
-    let room : Room c.args.source.now.chunk.now.classes c.args.source.now.reach.composites c.item_layout-item.result.shape = subst (λ (z : Shape). Room c.args.source.now.chunk.now.classes c.args.source.now.reach.composites z) (sym flat) c.requires.room in
+    let depth : DepthBound c.args.source.now.chunk.now.classes c.args.source.now.reach.composites c.item_layout-item.result.shape = subst (λ (z : Shape). DepthBound c.args.source.now.chunk.now.classes c.args.source.now.reach.composites z) (sym flat) c.requires.depth in
     let single : c.item_layout-item.result.shape.array ≡ false = ap (λ (z : Shape). z.array) flat in
     let cached = c.items.invariant.cached in
-    search (rules, cached, stands, known, room, single)
+    search (rules, cached, holds, known, depth, single)
 
 pub push_items-items-preserved : goal.push_items-items-preserved
 push_items-items-preserved t c =
@@ -79,14 +79,14 @@ push_node-push_value-requires t c =
     let v = c.requires.value in
     let n : IsNode c.args.source.now.chunk.now.classes c.args.source.now.chunk.now.bytes (node_of c.args.node.now) v.0 = subst (λ z. IsNode c.args.source.now.chunk.now.classes z (node_of c.args.node.now) v.0) c.requires.of_chunk v.1 in
     let there : IsNode c.args.source.now.chunk.now.classes c.args.source.now.chunk.now.bytes (node_at c.layout_of-layout.result.shape c.args.node.now.at c.args.node.now.end) v.0 = subst (λ (z : Shape). IsNode c.args.source.now.chunk.now.classes c.args.source.now.chunk.now.bytes (node_at z c.args.node.now.at c.args.node.now.end) v.0) (sym c.layout_of-layout.ensures.shape) n in
-    let stands : (to : ℕ) × EndsAt c.args.source.now.chunk.now.classes c.args.source.now.chunk.now.bytes c.layout_of-layout.result.shape c.args.node.now.at to = (c.args.node.now.end, (v.0, there)) in
+    let holds : (to : ℕ) × EndsAt c.args.source.now.chunk.now.classes c.args.source.now.chunk.now.bytes c.layout_of-layout.result.shape c.args.node.now.at to = (c.args.node.now.end, (v.0, there)) in
     let known : IsLayoutIfKnown c.args.source.now.chunk.now.classes c.layout_of-layout.result = subst (λ z. IsLayoutIfKnown z c.layout_of-layout.result) c.classes.ensures (record { form = c.layout_of-layout.ensures.form; of_class = λ o h. c.layout_of-layout.ensures.known (subst (λ (z : Shape). IsSome (find_class c.classes.result.now z.class)) c.layout_of-layout.ensures.shape h) }) in
-    let all : Room c.args.source.now.chunk.now.classes 33 c.layout_of-layout.result.shape = λ o d q m. sound_inline c.args.source.now.chunk.now.classes c.layout_of-layout.result.shape.class d (subst Sound c.classes.ensures c.layout_of-layout.ensures.sound) q in
-    let room : Room c.args.source.now.chunk.now.classes c.args.source.now.reach.composites c.layout_of-layout.result.shape = subst (λ z. Room c.args.source.now.chunk.now.classes z c.layout_of-layout.result.shape) (sym c.requires.composites) all in
+    let all : DepthBound c.args.source.now.chunk.now.classes 33 c.layout_of-layout.result.shape = λ o d q m. sound_inline c.args.source.now.chunk.now.classes c.layout_of-layout.result.shape.class d (subst Sound c.classes.ensures c.layout_of-layout.ensures.sound) q in
+    let depth : DepthBound c.args.source.now.chunk.now.classes c.args.source.now.reach.composites c.layout_of-layout.result.shape = subst (λ z. DepthBound c.args.source.now.chunk.now.classes z c.layout_of-layout.result.shape) (sym c.requires.composites) all in
     let composites = c.requires.composites in
     let cached = c.requires.cached in
     let source = c.requires.source in
-    search (rules, cached, source, stands, known, room, composites)
+    search (rules, cached, source, holds, known, depth, composites)
 
 pub push_node-returns : goal.push_node-returns
 push_node-returns t c =
@@ -115,33 +115,33 @@ push_constant-returns t c =
     ∙ (sym (constant_is c.args.source.now.chunk.now (c.args.source.now.reach.references - 1) (c.args.class, c.args.key) e.entry e.there) ∙ ap (λ z. referred_json c.args.source.now.chunk.now z (c.args.class, c.args.key)) deep)) in
     record { cached = c.push_node.ensures.cached; ok = subst (λ z. OnOk c.push_node.result (string_bytes c.push_node.new.out ≡ string_bytes c.args.out.now ++ compact_text z)) same c.push_node.ensures.ok }
 
-pub push_value-integer_at-number-requires-clause-stands : goal.push_value-integer_at-number-requires-clause-stands
-push_value-integer_at-number-requires-clause-stands t c =
-    let r = c.requires.stands in
+pub push_value-integer_at-number-requires-clause-holds : goal.push_value-integer_at-number-requires-clause-holds
+push_value-integer_at-number-requires-clause-holds t c =
+    let r = c.requires.holds in
     integer_stands c.args.source.now.chunk.now.classes c.args.source.now.chunk.now.bytes c.args.at r.0 c.args.layout.now c.requires.layout r.1.0 r.1.1 c.in-Integer.is
 
-pub push_value-integer_at-key-requires-clause-stands : goal.push_value-integer_at-key-requires-clause-stands
-push_value-integer_at-key-requires-clause-stands t c =
-    let r = c.requires.stands in
+pub push_value-integer_at-key-requires-clause-holds : goal.push_value-integer_at-key-requires-clause-holds
+push_value-integer_at-key-requires-clause-holds t c =
+    let r = c.requires.holds in
     key_stands c.args.source.now.chunk.now.classes c.args.source.now.chunk.now.bytes c.args.at r.0 c.args.layout.now c.requires.layout r.1.0 r.1.1 c.in-Key.is
 
-pub push_value-string_at-string-requires-clause-stands : goal.push_value-string_at-string-requires-clause-stands
-push_value-string_at-string-requires-clause-stands t c =
-    let r = c.requires.stands in
+pub push_value-string_at-string-requires-clause-holds : goal.push_value-string_at-string-requires-clause-holds
+push_value-string_at-string-requires-clause-holds t c =
+    let r = c.requires.holds in
     text_stands c.args.source.now.chunk.now.classes c.args.source.now.chunk.now.bytes c.args.at r.0 c.args.layout.now c.requires.layout r.1.0 r.1.1 c.in-Text.is
 
 pub push_value-push_fields-requires : goal.push_value-push_fields-requires
 push_value-push_fields-requires t c =
-    let r = c.requires.stands in
+    let r = c.requires.holds in
     let f = is_composite c.args.source.now.chunk.now.classes c.args.source.now.chunk.now.bytes c.args.at r.0 c.args.layout.now c.requires.layout r.1.0 r.1.1 c.in-Fields.is in
-    let x = composite_room c.args.source.now.chunk.now.classes c.args.source.now.chunk.now.bytes c.args.at r.0 c.args.layout.now c.requires.layout r.1.0 r.1.1 c.in-Fields.is c.args.source.now.reach.composites c.requires.room in
+    let x = composite_depth c.args.source.now.chunk.now.classes c.args.source.now.chunk.now.bytes c.args.at r.0 c.args.layout.now c.requires.layout r.1.0 r.1.1 c.in-Fields.is c.args.source.now.reach.composites c.requires.depth in
     let inner : 1 ≤ c.args.source.now.reach.composites = x.0 in
-    let room : AllByRecursion (Room c.args.source.now.chunk.now.classes (c.args.source.now.reach.composites - 1)) (field_shapes c.args.source.now.chunk.now.classes c.args.layout.now.class_index) = x.1 in
+    let depth : AllByRecursion (DepthBound c.args.source.now.chunk.now.classes (c.args.source.now.reach.composites - 1)) (field_shapes c.args.source.now.chunk.now.classes c.args.layout.now.class_index) = x.1 in
     let within : c.args.layout.now.class_index < length c.args.source.now.chunk.now.classes = f.placed in
-    let stand : (to : ℕ) × (vs : Values) × IsRow c.args.source.now.chunk.now.classes c.args.source.now.chunk.now.bytes c.args.at to (field_shapes c.args.source.now.chunk.now.classes c.args.layout.now.class_index) vs = (r.0, f.parts, f.row) in
+    let valid : (to : ℕ) × (vs : Values) × AreValues c.args.source.now.chunk.now.classes c.args.source.now.chunk.now.bytes c.args.at to (field_shapes c.args.source.now.chunk.now.classes c.args.layout.now.class_index) vs = (r.0, f.parts, f.row) in
     let flat = f.array in
     let cached = c.requires.cached in
-    search (rules, cached, room, within, stand, inner, flat)
+    search (rules, cached, depth, within, valid, inner, flat)
 
 pub push_value-returns-in_ok-push_integer-in-Integer : goal.push_value-returns-in_ok-push_integer-in-Integer
 push_value-returns-in_ok-push_integer-in-Integer t c =
@@ -177,13 +177,13 @@ push_value-returns-in-Fields t c =
 pub push_fields-push_object-requires : goal.push_fields-push_object-requires
 push_fields-push_object-requires t c =
     let e : c.in_ok-offsets.offsets.class_index ≡ c.args.class_index = c.in_ok-offsets.ensures.class in
-    let r = c.requires.stand in
+    let r = c.requires.valid in
     let h = c.in_ok-offsets.ensures.ok r.0 r.1 r.2 in
     let placed : c.in_ok-offsets.offsets.class_index < length c.args.source.now.chunk.now.classes = subst (λ z. z < length c.args.source.now.chunk.now.classes) (sym e) c.requires.placed in
-    let room : AllByRecursion (Room c.args.source.now.chunk.now.classes (c.args.source.now.reach.composites - 1)) (field_shapes c.args.source.now.chunk.now.classes c.in_ok-offsets.offsets.class_index) = subst (λ z. AllByRecursion (Room c.args.source.now.chunk.now.classes (c.args.source.now.reach.composites - 1)) (field_shapes c.args.source.now.chunk.now.classes z)) (sym e) c.requires.room in
-    let stand : (at : ℕ) × (to : ℕ) × (vs : Values) × IsRow c.args.source.now.chunk.now.classes c.args.source.now.chunk.now.bytes at to (field_shapes c.args.source.now.chunk.now.classes c.in_ok-offsets.offsets.class_index) vs × AreOffsets c.in_ok-offsets.offsets at to vs = (c.args.at, r.0, r.1, subst (λ z. IsRow c.args.source.now.chunk.now.classes c.args.source.now.chunk.now.bytes c.args.at r.0 (field_shapes c.args.source.now.chunk.now.classes z) r.1) (sym e) r.2, h) in
+    let depth : AllByRecursion (DepthBound c.args.source.now.chunk.now.classes (c.args.source.now.reach.composites - 1)) (field_shapes c.args.source.now.chunk.now.classes c.in_ok-offsets.offsets.class_index) = subst (λ z. AllByRecursion (DepthBound c.args.source.now.chunk.now.classes (c.args.source.now.reach.composites - 1)) (field_shapes c.args.source.now.chunk.now.classes z)) (sym e) c.requires.depth in
+    let valid : (at : ℕ) × (to : ℕ) × (vs : Values) × AreValues c.args.source.now.chunk.now.classes c.args.source.now.chunk.now.bytes at to (field_shapes c.args.source.now.chunk.now.classes c.in_ok-offsets.offsets.class_index) vs × AreOffsets c.in_ok-offsets.offsets at to vs = (c.args.at, r.0, r.1, subst (λ z. AreValues c.args.source.now.chunk.now.classes c.args.source.now.chunk.now.bytes c.args.at r.0 (field_shapes c.args.source.now.chunk.now.classes z) r.1) (sym e) r.2, h) in
     let cached = c.requires.cached in
-    search (rules, cached, placed, room, stand)
+    search (rules, cached, placed, depth, valid)
 
 pub push_fields-returns : goal.push_fields-returns
 push_fields-returns t c =
@@ -191,7 +191,7 @@ push_fields-returns t c =
     record {
       cached = c.push_object.ensures.cached;
       ok = by_answer c.push_object.result c.push_object.ensures.ok (λ end h to vs class r q.
-          h c.args.at to vs class (subst (λ z. IsRow c.args.source.now.chunk.now.classes c.args.source.now.chunk.now.bytes c.args.at to (field_shapes c.args.source.now.chunk.now.classes z) vs) (sym e) r) (c.in_ok-offsets.ensures.ok to vs r) (subst (λ z. slice_get c.args.source.now.chunk.now.classes z ≡ Some class) (sym e) q));
+          h c.args.at to vs class (subst (λ z. AreValues c.args.source.now.chunk.now.classes c.args.source.now.chunk.now.bytes c.args.at to (field_shapes c.args.source.now.chunk.now.classes z) vs) (sym e) r) (c.in_ok-offsets.ensures.ok to vs r) (subst (λ z. slice_get c.args.source.now.chunk.now.classes z ≡ Some class) (sym e) q));
     }
 
 pub push_members-offset_bounds-layouts-lead : goal.push_members-offset_bounds-layouts-lead
@@ -216,7 +216,7 @@ push_members-index-requires t c =
     let o = ordered c.args.source.now.chunk.now.classes c.args.offsets.now.class_index c.args.order.now c.deref-lead-items.result.now c.requires.order c.requires.placed c.deref-lead-items.ensures.value in
     let g = got c.deref-lead-items.result.now c.loop-lead.lead-index c.lead-item.result c.lead-item.result c.loop-lead-test.true c.lead-item.is in
     let below : c.lead-item.result.field < length c.layouts-layouts.result.now = below_layouts c.args.source.now.chunk.now.classes c.args.offsets.now.class_index c.deref-lead-items.result.now c.loop-lead.lead-index c.lead-item.result c.layouts-layouts.result.now o c.requires.placed layouts g in
-    let r = c.requires.stand in
+    let r = c.requires.valid in
     let h = r.4 in
     let count : length c.args.offsets.now.starts.items ≡ length o.class.fields = ap length h.1 ∙ (count_starts r.0 r.2 ∙ (ap length r.3.of_shapes ∙ shapes_count c.args.source.now.chunk.now.classes c.args.offsets.now.class_index o.class o.there)) in
     let within : c.lead-item.result.field < length c.args.offsets.now.starts.items = omega (arith, count, below_fields c.args.source.now.chunk.now.classes c.args.offsets.now.class_index c.deref-lead-items.result.now c.loop-lead.lead-index c.lead-item.result o g) in
@@ -233,15 +233,15 @@ push_members-push_value-requires t c =
     let x = field_next c.args.source.now.chunk.now.classes c.args.offsets.now.class_index c.lead-item.result.field f.field layout.shape f.there f.shape in
     let references : c.of_fields-inner.result.references ≡ c.args.source.now.reach.references = ap (λ (z : Reach). z.references) c.of_fields-inner.ensures in
     let composites : c.of_fields-inner.result.composites ≡ c.args.source.now.reach.composites - 1 = ap (λ (z : Reach). z.composites) c.of_fields-inner.ensures in
-    let r = c.requires.stand in
+    let r = c.requires.valid in
     let h = r.4 in
     let p = placed c.args.source.now.chunk.now.classes c.args.source.now.chunk.now.bytes r.0 r.1 (field_shapes c.args.source.now.chunk.now.classes c.args.offsets.now.class_index) r.2 c.lead-item.result.field layout.shape r.3 (drop_get (field_shapes c.args.source.now.chunk.now.classes c.args.offsets.now.class_index) c.lead-item.result.field layout.shape _ x) in
     let begun : c.index.result.now ≡ p.place = got_is (starts r.0 r.2) c.lead-item.result.field c.index.result.now p.place c.index.result.now p.begins (c.index.ensures ∙ ap (λ z. get_or z c.lead-item.result.field c.index.result.now) h.1) in
-    let stands : (to : ℕ) × EndsAt c.args.source.now.chunk.now.classes c.args.source.now.chunk.now.bytes layout.shape c.index.result.now to = (p.end, subst (λ z. EndsAt c.args.source.now.chunk.now.classes c.args.source.now.chunk.now.bytes layout.shape z p.end) (sym begun) (p.value, p.node)) in
+    let holds : (to : ℕ) × EndsAt c.args.source.now.chunk.now.classes c.args.source.now.chunk.now.bytes layout.shape c.index.result.now to = (p.end, subst (λ z. EndsAt c.args.source.now.chunk.now.classes c.args.source.now.chunk.now.bytes layout.shape z p.end) (sym begun) (p.value, p.node)) in
     let known : IsLayoutIfKnown c.args.source.now.chunk.now.classes layout = (let s = f.of_class in record { form = s.form; of_class = λ o h. s }) in
-    let room : Room c.args.source.now.chunk.now.classes c.of_fields-inner.result.composites layout.shape = subst (λ z. Room c.args.source.now.chunk.now.classes z layout.shape) (sym composites) (room_first (Room c.args.source.now.chunk.now.classes (c.args.source.now.reach.composites - 1)) (field_shapes c.args.source.now.chunk.now.classes c.args.offsets.now.class_index) c.lead-item.result.field layout.shape _ c.requires.room x) in
+    let depth : DepthBound c.args.source.now.chunk.now.classes c.of_fields-inner.result.composites layout.shape = subst (λ z. DepthBound c.args.source.now.chunk.now.classes z layout.shape) (sym composites) (bound_of_first (DepthBound c.args.source.now.chunk.now.classes (c.args.source.now.reach.composites - 1)) (field_shapes c.args.source.now.chunk.now.classes c.args.offsets.now.class_index) c.lead-item.result.field layout.shape _ c.requires.depth x) in
     let cached = c.loop-lead.invariant.cached in
-    search (rules, cached, stands, known, room, references, composites)
+    search (rules, cached, holds, known, depth, references, composites)
 
 pub push_members-loop-lead-preserved : goal.push_members-loop-lead-preserved
 push_members-loop-lead-preserved t c =

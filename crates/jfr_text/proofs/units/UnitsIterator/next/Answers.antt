@@ -8,12 +8,12 @@ use Rattle.jfr_text.proofs.units.UnitsIterator.next.Goals as goal
 
 pub returns-then-self-eq0-clause-steps : goal.returns-then-self-eq0-clause-steps
 returns-then-self-eq0-clause-steps c =
-    let e = sym c.self.view_is ∙ ap low_units (none_left c.self.inside.left c.self.inside.rest.now c.if-self-eq0.true) in
+    let e = sym c.self.view_is ∙ ap low_units (none_left c.self.inside.unread c.self.inside.rest.now c.if-self-eq0.true) in
     (e, e)
 
 pub returns-in_default-clause-steps : goal.returns-in_default-clause-steps
 returns-in_default-clause-steps c =
-    let e = sym c.self.view_is ∙ ap low_units (none_stands c.self.inside.left c.self.inside.rest.now c.in_default.ensures.exact.0) in
+    let e = sym c.self.view_is ∙ ap low_units (none_stands c.self.inside.unread c.self.inside.rest.now c.in_default.ensures.exact.0) in
     (e, e)
 
 pub split_at-requires : goal.split_at-requires
@@ -23,9 +23,9 @@ step : goal.returns-clause-steps
 step c =
     let v = c.in-Ok.field-0 in
     let rest = c.self.inside.rest.now in
-    sym c.self.view_is ∙ (ap low_units (one_stands c.self.inside.left rest v c.if-self-eq0.false c.in-Ok.ensures.exact)
-    ∙ (ap (λ u. u ∷ low_units (first_integers (c.self.inside.left - 1) (drop v.end rest))) (sym (and_numeral v.value 65534 cc))
-    ∙ ap (λ r. bit_and v.value 65535 ∷ low_units (first_integers (c.self.inside.left - 1) r)) (sym c.split_at.ensures.back)))
+    sym c.self.view_is ∙ (ap low_units (one_stands c.self.inside.unread rest v c.if-self-eq0.false c.in-Ok.ensures.exact)
+    ∙ (ap (λ u. u ∷ low_units (first_integers (c.self.inside.unread - 1) (drop v.end rest))) (sym (and_numeral v.value 65534 cc))
+    ∙ ap (λ r. bit_and v.value 65535 ∷ low_units (first_integers (c.self.inside.unread - 1) r)) (sym c.split_at.ensures.back)))
 
 pub returns-clause-steps : goal.returns-clause-steps
 returns-clause-steps c = step c

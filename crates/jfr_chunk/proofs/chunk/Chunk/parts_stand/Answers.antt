@@ -1,7 +1,0 @@
-use Rattle.std.proofs.Common.{subst}
-use Rattle.jfr_chunk.specs.Parts.{AreParts}
-use Rattle.jfr_chunk.proofs.StandingLaws.{standing}
-use Rattle.jfr_chunk.proofs.chunk.Chunk.parts_stand.Goals as goal
-
-pub returns-clause-sound : goal.returns-clause-sound
-returns-clause-sound c = (standing c.args.self.now (subst AreParts c.self.view_is c.self.invariant.parts)).sound

@@ -1,0 +1,24 @@
+use Rattle.std.proofs.Common.{subst}
+use Rattle.jfr_plan.specs.Ends.{command_end}
+use Rattle.jfr_plan.specs.Effects.{outside}
+use Rattle.jfr_plan.specs.Clauses.{over, Ran}
+use Rattle.jfr_report.specs.Reports.{summing}
+use Rattle.jfr_words.specs.Words.{file_name}
+use Rattle.jfr_cli.proofs.Leaving.{over_leaves}
+use Rattle.jfr_cli.proofs.Orders.{named}
+use Rattle.jfr_cli.proofs.execute.summary.Goals as goal
+
+pub returns : goal.returns
+returns g c =
+    let a = outside (g.P.Place.state c.args.place.now) (g.O.Sink.state c.args.out.now) in
+    let b = outside (g.P.Place.state c.summary_stream.new.place) (g.O.Sink.state c.summary_stream.new.out) in
+    let ran = subst (λ z. Ran (over summing z) c.summary_stream.result a b) (named c.as_str.result.now c.args.file.now c.as_str.utf8 c.as_str.ensures) c.summary_stream.ensures.ran in
+    record {
+      leaves = over_leaves summing (file_name c.args.file.now) (command_end c.summary_stream.result) a.place b.place a.sink.written b.sink.written ran.contents;
+      counts = ran.counts;
+      sink = tt;
+      place = tt;
+      wrote = tt;
+      can_read = λ can. (ran.can_read can).0;
+      can_create = λ can. absurd can;
+    }

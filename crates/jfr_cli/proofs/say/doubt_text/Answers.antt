@@ -1,4 +1,0 @@
-use Rattle.jfr_cli.proofs.say.doubt_text.Goals as goal
-
-pub returns : goal.returns
-returns c = rw (← c.name-name.ensures) c.format.ensures.ok

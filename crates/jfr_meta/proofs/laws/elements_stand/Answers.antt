@@ -1,5 +1,0 @@
-use Rattle.jfr_meta.proofs.ElementsStand.{root_stands}
-use Rattle.jfr_meta.proofs.laws.elements_stand.Goals as goal
-
-pub returns : goal.returns
-returns c = λ x r b k m. root_stands x r b k m
