@@ -16,7 +16,7 @@ use Rattle.jfr_build.specs.LeafWords.{AreWordsOf}
 use Rattle.jfr_build.specs.LineValues.{inline}
 use Rattle.jfr_build.specs.Built.{is_constant_of, with_classes}
 
--- A value of the class, and the words are those of its leaves, one for each, in order.
+-- The node is a value of the class, and the words are those of its leaves, one for each, in order.
 pub record HasWords (p : Parts) (class : ℕ) (words : List (List ℕ)) (n : NodeAt) : Type 0 where
   pub shape : n.shape ≡ inline class
   pub leaves : AreWordsOf words (leaves p.classes p.bytes n)

@@ -38,27 +38,27 @@ Build = Result (List ℕ) Refusal
 abbrev pub refused : ℕ → BuildReason → Build
 refused line reason = Err (record { line = line; reason = reason })
 
--- Last, the sizes are checked.
+-- Checks the sizes of the metadata and of the chunk, after all else.
 abbrev pub build_chunk : ℕ → Option (List ℕ) → Build
 build_chunk count None = refused count TooLarge
 build_chunk count (Some chunk) = Ok chunk
 
--- Before that, the values of constants and events are checked.
+-- Checks the values of constants and events; then, by `build_chunk`, the sizes.
 abbrev pub build_values : ℕ → Option NumberedLine → Option (List ℕ) → Build
 build_values count (Some line) chunk = refused line.number ValueBad
 build_values count None chunk = build_chunk count chunk
 
--- Before that, the classes are checked.
+-- Checks the classes; then, by `build_values`, the rest.
 abbrev pub build_classes : ℕ → List NumberedLine → Option ClassFlaw → Build
 build_classes count lines (Some f) = refused (line_at lines f.class f.field) (Class f.reason)
 build_classes count lines None = build_values count (first_bad_value (classes_in lines) lines) (chunk_of (classes_in lines) lines)
 
--- Before that, the lines are read.
+-- Reads the lines; then, by `build_classes`, checks the rest.
 abbrev pub build_lines : ℕ → Result (List NumberedLine) ℕ → Build
 build_lines count (Err line) = refused line LineBad
 build_lines count (Ok lines) = build_classes count lines (slice_get (class_faults (classes_in lines)) 0)
 
--- First, the size of the text is checked.
+-- Checks the size of the text; then, by `build_lines`, the rest. This is what is built, or the first refusal.
 unfoldable pub build_of : List ℕ → Build
 build_of text = if nat_le (2 ^ 30) (length text) then refused 0 TooLarge else build_lines (line_count text) (read_lines text)
 

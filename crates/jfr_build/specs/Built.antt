@@ -20,7 +20,7 @@ record_of rest = spell_in 5 (5 + length rest) ++ rest
 abbrev pub event_record : ℕ → List ℕ → List ℕ
 event_record class value = record_of (spell class ++ value)
 
--- The bytes were appended, or they are 2 ^ 30 or more.
+-- The bytes were appended, or there are 2 ^ 30 or more of them.
 abbrev pub AppendsIf : Bool → List ℕ → List ℕ → List ℕ → Type 0
 AppendsIf true bytes before after = after ≡ before ++ bytes
 AppendsIf false bytes before after = 2 ^ 30 ≤ length bytes

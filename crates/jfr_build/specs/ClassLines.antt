@@ -10,14 +10,14 @@ use Rattle.jfr_build.specs.declared.reason.BuildFault.TheVariants.{Refused, Memo
 use Rattle.jfr_build.specs.declared.reason.BuildReason.TheVariants as reasons
 use Rattle.jfr_build.specs.Lines.{is_class}
 
--- The fields with that of a line in front; none if the line isn't a field.
+-- The field of this line, followed by the others; no fields if the line isn't a field.
 abbrev pub field_before : Line → List Field → List Field
 field_before (lines.Class id name event) fs = []
 field_before (lines.Field name shape) fs = record { name = name; shape = shape } ∷ fs
 field_before (lines.Constant class key words) fs = []
 field_before (lines.Record class words) fs = []
 
--- The fields with which the lines begin.
+-- The fields of the lines up to the first that isn't a field.
 abbrev pub fields_in : List NumberedLine → List Field
 fields_in [] = []
 fields_in (l ∷ ls) = field_before l.line (fields_in ls)
@@ -26,7 +26,8 @@ fields_in (l ∷ ls) = field_before l.line (fields_in ls)
 abbrev pub super_of : Bool → Option (List ℕ)
 super_of event = if event then Some (codes "jdk.jfr.Event") else None
 
--- The classes with that of a line, which has these fields, in front, if the line is a class.
+-- The class of this line, with these fields, followed by the other classes; only these if the line isn't a
+-- class.
 abbrev pub class_before : Line → List Field → Classes → Classes
 class_before (lines.Class id name event) fs k = record { id = id; name = name; super_name = super_of event; fields = fs; categories = [] } ∷ k
 class_before (lines.Field name shape) fs k = k

@@ -21,7 +21,8 @@ abbrev pub after_build : BuildFault → BuildEnding
 after_build (builds.Refused line reason) = Refused line reason
 after_build builds.Memory = Memory
 
--- The ending after the chunk was written, or wasn't. The only ending but a write fault is that memory ran out.
+-- The ending after the chunk was written, or wasn't. Writing can fail only by a write fault or for lack of
+-- memory, so all other endings are treated as the latter.
 abbrev pub after_write : Result (Unit {0}) Ending → BuildEnding
 after_write (Ok x) = Done
 after_write (Err endings.WriteFault) = WriteFault

@@ -14,11 +14,11 @@ use Rattle.jfr_meta.specs.Attributes.{id_of}
 use Rattle.jfr_build.specs.declared.quoted.Quoted.{Quoted}
 use Rattle.jfr_build.specs.declared.quoted.Quoted.TheVariants.{Open, Escape, FirstZero, SecondZero, High, Low, Closed}
 
--- The number n with a minus, in two's complement, if `half` of the values have one.
+-- `-n`, in two's complement, for a kind of which `half` values are negative.
 abbrev pub negated : ℕ → ℕ → ℕ
 negated half n = if n == 0 then 0 else 2 * half - n
 
--- A number below `half`, or with a minus at most `half`, in two's complement.
+-- The number from `-half` to `half - 1` that a word spells, in two's complement.
 abbrev pub signed_of : ℕ → List ℕ → Option ℕ
 signed_of half [] = None
 signed_of half (c ∷ cs) =
@@ -33,7 +33,7 @@ hex_digit c = if nat_le 48 c && nat_le c 57 then Some (c - 48) else if nat_le 97
 abbrev pub hex_byte : ℕ → ℕ → Option ℕ
 hex_byte c d = option_and_then (λ a. option_map (λ b. 16 * a + b) (hex_digit d)) (hex_digit c)
 
--- The bytes with one more in front, if all are known.
+-- This byte followed by the others, if none of them is missing.
 abbrev pub byte_before : Option ℕ → Option (List ℕ) → Option (List ℕ)
 byte_before None bytes = None
 byte_before (Some b) bytes = option_map (λ bs. b ∷ bs) bytes
@@ -62,16 +62,16 @@ is_plain c = not (is_coded c || ((c == 34) || (c == 92)))
 abbrev pub Onward : Type 0
 Onward = Option (Quoted × Option ℕ)
 
--- The character after a backslash.
+-- The step at the character after a backslash.
 abbrev pub escaped_by : ℕ → Onward
 escaped_by c = if (c == 34) || (c == 92) then Some (Open, Some c) else if c == 117 then Some (FirstZero, None) else None
 
--- A number's last digit but one.
+-- The step at a number's third digit.
 abbrev pub high_by : Option ℕ → Onward
 high_by None = None
 high_by (Some digit) = Some (Low digit, None)
 
--- A number's last digit, after this one.
+-- The step at a number's last digit, given the value of the third one.
 abbrev pub low_by : ℕ → Option ℕ → Onward
 low_by high None = None
 low_by high (Some digit) = if is_coded (16 * high + digit) then Some (Open, Some (16 * high + digit)) else None
@@ -86,7 +86,7 @@ quoted_step High c = high_by (hex_digit c)
 quoted_step (Low high) c = low_by high (hex_digit c)
 quoted_step Closed c = None
 
--- A quoted text ends after its second quote.
+-- Whether the second quote, which ends a quoted text, was read.
 abbrev pub is_closed : Quoted → Bool
 is_closed Closed = true
 is_closed Open = false
@@ -96,12 +96,12 @@ is_closed SecondZero = false
 is_closed High = false
 is_closed (Low high) = false
 
--- Goes on from the state after a byte.
+-- The text that a step gives, followed by the text from the next state on.
 abbrev pub go_on : Onward → (Quoted → Option (List ℕ)) → Option (List ℕ)
 go_on None next = None
 go_on (Some o) next = option_map (λ text. option_to_list o.1 ++ text) (next o.0)
 
--- The text that is left of a quoted text, from this state on.
+-- The rest of a quoted text, read from this state on.
 abbrev pub quoted_from : Quoted → List ℕ → Option (List ℕ)
 quoted_from state [] = if is_closed state then Some [] else None
 quoted_from state (c ∷ cs) = go_on (quoted_step state c) (λ next. quoted_from next cs)
@@ -121,7 +121,7 @@ abbrev pub content_of : List ℕ → Content
 content_of [] = Empty
 content_of (c ∷ cs) = Utf8 (c ∷ cs)
 
--- The first, or the other if there is none.
+-- The key, if there is one; otherwise the text.
 abbrev pub or_text : Option ℕ → Option Content → Option Content
 or_text (Some key) text = Some (Key key)
 or_text None text = text

@@ -25,7 +25,7 @@ whole (Some t) = if length t.rest == 0 then Some t.value else None
 abbrev pub spelled_value : Classes → ℕ → List (List ℕ) → Option Value
 spelled_value k class words = whole (value_taken k (inline class) words)
 
--- The value of a line: of a constant, or of an event, whose class must be one of events.
+-- The value of a line that is a constant or an event. The class of an event must be an event class.
 abbrev pub line_value : Classes → Line → Option Value
 line_value k (Class id name event) = None
 line_value k (Field name shape) = None

@@ -65,7 +65,7 @@ abbrev pub line_in : List (List ℕ) → Option Line
 line_in [] = None
 line_in (w ∷ ws) = line_by w ws
 
--- What a line means, up to the words of its leaves; none if it isn't UTF-8 or has no known form.
+-- What a line means, with the words of its leaves still unread; none if it isn't UTF-8 or has no known form.
 unfoldable pub line_of : List ℕ → Option Line
 line_of bytes = if is_utf8 bytes then line_in (words_of bytes) else None
 

@@ -11,7 +11,7 @@ pieces mark bytes = slice_split (λ b. b == mark) bytes
 abbrev pub lines_of : List ℕ → List (List ℕ)
 lines_of text = pieces 10 text
 
--- The words of a line, parted by single spaces.
+-- The words of a line, separated by single spaces.
 abbrev pub words_of : List ℕ → List (List ℕ)
 words_of line = pieces 32 line
 

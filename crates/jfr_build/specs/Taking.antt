@@ -16,7 +16,7 @@ pub record Taken (A : Type 0) : Type 0 where
   pub value : A
   pub rest : List (List ℕ)
 
--- Takes words from the front of a list, if they are right.
+-- Takes words from the start of a list, or fails.
 abbrev pub Taker : Type 0 → Type 0
 Taker A = List (List ℕ) → Option (Taken A)
 
@@ -34,12 +34,12 @@ abbrev pub word_taken : {A : Type 0} → (List ℕ → Option A) → Taker A
 word_taken f [] = None
 word_taken f (w ∷ ws) = option_map (λ a. record { value = a; rest = ws }) (f w)
 
--- Takes n times.
+-- Takes n values.
 abbrev pub times_taken : {A : Type 0} → ℕ → Taker A → Taker (List A)
 times_taken zero f ws = took [] ws
 times_taken (suc n) f ws = then_take (f ws) λ a us. then_take (times_taken n f us) λ bs vs. took (a ∷ bs) vs
 
--- Takes for each item of a list.
+-- Takes one value for each member of a list.
 abbrev pub each_taken : {X A : Type 0} → List X → (X → Taker A) → Taker (List A)
 each_taken [] f ws = took [] ws
 each_taken (x ∷ xs) f ws = then_take (f x ws) λ a us. then_take (each_taken xs f us) λ bs vs. took (a ∷ bs) vs
@@ -64,7 +64,7 @@ shape_taken inline s ws = if s.array then array_taken (item_taken inline (item_o
 abbrev pub base_taken : Kind → Shape → Taker Value
 base_taken kind s ws = then_take (word_taken (base_of kind) ws) λ b us. took (Single s (leaf_kinds.Base kind) b (leaf_key (leaf_kinds.Base kind) b)) us
 
--- An inline value of a class of this kind, whose fields are taken so.
+-- An inline value of a class of this kind. `fields` takes the fields of a composite one.
 abbrev pub kind_taken : Kind → Shape → Taker (List Value) → Taker Value
 kind_taken kinds.Composite s fields ws = then_take (fields ws) λ vs us. took (Group s [] (values_of vs)) us
 kind_taken kind s fields ws = base_taken kind s ws

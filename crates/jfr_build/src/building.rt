@@ -26,13 +26,13 @@ pub(crate) const TEXT_LIMIT: usize = 1 << 30;
 /// delta and type byte, which are 0.
 const CHECKPOINT_HEAD: [u8; 5] = [CHECKPOINT_TYPE as u8, 0, 0, 0, 0];
 
-/// The chunk of a text, which has a line for each class, field, constant and event.
+/// The chunk that a text describes. The text has a line for each class, field, constant and event.
 ///
 /// Refused for the first of these reasons that applies: `TooLarge` if the text has 2^30 bytes or more;
-/// `LineBad` for the first line that isn't UTF-8, has no known form or isn't allowed at its position; a reason
-/// of [`jfr_layout::Classes::make`], for the line of its class or field; `ValueBad` for the first constant or
-/// event whose words aren't those of the leaves of one value of its class; `TooLarge` if the strings and the
-/// tree of the metadata take 2^29 bytes or more, or the chunk 2^30 or more.
+/// `LineBad` for the first line that isn't UTF-8, has no known form or isn't allowed at its position; a
+/// reason of [`jfr_layout::Classes::make`], for the line of the class or field with the flaw; `ValueBad` for
+/// the first constant or event whose words aren't those of the leaves of one value of its class; `TooLarge`
+/// if the strings and the tree of the metadata take 2^29 bytes or more, or the chunk 2^30 or more.
 ///
 /// What is built is accepted, and has exactly the classes, the events and the constants of the lines.
 pub fn build(alloc: Global, text: &[u8]) -> Result<Vec<u8>, BuildFault>
@@ -102,7 +102,7 @@ fn chunk_of(
     chunk_with(alloc, &metadata, &events, &pools)
 }
 
-/// The chunk of its parts, if it has fewer than 2^30 bytes.
+/// The chunk with these parts, if it has fewer than 2^30 bytes.
 fn chunk_with(
     alloc: Global,
     metadata: &[u8],

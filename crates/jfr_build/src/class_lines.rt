@@ -65,7 +65,7 @@ fn super_of(alloc: Global, event: bool) -> Result<Option<Text>, NoMemory>
     Ok(Some(Text::make(alloc, EVENT)?))
 }
 
-/// The fields with which the lines from this index on begin.
+/// The fields of the lines from this index on, up to the first line that isn't a field.
 fn fields_from(alloc: Global, lines: &[NumberedLine<'_>], from: usize) -> Result<Fields, NoMemory>
     ensures ok { IfOk result (λ fields. fields ≡ fields_in (drop from lines.now)) }
 {

@@ -12,7 +12,7 @@ use jfr_layout::{ClassInfo, Classes, FieldInfo, Shape};
 use jfr_meta::{Element, Elements, Ids, Metadata, Pairs, slim};
 use std::alloc::Global;
 
-/// The texts that don't depend on the classes, and their indices.
+/// The indices of the texts that don't depend on the classes.
 const ROOT: u64 = 0;
 
 const METADATA: u64 = 1;

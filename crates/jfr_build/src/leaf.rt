@@ -1,4 +1,4 @@
-//! Values of the words of a text that are leaves: numbers, truth values and strings.
+//! The values that single words spell: numbers, truth values and strings.
 ghost use Rattle.std.specs.Prelude.{◌≡◌, ◌<◌, ◌≤◌, ◌*◌, ◌^◌, ◌∷◌, ◌++◌, [], IfSome, OnOk, option_and_then, option_map};
 ghost use Rattle.jfr_base.specs.Decimal.{below, decimal_number};
 ghost use Rattle.jfr_base.specs.Integer.{spell};

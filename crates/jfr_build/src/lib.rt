@@ -1,11 +1,11 @@
 //! A builder of recordings: a text with a line for each class, field, constant and event becomes a chunk.
 //!
 //! `build` makes a chunk from a text, and `build_stream` does so with files. Read `specs/Builds.antt` first: what is
-//! built from a text, and why a text is refused; then `specs/Accepted.antt`: what the chunk is to a reader, and
+//! built from a text, and why a text is refused; then `specs/Accepted.antt`: what a reader finds in it, and
 //! `specs/Streams.antt`: what is done with the files. What the lines mean is in `specs/Pieces.antt`,
 //! `specs/Lines.antt` and `specs/ClassLines.antt`; the words of leaves in `specs/LeafWords.antt`; the values of
 //! words and lines in `specs/Taking.antt` and `specs/LineValues.antt`; and the bytes of the chunk in
-//! `specs/Described.antt` and `specs/Built.antt`. The laws are about the values that words are taken as, and about
+//! `specs/Described.antt` and `specs/Built.antt`. The laws are about the values that words spell, and about
 //! the chunk.
 #![tactic(auto)]
 

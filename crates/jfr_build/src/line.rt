@@ -71,7 +71,8 @@ pub enum Line<'a> {
     },
 }
 
-/// What a line means, up to the words of its leaves; `None` exactly if it isn't UTF-8 or has no known form.
+/// What a line means, with the words of its leaves still unread; `None` exactly if it isn't UTF-8 or has no
+/// known form.
 pub fn read_line(bytes: &[u8]) -> Option<Line<'_>>
     ensures { result ≡ line_of bytes.now }
 {

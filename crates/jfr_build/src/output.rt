@@ -1,4 +1,4 @@
-//! What is written.
+//! The bytes of values, while they are written.
 ghost use Rattle.std.specs.Prelude.{◌≡◌, ◌++◌, [], OnOk};
 ghost use Rattle.jfr_base.specs.Integer.{spell};
 ghost use Rattle.jfr_build.specs.LeafWords.{base_of};
@@ -66,7 +66,7 @@ impl Model for Output {
 }
 
 impl Output {
-    /// Nothing yet. It allocates nothing.
+    /// An output without bytes. It allocates nothing.
     pub fn new(alloc: Global) -> Output
         ensures { result ≡ [] }
     {

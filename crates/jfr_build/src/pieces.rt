@@ -74,7 +74,7 @@ impl<'a> RestOfLine<'a> {
         RestOfLine { rest: Some(line) }
     }
 
-    /// These words again, from the first.
+    /// A copy of these words, which can be taken separately.
     pub fn again(&self) -> RestOfLine<'a>
         ensures { result ≡ self.now }
     {

@@ -6,7 +6,7 @@ ghost use Rattle.jfr_build.specs.LeafWords.{hex_digit, is_closed, is_coded, is_p
 
 use std::alloc::AllocError;
 
-/// Where in a quoted text a byte is.
+/// The state of reading a quoted text: where in it the next byte is.
 #[derive(Clone, Copy, Debug, PartialEq, Eq)]
 pub enum Quoted {
     /// Between characters.

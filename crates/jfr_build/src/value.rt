@@ -103,7 +103,7 @@ fn push_fields(
     Ok(())
 }
 
-/// Takes the words of an array: its count, and this many items. It ends at the first item that is bad.
+/// Takes the words of an array: its count, and this many items. It stops at the first bad item.
 #[cycle(values)]
 fn push_array(
     classes: &Classes,

@@ -1,4 +1,4 @@
--- What whole chunks become where every event is kept.
+-- What whole chunks become if every event is kept.
 use Rattle.std.specs.Prelude.{◌≡◌, ℕ, List, [], ◌∷◌, ◌++◌, Result, Ok, Err, refl}
 use Rattle.bstr.specs.Utf8.{pieces_from}
 use Rattle.jfr_base.specs.Integer.{spell, spell_in}

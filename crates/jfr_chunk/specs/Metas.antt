@@ -23,8 +23,9 @@ stays_in p kept id = stays_of p.body p.classes (used_by kept) id
 abbrev pub slim_of : Parts → List EventAt → Body
 slim_of p kept = slim_body p.body (stays_in p kept)
 
--- The record of this body, if it fits in this room and can be written. Its strings are texts: those of every
--- chunk are, since they were read as such.
+-- The metadata record without the event classes that the output doesn't need, if it fits in `room` bytes and
+-- can be written. The test that its strings are texts succeeds for every chunk, since they were read as
+-- texts.
 unfoldable pub rebuilt : Parts → List EventAt → ℕ → Option (List ℕ)
 rebuilt p kept room = if list_all scalars (slim_of p kept).strings then slim_in p.body (stays_in p kept) room else None
 

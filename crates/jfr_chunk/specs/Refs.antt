@@ -2,7 +2,7 @@
 use Rattle.std.specs.Prelude.{◌≡◌, ℕ, ◌+◌, ◌≤◌, false, List, ◌++◌, length}
 use Rattle.jfr_chunk.specs.declared.refs.ConstantRefs.{ConstantRefs}
 
--- The numbers are added after the old ones, unless memory has run out; then some of them may be missing.
+-- The numbers are added after the old ones. If memory has run out, some may be missing.
 pub record AddsRefs (numbers : List ℕ) (old new : ConstantRefs) : Type 0 where
   pub lacked_none : new.lacks ≡ false → old.lacks ≡ false
   pub appended : new.lacks ≡ false → new.numbers.items ≡ old.numbers.items ++ numbers

@@ -13,8 +13,8 @@ use Rattle.jfr_chunk.specs.Reach.{remain}
 use Rattle.jfr_chunk.specs.Metas.{rebuilt}
 use Rattle.jfr_chunk.specs.Written.{Group, by_pool, distance, checkpoint_bytes}
 
--- What is written for a record: all its bytes; or, for a chained checkpoint, the pools that have an entry
--- left; or other bytes. Checkpoints are numbered in file order.
+-- What is written for a record: all its bytes; for a chained checkpoint, those of its pools that have
+-- remaining entries; or, for the metadata record, a rebuilt one. Checkpoints are numbered in file order.
 pub data OutputRecord : Type 0 where
   Whole : (frame : Framed) → OutputRecord
   Chained : (number : ℕ) (link : Link) → OutputRecord

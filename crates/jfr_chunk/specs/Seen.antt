@@ -66,7 +66,7 @@ pub record IsIndexed (p : Parts) (header : Header) (metadata : Framed) (index : 
 abbrev pub parts_in : List ℕ → List Framed → List Link → Body → Classes → List EntryAt → Parts
 parts_in bytes records chain body classes entries = record { bytes = bytes; records = records; chain = reverse chain; body = body; classes = classes; entries = entries }
 
--- The event in the chunk that this value is about.
+-- The code's `Event`, as an event of the chunk.
 abbrev pub event_at : Event → EventAt
 event_at e = record { record_of = e.frame; node = node_of e.node }
 

@@ -11,7 +11,8 @@ pub record Group : Type 0 where
   pub pool : ℕ
   pub entries : List EntryAt
 
--- The groups with one entry more in front. It is added to the first group if this is that of its pool.
+-- The groups of a list of entries with this entry before it. The entry is added to the first group if that
+-- has the entry's pool; otherwise it becomes a group of its own.
 abbrev pub add_entry : EntryAt → List Group → List Group
 add_entry e [] = record { class = e.class; pool = e.pool; entries = e ∷ [] } ∷ []
 add_entry e (g ∷ gs) =

@@ -110,7 +110,7 @@ pub(crate) fn read_events(
     })
 }
 
-/// The list without its members, and with this capacity.
+/// An empty list in the memory of this one, with capacity for `count` members.
 fn emptied(list: Vec<EventIndexEntry>, count: usize) -> Result<Vec<EventIndexEntry>, NoMemory>
     ensures { IfOk result (λ emptied. emptied.items ≡ []) }
 {

@@ -153,20 +153,20 @@ has_id k id = list_any (λ c. c.id == id) k
 abbrev pub has_name : List Field → List ℕ → Bool
 has_name fs name = list_any (λ f. bytes_eq f.name name) fs
 
--- The fields with the name of an earlier field of the class.
+-- A flaw for each field with the name of an earlier field of the class.
 abbrev pub name_repeats : ℕ → List Field → List ClassFlaw
 name_repeats i fs = each_at (λ j f. flaw_if (has_name (take j fs) f.name) i (Some j) FieldTwice) fs
 
--- The classes with the id of an earlier class, and the fields with the name of an earlier field; a class
--- comes before its fields.
+-- A flaw for each class with the id of an earlier class, and for each field with the name of an earlier field
+-- of its class; the flaw of a class comes before those of its fields.
 abbrev pub repeats : Classes → List ClassFlaw
 repeats k = each_at (λ i c. flaw_if (has_id (take i k) c.id) i None ClassTwice ++ name_repeats i c.fields) k
 
--- The fields of a class that fail a test.
+-- A flaw for each field of a class that fails a test.
 abbrev pub flaws_in : Reason → (Field → Bool) → ℕ → List Field → List ClassFlaw
 flaws_in why bad i fs = each_at (λ j f. flaw_if (bad f) i (Some j) why) fs
 
--- The fields of all classes that fail a test.
+-- A flaw for each field, of any class, that fails a test.
 abbrev pub field_flaws : Reason → (Field → Bool) → Classes → List ClassFlaw
 field_flaws why bad k = each_at (λ i c. flaws_in why bad i c.fields) k
 
@@ -174,7 +174,7 @@ field_flaws why bad k = each_at (λ i c. flaws_in why bad i c.fields) k
 abbrev pub is_unknown : Classes → Field → Bool
 is_unknown k f = not (is_some (find_class k f.shape.class))
 
--- The fields whose class isn't defined.
+-- A flaw for each field whose class isn't defined.
 abbrev pub unknown : Classes → List ClassFlaw
 unknown k = field_flaws UnknownType (is_unknown k) k
 
@@ -182,11 +182,11 @@ unknown k = field_flaws UnknownType (is_unknown k) k
 abbrev pub is_empty_inline : Classes → Field → Bool
 is_empty_inline k f = option_map_or (λ d. length d.fields == 0) (step_class k f) false
 
--- The fields with inline values of a composite class without fields.
+-- A flaw for each field with inline values of a composite class without fields.
 abbrev pub empty_inline : Classes → List ClassFlaw
 empty_inline k = field_flaws EmptyInline (is_empty_inline k) k
 
--- The classes that begin a chain of more than 32 inline steps.
+-- A flaw for each class that begins a chain of more than 32 inline steps.
 abbrev pub deep : Classes → List ClassFlaw
 deep k = each_at (λ i c. flaw_if (goes_inline 33 k c) i None InlineDeep) k
 

@@ -7,7 +7,7 @@ use Rattle.jfr_layout.specs.Classes.{Class, Classes, Sound, Agree, find_class, i
 abbrev pub staying : (ℕ → Bool) → Classes → Classes
 staying stays k = filter (λ c. stays c.id) k
 
--- With a class, the set has the classes of its fields.
+-- If the set has a class, it has the classes of that class's fields.
 pub record IsClosed (k : Classes) (stays : ℕ → Bool) : Type 0 where
   pub fields : (i : ℕ) (c : Class) → slice_get k i ≡ Some c → stays c.id ≡ true → AllByRecursion (λ f. stays f.shape.class ≡ true) c.fields
 

@@ -81,7 +81,7 @@ fn goes_on(classes: &Resolved, class: usize, goes: &[bool]) -> bool
     false
 }
 
-// From "begins a chain of n steps" computes "begins a chain of n + 1 steps", for each class.
+// For each class, whether it begins a chain of n + 1 steps, given which classes begin one of n steps.
 fn round(alloc: Global, classes: &Resolved, goes: &[bool]) -> Result<Vec<bool>, NoMemory>
     requires { length goes.now ≡ length classes.now }
     ensures exact { IfOk result (λ next. (n : ℕ) → goes.now ≡ map (goes_inline n classes.now) classes.now → next.items ≡ map (goes_inline (suc n) classes.now) classes.now) }

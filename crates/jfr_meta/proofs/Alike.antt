@@ -1,4 +1,4 @@
--- Two elements over two tables of strings that say the same: they describe the same.
+-- Two elements with the same texts, each over its own table of strings, describe the same.
 use Rattle.std.specs.Prelude.{◌≡◌, ℕ, zero, suc, ◌+◌, Bool, true, false, List, [], ◌∷◌, ◌++◌, length, find, Option, Some, None, is_some, option_map, option_and_then, codes, ⊤}
 use Rattle.std.specs.List.{AllZip, filter_map, flat_map}
 use Rattle.std.specs.Option.{option_map_or, option_to_list}

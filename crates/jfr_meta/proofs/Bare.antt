@@ -1,4 +1,4 @@
--- No class depends on the places in the tree.
+-- The classes that a tree describes don't depend on the offsets of its elements.
 use Rattle.std.specs.Prelude.{◌≡◌, ℕ, Bool, true, false, List, [], ◌∷◌, ◌++◌, map, filter, find, Option, Some, None, is_some, Result, Ok, Err, option_map, slice_get, if◌then◌else◌, codes}
 use Rattle.std.specs.List.{flat_map, filter_map, cons_option}
 use Rattle.std.specs.Option.{option_map_or}

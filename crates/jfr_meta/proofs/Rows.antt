@@ -1,4 +1,4 @@
--- Two metadata records, and one refused case of each stage. Places count from the record's first byte.
+-- Two metadata records, and one refused case of each stage. Offsets count from the record's first byte.
 use Rattle.std.specs.Prelude.{◌≡◌, ℕ, true, false, List, [], ◌∷◌, ◌++◌, Some, None, Result, Ok, Err, codes, refl, slice_set}
 use Rattle.bstr.specs.Utf8.{pieces_from}
 use Rattle.jfr_base.specs.declared.reason.Reason.TheVariants.{Short, Trailing, StringKind, StringIndex, TreeDeep, NoClasses, ClassBad, ClassTwice, FieldBad, FieldTwice, UnknownType, EmptyInline, InlineDeep}

@@ -126,7 +126,7 @@ element_place texts t (Some number) = option_map_or element_offset (slice_get (f
 abbrev pub flaw_place : List (List ℕ) → List Tree → ℕ → Option ℕ → ℕ
 flaw_place texts ts class field = option_map_or (λ t. element_place texts t field) (slice_get ts class) 0
 
--- A flaw of the list of classes as one at the element that it is about.
+-- A flaw of the list of classes, at the offset of the element that describes the class or field.
 abbrev pub placed : List (List ℕ) → List Tree → ClassFlaw → Flaw
 placed texts ts e = record { offset = flaw_place texts ts e.class e.field; reason = e.reason }
 
@@ -158,7 +158,7 @@ pub record IsMetadata (x : List ℕ) (r : Framed) (b : Body) (k : Classes) : Typ
   pub body : Reads meta_format x (record_end r) r.body b (record_end r)
   pub classes : described b ≡ Ok k
 
--- The record is refused with this flaw: it spells no body, or one that describes no classes.
+-- The record is refused with this flaw: its bytes spell no body, or `described` gives this flaw for the body.
 abbrev pub IsMetadataFlaw : List ℕ → Framed → Flaw → Type 0
 IsMetadataFlaw x r f =
     Fails meta_format x (record_end r) r.body f.offset f.reason ⊎ ((b : Body) × Reads meta_format x (record_end r) r.body b (record_end r) × (described b ≡ Err f))

@@ -66,6 +66,6 @@ ids_with texts t = option_to_list (id_attribute texts t (codes "class")) ++ ids_
 abbrev pub is_in : Ids → ℕ → Bool
 is_in set id = contains nat_cmp set.ids id
 
--- Whether the class with this id is marked and is one of the first ones, those before this index.
+-- Whether the class with this id is marked and its index is below this one.
 abbrev pub marked_below : List Bool → Classes → ℕ → ℕ → Bool
 marked_below marks k at id = option_map_or (λ i. nat_lt i at && is_marked marks i) (class_index k id) false

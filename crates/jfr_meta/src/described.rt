@@ -63,7 +63,7 @@ fn flaw_place(
     }
 }
 
-/// A fault of the list of classes as a flaw at the element that it is about.
+/// The flaw at the element that describes the faulty class or field; `Memory` if memory ran out.
 fn placed(alloc: Global, strings: &Words, elements: &[&Element], fault: ClassFault) -> ReadFault
     requires { classes.TellsFirst (classes.class_faults (classes_of strings.now (map (λ e. e.now) elements.now))) fault }
     ensures { TellsFirst (list_flaws strings.now (map (λ e. e.now) elements.now)) result }

@@ -13,7 +13,7 @@ use std::collections::BTreeMap;
 #[derive(Drop)]
 pub(crate) struct NewTable<'a> {
     words: Words,
-    /// The number of each index of the old table, `None` until it is asked for.
+    /// For each index of the old table, the index in the new one; `None` until it is first looked up.
     numbers: Vec<Option<u64>>,
     by_text: BTreeMap<&'a str, u64>,
 }

@@ -175,7 +175,7 @@ pub(crate) fn push_opening(
     ensures ok { OnOk result (out.new.items ≡ out.old.items ++ opening_bytes size stamp.start stamp.duration stamp.id strings.now) }
 {
     push_size(out, size)?;
-    // The type is its own spelling.
+    // The type is below 128, so its spelling is this one byte.
     out.push(METADATA_TYPE as u8)?;
     push_integer(out, stamp.start)?;
     push_integer(out, stamp.duration)?;

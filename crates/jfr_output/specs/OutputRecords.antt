@@ -21,13 +21,13 @@ whole_or (Some x) r = Rebuilt r x
 abbrev pub new_at : ℕ → Option (List ℕ) → Framed → Option (List ℕ)
 new_at place new r = if r.at == place then new else None
 
--- The output record of a value of the code's enum, given the new metadata record, if there is one.
+-- The code's `OutputRecord`, as an output record, given the new metadata record, if there is one.
 abbrev pub output_record_as : Option (List ℕ) → contents.OutputRecord → OutputRecord
 output_record_as new (declared_records.Event number r) = Whole r
 output_record_as new (declared_records.Metadata r) = whole_or new r
 output_record_as new (declared_records.Chained number l) = Chained number l
 
--- A value of the code's enum is that of the metadata record exactly if its record starts at this offset.
+-- The code's `OutputRecord` is `Metadata` exactly if its record starts at this offset.
 abbrev pub ShowsMetadata : ℕ → contents.OutputRecord → Type 0
 ShowsMetadata place (declared_records.Event number r) = (r.at == place) ≡ false
 ShowsMetadata place (declared_records.Metadata r) = (r.at == place) ≡ true
@@ -37,7 +37,7 @@ ShowsMetadata place (declared_records.Chained number l) = (l.frame.at == place) 
 abbrev pub new_metadata : Parts → List Bool → Option (List ℕ)
 new_metadata p flags = rebuilt p (kept_by p flags) (metadata_size p)
 
--- The output record of a value of the code's enum, for a chunk of which these events are kept.
+-- The code's `OutputRecord`, as an output record of a chunk of which these events are kept.
 abbrev pub output_record_in : Parts → List Bool → contents.OutputRecord → OutputRecord
 output_record_in p flags s = output_record_as (new_metadata p flags) s
 
@@ -55,14 +55,14 @@ pub record IsKeptEvent (p : Parts) (flags : List Bool) (number : ℕ) (r : Frame
   pub numbered : slice_get (events_of p) number ≡ Some event
   pub there : event_there (kept_by p flags) r ≡ Some event
 
--- If a value of the code's enum is that of an event, the event is kept.
+-- If the code's `OutputRecord` is an event, the event is kept and has this number.
 abbrev pub ShowsEvent : Parts → List Bool → contents.OutputRecord → Type 0
 ShowsEvent p flags (declared_records.Event number r) = IsKeptEvent p flags number r
 ShowsEvent p flags (declared_records.Metadata r) = ⊤
 ShowsEvent p flags (declared_records.Chained number l) = ⊤
 
--- The value of the code's enum for a record, given the checkpoint and the event that start there, and whether
--- it is the metadata record.
+-- This is the code's `OutputRecord` for the record, given the checkpoint and the event that start there, and
+-- whether it is the metadata record.
 abbrev pub IsChosen : Option (ℕ × Link) → Option ℕ → Bool → Framed → contents.OutputRecord → Type 0
 IsChosen link event metadata r (declared_records.Event number s) = (event ≡ Some number) × (metadata ≡ false) × (s ≡ r)
 IsChosen link event metadata r (declared_records.Metadata s) = (metadata ≡ true) × (s ≡ r)
@@ -88,7 +88,7 @@ still_output_records p flags c = filter_map (output_record_of p (kept_by p flags
 abbrev pub is_kept_at : List EventAt → List Bool → ℕ → ℕ → Bool
 is_kept_at es flags n at = option_map_or (λ e. (e.record_of.at == at) && unwrap_or (slice_get flags n) false) (slice_get es n) false
 
--- The number of the next event after this offset, given that of the next event from it on.
+-- The number of the first event after this offset, given that of the first event at or after it.
 abbrev pub event_after : List EventAt → ℕ → ℕ → ℕ
 event_after es n at = option_map_or (λ e. if e.record_of.at == at then n + 1 else n) (slice_get es n) n
 
@@ -96,6 +96,6 @@ event_after es n at = option_map_or (λ e. if e.record_of.at == at then n + 1 el
 abbrev pub linked_at : List Link → ℕ → ℕ → Option (ℕ × Link)
 linked_at ls n at = option_and_then (λ l. if l.frame.at == at then Some (n, l) else None) (slice_get ls n)
 
--- The number of the next checkpoint after this offset, given that of the next checkpoint from it on.
+-- The number of the first checkpoint after this offset, given that of the first one at or after it.
 abbrev pub link_after : List Link → ℕ → ℕ → ℕ
 link_after ls n at = option_map_or (λ l. if l.frame.at == at then n + 1 else n) (slice_get ls n) n

@@ -36,7 +36,7 @@ pub record IsOutputOf (refusal : List ℕ → Option Flaw) (Is : List ℕ → Li
   pub bytes : y ≡ joined results
   pub chunks : AreChunksOf results y
 
--- The output of a recording whose chunks become these.
+-- The output of a recording, given what each chunk becomes.
 abbrev pub recording_output : (List ℕ → Option Flaw) → (List ℕ → List ℕ) → List ℕ → List ℕ
 recording_output refusal becomes x = joined (map becomes (before_refused refusal (cut x 0 true).chunks))
 
@@ -48,7 +48,7 @@ pub record HasOutput (refusal : List ℕ → Option Flaw) (Is : List ℕ → Lis
   pub holds : file v output ≡ Some written
   pub made : IsOutputOf refusal Is recording written
 
--- The ending is one with which the plan of such a command ends.
+-- The command ended as its plan says: all chunks were handled, or one was refused.
 abbrev pub IsByPlan : Ending → Type 0
 IsByPlan Done = ⊤
 IsByPlan (Refused refusal) = ⊤

@@ -104,8 +104,8 @@ fn chosen(
     Some(OutputRecord::Event(event?, frames.get(number)?))
 }
 
-// The number of the event that starts at this offset, if it is kept. If an event starts there, whether it is kept
-// or not, `number` becomes that of the next event.
+// `number` is that of the next event. If the event starts at this offset, `number` is incremented, and the
+// event's number is returned if it is kept.
 #[inline(always)]
 fn pass_event(chunk: &Chunk, kept: &Kept, number: &mut usize, at: usize) -> Option<usize>
     ensures number { number.new ≡ event_after (events_of chunk.now) number.old at }

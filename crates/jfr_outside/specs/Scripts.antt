@@ -26,7 +26,8 @@ abbrev pub lesser : ℕ → Option ℕ → ℕ
 lesser n None = n
 lesser n (Some m) = min n m
 
--- The lesser of what the scripts before this one let the next call keep, and of what this one does.
+-- How many bytes the next call keeps, by this script and those before it, for which `keep` is the result: the
+-- least number that one of them gives.
 abbrev pub kept_with : Call → Option ℕ → Script → Option ℕ
 kept_with call keep s = if is_due call s then Some (lesser s.keep keep) else keep
 

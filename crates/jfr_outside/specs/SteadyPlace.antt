@@ -9,7 +9,7 @@ use Rattle.jfr_outside.specs.declared.steady_place.SteadyPlace.{SteadyPlace}
 abbrev pub world_of : SteadyPlace → World
 world_of p = record { files = files_of p.files; input = option_map unread_bytes p.input; output = option_map string_bytes p.output }
 
--- All of these, its counts of faults, and that it is steady.
+-- Its contents, its counts of faults, and that it is steady.
 abbrev pub state_of : SteadyPlace → State
 state_of p = record { contents = Some (world_of p); read_faults = p.read_faults; write_faults = p.write_faults; steady = true }
 

@@ -44,8 +44,8 @@ impl Call {
 pub struct Script {
     /// The kind of the call.
     pub call: Call,
-    /// Which call of its kind fails, counted from now on: 1 is the next one. At 0 it has failed, or none
-    /// will.
+    /// Which call of its kind fails, counted from now on: 1 is the next one. 0 means that the call has failed
+    /// already, or that no call will.
     pub left: u64,
     /// The most bytes of it that are kept.
     pub keep: usize,
@@ -62,8 +62,8 @@ impl Script {
         self.left == 1
     }
 
-    // The most bytes that the next call of this kind keeps, if it has to fail, by this script and by those
-    // before it, whose answer is `so_far`.
+    // The most bytes that the next call of this kind keeps, if this script or one before it makes it fail.
+    // `so_far` is the result for those before it.
     fn keep_with(&self, call: Call, so_far: Option<usize>) -> Option<usize>
         ensures { result ≡ kept_with call so_far self.now }
     {

@@ -12,7 +12,7 @@ pub struct Source {
 impl Source {
     ghost use Rattle.jfr_outside.specs.Source.{unread_bytes};
 
-    /// An input of which all bytes are left.
+    /// An input of which nothing was read yet.
     pub fn new(bytes: Vec<u8>) -> Source
         ensures { unread_bytes result ≡ bytes.items }
     {

@@ -13,7 +13,7 @@ use jfr_layout::Kind;
 use jfr_text::{StringSpan, read_string};
 use jfr_value::{Node, Step, child};
 
-/// The node of an event's fields, where paths start. The node refers to this chunk, even if the event came
+/// The node of an event's fields, where paths start. The node borrows from this chunk, even if the event came
 /// from another chunk with the same parts.
 pub fn fields_of<'a>(chunk: &Chunk<'a>, event: &Event<'_>) -> Node<'a>
     requires { slice_get (events_of chunk.now) event.now.number ≡ Some (event_at event.now) }

@@ -38,11 +38,11 @@ over r input = record {
 abbrev pub Stands : Outside → Outside → (World → World → Snapshot → Snapshot → Type 0) → Type 0
 Stands a b P = IfKnown a.place.contents b.place.contents (λ w v. P w v (snapshot w a.sink.written) (snapshot v b.sink.written))
 
--- What a task leaves, by the way that it ended.
+-- The state after a task, for each way in which it can end.
 abbrev pub Leaves : Task → CommandEnd → Outside → Outside → Type 0
 Leaves k ended a b = Stands a b (λ w v. Outcome a.place.steady (k.plan w) (k.Halts a.place.steady w v) ended)
 
--- The plan ends so, and all its effects are done.
+-- The plan has this end, and all its effects are done.
 abbrev pub Ended : Task → End → Outside → Outside → Type 0
 Ended k e a b = Stands a b (λ w v. AllDone (k.plan w) e)
 
@@ -58,7 +58,7 @@ Broken k a b = Stands a b (λ w v. Breaks a.place.steady (effects (k.plan w).ste
 abbrev pub Partly : Task → Outside → Outside → Type 0
 Partly k a b = Stands a b (λ w v. SomeDone (effects (k.plan w).steps))
 
--- The way is the plan's end, or memory ran out.
+-- The command ended with the plan's end, or because memory ran out.
 pub data IsPlanned (ended : CommandEnd) (o : Option End) : Type 0 where
   ByPlan : (e : End) → ended ≡ Ends e → o ≡ Some e → IsPlanned ended o
   ForMemory : ended ≡ RanOut → IsPlanned ended o
@@ -69,7 +69,8 @@ write_count File a = a.place.write_faults
 write_count Parts a = a.place.write_faults
 write_count Text a = a.sink.faults
 
--- If the place's files are known and neither count rose, the way is the plan's end, or memory ran out.
+-- If the place's files are known and neither count rose, the command ended with the plan's end, or memory ran
+-- out.
 abbrev pub IsComplete : Task → CommandEnd → Outside → Outside → Type 0
 IsComplete k ended a b =
     (Rose a.place.read_faults b.place.read_faults → ⊥)
@@ -87,7 +88,7 @@ pub record Ran (task : Task) (result : Ending) (before after : Outside) : Type 0
   pub halted : result ≡ ending.ReadFault → Halted task before after
   pub broken : result ≡ ending.WriteFault → Broken task before after
   pub memory : result ≡ ending.Memory → Partly task before after
-  -- A fault is answered only if it was counted, and none is passed over.
+  -- A fault is the answer only if it was counted, and a counted fault is never ignored.
   pub read_fault : result ≡ ending.ReadFault → Rose before.place.read_faults after.place.read_faults
   pub write_fault : result ≡ ending.WriteFault → Rose (write_count task.target before) (write_count task.target after)
   pub no_read_passed : before.place.read_faults < after.place.read_faults → result ≡ ending.ReadFault

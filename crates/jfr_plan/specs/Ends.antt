@@ -20,7 +20,7 @@ pub data CommandEnd : Type 0 where
   NotWritten : CommandEnd
   RanOut : CommandEnd
 
--- The end that the code's value means.
+-- The code's `Ending`, as the end of a command.
 abbrev pub command_end : Ending → CommandEnd
 command_end ending.Done = Ends Fine
 command_end (ending.Refused r) = Ends (Refused r)

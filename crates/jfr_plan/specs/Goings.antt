@@ -9,8 +9,8 @@ use Rattle.jfr_plan.specs.Rules.{Rule, cut_after, gone, AllGo}
 abbrev pub IsAt : List (List ℕ) → ℕ → ℕ → Type 0
 IsAt earlier start number = (start ≡ length (joined earlier)) × (number ≡ length earlier + 1)
 
--- The command did not end at the chunks before. `left` is left of the input, and starts at byte `start` of
--- the recording.
+-- The command did not end at any chunk so far. `left` is the unread part of the input, and starts at byte
+-- `start` of the recording.
 pub record Going (r : Rule) (earlier : List (List ℕ)) (input : List ℕ) (start number : ℕ) (given : Bool) (o p : Option (List ℕ)) (w v : World) : Type 0 where
   pub x : List ℕ
   pub file_is : file w input ≡ Some x

@@ -56,8 +56,8 @@ met_effects r earlier x taken = effects (keep_met (Some (length earlier + held_c
 abbrev pub IsBelowHeader : Cuts → ℕ → Flaw → Type 0
 IsBelowHeader cuts n flaw = is_header flaw.reason ≡ true → n < length (joined cuts.chunks) + 68
 
--- The state after a read fault with the input open. The bytes `taken` are those that aren't left. Exactly the
--- effects whose needs the whole chunks in them meet are done, and the command did not end at any of these
+-- The state after a read fault with the input open. The bytes `taken` are those that were read. An effect is
+-- done exactly if the whole chunks in these bytes meet its need, and the command did not end at any of these
 -- chunks. After them fewer bytes were taken than the next chunk has, and fewer than 68 bytes of a chunk that
 -- is refused for its header.
 pub record NeedsMet (r : Rule) (earlier : List (List ℕ)) (x left : List ℕ) (s t : Snapshot) : Type 0 where

@@ -6,7 +6,7 @@ use Rattle.jfr_header.specs.Cuts.{Cuts, cut, joined}
 use Rattle.jfr_plan.specs.Ends.{End, Fine, refused}
 use Rattle.jfr_plan.specs.Effects.{Effect, Step, needing, Opened, Chunks, AtEnd, Plan}
 
--- What a part of a command has to do: end the command, or effects.
+-- What a part of a command has to do: end the command, or carry out these effects.
 pub data Asked : Type 0 where
   Stops : End → Asked
   Goes : List Effect → Asked

@@ -4,7 +4,8 @@
 //! A command is a `Stage`: what it does when its input is open, for each chunk, and at the input's end.
 //! `run_stage` runs a stage over one input. `make_stream` is the command that makes an output from each
 //! chunk, for any `Make`. `create_output`, `append_output` and `finish_output` are the effects on a place, and
-//! `write_file` is all three. Read `specs/Effects.antt` first, then `specs/Walks.antt` and `specs/Outcomes.antt`.
+//! `write_file` is all three. Read `specs/Effects.antt` first, then `specs/Rules.antt` and
+//! `specs/Outcomes.antt`.
 #![tactic(auto)]
 
 mod discard;

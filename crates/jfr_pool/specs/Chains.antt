@@ -45,7 +45,7 @@ pub record LeadsAstray (rs : List Framed) (at : ℕ) (delta : ℤ) : Type 0 wher
   pub moves : delta ≢ pos 0
   pub nowhere : (to : ℕ) → StepsTo at delta to → IsTrue (starts_at rs to 1) → ⊥
 
--- The flaw of the checkpoint at an offset: an integer that doesn't end in time, or a faulty delta.
+-- The flaw of the checkpoint at an offset: an integer that doesn't end within the record, or a faulty delta.
 abbrev pub LinkFlaw : List ℕ → List Framed → ℕ → ℕ → Reason → Type 0
 LinkFlaw c rs at o why = (r : Framed) × Contains rs r × (r.at ≡ at) ×
     (Fails head_format c (record_end r) r.body o why
@@ -88,7 +88,7 @@ abbrev pub before_links : Link → Result (List Link) Flaw → Result (List Link
 before_links l (Ok ls) = Ok (l ∷ ls)
 before_links l (Err flaw) = Err flaw
 
--- The links after one, by the checkpoint to which its delta leads.
+-- The links after one with this delta, given the checkpoint to which the delta leads. `next` gives its chain.
 abbrev pub links_after : Delta → ℤ → Option Framed → (Framed → Result (List Link) Flaw) → Result (List Link) Flaw
 links_after d (pos zero) earlier next = Ok []
 links_after d delta None next = Err (record { offset = d.at; reason = ChainDelta })
@@ -99,8 +99,8 @@ abbrev pub earlier_checkpoint : List Framed → Option ℕ → Option Framed
 earlier_checkpoint rs None = None
 earlier_checkpoint rs (Some to) = checkpoint_at rs to
 
--- The checkpoint to which the delta at an offset leads, none after the oldest, or the flaw of the delta; by
--- the checkpoint that starts where it leads, if one does.
+-- What the delta at an offset gives, if `earlier` is the checkpoint that starts where it leads: this
+-- checkpoint, none if the delta is 0, or the flaw of the delta.
 abbrev pub older_by : ℕ → ℤ → Option Framed → Result (Option Framed) Flaw
 older_by at (pos zero) earlier = Ok None
 older_by at delta None = Err (record { offset = at; reason = ChainDelta })
@@ -115,7 +115,8 @@ abbrev pub linked : Framed → Answer Delta → Result Link Flaw
 linked r (Err flaw) = Err flaw
 linked r (Ok g) = Ok (link_of r g.value)
 
--- The chain from a checkpoint on, by what was read of its head, and by the chain from the earlier one on.
+-- The chain from a checkpoint on, given what was read of its head. `next` gives the chain from an earlier one
+-- on.
 abbrev pub links_by : List Framed → Framed → Answer Delta → (Framed → Result (List Link) Flaw) → Result (List Link) Flaw
 links_by rs r (Err flaw) next = Err flaw
 links_by rs r (Ok g) next = before_links (link_of r g.value) (links_after g.value g.value.value (earlier_checkpoint rs (earlier_place r.at (pos r.at +ℤ g.value.value))) next)

@@ -105,8 +105,8 @@ impl Index {
         self.number_past(home, class, key)
     }
 
-    /// As `number`, for a class and a key whose home slot has others, or whose class has an id too large for
-    /// a slot.
+    /// As `number`, for a class and a key whose home slot holds another class and key, or whose class has an
+    /// id too large for a slot.
     #[inline(never)]
     fn number_past(&self, place: usize, class: u64, key: u64) -> Option<usize>
         requires home { place ≡ home self.now.slots.items (class, key) }

@@ -85,7 +85,7 @@ impl Tables {
     }
 
     /// Tables without entries, for the keys of these ranges, with at most `places` ordinals in all. A class
-    /// whose range is larger than what is left of these has a table for the key 0 only.
+    /// with a range of more keys than ordinals remain has a table for the key 0 only.
     fn empty(alloc: Global, ranges: &[KeyRange], places: usize) -> Result<Tables, NoMemory>
         ensures { IfOk result (λ tables. AreTables tables []) }
     {

@@ -16,7 +16,7 @@ abbrev pub receipt_by : Result Parts Flaw → List ℕ
 receipt_by (Ok q) = receipt_of q
 receipt_by (Err flaw) = []
 
--- The receipt of what is left of a chunk if it has only the events that the filter keeps.
+-- The receipt of a chunk's scrub with this filter; none for a chunk that is refused.
 unfoldable pub scrub_receipt : Given → List ℕ → List ℕ
 scrub_receipt g c = receipt_by (read_parts (scrubbed g c))
 

@@ -1,5 +1,5 @@
--- Fewer entries, with new keys, take no more room than more of them did as they were: pool by pool, and so
--- checkpoint by checkpoint.
+-- Some of these entries, with new keys, take no more bytes than all of them with their old keys: pool by
+-- pool, and so checkpoint by checkpoint.
 use Rattle.std.specs.Prelude.{◌≡◌, ℕ, zero, suc, ◌+◌, ◌-◌, ◌^◌, ◌<◌, ◌≤◌, ◌==◌, Bool, true, false, List, [], ◌∷◌, ◌++◌, length, map, drop, filter, slice_range, Option, Some, None, is_some, ⊤}
 use Rattle.std.specs.List.{flat_map, AllByRecursion}
 use Rattle.std.proofs.Common.{ap, arith, refl, sym, ◌∙◌, subst, length-append}

@@ -1,5 +1,5 @@
--- The pools that are written with new keys: they are read as entries with the new keys and values, and take no
--- more room than the old ones.
+-- The pools that are written with new keys: they are read as entries with the new keys and values, and take
+-- no more bytes than the old ones.
 use Rattle.std.specs.Prelude.{◌≡◌, ℕ, ◌+◌, ◌-◌, ◌≤◌, List, [], ◌∷◌, ◌++◌, length, map, slice_range}
 use Rattle.std.specs.Option.{option_map_or}
 use Rattle.std.specs.List.{flat_map, AllByRecursion}

@@ -8,13 +8,14 @@ unfoldable pub count_below : ℕ → (ℕ → Bool) → ℕ
 count_below zero test = 0
 count_below (suc m) test = if test m then suc (count_below m test) else count_below m test
 
--- The smallest key of the group of a class and key: of this key and those in the list together with it.
+-- The smallest key in the group of this class and key. The group is this key and the keys of the list that
+-- are together with it.
 abbrev pub smallest : (ℕ × ℕ → ℕ × ℕ → Bool) → List (ℕ × ℕ) → ℕ × ℕ → ℕ
 smallest together [] t = t.1
 smallest together (u ∷ us) t = if together u t then min u.1 (smallest together us t) else smallest together us t
 
--- Whether a group begins with this class and key: they are among these, and no smaller key is together with
--- them.
+-- Whether this class and key are the first of a group: they are in the list, and no smaller key is together
+-- with them.
 abbrev pub begins : (ℕ × ℕ → ℕ × ℕ → Bool) → List (ℕ × ℕ) → ℕ × ℕ → Bool
 begins together us t = list_any (λ u. (u.0 == t.0) && (u.1 == t.1)) us && (smallest together us t == t.1)
 

@@ -32,8 +32,8 @@ RenamedMeaning new p q (e ∷ es) (f ∷ fs) = RenamedEvent new p q e f × Renam
 RenamedMeaning new p q [] (f ∷ fs) = ⊥
 RenamedMeaning new p q (e ∷ es) [] = ⊥
 
--- These are new keys: none is larger than the old one, those of a class have no gaps, and two are equal exactly if
--- the keys are together.
+-- These are new keys: none is larger than the old one, the new keys of a class have no gaps, and two are
+-- equal exactly if the old keys are together.
 pub record AreNewKeys (p : Parts) (kept : List EventAt) (new : ℕ × ℕ → ℕ) : Type 0 where
   pub most : (t : ℕ × ℕ) → new t ≤ t.1
   pub groups : (t u : ℕ × ℕ) → Used p kept t → Used p kept u → t.0 ≡ u.0 → (new t ≡ new u) ↔ (together p t u ≡ true)

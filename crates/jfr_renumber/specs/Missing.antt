@@ -22,7 +22,7 @@ pub record Lists (es : List EntryAt) (ts : List (ℕ × ℕ)) (old new : Missing
   pub joined : new.failed ≡ false → (t : ℕ × ℕ) → Contains (filter (is_missing es) ts) t → Contains new.keys.items t
   pub only : new.failed ≡ false → (t : ℕ × ℕ) → Contains new.keys.items t → Contains old.keys.items t ⊎ Contains (filter (is_missing es) ts) t
 
--- A class and a key are before others: the class is smaller, or it is the same and the key is smaller.
+-- A class and a key come before another pair: the class is smaller, or it is the same and the key is smaller.
 abbrev pub Earlier : ℕ × ℕ → ℕ × ℕ → Type 0
 Earlier t u = (t.0 < u.0) ⊎ ((t.0 ≡ u.0) × (t.1 < u.1))
 

@@ -1,4 +1,4 @@
--- Passing values: their bytes are written with new keys, but the last of them, if they stay the same, wait to be
+-- Passing values: their bytes are written with new keys. The last bytes, if they stay the same, wait, to be
 -- written in one piece with those that follow.
 use Rattle.std.specs.Prelude.{◌≡◌, ℕ, ◌≤◌, List, ◌++◌, length, slice_range}
 use Rattle.jfr_layout.specs.Classes.{IsFieldLayout, Sound}
@@ -18,15 +18,16 @@ pub record FieldFollows {N : Type 0} (x : RekeyContext N) (l : FieldLayout) (pas
   pub within : x.end ≤ length x.bytes.now
   pub there : (to : ℕ) × EndsAt x.classes.now x.bytes.now l.shape passed.at to × (to ≤ x.end)
 
--- What was written, and what waited, is followed by these bytes, of which those from `from` up to `to` wait now.
+-- What was written, then what waited, then `bytes`: together this is what is written now, followed by what
+-- waits now, which are the chunk's bytes from `from` up to `to`.
 abbrev pub Adds : List ℕ → List ℕ → Passed → List ℕ → ℕ → ℕ → List ℕ → Type 0
 Adds c old passed new from to bytes = (from ≤ to) × (new ++ slice_range c from to ≡ (old ++ slice_range c passed.from passed.at) ++ bytes)
 
--- These bytes are those of the value of this shape up to `to`, with new keys.
+-- As `Adds`, where the bytes are those of the value of this shape that ends at `to`, with new keys.
 abbrev pub AddsValue : {N : Type 0} → (N → ℕ × ℕ → ℕ) → RekeyContext N → Shape → List ℕ → Passed → List ℕ → ℕ → ℕ → Type 0
 AddsValue keys x s old passed new from to = Adds x.bytes.now old passed new from to (rekeyed_bytes (keys x.new.now) x.classes.now x.bytes.now (node_at s passed.at to))
 
--- The field with this layout is passed too.
+-- The field with this layout was passed: `at` moved to its end, and its value was added.
 abbrev pub IsPassed : {N : Type 0} → (N → ℕ × ℕ → ℕ) → RekeyContext N → FieldLayout → List ℕ → Passed → List ℕ → Passed → Type 0
 IsPassed keys x l old passed new after = (to : ℕ) → EndsAt x.classes.now x.bytes.now l.shape passed.at to → to ≤ x.end
     → (after.at ≡ to) × AddsValue keys x l.shape old passed new after.from to

@@ -35,7 +35,7 @@ used_keys p kept = all_targets p (nodes_of kept ++ map entry_node (remain p kept
 abbrev pub pair_of : EntryAt → ℕ × ℕ
 pair_of e = (e.class, e.key)
 
--- Whether both are entries, and their values have equal bytes.
+-- Whether both entries exist, and their values have equal bytes.
 abbrev pub equal_values : List ℕ → Option EntryAt → Option EntryAt → Bool
 equal_values c None other = false
 equal_values c (Some e) None = false

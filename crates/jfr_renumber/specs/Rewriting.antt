@@ -10,6 +10,6 @@ use Rattle.jfr_renumber.specs.Rekeyed.{rekeyed_leaf}
 abbrev pub KeyFollowsKind : LeafAt → Type 0
 KeyFollowsKind l = l.kind ≡ leaf_kinds.Base kinds.Text → (rest : List ℕ) → l.spelled ≡ 2 ∷ rest → (key : ℕ) × Spells rest key
 
--- The bytes of a leaf with its new key, if it has a key.
+-- The bytes of a leaf, with its new key if it has a key.
 abbrev pub leaf_with : (ℕ × ℕ → ℕ) → LeafAt → List ℕ
 leaf_with new l = (rekeyed_leaf new l).spelled

@@ -22,7 +22,7 @@ pub record Progress : Type 0 where
   pub newest : Option ℕ
   pub metadata : Option ℕ
 
--- The progress of a value of the code's type.
+-- The code's `Output`, as the progress that it has made.
 abbrev pub progress_of : Output → Progress
 progress_of o = record { bytes = o.bytes.items; newest = o.newest; metadata = o.metadata }
 
@@ -35,8 +35,8 @@ with_record bytes place b s = record {
   metadata = offset_so_far b.metadata ((record_of s).at == place) (length b.bytes);
 }
 
--- If what this value of the code's enum says of the kept events and of the metadata record is true, the output
--- has this output record more.
+-- If the code's `OutputRecord` is right about the kept events and about the metadata record, the output has
+-- one output record more: this one.
 unfoldable pub IsWritten : (ℕ × ℕ → ℕ) → Parts → List Bool → List EntryAt → Option (List ℕ) → contents.OutputRecord → Progress → Progress → Type 0
 IsWritten new p flags remaining slim s b after =
     ShowsEvent p flags s → ShowsMetadata (metadata_at p.bytes) s → after ≡ with_record (new_bytes new p (kept_by p flags) remaining) (metadata_at p.bytes) b (output_record_as slim s)

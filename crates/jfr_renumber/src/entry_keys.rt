@@ -10,8 +10,8 @@ use jfr_pool::{EntryAt, Pools};
 use std::alloc::Global;
 use std::marker::Model;
 
-/// The new keys of a chunk. The one of a class and key that have an entry is found by the entry's number; only
-/// others are searched for.
+/// The new keys of a chunk. If a class and key have an entry in force, their new key is looked up by the
+/// entry's number; otherwise it is searched for.
 #[derive(Drop)]
 pub(crate) struct EntryKeys<'k> {
     keys: &'k NumberedKeys,

@@ -19,7 +19,7 @@ use std::sync::ledger::Ledger;
 pub(crate) struct RekeyContext<'a, N> {
     pub classes: &'a Classes,
     pub bytes: &'a [u8],
-    /// The offset by which the fields end.
+    /// The fields end at or before this offset.
     pub end: usize,
     pub new: &'a N,
 }
@@ -32,8 +32,8 @@ impl<'a, N> Clone for RekeyContext<'a, N> {
 
 impl<'a, N> Copy for RekeyContext<'a, N> {}
 
-/// How far the values were passed. Bytes that stay the same are written in one piece when a value follows whose
-/// bytes change.
+/// How far a walk over values came. To pass a value is to move `at` to its end. A value whose bytes change is
+/// written at once, after the bytes that wait. Bytes that stay the same wait, to be written in one piece.
 #[derive(Clone, Copy)]
 pub(crate) struct Passed {
     /// The first byte that isn't written yet.
@@ -134,8 +134,9 @@ fn pass_parts<N: NewKeys, L: Ledger>(
     Ok(())
 }
 
-// Appends what isn't written yet, and the field with this layout leaf by leaf. Returns the end of the field. This is
-// out of line, and gets a copy of `passed`, so that the walk over a row keeps its own in registers.
+// Appends what isn't written yet, and the field with this layout leaf by leaf. Returns the end of the field.
+// This is out of line, and gets a copy of `passed`, so that the loop in `pass_fields` keeps its own in
+// registers.
 #[inline(never)]
 fn put_parts<N: NewKeys, L: Ledger>(
     out: &mut Vec<u8>,
@@ -159,7 +160,7 @@ fn put_parts<N: NewKeys, L: Ledger>(
     Ok(end)
 }
 
-// Appends the bytes that are passed and not written yet. Between two references in a row there are none.
+// Appends the bytes that are passed and not written yet. Between two adjacent references there are none.
 #[inline(always)]
 fn put_waiting(out: &mut Vec<u8>, bytes: &[u8], passed: Passed) -> Result<(), NoMemory>
     requires from { passed.from ≤ passed.at }

@@ -49,8 +49,8 @@ pub(crate) fn put_value<N: NewKeys, L: Ledger>(
     Ok(())
 }
 
-/// Passes the value of this shape, which ends at the end of the fields. Returns the offset of the first byte
-/// that isn't written yet; from there the bytes stay the same.
+/// Passes the value of this shape from `start` to `context.end`. Returns the offset of the first byte that
+/// isn't written yet; from there on the bytes stay the same.
 pub(crate) fn pass_value<N: NewKeys, L: Ledger>(
     out: &mut Vec<u8>,
     context: RekeyContext<'_, N>,

@@ -22,8 +22,8 @@ pub fn rekeyed_values_are_read()
     ensures { (new : ℕ × ℕ → ℕ) (k : Classes) (v : Value) → Sound k → Fits k v → KeepsMeaning new k v }
 {}
 
-/// No new key is larger than the old one, those of a class are dense, and two are equal exactly if the keys
-/// are together.
+/// No new key is larger than the old one, the new keys of a class have no gaps, and two are equal exactly if
+/// the old keys are together.
 #[tactic(auto, using(crate::proofs::LawLaws::new_keys_are))]
 pub fn keys_are_numbered()
     ensures { (p : Parts) (kept : List EventAt) → AreParts p → AreEvents p kept → AreNewKeys p kept (new_key p kept) }
@@ -45,7 +45,8 @@ pub fn renumbered_means_the_same()
     ensures { (p : Parts) (flags : List Bool) → Whole p.bytes → AreParts p → IsRenumbered p (kept_by p flags) }
 {}
 
-/// How the first entries grow: an entry joins them unless an earlier one is the same by the test.
+/// An entry that is added at the end of a list is one of its first entries, unless the test says that an
+/// earlier entry is the same.
 #[tactic(auto, using(crate::proofs::FirstsLaws::first_next))]
 pub fn firsts_one_by_one()
     ensures { (same : EntryAt → EntryAt → Bool) (es : List EntryAt) (e : EntryAt) → firsts_with same (es ++ e ∷ []) ≡ firsts_with same es ++ (if list_any (λ f. same f e) es then [] else e ∷ []) }

@@ -6,7 +6,7 @@ ghost use Rattle.jfr_value.specs.Reading.{base_format};
 
 use jfr_text::{is_bare, read_string, short_units_end};
 
-/// Whether `at` is before `end` and the byte there is 0.
+/// Whether the byte at `at` is 0, and so spells the key 0; false if `at` isn't before `end`.
 #[inline(always)]
 pub(crate) fn is_zero(bytes: &[u8], at: usize, end: usize) -> bool
     requires within { end ≤ length bytes.now }

@@ -19,8 +19,8 @@ use jfr_plan::{Make, make_stream};
 use std::alloc::Global;
 use std::mem;
 
-/// Makes the output of each chunk with a filter and new keys. `buffers` and `bytes` hold the last chunk's memory,
-/// which the next chunk uses again.
+/// Makes the output of each chunk with a filter and new keys. `bytes` is the last output, and `buffers` the
+/// memory of the last chunk's indexes. The next chunk uses the memory of both again.
 #[derive(Drop)]
 struct Renumber<'f> {
     filter: &'f Filter,
@@ -67,8 +67,8 @@ pub fn renumber_stream<P: Place>(
     output: &str,
     filter: &Filter,
 ) -> Ending
-    // The file holds the output of each chunk before the first refused one: a recording that is cut into just
-    // these chunks, each of them accepted again, no longer than its scrub, and of the same meaning except for
+    // The file holds the output of each chunk before the first refused one: a recording that is cut into
+    // exactly these chunks. Each is accepted again, no longer than its scrub, and means the same except for
     // the keys. `each` says this of the output of every accepted chunk, whatever the result is.
     ensures headline { IsByPlan result → IfKnown (P.state place.old).contents (P.state place.new).contents (Renumbers filter.now input.now output.now) }
     ensures each { (c : List ℕ) → Whole c → refusal_of c ≡ None → IsRenumberedOutput filter.now c (renumbered filter.now c) }

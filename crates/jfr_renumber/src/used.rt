@@ -90,7 +90,8 @@ pub(crate) fn missing_keys(
     Ok(list.keys)
 }
 
-// Adds what the event with this number refers to, if it is kept, and has no entry in force.
+// If the event with this number is kept, adds the classes and keys to which it refers and that have no entry
+// in force.
 #[inline(always)]
 fn list_event(list: &mut Missing, chunk: &Chunk<'_>, kept: &Kept, number: usize)
     ensures { Lists chunk.now.entries (all_targets chunk.now (nodes_of (option_to_list (flagged kept.now (events_of chunk.now) number)))) list.old list.new }
@@ -105,7 +106,8 @@ fn list_event(list: &mut Missing, chunk: &Chunk<'_>, kept: &Kept, number: usize)
     }
 }
 
-// Adds what the entry with this number refers to, if it is reached, and has no entry in force.
+// If the entry with this number is reached, adds the classes and keys to which it refers and that have no
+// entry in force.
 #[inline(never)]
 fn list_entry(list: &mut Missing, chunk: &Chunk<'_>, marks: &Marks, number: usize)
     requires { number < length marks.now }
@@ -120,7 +122,7 @@ fn list_entry(list: &mut Missing, chunk: &Chunk<'_>, marks: &Marks, number: usiz
     }
 }
 
-// Adds what an inline value refers to, if it has no entry in force.
+// Adds the classes and keys to which an inline value refers and that have no entry in force.
 #[inline(always)]
 fn list_value(list: &mut Missing, classes: &Classes, pools: &Pools, node: Node<'_>)
     requires sound { Sound classes.now }

@@ -1,4 +1,4 @@
--- Kept events, the entries that remain and the metadata record are copied where all that stays is.
+-- If all output records are copied, so are the kept events, the remaining entries and the metadata record.
 use Rattle.std.specs.Prelude.{◌≡◌, ◌⊎◌, ℕ, ◌+◌, Bool, true, false, ◌==◌, ◌||◌, List, [], ◌∷◌, reverse, filter, slice_get, zero, suc, Option, Some, None, cond, if◌then◌else◌}
 use Rattle.std.specs.List.{AllByRecursion, filter_map, cons_option, enumerate_from, list_any}
 use Rattle.std.proofs.Common.{ap, refl, sym, ◌∙◌, subst, inl, inr}

@@ -92,7 +92,7 @@ made_parts [] = []
 made_parts (parts.Copied from to ∷ ps) = made_parts ps
 made_parts (parts.Made part from to ∷ ps) = part ∷ made_parts ps
 
--- The ranges that were copied still are, and these made parts follow those before.
+-- All ranges that were copied still are, and `these` made parts were added after the old ones.
 pub record Grows (ps qs : List Part) (these : List MadePart) : Type 0 where
   pub keeps : Keeps ps qs
   pub made : made_parts qs ≡ made_parts ps ++ these

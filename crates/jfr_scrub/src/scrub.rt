@@ -67,8 +67,8 @@ pub fn scrub_stream<P: Place>(
     filter: &Filter,
 ) -> Ending
     // The output holds the scrub of each chunk before the first refused one: a recording that is cut into
-    // just these chunks, each of them accepted again, with exactly the events that the filter keeps and
-    // exactly the constants that they reach, and of the same meaning. `each` says this of the scrub of
+    // exactly these chunks. Each is accepted again, has exactly the events that the filter keeps and exactly
+    // the constants that they reach, and means the same. `each` says this of the scrub of
     // every accepted chunk, whatever the result is.
     ensures headline { IsByPlan result → IfKnown (P.state place.old).contents (P.state place.new).contents (Scrubs filter.now input.now output.now) }
     ensures each { (c : List ℕ) → Whole c → refusal_of c ≡ None → IsScrubbed filter.now c (scrubbed filter.now c) }

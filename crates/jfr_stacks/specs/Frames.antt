@@ -38,7 +38,7 @@ frames_in p n = option_and_then (items_of p) (option_map (after_references 16 p)
 abbrev pub entry_of : Parts → NodeAt → Option ℕ
 entry_of p n = option_and_then (number_in_force p.entries) (target p.classes p.bytes n)
 
--- A value of the code that is one of the chunk.
+-- The code's `Node` is a value of the chunk.
 pub record IsOf (p : Parts) (n : Node) : Type 0 where
   pub bytes : n.bytes.now ≡ p.bytes
   pub value : IsValue p.classes n

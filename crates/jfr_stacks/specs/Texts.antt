@@ -57,8 +57,8 @@ stack_of p e = option_map (stack_text p) (frames_of p e.node)
 unfoldable pub trace_text : Parts → NodeAt → Option (List ℕ)
 trace_text p n = option_map (stack_text p) (frames_in p n)
 
--- The text of the stack of the trace that is the entry with this number. A reference to the entry has been
--- followed already, so at most 15 more are.
+-- The text of the stack whose trace is the entry with this number. One reference has been followed to reach
+-- the entry, so at most 15 more are.
 unfoldable pub entry_text : Parts → ℕ → Option (List ℕ)
 entry_text p number = option_and_then (λ e. trace_text p (after_references 15 p (entry_node e))) (slice_get p.entries number)
 
@@ -67,7 +67,7 @@ pub record LeadsTo (p : Parts) (n : NodeAt) (number : ℕ) : Type 0 where
   pub within : number < length p.entries
   pub same : trace_text p (after_references 16 p n) ≡ entry_text p number
 
--- The stack trace in this field is at this place. For an inline trace this says nothing.
+-- This is the location of the stack trace in this field. For an inline trace this says nothing.
 abbrev pub IsLocation : Parts → NodeAt → TraceLocation → Type 0
 IsLocation p n (Entry number) = LeadsTo p n number
 IsLocation p n Missing = trace_text p (after_references 16 p n) ≡ None

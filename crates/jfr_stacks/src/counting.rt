@@ -90,8 +90,8 @@ fn kept_trace<'a>(
     }
 }
 
-// Counts an event with this stack trace at the entry that is the trace, or adds it to the counts if the trace is
-// inline. An event that refers to an entry that doesn't exist isn't counted.
+// Counts an event with this stack trace in `by_entry`, for the entry that is the trace, or adds it to the
+// counts by text if the trace is inline. An event that refers to an entry that doesn't exist isn't counted.
 fn count_trace<'a>(
     writer: &mut StackWriter,
     chunk: &Chunk<'a>,

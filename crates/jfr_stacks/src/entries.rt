@@ -16,7 +16,7 @@ use jfr_path::follow_references;
 /// The most references that are followed from an entry. One has been followed to reach it.
 const MOST_FOLLOWED_AFTER: u32 = 15;
 
-/// Adds the events that were counted by entries to the counts.
+/// Adds the events in `by_entry`, which are counted by entry, to the counts by text.
 pub(crate) fn add_entries(
     writer: &mut StackWriter,
     chunk: &Chunk<'_>,

@@ -1,4 +1,4 @@
--- At an offset there is a value of a known class, or it is refused; never both, and with one answer only.
+-- At each offset there is exactly one answer for a known class: a value, or a flaw.
 use Rattle.std.specs.Prelude.{◌≡◌, ◌⊎◌, ℕ, ◌≤◌, List, length, Option, Some, None, Result, Ok, Err, IsSome, IfOk, IfErr}
 use Rattle.std.proofs.Common.{ap, arith, refl, sym, ◌∙◌, inl, inr, subst}
 use Rattle.jfr_base.specs.declared.flaw.Flaw.{Flaw}

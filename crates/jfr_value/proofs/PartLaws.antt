@@ -1,4 +1,4 @@
--- One part of a row, and its node.
+-- One of several values that follow one another, and its node.
 use Rattle.std.specs.Prelude.{◌≡◌, ℕ, ◌+◌, ◌<◌, ◌≤◌, List, length, slice_get, Some, Ok, Bool, true, false, not, replicate, IfSome, IsTrue, ◌↔◌}
 use Rattle.std.proofs.Common.{ap, refl, sym, ◌∙◌, subst}
 use Rattle.jfr_base.specs.Formats.{run, end_or_flaw}

@@ -1,4 +1,4 @@
--- The class at the place of an id is the class of the id.
+-- The class at the index of an id is the class with this id.
 use Rattle.std.specs.Prelude.{◌≡◌, ℕ, zero, suc, ◌+◌, ◌<◌, Bool, true, false, cond, List, [], ◌∷◌, length, Option, Some, None, IsSome, IfSome, find, position, unwrap_or, slice_get, ◌==◌}
 use Rattle.std.specs.List.{position_from}
 use Rattle.std.proofs.Common.{ap, arith, refl, sym, ◌∙◌, subst}

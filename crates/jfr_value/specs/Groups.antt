@@ -2,7 +2,7 @@
 use Rattle.std.specs.Prelude.{◌≡◌, ℕ, ◌+◌, ◌<◌, List, slice_index, nat_lt, if◌then◌else◌}
 use Rattle.std.specs.Int.{bit_at}
 
--- A bit for each of sixteen bytes, which is set if the byte has no top bit. Such a byte is the last group of
--- an integer, if it is one of its groups of seven bits.
+-- A bit for each of sixteen bytes, which is set if the byte's top bit is 0. Among the first eight groups of
+-- an integer, such a byte is the last one.
 abbrev pub AreLastGroups : List ℕ → ℕ → ℕ → Type 0
 AreLastGroups x at lasts = (k : ℕ) → k < 16 → bit_at lasts k ≡ (if nat_lt (slice_index x (at + k)) 128 then 1 else 0)

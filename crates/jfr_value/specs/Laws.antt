@@ -18,8 +18,7 @@ use Rattle.jfr_value.specs.Leaves.{leaves, leaf_target}
 abbrev pub AreRead : Classes → Type 0
 AreRead k = (v : Value) → Fits k v ↔ Exactly (value_format k (shape_of v)) (bytes_of v) v
 
--- Either there is a value of the shape at the offset, or it is refused; never both, and with only one such
--- value or flaw.
+-- There is exactly one answer for the shape at the offset: a value, or a flaw.
 pub record HasOneAnswer (k : Classes) (c : List ℕ) (s : Shape) (at end : ℕ) : Type 0 where
   pub some : ((to : ℕ) × (to ≤ end) × EndsAt k c s at to) ⊎ ((flaw : Flaw) × IsRefused k c s at end flaw)
   pub not_both : (to : ℕ) → to ≤ end → EndsAt k c s at to → (flaw : Flaw) → IsRefused k c s at end flaw → ⊥

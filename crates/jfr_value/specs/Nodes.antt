@@ -60,7 +60,7 @@ pub record AreValues (k : Classes) (c : List ℕ) (at to : ℕ) (shapes : List S
 abbrev pub IsRefused : Classes → List ℕ → Shape → ℕ → ℕ → Flaw → Type 0
 IsRefused k c s at end flaw = Fails (value_format k s) c end at flaw.offset flaw.reason
 
--- A part doesn't end in time, or a string's kind isn't known.
+-- The reason is that a part doesn't end by the limit, or that a string's kind isn't known.
 abbrev pub IsValueReason : Reason → Type 0
 IsValueReason why = (why ≡ Short) ⊎ (why ≡ StringKind)
 

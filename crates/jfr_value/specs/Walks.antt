@@ -83,7 +83,7 @@ GoesOn k c end at vs size cursor Ended = (ws : Values) × AreRemaining k c end c
 GoesOn k c end at vs size cursor (Found leaf) = (ws : Values) × AreRemaining k c end cursor ws × (leaves_from at vs ≡ leaf_of leaf ∷ leaves_from cursor.at ws)
 GoesOn k c end at vs size cursor Onward = (ws : Values) × AreRemaining k c end cursor ws × (leaves_from at vs ≡ leaves_from cursor.at ws) × (size_of_all ws + length cursor.stack < size)
 
--- A walk over values, which are there.
+-- The cursor of a walk: the classes are sound, each frame fits its height, and the remaining values exist.
 pub record IsWalk (k : Classes) (c : List ℕ) (end : ℕ) (cursor : Cursor) : Type 0 where
   pub sound : Sound k
   pub frames : AreFrames k 0 cursor.stack

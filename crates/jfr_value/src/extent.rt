@@ -1,6 +1,6 @@
 //! The walk to a value's end, over bytes of which nothing is known: it finds the value's end or a flaw. On the
-//! way it passes the value's references to a visitor. jfr_chunk uses it for each event (`end_visiting`),
-//! jfr_pool for each constant (`end_by_layout`), and jfr_show to find an object's fields (`end_of`).
+//! way it passes the value's references to a visitor. jfr_chunk uses it for each event (`end_visiting`), and
+//! jfr_pool for each constant (`end_by_layout`). Other crates find the ends of fields and items by `end_of`.
 ghost use Rattle.std.specs.Prelude.{◌≡◌, ◌⊎◌, ℕ, ◌+◌, ◌≤◌, ◌<◌, length, IfOk, IfErr, Ok, IfSome, IsSome, IsTrue, ◌↔◌, slice_get, true};
 ghost use Rattle.std.specs.List.{AllByRecursion};
 ghost use Rattle.jfr_base.specs.Formats.{run, end_or_flaw};

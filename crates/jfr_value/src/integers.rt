@@ -31,7 +31,8 @@ pub(crate) fn integer_end(bytes: &[u8], at: usize, end: usize) -> Result<usize, 
     Ok(to)
 }
 
-/// The offset after an integer at which 16 bytes are left, which is enough for all of its groups.
+/// The offset after an integer that starts at least 16 bytes before the end of the bytes, so that all its
+/// groups are there.
 #[inline(always)]
 fn groups_end(bytes: &[u8], at: usize) -> usize
     requires room { at + 16 ≤ length bytes.now }
@@ -110,8 +111,8 @@ fn each_integer_end(bytes: &[u8], at: usize, end: usize, count: usize) -> Result
     Ok(to)
 }
 
-/// A bit for each of the 16 bytes from an offset on, which is set if the byte has no top bit, so that it can
-/// be an integer's last group.
+/// A bit for each of the 16 bytes from an offset on. The bit is set if the byte's top bit is 0, so that the
+/// byte can be an integer's last group.
 #[inline(always)]
 fn last_groups(bytes: &[u8], at: usize) -> u64
     requires room { at + 16 ≤ length bytes.now }

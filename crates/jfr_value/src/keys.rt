@@ -57,7 +57,7 @@ fn far_key_end<C, V: Visit<C>>(
     Ok(to)
 }
 
-/// The offset after a key of any length, or the flaw of one that doesn't end in time, out of line.
+/// The offset after a key of any length, or the flaw of one that doesn't end by `walk.end`, out of line.
 #[tactic(auto, unfolding(jfr_base::specs::Formats::run))]
 #[inline(never)]
 fn long_key_end<C, V: Visit<C>>(

@@ -17,7 +17,7 @@ pub fn values_are_read()
     ensures { (k : Classes) → Sound k → AreRead k }
 {}
 
-/// At an offset there is a value of a known class, or it is refused; never both, and with one answer only.
+/// At each offset there is exactly one answer for a known class: a value, or a flaw.
 pub fn one_answer()
     ensures { (k : Classes) (c : List ℕ) (s : Shape) (at end : ℕ) → Sound k → IsSome (find_class k s.class) → at ≤ end → end ≤ length c → HasOneAnswer k c s at end }
 {}

@@ -2,7 +2,7 @@
 
 use jfr_layout::Kind;
 
-/// What a leaf is.
+/// The kind of a leaf.
 #[derive(Clone, Copy, Debug, PartialEq, Eq)]
 pub enum LeafKind {
     /// A value of a class with a base name. A string is one, too, even if it is a key.

@@ -12,7 +12,7 @@ use jfr_base::{Var, read_within};
 use jfr_layout::{Classes, FieldLayout, Kind, Shape};
 
 /// The field or the item of a node to which a step leads; the node must be one of a value. `None` exactly if
-/// there is no such field or item, and for `Follow`. It takes a walk over the fields or items before it.
+/// there is no such field or item, and for `Follow`. The call walks over the fields or items before it.
 pub fn child<'a>(classes: &Classes, node: &Node<'a>, step: &Step) -> Option<Node<'a>>
     requires { IsValue classes.now node.now }
     ensures exact { option_map node_of result ≡ child classes.now node.now.bytes.now (node_of node.now) step.now }

@@ -1,5 +1,5 @@
 //! The walk over what a value refers to, for values that are known to be there. It counts a step for each
-//! leaf. jfr_reach uses it for each constant that it marks (`visit_targets`).
+//! leaf. jfr_reach uses it for each constant that it marks, and jfr_verify for each one that it checks.
 ghost use Rattle.std.specs.Prelude.{◌≡◌, ◌≢◌, ℕ, ◌+◌, ◌≤◌, ◌<◌, length, true, false, IsOk, IfOk, IsSome, IfSome, option_map, option_to_list, slice_get};
 ghost use Rattle.std.specs.List.{AllByRecursion};
 ghost use Rattle.jfr_base.specs.Formats.{int_at, run, end_or_flaw};
@@ -20,7 +20,8 @@ use jfr_layout::{Classes, FieldLayout, Form, Kind};
 use jfr_text::{StringKind, read_string};
 use std::sync::ledger::Ledger;
 
-/// A visitor, which takes the references of a value one by one, and may look at something else for each.
+/// A visitor takes the references of a value one by one. For each it may look something up in `with`, such as
+/// the pools.
 pub trait Visit<C> {
     // Whether the visitor can take a target.
     ghost ready: { Self → C → Type 0 };

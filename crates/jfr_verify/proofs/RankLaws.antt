@@ -1,4 +1,4 @@
--- The place of a marked member among the marked ones.
+-- The rank of a marked member among the marked ones.
 use Rattle.std.specs.Prelude.{◌≡◌, ◌↔◌, ℕ, zero, suc, ◌<◌, Bool, true, false, List, [], ◌∷◌, length, slice_get, Some}
 use Rattle.std.proofs.Common.{ap, arith, refl, ◌∙◌}
 use Rattle.std.proofs.lemmas.Option.{slice_get_within}

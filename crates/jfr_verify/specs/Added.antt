@@ -11,7 +11,7 @@ pub record Adds (numbers : List ℕ) (old new : Lines) : Type 0 where
   pub lines : new.items.items ≡ old.items.items ++ new_lines old.flags.items old.parent numbers
   pub parent : new.parent ≡ old.parent
 
--- The additions with this parent, whichever was current before.
+-- As `Adds`, with this parent as the current one, whichever was current before.
 pub record AddsOf (parent : Parent) (numbers : List ℕ) (old new : Lines) : Type 0 where
   pub marks : new.flags.items ≡ marked_at old.flags.items numbers
   pub lines : new.items.items ≡ old.items.items ++ new_lines old.flags.items parent numbers

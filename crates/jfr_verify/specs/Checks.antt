@@ -43,7 +43,7 @@ copy_if p q from f n = if nat_lt n from then None else option_and_then (λ e. if
 abbrev pub next_copy : Parts → Parts → ℕ → ℕ → Option ℕ
 next_copy p q number from = option_and_then (λ f. option_and_then (copy_if p q from f) (number_in_force p.entries (f.class, f.key))) (slice_get q.entries number)
 
--- Marks on the input's entries that the output copies; or no marks are right.
+-- These are marks on the input's entries that the output copies, or there are no such marks.
 abbrev pub MarksOfCopies : Parts → Parts → Option (Vec Bool Global) → Type 0
 MarksOfCopies p q (Some marks) = AreAmong p q marks.items × (length marks.items ≡ length p.entries)
 MarksOfCopies p q None = (marks : List Bool) → AreAmong p q marks → ⊥

@@ -20,7 +20,7 @@ abbrev pub AreConfirmed : Parts → List Parent → Bool → Type 0
 AreConfirmed p parents true = (t : ℕ) → t < length p.entries → IsConfirmed p parents t
 AreConfirmed p parents false = ((t : ℕ) → t < length p.entries → IsConfirmed p parents t) → ⊥
 
--- No event whose flag isn't set is the parent of one of the first n claims.
+-- Each event of the chunk that one of the first n claims names as parent has its flag set.
 abbrev pub AreClaimed : ℕ → List Parent → List Bool → Type 0
 AreClaimed n parents claimed = (i t : ℕ) → t < n → slice_get parents t ≡ Some (OfEvent i) → slice_get claimed i ≡ Some false → ⊥
 

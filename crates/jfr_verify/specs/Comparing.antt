@@ -13,18 +13,20 @@ use Rattle.jfr_verify.specs.declared.comparer.Comparer.{Comparer}
 use Rattle.jfr_verify.specs.declared.verdict.Verdict.{Verdict}
 use Rattle.jfr_verify.specs.declared.verdict.Verdict.TheVariants.{ReadFault, Memory}
 
--- These are the outputs that are left.
+-- The outputs that the comparer has not compared yet have these parts.
 abbrev pub HasOutputs : Comparer → List Parts → Type 0
 HasOutputs s qs = AreOutputs (iter_rest s.outputs) qs
 
--- A claim about the verdict with which comparing ends, unless memory ran out. Comparing reads nothing.
+-- A claim about the verdict with which comparing ends, unless memory ran out. It isn't a read fault, since
+-- comparing reads nothing.
 abbrev pub IfStopped : Verdict → Type 0 → Type 0
 IfStopped ReadFault Claim = ⊥
 IfStopped Memory Claim = ⊤
 IfStopped _ Claim = Claim
 
--- The next input was compared, after n pairs, with the first of these outputs: the verdict for the later inputs
--- is that for all that were left, or this verdict is.
+-- After n pairs, the next input was compared with the first of these outputs. Without a verdict the
+-- comparison goes on: the verdict for the later inputs and outputs is the verdict for all. Otherwise this
+-- verdict is.
 abbrev pub Steps : Result (Unit {0}) Verdict → ℕ → Result Parts Flaw → List Parts → Comparer → Comparer → Type 0
 Steps (Ok x) n next qs old new = (later : List Parts) × HasOutputs new later × ((k : Recording) (y : Verdict) → ComparedWith old.filter.now k later new.receipts.now (n + 1) y → ComparedWith old.filter.now (read_on (n + 1) next k) qs old.receipts.now n y)
 Steps (Err x) n next qs old new = IfStopped x ((k : Recording) → ComparedWith old.filter.now (read_on (n + 1) next k) qs old.receipts.now n x)

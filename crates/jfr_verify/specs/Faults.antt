@@ -15,28 +15,28 @@ use Rattle.jfr_verify.specs.declared.doubt.Doubt.TheVariants.{ReceiptLong, OutRe
 use Rattle.jfr_verify.specs.declared.verdict.Verdict.{Verdict}
 use Rattle.jfr_verify.specs.declared.verdict.Verdict.TheVariants.{Doubted, Refused, ReadFault, Memory}
 
--- The verdict after a call of the place that failed.
+-- The verdict if a call of the place failed.
 abbrev pub after_read : Fault → Verdict
 after_read faults.Failed = ReadFault
 after_read faults.Memory = Memory
 
--- The verdict after receipts that could not be read.
+-- The verdict if the receipts could not be read.
 abbrev pub after_receipts : FileFault → Verdict
 after_receipts files.TooLong = Doubted 0 ReceiptLong
 after_receipts files.Failed = ReadFault
 after_receipts files.Memory = Memory
 
--- The verdict after a chunk of the output with this number that could not be read.
+-- The verdict if chunk `number` of the output could not be read.
 abbrev pub after_output : ℕ → readings.ReadFault → Verdict
 after_output number (readings_variants.Flawed flaw) = Doubted number OutRefused
 after_output number readings_variants.Memory = Memory
 
--- The verdict after a chunk of the input with this number that could not be read.
+-- The verdict if chunk `number` of the input could not be read.
 abbrev pub after_chunk : ℕ → readings.ReadFault → Verdict
 after_chunk number (readings_variants.Flawed flaw) = Refused (at_chunk number flaw)
 after_chunk number readings_variants.Memory = Memory
 
--- The verdict after a pair of chunks with this number that isn't accepted.
+-- The verdict if the chunks with this number aren't accepted.
 abbrev pub after_check : ℕ → CheckFault → Verdict
 after_check number (checks.Doubt doubt) = Doubted number doubt
 after_check number checks.Memory = Memory

@@ -46,7 +46,7 @@ IsOutRefused ReadFault file = ⊤
 IsOutRefused Memory file = ⊤
 IsOutRefused _ file = ⊥
 
--- What was read of the output: all its chunks, or only those before a refused one.
+-- The chunks of the output, if it was read to its end; otherwise why it wasn't.
 abbrev pub OutputRead : List ℕ → Result (Vec (Vec ℕ Global) Global) Verdict → World → World → Type 0
 OutputRead name (Ok bs) w v = IsKept w v × IsSomeAnd (file w name) (λ x. ((recording_of x).refusal ≡ None) × AreOutputs bs.items (recording_of x).parts)
 OutputRead name (Err e) w v = IsKept w v × IsOutRefused e (file w name)

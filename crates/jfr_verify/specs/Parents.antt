@@ -35,11 +35,11 @@ abbrev pub ParentsOf : ℕ → List Line → Option (Vec Parent Global) → Type
 ParentsOf count ls None = AreOrdered count [] ls → ⊥
 ParentsOf count ls (Some parents) = AreOrdered count [] ls × AreParentsOf parents.items ls × (length parents.items ≡ count)
 
--- Whether a parent is an event or an entry that is seen.
+-- Whether a parent is an event, or an entry with a line. `seen` says which entries have one.
 abbrev pub is_before : List Bool → Parent → Bool
 is_before seen (OfEvent n) = true
 is_before seen (OfEntry n) = is_marked seen n
 
--- Whether a line can follow lines for the entries that are seen.
+-- Whether a line can follow lines for the entries in `seen`.
 abbrev pub is_next : List Bool → Line → Bool
 is_next seen l = option_map_or (λ flag. if flag then false else is_before seen l.parent) (slice_get seen l.entry) false

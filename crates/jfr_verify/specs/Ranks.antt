@@ -23,12 +23,12 @@ pub record AreRanks (marks : List Bool) (ranks : List ℕ) : Type 0 where
   pub size : length ranks ≡ length marks
   pub each : (n : ℕ) → n < length marks → slice_index_or ranks n 0 ≡ marked_count (take n marks)
 
--- The parent with the rank of its entry.
+-- The parent. If it is an entry, its number is replaced by its rank.
 abbrev pub ranked_parent : List ℕ → Parent → Parent
 ranked_parent ranks (OfEvent n) = OfEvent n
 ranked_parent ranks (OfEntry n) = OfEntry (slice_index_or ranks n 0)
 
--- The line with the ranks of its entries.
+-- The line, with the number of each entry in it replaced by the entry's rank.
 abbrev pub ranked : List ℕ → Line → Line
 ranked ranks l = record { entry = slice_index_or ranks l.entry 0; parent = ranked_parent ranks l.parent }
 

@@ -4,7 +4,7 @@ use Rattle.jfr_base.specs.Formats.{Got, Answer, run, times}
 use Rattle.jfr_verify.specs.declared.line.Line.{Line}
 use Rattle.jfr_verify.specs.Receipts.{line_format, receipt_format}
 
--- What was read, if nothing was refused.
+-- What was read, and the offset after it, if nothing was refused.
 abbrev pub got_in : {A : Type 0} → Answer A → Option (Got A)
 got_in (Ok g) = Some g
 got_in (Err flaw) = None

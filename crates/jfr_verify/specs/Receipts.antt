@@ -20,7 +20,7 @@ abbrev pub parent_of : ℕ → ℕ → Parent
 parent_of zero n = OfEvent n
 parent_of (suc kind) n = OfEntry n
 
--- A parent's kind is 0 or 1. The reason is never reported.
+-- A parent's kind is 0 or 1. The reason `Short` is arbitrary, since it is never reported.
 abbrev pub kind_check : ℕ → Option Reason
 kind_check kind = if nat_lt kind 2 then None else Some Short
 

@@ -46,11 +46,12 @@ pub record IsRead (x : List ℕ) : Type 0 where
 abbrev pub after_parts : List Parts → Recording → Recording
 after_parts ps later = record { parts = ps ++ later.parts; refusal = later.refusal }
 
--- The chunks of the bytes that a cutter has left.
+-- The recording that a cutter has yet to cut, from the bytes that weren't read yet.
 abbrev pub unread_recording : Cutter → List ℕ → Recording
 unread_recording c left = recording_in c.number (cut left c.start (not c.given))
 
--- A claim about the chunks that a cutter has left of the open input. The files and the output are unchanged.
+-- A claim about the chunks of the open input that a cutter has yet to cut. The files and the output are
+-- unchanged.
 pub record HasUnread (c : Cutter) (Claim : Recording → Type 0) (w v : World) : Type 0 where
   pub same : IsKept w v
   pub left : List ℕ

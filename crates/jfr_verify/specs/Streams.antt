@@ -19,8 +19,9 @@ abbrev pub Onward : (ℕ → Type 0) → (Doubt → Type 0) → Result ℕ Doubt
 Onward next stop (Ok m) = next m
 Onward next stop (Err d) = stop d
 
--- The verdict for these inputs, after which the next one is refused or there is none, these outputs, and these
--- bytes of receipts, after n pairs: pair by pair, until a doubt, the refused input or the end of a list.
+-- The verdict after n pairs, given the inputs, the outputs and the bytes of receipts that come next. `end` is
+-- the refusal of the input after these, if there is one. Pairs are compared in order, until a doubt, the
+-- refused input or the end of a list.
 abbrev pub Compared : Given → List Parts → Option Refusal → List Parts → List ℕ → ℕ → Verdict → Type 0
 Compared g [] (Some f) qs r n x = x ≡ Refused f
 Compared g [] None [] [] n x = x ≡ Verified n

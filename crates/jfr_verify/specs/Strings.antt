@@ -32,6 +32,6 @@ both_same (Some m) (Some n) = m == n
 both_same (Some m) None = false
 both_same None o = false
 
--- Two strings of the tables have the same number exactly if they have the same text.
+-- A string of the first table and one of the second have the same number exactly if they have the same text.
 abbrev pub AreNumbers : List (List ℕ) → List (List ℕ) → List (Option ℕ) → List (Option ℕ) → Option ℕ → Type 0
 AreNumbers ones others of_ones of_others of_empty = (i j : ℕ) → both_same (get_or of_ones i of_empty) (get_or of_others j of_empty) ≡ bytes_eq (text_at ones i) (text_at others j)

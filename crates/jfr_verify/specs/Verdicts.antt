@@ -17,7 +17,7 @@ use Rattle.jfr_verify.specs.declared.doubt.Doubt.TheVariants.{ReceiptLong, OutRe
 use Rattle.jfr_verify.specs.declared.verdict.Verdict.{Verdict}
 use Rattle.jfr_verify.specs.declared.verdict.Verdict.TheVariants.{Verified, Doubted, Refused, ReadFault, Memory}
 
--- The bytes of the input, the output and the receipts, as far as these files exist.
+-- The bytes of the input, the output and the receipts; `None` for a file that doesn't exist.
 pub record Three : Type 0 where
   pub input : Option (List ℕ)
   pub output : Option (List ℕ)
@@ -48,7 +48,7 @@ pub record HasOutput (t : Three) : Type 0 where
 abbrev pub ComparedWith : Given → Recording → List Parts → List ℕ → ℕ → Verdict → Type 0
 ComparedWith g input qs r n x = Compared g input.parts input.refusal qs r n x
 
--- The verdict on the files. The receipts are looked at first, then the output, then the input.
+-- The verdict on the files. The receipts are read first, then the output, then the input.
 pub data VerdictOf (g : Given) (t : Three) (x : Verdict) : Type 0 where
   -- The receipts are too long.
   long : (r : List ℕ) → t.receipt ≡ Some r → 2 ^ 40 ≤ length r → x ≡ Doubted 0 ReceiptLong → VerdictOf g t x
@@ -66,7 +66,7 @@ abbrev pub HasVerdict : Given → Three → Type 0
 HasVerdict g t = (input output receipt : List ℕ) → t ≡ record { input = Some input; output = Some output; receipt = Some receipt } → (x : Verdict) × VerdictOf g t x
 
 -- The input and the output are read to their ends, each chunk of the output is verified against one of the
--- input, and they are this many.
+-- input, and there are `count` of them.
 pub record AllVerified (g : Given) (t : Three) (count : ℕ) : Type 0 where
   pub input : List ℕ
   pub input_is : t.input ≡ Some input
@@ -123,6 +123,6 @@ IsFine (Verified n) = ⊤
 IsFine Memory = ⊤
 IsFine _ = ⊥
 
--- The verdict on the files with these names, and what is there afterwards: only the input has changed.
+-- The verdict on the files with these names. Of the place, only the open input has changed.
 abbrev pub VerdictIn : Given → List ℕ → List ℕ → List ℕ → Verdict → World → World → Type 0
 VerdictIn g input output receipt x w v = IsKept w v × IfDecided x (VerdictOf g (three input output receipt w) x)

@@ -15,7 +15,7 @@ pub(crate) struct Claims {
     pub parents: Vec<Parent>,
     /// For each entry, whether its claimed parent is known to refer to it.
     pub confirmed: Vec<bool>,
-    /// The parent whose references are being visited.
+    /// The current parent: the one whose references are being visited.
     pub parent: Parent,
 }
 
@@ -34,8 +34,8 @@ impl Claims {
         })
     }
 
-    /// Notes that the parent that is looked at refers to entry `number`: this confirms the entry's claim if it
-    /// is its claimed parent.
+    /// Records that the current parent, `parent`, refers to entry `number`. This confirms the entry's claim
+    /// if the current parent is its claimed parent.
     pub fn put(&mut self, number: usize)
         requires { number < length self.old.confirmed.items }
         ensures confirmed { self.new.confirmed.items ≡ marked_at self.old.confirmed.items (children self.old.parents.items self.old.parent (number ∷ [])) }

@@ -13,8 +13,8 @@ use jfr_layout::Classes;
 use jfr_meta::ClassNames;
 use std::alloc::Global;
 
-/// Whether each class of the output `b` is a class of the input `a`. A string is compared by its text
-/// only when it gets its number, however many classes share it.
+/// Whether each class of the output `b` is a class of the input `a`. The text of a string is
+/// compared only once, to give the string a number, however many classes share the string.
 pub(crate) fn has_classes(alloc: Global, a: &Chunk<'_>, b: &Chunk<'_>) -> Result<bool, NoMemory>
     ensures { IfOk result (Decided (HasClasses a.now.classes b.now.classes)) }
 {

@@ -10,8 +10,9 @@ use std::alloc::Global;
 use std::mem;
 use std::slice::Iter;
 
-/// Compares chunks of an input with those of an output. `outputs` are the chunks of the output that
-/// are left, and `receipts` the receipts. The buffers hold the last chunks' memory, which the next chunks use again.
+/// Compares chunks of an input with those of an output. `outputs` are the chunks of the output that weren't
+/// compared yet, and `receipts` the receipts that weren't read yet. The buffers hold the last chunks' memory,
+/// which the next chunks use again.
 #[derive(Drop)]
 pub(crate) struct Comparer<'r> {
     alloc: Global,

@@ -29,8 +29,8 @@ impl Visit<Pools> for Claims {
 
     ghost takes = { λ pools target old new. Confirms (those (number_in_force pools) (target ∷ [])) old new };
 
-    /// Confirms the claim of the entry in force for a class and key, if there is one and the parent that is
-    /// looked at is its claimed parent.
+    /// Confirms the claim of the entry in force for a class and key, if there is one and the current parent
+    /// is its claimed parent.
     #[inline]
     fn visit(&mut self, pools: &Pools, class: u64, key: u64) {
         if let Some(number) = pools.entry(class, key) {
@@ -40,7 +40,7 @@ impl Visit<Pools> for Claims {
 }
 
 /// Whether the claimed parent of each entry refers to it. Each entry of the chunk, and each event that is a
-/// claimed parent, is looked at once, however many entries name it as their parent.
+/// claimed parent, is visited once, however many entries name it as their parent.
 pub(crate) fn are_confirmed(
     alloc: Global,
     chunk: &Chunk<'_>,
@@ -74,7 +74,7 @@ fn confirm_all<L: Ledger>(
 }
 
 /// For each event of a chunk with this number of them, whether it is a claimed parent. Few events are, so the
-/// references of all others needn't be looked at.
+/// references of all others needn't be visited.
 fn claimed_events(alloc: Global, parents: &[Parent], count: usize) -> Result<Vec<bool>, NoMemory>
     ensures claimed { IfOk result (λ claimed. AreClaimed (length parents.now) parents.now claimed.items) }
     ensures size { IfOk result (λ claimed. length claimed.items ≡ count) }
@@ -129,7 +129,7 @@ fn confirm_event(claims: &mut Claims, chunk: &Chunk<'_>, claimed: &[bool], numbe
     }
 }
 
-/// Confirms the claims of the entries with these numbers, if they name the parent that is looked at.
+/// Confirms the claims of those entries with these numbers that name the current parent.
 fn confirm_each(claims: &mut Claims, entries: &[u32])
     requires { All (λ number. number < length claims.old.confirmed.items) entries.now }
     ensures { Confirms entries.now claims.old claims.new }
@@ -165,8 +165,7 @@ fn confirm_entry<L: Ledger>(
     }
 }
 
-/// Confirms the claims of the entries in force to which a node refers, if they name the parent that is looked
-/// at.
+/// Confirms the claims of those entries in force to which a node refers that name the current parent.
 fn confirm_node<L: Ledger>(
     claims: &mut Claims,
     classes: &Classes,

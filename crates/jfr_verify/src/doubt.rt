@@ -2,8 +2,8 @@
 ghost use Rattle.std.specs.Prelude.{◌≡◌};
 ghost use Rattle.jfr_verify.specs.Doubts.{doubt_name};
 
-/// Why the output of a scrub isn't accepted. The checker of a pair gives the last five; the first three are
-/// about whole files.
+/// Why the output of a scrub isn't accepted. `check` returns only the last five;
+/// `verify_stream` also returns the first three, which are about the files.
 #[derive(Clone, Copy, Debug, PartialEq, Eq)]
 pub enum Doubt {
     /// The file of receipts has 2^40 bytes or more.
@@ -20,7 +20,7 @@ pub enum Doubt {
     EntriesDiffer,
     /// The output lacks an entry to which a kept event or an entry of the output refers.
     EntryMissing,
-    /// The bytes that are left don't start with a receipt of the output; or bytes are left at the end.
+    /// The next bytes of the receipts aren't a receipt of the output chunk, or bytes follow the last receipt.
     ReceiptBad,
 }
 

@@ -42,8 +42,8 @@ pub(crate) fn same_class(numbers: &Numbers<'_>, one: NamedClass<'_>, other: Name
     same_texts(numbers, &one.names.categories, &other.names.categories)
 }
 
-/// Whether both strings exist and have the same text, or neither exists. As for all strings below, the first
-/// is in the first table, and the second in the second.
+/// Whether both strings exist and have the same text, or neither exists. Here and below, the
+/// first string is in the first table, and the second string in the second.
 fn same_optional(numbers: &Numbers<'_>, one: Option<u64>, other: Option<u64>) -> bool
     ensures { Decided (option_map (text_at numbers.now.one.now) one ≡ option_map (text_at numbers.now.other.now) other) result }
 {

@@ -29,8 +29,8 @@ pub(crate) fn parents_of(
     Ok(Some(parents))
 }
 
-/// Whether a line can follow lines for the entries that are seen: its entry isn't seen, and its parent is an
-/// event or is seen.
+/// Whether a line can follow lines for the entries in `seen`: its entry isn't in `seen`, and its parent is an
+/// event or is in `seen`.
 fn can_follow(seen: &[bool], line: Line) -> bool
     ensures { result ≡ is_next seen.now line }
 {
@@ -40,7 +40,7 @@ fn can_follow(seen: &[bool], line: Line) -> bool
     }
 }
 
-/// Whether a parent is an event or an entry that is seen.
+/// Whether a parent is an event, or an entry in `seen`.
 fn comes_before(seen: &[bool], parent: Parent) -> bool
     ensures { result ≡ is_before seen.now parent }
 {

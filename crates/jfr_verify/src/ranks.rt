@@ -1,4 +1,4 @@
-//! The numbers that a scrub has for the entries that it keeps: their ranks among them.
+//! The numbers that kept entries have in a scrub: their ranks among the kept entries.
 ghost use Rattle.std.specs.Prelude.{◌≡◌, ◌≤◌, ◌^◌, length, slice_index_or, IfOk};
 ghost use Rattle.jfr_verify.specs.Ranks.{AreRanks, ranked, ranked_parent};
 
@@ -20,7 +20,7 @@ pub(crate) fn ranks_of(alloc: Global, marks: &[bool]) -> Result<Vec<u32>, NoMemo
     Ok(ranks)
 }
 
-/// The line with the ranks of its entries.
+/// The line, with the number of each entry in it replaced by the entry's rank.
 pub(crate) fn ranked(line: Line, ranks: &[u32]) -> Line
     ensures { result ≡ ranked ranks.now line }
 {
@@ -30,7 +30,7 @@ pub(crate) fn ranked(line: Line, ranks: &[u32]) -> Line
     }
 }
 
-/// The parent with the rank of its entry.
+/// The parent. If it is an entry, its number is replaced by its rank.
 fn ranked_parent(parent: Parent, ranks: &[u32]) -> Parent
     ensures { result ≡ ranked_parent ranks.now parent }
 {

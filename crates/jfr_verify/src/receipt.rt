@@ -52,7 +52,8 @@ pub fn receipt_of(alloc: Global, chunk: &Chunk<'_>) -> Result<Receipt, NoMemory>
     Ok(Receipt { bytes })
 }
 
-/// The receipt of a chunk's scrub, which has these events: made from the chunk itself, without the scrub.
+/// The receipt of the scrub of a chunk in which these events are kept. It is made from the chunk itself; the
+/// scrub isn't needed.
 pub fn receipt_of_scrub(alloc: Global, chunk: &Chunk<'_>, kept: &Kept) -> Result<Receipt, NoMemory>
     ensures ok { IfOk result (λ receipt. (scrub : IsKept chunk.now (kept_by chunk.now kept.now)) → receipt ≡ receipt_of scrub.parts) }
 {

@@ -1,8 +1,9 @@
 //! Numbers for the strings of two tables.
 //!
-//! Each string of either table gets the number of its text in the first table: the index of the first string
-//! there with that text. A string of the second table has that number, or none if the first table doesn't
-//! have its text. So two strings have the same text exactly if both have the same number.
+//! The number of a text is the index of the first string of the first table that has this text. A string of
+//! either table gets the number of its text; a string of the second table gets none if the first table
+//! doesn't have its text. So a string of the first table and one of the second have the same text exactly if
+//! both have the same number.
 //!
 //! Many classes may share a long name. The numbers keep the checker fast: the text of a string is looked up
 //! once, and from then on numbers are compared.

@@ -58,8 +58,8 @@ pub(crate) fn lines_in<L: Ledger>(
     Ok(lines)
 }
 
-/// The lines of a chunk's kept events, which are numbered among the kept ones: first for what they refer to,
-/// then, line by line, for what the entries of the lines refer to.
+/// The lines for a chunk's kept events: first for what the events refer to, then, line by line, for what the
+/// entries of the lines refer to. Events are numbered among the kept ones.
 pub(crate) fn kept_lines_in<L: Ledger>(
     alloc: Global,
     chunk: &Chunk<'_>,
@@ -79,7 +79,7 @@ pub(crate) fn kept_lines_in<L: Ledger>(
     Ok(lines)
 }
 
-/// No lines yet of a chunk's receipt. A chunk has fewer events, and fewer entries, than bytes.
+/// An empty list of lines for a chunk's receipt. A chunk has fewer events, and fewer entries, than bytes.
 fn no_lines(alloc: Global, chunk: &Chunk<'_>) -> Result<Lines, NoMemory>
     ensures marks { IfOk result (λ lines. lines.flags.items ≡ no_marks chunk.now) }
     ensures none { IfOk result (λ lines. lines.items.items ≡ []) }
