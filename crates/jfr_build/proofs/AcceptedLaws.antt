@@ -8,6 +8,9 @@ use Rattle.std.proofs.lemmas.List.Folds.{flat_map-map}
 use Rattle.jfr_base.proofs.HoldLaws.{Holds, holds_parts}
 use Rattle.jfr_header.specs.declared.header.Header.{Header}
 use Rattle.jfr_header.specs.Headers.{header_bytes}
+use Rattle.jfr_header.specs.Made.{made_header}
+use Rattle.jfr_header.proofs.Layouts.{after_header, header_long}
+use Rattle.jfr_header.proofs.MadeHeaders.{HasMadeHeader, has_made_header}
 use Rattle.jfr_frame.specs.declared.framed.Framed.{Framed}
 use Rattle.jfr_frame.specs.Records.{Tiles, record_end}
 use Rattle.jfr_frame.proofs.RecordLaws.{tiles_more}
@@ -22,12 +25,11 @@ use Rattle.jfr_build.specs.declared.line.Line.TheVariants.{Class, Field, Constan
 use Rattle.jfr_build.specs.declared.lines.NumberedLine.{NumberedLine}
 use Rattle.jfr_build.specs.ClassLines.{classes_in}
 use Rattle.jfr_build.specs.LeafWords.{AreWordsOf}
-use Rattle.jfr_build.specs.Built.{checkpoint_of, chunk_with, header_with, line_event, events_of as event_bytes}
+use Rattle.jfr_build.specs.Built.{checkpoint_of, chunk_with, line_event, events_of as event_bytes}
 use Rattle.jfr_build.specs.declared.reason.BuildFault.{BuildFault}
 use Rattle.jfr_build.specs.Builds.{IsFault, build_of}
 use Rattle.jfr_build.specs.Accepted.{HasWords, IsBuilt, IsBuiltOf, IsEntryOf, IsEventOf, constant_lines, event_lines, plain_lines}
 use Rattle.jfr_build.proofs.EventsRead.{EventsStand, IsEvent, IsGood, all_good, events_stand}
-use Rattle.jfr_build.proofs.HeaderRead.{HeaderStands, behind_header, header_long, header_stands}
 use Rattle.jfr_build.proofs.CheckpointRead.{CheckpointStands, checkpoint_at, checkpoint_stands, link_at}
 use Rattle.jfr_build.proofs.MetadataRead.{MetadataStands, metadata_stands}
 use Rattle.jfr_build.proofs.BuildStages.{chunk_parts, stages}
@@ -88,11 +90,11 @@ chunk_built ls m c md sound good is small =
     let cp : List ℕ = checkpoint_of k ls in
     let last : ℕ = 68 + length m + length evs in
     let size : ℕ = last + length cp in
-    let h : Header = header_with size last in
+    let h : Header = made_header size last in
     let bare : Parts = record { bytes = c; records = []; chain = []; body = md.body; classes = k; entries = [] } in
     let long : length c ≡ size = ap length is ∙ omega (arith, length-append (header_bytes h) (m ++ (evs ++ cp)), length-append m (evs ++ cp), length-append evs cp, header_long h) in
-    let top : HeaderStands c size last = header_stands c (m ++ (evs ++ cp)) size last is (sym long) (omega arith) (omega arith) (omega arith) in
-    let q = holds_parts c (length c) 68 m (evs ++ cp) (behind_header c (m ++ (evs ++ cp)) h is) in
+    let top : HasMadeHeader c size last = has_made_header c (m ++ (evs ++ cp)) size last is (sym long) (omega arith) (omega arith) in
+    let q = holds_parts c (length c) 68 m (evs ++ cp) (after_header c (m ++ (evs ++ cp)) h is) in
     let r = holds_parts c (length c) (68 + length m) evs cp q.1 in
     let plain : flat_map (line_event k) (plain_lines ls) ≡ evs = flat_map-map (line_event k) (λ (l : NumberedLine). l.line) ls in
     let es : EventsStand bare (68 + length m) (68 + length m + length (flat_map (line_event k) (plain_lines ls))) (event_lines ls) = events_stand bare sound small (plain_lines ls) (68 + length m) good (subst (Holds c (length c) (68 + length m)) (sym plain) r.0) in
@@ -136,7 +138,7 @@ built_accepted text chunk e =
     let cp : List ℕ = checkpoint_of k s.lines in
     let parts = chunk_parts k s.lines chunk s.made in
     let m : List ℕ = parts.metadata in
-    let h : Header = header_with (68 + length m + length evs + length cp) (68 + length m + length evs) in
+    let h : Header = made_header (68 + length m + length evs + length cp) (68 + length m + length evs) in
     let md = metadata_stands text s.lines s.read s.flawless m parts.recorded (header_bytes h) (evs ++ cp) chunk parts.is (header_long h) parts.small in
     record { lines = s.lines; read = s.read; built = chunk_built s.lines m chunk md (record { none = s.flawless }) (all_good k s.lines s.good) parts.is parts.small }
 

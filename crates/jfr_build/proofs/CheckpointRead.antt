@@ -8,6 +8,8 @@ use Rattle.jfr_base.proofs.HoldLaws.{Holds, holds_parts, holds_int}
 use Rattle.jfr_base.proofs.ReadLaws.{reads_then}
 use Rattle.jfr_frame.specs.declared.framed.Framed.{Framed}
 use Rattle.jfr_frame.specs.Records.{IsRecord, record_end}
+use Rattle.jfr_frame.specs.Written.{record_in}
+use Rattle.jfr_frame.proofs.WrittenRecords.{framed, length-record_in, spelled_int, written_record}
 use Rattle.jfr_layout.specs.Classes.{Classes, Sound}
 use Rattle.jfr_pool.specs.declared.link.Link.{Link}
 use Rattle.jfr_pool.specs.declared.entry.EntryAt.{EntryAt}
@@ -15,9 +17,8 @@ use Rattle.jfr_pool.specs.Chains.{head_format}
 use Rattle.jfr_pool.specs.Entries.{AreEntries, checkpoint_format, entries_from, pool_format}
 use Rattle.jfr_chunk.specs.Parts.{Parts}
 use Rattle.jfr_build.specs.declared.lines.NumberedLine.{NumberedLine}
-use Rattle.jfr_build.specs.Built.{checkpoint_of, pool_of, pools_of, record_of, with_classes}
+use Rattle.jfr_build.specs.Built.{checkpoint_of, pool_of, pools_of, with_classes}
 use Rattle.jfr_build.specs.Accepted.{IsEntryOf, constant_lines, plain_lines}
-use Rattle.jfr_build.proofs.RecordsRead.{framed, length-record, record_stands, spelled_int}
 use Rattle.jfr_build.proofs.EventsRead.{IsGood}
 use Rattle.jfr_build.proofs.PoolsRead.{all_known, pools_stand}
 
@@ -25,7 +26,7 @@ use Rattle.jfr_build.proofs.PoolsRead.{all_known, pools_stand}
 abbrev pub after_type : Classes → List NumberedLine → List ℕ
 after_type k ls = 0 ∷ 0 ∷ 0 ∷ 0 ∷ pools_of k ls
 
-checkpoint_is : (k : Classes) (ls : List NumberedLine) → checkpoint_of k ls ≡ record_of (spell 1 ++ after_type k ls)
+checkpoint_is : (k : Classes) (ls : List NumberedLine) → checkpoint_of k ls ≡ record_in 5 (spell 1 ++ after_type k ls)
 unfolding spell
 checkpoint_is k ls = refl
 
@@ -37,7 +38,7 @@ one_more : (c : List ℕ) (end at b : ℕ) (rest : List ℕ) → Holds c end at 
 one_more c end at b rest h = holds_parts c end at (b ∷ []) rest h
 
 abbrev pub checkpoint_at : ℕ → Classes → List NumberedLine → Framed
-checkpoint_at at k ls = framed at 1 (after_type k ls)
+checkpoint_at at k ls = framed 5 at 1 (after_type k ls)
 
 abbrev pub body_at : ℕ → ℕ
 body_at at = at + 5 + length (spell 1)
@@ -64,7 +65,7 @@ checkpoint_stands p at ls sound small good h =
     let ids : List ℕ = with_classes [] ls in
     let items : List ℕ = flat_map (pool_of k ls) ids in
     let n : ℕ = length ids in
-    let s = record_stands c at 1 (after_type k ls) small (subst (Holds c (length c) at) (checkpoint_is k ls) h) in
+    let s = written_record c 5 at 1 (after_type k ls) (omega arith) (omega arith) (omega (arith, small)) (subst (Holds c (length c) at) (checkpoint_is k ls) h) in
     let end : ℕ = record_end (checkpoint_at at k ls) in
     let q : ℕ = body_at at in
     let a = one_more c end q 0 (0 ∷ 0 ∷ 0 ∷ pools) s.body in
@@ -91,7 +92,7 @@ checkpoint_stands p at ls sound small good h =
     (q + 1, 0, start, ea, refl, (q + 1 + 1, 0, duration, eb, refl, (q + 1 + 1 + 1, 0, delta, ed, refl, (ee, (first, n, count, ef, refl, all))))) in
     record {
       is = s.is;
-      end = omega (arith, ap length (checkpoint_is k ls), length-record (spell 1 ++ after_type k ls));
+      end = omega (arith, ap length (checkpoint_is k ls), length-record_in 5 (spell 1 ++ after_type k ls));
       head = (q + 1, 0, start, ea, refl, (q + 1 + 1, 0, duration, eb, refl, (q + 1 + 1 + 1, 0, delta, ed, refl, (refl, refl))));
       entries = entries_from 0 0 read_pools.pools;
       are = (read_pools.pools, subst (Reads (checkpoint_format k) c end q read_pools.pools) ends whole, [], sym (append-nil (entries_from 0 0 read_pools.pools)), refl);

@@ -5,6 +5,10 @@ use Rattle.std.proofs.lemmas.List.{append_assoc}
 use Rattle.jfr_base.specs.Integer.{spell_in}
 use Rattle.jfr_header.specs.declared.header.Header.{Header}
 use Rattle.jfr_header.specs.Headers.{header_bytes}
+use Rattle.jfr_header.specs.Made.{made_header}
+use Rattle.jfr_header.proofs.Layouts.{header_long}
+use Rattle.jfr_frame.specs.Written.{record_in}
+use Rattle.jfr_frame.proofs.WrittenRecords.{length-record_in}
 use Rattle.jfr_layout.specs.Classes.{Classes}
 use Rattle.jfr_build.specs.declared.lines.NumberedLine.{NumberedLine}
 use Rattle.jfr_build.specs.declared.reason.BuildFault.{BuildFault}
@@ -12,35 +16,24 @@ use Rattle.jfr_build.specs.declared.reason.BuildFault.TheVariants.{Refused, Memo
 use Rattle.jfr_build.specs.declared.reason.BuildReason.TheVariants.{TooLarge}
 use Rattle.jfr_build.specs.Lines.{IsBadLine, read_lines}
 use Rattle.jfr_build.specs.Described.{metadata_record}
-use Rattle.jfr_build.specs.Built.{chunk_with, events_of, checkpoint_of, header_with, pools_of, record_of}
+use Rattle.jfr_build.specs.Built.{chunk_with, events_of, checkpoint_of, pools_of}
 use Rattle.jfr_build.specs.Builds.{IsFault, build_lines, build_of, chunk_of, if_small, line_count, refused}
-
--- A size takes five bytes, a header 68.
-five_bytes : (n : ℕ) → length (spell_in 5 n) ≡ 5
-unfolding spell_in
-five_bytes n = refl
-
-header_long : (h : Header) → length (header_bytes h) ≡ 68
-header_long h = refl
 
 -- What follows the size of the checkpoint.
 abbrev head_and : List ℕ → List ℕ
 head_and pools = 1 ∷ 0 ∷ 0 ∷ 0 ∷ 0 ∷ pools
 
 abbrev parts : List ℕ → List ℕ → List ℕ → List ℕ
-parts metadata events pools = chunk_with metadata events (record_of (head_and pools))
-
-record_length : (rest : List ℕ) → length (record_of rest) ≡ 5 + length rest
-record_length rest = let l = length-append (spell_in 5 (5 + length rest)) rest in let f = five_bytes (5 + length rest) in omega (arith, l, f)
+parts metadata events pools = chunk_with metadata events (record_in 5 (head_and pools))
 
 pub chunk_length : (m e p : List ℕ) → length (parts m e p) ≡ 68 + length m + length e + (10 + length p)
 chunk_length m e p =
-    let c : List ℕ = record_of (head_and p) in
-    let h : Header = header_with (68 + length m + length e + length c) (68 + length m + length e) in
+    let c : List ℕ = record_in 5 (head_and p) in
+    let h : Header = made_header (68 + length m + length e + length c) (68 + length m + length e) in
     let a : length (header_bytes h ++ (m ++ (e ++ c))) ≡ length (header_bytes h) + length (m ++ (e ++ c)) = length-append (header_bytes h) (m ++ (e ++ c)) in
     let b : length (m ++ (e ++ c)) ≡ length m + length (e ++ c) = length-append m (e ++ c) in
     let d : length (e ++ c) ≡ length e + length c = length-append e c in
-    let f : length c ≡ 5 + length (head_and p) = record_length (head_and p) in
+    let f : length c ≡ 5 + length (head_and p) = length-record_in 5 (head_and p) in
     let g : length (header_bytes h) ≡ 68 = header_long h in
     let i : length (head_and p) ≡ 5 + length p = omega arith in
     omega (arith, a, b, d, f, g, i)
@@ -83,22 +76,22 @@ joined h m e s p =
 
 pub chunk_joined : (m e p chunk : List ℕ) (last size : ℕ) → Some last ≡ (if nat_lt (68 + length m + length e) (2 ^ 30) then Some (68 + length m + length e) else None)
     → Some size ≡ (if nat_lt (last + (10 + length p)) (2 ^ 30) then Some (last + (10 + length p)) else None)
-    → chunk ≡ ((((header_bytes (header_with size last) ++ m) ++ e) ++ spell_in 5 (size - last)) ++ (1 ∷ 0 ∷ 0 ∷ 0 ∷ 0 ∷ [])) ++ p → Some chunk ≡ if_small (parts m e p)
+    → chunk ≡ ((((header_bytes (made_header size last) ++ m) ++ e) ++ spell_in 5 (size - last)) ++ (1 ∷ 0 ∷ 0 ∷ 0 ∷ 0 ∷ [])) ++ p → Some chunk ≡ if_small (parts m e p)
 chunk_joined m e p chunk last size a b q =
     let i = below_some (68 + length m + length e) last a in
     let j = below_some (last + (10 + length p)) size b in
     let at : last ≡ 68 + length m + length e = i.0 in
     let to : size ≡ last + (10 + length p) = j.0 in
     let l : length (parts m e p) ≡ 68 + length m + length e + (10 + length p) = chunk_length m e p in
-    let r : length (record_of (head_and p)) ≡ 5 + length (head_and p) = record_length (head_and p) in
+    let r : length (record_in 5 (head_and p)) ≡ 5 + length (head_and p) = length-record_in 5 (head_and p) in
     let f : length (head_and p) ≡ 5 + length p = omega arith in
-    let whole : size ≡ 68 + length m + length e + length (record_of (head_and p)) = omega (arith, at, to, r, f) in
+    let whole : size ≡ 68 + length m + length e + length (record_in 5 (head_and p)) = omega (arith, at, to, r, f) in
     let n : size - last ≡ 5 + length (head_and p) = omega (arith, to, f) in
     let low : length (parts m e p) < 2 ^ 30 = omega (arith, l, at, j.1) in
-    ap (λ z. Some z) (q ∙ (joined (header_bytes (header_with size last)) m e (spell_in 5 (size - last)) p
-    ∙ (ap (λ z. header_bytes (header_with size last) ++ (m ++ (e ++ (spell_in 5 z ++ head_and p)))) n
-    ∙ (ap (λ z. header_bytes (header_with z last) ++ (m ++ (e ++ record_of (head_and p)))) whole
-    ∙ ap (λ z. header_bytes (header_with (68 + length m + length e + length (record_of (head_and p))) z) ++ (m ++ (e ++ record_of (head_and p)))) at))))
+    ap (λ z. Some z) (q ∙ (joined (header_bytes (made_header size last)) m e (spell_in 5 (size - last)) p
+    ∙ (ap (λ z. header_bytes (made_header size last) ++ (m ++ (e ++ (spell_in 5 z ++ head_and p)))) n
+    ∙ (ap (λ z. header_bytes (made_header z last) ++ (m ++ (e ++ record_in 5 (head_and p)))) whole
+    ∙ ap (λ z. header_bytes (made_header (68 + length m + length e + length (record_in 5 (head_and p))) z) ++ (m ++ (e ++ record_in 5 (head_and p)))) at))))
     ∙ sym (small_some (parts m e p) low)
 
 -- The chunk of classes and lines.

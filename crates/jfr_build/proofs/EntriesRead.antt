@@ -9,6 +9,7 @@ use Rattle.jfr_base.specs.Integer.{spell}
 use Rattle.jfr_base.specs.Formats.{Reads, Done, Here, ◌>>=◌, times}
 use Rattle.jfr_base.proofs.HoldLaws.{Holds, holds_parts}
 use Rattle.jfr_base.proofs.ReadLaws.{reads_then}
+use Rattle.jfr_frame.proofs.WrittenRecords.{spelled_int}
 use Rattle.jfr_layout.specs.Classes.{Classes, Sound}
 use Rattle.jfr_value.specs.Values.{Value, bytes_of}
 use Rattle.jfr_value.specs.Reading.{value_format}
@@ -20,7 +21,7 @@ use Rattle.jfr_build.specs.declared.lines.NumberedLine.{NumberedLine}
 use Rattle.jfr_build.specs.LineValues.{inline, line_value, spelled_value}
 use Rattle.jfr_build.specs.Built.{entries_of, entry_count, is_constant_of, line_entry}
 use Rattle.jfr_build.specs.Accepted.{IsEntryOf, plain_lines}
-use Rattle.jfr_build.proofs.RecordsRead.{spelled, spelled_int, value_there}
+use Rattle.jfr_build.proofs.ValuesRead.{spelled, value_there}
 use Rattle.jfr_build.proofs.EventsRead.{IsGood}
 
 -- What is written of a line in the pool of a class.

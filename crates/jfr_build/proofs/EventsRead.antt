@@ -7,6 +7,7 @@ use Rattle.jfr_base.specs.Integer.{spell}
 use Rattle.jfr_base.proofs.HoldLaws.{Holds, holds_parts}
 use Rattle.jfr_frame.specs.declared.framed.Framed.{Framed}
 use Rattle.jfr_frame.specs.Records.{Tiles, record_end}
+use Rattle.jfr_frame.proofs.WrittenRecords.{framed, length-record_in, written_record}
 use Rattle.jfr_layout.specs.Classes.{Classes, Sound, is_event_class}
 use Rattle.jfr_value.specs.Values.{Value, bytes_of}
 use Rattle.jfr_chunk.specs.Parts.{Parts, EventAt, HasFields, event_by, event_of}
@@ -16,7 +17,7 @@ use Rattle.jfr_build.specs.declared.lines.NumberedLine.{NumberedLine}
 use Rattle.jfr_build.specs.LineValues.{first_bad_value, is_bad_value, line_value, spelled_value}
 use Rattle.jfr_build.specs.Built.{event_record, line_event}
 use Rattle.jfr_build.specs.Accepted.{IsEventOf, is_event_line, plain_lines}
-use Rattle.jfr_build.proofs.RecordsRead.{framed, length-record, record_stands, spelled, value_there}
+use Rattle.jfr_build.proofs.ValuesRead.{spelled, value_there}
 
 -- The line has a value, if it should.
 abbrev pub IsGood : Classes → Line → Type 0
@@ -53,12 +54,12 @@ module _ (p : Parts) (sound : Sound p.classes) (small : length p.bytes < 2 ^ 30)
   event_before : (at end class : ℕ) (words : List (List ℕ)) (v : Value) (lines : List Line) → is_event_class p.classes class ≡ true → spelled_value p.classes class words ≡ Some v
       → Holds p.bytes (length p.bytes) at (event_record class (bytes_of v)) → EventsStand p (at + length (event_record class (bytes_of v))) end lines → EventsStand p at end (Record class words ∷ lines)
   event_before at end class words v lines event value h rest =
-      let s = record_stands p.bytes at class (bytes_of v) small h in
-      let r : Framed = framed at class (bytes_of v) in
+      let s = written_record p.bytes 5 at class (bytes_of v) (omega arith) (omega arith) (omega (arith, small)) h in
+      let r : Framed = framed 5 at class (bytes_of v) in
       let there = value_there p class words v (record_end r) r.body (spelled p.classes class words v sound value) s.body in
       let node : EventAt = record { record_of = r; node = record { shape = record { class = class; constant = false; array = false }; at = r.body; end = r.body + length (bytes_of v) } } in
       let found : event_of p.bytes p.classes r ≡ Some node = ap (event_by r) there.runs in
-      let e : at + length (event_record class (bytes_of v)) ≡ record_end r = omega (arith, length-record (spell class ++ bytes_of v)) in
+      let e : at + length (event_record class (bytes_of v)) ≡ record_end r = omega (arith, length-record_in 5 (spell class ++ bytes_of v)) in
       record {
         frames = r ∷ rest.frames;
         tiles = (refl, s.is, subst (λ z. Tiles p.bytes z rest.frames end) e rest.tiles);

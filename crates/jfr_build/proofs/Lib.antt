@@ -11,13 +11,11 @@ mod EventsRead
 mod GoodClasses
 mod GoodLines
 mod GoodWords
-mod HeaderRead
 mod LineLaws
 mod MetadataRead
 mod PieceLaws
 mod PoolLaws
 mod PoolsRead
-mod RecordsRead
 mod Rows
 mod SoundLaws
 mod Streaming
@@ -25,6 +23,7 @@ mod TakenLaws
 mod TextRead
 mod TreeRead
 mod UnknownLaws
+mod ValuesRead
 mod WholeLaws
 mod WordLaws
 mod WritingLaws

@@ -8,6 +8,7 @@ use Rattle.jfr_base.specs.Integer.{spell}
 use Rattle.jfr_base.specs.Formats.{Reads, Done, ◌>>=◌, times}
 use Rattle.jfr_base.proofs.HoldLaws.{Holds, holds_parts}
 use Rattle.jfr_base.proofs.ReadLaws.{reads_then}
+use Rattle.jfr_frame.proofs.WrittenRecords.{spelled_int}
 use Rattle.jfr_layout.specs.Classes.{Classes, Sound, find_class}
 use Rattle.jfr_layout.specs.declared.class.ClassInfo.{ClassInfo}
 use Rattle.jfr_value.specs.Values.{Value}
@@ -20,7 +21,6 @@ use Rattle.jfr_build.specs.LineValues.{spelled_value}
 use Rattle.jfr_build.specs.Built.{constant_class, entries_of, entry_count, pool_of, with_class, with_classes}
 use Rattle.jfr_build.specs.Accepted.{IsEntryOf, plain_lines}
 use Rattle.jfr_build.proofs.UnknownLaws.{unknown_none}
-use Rattle.jfr_build.proofs.RecordsRead.{spelled_int}
 use Rattle.jfr_build.proofs.EventsRead.{IsGood}
 use Rattle.jfr_build.proofs.EntriesRead.{bytes_in, constants_stand, lines_of, plain_bytes, plain_count}
 

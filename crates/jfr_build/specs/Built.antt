@@ -2,9 +2,10 @@
 use Rattle.std.specs.Prelude.{◌≡◌, ℕ, ◌+◌, ◌^◌, ◌≤◌, ◌==◌, Bool, true, false, List, [], ◌∷◌, ◌++◌, length, Option, Some, None, if◌then◌else◌}
 use Rattle.std.specs.List.{count_by, flat_map, list_any}
 use Rattle.std.specs.Option.{option_map_or}
-use Rattle.jfr_base.specs.Integer.{spell, spell_in}
-use Rattle.jfr_header.specs.declared.header.Header.{Header}
+use Rattle.jfr_base.specs.Integer.{spell}
 use Rattle.jfr_header.specs.Headers.{header_bytes}
+use Rattle.jfr_header.specs.Made.{made_header}
+use Rattle.jfr_frame.specs.Written.{record_in}
 use Rattle.jfr_layout.specs.Classes.{Classes}
 use Rattle.jfr_value.specs.Values.{bytes_of}
 use Rattle.jfr_build.specs.declared.line.Line.{Line}
@@ -12,13 +13,9 @@ use Rattle.jfr_build.specs.declared.line.Line.TheVariants.{Class, Field, Constan
 use Rattle.jfr_build.specs.declared.lines.NumberedLine.{NumberedLine}
 use Rattle.jfr_build.specs.LineValues.{line_value}
 
--- A record: its size in five bytes, then the rest.
-abbrev pub record_of : List ℕ → List ℕ
-record_of rest = spell_in 5 (5 + length rest) ++ rest
-
--- The record of an event: its type, then its value.
+-- The record of an event, whose size is spelled in five bytes: its type, then its value.
 abbrev pub event_record : ℕ → List ℕ → List ℕ
-event_record class value = record_of (spell class ++ value)
+event_record class value = record_in 5 (spell class ++ value)
 
 -- The bytes were appended, or there are 2 ^ 30 or more of them.
 abbrev pub AppendsIf : Bool → List ℕ → List ℕ → List ℕ → Type 0
@@ -79,28 +76,11 @@ pool_of k lines id = spell id ++ (spell (entry_count lines id) ++ entries_of k l
 abbrev pub pools_of : Classes → List NumberedLine → List ℕ
 pools_of k lines = let classes = with_classes [] lines in spell (length classes) ++ flat_map (pool_of k lines) classes
 
--- The checkpoint: type 1; start, duration, delta and type byte 0; the pools.
+-- The checkpoint, whose size is spelled in five bytes: type 1; start, duration, delta and type byte 0; the pools.
 abbrev pub checkpoint_of : Classes → List NumberedLine → List ℕ
-checkpoint_of k lines = record_of (1 ∷ 0 ∷ 0 ∷ 0 ∷ 0 ∷ pools_of k lines)
-
--- The header: version 2.1, 1,000,000,000 ticks in a second, compressed integers, the last chunk.
-abbrev pub header_with : ℕ → ℕ → Header
-header_with size pools = record {
-  major = 2;
-  minor = 1;
-  size = size;
-  pools = pools;
-  metadata = 68;
-  start_nanos = 0;
-  duration_nanos = 0;
-  start_ticks = 0;
-  ticks_per_second = 1000000000;
-  state = 0;
-  padding = 0;
-  flags = 3;
-}
+checkpoint_of k lines = record_in 5 (1 ∷ 0 ∷ 0 ∷ 0 ∷ 0 ∷ pools_of k lines)
 
 -- The chunk of these parts: the metadata record, the events, the checkpoint.
 abbrev pub chunk_with : List ℕ → List ℕ → List ℕ → List ℕ
 chunk_with metadata events checkpoint =
-    let pools = 68 + length metadata + length events in header_bytes (header_with (pools + length checkpoint) pools) ++ (metadata ++ (events ++ checkpoint))
+    let pools = 68 + length metadata + length events in header_bytes (made_header (pools + length checkpoint) pools) ++ (metadata ++ (events ++ checkpoint))

@@ -1,10 +1,12 @@
 //! Building a chunk.
 ghost use Rattle.std.specs.Prelude.{◌≡◌, ◌∷◌, ◌+◌, ◌<◌, ◌^◌, [], nat_lt, IfOk, MatchResult, None, Some, Ok, option_map, if◌then◌else◌};
 ghost use Rattle.jfr_build.specs.Accepted.{IsBuiltOf};
-ghost use Rattle.jfr_build.specs.Built.{chunk_with, header_with, record_of};
+ghost use Rattle.jfr_build.specs.Built.{chunk_with};
 ghost use Rattle.jfr_build.specs.Builds.{IsFault, build_lines, build_of, chunk_of, if_small, line_count};
 ghost use Rattle.jfr_build.specs.LineValues.{first_bad_value};
+ghost use Rattle.jfr_frame.specs.Written.{record_in};
 ghost use Rattle.jfr_header.specs.Headers.{header_bytes};
+ghost use Rattle.jfr_header.specs.Made.{made_header};
 
 use crate::class_lines::make_classes;
 use crate::described::metadata_record;
@@ -109,7 +111,7 @@ fn chunk_with(
     events: &[u8],
     pools: &[u8],
 ) -> Result<Option<Vec<u8>>, NoMemory>
-    ensures exact { IfOk result (λ found. option_map (λ v. v.items) found ≡ if_small (chunk_with metadata.now events.now (record_of (1 ∷ 0 ∷ 0 ∷ 0 ∷ 0 ∷ pools.now)))) }
+    ensures exact { IfOk result (λ found. option_map (λ v. v.items) found ≡ if_small (chunk_with metadata.now events.now (record_in 5 (1 ∷ 0 ∷ 0 ∷ 0 ∷ 0 ∷ pools.now)))) }
 {
     let Some(last) = last_of(metadata.len(), events.len()) else {
         return Ok(None);
@@ -152,22 +154,9 @@ fn size_of(last: usize, pools: usize) -> Option<usize>
 
 /// The header of a chunk with this size, and this offset of the checkpoint.
 fn header_of(size: usize, last: usize) -> [u8; HEADER_LEN]
-    ensures { result ≡ header_bytes (header_with size last) }
+    ensures { result ≡ header_bytes (made_header size last) }
 {
-    let header = Header {
-        major: 2,
-        minor: 1,
-        size: size as u64,
-        pools: last as u64,
-        metadata: HEADER_LEN as u64,
-        start_nanos: 0,
-        duration_nanos: 0,
-        start_ticks: 0,
-        ticks_per_second: 1_000_000_000,
-        state: 0,
-        padding: 0,
-        flags: 3,
-    };
+    let header = Header::made(size as u64, last as u64);
     let mut bytes = [0; HEADER_LEN];
     write_header(&header, &mut bytes);
     bytes

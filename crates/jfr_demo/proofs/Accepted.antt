@@ -3,10 +3,12 @@ use Rattle.std.specs.Prelude.{◌≡◌, ℕ, ◌+◌, ◌*◌, ◌^◌, ◌<◌
 use Rattle.std.specs.List.{AllByRecursion, range_with_len}
 use Rattle.std.proofs.Common.{ap, arith, refl, sym, ◌∙◌, subst, length-append, append_assoc}
 use Rattle.std.proofs.lemmas.List.Elements.{All-cons, All-nil, Contains-append_right}
-use Rattle.jfr_base.proofs.HoldLaws.{Holds, holds_after, holds_parts, holds_at}
+use Rattle.jfr_base.proofs.HoldLaws.{Holds, holds_parts, holds_at}
 use Rattle.jfr_header.specs.declared.header.Header.{Header}
 use Rattle.jfr_header.specs.Headers.{header_of, header_bytes}
-use Rattle.jfr_header.proofs.Layouts.{header_of-bytes}
+use Rattle.jfr_header.specs.Made.{made_header}
+use Rattle.jfr_header.proofs.Layouts.{after_header, header_long}
+use Rattle.jfr_header.proofs.MadeHeaders.{has_made_header}
 use Rattle.jfr_frame.specs.declared.framed.Framed.{Framed}
 use Rattle.jfr_frame.specs.Records.{Tiles, record_end}
 use Rattle.jfr_frame.proofs.RecordLaws.{tiles_more}
@@ -15,7 +17,7 @@ use Rattle.jfr_chunk.specs.Parts.{Parts, AreParts, HasFields, event_records, poo
 use Rattle.jfr_chunk.specs.Refusal.{refusal_of, flaw_in}
 use Rattle.jfr_chunk.proofs.Reading.{parts_told}
 use Rattle.jfr_sample.specs.Metadata.{metadata}
-use Rattle.jfr_sample.specs.Sample.{before_checkpoint, checkpoint, events_to, sample_header, sample_of}
+use Rattle.jfr_sample.specs.Sample.{before_checkpoint, checkpoint, events_to, sample_of}
 use Rattle.jfr_sample.proofs.Lengths.{length-metadata, events-le, checkpoint-le}
 use Rattle.jfr_demo.proofs.Metadata.{sample_body, sample_classes, sample_metadata, metadata_read, metadata_stands}
 use Rattle.jfr_demo.proofs.Events.{IsEvent, EventsStand, events_stand}
@@ -87,26 +89,12 @@ unfolding sample_of
 sample_accepted seed events some most =
     let before : List ℕ = before_checkpoint seed events in
     let cp : List ℕ = checkpoint events in
-    let h : Header = sample_header (68 + length before + length cp) (68 + length before) in
+    let h : Header = made_header (68 + length before + length cp) (68 + length before) in
     let c : List ℕ = header_bytes h ++ (before ++ cp) in
     let e : sample_of seed events ≡ c = append_assoc (header_bytes h) before cp in
     let l : length before ≡ 257 + length (events_to seed events events) = omega (arith, length-metadata, length-append metadata (events_to seed events events)) in
     let n : length (events_to seed events events) ≤ 11 * events = events-le seed events events some most most in
     let m : length cp ≤ 14 + 15 * events = checkpoint-le events most in
     let long : length c ≡ 68 + length before + length cp = omega (arith, length-append (header_bytes h) (before ++ cp), length-append before cp, header_long h) in
-    let read : header_of (header_bytes h) ≡ h = header_of-bytes h (record {
-      in_major = omega arith;
-      in_minor = omega arith;
-      in_size = omega arith;
-      in_pools = omega arith;
-      in_metadata = omega arith;
-      in_start_nanos = omega arith;
-      in_duration_nanos = omega arith;
-      in_start_ticks = omega arith;
-      in_ticks_per_second = omega arith;
-      in_flags = omega arith;
-    }) in
-    ap refusal_of e ∙ accepted seed events h refl refl c (omega arith) (built seed events h refl refl c refl (holds_after (header_bytes h) (before ++ cp)) read long (omega arith))
-  where
-    header_long : (h : Header) → length (header_bytes h) ≡ 68
-    header_long h = refl
+    let read = has_made_header c (before ++ cp) (68 + length before + length cp) (68 + length before) refl (sym long) (omega arith) (omega arith) in
+    ap refusal_of e ∙ accepted seed events h refl refl c (omega arith) (built seed events h refl refl c refl (after_header c (before ++ cp) h refl) read.read long (omega arith))

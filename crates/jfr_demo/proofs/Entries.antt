@@ -11,6 +11,8 @@ use Rattle.jfr_base.proofs.Spelling.{spell_spells}
 use Rattle.jfr_text.specs.Strings.{Utf8}
 use Rattle.jfr_frame.specs.declared.framed.Framed.{Framed}
 use Rattle.jfr_frame.specs.Records.{IsRecord, record_end}
+use Rattle.jfr_frame.specs.Written.{record_in}
+use Rattle.jfr_frame.proofs.WrittenRecords.{framed, length-record_in, spelled_int, written_record}
 use Rattle.jfr_layout.specs.Classes.{kind_of}
 use Rattle.jfr_layout.specs.declared.kind.Kind.TheVariants as kinds
 use Rattle.jfr_value.specs.declared.leaf.LeafKind.TheVariants as leaf_kinds
@@ -21,9 +23,9 @@ use Rattle.jfr_pool.specs.declared.entry.EntryAt.{EntryAt}
 use Rattle.jfr_pool.specs.Chains.{head_format}
 use Rattle.jfr_pool.specs.Entries.{Constant, PoolAt, AreEntries, checkpoint_format, constant_format, entries_from, inline, pool_check, pool_format}
 use Rattle.jfr_sample.specs.Metadata.{string_of}
-use Rattle.jfr_sample.specs.Sample.{record_of, next_of, entry, entries_to, checkpoint}
+use Rattle.jfr_sample.specs.Sample.{next_of, entry, entries_to, checkpoint}
 use Rattle.jfr_demo.proofs.Metadata.{node_class, text_class, sample_classes, classes_sound, plain}
-use Rattle.jfr_demo.proofs.Records.{framed, length-record, record_stands, spelled_int, value_read}
+use Rattle.jfr_demo.proofs.Values.{value_read}
 use Rattle.jfr_demo.proofs.Events.{node_value}
 
 -- The value of entry n.
@@ -119,7 +121,7 @@ pool_read c end n at h =
 abbrev after_type : ℕ → List ℕ
 after_type n = 0 ∷ 0 ∷ 0 ∷ 0 ∷ 1 ∷ 7 ∷ (spell n ++ entries_to n)
 
-checkpoint_is : (n : ℕ) → checkpoint n ≡ record_of (spell 1 ++ after_type n)
+checkpoint_is : (n : ℕ) → checkpoint n ≡ record_in 4 (spell 1 ++ after_type n)
 unfolding checkpoint spell
 checkpoint_is n = refl
 
@@ -128,7 +130,7 @@ one_more : (c : List ℕ) (end at b : ℕ) (rest : List ℕ) → Holds c end at 
 one_more c end at b rest h = holds_parts c end at (b ∷ []) rest h
 
 abbrev pub checkpoint_at : ℕ → ℕ → Framed
-checkpoint_at at n = framed at 1 (after_type n)
+checkpoint_at at n = framed 4 at 1 (after_type n)
 
 abbrev body_at : ℕ → ℕ
 body_at at = at + 4 + length (spell 1)
@@ -153,7 +155,7 @@ pub record CheckpointStands (c : List ℕ) (at n : ℕ) : Type 0 where
 pub checkpoint_stands : (c : List ℕ) (at n : ℕ) → length c < 2 ^ 28 → Holds c (length c) at (checkpoint n) → CheckpointStands c at n
 unfolding checkpoint_format
 checkpoint_stands c at n small h =
-    let s = record_stands c at 1 (after_type n) small (subst (Holds c (length c) at) (checkpoint_is n) h) in
+    let s = written_record c 4 at 1 (after_type n) (omega arith) (omega arith) (omega (arith, small)) (subst (Holds c (length c) at) (checkpoint_is n) h) in
     let end : ℕ = record_end (checkpoint_at at n) in
     let p : ℕ = body_at at in
     let a = one_more c end p 0 (0 ∷ 0 ∷ 0 ∷ 1 ∷ 7 ∷ (spell n ++ entries_to n)) s.body in
@@ -180,7 +182,7 @@ checkpoint_stands c at n small h =
     (p + 1, 0, start, ea, refl, (p + 1 + 1, 0, duration, eb, refl, (p + 1 + 1 + 1, 0, delta, ed, refl, (ee, (p + 1 + 1 + 1 + 1 + 1, 1, count, ef, refl, all))))) in
     record {
       is = s.is;
-      end = omega (arith, ap length (checkpoint_is n), length-record (spell 1 ++ after_type n));
+      end = omega (arith, ap length (checkpoint_is n), length-record_in 4 (spell 1 ++ after_type n));
       head = (p + 1, 0, start, ea, refl, (p + 1 + 1, 0, duration, eb, refl, (p + 1 + 1 + 1, 0, delta, ed, refl, (refl, refl))));
       entries = (pool ∷ [], subst (Reads (checkpoint_format sample_classes) c end p (pool ∷ [])) ends whole, [], refl, refl);
     }

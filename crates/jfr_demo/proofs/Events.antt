@@ -8,6 +8,8 @@ use Rattle.jfr_base.proofs.HoldLaws.{Holds, holds_parts}
 use Rattle.jfr_base.proofs.Spelling.{spell_spells}
 use Rattle.jfr_frame.specs.declared.framed.Framed.{Framed}
 use Rattle.jfr_frame.specs.Records.{IsRecord, Tiles, record_end}
+use Rattle.jfr_frame.specs.Written.{record_in}
+use Rattle.jfr_frame.proofs.WrittenRecords.{framed, length-record_in, written_record}
 use Rattle.jfr_layout.specs.Classes.{kind_of, is_event_class}
 use Rattle.jfr_layout.specs.declared.kind.Kind.TheVariants as kinds
 use Rattle.jfr_value.specs.declared.leaf.LeafKind.TheVariants as leaf_kinds
@@ -15,9 +17,9 @@ use Rattle.jfr_value.specs.Values.{Value, Single, Group, Nil, Cons, Fits, IsSing
 use Rattle.jfr_value.specs.Reading.{value_format}
 use Rattle.jfr_pool.specs.Entries.{inline}
 use Rattle.jfr_chunk.specs.Parts.{HasFields}
-use Rattle.jfr_sample.specs.Sample.{draw, key_of, record_of, event_a, event_b, event}
+use Rattle.jfr_sample.specs.Sample.{draw, key_of, event_a, event_b, event}
 use Rattle.jfr_demo.proofs.Metadata.{a_class, b_class, number_class, sample_classes, classes_sound, plain, node}
-use Rattle.jfr_demo.proofs.Records.{framed, length-record, record_stands, value_read}
+use Rattle.jfr_demo.proofs.Values.{value_read}
 
 -- A reference to a node.
 abbrev pub node_value : ℕ → Value
@@ -67,15 +69,15 @@ record EventStands (c : List ℕ) (at : ℕ) (bytes : List ℕ) : Type 0 where
 
 module _ (c : List ℕ) (small : length c < 2 ^ 28) where
   -- An event of this class whose fields are spelled by the rest.
-  event_stands : (at type : ℕ) (rest : List ℕ) (v : Value) → is_event_class sample_classes type ≡ true → Fits sample_classes v → shape_of v ≡ inline type → bytes_of v ≡ rest → Holds c (length c) at (record_of (spell type ++ rest)) → EventStands c at (record_of (spell type ++ rest))
+  event_stands : (at type : ℕ) (rest : List ℕ) (v : Value) → is_event_class sample_classes type ≡ true → Fits sample_classes v → shape_of v ≡ inline type → bytes_of v ≡ rest → Holds c (length c) at (record_in 4 (spell type ++ rest)) → EventStands c at (record_in 4 (spell type ++ rest))
   event_stands at type rest v class fits shape bytes h =
-      let s = record_stands c at type rest small h in
-      let r : Framed = framed at type rest in
+      let s = written_record c 4 at type rest (omega arith) (omega arith) (omega (arith, small)) h in
+      let r : Framed = framed 4 at type rest in
       let read : Reads (value_format sample_classes (shape_of v)) c (record_end r) r.body v (r.body + length (bytes_of v)) = value_read sample_classes c (record_end r) r.body v classes_sound fits (subst (Holds c (record_end r) r.body) (sym bytes) s.body) in
       record {
         frame = r;
         place = refl;
-        end = omega (arith, length-record (spell type ++ rest));
+        end = omega (arith, length-record_in 4 (spell type ++ rest));
         is = s.is;
         event = record { class = class; fields = (v, r.body + length (bytes_of v), subst (λ z. Reads (value_format sample_classes z) c (record_end r) r.body v (r.body + length (bytes_of v))) shape read) };
       }
@@ -84,7 +86,7 @@ module _ (c : List ℕ) (small : length c < 2 ^ 28) where
   a_stands at i key h =
       let e : spell 8 ++ (spell i ++ spell key) ≡ spell 8 ++ spell i ++ spell key = sym (append_assoc (spell 8) (spell i) (spell key)) in
       let b : bytes_of (fields_a i key) ≡ spell i ++ spell key = ap (λ z. spell i ++ z) (append-nil (spell key)) in
-      subst (λ z. EventStands c at (record_of z)) e (event_stands at 8 (spell i ++ spell key) (fields_a i key) a_is_event (a_fits i key) refl b (subst (λ z. Holds c (length c) at (record_of z)) (sym e) h))
+      subst (λ z. EventStands c at (record_in 4 z)) e (event_stands at 8 (spell i ++ spell key) (fields_a i key) a_is_event (a_fits i key) refl b (subst (λ z. Holds c (length c) at (record_in 4 z)) (sym e) h))
 
   b_stands : (at key : ℕ) → Holds c (length c) at (event_b key) → EventStands c at (event_b key)
   b_stands at key h = event_stands at 9 (spell key) (fields_b key) b_is_event (b_fits key) refl (append-nil (spell key)) h

@@ -3,4 +3,4 @@ mod DemoLaws
 mod Entries
 mod Events
 mod Metadata
-mod Records
+mod Values

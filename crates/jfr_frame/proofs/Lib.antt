@@ -5,3 +5,4 @@ pub mod RecordLaws
 pub mod Rows
 pub mod StartLaws
 pub mod UsualHeads
+pub mod WrittenRecords

@@ -1,6 +1,7 @@
 -- A header that was written is read again.
-use Rattle.std.proofs.Common.{◌≡◌, ℕ, ◌<◌, ◌^◌, refl, ap, drop}
+use Rattle.std.proofs.Common.{◌≡◌, ℕ, ◌<◌, ◌^◌, List, ◌++◌, length, refl, ap, sym, subst, take, drop}
 use Rattle.byteorder.specs.Numbers.{big_number-reads_back}
+use Rattle.jfr_base.proofs.HoldLaws.{Holds, holds_after}
 use Rattle.jfr_header.specs.declared.header.Header.{Header}
 use Rattle.jfr_header.specs.Headers.{header_of, header_bytes}
 use Rattle.jfr_header.specs.Fronts.{header_flaw, field_flaw}
@@ -42,3 +43,13 @@ header_of-bytes h r =
 pub header_flaw-bytes : (h : Header) → IsInRange h → header_flaw (header_bytes h) ≡ field_flaw h
 unfolding header_flaw
 header_flaw-bytes h r = ap field_flaw (header_of-bytes h r)
+
+-- A header has 68 bytes, and the bytes written after it lie after them.
+pub header_long : (h : Header) → length (header_bytes h) ≡ 68
+header_long h = refl
+
+pub header_first : (h : Header) (body : List ℕ) → take 68 (header_bytes h ++ body) ≡ header_bytes h
+header_first h body = refl
+
+pub after_header : (c body : List ℕ) (h : Header) → c ≡ header_bytes h ++ body → Holds c (length c) 68 body
+after_header c body h is = subst (λ z. Holds z (length z) 68 body) (sym is) (holds_after (header_bytes h) body)

@@ -4,5 +4,6 @@ pub mod Endings
 pub mod Fronts
 pub mod Headers
 pub mod Judging
+pub mod Made
 pub mod Nexts
 pub mod Taking

@@ -2,6 +2,7 @@
 ghost use Rattle.std.specs.Prelude.{◌≡◌, ◌<◌, ◌≤◌, ◌+◌, ◌^◌, [], ◌∷◌, ◌++◌, ◌↔◌, take, length, None, Some, IfOk, IfErr, IsTrue};
 ghost use Rattle.byteorder.specs.Endian.{big_bytes};
 ghost use Rattle.jfr_header.specs.Headers.{header_of, header_bytes, number_at};
+ghost use Rattle.jfr_header.specs.Made.{made_header};
 ghost use Rattle.jfr_header.specs.Fronts.{header_flaw, field_flaw, Whole};
 
 use byteorder::{BigEndian, ByteOrder};
@@ -40,6 +41,30 @@ pub struct Header {
     pub padding: u8,
     /// Bit 0: the integers are compressed. Bit 1: this is the last chunk of the recording; it isn't checked.
     pub flags: u16,
+}
+
+impl Header {
+    /// The header of a chunk that this program makes, with this size and its last checkpoint at `pools`:
+    /// version 2.1, 10^9 ticks in a second, compressed integers, the last chunk of its recording. The metadata
+    /// record follows the header. The chunk starts at 0 and lasts 0, in nanoseconds and in ticks.
+    pub fn made(size: u64, pools: u64) -> Header
+        ensures { result ≡ made_header size pools }
+    {
+        Header {
+            major: 2,
+            minor: 1,
+            size,
+            pools,
+            metadata: HEADER_LEN as u64,
+            start_nanos: 0,
+            duration_nanos: 0,
+            start_ticks: 0,
+            ticks_per_second: 1_000_000_000,
+            state: 0,
+            padding: 0,
+            flags: 3,
+        }
+    }
 }
 
 // The number of two bytes at an offset.

@@ -7,7 +7,7 @@ use Rattle.jfr_base.specs.declared.reason.Reason.TheVariants.{Version, Unfinishe
 use Rattle.jfr_header.specs.declared.header.Header.{Header}
 use Rattle.jfr_header.specs.Headers.{number_at, header_of, header_bytes, magic}
 use Rattle.jfr_header.specs.Fronts.{flaw_at, size_of, field_flaw, header_flaw, Whole}
-use Rattle.jfr_header.proofs.Layouts.{header_of-bytes}
+use Rattle.jfr_header.proofs.Layouts.{header_first, header_long, header_of-bytes}
 use Rattle.jfr_chunk.specs.Parts.{pools_at, metadata_at}
 use Rattle.jfr_chunk.specs.Scrub.{header_with}
 
@@ -54,19 +54,12 @@ header_fine : (c : List ℕ) → Whole c → Fine (header_of (take 68 c))
 unfolding header_flaw
 header_fine c w = fine_of (header_of (take 68 c)) (no_cause (not (number_at 0 4 (take 68 c) == magic)) (flaw_at 0 Magic) (field_flaw (header_of (take 68 c))) w.flawless).1
 
--- A whole chunk has fewer than 2^28 bytes.
+-- A whole chunk has fewer than 2^30 bytes.
 pub whole_small : (c : List ℕ) → Whole c → length c < 2 ^ 30
 whole_small c w = let f = header_fine c w in let i : size_of (take 68 c) < 2 ^ 30 = f.small in let e : size_of (take 68 c) ≡ length c = w.size in omega arith
 
--- A header has 68 bytes, which come first.
-header_long : (h : Header) → length (header_bytes h) ≡ 68
-header_long h = refl
-
 pub header_length : (c : List ℕ) (size pools metadata : ℕ) → length (header_with c size pools metadata) ≡ 68
 header_length c size pools metadata = header_long (record (header_of (take 68 c)) { size = size; pools = pools; metadata = metadata })
-
-front_bytes : (h : Header) (body : List ℕ) → take 68 (header_bytes h ++ body) ≡ header_bytes h
-front_bytes h body = refl
 
 -- A number in range is read back, whatever comes before and after it.
 abbrev alone : ℕ → ℕ → ℕ → ℕ → Header
@@ -125,10 +118,10 @@ module _ (c body : List ℕ) (size pools metadata : ℕ) where
 
   -- It leads to the last checkpoint, and to the metadata record.
   pub made_pools : pools < 2 ^ 64 → pools_at made ≡ pools
-  made_pools i = ap (λ z. (header_of z).pools) (front_bytes written body) ∙ pools_back written i
+  made_pools i = ap (λ z. (header_of z).pools) (header_first written body) ∙ pools_back written i
 
   pub made_metadata : metadata < 2 ^ 64 → metadata_at made ≡ metadata
-  made_metadata i = ap (λ z. (header_of z).metadata) (front_bytes written body) ∙ metadata_back written i
+  made_metadata i = ap (λ z. (header_of z).metadata) (header_first written body) ∙ metadata_back written i
 
   made_fine : Whole c → size < 2 ^ 30 → Fine (header_of (header_bytes written))
   made_fine w i =
@@ -144,5 +137,5 @@ module _ (c body : List ℕ) (size pools metadata : ℕ) where
       let l : length made ≡ length (header_with c size pools metadata) + length body = length-append (header_with c size pools metadata) body in
       let h : length (header_with c size pools metadata) ≡ 68 = header_length c size pools metadata in
       let d : size_of (header_bytes written) ≡ size = size_back written (omega arith) in
-      let s : size_of (take 68 made) ≡ size = ap size_of (front_bytes written body) ∙ d in
-      record { long = omega arith; flawless = ap header_flaw (front_bytes written body) ∙ flawless_of (header_of (header_bytes written)) (made_fine w i) (omega arith); size = s ∙ e }
+      let s : size_of (take 68 made) ≡ size = ap size_of (header_first written body) ∙ d in
+      record { long = omega arith; flawless = ap header_flaw (header_first written body) ∙ flawless_of (header_of (header_bytes written)) (made_fine w i) (omega arith); size = s ∙ e }

@@ -3,10 +3,11 @@ use Rattle.std.proofs.Common.{◌≡◌, ℕ, zero, suc, ◌+◌, ◌-◌, ◌*�
 use Rattle.std.specs.List.{flat_map, range_with_len}
 use Rattle.std.proofs.lemmas.Fmt.{length-decimal-le}
 use Rattle.std.proofs.lemmas.Nat.{mod_below}
-use Rattle.jfr_base.specs.Integer.{spell, spell_in, Spells}
+use Rattle.jfr_base.specs.Integer.{spell, Spells}
 use Rattle.jfr_base.proofs.Spelling.{spell_short}
+use Rattle.jfr_frame.proofs.WrittenRecords.{length-record_in}
 use Rattle.jfr_sample.specs.Metadata.{string_of, metadata}
-use Rattle.jfr_sample.specs.Sample.{draw, key_of, record_of, event_a, event_b, event, events_to, next_of, entry, entries_to, checkpoint}
+use Rattle.jfr_sample.specs.Sample.{draw, key_of, event_a, event_b, event, events_to, next_of, entry, entries_to, checkpoint}
 use Rattle.jfr_sample.proofs.PartLaws.{parts_more}
 
 three_bytes : Spells (255 ∷ 255 ∷ 127 ∷ []) 2097151
@@ -18,10 +19,6 @@ few_bytes v small = spell_short (255 ∷ 255 ∷ 127 ∷ []) v 2097151 three_byt
 
 one_byte : (v : ℕ) → v < 128 → length (spell v) ≤ 1
 one_byte v small = spell_short (127 ∷ []) v 127 (record { form = omega arith; worth = refl }) (omega arith)
-
-length-record_of : (body : List ℕ) → length (record_of body) ≡ 4 + length body
-unfolding spell_in
-length-record_of body = omega arith
 
 class_a : length (spell 8) ≡ 1
 unfolding spell
@@ -42,12 +39,12 @@ event_a-le : (i key : ℕ) → i ≤ 1000000 → key ≤ 1000000 → length (eve
 event_a-le i key low few =
     let front : length (spell 8 ++ spell i) ≤ 4 = join-le (spell 8) (spell i) 1 3 (omega (arith, class_a)) (few_bytes i (omega arith)) in
     let body : length (spell 8 ++ spell i ++ spell key) ≤ 7 = join-le (spell 8 ++ spell i) (spell key) 4 3 front (few_bytes key (omega arith)) in
-    omega (arith, length-record_of (spell 8 ++ spell i ++ spell key), body)
+    omega (arith, length-record_in 4 (spell 8 ++ spell i ++ spell key), body)
 
 event_b-le : (key : ℕ) → key ≤ 1000000 → length (event_b key) ≤ 11
 event_b-le key few =
     let body : length (spell 9 ++ spell key) ≤ 4 = join-le (spell 9) (spell key) 1 3 (omega (arith, class_b)) (few_bytes key (omega arith)) in
-    omega (arith, length-record_of (spell 9 ++ spell key), body)
+    omega (arith, length-record_in 4 (spell 9 ++ spell key), body)
 
 event-le : (seed events i : ℕ) → 1 ≤ events → events ≤ 1000000 → i ≤ 1000000 → length (event seed events i) ≤ 11
 unfolding event
@@ -99,4 +96,4 @@ unfolding checkpoint
 checkpoint-le n low =
     let front : List ℕ = 1 ∷ 0 ∷ 0 ∷ 0 ∷ 0 ∷ 1 ∷ 7 ∷ [] in
     let counted : length (front ++ spell n) ≤ 7 + 3 = join-le front (spell n) 7 3 (omega arith) (few_bytes n (omega arith)) in
-    omega (arith, length-record_of (front ++ spell n ++ entries_to n), join-le (front ++ spell n) (entries_to n) 10 (15 * n) counted (entries-le n low))
+    omega (arith, length-record_in 4 (front ++ spell n ++ entries_to n), join-le (front ++ spell n) (entries_to n) 10 (15 * n) counted (entries-le n low))

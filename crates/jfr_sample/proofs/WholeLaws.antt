@@ -1,29 +1,11 @@
 -- A sample is one whole chunk, put together of its parts.
-use Rattle.std.proofs.Common.{◌≡◌, ℕ, ◌+◌, ◌*◌, ◌<◌, ◌≤◌, ◌^◌, List, ◌++◌, length, take, drop, None, sym, ◌∙◌, ap, arith, length-append, length-drop, append_assoc}
+use Rattle.std.proofs.Common.{◌≡◌, ℕ, ◌+◌, ◌*◌, ◌≤◌, List, ◌++◌, length, take, drop, sym, ◌∙◌, ap, arith, length-append, append_assoc}
 use Rattle.std.proofs.Math.Seq.{take-append_seam, drop-append_seam}
-use Rattle.std.proofs.lemmas.Bool.Decides.{nat_tests}
-use Rattle.jfr_header.specs.Fronts.{Whole, header_flaw, field_flaw, size_of}
-use Rattle.jfr_header.specs.Headers.{header_of, header_bytes}
-use Rattle.jfr_header.specs.declared.header.Header.{Header}
+use Rattle.jfr_header.specs.Headers.{header_bytes}
+use Rattle.jfr_header.specs.Made.{made_header}
 use Rattle.jfr_sample.specs.Metadata.{metadata}
-use Rattle.jfr_sample.specs.Sample.{sample_header, before_checkpoint, events_to, checkpoint, sample_of}
+use Rattle.jfr_sample.specs.Sample.{before_checkpoint, events_to, checkpoint, sample_of}
 use Rattle.jfr_sample.proofs.Lengths.{length-metadata, events-le, checkpoint-le}
-
--- A header of a size that a chunk may have has no flaw.
-no_flaw : (size pools : ℕ) → 68 ≤ size → size < 2 ^ 28 → field_flaw (sample_header size pools) ≡ None
-no_flaw size pools long short = grind (arith, nat_tests)
-
--- Such a header over the first bytes of a chunk.
-pub whole_by : (header chunk : List ℕ) (pools : ℕ) → length header ≡ 68 → 68 ≤ length chunk → length chunk < 2 ^ 28 → (field_flaw (sample_header (length chunk) pools) ≡ None → (header_flaw header ≡ None) × (header_of header ≡ sample_header (length chunk) pools)) → Whole (header ++ drop 68 chunk)
-whole_by header chunk pools is long short reads =
-    let read = reads (no_flaw (length chunk) pools long short) in
-    let size : length (header ++ drop 68 chunk) ≡ length chunk = omega (arith, length-append header (drop 68 chunk), length-drop 68 chunk) in
-    let front : take 68 (header ++ drop 68 chunk) ≡ header = ap (λ (n : ℕ). take n (header ++ drop 68 chunk)) (sym is) ∙ take-append_seam header (drop 68 chunk) in
-    record {
-      long = omega arith;
-      flawless = ap header_flaw front ∙ read.0;
-      size = ap size_of front ∙ ap (λ (h : Header). h.size) read.1 ∙ sym size;
-    }
 
 -- The sample with blank bytes in place of the header.
 abbrev pub filled : List ℕ → ℕ → ℕ → List ℕ
@@ -46,7 +28,7 @@ filled-le blank seed events is some most =
     omega (arith, length-filled blank seed events is, length-append metadata (events_to seed events events), length-metadata, events-le seed events events some most most, checkpoint-le events most)
 
 -- With its header it is the sample.
-pub made_of : (blank : List ℕ) (seed events pools : ℕ) → length blank ≡ 68 → pools ≡ length (blank ++ metadata ++ events_to seed events events) → header_bytes (sample_header (length (filled blank seed events)) pools) ++ drop 68 (filled blank seed events) ≡ sample_of seed events
+pub made_of : (blank : List ℕ) (seed events pools : ℕ) → length blank ≡ 68 → pools ≡ length (blank ++ metadata ++ events_to seed events events) → header_bytes (made_header (length (filled blank seed events)) pools) ++ drop 68 (filled blank seed events) ≡ sample_of seed events
 unfolding sample_of
 made_of blank seed events pools is at =
     let before : List ℕ = before_checkpoint seed events in
@@ -54,10 +36,10 @@ made_of blank seed events pools is at =
     let place : pools ≡ 68 + length before = omega (arith, at, length-append (blank ++ metadata) (events_to seed events events), length-append blank metadata, length-append metadata (events_to seed events events)) in
     let whole : filled blank seed events ≡ blank ++ (before ++ checkpoint events) = ap (λ (l : List ℕ). l ++ checkpoint events) (append_assoc blank metadata (events_to seed events events)) ∙ append_assoc blank before (checkpoint events) in
     let rest : drop 68 (filled blank seed events) ≡ before ++ checkpoint events = ap (drop 68) whole ∙ ap (λ (n : ℕ). drop n (blank ++ (before ++ checkpoint events))) (sym is) ∙ drop-append_seam blank (before ++ checkpoint events) in
-    ap (λ (n : ℕ). header_bytes (sample_header n pools) ++ drop 68 (filled blank seed events)) size
-    ∙ ap (λ (n : ℕ). header_bytes (sample_header (68 + length before + length (checkpoint events)) n) ++ drop 68 (filled blank seed events)) place
-    ∙ ap (λ (l : List ℕ). header_bytes (sample_header (68 + length before + length (checkpoint events)) (68 + length before)) ++ l) rest
-    ∙ sym (append_assoc (header_bytes (sample_header (68 + length before + length (checkpoint events)) (68 + length before))) before (checkpoint events))
+    ap (λ (n : ℕ). header_bytes (made_header n pools) ++ drop 68 (filled blank seed events)) size
+    ∙ ap (λ (n : ℕ). header_bytes (made_header (68 + length before + length (checkpoint events)) n) ++ drop 68 (filled blank seed events)) place
+    ∙ ap (λ (l : List ℕ). header_bytes (made_header (68 + length before + length (checkpoint events)) (68 + length before)) ++ l) rest
+    ∙ sym (append_assoc (header_bytes (made_header (68 + length before + length (checkpoint events)) (68 + length before))) before (checkpoint events))
 
 -- Bytes overwritten by the same number of others.
 pub written_over : (count : ℕ) (new old : List ℕ) → count ≡ length old → length new ≡ length old → take count (new ++ drop (length new) old) ≡ new

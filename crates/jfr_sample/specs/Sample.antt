@@ -1,9 +1,10 @@
 -- The sample recording, byte for byte, by its seed and the number of its events.
 use Rattle.std.specs.Prelude.{ℕ, zero, suc, ◌+◌, ◌-◌, ◌*◌, ◌/◌, ◌%◌, ◌^◌, ◌==◌, List, [], ◌∷◌, ◌++◌, length, decimal, nat_lt, if◌then◌else◌}
 use Rattle.std.specs.List.{flat_map, range_with_len}
-use Rattle.jfr_base.specs.Integer.{spell, spell_in}
-use Rattle.jfr_header.specs.declared.header.Header.{Header}
+use Rattle.jfr_base.specs.Integer.{spell}
 use Rattle.jfr_header.specs.Headers.{header_bytes}
+use Rattle.jfr_header.specs.Made.{made_header}
+use Rattle.jfr_frame.specs.Written.{record_in}
 use Rattle.jfr_sample.specs.Metadata.{string_of, metadata}
 
 -- The draw that follows draw x (a linear congruential generator).
@@ -20,17 +21,14 @@ draw seed (suc i) = next_draw (draw seed i)
 abbrev pub key_of : ℕ → ℕ → ℕ
 key_of events x = 1 + (x / 256) % events
 
--- A record: its size in four bytes, followed by its body.
-abbrev pub record_of : List ℕ → List ℕ
-record_of body = spell_in 4 (4 + length body) ++ body
-
--- A t.A, whose class is 8: its number and the key of its node.
+-- A t.A, whose class is 8: its number and the key of its node. Its size is spelled in four bytes, as that of
+-- every record after the metadata.
 abbrev pub event_a : ℕ → ℕ → List ℕ
-event_a i key = record_of (spell 8 ++ spell i ++ spell key)
+event_a i key = record_in 4 (spell 8 ++ spell i ++ spell key)
 
 -- A t.B, whose class is 9: the key of its node.
 abbrev pub event_b : ℕ → List ℕ
-event_b key = record_of (spell 9 ++ spell key)
+event_b key = record_in 4 (spell 9 ++ spell key)
 
 -- Event i, given its draw x: a t.A if x is below 2^31, else a t.B.
 abbrev pub event_by : ℕ → ℕ → ℕ → List ℕ
@@ -60,25 +58,7 @@ entries_to n = flat_map entry (range_with_len 1 n)
 -- The checkpoint: type 1, start 0, duration 0, delta 0, the type byte 0, and one pool, of class 7, with its
 -- entries.
 unfoldable pub checkpoint : ℕ → List ℕ
-checkpoint n = record_of ((1 ∷ 0 ∷ 0 ∷ 0 ∷ 0 ∷ 1 ∷ 7 ∷ []) ++ spell n ++ entries_to n)
-
--- The header of a chunk of version 2.1 with this size. The metadata follows the header; the last checkpoint
--- starts at `pools`.
-abbrev pub sample_header : ℕ → ℕ → Header
-sample_header size pools = record {
-  major = 2;
-  minor = 1;
-  size = size;
-  pools = pools;
-  metadata = 68;
-  start_nanos = 0;
-  duration_nanos = 0;
-  start_ticks = 0;
-  ticks_per_second = 1000000000;
-  state = 0;
-  padding = 0;
-  flags = 3;
-}
+checkpoint n = record_in 4 ((1 ∷ 0 ∷ 0 ∷ 0 ∷ 0 ∷ 1 ∷ 7 ∷ []) ++ spell n ++ entries_to n)
 
 -- The records before the checkpoint: the metadata and the events.
 abbrev pub before_checkpoint : ℕ → ℕ → List ℕ
@@ -87,5 +67,5 @@ before_checkpoint seed events = metadata ++ events_to seed events events
 -- The sample: the header, followed by its records, of which the checkpoint is the last.
 unfoldable pub sample_of : ℕ → ℕ → List ℕ
 sample_of seed events =
-    header_bytes (sample_header (68 + length (before_checkpoint seed events) + length (checkpoint events)) (68 + length (before_checkpoint seed events)))
+    header_bytes (made_header (68 + length (before_checkpoint seed events) + length (checkpoint events)) (68 + length (before_checkpoint seed events)))
     ++ before_checkpoint seed events ++ checkpoint events

@@ -2,7 +2,8 @@
 ghost use Rattle.std.specs.Prelude.{◌≡◌, ◌≤◌, ◌<◌, ◌+◌, ◌*◌, ◌^◌, ◌++◌, length, drop, IfOk};
 ghost use Rattle.jfr_header.specs.Fronts.{Whole};
 ghost use Rattle.jfr_header.specs.Headers.{header_bytes};
-ghost use Rattle.jfr_sample.specs.Sample.{sample_of, sample_header};
+ghost use Rattle.jfr_header.specs.Made.{made_header};
+ghost use Rattle.jfr_sample.specs.Sample.{sample_of};
 
 use crate::checkpoint::{entries_of, push_checkpoint};
 use crate::events::{EVENT_LEN, push_events};
@@ -40,24 +41,11 @@ pub fn sample(alloc: Global, seed: u32, events: u32) -> Result<Vec<u8>, NoMemory
 fn put_header(chunk: &mut [u8], pools: usize)
     requires long { 68 ≤ length chunk.old }
     requires short { length chunk.old < 2 ^ 28 }
-    ensures exact { chunk.new ≡ header_bytes (sample_header (length chunk.old) pools) ++ drop 68 chunk.old }
+    ensures exact { chunk.new ≡ header_bytes (made_header (length chunk.old) pools) ++ drop 68 chunk.old }
     ensures length { length chunk.new ≡ length chunk.old }
     ensures whole { Whole chunk.new }
 {
-    let header = Header {
-        major: 2,
-        minor: 1,
-        size: chunk.len() as u64,
-        pools: pools as u64,
-        metadata: HEADER_LEN as u64,
-        start_nanos: 0,
-        duration_nanos: 0,
-        start_ticks: 0,
-        ticks_per_second: 1_000_000_000,
-        state: 0,
-        padding: 0,
-        flags: 3,
-    };
+    let header = Header::made(chunk.len() as u64, pools as u64);
     let mut bytes = [0; HEADER_LEN];
     write_header(&header, &mut bytes);
     chunk[..HEADER_LEN].copy_from_slice(&bytes);

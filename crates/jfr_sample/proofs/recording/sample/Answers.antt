@@ -1,7 +1,8 @@
 use Rattle.std.proofs.Common.{◌≡◌, ◌++◌, ◌≤◌, ◌+◌, ◌*◌, List, ℕ, length, drop, ap, sym, subst, ◌∙◌, arith}
 use Rattle.jfr_header.specs.Fronts.{Whole}
 use Rattle.jfr_header.specs.Headers.{header_bytes}
-use Rattle.jfr_sample.specs.Sample.{sample_header, events_to}
+use Rattle.jfr_header.specs.Made.{made_header}
+use Rattle.jfr_sample.specs.Sample.{events_to}
 use Rattle.jfr_sample.proofs.WholeLaws.{filled, filled_by, filled-ge, filled-le, made_of, written_over}
 use Rattle.jfr_sample.proofs.recording.sample.Goals as goal
 
@@ -28,7 +29,7 @@ returns-clause-exact c =
     let before = c.in_ok-push_events.ensures ∙ ap (λ (l : List ℕ). l ++ events_to c.args.seed c.args.events c.args.events) c.in_ok-push_metadata.ensures in
     written_over c.push_checkpoint.new.into.len c.put_header.new.chunk c.push_checkpoint.new.into.items c.push_checkpoint.new.into.ok.0 (c.put_header.ensures.length ∙ ap length c.deref_mut.ensures.value)
     ∙ c.put_header.ensures.exact
-    ∙ ap (λ (l : List ℕ). header_bytes (sample_header (length l) c.len-pools.result) ++ drop 68 l) (c.deref_mut.ensures.value ∙ all)
+    ∙ ap (λ (l : List ℕ). header_bytes (made_header (length l) c.len-pools.result) ++ drop 68 l) (c.deref_mut.ensures.value ∙ all)
     ∙ made_of blank c.args.seed c.args.events c.len-pools.result is (c.len-pools.ensures ∙ c.push_events.new.into.ok.0 ∙ ap length before)
 
 pub returns-clause-whole : goal.returns-clause-whole

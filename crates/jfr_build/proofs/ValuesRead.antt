@@ -1,16 +1,11 @@
--- Records and values of a built chunk, by their bytes.
-use Rattle.std.specs.Prelude.{◌≡◌, ℕ, ◌+◌, ◌*◌, ◌^◌, ◌<◌, ◌≤◌, ◌==◌, false, List, [], ◌∷◌, ◌++◌, length, Option, Some, None, Ok, if◌then◌else◌}
+-- Values of a built chunk, by their bytes.
+use Rattle.std.specs.Prelude.{◌≡◌, ℕ, ◌+◌, ◌≤◌, ◌==◌, false, List, [], ◌∷◌, length, Option, Some, None, Ok, if◌then◌else◌}
 use Rattle.std.specs.Option.{option_map_or}
-use Rattle.std.proofs.Common.{ap, arith, refl, subst, sym, length-append, inl}
+use Rattle.std.proofs.Common.{ap, arith, refl, subst, sym}
 use Rattle.std.proofs.lemmas.Bool.Decides.{nat_tests}
-use Rattle.jfr_base.specs.Integer.{IntAt, spell, spell_in}
 use Rattle.jfr_base.specs.Formats.{Exactly, Reads, run}
-use Rattle.jfr_base.proofs.HoldLaws.{Holds, holds_parts, holds_int, holds_at, holds_narrow}
+use Rattle.jfr_base.proofs.HoldLaws.{Holds}
 use Rattle.jfr_base.proofs.RunLaws.{Stands, exact_run}
-use Rattle.jfr_base.proofs.Spelling.{spell_spells}
-use Rattle.jfr_base.proofs.Writing.{fits_spells}
-use Rattle.jfr_frame.specs.declared.framed.Framed.{Framed}
-use Rattle.jfr_frame.specs.Records.{IsRecord, record_end}
 use Rattle.jfr_layout.specs.Classes.{Classes, Sound}
 use Rattle.jfr_value.specs.Values.{Value, bytes_of}
 use Rattle.jfr_value.specs.Reading.{value_format}
@@ -22,52 +17,8 @@ use Rattle.jfr_chunk.specs.Parts.{Parts}
 use Rattle.jfr_build.specs.LeafWords.{AreWordsOf}
 use Rattle.jfr_build.specs.Taking.{Taken, took, value_taken}
 use Rattle.jfr_build.specs.LineValues.{inline, spelled_value, whole}
-use Rattle.jfr_build.specs.Built.{record_of}
 use Rattle.jfr_build.specs.Accepted.{HasWords}
 use Rattle.jfr_build.proofs.TakenLaws.{taken_exactly}
-
--- The record at an offset whose body is the spelling of its type, followed by the rest.
-abbrev pub framed : ℕ → ℕ → List ℕ → Framed
-framed at type rest = record { at = at; size = 5 + length (spell type ++ rest); type_at = at + 5; type_id = type; body = at + 5 + length (spell type) }
-
-length-five : (v : ℕ) → length (spell_in 5 v) ≡ 5
-unfolding spell_in
-length-five v = refl
-
-pub length-record : (body : List ℕ) → length (record_of body) ≡ 5 + length body
-unfolding spell_in
-length-record body = omega arith
-
--- A record of this type is at the offset, and the rest of its body follows its type.
-pub record RecordStands (c : List ℕ) (at type : ℕ) (rest : List ℕ) : Type 0 where
-  pub is : IsRecord c (framed at type rest)
-  pub body : Holds c (record_end (framed at type rest)) (at + 5 + length (spell type)) rest
-
--- These bytes are a record.
-pub record_stands : (c : List ℕ) (at type : ℕ) (rest : List ℕ) → length c < 2 ^ 30 → Holds c (length c) at (record_of (spell type ++ rest)) → RecordStands c at type rest
-record_stands c at type rest small h =
-    let body : List ℕ = spell type ++ rest in
-    let n : ℕ = 5 + length body in
-    let l : length (record_of body) ≡ 5 + length body = length-record body in
-    let m : length body ≡ length (spell type) + length rest = length-append (spell type) rest in
-    let w : at + length (record_of body) ≤ length c = h.within in
-    let five : length (spell_in 5 n) ≡ 5 = length-five n in
-    let low : n < 2 ^ (7 * 5) = omega arith in
-    let p = holds_parts c (length c) at (spell_in 5 n) body h in
-    let q = holds_parts c (length c) (at + 5) (spell type) rest (holds_at c (length c) (at + length (spell_in 5 n)) (at + 5) body (ap (λ z. at + z) five) p.1) in
-    record {
-      is = record {
-        size_spelled = subst (λ z. IntAt c at (at + z) n) five (holds_int c (length c) at (spell_in 5 n) n p.0 (fits_spells n 5 (omega arith) (omega arith) (inl low)));
-        type_spelled = holds_int c (length c) (at + 5) (spell type) type q.0 (spell_spells type);
-        covers = omega arith;
-        within = omega arith;
-      };
-      body = holds_narrow c (length c) (at + 5 + length (spell type)) (at + n) rest (omega arith) (omega arith) q.1;
-    }
-
--- An integer is read from its shortest spelling.
-pub spelled_int : (c : List ℕ) (end at v : ℕ) → Holds c end at (spell v) → IntAt c at (at + length (spell v)) v
-spelled_int c end at v h = holds_int c end at (spell v) v h (spell_spells v)
 
 -- What was taken whole leaves no word.
 whole_took : (o : Option (Taken Value)) (v : Value) → whole o ≡ Some v → o ≡ took v []
