@@ -12,7 +12,7 @@ use Rattle.jfr_plan.specs.Ends.{Fine, CommandEnd, Ends, NotWritten, RanOut, comm
 use Rattle.jfr_plan.specs.Effects.{Plan, Write, outside, snapshot, effects}
 use Rattle.jfr_plan.specs.Rules.{Text}
 use Rattle.jfr_plan.specs.Outcomes.{Tallied}
-use Rattle.jfr_demo.specs.Demo.{sampled}
+use Rattle.jfr_report.specs.Demo.{sampled}
 use Rattle.jfr_words.specs.declared.order.Order.TheVariants.{Sample}
 use Rattle.jfr_cli.specs.Texts.{IsWritten}
 use Rattle.jfr_cli.specs.Works.{sample_plan, work_of, Leaves, WorkOutcome, Planned}

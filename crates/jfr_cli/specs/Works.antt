@@ -21,7 +21,7 @@ use Rattle.jfr_verify.specs.Verdicts.{LacksOne, VerdictOf, three}
 use Rattle.jfr_receipt.specs.Receipting.{receipting}
 use Rattle.jfr_build.specs.Streams.{building}
 use Rattle.jfr_report.specs.Reports.{printing, summing, describing, folding}
-use Rattle.jfr_demo.specs.Demo.{sampled}
+use Rattle.jfr_report.specs.Demo.{sampled}
 use Rattle.jfr_words.specs.declared.order.Order.{Order}
 use Rattle.jfr_words.specs.declared.order.Order.TheVariants as orders
 use Rattle.jfr_words.specs.Words.{file_name}

@@ -11,13 +11,12 @@ ghost use Rattle.jfr_cli.specs.Works.{verified_line};
 
 use crate::answer::Answer;
 use jfr_build::{BuildEnding, build_stream};
-use jfr_demo::sample_text;
 use jfr_filter::Filter;
 use jfr_header::Ending;
 use jfr_outside::{NoMemory, Place, Sink, Text};
 use jfr_receipt::receipt_stream;
 use jfr_renumber::renumber_stream;
-use jfr_report::{metadata_stream, print_stream, stacks_stream, summary_stream};
+use jfr_report::{metadata_stream, print_stream, sample_text, stacks_stream, summary_stream};
 use jfr_scrub::scrub_stream;
 use jfr_split::{SplitRule, assemble, disassemble};
 use jfr_verify::{Verdict, verify_stream};

@@ -3,3 +3,9 @@ pub mod PlanLaws
 pub mod PartsLaws
 pub mod KeptLaws
 mod EndsWell
+mod DemoLaws
+mod SampleAccepted
+mod SampleEntries
+mod SampleEvents
+mod SampleMetadata
+mod SampleValues

@@ -4,8 +4,8 @@ use Rattle.jfr_chunk.specs.Parts.{events_of}
 use Rattle.jfr_chunk.specs.Reach.{remain}
 use Rattle.jfr_chunk.specs.Scrub.{scrub_of}
 use Rattle.jfr_show.specs.Totals.{number_line}
-use Rattle.jfr_demo.proofs.DemoLaws.{six_lines}
-use Rattle.jfr_demo.proofs.demo.lines_of.Goals as goal
+use Rattle.jfr_report.proofs.DemoLaws.{six_lines}
+use Rattle.jfr_report.proofs.demo.lines_of.Goals as goal
 
 pub returns : goal.returns
 returns c = record {

@@ -6,7 +6,7 @@ ghost use Rattle.jfr_chunk.specs.Parts.{EventAt};
 ghost use Rattle.jfr_chunk.specs.Chosen.{kept_of};
 ghost use Rattle.jfr_chunk.specs.Reach.{remain};
 ghost use Rattle.jfr_chunk.specs.Scrub.{scrub_of};
-ghost use Rattle.jfr_demo.specs.Demo.{counted, lines_of, only_a, sampled};
+ghost use Rattle.jfr_report.specs.Demo.{counted, lines_of, only_a, sampled};
 
 use jfr_base::ReadFault;
 use jfr_chunk::Chunk;

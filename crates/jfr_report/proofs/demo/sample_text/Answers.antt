@@ -1,6 +1,6 @@
 use Rattle.std.proofs.Common.{◌∙◌}
-use Rattle.jfr_demo.proofs.DemoLaws.{not_refused, sampled_by}
-use Rattle.jfr_demo.proofs.demo.sample_text.Goals as goal
+use Rattle.jfr_report.proofs.DemoLaws.{not_refused, sampled_by}
+use Rattle.jfr_report.proofs.demo.sample_text.Goals as goal
 
 pub unreachable-requires : goal.unreachable-requires
 unreachable-requires c =

@@ -24,9 +24,9 @@ use Rattle.jfr_pool.specs.Chains.{head_format}
 use Rattle.jfr_pool.specs.Entries.{Constant, PoolAt, AreEntries, checkpoint_format, constant_format, entries_from, inline, pool_check, pool_format}
 use Rattle.jfr_sample.specs.Metadata.{string_of}
 use Rattle.jfr_sample.specs.Sample.{next_of, entry, entries_to, checkpoint}
-use Rattle.jfr_demo.proofs.Metadata.{node_class, text_class, sample_classes, classes_sound, plain}
-use Rattle.jfr_demo.proofs.Values.{value_read}
-use Rattle.jfr_demo.proofs.Events.{node_value}
+use Rattle.jfr_report.proofs.SampleMetadata.{node_class, text_class, sample_classes, classes_sound, plain}
+use Rattle.jfr_report.proofs.SampleValues.{value_read}
+use Rattle.jfr_report.proofs.SampleEvents.{node_value}
 
 -- The value of entry n.
 abbrev fields_of : ℕ → Value

@@ -19,9 +19,9 @@ use Rattle.jfr_chunk.proofs.Reading.{parts_told}
 use Rattle.jfr_sample.specs.Metadata.{metadata}
 use Rattle.jfr_sample.specs.Sample.{before_checkpoint, checkpoint, events_to, sample_of}
 use Rattle.jfr_sample.proofs.Lengths.{length-metadata, events-le, checkpoint-le}
-use Rattle.jfr_demo.proofs.Metadata.{sample_body, sample_classes, sample_metadata, metadata_read, metadata_stands}
-use Rattle.jfr_demo.proofs.Events.{IsEvent, EventsStand, events_stand}
-use Rattle.jfr_demo.proofs.Entries.{checkpoint_at, link_at, entries_at, CheckpointStands, checkpoint_stands}
+use Rattle.jfr_report.proofs.SampleMetadata.{sample_body, sample_classes, sample_metadata, metadata_read, metadata_stands}
+use Rattle.jfr_report.proofs.SampleEvents.{IsEvent, EventsStand, events_stand}
+use Rattle.jfr_report.proofs.SampleEntries.{checkpoint_at, link_at, entries_at, CheckpointStands, checkpoint_stands}
 
 not_metadata : is_event_class sample_classes 0 ≡ false
 unfolding is_event_class sample_classes

@@ -12,8 +12,8 @@ use Rattle.jfr_chunk.specs.Reach.{remain}
 use Rattle.jfr_chunk.specs.Refusal.{flaw_in, read_parts, refusal_of}
 use Rattle.jfr_chunk.specs.Scrub.{scrub_of}
 use Rattle.jfr_sample.specs.Sample.{sample_of}
-use Rattle.jfr_demo.specs.Demo.{counted, counted_in, lines_of, only_a, sampled}
-use Rattle.jfr_demo.proofs.Accepted.{sample_accepted}
+use Rattle.jfr_report.specs.Demo.{counted, counted_in, lines_of, only_a, sampled}
+use Rattle.jfr_report.proofs.SampleAccepted.{sample_accepted}
 
 -- Six lines, one after another.
 pub six_lines : (a b c d e f : List ℕ) (t u v w x y : List ℕ) → t ≡ a → u ≡ t ++ b → v ≡ u ++ c → w ≡ v ++ d → x ≡ w ++ e → y ≡ x ++ f → y ≡ a ++ b ++ c ++ d ++ e ++ f

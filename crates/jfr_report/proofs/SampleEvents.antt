@@ -18,8 +18,8 @@ use Rattle.jfr_value.specs.Reading.{value_format}
 use Rattle.jfr_pool.specs.Entries.{inline}
 use Rattle.jfr_chunk.specs.Parts.{HasFields}
 use Rattle.jfr_sample.specs.Sample.{draw, key_of, event_a, event_b, event}
-use Rattle.jfr_demo.proofs.Metadata.{a_class, b_class, number_class, sample_classes, classes_sound, plain, node}
-use Rattle.jfr_demo.proofs.Values.{value_read}
+use Rattle.jfr_report.proofs.SampleMetadata.{a_class, b_class, number_class, sample_classes, classes_sound, plain, node}
+use Rattle.jfr_report.proofs.SampleValues.{value_read}
 
 -- A reference to a node.
 abbrev pub node_value : ℕ → Value

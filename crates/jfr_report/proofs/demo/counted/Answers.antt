@@ -1,7 +1,7 @@
 use Rattle.jfr_chunk.specs.Chosen.{kept_of}
-use Rattle.jfr_demo.specs.Demo.{only_a}
-use Rattle.jfr_demo.proofs.DemoLaws.{counted_by, lines_by}
-use Rattle.jfr_demo.proofs.demo.counted.Goals as goal
+use Rattle.jfr_report.specs.Demo.{only_a}
+use Rattle.jfr_report.proofs.DemoLaws.{counted_by, lines_by}
+use Rattle.jfr_report.proofs.demo.counted.Goals as goal
 
 pub returns : goal.returns
 returns c = record {

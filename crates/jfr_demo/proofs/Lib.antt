@@ -1,6 +1,0 @@
-mod Accepted
-mod DemoLaws
-mod Entries
-mod Events
-mod Metadata
-mod Values
