@@ -1,21 +1,19 @@
 -- The words of a value's leaves are taken as this value.
 use Rattle.std.specs.Prelude.{◌≡◌, ℕ, zero, suc, ◌+◌, Bool, true, false, List, [], ◌∷◌, ◌++◌, length, map, replicate, Option, Some, option_map, if◌then◌else◌}
-use Rattle.std.specs.Option.{option_map_or}
 use Rattle.std.specs.List.{AllByRecursion}
 use Rattle.std.proofs.Common.{ap, refl, sym, ◌∙◌, subst, inl, inr}
 use Rattle.std.proofs.lemmas.List.{append_assoc}
 use Rattle.jfr_base.specs.Integer.{spell, worth_within, Spells}
-use Rattle.jfr_layout.specs.Classes.{Class, Classes, Field, Sound, find_class, kind_of, item_of, is_composite, inline_fields, step_class, goes_inline}
+use Rattle.jfr_layout.specs.Classes.{Class, Classes, Field, Sound, find_class, kind_of, item_of}
 use Rattle.jfr_layout.specs.declared.kind.Kind.{Kind}
 use Rattle.jfr_layout.specs.declared.kind.Kind.TheVariants as kinds
 use Rattle.jfr_layout.specs.declared.shape.Shape.{Shape}
 use Rattle.jfr_value.specs.declared.leaf.LeafKind.{LeafKind}
 use Rattle.jfr_value.specs.declared.leaf.LeafKind.TheVariants as leaf_kinds
-use Rattle.jfr_value.specs.Values.{Value, Values, Single, Group, Nil, Cons, values_of, list_of, shape_of, shapes_of, bytes_of, Fits, AllFit, IsBase, IsSingle, IsHead}
+use Rattle.jfr_value.specs.Values.{Value, Values, Single, Group, Nil, Cons, values_of, list_of, shape_of, shapes_of, bytes_of, Fits, IsBase, IsSingle}
 use Rattle.jfr_value.specs.Leaves.{LeafAt, leaves_at, leaves_from, leaf_key}
-use Rattle.jfr_value.specs.Walks.{DepthBound}
-use Rattle.jfr_value.proofs.DepthLaws.{any_none, sound_inline, steps_to, values_again}
-use Rattle.jfr_value.proofs.LeafLaws.{string_key}
+use Rattle.jfr_value.proofs.DepthLaws.{by_depth, sound_inline, values_again}
+use Rattle.jfr_value.proofs.LeafLaws.{base_key}
 use Rattle.jfr_build.specs.LeafWords.{id_after, base_of, IsWordOf, AreWordsOf}
 use Rattle.jfr_build.specs.Taking.{Taken, Taker, took, then_take, times_taken, each_taken, reference_taken, item_taken, array_taken, shape_taken, base_taken, kind_taken, inline_taken, class_taken, value_taken}
 
@@ -93,18 +91,6 @@ kind_all : (kd : Kind) (s : Shape) (fields : Taker (List Value)) (ws : List (Lis
 kind_all kinds.Composite s fields ws b key i = absurd i
 kind_all kd s fields ws b key i = refl
 
-base_key : (kd : Kind) (b : List ℕ) (key : Option ℕ) → IsBase kd b key → leaf_key (leaf_kinds.Base kd) b ≡ key
-base_key kinds.Boolean b key i = sym i.1
-base_key kinds.Byte b key i = sym i.1
-base_key kinds.Char b key i = sym i.2
-base_key kinds.Short b key i = sym i.2
-base_key kinds.Int b key i = sym i.2
-base_key kinds.Long b key i = sym i.2
-base_key kinds.Float b key i = sym i.1
-base_key kinds.Double b key i = sym i.1
-base_key kinds.Text b key i = string_key b i.0 i.1 ∙ sym i.2
-base_key kinds.Composite b key i = absurd i
-
 module _ (k : Classes) where
   single_all : (n : ℕ) (s : Shape) (kind : LeafKind) (b : List ℕ) (key : Option ℕ) → IsSingle k s kind b key → IsTaken (shape_taken (class_taken (suc n) k) s) (Single s kind b key)
   unfolding class_taken
@@ -151,47 +137,6 @@ module _ (k : Classes) where
       ∙ (ap (λ z. then_take z (λ vs us. took (Group s [] (values_of vs)) us)) t
       ∙ (ap (λ z. took (Group s [] z) rest) (values_again vs) ∙ ap (λ z. took (Group s z vs) rest) (sym z)))))
 
-  abbrev AllDepthBounds : ℕ → Values → Type 0
-  AllDepthBounds n vs = AllByRecursion (λ w. DepthBound k n (shape_of w)) (list_of vs)
-
-  depth_of_fields : (n : ℕ) (fs : List Field) (vs : Values) → shapes_of vs ≡ map (λ f. f.shape) fs → AllByRecursion (λ f. option_map_or (λ d. goes_inline n k d) (step_class k f) false ≡ false) fs → AllDepthBounds n vs
-  depth_of_fields n [] Nil e a = tt
-  depth_of_fields n [] (Cons v vs) e a = cc
-  depth_of_fields n (f ∷ fs) Nil e a = cc
-  depth_of_fields n (f ∷ fs) (Cons v vs) e a =
-      let q : f.shape ≡ shape_of v = (let x : shape_of v ∷ shapes_of vs ≡ f.shape ∷ map (λ g. g.shape) fs = e in cc) in
-      let r : shapes_of vs ≡ map (λ g. g.shape) fs = (let x : shape_of v ∷ shapes_of vs ≡ f.shape ∷ map (λ g. g.shape) fs = e in cc) in
-      (subst (DepthBound k n) q (λ o d g c. ap (λ z. option_map_or (λ d. goes_inline n k d) z false) (sym (steps_to k f d o g c)) ∙ a.0), depth_of_fields n fs vs r a.1)
-
-  depth_of_items : (n m : ℕ) (s : Shape) (vs : Values) → shapes_of vs ≡ replicate m s → DepthBound k n s → AllDepthBounds n vs
-  depth_of_items n zero s Nil e a = tt
-  depth_of_items n zero s (Cons v vs) e a = cc
-  depth_of_items n (suc m) s Nil e a = cc
-  depth_of_items n (suc m) s (Cons v vs) e a =
-      let q : s ≡ shape_of v = (let x : shape_of v ∷ shapes_of vs ≡ s ∷ replicate m s = e in cc) in
-      let r : shapes_of vs ≡ replicate m s = (let x : shape_of v ∷ shapes_of vs ≡ s ∷ replicate m s = e in cc) in
-      (subst (DepthBound k n) q a, depth_of_items n m s vs r a)
-
-  mutual
-    fits_taken : (v : Value) (n : ℕ) → DepthBound k n (shape_of v) → Fits k v → IsTaken (shape_taken (class_taken (suc n) k) (shape_of v)) v
-    fits_taken (Single s kind b key) n r f = single_all n s kind b key f
-    fits_taken (Group s h vs) n r f = by_head s h f.0 r (λ m g. all_taken vs m g f.1)
-      where
-        by_room : (n : ℕ) (s : Shape) (h : List ℕ) (c : Class) → s.array ≡ false → s.constant ≡ false → find_class k s.class ≡ Some c → kind_of c.name ≡ kinds.Composite → h ≡ [] → shapes_of vs ≡ map (λ f. f.shape) c.fields → goes_inline n k c ≡ false
-            → ((m : ℕ) → AllDepthBounds m vs → AllTaken (shape_taken (class_taken (suc m) k)) vs) → IsTaken (shape_taken (class_taken (suc n) k) s) (Group s h vs)
-        by_room zero s h c a o q e z p g x = cc
-        by_room (suc m) s h c a o q e z p g x =
-            let i : inline_fields c ≡ c.fields = ap (λ t. if is_composite t then c.fields else []) e in
-            fields_all (suc m) s h vs c a o q e z p (x m (depth_of_fields m c.fields vs p (subst (AllByRecursion (λ f. option_map_or (λ d. goes_inline m k d) (step_class k f) false ≡ false)) i (any_none (λ f. option_map_or (λ d. goes_inline m k d) (step_class k f) false) (inline_fields c) g))))
-
-        by_head : (s : Shape) (h : List ℕ) → IsHead k s h (shapes_of vs) → DepthBound k n s → ((m : ℕ) → AllDepthBounds m vs → AllTaken (shape_taken (class_taken (suc m) k)) vs) → IsTaken (shape_taken (class_taken (suc n) k) s) (Group s h vs)
-        by_head s h (inl p) r x = array_all n s h vs p.0 p.1 p.2 p.3 (x n (depth_of_items n p.1 (item_of s) vs p.3 r))
-        by_head s h (inr p) r x = by_room n s h p.2 p.0 p.1 p.3 p.4 p.5 p.6 (r p.1 p.2 p.3 (ap is_composite p.4)) x
-
-    all_taken : (vs : Values) (n : ℕ) → AllDepthBounds n vs → AllFit k vs → AllTaken (shape_taken (class_taken (suc n) k)) vs
-    all_taken Nil n r f = tt
-    all_taken (Cons v vs) n r f = (fits_taken v n r.0 f.0, all_taken vs n r.1 f.1)
-
   pub value_all : Sound k → (v : Value) → Fits k v → (front rest : List (List ℕ)) → AreWordsOf front (leaves_at 0 v) → value_taken k (shape_of v) (front ++ rest) ≡ took v rest
   unfolding value_taken
-  value_all s v f front rest a = fits_taken v 33 (λ o c q e. sound_inline k (shape_of v).class c s q) f 0 front rest a
+  value_all s v f front rest a = by_depth k (λ n v. IsTaken (shape_taken (class_taken (suc n) k) (shape_of v)) v) single_all array_all (λ n. fields_all (suc n)) v 33 (λ o c q e. sound_inline k (shape_of v).class c s q) f 0 front rest a

@@ -21,6 +21,7 @@ pub mod SeenLaws
 pub mod StageLaws
 pub mod HasNodesLaws
 pub mod TestLaws
+pub mod TextMaps
 pub mod UsedLaws
 mod FilterRows
 mod ThreadRows

@@ -77,6 +77,12 @@ module _ (p : Parts) (s : HasNodes p) where
   pub follow_is : (n : NodeAt) (t : ℕ × ℕ) (e : EntryAt) → target p.classes p.bytes n ≡ Some t → in_force p.entries t ≡ Some e → follow p n ≡ Some (entry_node e)
   follow_is n t e q r = ap (option_and_then (λ t. option_map entry_node (in_force p.entries t))) q ∙ ap (option_map entry_node) r
 
+  -- A path to a reference, followed by a path from the entry in force for it.
+  pub leads_on : (n m o : NodeAt) (t : ℕ × ℕ) (e : EntryAt) (a b : List Step) → leads p n a ≡ Some m → target p.classes p.bytes m ≡ Some t → in_force p.entries t ≡ Some e → leads p (entry_node e) b ≡ Some o → leads p n (a ++ (steps.Follow ∷ b)) ≡ Some o
+  leads_on n m o t e a b x y z w =
+      let l : leads p m (steps.Follow ∷ b) ≡ Some o = ap (option_and_then (λ m. leads p m b)) (follow_is m t e y z) ∙ w in
+      leads_append p a (steps.Follow ∷ b) n ∙ (ap (option_and_then (λ m. leads p m (steps.Follow ∷ b))) x ∙ l)
+
   pub reach_least : (S : ℕ × ℕ → Type 0) → ((t u : ℕ × ℕ) (e : EntryAt) → S t → in_force p.entries t ≡ Some e → Contains (targets p.classes p.bytes (entry_node e)) u → S u)
       → (path : List Step) (n m : NodeAt) (v : Value) (t : ℕ × ℕ) → IsNode p.classes p.bytes n v → ((u : ℕ × ℕ) → Contains (targets p.classes p.bytes n) u → S u)
       → leads p n path ≡ Some m → target p.classes p.bytes m ≡ Some t → S t

@@ -1,21 +1,20 @@
 -- Paths from the kept events reach what the sweeps mark.
-use Rattle.std.specs.Prelude.{◌≡◌, ◌↔◌, ℕ, List, [], ◌∷◌, ◌++◌, length, slice_get, Contains, Some, ◌⊎◌, option_and_then}
+use Rattle.std.specs.Prelude.{◌≡◌, ◌↔◌, ℕ, List, [], ◌∷◌, ◌++◌, length, slice_get, Contains, Some, ◌⊎◌}
 use Rattle.std.specs.Option.{option_map_or}
-use Rattle.std.proofs.Common.{ap, refl, sym, ◌∙◌, inl, inr, subst}
+use Rattle.std.proofs.Common.{refl, sym, inl, inr, subst}
 use Rattle.jfr_value.specs.declared.node.Step.TheVariants as steps
 use Rattle.jfr_value.specs.Values.{Value}
 use Rattle.jfr_value.specs.Nodes.{IsNode, targets}
 use Rattle.jfr_pool.specs.declared.entry.EntryAt.{EntryAt}
 use Rattle.jfr_pool.specs.Entries.{number_in_force, in_force, entry_node}
 use Rattle.jfr_chunk.specs.Parts.{Parts, EventAt}
-use Rattle.jfr_chunk.specs.Paths.{leads}
 use Rattle.jfr_chunk.specs.Reach.{Reached, all_targets, nodes_of, roots, next_entries, reached_marks}
 use Rattle.jfr_worklist.specs.Marks.{those, IsMarked}
 use Rattle.jfr_worklist.specs.Members.{In}
 use Rattle.jfr_worklist.proofs.Members.{contains_in, in_contains, in_left, in_right, in_cases, those_in, in_those}
 use Rattle.jfr_pool.proofs.ForceLaws.{forced, numbered}
 use Rattle.jfr_chunk.proofs.PathLaws.{HasNodes}
-use Rattle.jfr_chunk.proofs.ReachLaws.{leads_append, target_path, follow_is, reach_least}
+use Rattle.jfr_chunk.proofs.ReachLaws.{leads_on, target_path, reach_least}
 use Rattle.jfr_worklist.proofs.SweepLaws.{Reach, root, more, AllBelow, marks_reach}
 
 abbrev entry_targets : Parts → ℕ → List (ℕ × ℕ)
@@ -58,13 +57,12 @@ module _ (p : Parts) where
         let t = in_those (number_in_force p.entries) (entry_targets p j) i k in
         let m : In (targets p.classes p.bytes (entry_node f.entry)) t.0 = subst (λ o. In (option_map_or (λ e. targets p.classes p.bytes (entry_node e)) o []) t.0) f.there t.1 in
         let a = target_path p s (entry_node f.entry) v.0 t.0 v.1 (in_contains (targets p.classes p.bytes (entry_node f.entry)) t.0 m) in
-        let l : leads p h.node (steps.Follow ∷ a.0) ≡ Some a.1 = ap (option_and_then (λ m. leads p m a.0)) (follow_is p s h.node h.key f.entry h.refers f.is) ∙ a.2 in
         record {
           event = h.event;
           is_kept = h.is_kept;
           path = h.path ++ (steps.Follow ∷ a.0);
           node = a.1;
-          leads_there = leads_append p h.path (steps.Follow ∷ a.0) h.event.node ∙ (ap (option_and_then (λ m. leads p m (steps.Follow ∷ a.0))) h.leads_there ∙ l);
+          leads_there = leads_on p s h.event.node h.node a.1 h.key f.entry h.path a.0 h.leads_there h.refers f.is a.2;
           key = t.0;
           refers = a.3;
           in_force = t.2;

@@ -1,10 +1,9 @@
 -- Everything in the output stays at its own offset: each event, the metadata record and each checkpoint.
-use Rattle.std.specs.Prelude.{◌≡◌, ℕ, ◌+◌, ◌^◌, ◌<◌, ◌≤◌, Bool, true, false, ◌==◌, ◌||◌, List, [], ◌∷◌, ◌++◌, length, map, Contains, Option, Some, None, if◌then◌else◌}
+use Rattle.std.specs.Prelude.{◌≡◌, ℕ, ◌+◌, ◌^◌, ◌<◌, ◌≤◌, Bool, true, false, ◌==◌, ◌||◌, List, [], ◌∷◌, ◌++◌, length, map, Option, Some, None, if◌then◌else◌}
 use Rattle.std.specs.List.{AllByRecursion, cons_option, enumerate_from}
 use Rattle.std.proofs.Common.{ap, arith, refl, sym, ◌∙◌, subst, inl, inr, append_assoc}
 use Rattle.std.proofs.lemmas.Bool.Decides.{nat_tests}
 use Rattle.std.proofs.lemmas.List.{reverse-reverse}
-use Rattle.std.proofs.lemmas.List.Elements.{All-contains}
 use Rattle.jfr_layout.specs.Classes.{Classes, is_event_class}
 use Rattle.jfr_frame.specs.declared.framed.Framed.{Framed}
 use Rattle.jfr_frame.specs.Records.{IsRecord, Tiles, Rising, record_bytes}
@@ -19,9 +18,9 @@ use Rattle.jfr_laws.proofs.Suits.{Suits}
 use Rattle.jfr_laws.proofs.Quiet.{no_metadata_event}
 use Rattle.jfr_chunk.specs.Laws.{AreEvents}
 use Rattle.jfr_worklist.specs.Members.{In}
-use Rattle.jfr_worklist.proofs.Members.{contains_in, in_contains}
+use Rattle.jfr_worklist.proofs.Members.{contains_in}
 use Rattle.jfr_chunk.proofs.TestLaws.{is_eq}
-use Rattle.jfr_chunk.proofs.AllLaws.{all_in, in_filter, in_filter_map}
+use Rattle.jfr_chunk.proofs.AllLaws.{all_in, in_filter_map}
 use Rattle.jfr_laws.proofs.Order as order
 use Rattle.jfr_laws.proofs.Order.{Numbered, numbered_at, output_record_in, output_records_in, Low, low_more, low_append, none_rising, after_low}
 use Rattle.jfr_laws.proofs.Copied.{copied_to}
@@ -32,7 +31,7 @@ use Rattle.jfr_laws.proofs.Premises.{GoodAnew, all_links, recorded, metadata_sta
 use Rattle.jfr_laws.proofs.Same.{event_records_of}
 use Rattle.jfr_laws.proofs.Whole.{remaining_of, written_of, or_right, metadata_new, MetadataReads, Leading}
 use Rattle.jfr_laws.proofs.Rebuilt.{links, anew_only, kept_is_event, new_parts, parts_are_valid}
-use Rattle.jfr_laws.proofs.Listed.{all_each, in_any, any_in, in_map, map_in, passes_in, in_passes}
+use Rattle.jfr_laws.proofs.Listed.{all_each, in_any, in_map, map_in, passes_in}
 use Rattle.jfr_laws.proofs.Rewritten.{new_output_records}
 
 -- Numbered checkpoints that rise from a place do so from an earlier one.
@@ -255,7 +254,7 @@ module _ (p : Parts) (a : AreParts p) (kept : List EventAt) (are : AreEvents p k
 
         by_cause : (r : Framed) → w.output_record ≡ Whole r → In p.records r → (u v : Bool) → is_kept kept r ≡ u → (r.at == metadata_at p.bytes) ≡ v → (u || v) ≡ true → written_anew p kept r ≡ None → (output_records_there f ≡ true) × (new_there f ≡ None)
         by_cause r e o true v x y z n =
-            let t : is_event_class m f.type_id ≡ true = ap (λ z. is_event_class m (frame_by z w.at (length (written_bytes p.bytes remaining w))).type_id) e ∙ (kept_is_event p a kept are good marks b s m suits holds reads r o x).0 in
+            let t : is_event_class m f.type_id ≡ true = ap (λ z. is_event_class m (frame_by z w.at (length (written_bytes p.bytes remaining w))).type_id) e ∙ (kept_is_event p a kept are m suits r o x).0 in
             let u : is_kept (events_of q) f ≡ true = event_kept q valid f listed t in
             (ap (λ z. z || (f.at == metadata_at b)) u, not_metadata t (f.at == metadata_at b) refl)
         by_cause r e o false true x y z n =

@@ -44,6 +44,21 @@ abbrev pub shown_frame : List ℕ → Option (List ℕ) → Framed → ℕ → F
 shown_frame c None f at = copied_to c at f
 shown_frame c (Some x) f at = moved_frame at (own_frame x) (length x)
 
+-- It is written if it is no chained checkpoint.
+pub shown_is : (f : Framed) (o : Option Numbered) (t : Bool) (w : Option (List ℕ)) → o ≡ None → t ≡ true → output_record_by o t w f ≡ Some (shown w f)
+shown_is f None true None e g = refl
+shown_is f None true (Some x) e g = refl
+shown_is f None false w e g = cc
+shown_is f (Some l) t w e g = cc
+
+-- A record at another offset than the first of a list is after it.
+pub after_first : (r f : Framed) (rs : List Framed) → (r.at == f.at) ≡ false → In (r ∷ rs) f → In rs f
+after_first r f rs t (inr j) = j
+after_first r f rs t (inl e) = let u : (r.at == f.at) ≡ true = is_eq r.at f.at (ap (λ (z : Framed). z.at) e) in cc
+
+pub same_test : (x y z : ℕ) → (x == y) ≡ false → z ≡ x → (z == y) ≡ false
+same_test x y z h g = rw g h
+
 module _ (c : List ℕ) (remaining : List EntryAt) (k : Classes) (b : List ℕ) where
   -- The record is at an offset in the output, to which its old offset leads.
   pub record Found (f : Framed) (w : Option (List ℕ)) (at : ℕ) (ws : List Written) : Type 0 where
@@ -74,12 +89,6 @@ module _ (c : List ℕ) (remaining : List EntryAt) (k : Classes) (b : List ℕ) 
         let z : at + n ≤ i.place = i.from in
         record { place = i.place; from = omega arith; held = i.held; leads = rw t i.leads; listed = inr i.listed }
 
-    shown_is : (o : Option Numbered) (t : Bool) (w : Option (List ℕ)) → o ≡ None → t ≡ true → output_record_by o t w f ≡ Some (shown w f)
-    shown_is None true None e g = refl
-    shown_is None true (Some x) e g = refl
-    shown_is None false w e g = cc
-    shown_is (Some l) t w e g = cc
-
     pub found_back : (rs : List Framed) (at : ℕ) (older : Option ℕ) → AllByRecursion (IsRecord c) rs → In rs f → AllByRecursion (IsOutputRecordIn c remaining k) (RecordsAfter rs) → Deltas (is_some older) (RecordsAfter rs)
         → Holds b (length b) at (bytes_from c remaining at older (RecordsAfter rs)) → Found f (new f) at (written c remaining at older (RecordsAfter rs))
     found_back [] at older a i s d h = absurd i
@@ -88,32 +97,25 @@ module _ (c : List ℕ) (remaining : List EntryAt) (k : Classes) (b : List ℕ) 
         Later : Type 0
         Later = (at : ℕ) (older : Option ℕ) → In rs f → AllByRecursion (IsOutputRecordIn c remaining k) (RecordsAfter rs) → Deltas (is_some older) (RecordsAfter rs) → Holds b (length b) at (bytes_from c remaining at older (RecordsAfter rs)) → Found f (new f) at (written c remaining at older (RecordsAfter rs))
 
-        same_test : (x y z : ℕ) → (x == y) ≡ false → z ≡ x → (z == y) ≡ false
-        same_test x y z h g = rw g h
-
-        behind : (r.at == f.at) ≡ false → In (r ∷ rs) f → In rs f
-        behind t (inr j) = j
-        behind t (inl e) = let u : (r.at == f.at) ≡ true = is_eq r.at f.at (ap (λ (z : Framed). z.at) e) in cc
-
         by_place : (t : Bool) → (r.at == f.at) ≡ t → In (r ∷ rs) f → Later → (o : Option OutputRecord) → output_record_in all whole new r ≡ o
             → AllByRecursion (IsOutputRecordIn c remaining k) (cons_option o (RecordsAfter rs)) → Deltas (is_some older) (cons_option o (RecordsAfter rs)) → Holds b (length b) at (bytes_from c remaining at older (cons_option o (RecordsAfter rs)))
             → Found f (new f) at (written c remaining at older (cons_option o (RecordsAfter rs)))
         by_place true t i later o q s d h =
             let p : r.at ≡ f.at = grind (arith, nat_tests) in
             let rf : r ≡ f = record_one c r f a.0 f_is p in
-            let w : output_record_in all whole new f ≡ Some (shown (new f) f) = shown_is (numbered_at all f.at) (whole f) (new f) no_link output_records in
+            let w : output_record_in all whole new f ≡ Some (shown (new f) f) = shown_is f (numbered_at all f.at) (whole f) (new f) no_link output_records in
             let e : o ≡ Some (shown (new f) f) = sym q ∙ (ap (output_record_in all whole new) rf ∙ w) in
             subst (λ z. Found f (new f) at (written c remaining at older (cons_option z (RecordsAfter rs)))) (sym e) (found_here (new f) (RecordsAfter rs) at older (subst (λ z. Holds b (length b) at (bytes_from c remaining at older (cons_option z (RecordsAfter rs)))) e h))
-        by_place false t i later None q s d h = later at older (behind t i) s d h
+        by_place false t i later None q s d h = later at older (after_first r f rs t i) s d h
         by_place false t i later (Some (Whole x)) q s d h =
             let n : ℕ = length (record_bytes c x) in
             let p = holds_parts b (length b) at (record_bytes c x) (bytes_from c remaining (at + n) older (RecordsAfter rs)) h in
-            found_later (new f) (Whole x) (written c remaining (at + n) older (RecordsAfter rs)) at n older (same_test r.at f.at x.at t (output_record_place all whole new r (Whole x) q)) (later (at + n) older (behind t i) s.1 d p.1)
+            found_later (new f) (Whole x) (written c remaining (at + n) older (RecordsAfter rs)) at n older (same_test r.at f.at x.at t (output_record_place all whole new r (Whole x) q)) (later (at + n) older (after_first r f rs t i) s.1 d p.1)
         by_place false t i later (Some (Rebuilt x y)) q s d h =
             let n : ℕ = length y in
             let p = holds_parts b (length b) at y (bytes_from c remaining (at + n) older (RecordsAfter rs)) h in
-            found_later (new f) (Rebuilt x y) (written c remaining (at + n) older (RecordsAfter rs)) at n older (same_test r.at f.at x.at t (output_record_place all whole new r (Rebuilt x y) q)) (later (at + n) older (behind t i) s.1 d p.1)
+            found_later (new f) (Rebuilt x y) (written c remaining (at + n) older (RecordsAfter rs)) at n older (same_test r.at f.at x.at t (output_record_place all whole new r (Rebuilt x y) q)) (later (at + n) older (after_first r f rs t i) s.1 d p.1)
         by_place false t i later (Some (Chained j l)) q s d h =
             let n : ℕ = length (chained_bytes c remaining at older j l) in
             let p = holds_parts b (length b) at (chained_bytes c remaining at older j l) (bytes_from c remaining (at + n) (Some at) (RecordsAfter rs)) h in
-            found_later (new f) (Chained j l) (written c remaining (at + n) (Some at) (RecordsAfter rs)) at n older (same_test r.at f.at l.frame.at t (output_record_place all whole new r (Chained j l) q)) (later (at + n) (Some at) (behind t i) s.1 d.1 p.1)
+            found_later (new f) (Chained j l) (written c remaining (at + n) (Some at) (RecordsAfter rs)) at n older (same_test r.at f.at l.frame.at t (output_record_place all whole new r (Chained j l) q)) (later (at + n) (Some at) (after_first r f rs t i) s.1 d.1 p.1)

@@ -26,15 +26,15 @@ last_from (Some at) [] = at
 last_from older (l ∷ ls) = last_place l ls
 
 -- The older offset, if there is one, is at most this offset.
-abbrev AtMost : Option ℕ → ℕ → Type 0
+abbrev pub AtMost : Option ℕ → ℕ → Type 0
 AtMost None at = ⊤
 AtMost (Some older) at = older ≤ at
 
-at_most_more : (older : Option ℕ) (at n : ℕ) → AtMost older at → AtMost older (at + n)
+pub at_most_more : (older : Option ℕ) (at n : ℕ) → AtMost older at → AtMost older (at + n)
 at_most_more None at n o = tt
 at_most_more (Some z) at n o = omega arith
 
-last_joined : (l : Link) (ls : List Link) → last_from (Some l.frame.at) ls ≡ last_place l ls
+pub last_joined : (l : Link) (ls : List Link) → last_from (Some l.frame.at) ls ≡ last_place l ls
 last_joined l [] = refl
 last_joined l (m ∷ ls) = refl
 

@@ -3,6 +3,7 @@ pub mod Marks
 pub mod InChunk
 pub mod Groups
 pub mod Room
+pub mod PoolBack
 pub mod ReadBack
 pub mod Checkpoints
 pub mod Chains
@@ -28,6 +29,7 @@ pub mod Five
 pub mod AnewLaws
 pub mod Suits
 pub mod Anews
+pub mod Assembled
 pub mod Whole
 pub mod Rebuilt
 pub mod Targets

@@ -29,11 +29,11 @@ abbrev pub Before : Option ℕ → ℕ → Type 0
 Before None at = ⊤
 Before (Some older) at = older < at
 
-before_more : (older : Option ℕ) (at n : ℕ) → Before older at → Before older (at + n)
+pub before_more : (older : Option ℕ) (at n : ℕ) → Before older at → Before older (at + n)
 before_more None at n o = tt
 before_more (Some z) at n o = omega arith
 
-contains_middle : (done : List Framed) (f : Framed) (rest all : List Framed) → all ≡ done ++ (f ∷ rest) → Contains all f
+pub contains_middle : (done : List Framed) (f : Framed) (rest all : List Framed) → all ≡ done ++ (f ∷ rest) → Contains all f
 contains_middle done f rest all e = subst (λ z. Contains z f) (sym e) (in_contains (done ++ (f ∷ rest)) f (in_right done (f ∷ rest) f (inl refl)))
 
 first_equal : (i j : ℕ) (l m : Link) (xs ys : List Numbered) → (i, l) ∷ xs ≡ (j, m) ∷ ys → (i ≡ j) × (xs ≡ ys)

@@ -20,6 +20,7 @@ use Rattle.jfr_pool.specs.declared.entry.EntryAt.{EntryAt}
 use Rattle.jfr_pool.specs.Chains.{head_format}
 use Rattle.jfr_pool.specs.Entries.{inline, Constant, constant_format, PoolAt, pool_format, checkpoint_format}
 use Rattle.jfr_chunk.specs.Written.{Group, entry_bytes, group_bytes, checkpoint_tail, checkpoint_bytes}
+use Rattle.jfr_laws.proofs.PoolBack.{pool_read}
 use Rattle.jfr_laws.proofs.Values.{exact_reads, value_in, value_there}
 use Rattle.jfr_laws.specs.InChunk.{IsEntryIn, IsGroupIn, IsLinkIn}
 
@@ -91,42 +92,12 @@ module _ (c : List ℕ) (k : Classes) (b : List ℕ) (end : ℕ) where
             read (same, refl),
       )
 
-  -- Entries, one after another.
-  entries_read : (es : List EntryAt) (class at : ℕ) → AllByRecursion (λ e. IsEntryIn c k e × (e.class ≡ class)) es → Holds b end at (flat_map (entry_bytes c) es)
-      → Reads (times (length es) (constant_format k class)) b end at (placed_each (entry_bytes c) (placed c k) at es) (at + length (flat_map (entry_bytes c) es))
-  entries_read es class at s h = times_read (constant_format k class) (entry_bytes c) (placed c k) (λ e. IsEntryIn c k e × (e.class ≡ class)) b end one es at s h
-    where
-      one : (e : EntryAt) (at : ℕ) → IsEntryIn c k e × (e.class ≡ class) → Holds b end at (entry_bytes c e) → Reads (constant_format k class) b end at (placed c k at e) (at + length (entry_bytes c e))
-      one e at s h = let l : length (entry_bytes c e) ≡ size_of e = entry_length c k e s.0 in rw l (entry_reads e class at s.0 s.1 h)
-
   -- A pool: its class, its count and its entries.
   group_reads : (g : Group) (at : ℕ) → IsGroupIn c k g → Holds b end at (group_bytes c g) → Reads (pool_format k) b end at (placed_group c k at g) (at + length (group_bytes c g))
-  group_reads g at s h =
-      let n : ℕ = length g.entries in
-      let items : List ℕ = flat_map (entry_bytes c) g.entries in
-      let p = holds_parts b end at (spell g.class) (spell n ++ items) h in
-      let m : ℕ = at + length (spell g.class) in
-      let q = holds_parts b end m (spell n) items p.1 in
-      let o : ℕ = m + length (spell n) in
-      let i = entries_read g.entries g.class o s.1 q.1 in
-      let to : ℕ = at + length (group_bytes c g) in
-      let e : o + length items ≡ to = omega (arith, length-append (spell g.class) (spell n ++ items), length-append (spell n) items) in
-      let xs : List Constant = placed_each (entry_bytes c) (placed c k) o g.entries in (
-        m,
-        g.class,
-        holds_int b end at (spell g.class) g.class p.0 (spell_spells g.class),
-        p.0.within,
-        s.0,
-        (
-          o,
-          n,
-          holds_int b end m (spell n) n q.0 (spell_spells n),
-          q.0.within,
-          refl,
-          reads_then (times n (constant_format k g.class)) (λ constants. Done (record { class = g.class; constants = constants })) b end o xs to (placed_group c k at g) to
-              (subst (Reads (times n (constant_format k g.class)) b end o xs) e i) (refl, refl),
-        ),
-      )
+  group_reads g at s h = pool_read (entry_bytes c) (placed c k) (λ e. IsEntryIn c k e × (e.class ≡ g.class)) k b end g.class at g.entries one s.0 s.1 h
+    where
+      one : (e : EntryAt) (at : ℕ) → IsEntryIn c k e × (e.class ≡ g.class) → Holds b end at (entry_bytes c e) → Reads (constant_format k g.class) b end at (placed c k at e) (at + length (entry_bytes c e))
+      one e at s h = let l : length (entry_bytes c e) ≡ size_of e = entry_length c k e s.0 in rw l (entry_reads e g.class at s.0 s.1 h)
 
   -- Pools, one after another.
   groups_read : (gs : List Group) (at : ℕ) → AllByRecursion (IsGroupIn c k) gs → Holds b end at (flat_map (group_bytes c) gs)

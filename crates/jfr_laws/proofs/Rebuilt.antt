@@ -11,7 +11,6 @@ use Rattle.jfr_layout.specs.Classes.{Classes, is_event_class}
 use Rattle.jfr_frame.specs.Records.{IsRecord, record_end}
 use Rattle.jfr_frame.proofs.RecordLaws.{record_one}
 use Rattle.jfr_value.specs.Values.{Value}
-use Rattle.jfr_value.specs.Reading.{value_format}
 use Rattle.jfr_value.proofs.AgreeLaws.{value_agree}
 use Rattle.jfr_frame.specs.declared.framed.Framed.{Framed}
 use Rattle.jfr_frame.specs.Records.{Tiles}
@@ -30,7 +29,7 @@ use Rattle.jfr_worklist.proofs.Members.{contains_in, in_contains}
 use Rattle.jfr_chunk.proofs.HasNodesLaws.{event_is}
 use Rattle.jfr_chunk.specs.Laws.{AreEvents}
 use Rattle.std.proofs.lemmas.List.Elements.{All-contains}
-use Rattle.jfr_laws.proofs.Listed.{any_in, all_each}
+use Rattle.jfr_laws.proofs.Listed.{any_in}
 use Rattle.jfr_laws.proofs.Suits.{Suits}
 use Rattle.jfr_laws.proofs.Checkpoints.{all_numbers}
 use Rattle.jfr_laws.proofs.Chains.{Linked, linked_chain}
@@ -48,16 +47,16 @@ use Rattle.jfr_laws.proofs.Quiet.{quiet_records}
 use Rattle.jfr_laws.proofs.Kept.{CopiedRecord, fields_back, events_back}
 use Rattle.jfr_laws.proofs.Whole.{shown_body, remaining_of, written_of, is_ready, metadata_found, metadata_new, MetadataReads, Leading}
 
-none_numbered : (xs : List Link) → enumerate_from 0 xs ≡ [] → xs ≡ []
+pub none_numbered : (xs : List Link) → enumerate_from 0 xs ≡ [] → xs ≡ []
 none_numbered [] e = refl
 none_numbered (x ∷ xs) e = cc
 
-some_chain : (c : List ℕ) (rs : List Framed) (at : ℕ) (ls : List Link) → IsChain c rs at ls → reverse ls ≡ [] → ⊥
+pub some_chain : (c : List ℕ) (rs : List Framed) (at : ℕ) (ls : List Link) → IsChain c rs at ls → reverse ls ≡ [] → ⊥
 some_chain c rs at [] h e = h
 some_chain c rs at (l ∷ ls) h e = let i : length (reverse (l ∷ ls)) ≡ length (l ∷ ls) = length-reverse (l ∷ ls) in let j : length (reverse (l ∷ ls)) ≡ 0 = ap length e in omega arith
 
 -- Links, of which there are some, are the chain from the last one on.
-chain_new : (c : List ℕ) (rs : List Framed) (ls : List Link) → (ls ≡ [] → ⊥) → Linked c rs None ls → IsChain c rs (last_from None ls) (reverse ls)
+pub chain_new : (c : List ℕ) (rs : List Framed) (ls : List Link) → (ls ≡ [] → ⊥) → Linked c rs None ls → IsChain c rs (last_from None ls) (reverse ls)
 chain_new c rs [] n h = absurd (n refl)
 chain_new c rs (l ∷ ls) n h = linked_chain c rs l ls h
 
@@ -83,7 +82,7 @@ anew_only p kept r x e = by_test (r.at == metadata_at p.bytes) (rebuilt p kept r
     by_test false o e = cc
 
 -- Those that pass two tests, one of which can be changed.
-same_both : (test one two : Framed → Bool) (rs : List Framed) → ((r : Framed) → In rs r → test r ≡ true → (one r ≡ true) × (two r ≡ true)) → filter test (filter one rs) ≡ filter test (filter two rs)
+pub same_both : (test one two : Framed → Bool) (rs : List Framed) → ((r : Framed) → In rs r → test r ≡ true → (one r ≡ true) × (two r ≡ true)) → filter test (filter one rs) ≡ filter test (filter two rs)
 same_both test one two [] f = refl
 same_both test one two (r ∷ rs) f = by_tests (test r) refl (one r) refl (two r) refl (same_both test one two rs (λ x i t. f x (inr i) t)) (f r (inl refl))
   where
@@ -99,6 +98,17 @@ same_both test one two (r ∷ rs) f = by_tests (test r) refl (one r) refl (two r
     by_tests true e false g true h i f = let z : true ≡ false = sym (f e).0 ∙ g in cc
     by_tests false e true g false h i f = rw e i
     by_tests false e false g true h i f = rw e i
+
+-- A record at the offset of a kept event is that event's, under the chunk's classes and under those that suit it.
+pub kept_is_event : (p : Parts) (a : AreParts p) (kept : List EventAt) → AreEvents p kept → (m : Classes) → Suits p kept m → (r : Framed) → In p.records r → is_kept kept r ≡ true
+    → (is_event_class m r.type_id ≡ true) × (is_event_class p.classes r.type_id ≡ true)
+kept_is_event p a kept are m suits r i t =
+    let e = any_in (λ (e : EventAt). e.record_of.at == r.at) kept t in
+    let v = event_is p a e.0 (contains_in (events_of p) e.0 (All-contains (Contains (events_of p)) kept e.0 are (in_contains kept e.0 e.1))) in
+    let q : e.0.record_of.at ≡ r.at = (let u : (e.0.record_of.at == r.at) ≡ true = e.2 in grind (arith, nat_tests)) in
+    let g : e.0.record_of ≡ r = record_one p.bytes e.0.record_of r (all_in (IsRecord p.bytes) p.records e.0.record_of (recorded p a) v.listed) (all_in (IsRecord p.bytes) p.records r (recorded p a) i) q in
+    let h : is_event_class m r.type_id ≡ true = subst (λ (z : Framed). is_event_class m z.type_id ≡ true) g (suits.event e.0 e.1) in
+    (h, suits.before r.type_id h)
 
 module _ (p : Parts) (a : AreParts p) (kept : List EventAt) (are : AreEvents p kept) (good : GoodAnew p.bytes (written_anew p kept)) (marks : List Bool) (b : List ℕ) (s : Leading p kept marks b) where
   abbrev remaining : List EntryAt
@@ -203,18 +213,8 @@ module _ (p : Parts) (a : AreParts p) (kept : List EventAt) (are : AreEvents p k
         let e : entries_by_number remaining (chained_of (output_records p kept)) ≡ remaining = ap (entries_by_number remaining) r.order ∙ all_numbers p.bytes p.classes marks (reverse p.chain) p.entries a.entries in
         subst (λ z. Each (IsCopy p.bytes b) z (entries p kept marks m)) e same
 
-    -- A record at the offset of a kept event is that event's.
-    pub kept_is_event : (r : Framed) → In p.records r → is_kept kept r ≡ true → (is_event_class m r.type_id ≡ true) × (is_event_class p.classes r.type_id ≡ true)
-    kept_is_event r i t =
-        let e = any_in (λ (e : EventAt). e.record_of.at == r.at) kept t in
-        let v = event_is p a e.0 (contains_in (events_of p) e.0 (All-contains (Contains (events_of p)) kept e.0 are (in_contains kept e.0 e.1))) in
-        let q : e.0.record_of.at ≡ r.at = (let u : (e.0.record_of.at == r.at) ≡ true = e.2 in grind (arith, nat_tests)) in
-        let g : e.0.record_of ≡ r = record_one p.bytes e.0.record_of r (all_in (IsRecord p.bytes) p.records e.0.record_of (recorded p a) v.listed) (all_in (IsRecord p.bytes) p.records r (recorded p a) i) q in
-        let h : is_event_class m r.type_id ≡ true = subst (λ (z : Framed). is_event_class m z.type_id ≡ true) g (suits.event e.0 e.1) in
-        (h, suits.before r.type_id h)
-
     -- The event records are copies of the kept ones.
     pub records_copied : Each (CopiedRecord p.bytes b m) (filter (is_kept kept) (event_records p.classes p.records)) (event_records m rs)
     records_copied =
-        subst (λ z. Each (CopiedRecord p.bytes b m) z (event_records m rs)) (same_both (is_kept kept) (λ r. is_event_class m r.type_id) (λ r. is_event_class p.classes r.type_id) p.records kept_is_event)
+        subst (λ z. Each (CopiedRecord p.bytes b m) z (event_records m rs)) (same_both (is_kept kept) (λ r. is_event_class m r.type_id) (λ r. is_event_class p.classes r.type_id) p.records (kept_is_event p a kept are m suits))
         (events_back p.bytes remaining m b (all_links p) (is_kept kept) (written_anew p kept) (metadata_at p.bytes) (anew_only p kept) p.records 68 None (quiet_records p a m) s.held)

@@ -1,23 +1,24 @@
 -- The output with its header: it is whole, and no longer than the chunk.
-use Rattle.std.specs.Prelude.{◌≡◌, ℕ, ◌+◌, ◌^◌, ◌<◌, ◌≤◌, Bool, true, false, ◌==◌, ◌||◌, List, [], ◌∷◌, ◌++◌, length, Option, Some, None}
+use Rattle.std.specs.Prelude.{◌≡◌, ℕ, ◌+◌, ◌^◌, ◌<◌, ◌≤◌, Bool, true, false, ◌==◌, ◌||◌, List, [], ◌∷◌, length, Option, Some, None}
 use Rattle.std.specs.List.{AllByRecursion}
-use Rattle.std.proofs.Common.{ap, arith, refl, sym, ◌∙◌, length-append}
-use Rattle.jfr_base.proofs.HoldLaws.{Holds, holds_at, holds_after}
+use Rattle.std.proofs.Common.{ap, arith, refl, sym, ◌∙◌}
+use Rattle.jfr_base.proofs.HoldLaws.{Holds}
 use Rattle.jfr_header.specs.Fronts as fronts
 use Rattle.jfr_layout.specs.Classes.{Classes}
 use Rattle.jfr_meta.specs.Body.{Body}
 use Rattle.jfr_meta.specs.Described.{IsMetadata}
 use Rattle.jfr_frame.specs.declared.framed.Framed.{Framed}
-use Rattle.jfr_frame.specs.Records.{IsRecord, record_bytes}
+use Rattle.jfr_frame.specs.Records.{IsRecord}
 use Rattle.jfr_frame.proofs.RecordLaws.{record_one}
 use Rattle.jfr_pool.specs.declared.entry.EntryAt.{EntryAt}
-use Rattle.jfr_chunk.specs.Parts.{Parts, EventAt, AreParts, pools_at, metadata_at}
+use Rattle.jfr_chunk.specs.Parts.{Parts, EventAt, AreParts, metadata_at}
 use Rattle.jfr_chunk.specs.Reach.{marked}
-use Rattle.jfr_chunk.specs.Scrub.{Written, output_records_whole, written_anew, output_records, written, last_at, moved, header_with, assembled}
+use Rattle.jfr_chunk.specs.Scrub.{Written, output_records_whole, written_anew, output_records, written, last_at, moved, assembled}
 use Rattle.jfr_worklist.proofs.Members.{contains_in}
 use Rattle.jfr_chunk.proofs.TestLaws.{is_eq}
 use Rattle.jfr_laws.proofs.Order.{Numbered, numbered_at, found_numbered}
-use Rattle.jfr_laws.proofs.Header.{whole_small, header_length, made_pools, made_metadata, made_whole}
+use Rattle.jfr_laws.proofs.Header.{whole_small}
+use Rattle.jfr_laws.proofs.Assembled.{HeaderLeads, headed_size, headed_held, headed_leads, headed_whole}
 use Rattle.jfr_laws.proofs.OutputRecords.{bytes_from}
 use Rattle.jfr_laws.proofs.Lengths.{length_back, last_bound, sizes_within}
 use Rattle.jfr_chunk.specs.Metas.{slim_of}
@@ -26,7 +27,7 @@ use Rattle.jfr_laws.proofs.Found.{Found, found_back, shown_bytes, shown_frame}
 use Rattle.jfr_laws.proofs.Premises.{all_links, IsCheckpoint, GoodAnew, Ready, recorded, metadata_stands, chained_checkpoints, ready}
 use Rattle.jfr_laws.proofs.Chosen.{is_kept}
 
-only_records : (c : List ℕ) (ts : List Numbered) → AllByRecursion (IsCheckpoint c) ts → AllByRecursion (λ m. IsRecord c m.1.frame) ts
+pub only_records : (c : List ℕ) (ts : List Numbered) → AllByRecursion (IsCheckpoint c) ts → AllByRecursion (λ m. IsRecord c m.1.frame) ts
 only_records c [] a = tt
 only_records c (t ∷ ts) a = (a.0.0, only_records c ts a.1)
 
@@ -35,7 +36,7 @@ or_right true y h = refl
 or_right false y h = h
 
 -- No chained checkpoint is at the offset of a record of type 0.
-no_link_at : (c : List ℕ) (all : List Numbered) (f : Framed) → AllByRecursion (IsCheckpoint c) all → IsRecord c f → f.type_id ≡ 0 → numbered_at all f.at ≡ None
+pub no_link_at : (c : List ℕ) (all : List Numbered) (f : Framed) → AllByRecursion (IsCheckpoint c) all → IsRecord c f → f.type_id ≡ 0 → numbered_at all f.at ≡ None
 no_link_at c all f a s t = by_find (numbered_at all f.at) refl
   where
     by_find : (o : Option Numbered) → numbered_at all f.at ≡ o → o ≡ None
@@ -80,27 +81,15 @@ module _ (p : Parts) (kept : List EventAt) (marks : List Bool) where
   metadata_of = moved written_of (metadata_at p.bytes)
 
   -- The output is in bytes after a header that leads to it.
-  pub record Leading (b : List ℕ) : Type 0 where
-    pub held : Holds b (length b) 68 body_of
-    pub size : length b ≡ 68 + length body_of
-    pub pools : pools_at b ≡ last_of
-    pub metadata : metadata_at b ≡ metadata_of
+  abbrev pub Leading : List ℕ → Type 0
+  Leading = HeaderLeads body_of last_of metadata_of
 
   -- The chunk of it.
   abbrev pub out : List ℕ
   out = assembled p (remaining_of p marks) (output_records p kept)
 
-  abbrev header : List ℕ
-  header = header_with p.bytes (68 + length body_of) last_of metadata_of
-
-  header_is_long : length header ≡ 68
-  header_is_long = header_length p.bytes (68 + length body_of) last_of metadata_of
-
   out_size : length out ≡ 68 + length body_of
-  out_size = let l : length (header ++ body_of) ≡ length header + length body_of = length-append header body_of in omega (arith, header_is_long)
-
-  out_held : Holds out (length out) 68 body_of
-  out_held = holds_at out (length out) (length header) 68 body_of header_is_long (holds_after header body_of)
+  out_size = headed_size p.bytes body_of last_of metadata_of
 
   module _ (a : AreParts p) (good : GoodAnew p.bytes (written_anew p kept)) where
     pub is_ready : Ready p (remaining_of p marks) (output_records p kept)
@@ -130,16 +119,11 @@ module _ (p : Parts) (kept : List EventAt) (marks : List Bool) where
 
       pub out_leading : Leading out
       out_leading =
-          let f = metadata_found out out_held in
+          let f = metadata_found out (headed_held p.bytes body_of last_of metadata_of) in
           let m : metadata_of ≡ f.place = ap (moved written_of) (sym a.metadata_there.place) ∙ f.leads in
           let w : f.place + length (shown_bytes p.bytes (metadata_new p kept a) a.metadata_record) ≤ length out = f.held.within in
           let l = last_bound p.bytes (remaining_of p marks) (output_records p kept) 68 None tt in
-          record {
-            held = out_held;
-            size = out_size;
-            pools = made_pools p.bytes body_of (68 + length body_of) last_of metadata_of (omega (arith, l, body_fits, small));
-            metadata = made_metadata p.bytes body_of (68 + length body_of) last_of metadata_of (omega (arith, m, w, out_shorter, small));
-          }
+          headed_leads p.bytes body_of last_of metadata_of (omega (arith, l, body_fits, small)) (omega (arith, m, w, out_shorter, small))
 
       pub out_whole : fronts.Whole out
-      out_whole = made_whole p.bytes body_of (68 + length body_of) last_of metadata_of whole (sym out_size) (omega (arith, body_fits, small))
+      out_whole = headed_whole p.bytes body_of last_of metadata_of whole (omega (arith, body_fits, small))

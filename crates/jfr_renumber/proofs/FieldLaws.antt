@@ -1,13 +1,12 @@
 -- Fields, one after another, with new keys.
 use Rattle.std.specs.Prelude.{◌≡◌, ℕ, zero, suc, ◌+◌, ◌-◌, ◌<◌, ◌≤◌, Bool, true, false, List, [], ◌∷◌, ◌++◌, length, map, slice_get, slice_index, slice_range, Some, IfSome, IsSome, if◌then◌else◌}
 use Rattle.std.specs.Option.{option_map_or}
-use Rattle.std.proofs.Common.{ap, append-nil, arith, length-append, refl, sym, subst, ◌∙◌, inl, inr}
+use Rattle.std.proofs.Common.{ap, append-nil, arith, length-append, refl, sym, subst, ◌∙◌}
 use Rattle.std.specs.List.{AllByRecursion}
 use Rattle.std.proofs.lemmas.List.{append_assoc, length-map}
 use Rattle.jfr_base.specs.declared.integer.Var.{Var}
-use Rattle.jfr_base.specs.Integer.{IntAt, Spells, spell}
+use Rattle.jfr_base.specs.Integer.{spell}
 use Rattle.jfr_base.specs.Formats.{int_at}
-use Rattle.jfr_base.proofs.OneAnswer.{int_computed}
 use Rattle.jfr_base.proofs.Ranges.{range_length, range_one}
 use Rattle.jfr_base.proofs.Shorts.{one_byte}
 use Rattle.jfr_base.proofs.RunLaws.{stands_split}
@@ -17,11 +16,11 @@ use Rattle.jfr_layout.specs.declared.kind.Kind.{Kind}
 use Rattle.jfr_layout.specs.declared.kind.Kind.TheVariants as kinds
 use Rattle.jfr_layout.specs.declared.shape.Shape.{Shape}
 use Rattle.jfr_layout.specs.declared.field_layout.FieldLayout.{FieldLayout}
-use Rattle.jfr_value.specs.declared.leaf.LeafKind.TheVariants as leaf_kinds
-use Rattle.jfr_value.specs.Values.{Value, Values, Single, Group, Nil, Cons, bytes_of, bytes_of_all, shape_of, shapes_of, IsBase, IsHead, IsSingle}
+use Rattle.jfr_value.specs.Values.{Value, Values, Nil, Cons, bytes_of, bytes_of_all, shape_of, shapes_of}
 use Rattle.jfr_value.specs.Nodes.{EndsAt, IsNode, AreValues, NodeAt, node_at}
 use Rattle.jfr_value.proofs.ChildLaws.{inline_known}
 use Rattle.jfr_value.proofs.LayoutLaws.{layout_class}
+use Rattle.jfr_value.proofs.NodeForms.{fields_form, key_form}
 use Rattle.jfr_value.proofs.NodeLaws.{value_is}
 use Rattle.jfr_value.proofs.RowLaws.{row_stands, start_of}
 use Rattle.jfr_renumber.specs.Fields.{rekeyed_first}
@@ -79,29 +78,7 @@ pub record RowOf (new : ℕ × ℕ → ℕ) (k : Classes) (c : List ℕ) (n : No
   pub bytes : bytes_of (rekeyed new v) ≡ bytes_of_all (rekeyed_all new parts)
 
 pub row_of : (new : ℕ × ℕ → ℕ) (k : Classes) (c : List ℕ) (n : NodeAt) (v : Value) (d : Class) → IsNode k c n v → n.shape.array ≡ false → n.shape.constant ≡ false → find_class k n.shape.class ≡ Some d → kind_of d.name ≡ kinds.Composite → RowOf new k c n v d.fields
-row_of new k c n v d i a o q m = by_value v i
-  where
-    by_value : (v : Value) → IsNode k c n v → RowOf new k c n v d.fields
-    by_value (Single s kind b key) i = by_case i.fits
-      where
-        by_case : IsSingle k s kind b key → RowOf new k c n (Single s kind b key) d.fields
-        by_case (inl p) = let e : n.shape ≡ s = i.shape in let z : n.shape.constant ≡ true = ap (λ (z : Shape). z.constant) e ∙ p.1 in cc
-        by_case (inr p) =
-            let e : n.shape ≡ s = i.shape in
-            let f : p.2 ≡ d = (let x : find_class k n.shape.class ≡ Some p.2 = ap (λ (z : Shape). find_class k z.class) e ∙ p.3 in cc) in
-            absurd (subst (λ z. IsBase z b key) (ap (λ (z : Class). kind_of z.name) f ∙ m) p.5)
-    by_value (Group s h vs) i = by_case i.fits.0
-      where
-        by_case : IsHead k s h (shapes_of vs) → RowOf new k c n (Group s h vs) d.fields
-        by_case (inl p) = let e : n.shape ≡ s = i.shape in let z : n.shape.array ≡ true = ap (λ (z : Shape). z.array) e ∙ p.0 in cc
-        by_case (inr p) =
-            let e : n.shape ≡ s = i.shape in
-            let f : p.2 ≡ d = (let x : find_class k n.shape.class ≡ Some p.2 = ap (λ (z : Shape). find_class k z.class) e ∙ p.3 in cc) in
-            record {
-              parts = vs;
-              row = record { order = i.order; within = i.within; bytes = i.bytes ∙ ap (λ y. y ++ bytes_of_all vs) p.5; fit = i.fits.1; of_shapes = p.6 ∙ ap (λ (z : Class). map (λ f. f.shape) z.fields) f };
-              bytes = ap (λ y. y ++ bytes_of_all (rekeyed_all new vs)) p.5;
-            }
+row_of new k c n v d i a o q m = let f = fields_form k c n.at n.end n.shape v d i a o q m in record { parts = f.parts; row = f.row; bytes = ap (λ z. bytes_of (rekeyed new z)) f.value }
 
 -- A reference: its key, and the bytes of its new key.
 pub record KeyField (new : ℕ × ℕ → ℕ) (c : List ℕ) (at to end : ℕ) (s : Shape) (v : Value) : Type 0 where
@@ -110,22 +87,7 @@ pub record KeyField (new : ℕ × ℕ → ℕ) (c : List ℕ) (at to end : ℕ) 
   pub bytes : bytes_of (rekeyed new v) ≡ spell (new (s.class, key))
 
 pub key_field : (new : ℕ × ℕ → ℕ) (k : Classes) (c : List ℕ) (at to end : ℕ) (s : Shape) (v : Value) → to ≤ end → end ≤ length c → IsNode k c (node_at s at to) v → s.array ≡ false → s.constant ≡ true → KeyField new c at to end s v
-key_field new k c at to end s (Single t kind b key) l w i a o = by_case i.fits
-  where
-    by_case : IsSingle k t kind b key → KeyField new c at to end s (Single t kind b key)
-    by_case (inl p) =
-        let n : IntAt c at to p.2 = record { order = i.order; within = i.within; spelled = subst (λ z. Spells z p.2) (sym i.bytes) p.3 } in
-        record {
-          key = p.2;
-          found = int_computed c at end to p.2 (let r = i.order in omega arith) w n l;
-          bytes = ap (λ z. bytes_of (rekeyed new (Single t z b key))) p.4 ∙ (ap (λ z. bytes_of (rekeyed new (Single t (leaf_kinds.Key p.2) b z))) p.5 ∙ ap (λ (z : Shape). spell (new (z.class, p.2))) (sym i.shape));
-        }
-    by_case (inr p) = let z : t.constant ≡ true = ap (λ (z : Shape). z.constant) (sym i.shape) ∙ o in let y = p.1 in cc
-key_field new k c at to end s (Group t h vs) l w i a o = by_case i.fits.0
-  where
-    by_case : IsHead k t h (shapes_of vs) → KeyField new c at to end s (Group t h vs)
-    by_case (inl p) = let z : t.array ≡ false = ap (λ (z : Shape). z.array) (sym i.shape) ∙ a in let y = p.0 in cc
-    by_case (inr p) = let z : t.constant ≡ true = ap (λ (z : Shape). z.constant) (sym i.shape) ∙ o in let y = p.1 in cc
+key_field new k c at to end s v l w i a o = let f = key_form k c at to s end l w v i a o in record { key = f.key; found = f.found; bytes = ap (λ z. bytes_of (rekeyed new z)) f.value }
 
 -- What a layout's form says of its shape.
 pub key_shape : (s : Shape) (kind : Kind) → forms.Key ≡ form_of s kind → (s.array ≡ false) × (s.constant ≡ true)

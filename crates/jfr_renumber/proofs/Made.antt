@@ -1,5 +1,5 @@
 -- Output records that are written one after another, given the bytes of each: if each is read back, all are.
-use Rattle.std.specs.Prelude.{◌≡◌, ℕ, ◌+◌, ◌^◌, ◌<◌, ◌≤◌, ◌==◌, Bool, true, false, List, [], ◌∷◌, ◌++◌, length, map, Option, Some, None, is_some, Contains, ⊤}
+use Rattle.std.specs.Prelude.{◌≡◌, ℕ, ◌+◌, ◌^◌, ◌<◌, ◌≤◌, ◌==◌, Bool, true, false, List, [], ◌∷◌, ◌++◌, length, map, Option, Some, None, is_some}
 use Rattle.std.specs.List.{flat_map, AllByRecursion, cons_option}
 use Rattle.std.proofs.Common.{ap, arith, refl, sym, ◌∙◌, subst, inl, inr, append_assoc, length-append}
 use Rattle.std.proofs.lemmas.Bool.Decides.{nat_tests}
@@ -14,37 +14,17 @@ use Rattle.jfr_pool.specs.declared.entry.EntryAt.{EntryAt}
 use Rattle.jfr_pool.specs.Chains.{head_format}
 use Rattle.jfr_pool.specs.Entries.{AreEntries, PoolAt, checkpoint_format, entries_from}
 use Rattle.jfr_chunk.specs.Written.{distance}
-use Rattle.jfr_chunk.specs.Scrub.{OutputRecord, Whole, Chained, Rebuilt, Written, last_at, moved, older_after, output_record_by, record_of}
+use Rattle.jfr_chunk.specs.Scrub.{OutputRecord, Whole, Chained, Rebuilt, Written, last_at, moved, older_after, record_of}
 use Rattle.jfr_worklist.specs.Members.{In}
-use Rattle.jfr_worklist.proofs.Members.{in_contains, in_right}
 use Rattle.jfr_chunk.proofs.TestLaws.{is_eq}
 use Rattle.jfr_laws.proofs.ReadBack.{moved_frame, moved_link}
-use Rattle.jfr_laws.proofs.Chains.{LeadsTo, Linked, step_delta, last_place}
+use Rattle.jfr_laws.proofs.Chains.{LeadsTo, Linked, step_delta}
 use Rattle.jfr_laws.proofs.Order.{Numbered, numbered_at, output_record_in, output_records_in, chained_of}
 use Rattle.jfr_laws.proofs.OutputRecords.{Deltas, frame_by, own_frame}
-use Rattle.jfr_laws.proofs.Output.{Before}
-use Rattle.jfr_laws.proofs.Lengths.{sizes, last_from}
-use Rattle.jfr_laws.proofs.Found.{output_record_place, shown}
+use Rattle.jfr_laws.proofs.Output.{Before, before_more, contains_middle}
+use Rattle.jfr_laws.proofs.Lengths.{AtMost, sizes, at_most_more, last_from, last_joined}
+use Rattle.jfr_laws.proofs.Found.{after_first, output_record_place, same_test, shown, shown_is}
 use Rattle.jfr_renumber.specs.Renumber.{written_by, bytes_by}
-
-before_more : (older : Option ℕ) (at n : ℕ) → Before older at → Before older (at + n)
-before_more None at n o = tt
-before_more (Some z) at n o = omega arith
-
-contains_middle : (done : List Framed) (f : Framed) (rest all : List Framed) → all ≡ done ++ (f ∷ rest) → Contains all f
-contains_middle done f rest all e = subst (λ z. Contains z f) (sym e) (in_contains (done ++ (f ∷ rest)) f (in_right done (f ∷ rest) f (inl refl)))
-
-abbrev AtMost : Option ℕ → ℕ → Type 0
-AtMost None at = ⊤
-AtMost (Some older) at = older ≤ at
-
-at_most_more : (older : Option ℕ) (at n : ℕ) → AtMost older at → AtMost older (at + n)
-at_most_more None at n o = tt
-at_most_more (Some z) at n o = omega arith
-
-last_joined : (l : Link) (ls : List Link) → last_from (Some l.frame.at) ls ≡ last_place l ls
-last_joined l [] = refl
-last_joined l (m ∷ ls) = refl
 
 module _ (k : Classes) (bytes : OutputRecord → ℕ → Option ℕ → List ℕ) (pools : ℕ → Option ℕ → ℕ → Link → List PoolAt) where
   -- The bytes of all.
@@ -252,12 +232,6 @@ module _ (k : Classes) (bytes : OutputRecord → ℕ → Option ℕ → List ℕ
           let z : at + n ≤ i.place = i.from in
           record { place = i.place; older = i.older; from = omega arith; held = i.held; leads = rw t i.leads; listed = inr i.listed }
 
-      shown_is : (o : Option Numbered) (t : Bool) (w : Option (List ℕ)) → o ≡ None → t ≡ true → output_record_by o t w f ≡ Some (shown w f)
-      shown_is None true None e g = refl
-      shown_is None true (Some x) e g = refl
-      shown_is None false w e g = cc
-      shown_is (Some l) t w e g = cc
-
       pub found_made : (rs : List Framed) (at : ℕ) (older : Option ℕ) → AllByRecursion (IsRecord c) rs → In rs f → Holds b (length b) at (bytes_from at older (RecordsAfter rs)) → Found f (new f) at (written_by bytes at older (RecordsAfter rs))
       found_made [] at older a i h = absurd i
       found_made (r ∷ rs) at older a i h = by_place (r.at == f.at) refl i (λ at older i h. found_made rs at older a.1 i h) (output_record_in all whole new r) refl h
@@ -265,31 +239,24 @@ module _ (k : Classes) (bytes : OutputRecord → ℕ → Option ℕ → List ℕ
           Later : Type 0
           Later = (at : ℕ) (older : Option ℕ) → In rs f → Holds b (length b) at (bytes_from at older (RecordsAfter rs)) → Found f (new f) at (written_by bytes at older (RecordsAfter rs))
 
-          same_test : (x y z : ℕ) → (x == y) ≡ false → z ≡ x → (z == y) ≡ false
-          same_test x y z h g = rw g h
-
-          behind : (r.at == f.at) ≡ false → In (r ∷ rs) f → In rs f
-          behind t (inr j) = j
-          behind t (inl e) = let u : (r.at == f.at) ≡ true = is_eq r.at f.at (ap (λ (z : Framed). z.at) e) in cc
-
           by_place : (t : Bool) → (r.at == f.at) ≡ t → In (r ∷ rs) f → Later → (o : Option OutputRecord) → output_record_in all whole new r ≡ o
               → Holds b (length b) at (bytes_from at older (cons_option o (RecordsAfter rs))) → Found f (new f) at (written_by bytes at older (cons_option o (RecordsAfter rs)))
           by_place true t i later o q h =
               let p : r.at ≡ f.at = grind (arith, nat_tests) in
               let rf : r ≡ f = record_one c r f a.0 f_is p in
-              let w : output_record_in all whole new f ≡ Some (shown (new f) f) = shown_is (numbered_at all f.at) (whole f) (new f) no_link chosen in
+              let w : output_record_in all whole new f ≡ Some (shown (new f) f) = shown_is f (numbered_at all f.at) (whole f) (new f) no_link chosen in
               let e : o ≡ Some (shown (new f) f) = sym q ∙ (ap (output_record_in all whole new) rf ∙ w) in
               subst (λ z. Found f (new f) at (written_by bytes at older (cons_option z (RecordsAfter rs)))) (sym e) (found_here (new f) (RecordsAfter rs) at older (subst (λ z. Holds b (length b) at (bytes_from at older (cons_option z (RecordsAfter rs)))) e h))
-          by_place false t i later None q h = later at older (behind t i) h
+          by_place false t i later None q h = later at older (after_first r f rs t i) h
           by_place false t i later (Some (Whole x)) q h =
               let n : ℕ = length (bytes (Whole x) at older) in
               let p = holds_parts b (length b) at (bytes (Whole x) at older) (bytes_from (at + n) older (RecordsAfter rs)) h in
-              found_later (new f) (Whole x) (written_by bytes (at + n) older (RecordsAfter rs)) at n older (same_test r.at f.at x.at t (output_record_place all whole new r (Whole x) q)) (later (at + n) older (behind t i) p.1)
+              found_later (new f) (Whole x) (written_by bytes (at + n) older (RecordsAfter rs)) at n older (same_test r.at f.at x.at t (output_record_place all whole new r (Whole x) q)) (later (at + n) older (after_first r f rs t i) p.1)
           by_place false t i later (Some (Rebuilt x y)) q h =
               let n : ℕ = length (bytes (Rebuilt x y) at older) in
               let p = holds_parts b (length b) at (bytes (Rebuilt x y) at older) (bytes_from (at + n) older (RecordsAfter rs)) h in
-              found_later (new f) (Rebuilt x y) (written_by bytes (at + n) older (RecordsAfter rs)) at n older (same_test r.at f.at x.at t (output_record_place all whole new r (Rebuilt x y) q)) (later (at + n) older (behind t i) p.1)
+              found_later (new f) (Rebuilt x y) (written_by bytes (at + n) older (RecordsAfter rs)) at n older (same_test r.at f.at x.at t (output_record_place all whole new r (Rebuilt x y) q)) (later (at + n) older (after_first r f rs t i) p.1)
           by_place false t i later (Some (Chained j l)) q h =
               let n : ℕ = length (bytes (Chained j l) at older) in
               let p = holds_parts b (length b) at (bytes (Chained j l) at older) (bytes_from (at + n) (Some at) (RecordsAfter rs)) h in
-              found_later (new f) (Chained j l) (written_by bytes (at + n) (Some at) (RecordsAfter rs)) at n older (same_test r.at f.at l.frame.at t (output_record_place all whole new r (Chained j l) q)) (later (at + n) (Some at) (behind t i) p.1)
+              found_later (new f) (Chained j l) (written_by bytes (at + n) (Some at) (RecordsAfter rs)) at n older (same_test r.at f.at l.frame.at t (output_record_place all whole new r (Chained j l) q)) (later (at + n) (Some at) (after_first r f rs t i) p.1)

@@ -1,18 +1,18 @@
 -- The parts of the output with new keys are those of its bytes.
-use Rattle.std.specs.Prelude.{◌≡◌, ℕ, ◌+◌, ◌-◌, ◌^◌, ◌<◌, ◌≤◌, ◌==◌, ◌||◌, Bool, true, false, List, [], ◌∷◌, ◌++◌, length, map, filter, find, reverse, slice_range, Option, Some, None, Ok, Err, cond, Contains}
-use Rattle.std.specs.List.{AllByRecursion, enumerate_from}
-use Rattle.std.proofs.Common.{ap, arith, refl, sym, ◌∙◌, subst, inl, inr, length-append}
-use Rattle.std.proofs.lemmas.List.{length-reverse, reverse-reverse}
+use Rattle.std.specs.Prelude.{◌≡◌, ℕ, ◌+◌, ◌-◌, ◌^◌, ◌<◌, ◌≤◌, ◌==◌, Bool, true, false, List, [], ◌∷◌, length, map, filter, find, reverse, slice_range, Option, Some, None, Ok, Err, Contains}
+use Rattle.std.specs.List.{AllByRecursion}
+use Rattle.std.proofs.Common.{ap, arith, refl, sym, ◌∙◌, subst, inl, inr}
+use Rattle.std.proofs.lemmas.List.{reverse-reverse}
 use Rattle.std.proofs.lemmas.List.Elements.{All-from_recursion, All-contains}
 use Rattle.jfr_base.specs.Formats.{Answer, Reads, run}
 use Rattle.jfr_base.proofs.AlikeLaws.{Each}
-use Rattle.jfr_base.proofs.HoldLaws.{Holds, holds_at, holds_after}
+use Rattle.jfr_base.proofs.HoldLaws.{Holds}
 use Rattle.jfr_base.proofs.OneAnswer.{has_one_answer}
 use Rattle.jfr_layout.specs.Classes.{Agree, Classes, is_event_class}
 use Rattle.jfr_header.specs.Fronts as fronts
 use Rattle.jfr_frame.specs.declared.framed.Framed.{Framed}
-use Rattle.jfr_frame.specs.Records.{IsRecord, Rising, Tiles, record_end}
-use Rattle.jfr_frame.proofs.RecordLaws.{record_one, rising_of}
+use Rattle.jfr_frame.specs.Records.{Rising, Tiles, record_end}
+use Rattle.jfr_frame.proofs.RecordLaws.{rising_of}
 use Rattle.jfr_meta.specs.Body.{Body}
 use Rattle.jfr_meta.specs.Described.{IsMetadata}
 use Rattle.jfr_value.specs.Values.{Value, bytes_of}
@@ -23,25 +23,23 @@ use Rattle.jfr_pool.specs.Chains.{IsChain}
 use Rattle.jfr_pool.specs.Entries.{AreEntries, PoolAt, inline}
 use Rattle.jfr_chunk.specs.Parts.{Parts, EventAt, HasFields, event_by, event_of, event_records, events_of, AreParts, StartsAt, pools_at, metadata_at}
 use Rattle.jfr_chunk.specs.Reach.{kept_by, marked}
-use Rattle.jfr_chunk.specs.Scrub.{OutputRecord, Written, last_at, moved, header_with, output_records_whole, written_anew}
+use Rattle.jfr_chunk.specs.Scrub.{OutputRecord, Written, last_at, moved, output_records_whole, written_anew}
 use Rattle.jfr_worklist.specs.Members.{In}
 use Rattle.jfr_worklist.proofs.Members.{contains_in, in_contains}
 use Rattle.jfr_chunk.proofs.AllLaws.{in_filter_map}
 use Rattle.jfr_chunk.proofs.TestLaws.{is_eq}
 use Rattle.jfr_chunk.proofs.HasNodesLaws.{has_nodes, event_is}
-use Rattle.jfr_laws.proofs.Chains.{Linked, linked_chain}
 use Rattle.jfr_laws.proofs.OutputRecords.{frame_by}
 use Rattle.jfr_laws.proofs.Found.{shown, shown_bytes, shown_frame}
-use Rattle.jfr_laws.proofs.Whole.{metadata_new}
+use Rattle.jfr_laws.proofs.Whole.{metadata_new, no_link_at, only_records, or_right}
+use Rattle.jfr_laws.proofs.Rebuilt.{chain_new, kept_is_event, none_numbered, same_both, some_chain}
 use Rattle.jfr_laws.proofs.Anews.{Anew}
-use Rattle.jfr_laws.proofs.Listed.{any_in}
-use Rattle.jfr_chunk.proofs.AllLaws.{all_in}
-use Rattle.std.proofs.lemmas.Bool.Decides.{nat_tests}
+use Rattle.jfr_laws.proofs.Listed.{in_passes}
 use Rattle.jfr_laws.proofs.ReadBack.{moved_frame}
 use Rattle.jfr_laws.proofs.Lengths.{last_from, sizes_within}
-use Rattle.jfr_laws.proofs.Order.{Numbered, numbered_at, found_numbered}
-use Rattle.jfr_laws.proofs.Header.{whole_small, header_length, made_pools, made_metadata, made_whole}
-use Rattle.jfr_laws.proofs.Premises.{all_links, IsCheckpoint, recorded, metadata_stands, chained_checkpoints}
+use Rattle.jfr_laws.proofs.Header.{whole_small}
+use Rattle.jfr_laws.proofs.Assembled.{HeaderLeads, headed_held, headed_leads, headed_size, headed_whole}
+use Rattle.jfr_laws.proofs.Premises.{all_links, recorded, metadata_stands, chained_checkpoints}
 use Rattle.jfr_laws.proofs.Quiet.{no_metadata_event, quiet_records}
 use Rattle.jfr_laws.proofs.Passing.{clash, filter_both}
 use Rattle.jfr_laws.proofs.Chosen.{is_kept, records_of, chosen_records, rising_filter}
@@ -58,66 +56,7 @@ use Rattle.jfr_renumber.proofs.NewOutput.{kept, remaining, bytes, pools, ss, ord
 use Rattle.jfr_renumber.proofs.NewEvents.{NewEvent, events_each}
 use Rattle.jfr_renumber.proofs.RecordBack.{fields_are}
 
-pub or_second : (x y : Bool) → y ≡ true → (x || y) ≡ true
-or_second true y h = refl
-or_second false y h = h
-
-pub no_link_at : (c : List ℕ) (all : List Numbered) (f : Framed) → AllByRecursion (IsCheckpoint c) all → IsRecord c f → f.type_id ≡ 0 → numbered_at all f.at ≡ None
-no_link_at c all f a s t = by_find (numbered_at all f.at) refl
-  where
-    by_find : (o : Option Numbered) → numbered_at all f.at ≡ o → o ≡ None
-    by_find None g = refl
-    by_find (Some x) g =
-        let h = found_numbered (IsCheckpoint c) all f.at x a g in
-        let j : x.1.frame ≡ f = record_one c x.1.frame f h.0.0 s h.1 in
-        let n : x.1.frame.type_id ≡ f.type_id = ap (λ (z : Framed). z.type_id) j in
-        let o : x.1.frame.type_id ≡ 1 = h.0.1 in
-        absurd (omega arith)
-
-only_records : (c : List ℕ) (ts : List Numbered) → AllByRecursion (IsCheckpoint c) ts → AllByRecursion (λ m. IsRecord c m.1.frame) ts
-only_records c [] a = tt
-only_records c (t ∷ ts) a = (a.0.0, only_records c ts a.1)
-
-none_numbered : (xs : List Link) → enumerate_from 0 xs ≡ [] → xs ≡ []
-none_numbered [] e = refl
-none_numbered (x ∷ xs) e = cc
-
-some_chain : (c : List ℕ) (rs : List Framed) (at : ℕ) (ls : List Link) → IsChain c rs at ls → reverse ls ≡ [] → ⊥
-some_chain c rs at [] h e = h
-some_chain c rs at (l ∷ ls) h e = let i : length (reverse (l ∷ ls)) ≡ length (l ∷ ls) = length-reverse (l ∷ ls) in let j : length (reverse (l ∷ ls)) ≡ 0 = ap length e in omega arith
-
-chain_new : (c : List ℕ) (rs : List Framed) (ls : List Link) → (ls ≡ [] → ⊥) → Linked c rs None ls → IsChain c rs (last_from None ls) (reverse ls)
-chain_new c rs [] n h = absurd (n refl)
-chain_new c rs (l ∷ ls) n h = linked_chain c rs l ls h
-
 -- An event is that of its record, which is of an event class.
-passes : {X : Type 0} (test : X → Bool) (xs : List X) (x : X) → In (filter test xs) x → test x ≡ true
-passes test [] x i = absurd i
-passes {X = X} test (y ∷ xs) x i = by_test (test y) refl i (passes test xs x)
-  where
-    by_test : (t : Bool) → test y ≡ t → In (cond t (y ∷ filter test xs) (filter test xs)) x → (In (filter test xs) x → test x ≡ true) → test x ≡ true
-    by_test true q (inl e) f = ap test (sym e) ∙ q
-    by_test true q (inr j) f = f j
-    by_test false q j f = f j
-
--- Those that pass two tests, one of which can be changed.
-same_both : (test one two : Framed → Bool) (rs : List Framed) → ((r : Framed) → In rs r → test r ≡ true → (one r ≡ true) × (two r ≡ true)) → filter test (filter one rs) ≡ filter test (filter two rs)
-same_both test one two [] f = refl
-same_both test one two (r ∷ rs) f = by_tests (test r) refl (one r) refl (two r) refl (same_both test one two rs (λ x i t. f x (inr i) t)) (f r (inl refl))
-  where
-    by_tests : (t : Bool) → test r ≡ t → (u : Bool) → one r ≡ u → (v : Bool) → two r ≡ v → filter test (filter one rs) ≡ filter test (filter two rs) → (test r ≡ true → (one r ≡ true) × (two r ≡ true))
-        → filter test (cond u (r ∷ filter one rs) (filter one rs)) ≡ filter test (cond v (r ∷ filter two rs) (filter two rs))
-    by_tests t e true g true h i f = by_first (test r)
-      where
-        by_first : (t : Bool) → cond t (r ∷ filter test (filter one rs)) (filter test (filter one rs)) ≡ cond t (r ∷ filter test (filter two rs)) (filter test (filter two rs))
-        by_first true = ap (λ z. r ∷ z) i
-        by_first false = i
-    by_tests t e false g false h i f = i
-    by_tests true e true g false h i f = let z : true ≡ false = sym (f e).1 ∙ h in cc
-    by_tests true e false g true h i f = let z : true ≡ false = sym (f e).0 ∙ g in cc
-    by_tests false e true g false h i f = rw e i
-    by_tests false e false g true h i f = rw e i
-
 pub record Computed (p : Parts) (e : EventAt) : Type 0 where
   pub class : is_event_class p.classes e.record_of.type_id ≡ true
   pub is : event_of p.bytes p.classes e.record_of ≡ Some e
@@ -126,7 +65,7 @@ pub computed : (p : Parts) (e : EventAt) → In (events_of p) e → Computed p e
 unfolding events_of
 computed p e i =
     let r = in_filter_map (event_of p.bytes p.classes) (event_records p.classes p.records) e i in
-    by_answer r.0 (passes (λ r. is_event_class p.classes r.type_id) p.records r.0 r.1) (run (value_format p.classes (inline r.0.type_id)) p.bytes (record_end r.0) r.0.body) refl r.2
+    by_answer r.0 (in_passes (λ r. is_event_class p.classes r.type_id) p.records r.0 r.1) (run (value_format p.classes (inline r.0.type_id)) p.bytes (record_end r.0) r.0.body) refl r.2
   where
     by_answer : (r : Framed) → is_event_class p.classes r.type_id ≡ true → (o : Answer Value) → run (value_format p.classes (inline r.type_id)) p.bytes (record_end r) r.body ≡ o → event_by r o ≡ Some e → Computed p e
     by_answer r t (Err f) q h = cc
@@ -195,34 +134,25 @@ module _ (p : Parts) (a : AreParts p) (flags : List Bool) (n : Anew p a (kept_by
   metadata_framed None at = refl
   metadata_framed (Some x) at = refl
 
-  pub record Leading (b : List ℕ) : Type 0 where
-    pub held : Holds b (length b) 68 body_of
-    pub size : length b ≡ 68 + length body_of
-    pub pools_place : pools_at b ≡ last_of
-    pub metadata_place : metadata_at b ≡ metadata_of
+  abbrev pub Leading : List ℕ → Type 0
+  Leading = HeaderLeads body_of last_of metadata_of
 
   module _ (b : List ℕ) (h : Holds b (length b) 68 body_of) where
     abbrev found : Found m write pooled b a.metadata_record metadata_anew 68 ws
     found =
         found_made m write pooled b p.bytes (all_links p) (output_records_whole p these) (written_anew p these) a.metadata_record (metadata_stands p a)
         (no_link_at p.bytes (all_links p) a.metadata_record (chained_checkpoints p a) (metadata_stands p a) a.metadata_there.type_is)
-        (or_second (is_kept these a.metadata_record) (a.metadata_record.at == metadata_at p.bytes) (is_eq a.metadata_record.at (metadata_at p.bytes) a.metadata_there.place))
+        (or_right (is_kept these a.metadata_record) (a.metadata_record.at == metadata_at p.bytes) (is_eq a.metadata_record.at (metadata_at p.bytes) a.metadata_there.place))
         p.records 68 None (recorded p a) (contains_in p.records a.metadata_record a.metadata_there.listed) h
 
     metadata_held : Holds b (length b) found.place (shown_bytes p.bytes metadata_anew a.metadata_record)
     metadata_held = subst (Holds b (length b) found.place) (metadata_written metadata_anew found.place found.older) found.held
 
-  abbrev header : List ℕ
-  header = header_with p.bytes (68 + length body_of) last_of metadata_of
-
-  header_is_long : length header ≡ 68
-  header_is_long = header_length p.bytes (68 + length body_of) last_of metadata_of
-
   out_size : length out ≡ 68 + length body_of
-  out_size = let l : length (header ++ body_of) ≡ length header + length body_of = length-append header body_of in omega (arith, header_is_long)
+  out_size = headed_size p.bytes body_of last_of metadata_of
 
   out_held : Holds out (length out) 68 body_of
-  out_held = holds_at out (length out) (length header) 68 body_of header_is_long (holds_after header body_of)
+  out_held = headed_held p.bytes body_of last_of metadata_of
 
   body_fits : 68 + length body_of ≤ length p.bytes
   body_fits =
@@ -243,15 +173,10 @@ module _ (p : Parts) (a : AreParts p) (flags : List Bool) (n : Anew p a (kept_by
         let g : metadata_of ≡ f.place = ap (moved ws) (sym a.metadata_there.place) ∙ f.leads in
         let w : f.place + length (shown_bytes p.bytes metadata_anew a.metadata_record) ≤ length out = (metadata_held out out_held).within in
         let l = last_inside m write pooled outs 68 None tt in
-        record {
-          held = out_held;
-          size = out_size;
-          pools_place = made_pools p.bytes body_of (68 + length body_of) last_of metadata_of (omega (arith, l, body_fits, small));
-          metadata_place = made_metadata p.bytes body_of (68 + length body_of) last_of metadata_of (omega (arith, g, w, out_shorter, small));
-        }
+        headed_leads p.bytes body_of last_of metadata_of (omega (arith, l, body_fits, small)) (omega (arith, g, w, out_shorter, small))
 
     pub out_whole : fronts.Whole out
-    out_whole = made_whole p.bytes body_of (68 + length body_of) last_of metadata_of whole (sym out_size) (omega (arith, body_fits, small))
+    out_whole = headed_whole p.bytes body_of last_of metadata_of whole (omega (arith, body_fits, small))
 
   -- The output is in bytes after a header that leads to it.
   module _ (b : List ℕ) (l : Leading b) (tiny : length b < 2 ^ 63) where
@@ -273,7 +198,7 @@ module _ (p : Parts) (a : AreParts p) (flags : List Bool) (n : Anew p a (kept_by
     chain : IsChain b rs (pools_at b) (reverse ls)
     chain =
         let k = linked_made m write pooled b rs tiny outs [] 68 None (all_stand p a flags n new most fm agree b) (deltas p a flags n new most fm agree) tt l.held refl in
-        let e : last_from None ls ≡ pools_at b = sym (last_made m write pooled outs 68 None) ∙ sym l.pools_place in
+        let e : last_from None ls ≡ pools_at b = sym (last_made m write pooled outs 68 None) ∙ sym l.pools in
         subst (λ z. IsChain b rs z (reverse ls)) e (chain_new b rs ls some_links k)
 
     abbrev place : ℕ
@@ -293,7 +218,7 @@ module _ (p : Parts) (a : AreParts p) (flags : List Bool) (n : Anew p a (kept_by
     metadata_there : StartsAt rs (metadata_at b) 0 metadata_frame
     metadata_there =
         let f = found b l.held in
-        let e : f.place ≡ metadata_at b = sym (l.metadata_place ∙ (ap (moved ws) (sym a.metadata_there.place) ∙ f.leads)) in
+        let e : f.place ≡ metadata_at b = sym (l.metadata ∙ (ap (moved ws) (sym a.metadata_there.place) ∙ f.leads)) in
         let i : In rs metadata_frame = subst (In rs) (ap (λ z. frame_by (shown metadata_anew a.metadata_record) f.place (length z)) (metadata_written metadata_anew f.place f.older) ∙ metadata_framed metadata_anew f.place) f.listed in
         record { listed = in_contains rs metadata_frame i; place = frame_at metadata_anew f.place ∙ e; type_is = frame_type metadata_anew f.place }
 
@@ -377,22 +302,13 @@ module _ (p : Parts) (a : AreParts p) (flags : List Bool) (n : Anew p a (kept_by
     renamed_records (x ∷ xs) [] i j e = absurd e
     renamed_records (x ∷ xs) (y ∷ ys) i j e = (renamed_record x y (i x (inl refl)) (j y (inl refl)) e.0, renamed_records xs ys (λ z k. i z (inr k)) (λ z k. j z (inr k)) e.1)
 
-    -- A record at the offset of a kept event is that event's, under either list of classes.
-    kept_is_event : (r : Framed) → In p.records r → is_kept these r ≡ true → (is_event_class m r.type_id ≡ true) × (is_event_class p.classes r.type_id ≡ true)
-    kept_is_event r i t =
-        let e = any_in (λ (e : EventAt). e.record_of.at == r.at) these t in
-        let q : e.0.record_of.at ≡ r.at = (let u : (e.0.record_of.at == r.at) ≡ true = e.2 in grind (arith, nat_tests)) in
-        let g : e.0.record_of ≡ r = record_one p.bytes e.0.record_of r (event_record p a flags n new most fm agree e.0 e.1) (all_in (IsRecord p.bytes) p.records r (recorded p a) i) q in
-        let h : is_event_class m r.type_id ≡ true = subst (λ (z : Framed). is_event_class m z.type_id ≡ true) g (n.suits.event e.0 e.1) in
-        (h, n.suits.before r.type_id h)
-
     pub events_renamed : RenamedRecords new p parts these (events_of parts)
     events_renamed =
         let rising : Rising 68 (event_records p.classes p.records) = rising_filter (λ r. is_event_class p.classes r.type_id) 68 p.records (rising_of p.bytes 68 68 (length p.bytes) p.records (omega arith) a.records) in
         let chosen : filter (is_kept these) (event_records p.classes p.records) ≡ records_of these = chosen_records flags (events_of p) (event_records p.classes p.records) 68 (event_records_of p a) rising in
         let news : event_records m rs ≡ records_of (events_of parts) = sym (event_records_of parts valid) in
         let each = events_each p a flags n new most fm agree b p.records 68 None (quiet_records p a m) (recorded p a) l.held in
-        let same = same_both (is_kept these) (λ r. is_event_class m r.type_id) (λ r. is_event_class p.classes r.type_id) p.records kept_is_event in
+        let same = same_both (is_kept these) (λ r. is_event_class m r.type_id) (λ r. is_event_class p.classes r.type_id) p.records (kept_is_event p a these (chosen_events p flags) m n.suits) in
         renamed_records these (events_of parts) (λ e i. i) (λ f i. i)
         (subst (λ z. Each (NewEvent p a flags n new most fm agree b) z (records_of (events_of parts))) (filter_both (λ r. is_event_class m r.type_id) (is_kept these) p.records ∙ (same ∙ chosen))
         (subst (Each (NewEvent p a flags n new most fm agree b) _) news each))

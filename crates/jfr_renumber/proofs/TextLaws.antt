@@ -59,7 +59,7 @@ module _ (k : Classes) (c : List ℕ) (at to : ℕ) (l : FieldLayout) (y : IsFie
       let m = inline_there l y.form forms.Text f tt in
       let q : l.kind ≡ kinds.Text = text_kind l.kind m.form in
       let b = base_field k c at to l v y m.array m.constant (λ h. let z : kinds.Text ≡ kinds.Composite = sym q ∙ h in cc) i in
-      let j : IsBase kinds.Text (slice_range c at to) b.key = subst (λ z. IsBase z (slice_range c at to) b.key) q b.base in
+      let j : IsBase kinds.Text (slice_range c at to) b.key = subst (λ z. IsBase z (slice_range c at to) b.key) q b.is in
       let n : 0 < length (slice_range c at to) = string_long (slice_range c at to) j.0 j.1 in
       let r : length (slice_range c at to) ≡ to - at = range_length c at to i.within in
       let w = i.within in

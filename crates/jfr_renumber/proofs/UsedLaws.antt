@@ -1,5 +1,5 @@
 -- The keys that are used are those of the computed list, and the new keys are what they should be.
-use Rattle.std.specs.Prelude.{◌≡◌, ◌↔◌, ◌⊎◌, ℕ, zero, suc, Bool, true, false, List, [], ◌∷◌, ◌++◌, map, slice_get, Some, option_and_then}
+use Rattle.std.specs.Prelude.{◌≡◌, ◌↔◌, ◌⊎◌, ℕ, zero, suc, Bool, true, false, List, [], ◌∷◌, ◌++◌, map, slice_get, Some}
 use Rattle.std.proofs.Common.{ap, refl, sym, ◌∙◌, subst, inl, inr}
 use Rattle.jfr_value.specs.declared.node.Step.TheVariants as steps
 use Rattle.jfr_value.specs.Values.{Value}
@@ -9,14 +9,13 @@ use Rattle.jfr_pool.specs.Entries.{in_force, entry_node}
 use Rattle.jfr_pool.specs.Laws.{IsLast}
 use Rattle.jfr_pool.proofs.OneLaws.{last_is}
 use Rattle.jfr_chunk.specs.Parts.{Parts, EventAt}
-use Rattle.jfr_chunk.specs.Paths.{leads}
 use Rattle.jfr_worklist.specs.Marks.{IsMarked}
 use Rattle.jfr_chunk.specs.Reach.{Reached, all_targets, nodes_of, reached_marks, marked, remain}
 use Rattle.jfr_worklist.specs.Members.{In}
 use Rattle.jfr_worklist.proofs.Members.{contains_in, in_contains, in_left, in_right, in_cases}
 use Rattle.jfr_pool.proofs.ForceLaws.{Forced, forced, numbered}
 use Rattle.jfr_chunk.proofs.PathLaws.{HasNodes}
-use Rattle.jfr_chunk.proofs.ReachLaws.{leads_append, target_path, follow_is, reach_least}
+use Rattle.jfr_chunk.proofs.ReachLaws.{leads_on, target_path, reach_least}
 use Rattle.jfr_chunk.proofs.ReachedLaws.{reached_marked}
 use Rattle.jfr_renumber.specs.Renumber.{Used, used_keys, together, new_key, pair_of}
 use Rattle.jfr_renumber.specs.Meaning.{AreNewKeys}
@@ -134,13 +133,12 @@ module _ (p : Parts) (s : HasNodes p) (kept : List EventAt) (nodes : (e : EventA
       beyond e r j =
           let u = r.used in
           let a = target_path p s (entry_node e) r.value t r.node (in_contains (targets p.classes p.bytes (entry_node e)) t j) in
-          let l : leads p u.node (steps.Follow ∷ a.0) ≡ Some a.1 = ap (option_and_then (λ m. leads p m a.0)) (follow_is p s u.node (pair_of e) e u.refers r.is_forced) ∙ a.2 in
           record {
             event = u.event;
             is_kept = u.is_kept;
             path = u.path ++ (steps.Follow ∷ a.0);
             node = a.1;
-            leads_there = leads_append p u.path (steps.Follow ∷ a.0) u.event.node ∙ (ap (option_and_then (λ m. leads p m (steps.Follow ∷ a.0))) u.leads_there ∙ l);
+            leads_there = leads_on p s u.event.node u.node a.1 (pair_of e) e u.path a.0 u.leads_there u.refers r.is_forced a.2;
             refers = a.3;
           }
 

@@ -21,10 +21,11 @@ use Rattle.jfr_value.specs.Visits.{field_shapes}
 use Rattle.jfr_value.specs.Nodes.{node_at, IsNode, AreValues}
 use Rattle.jfr_value.specs.Walks.{IsLayoutIfKnown, DepthBound}
 use Rattle.jfr_value.proofs.FormLaws.{IsInline, Inline, inline_there, key_there, text_kind, fields_kind}
+use Rattle.jfr_value.proofs.NodeForms.{array_form, fields_form, key_form}
 use Rattle.jfr_value.proofs.StackLaws.{inner_depth}
 use Rattle.jfr_value.proofs.VisitLaws.{InlineNode, inline_node, depth_within}
 use Rattle.jfr_show.specs.Leaves.{text_spelled}
-use Rattle.jfr_show.proofs.FormLaws.{IntegerForm, RawForm, TextForm, array_form, key_form, integer_form, raw_form, text_form, fields_form}
+use Rattle.jfr_show.proofs.FormLaws.{IntegerForm, RawForm, TextForm, integer_form, raw_form, text_form}
 
 -- The shapes of the fields of the class at a place.
 shapes_at : (k : Classes) (place : ℕ) (d : Class) → slice_get k place ≡ Some d → field_shapes k place ≡ map (λ f. f.shape) d.fields
@@ -93,7 +94,7 @@ module _ (k : Classes) (c : List ℕ) (at to : ℕ) (s : FieldLayout) (is : IsLa
 
   -- A reference.
   pub key_stands : s.form ≡ forms.Key → IsSome (int_at c at end)
-  key_stands e = let m = key_there s is.form e in subst IsSome (sym (key_form k c at to end s.shape l w v i m.0 m.1).found) refl
+  key_stands e = let m = key_there s is.form e in subst IsSome (sym (key_form k c at to s.shape end l w v i m.0 m.1).found) refl
 
   pub record IsReference (n : Var) : Type 0 where
     pub ends : n.end ≡ to
@@ -104,9 +105,9 @@ module _ (k : Classes) (c : List ℕ) (at to : ℕ) (s : FieldLayout) (is : IsLa
   pub is_reference : s.form ≡ forms.Key → (n : Var) → int_at c at end ≡ Some n → IsReference n
   is_reference e n r =
       let m = key_there s is.form e in
-      let f = key_form k c at to end s.shape l w v i m.0 m.1 in
+      let f = key_form k c at to s.shape end l w v i m.0 m.1 in
       let q : record { value = f.key; end = to } ≡ n = (let x : int_at c at end ≡ Some (record { value = f.key; end = to }) = f.found in cc) in
-      record { ends = ap (λ (z : Var). z.end) (sym q); kind = f.kind; bytes = f.bytes; value = f.value ∙ ap (λ (z : Var). Single s.shape f.kind f.bytes (Some z.value)) q }
+      record { ends = ap (λ (z : Var). z.end) (sym q); kind = leaf_kinds.Key f.key; bytes = bytes_there; value = f.value ∙ ap (λ (z : Var). Single s.shape (leaf_kinds.Key f.key) bytes_there (Some z.value)) q }
 
   -- A string.
   text : s.form ≡ forms.Text → TextForm k c at to end s.shape l w v
@@ -147,7 +148,7 @@ module _ (k : Classes) (c : List ℕ) (at to : ℕ) (s : FieldLayout) (is : IsLa
   is_composite e =
       let m = inline forms.Fields e tt in
       let d = inline_layout forms.Fields e tt in
-      let f = fields_form k c at to end s.shape l w v d.class i m.array m.constant d.found (sym d.kind_is ∙ fields_kind s.kind m.form) in
+      let f = fields_form k c at to s.shape v d.class i m.array m.constant d.found (sym d.kind_is ∙ fields_kind s.kind m.form) in
       record {
         array = m.array;
         class = d.class;
@@ -169,7 +170,7 @@ module _ (k : Classes) (c : List ℕ) (at to : ℕ) (s : FieldLayout) (is : IsLa
 
   -- An array: the items after its count.
   pub array_stands : s.shape.array ≡ true → IsSome (int_at c at end)
-  array_stands a = subst IsSome (sym (array_form k c at to end s.shape l w v i a).found) refl
+  array_stands a = subst IsSome (sym (array_form k c at to s.shape end l w v i a).found) refl
 
   pub record IsArray (n : Var) : Type 0 where
     pub head : List ℕ
@@ -179,7 +180,7 @@ module _ (k : Classes) (c : List ℕ) (at to : ℕ) (s : FieldLayout) (is : IsLa
 
   pub is_array : s.shape.array ≡ true → (n : Var) → int_at c at end ≡ Some n → IsArray n
   is_array a n r =
-      let f = array_form k c at to end s.shape l w v i a in
+      let f = array_form k c at to s.shape end l w v i a in
       let q : f.count ≡ n = (let x : int_at c at end ≡ Some f.count = f.found in cc) in
       record { head = f.head; parts = f.parts; row = subst (λ (z : Var). AreValues k c z.end to (replicate z.value (item_of s.shape)) f.parts) q f.row; value = f.value }
 

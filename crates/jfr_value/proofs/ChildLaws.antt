@@ -1,12 +1,9 @@
 -- When a node has a field or an item, and which.
-use Rattle.std.specs.Prelude.{◌≡◌, ◌≢◌, ℕ, zero, suc, ◌+◌, ◌<◌, ◌≤◌, Bool, true, false, List, [], ◌∷◌, ◌++◌, length, map, replicate, slice_get, Option, Some, None, IsSome, IfSome, if◌then◌else◌}
+use Rattle.std.specs.Prelude.{◌≡◌, ◌≢◌, ℕ, zero, suc, ◌+◌, ◌<◌, ◌≤◌, Bool, true, false, List, [], ◌∷◌, length, map, replicate, slice_get, Option, Some, None, IsSome, IfSome, if◌then◌else◌}
 use Rattle.std.proofs.Common.{ap, arith, refl, sym, ◌∙◌, subst, inl, inr}
 use Rattle.std.proofs.lemmas.List.{length-map}
 use Rattle.jfr_base.specs.declared.integer.Var.{Var}
-use Rattle.jfr_base.specs.Integer.{IntAt, Spells}
 use Rattle.jfr_base.specs.Formats.{int_at}
-use Rattle.jfr_base.proofs.OneAnswer.{int_computed}
-use Rattle.jfr_base.proofs.RunLaws.{stands_split}
 use Rattle.jfr_layout.specs.Classes.{AreFieldLayouts, Class, Classes, Field, Sound, find_class, kind_of, item_of}
 use Rattle.jfr_layout.specs.declared.kind.Kind.{Kind}
 use Rattle.jfr_layout.specs.declared.kind.Kind.TheVariants as kinds
@@ -15,10 +12,11 @@ use Rattle.jfr_layout.specs.declared.field_layout.FieldLayout.{FieldLayout}
 use Rattle.jfr_value.specs.declared.node.Node.{Node}
 use Rattle.jfr_value.specs.declared.node.Step.{Step}
 use Rattle.jfr_value.specs.declared.node.Step.TheVariants as steps
-use Rattle.jfr_value.specs.Values.{Value, Values, Single, Group, Nil, Cons, list_of, shape_of, shapes_of, head_of, parts_of, bytes_of, bytes_of_all, IsBase, IsSingle, IsHead, Fits}
+use Rattle.jfr_value.specs.Values.{Value, Values, Single, Group, Nil, Cons, list_of, shape_of, shapes_of, head_of, parts_of, bytes_of, IsSingle, IsHead, Fits}
 use Rattle.jfr_value.specs.Nodes.{NodeAt, IsNode, IsValue, AreValues, Both, node_of, laid, laid_in, children, picked, child}
 use Rattle.jfr_value.proofs.PlaceLaws.{get_within, kind_there}
-use Rattle.jfr_value.proofs.NodeLaws.{part, child_is, children_are, node_stands}
+use Rattle.jfr_value.proofs.NodeForms.{array_form, fields_form}
+use Rattle.jfr_value.proofs.NodeLaws.{part, child_is, children_are}
 use Rattle.jfr_value.proofs.LayoutLaws.{layouts_of}
 
 -- A value that is neither an array nor a constant is of a known class.
@@ -58,30 +56,10 @@ pub record FieldsIn (k : Classes) (c : List ℕ) (n : NodeAt) (v : Value) (fs : 
   pub is : laid_in n.at v ≡ laid n.at (list_of parts)
 
 pub fields_in : (k : Classes) (c : List ℕ) (n : NodeAt) (v : Value) (d : Class) → IsNode k c n v → n.shape.array ≡ false → n.shape.constant ≡ false → find_class k n.shape.class ≡ Some d → kind_of d.name ≡ kinds.Composite → FieldsIn k c n v d.fields
-fields_in k c n v d i a o q m = by_value v i
-  where
-    by_value : (v : Value) → IsNode k c n v → FieldsIn k c n v d.fields
-    by_value (Single s kind b key) i = by_case i.fits
-      where
-        by_case : IsSingle k s kind b key → FieldsIn k c n (Single s kind b key) d.fields
-        by_case (inl p) = let e : n.shape ≡ s = i.shape in let z : n.shape.constant ≡ true = ap (λ (z : Shape). z.constant) e ∙ p.1 in cc
-        by_case (inr p) =
-            let e : n.shape ≡ s = i.shape in
-            let f : p.2 ≡ d = (let x : find_class k n.shape.class ≡ Some p.2 = ap (λ (z : Shape). find_class k z.class) e ∙ p.3 in cc) in
-            absurd (subst (λ z. IsBase z b key) (ap (λ (z : Class). kind_of z.name) f ∙ m) p.5)
-    by_value (Group s h vs) i = by_case i.fits.0
-      where
-        by_case : IsHead k s h (shapes_of vs) → FieldsIn k c n (Group s h vs) d.fields
-        by_case (inl p) = let e : n.shape ≡ s = i.shape in let z : n.shape.array ≡ true = ap (λ (z : Shape). z.array) e ∙ p.0 in cc
-        by_case (inr p) =
-            let e : n.shape ≡ s = i.shape in
-            let f : p.2 ≡ d = (let x : find_class k n.shape.class ≡ Some p.2 = ap (λ (z : Shape). find_class k z.class) e ∙ p.3 in cc) in
-            let z : n.at + length h ≡ n.at = (let l : length h ≡ 0 = ap length p.5 in omega arith) in
-            record {
-              parts = vs;
-              row = record { order = i.order; within = i.within; bytes = i.bytes ∙ ap (λ y. y ++ bytes_of_all vs) p.5; fit = i.fits.1; of_shapes = p.6 ∙ ap (λ (z : Class). map (λ f. f.shape) z.fields) f };
-              is = ap (λ y. laid y (list_of vs)) z;
-            }
+fields_in k c n v d i a o q m =
+    let f = fields_form k c n.at n.end n.shape v d i a o q m in
+    let z : n.at + 0 ≡ n.at = omega arith in
+    record { parts = f.parts; row = f.row; is = ap (laid_in n.at) f.value ∙ ap (λ y. laid y (list_of f.parts)) z }
 
 -- The items of an array lie one after another, from the end of its count.
 pub record ItemsIn (k : Classes) (c : List ℕ) (n : NodeAt) (v : Value) : Type 0 where
@@ -94,32 +72,9 @@ pub record ItemsIn (k : Classes) (c : List ℕ) (n : NodeAt) (v : Value) : Type 
   pub is : laid_in n.at v ≡ laid place (list_of parts)
 
 pub items_in : (k : Classes) (c : List ℕ) (n : NodeAt) (v : Value) → IsNode k c n v → n.shape.array ≡ true → ItemsIn k c n v
-items_in k c n v i a = by_value v i
-  where
-    by_value : (v : Value) → IsNode k c n v → ItemsIn k c n v
-    by_value (Single s kind b key) i = by_case i.fits
-      where
-        by_case : IsSingle k s kind b key → ItemsIn k c n (Single s kind b key)
-        by_case (inl p) = let e : n.shape ≡ s = i.shape in let z : n.shape.array ≡ false = ap (λ (z : Shape). z.array) e ∙ p.0 in cc
-        by_case (inr p) = let e : n.shape ≡ s = i.shape in let z : n.shape.array ≡ false = ap (λ (z : Shape). z.array) e ∙ p.0 in cc
-    by_value (Group s h vs) i = by_case i.fits.0
-      where
-        by_case : IsHead k s h (shapes_of vs) → ItemsIn k c n (Group s h vs)
-        by_case (inl p) =
-            let e : n.shape ≡ s = i.shape in
-            let y = stands_split c n.at n.end (h ++ bytes_of_all vs) h (bytes_of_all vs) (node_stands k c n (Group s h vs) i) refl in
-            let w : IntAt c n.at (n.at + length h) p.1 = record { order = y.first.order; within = y.first.within; spelled = subst (λ z. Spells z p.1) (sym y.first.bytes) p.2 } in
-            let l : n.at + length h ≤ n.end = y.second.order in
-            record {
-              count = p.1;
-              place = n.at + length h;
-              counted = int_computed c n.at n.end (n.at + length h) p.1 i.order i.within w l;
-              within = l;
-              parts = vs;
-              row = record { order = l; within = i.within; bytes = y.second.bytes; fit = i.fits.1; of_shapes = p.3 ∙ ap (λ z. replicate p.1 (item_of z)) (sym e) };
-              is = refl;
-            }
-        by_case (inr p) = let e : n.shape ≡ s = i.shape in let z : n.shape.array ≡ false = ap (λ (z : Shape). z.array) e ∙ p.0 in cc
+items_in k c n v i a =
+    let f = array_form k c n.at n.end n.shape n.end (omega arith) i.within v i a in
+    record { count = f.count.value; place = f.count.end; counted = f.found; within = f.within; parts = f.parts; row = f.row; is = ap (laid_in n.at) f.value ∙ ap (λ y. laid y (list_of f.parts)) (sym f.ends) }
 
 past_end : (at : ℕ) (vs : Values) (ss : List Shape) (i : ℕ) → shapes_of vs ≡ ss → length ss ≤ i → slice_get (laid at (list_of vs)) i ≡ None
 past_end at Nil ss i e h = refl

@@ -93,6 +93,59 @@ any_none p (x ∷ xs) e = by_test (p x) refl e (λ q. any_none p xs q)
     by_test true q e r = cc
     by_test false q e r = (q, r e)
 
+-- An inline step to a composite class.
+pub steps_to : (k : Classes) (f : Field) (d : Class) → f.shape.constant ≡ false → find_class k f.shape.class ≡ Some d → is_composite (kind_of d.name) ≡ true → step_class k f ≡ Some d
+steps_to k f d o q e =
+    ap (λ t. if t then None else option_and_then (λ d. if is_composite (kind_of d.name) then Some d else None) (find_class k f.shape.class)) o
+    ∙ (ap (option_and_then (λ d. if is_composite (kind_of d.name) then Some d else None)) q ∙ ap (λ t. if t then Some d else None) e)
+
+module _ (k : Classes) where
+  abbrev AllDepthBounds : ℕ → Values → Type 0
+  AllDepthBounds n vs = AllByRecursion (λ w. DepthBound k n (shape_of w)) (list_of vs)
+
+  depth_of_fields : (n : ℕ) (fs : List Field) (vs : Values) → shapes_of vs ≡ map (λ f. f.shape) fs → AllByRecursion (λ f. option_map_or (λ d. goes_inline n k d) (step_class k f) false ≡ false) fs → AllDepthBounds n vs
+  depth_of_fields n [] Nil e a = tt
+  depth_of_fields n [] (Cons v vs) e a = cc
+  depth_of_fields n (f ∷ fs) Nil e a = cc
+  depth_of_fields n (f ∷ fs) (Cons v vs) e a =
+      let q : f.shape ≡ shape_of v = (let x : shape_of v ∷ shapes_of vs ≡ f.shape ∷ map (λ g. g.shape) fs = e in cc) in
+      let r : shapes_of vs ≡ map (λ g. g.shape) fs = (let x : shape_of v ∷ shapes_of vs ≡ f.shape ∷ map (λ g. g.shape) fs = e in cc) in
+      (subst (DepthBound k n) q (λ o d g c. ap (λ z. option_map_or (λ d. goes_inline n k d) z false) (sym (steps_to k f d o g c)) ∙ a.0), depth_of_fields n fs vs r a.1)
+
+  depth_of_items : (n m : ℕ) (s : Shape) (vs : Values) → shapes_of vs ≡ replicate m s → DepthBound k n s → AllDepthBounds n vs
+  depth_of_items n zero s Nil e a = tt
+  depth_of_items n zero s (Cons v vs) e a = cc
+  depth_of_items n (suc m) s Nil e a = cc
+  depth_of_items n (suc m) s (Cons v vs) e a =
+      let q : s ≡ shape_of v = (let x : shape_of v ∷ shapes_of vs ≡ s ∷ replicate m s = e in cc) in
+      let r : shapes_of vs ≡ replicate m s = (let x : shape_of v ∷ shapes_of vs ≡ s ∷ replicate m s = e in cc) in
+      (subst (DepthBound k n) q a, depth_of_items n m s vs r a)
+
+-- What holds of each value without parts, and of each group if it holds of its parts, holds of what fits: `n` is
+-- how deep the classes may nest.
+module _ (k : Classes) (P : ℕ → Value → Type 0) (of_single : (n : ℕ) (s : Shape) (kind : LeafKind) (b : List ℕ) (key : Option ℕ) → IsSingle k s kind b key → P n (Single s kind b key))
+    (of_array : (n : ℕ) (s : Shape) (h : List ℕ) (vs : Values) → s.array ≡ true → (m : ℕ) → Spells h m → shapes_of vs ≡ replicate m (item_of s) → AllByRecursion (P n) (list_of vs) → P n (Group s h vs))
+    (of_fields : (n : ℕ) (s : Shape) (h : List ℕ) (vs : Values) (c : Class) → s.array ≡ false → s.constant ≡ false → find_class k s.class ≡ Some c → kind_of c.name ≡ kinds.Composite → h ≡ [] → shapes_of vs ≡ map (λ f. f.shape) c.fields → AllByRecursion (P n) (list_of vs) → P (suc n) (Group s h vs)) where
+  mutual
+    pub by_depth : (v : Value) (n : ℕ) → DepthBound k n (shape_of v) → Fits k v → P n v
+    by_depth (Single s kind b key) n r f = of_single n s kind b key f
+    by_depth (Group s h vs) n r f = by_head s h f.0 r (λ m g. all_by_depth vs m g f.1)
+      where
+        by_room : (n : ℕ) (s : Shape) (h : List ℕ) (c : Class) → s.array ≡ false → s.constant ≡ false → find_class k s.class ≡ Some c → kind_of c.name ≡ kinds.Composite → h ≡ [] → shapes_of vs ≡ map (λ f. f.shape) c.fields → goes_inline n k c ≡ false
+            → ((m : ℕ) → AllDepthBounds k m vs → AllByRecursion (P m) (list_of vs)) → P n (Group s h vs)
+        by_room zero s h c a o q e z p g x = cc
+        by_room (suc m) s h c a o q e z p g x =
+            let i : inline_fields c ≡ c.fields = ap (λ t. if is_composite t then c.fields else []) e in
+            of_fields m s h vs c a o q e z p (x m (depth_of_fields k m c.fields vs p (subst (AllByRecursion (λ f. option_map_or (λ d. goes_inline m k d) (step_class k f) false ≡ false)) i (any_none (λ f. option_map_or (λ d. goes_inline m k d) (step_class k f) false) (inline_fields c) g))))
+
+        by_head : (s : Shape) (h : List ℕ) → IsHead k s h (shapes_of vs) → DepthBound k n s → ((m : ℕ) → AllDepthBounds k m vs → AllByRecursion (P m) (list_of vs)) → P n (Group s h vs)
+        by_head s h (inl p) r x = of_array n s h vs p.0 p.1 p.2 p.3 (x n (depth_of_items k n p.1 (item_of s) vs p.3 r))
+        by_head s h (inr p) r x = by_room n s h p.2 p.0 p.1 p.3 p.4 p.5 p.6 (r p.1 p.2 p.3 (ap is_composite p.4)) x
+
+    all_by_depth : (vs : Values) (n : ℕ) → AllDepthBounds k n vs → AllFit k vs → AllByRecursion (P n) (list_of vs)
+    all_by_depth Nil n r f = tt
+    all_by_depth (Cons v vs) n r f = (by_depth v n r.0 f.0, all_by_depth vs n r.1 f.1)
+
 -- Values one after another that are each read by their shapes.
 pub values_again : (vs : Values) → values_of (list_of vs) ≡ vs
 values_again Nil = refl
@@ -182,54 +235,8 @@ module _ (k : Classes) where
       (bind_exact (fields_format (class_format n k) c.fields) (λ vs. Done (Group s [] (values_of vs))) (bytes_of_all vs) [] (bytes_of_all vs) (list_of vs) (Group s [] vs) (sym (append-nil (bytes_of_all vs)))
       (each_exact (shape_format (class_format n k)) c.fields vs r x) (ap (λ y. Group s [] y) (sym (values_again vs)), refl)))))
 
-  abbrev AllDepthBounds : ℕ → Values → Type 0
-  AllDepthBounds n vs = AllByRecursion (λ w. DepthBound k n (shape_of w)) (list_of vs)
-
-  -- An inline step to a composite class.
-  pub steps_to : (f : Field) (d : Class) → f.shape.constant ≡ false → find_class k f.shape.class ≡ Some d → is_composite (kind_of d.name) ≡ true → step_class k f ≡ Some d
-  steps_to f d o q e =
-      ap (λ t. if t then None else option_and_then (λ d. if is_composite (kind_of d.name) then Some d else None) (find_class k f.shape.class)) o
-      ∙ (ap (option_and_then (λ d. if is_composite (kind_of d.name) then Some d else None)) q ∙ ap (λ t. if t then Some d else None) e)
-
-  depth_of_fields : (n : ℕ) (fs : List Field) (vs : Values) → shapes_of vs ≡ map (λ f. f.shape) fs → AllByRecursion (λ f. option_map_or (λ d. goes_inline n k d) (step_class k f) false ≡ false) fs → AllDepthBounds n vs
-  depth_of_fields n [] Nil e a = tt
-  depth_of_fields n [] (Cons v vs) e a = cc
-  depth_of_fields n (f ∷ fs) Nil e a = cc
-  depth_of_fields n (f ∷ fs) (Cons v vs) e a =
-      let q : f.shape ≡ shape_of v = (let x : shape_of v ∷ shapes_of vs ≡ f.shape ∷ map (λ g. g.shape) fs = e in cc) in
-      let r : shapes_of vs ≡ map (λ g. g.shape) fs = (let x : shape_of v ∷ shapes_of vs ≡ f.shape ∷ map (λ g. g.shape) fs = e in cc) in
-      (subst (DepthBound k n) q (λ o d g c. ap (λ z. option_map_or (λ d. goes_inline n k d) z false) (sym (steps_to f d o g c)) ∙ a.0), depth_of_fields n fs vs r a.1)
-
-  depth_of_items : (n m : ℕ) (s : Shape) (vs : Values) → shapes_of vs ≡ replicate m s → DepthBound k n s → AllDepthBounds n vs
-  depth_of_items n zero s Nil e a = tt
-  depth_of_items n zero s (Cons v vs) e a = cc
-  depth_of_items n (suc m) s Nil e a = cc
-  depth_of_items n (suc m) s (Cons v vs) e a =
-      let q : s ≡ shape_of v = (let x : shape_of v ∷ shapes_of vs ≡ s ∷ replicate m s = e in cc) in
-      let r : shapes_of vs ≡ replicate m s = (let x : shape_of v ∷ shapes_of vs ≡ s ∷ replicate m s = e in cc) in
-      (subst (DepthBound k n) q a, depth_of_items n m s vs r a)
-
-  mutual
-    pub fits_exact : (v : Value) (n : ℕ) → DepthBound k n (shape_of v) → Fits k v → Exactly (shape_format (class_format (suc n) k) (shape_of v)) (bytes_of v) v
-    fits_exact (Single s kind b key) n r f = single_exact n s kind b key f
-    fits_exact (Group s h vs) n r f = by_head s h f.0 r (λ m g. all_exact vs m g f.1)
-      where
-        by_room : (n : ℕ) (s : Shape) (h : List ℕ) (c : Class) → s.array ≡ false → s.constant ≡ false → find_class k s.class ≡ Some c → kind_of c.name ≡ kinds.Composite → h ≡ [] → shapes_of vs ≡ map (λ f. f.shape) c.fields → goes_inline n k c ≡ false
-            → ((m : ℕ) → AllDepthBounds m vs → AllExact (shape_format (class_format (suc m) k)) vs) → Exactly (shape_format (class_format (suc n) k) s) (h ++ bytes_of_all vs) (Group s h vs)
-        by_room zero s h c a o q e z p g x = cc
-        by_room (suc m) s h c a o q e z p g x =
-            let i : inline_fields c ≡ c.fields = ap (λ t. if is_composite t then c.fields else []) e in
-            fields_exact (suc m) s h vs c a o q e z p (x m (depth_of_fields m c.fields vs p (subst (AllByRecursion (λ f. option_map_or (λ d. goes_inline m k d) (step_class k f) false ≡ false)) i (any_none (λ f. option_map_or (λ d. goes_inline m k d) (step_class k f) false) (inline_fields c) g))))
-
-        by_head : (s : Shape) (h : List ℕ) → IsHead k s h (shapes_of vs) → DepthBound k n s → ((m : ℕ) → AllDepthBounds m vs → AllExact (shape_format (class_format (suc m) k)) vs) → Exactly (shape_format (class_format (suc n) k) s) (h ++ bytes_of_all vs) (Group s h vs)
-        by_head s h (inl p) r x = array_exact n s h vs p.0 p.1 p.2 p.3 (x n (depth_of_items n p.1 (item_of s) vs p.3 r))
-        by_head s h (inr p) r x = by_room n s h p.2 p.0 p.1 p.3 p.4 p.5 p.6 (r p.1 p.2 p.3 (ap is_composite p.4)) x
-
-    all_exact : (vs : Values) (n : ℕ) → AllDepthBounds n vs → AllFit k vs → AllExact (shape_format (class_format (suc n) k)) vs
-    all_exact Nil n r f = tt
-    all_exact (Cons v vs) n r f = (fits_exact v n r.0 f.0, all_exact vs n r.1 f.1)
-
 -- What fits is read, and nothing else is.
 pub fits_good : (k : Classes) (v : Value) → Sound k → Fits k v → Good k v
 unfolding value_format
-fits_good k v s f = fits_exact k v 33 (λ o c q e. sound_inline k (shape_of v).class c s q) f
+fits_good k v s f =
+    by_depth k (λ n v. Exactly (shape_format (class_format (suc n) k) (shape_of v)) (bytes_of v) v) (single_exact k) (array_exact k) (λ n. fields_exact k (suc n)) v 33 (λ o c q e. sound_inline k (shape_of v).class c s q) f

@@ -36,7 +36,7 @@ string_key (kind ∷ rest) (Utf8 bytes) i = ap (λ z. spelled_key (z ∷ rest)) 
 string_key (kind ∷ rest) (Units units) i = ap (λ z. spelled_key (z ∷ rest)) i.0
 string_key (kind ∷ rest) (Latin bytes) i = ap (λ z. spelled_key (z ∷ rest)) i.0
 
-base_key : (kd : Kind) (b : List ℕ) (key : Option ℕ) → IsBase kd b key → leaf_key (leaf_kinds.Base kd) b ≡ key
+pub base_key : (kd : Kind) (b : List ℕ) (key : Option ℕ) → IsBase kd b key → leaf_key (leaf_kinds.Base kd) b ≡ key
 base_key kinds.Boolean b key i = sym i.1
 base_key kinds.Byte b key i = sym i.1
 base_key kinds.Char b key i = sym i.2

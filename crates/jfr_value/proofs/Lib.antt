@@ -12,6 +12,7 @@ mod AppendLaws
 mod FusedLaws
 mod LastGroups
 pub mod LeafLaws
+pub mod NodeForms
 pub mod NodeLaws
 pub mod PartLaws
 pub mod PlaceLaws

@@ -2,14 +2,13 @@
 use Rattle.std.specs.Prelude.{◌≡◌, ◌≢◌, ℕ, zero, suc, ◌+◌, ◌-◌, ◌<◌, ◌≤◌, Bool, true, false, List, [], ◌∷◌, ◌++◌, length, map, replicate, drop, slice_get, slice_range, Option, Some, None, IsSome, IfSome, Ok, option_map, option_to_list, if◌then◌else◌}
 use Rattle.std.specs.Option.{option_map_or}
 use Rattle.std.specs.List.{AllByRecursion, filter_map}
-use Rattle.std.proofs.Common.{ap, arith, refl, sym, ◌∙◌, subst, inl, inr}
+use Rattle.std.proofs.Common.{ap, arith, refl, sym, ◌∙◌, subst}
 use Rattle.std.proofs.lemmas.List.{drop_all, length-append, length-map, nil_from_length}
 use Rattle.jfr_base.specs.declared.integer.Var.{Var}
-use Rattle.jfr_base.specs.Integer.{IntAt, Spells, worth_within}
+use Rattle.jfr_base.specs.Integer.{worth_within}
 use Rattle.jfr_base.specs.Formats.{int_at, run, end_or_flaw}
-use Rattle.jfr_base.proofs.OneAnswer.{int_computed}
 use Rattle.jfr_base.proofs.Ranges.{range_length}
-use Rattle.jfr_base.proofs.RunLaws.{Stands, stands_split, exact_run}
+use Rattle.jfr_base.proofs.RunLaws.{exact_run}
 use Rattle.jfr_text.specs.Strings.{Content, string_format}
 use Rattle.jfr_layout.specs.Classes.{Class, Classes, Field, field_at, find_class, kind_of, item_of}
 use Rattle.jfr_layout.specs.declared.form.Form.{Form}
@@ -17,16 +16,16 @@ use Rattle.jfr_layout.specs.declared.kind.Kind.{Kind}
 use Rattle.jfr_layout.specs.declared.kind.Kind.TheVariants as kinds
 use Rattle.jfr_layout.specs.declared.shape.Shape.{Shape}
 use Rattle.jfr_value.specs.declared.leaf.LeafKind.TheVariants as leaf_kinds
-use Rattle.jfr_value.specs.Values.{Value, Values, Single, Group, Nil, Cons, shape_of, shapes_of, bytes_of, bytes_of_all, targets_of, targets_of_all, key_of, IsBase, IsSingle, IsHead, IsHollow, AllFit}
+use Rattle.jfr_value.specs.Values.{Value, Values, Single, Nil, Cons, shape_of, shapes_of, bytes_of, bytes_of_all, targets_of, targets_of_all, key_of, IsBase, IsHollow, AllFit}
 use Rattle.jfr_value.specs.Reading.{base_format}
 use Rattle.jfr_value.specs.Nodes.{node_at, IsNode, AreValues}
-use Rattle.jfr_value.specs.Leaves.{LeafAt, leaf_target, leaves_at, leaves_from}
+use Rattle.jfr_value.specs.Leaves.{leaf_target, leaves_at, leaves_from}
 use Rattle.jfr_value.specs.Visits.{TakesAll, field_shapes}
 use Rattle.jfr_value.specs.Walks.{IsLayoutIfKnown, DepthBound}
 use Rattle.jfr_value.proofs.ChildLaws.{inline_known}
 use Rattle.jfr_value.proofs.FitLaws.{is_base}
 use Rattle.jfr_value.proofs.LeafLaws.{all_within, leaf_targets_from}
-use Rattle.jfr_value.proofs.NodeLaws.{node_stands}
+use Rattle.jfr_value.proofs.NodeForms.{BaseForm, array_form, base_form, fields_form, key_form, no_key}
 use Rattle.jfr_value.proofs.PlaceLaws.{get_within, placed_class, placed_some, placed_within}
 use Rattle.jfr_value.proofs.RowLaws.{hollow_bytes}
 use Rattle.jfr_value.proofs.LayoutLaws.{layout_class}
@@ -54,23 +53,7 @@ module _ (k : Classes) (c : List ℕ) (at to end : ℕ) (s : Shape) (l : to ≤ 
     pub targets : targets_of v ≡ (s.class, key) ∷ []
 
   pub key_node : (v : Value) → IsNode k c (node_at s at to) v → s.array ≡ false → s.constant ≡ true → KeyNode v
-  key_node (Single t kind b key) i a o = by_case i.fits
-    where
-      by_case : IsSingle k t kind b key → KeyNode (Single t kind b key)
-      by_case (inl p) =
-          let n : IntAt c at to p.2 = record { order = i.order; within = i.within; spelled = subst (λ z. Spells z p.2) (sym i.bytes) p.3 } in
-          record {
-            key = p.2;
-            found = int_computed c at end to p.2 (let r = i.order in omega arith) w n l;
-            leaves = refl;
-            targets = ap (λ z. targets_of (Single t kind b z)) p.5 ∙ ap (λ (z : Shape). (z.class, p.2) ∷ []) (sym i.shape);
-          }
-      by_case (inr p) = let z : t.constant ≡ true = ap (λ (z : Shape). z.constant) (sym i.shape) ∙ o in let y = p.1 in cc
-  key_node (Group t h vs) i a o = by_case i.fits.0
-    where
-      by_case : IsHead k t h (shapes_of vs) → KeyNode (Group t h vs)
-      by_case (inl p) = let z : t.array ≡ false = ap (λ (z : Shape). z.array) (sym i.shape) ∙ a in let y = p.0 in cc
-      by_case (inr p) = let z : t.constant ≡ true = ap (λ (z : Shape). z.constant) (sym i.shape) ∙ o in let y = p.1 in cc
+  key_node v i a o = let f = key_form k c at to s end l w v i a o in record { key = f.key; found = f.found; leaves = ap (λ z. length (leaves_at at z)) f.value; targets = ap targets_of f.value }
 
   -- An inline value is of the class at its place.
   pub record InlineNode (place : ℕ) (kind : Kind) : Type 0 where
@@ -87,45 +70,21 @@ module _ (k : Classes) (c : List ℕ) (at to end : ℕ) (s : Shape) (l : to ≤ 
       let d = layout_class k (record { shape = s; class_index = place; kind = kind; form = form }) q in
       record { class = d.class; found = d.found; there = d.there; within = placed_within k s.class place q.class_index; kind_is = d.kind }
 
-  -- A value of a base name.
-  record BaseNode (kind : Kind) (v : Value) : Type 0 where
-    key : Option ℕ
-    is : IsBase kind (slice_range c at to) key
-    holds : Stands c at to (slice_range c at to)
-    leaves : length (leaves_at at v) ≡ 1
-    targets : targets_of v ≡ option_to_list (option_map (λ key. (s.class, key)) key)
+  -- A value of a base name: one leaf, that refers to its key.
+  base_node : (v : Value) (place : ℕ) (kind : Kind) → IsNode k c (node_at s at to) v → s.array ≡ false → s.constant ≡ false → InlineNode place kind → kind ≢ kinds.Composite → BaseForm k c at to s kind v
+  base_node v place kind i a o d n = subst (λ z. BaseForm k c at to s z v) (sym d.kind_is) (base_form k c at to s v d.class i a o d.found (λ z. n (d.kind_is ∙ z)))
 
-  base_of : (v : Value) (d : Class) → IsNode k c (node_at s at to) v → s.array ≡ false → s.constant ≡ false → find_class k s.class ≡ Some d → kind_of d.name ≢ kinds.Composite → BaseNode (kind_of d.name) v
-  base_of (Single t kind b key) d i a o q n = by_case i.fits
+  base_leaves : (kind : Kind) (v : Value) → BaseForm k c at to s kind v → length (leaves_at at v) ≡ 1
+  base_leaves kind v n = ap (λ z. length (leaves_at at z)) n.value
+
+  base_targets : (kind : Kind) (v : Value) (key : Option ℕ) (n : BaseForm k c at to s kind v) → n.key ≡ key → targets_of v ≡ option_to_list (option_map (λ key. (s.class, key)) key)
+  base_targets kind v key n e = ap targets_of n.value ∙ (ap (λ z. targets_of (Single s (leaf_kinds.Base kind) (slice_range c at to) z)) e ∙ by_key key)
     where
-      by_key : (key : Option ℕ) → targets_of (Single t kind b key) ≡ option_to_list (option_map (λ key. (t.class, key)) key)
+      by_key : (key : Option ℕ) → targets_of (Single s (leaf_kinds.Base kind) (slice_range c at to) key) ≡ option_to_list (option_map (λ key. (s.class, key)) key)
       by_key None = refl
       by_key (Some key) = refl
 
-      by_case : IsSingle k t kind b key → BaseNode (kind_of d.name) (Single t kind b key)
-      by_case (inl p) = let z : t.constant ≡ false = ap (λ (z : Shape). z.constant) (sym i.shape) ∙ o in let y = p.1 in cc
-      by_case (inr p) =
-          let e : p.2 ≡ d = (let x : find_class k s.class ≡ Some p.2 = ap (λ (z : Shape). find_class k z.class) i.shape ∙ p.3 in cc) in
-          let f : IsBase (kind_of d.name) b key = subst (λ (z : Class). IsBase (kind_of z.name) b key) e p.5 in
-          record {
-            key = key;
-            is = subst (λ z. IsBase (kind_of d.name) z key) (sym i.bytes) f;
-            holds = record { order = i.order; within = i.within; bytes = refl };
-            leaves = refl;
-            targets = by_key key ∙ ap (λ (z : Shape). option_to_list (option_map (λ key. (z.class, key)) key)) (sym i.shape);
-          }
-  base_of (Group t h vs) d i a o q n = by_case i.fits.0
-    where
-      by_case : IsHead k t h (shapes_of vs) → BaseNode (kind_of d.name) (Group t h vs)
-      by_case (inl p) = let z : t.array ≡ false = ap (λ (z : Shape). z.array) (sym i.shape) ∙ a in let y = p.0 in cc
-      by_case (inr p) =
-          let e : p.2 ≡ d = (let x : find_class k s.class ≡ Some p.2 = ap (λ (z : Shape). find_class k z.class) i.shape ∙ p.3 in cc) in
-          absurd (n (ap (λ (z : Class). kind_of z.name) (sym e) ∙ p.4))
-
-  base_node : (v : Value) (place : ℕ) (kind : Kind) → IsNode k c (node_at s at to) v → s.array ≡ false → s.constant ≡ false → InlineNode place kind → kind ≢ kinds.Composite → BaseNode kind v
-  base_node v place kind i a o d n = subst (λ z. BaseNode z v) (sym d.kind_is) (base_of v d.class i a o d.found (λ z. n (d.kind_is ∙ z)))
-
-  base_runs : (kind : Kind) (v : Value) (n : BaseNode kind v) → run (base_format kind) c end at ≡ Ok (record { value = n.key; place = to })
+  base_runs : (kind : Kind) (v : Value) (n : BaseForm k c at to s kind v) → run (base_format kind) c end at ≡ Ok (record { value = n.key; place = to })
   base_runs kind v n = exact_run c end w (base_format kind) at to (slice_range c at to) n.key (is_base kind (slice_range c at to) n.key n.is) n.holds l
 
   -- One that is no string refers to nothing.
@@ -134,24 +93,8 @@ module _ (k : Classes) (c : List ℕ) (at to end : ℕ) (s : Shape) (l : to ≤ 
     pub leaves : length (leaves_at at v) ≡ 1
     pub targets : targets_of v ≡ []
 
-  plain_node : (kind : Kind) (v : Value) → BaseNode kind v → kind ≢ kinds.Text → PlainNode kind v
-  plain_node kind v n x = record {
-    ends = ap end_or_flaw (base_runs kind v n);
-    leaves = n.leaves;
-    targets = n.targets ∙ ap (λ z. option_to_list (option_map (λ key. (s.class, key)) z)) (no_key kind (slice_range c at to) n.key x n.is);
-  }
-    where
-      no_key : (kind : Kind) (b : List ℕ) (key : Option ℕ) → kind ≢ kinds.Text → IsBase kind b key → key ≡ None
-      no_key kinds.Boolean b key x i = i.1
-      no_key kinds.Byte b key x i = i.1
-      no_key kinds.Char b key x i = i.2
-      no_key kinds.Short b key x i = i.2
-      no_key kinds.Int b key x i = i.2
-      no_key kinds.Long b key x i = i.2
-      no_key kinds.Float b key x i = i.1
-      no_key kinds.Double b key x i = i.1
-      no_key kinds.Text b key x i = absurd (x refl)
-      no_key kinds.Composite b key x i = absurd i
+  plain_node : (kind : Kind) (v : Value) → BaseForm k c at to s kind v → kind ≢ kinds.Text → PlainNode kind v
+  plain_node kind v n x = record { ends = ap end_or_flaw (base_runs kind v n); leaves = base_leaves kind v n; targets = base_targets kind v None n (no_key kind (slice_range c at to) n.key x n.is) }
 
   -- A string refers to its key, if it is one.
   pub record TextNode (v : Value) : Type 0 where
@@ -160,14 +103,14 @@ module _ (k : Classes) (c : List ℕ) (at to end : ℕ) (s : Shape) (l : to ≤ 
     pub leaves : length (leaves_at at v) ≡ 1
     pub targets : targets_of v ≡ option_to_list (option_map (λ key. (s.class, key)) (key_of content))
 
-  text_node : (kind : Kind) (v : Value) → BaseNode kind v → kind ≡ kinds.Text → TextNode v
+  text_node : (kind : Kind) (v : Value) → BaseForm k c at to s kind v → kind ≡ kinds.Text → TextNode v
   text_node kind v n x =
       let i = subst (λ z. IsBase z (slice_range c at to) n.key) x n.is in
       record {
         content = i.0;
         reads = exact_run c end w (string_format true) at to (slice_range c at to) i.0 (is_exact (slice_range c at to) i.0 i.1) n.holds l;
-        leaves = n.leaves;
-        targets = n.targets ∙ ap (λ z. option_to_list (option_map (λ key. (s.class, key)) z)) i.2;
+        leaves = base_leaves kind v n;
+        targets = base_targets kind v (key_of i.0) n i.2;
       }
 
   pub inline_text : (v : Value) (place : ℕ) (kind : Kind) (form : Form) → IsNode k c (node_at s at to) v → s.array ≡ false → s.constant ≡ false → IsLayoutIfKnown k (record { shape = s; class_index = place; kind = kind; form = form }) → kind ≡ kinds.Text → TextNode v
@@ -184,28 +127,14 @@ module _ (k : Classes) (c : List ℕ) (at to end : ℕ) (s : Shape) (l : to ≤ 
     pub targets : targets_of v ≡ targets_of_all parts
 
   fields_of : (v : Value) (d : Class) → IsNode k c (node_at s at to) v → s.array ≡ false → s.constant ≡ false → find_class k s.class ≡ Some d → kind_of d.name ≡ kinds.Composite → PartsNode at 0 (map (λ f. f.shape) d.fields) v
-  fields_of (Single t kind b key) d i a o q m = by_case i.fits
+  fields_of v d i a o q m =
+      let f = fields_form k c at to s v d i a o q m in
+      let x : length (leaves_at at v) ≡ length (leaves_from at f.parts) = ap (λ z. length (leaves_at at z)) f.value ∙ no_count f.parts s.array a in
+      record { parts = f.parts; row = f.row; leaves = omega arith; targets = ap targets_of f.value }
     where
-      by_case : IsSingle k t kind b key → PartsNode at 0 (map (λ f. f.shape) d.fields) (Single t kind b key)
-      by_case (inl p) = let z : t.constant ≡ false = ap (λ (z : Shape). z.constant) (sym i.shape) ∙ o in let y = p.1 in cc
-      by_case (inr p) =
-          let e : p.2 ≡ d = (let x : find_class k s.class ≡ Some p.2 = ap (λ (z : Shape). find_class k z.class) i.shape ∙ p.3 in cc) in
-          absurd (subst (λ z. IsBase z b key) (ap (λ (z : Class). kind_of z.name) e ∙ m) p.5)
-  fields_of (Group t h vs) d i a o q m = by_case i.fits
-    where
-      by_case : IsHead k t h (shapes_of vs) × AllFit k vs → PartsNode at 0 (map (λ f. f.shape) d.fields) (Group t h vs)
-      by_case (inl p, f) = let z : t.array ≡ false = ap (λ (z : Shape). z.array) (sym i.shape) ∙ a in let y = p.0 in cc
-      by_case (inr p, f) =
-          let e : p.2 ≡ d = (let x : find_class k s.class ≡ Some p.2 = ap (λ (z : Shape). find_class k z.class) i.shape ∙ p.3 in cc) in
-          let z : at + length h ≡ at = (let y : length h ≡ 0 = ap length p.5 in omega arith) in
-          let head : Bool → List LeafAt = λ x. if x then record { kind = leaf_kinds.Count (worth_within 8 h); class = t.class; at = at; spelled = h } ∷ [] else [] in
-          let y : length (head t.array ++ leaves_from (at + length h) vs) ≡ length (leaves_from at vs) = ap (λ x. length (head x ++ leaves_from (at + length h) vs)) p.0 ∙ ap (λ y. length (leaves_from y vs)) z in
-          record {
-            parts = vs;
-            row = record { order = i.order; within = i.within; bytes = i.bytes ∙ ap (λ y. y ++ bytes_of_all vs) p.5; fit = f; of_shapes = p.6 ∙ ap (λ (z : Class). map (λ f. f.shape) z.fields) e };
-            leaves = omega arith;
-            targets = refl;
-          }
+      no_count : (vs : Values) (x : Bool) → x ≡ false → length ((if x then record { kind = leaf_kinds.Count (worth_within 8 []); class = s.class; at = at; spelled = [] } ∷ [] else []) ++ leaves_from (at + 0) vs) ≡ length (leaves_from at vs)
+      no_count vs true e = cc
+      no_count vs false e = let z : at + 0 ≡ at = omega arith in ap (λ y. length (leaves_from y vs)) z
 
   shapes_there : (place : ℕ) (d : Class) → slice_get k place ≡ Some d → field_shapes k place ≡ map (λ f. f.shape) d.fields
   shapes_there place d e = ap (λ o. option_map_or (λ c. map (λ f. f.shape) c.fields) o []) e
@@ -230,31 +159,18 @@ module _ (k : Classes) (c : List ℕ) (at to end : ℕ) (s : Shape) (l : to ≤ 
     items : PartsNode count.end 1 (replicate count.value (item_of s)) v
 
   array_node : (v : Value) → IsNode k c (node_at s at to) v → s.array ≡ true → ArrayNode v
-  array_node (Single t kind b key) i a = by_case i.fits
+  array_node v i a =
+      let f = array_form k c at to s end l w v i a in
+      record {
+        count = f.count;
+        found = f.found;
+        items = record { parts = f.parts; row = f.row; leaves = ap (λ z. length (leaves_at at z)) f.value ∙ (counted f.head f.parts s.array a ∙ ap (λ y. 1 + length (leaves_from y f.parts)) (sym f.ends)); targets = ap targets_of f.value };
+      }
     where
-      by_case : IsSingle k t kind b key → ArrayNode (Single t kind b key)
-      by_case (inl p) = let z : t.array ≡ true = ap (λ (z : Shape). z.array) (sym i.shape) ∙ a in let y = p.0 in cc
-      by_case (inr p) = let z : t.array ≡ true = ap (λ (z : Shape). z.array) (sym i.shape) ∙ a in let y = p.0 in cc
-  array_node (Group t h vs) i a = by_case i.fits
-    where
-      by_case : IsHead k t h (shapes_of vs) × AllFit k vs → ArrayNode (Group t h vs)
-      by_case (inr p, f) = let z : t.array ≡ true = ap (λ (z : Shape). z.array) (sym i.shape) ∙ a in let y = p.0 in cc
-      by_case (inl p, f) =
-          let y = stands_split c at to (h ++ bytes_of_all vs) h (bytes_of_all vs) (node_stands k c (node_at s at to) (Group t h vs) i) refl in
-          let n : IntAt c at (at + length h) p.1 = record { order = y.first.order; within = y.first.within; spelled = subst (λ z. Spells z p.1) (sym y.first.bytes) p.2 } in
-          let m : at + length h ≤ to = y.second.order in
-          let head : Bool → List LeafAt = λ x. if x then record { kind = leaf_kinds.Count (worth_within 8 h); class = t.class; at = at; spelled = h } ∷ [] else [] in
-          let x : length (head t.array ++ leaves_from (at + length h) vs) ≡ suc (length (leaves_from (at + length h) vs)) = ap (λ x. length (head x ++ leaves_from (at + length h) vs)) p.0 in
-          record {
-            count = record { value = p.1; end = at + length h };
-            found = int_computed c at end (at + length h) p.1 (let r = i.order in omega arith) w n (omega arith);
-            items = record {
-              parts = vs;
-              row = record { order = m; within = i.within; bytes = y.second.bytes; fit = f; of_shapes = p.3 ∙ ap (λ z. replicate p.1 (item_of z)) (sym i.shape) };
-              leaves = omega arith;
-              targets = refl;
-            };
-          }
+      counted : (h : List ℕ) (vs : Values) (x : Bool) → x ≡ true
+          → length ((if x then record { kind = leaf_kinds.Count (worth_within 8 h); class = s.class; at = at; spelled = h } ∷ [] else []) ++ leaves_from (at + length h) vs) ≡ 1 + length (leaves_from (at + length h) vs)
+      counted h vs true e = omega arith
+      counted h vs false e = cc
 
   pub array_there : (v : Value) → IsNode k c (node_at s at to) v → s.array ≡ true → int_at c at end ≡ None → ⊥
   array_there v i a e = let n = array_node v i a in let q : int_at c at end ≡ Some n.count = n.found in cc
